@@ -62,7 +62,8 @@ IsGathering-fail U L given answers taken fails fails' n reason valid so member i
           (λ _. fails_by_reason U n (without_index L n) reason valid failure);
       ranked = ap tasks_of is' ∙ map_push (λ (f : FailureData). f.task) fails _
           ∙ ap (λ ns. ns ++ n ∷ []) so.ranked ∙ sym (listed_below-member n L member);
-      each = subst (λ fs. AllFailures U L fs) (sym is') (AllFailures-push U L fails _ so.each failure);
+      each =
+          subst (λ fs. AllFailures U L fs) (sym is') (AllFailures-push U L fails _ so.each failure);
     }
 
 pub IsGathering-chosen : (U : List Task) (L : Indexes) (given answers : List (Option Outcome))

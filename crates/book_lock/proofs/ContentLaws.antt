@@ -10,24 +10,32 @@ use Rattle.assignment.specs.Kept.{ObstructionData}
 use Rattle.drafts.specs.declared.change.Change.{Change}
 use Rattle.drafts.specs.declared.change.Change.TheVariants.{Put}
 
-pub same_puts : (first second : Change) (x y : Task) (r : Bool) → first ≡ Put x → second ≡ Put y → r ≡ same_sheet x y → IsTrue r ↔ (first ≡ second)
+pub same_puts : (first second : Change) (x y : Task) (r : Bool) → first ≡ Put x → second ≡ Put y
+    → r ≡ same_sheet x y → IsTrue r ↔ (first ≡ second)
 same_puts first second x y r p q e =
     let told = same_sheet_told x y r e in (
       λ yes. p ∙ ap (λ (s : Task). Put s) (told.0 yes) ∙ sym q,
-      λ same. let puts : Put x ≡ Put y = sym p ∙ same ∙ q in let sheets : x ≡ y = cc in told.1 sheets,
+      λ same. let puts : Put x ≡ Put y = sym p ∙ same ∙ q in let sheets : x ≡ y = cc in
+          told.1 sheets,
     )
 
-one_obstruction : (U : List Task) (a b : List FailureData) → IsTaskSet U → IsStuck U a → IsStuck U b → a ≡ b
+one_obstruction : (U : List Task) (a b : List FailureData) → IsTaskSet U → IsStuck U a
+    → IsStuck U b → a ≡ b
 one_obstruction U a b valid h g =
-    let e : Infeasible a ≡ Infeasible b = IsVerdictOf-one U (AllTasks-from_set U valid) (Infeasible a) (Infeasible b) h g in cc
+    let e : Infeasible a ≡ Infeasible b =
+    IsVerdictOf-one U (AllTasks-from_set U valid) (Infeasible a) (Infeasible b) h g in cc
 
-pub same_obstructions : (first second : ObstructionData) (r : Bool) → IsTaskSet first.set → IsStuck first.set first.members → IsStuck second.set second.members
-    → (U V : List Task) → U ≡ first.set → V ≡ second.set → IsTrue r ↔ (U ≡ V) → IsTrue r ↔ (first ≡ second)
+pub same_obstructions : (first second : ObstructionData) (r : Bool) → IsTaskSet first.set
+    → IsStuck first.set first.members → IsStuck second.set second.members
+    → (U V : List Task) → U ≡ first.set → V ≡ second.set → IsTrue r ↔ (U ≡ V) → IsTrue r
+    ↔ (first ≡ second)
 same_obstructions first second r valid h g U V e f told = (
   λ yes.
       let sets : first.set ≡ second.set = sym e ∙ told.0 yes ∙ f in
-      let here : IsStuck first.set second.members = subst (λ (W : List Task). IsStuck W second.members) (sym sets) g in
-      let members : first.members ≡ second.members = one_obstruction first.set first.members second.members valid h here in
+      let here : IsStuck first.set second.members =
+      subst (λ (W : List Task). IsStuck W second.members) (sym sets) g in
+      let members : first.members ≡ second.members =
+      one_obstruction first.set first.members second.members valid h here in
       λ i. let o : ObstructionData = record { set = sets i; members = members i } in o,
   λ same. told.1 (e ∙ ap (λ (o : ObstructionData). o.set) same ∙ sym f),
 )

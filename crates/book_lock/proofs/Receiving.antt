@@ -1,6 +1,7 @@
 -- One receipt more.
 use Rattle.std.proofs.Math.Bool.{and_assoc, and-true}
-use Rattle.std.proofs.Common.{◌≡◌, ◌∙◌, ℕ, Bool, ◌&&◌, nat_le, List, [], ◌∷◌, ◌++◌, map, sym, ap, subst}
+use Rattle.std.proofs.Common.{◌≡◌, ◌∙◌, ℕ, Bool, ◌&&◌, nat_le, List, [], ◌∷◌, ◌++◌, map, sym, ap}
+use Rattle.std.proofs.Common.{subst}
 use Rattle.std.proofs.lemmas.List.{map_push}
 use Rattle.book_lock.specs.Own.{own_changes}
 use Rattle.drafts.specs.Machine.{Entry}
@@ -8,22 +9,40 @@ use Rattle.book_lock.specs.declared.pass.Receipt.{Receipt}
 use Rattle.book_lock.specs.TeamPass.{Known, own_after, receiving, is_up_to, admitted_version}
 use Rattle.book_lock.specs.PassFields.{receipt_of, IsLatest}
 
-pub received : (old new : Known) (place : ℕ) (l : Entry) → new.team ≡ old.team → new.parts ≡ old.parts → new.tasks ≡ own_after l.decision (own_changes l.changes old.tasks) old.tasks → new.receipts ≡ old.receipts ++ (place, l) ∷ [] → new ≡ receiving old place l
-received old new place l team parts tasks receipts = λ i. let k : Known = record { team = team i; parts = parts i; tasks = tasks i; receipts = receipts i } in k
+pub received : (old new : Known) (place : ℕ) (l : Entry) → new.team ≡ old.team → new.parts
+    ≡ old.parts → new.tasks ≡ own_after l.decision (own_changes l.changes old.tasks) old.tasks
+    → new.receipts ≡ old.receipts ++ (place, l) ∷ [] → new ≡ receiving old place l
+received old new place l team parts tasks receipts = λ i. let k : Known =
+    record { team = team i; parts = parts i; tasks = tasks i; receipts = receipts i } in k
 
 -- ---- the latest version
-is_up_to-push : (version : ℕ) (rs : List (ℕ × Entry)) (r : ℕ × Entry) → is_up_to version (rs ++ r ∷ []) ≡ (is_up_to version rs && nat_le (admitted_version r.1.decision) version)
+is_up_to-push : (version : ℕ) (rs : List (ℕ × Entry)) (r : ℕ × Entry) → is_up_to version
+    (rs ++ r ∷ []) ≡ (is_up_to version rs && nat_le (admitted_version r.1.decision) version)
 is_up_to-push version [] r = and-true _
-is_up_to-push version (x ∷ rs) r = ap (λ (b : Bool). nat_le (admitted_version x.1.decision) version && b) (is_up_to-push version rs r) ∙ sym (and_assoc (nat_le (admitted_version x.1.decision) version) (is_up_to version rs) (nat_le (admitted_version r.1.decision) version))
+is_up_to-push version (x ∷ rs) r =
+    ap (λ (b : Bool). nat_le (admitted_version x.1.decision) version && b)
+    (is_up_to-push version rs r) ∙ sym (and_assoc (nat_le (admitted_version x.1.decision) version)
+    (is_up_to version rs) (nat_le (admitted_version r.1.decision) version))
 
 -- with one receipt more it is the later one
-pub IsLatest-push : (latest next : ℕ) (rs : List (ℕ × Entry)) (r : ℕ × Entry) → IsLatest latest rs → ((version : ℕ) → nat_le next version ≡ (nat_le latest version && nat_le (admitted_version r.1.decision) version)) → IsLatest next (rs ++ r ∷ [])
+pub IsLatest-push : (latest next : ℕ) (rs : List (ℕ × Entry)) (r : ℕ × Entry) → IsLatest latest rs
+    → ((version : ℕ) → nat_le next version
+    ≡ (nat_le latest version && nat_le (admitted_version r.1.decision) version))
+    → IsLatest next (rs ++ r ∷ [])
 IsLatest-push latest next rs r before is version =
-    is_up_to-push version rs r ∙ ap (λ (b : Bool). b && nat_le (admitted_version r.1.decision) version) (before version) ∙ sym (is version)
+    is_up_to-push version rs r
+    ∙ ap (λ (b : Bool). b && nat_le (admitted_version r.1.decision) version) (before version)
+    ∙ sym (is version)
 
 -- so it is of the receipts, with room for one more, to which one is pushed
-pub IsLatest-received : (latest next : ℕ) (before roomy after : List Receipt) (r : Receipt) → roomy ≡ before → after ≡ roomy ++ r ∷ [] → IsLatest latest (map receipt_of before) → ((version : ℕ) → nat_le next version ≡ (nat_le latest version && nat_le (admitted_version (receipt_of r).1.decision) version)) → IsLatest next (map receipt_of after)
+pub IsLatest-received : (latest next : ℕ) (before roomy after : List Receipt) (r : Receipt)
+    → roomy ≡ before → after ≡ roomy ++ r ∷ [] → IsLatest latest (map receipt_of before)
+    → ((version : ℕ) → nat_le next version
+    ≡ (nat_le latest version && nat_le (admitted_version (receipt_of r).1.decision) version))
+    → IsLatest next (map receipt_of after)
 IsLatest-received latest next before roomy after r same pushed was is =
     let all : map receipt_of after ≡ map receipt_of before ++ receipt_of r ∷ [] =
-    ap (map receipt_of) pushed ∙ map_push receipt_of roomy r ∙ ap (λ (xs : List Receipt). map receipt_of xs ++ receipt_of r ∷ []) same in
-    subst (λ (rs : List (ℕ × Entry)). IsLatest next rs) (sym all) (IsLatest-push latest next (map receipt_of before) (receipt_of r) was is)
+    ap (map receipt_of) pushed ∙ map_push receipt_of roomy r
+    ∙ ap (λ (xs : List Receipt). map receipt_of xs ++ receipt_of r ∷ []) same in
+    subst (λ (rs : List (ℕ × Entry)). IsLatest next rs) (sym all)
+    (IsLatest-push latest next (map receipt_of before) (receipt_of r) was is)

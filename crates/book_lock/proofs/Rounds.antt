@@ -18,47 +18,78 @@ use Rattle.book_lock.specs.declared.answer.Settlement.TheVariants.{Decided, Stal
 use Rattle.book_lock.specs.Commits.{IsSameChange, IsUntestedOn, IsUndecided, IsLater, Commits}
 use Rattle.book_lock.specs.declared.commit.CommitFault.{CommitFault}
 use Rattle.book_lock.specs.declared.commit.CommitCause.{CommitCause}
-use Rattle.book_lock.specs.declared.commit.CommitCause.TheVariants.{OtherTeam, BadWorkers, ThreadRefused, GateShut, OutOfMemory}
+use Rattle.book_lock.specs.declared.commit.CommitCause.TheVariants.{OtherTeam, BadWorkers}
+use Rattle.book_lock.specs.declared.commit.CommitCause.TheVariants.{ThreadRefused, GateShut}
+use Rattle.book_lock.specs.declared.commit.CommitCause.TheVariants.{OutOfMemory}
 
 -- what is settled is a decision on the proposal's changes
-pub received-settled : (p : ProposalData) (old new : Known) (place : ℕ) → SettlesSome p old (Ok (Decided place)) new → IsReceived p.draft old place new
+pub received-settled : (p : ProposalData) (old new : Known) (place : ℕ)
+    → SettlesSome p old (Ok (Decided place)) new → IsReceived p.draft old place new
 received-settled p old new place is =
     let entered = is.settles.2 in
-    record { book = is.book; next = is.next; legal = is.legal; entered = (entered.0, entered.2, entered.3, entered.4) }
+    record {
+      book = is.book;
+      next = is.next;
+      legal = is.legal;
+      entered =
+          (entered.0, entered.2, entered.3, entered.4);
+    }
 
-pub received-held : (d : Draft) (old new : Known) (place : ℕ) → HoldsSome d old (Ok place) new → IsReceived d old place new
-received-held d old new place is = record { book = is.book; next = is.next; legal = is.legal; entered = is.holds }
+pub received-held : (d : Draft) (old new : Known) (place : ℕ) → HoldsSome d old (Ok place) new
+    → IsReceived d old place new
+received-held d old new place is =
+    record { book = is.book; next = is.next; legal = is.legal; entered = is.holds }
 
 -- the state that a stale proposal comes back with
-pub reached-fresh : (p : ProposalData) (old new : Known) (fresh : _) (back : _) → SettlesSome p old (Ok (Stale fresh back)) new → IsReached fresh.value
-reached-fresh p old new fresh back is = record { log = is.book.log; legal = is.legal.legal; replay = is.legal.replay ∙ sym is.settles.1 }
+pub reached-fresh : (p : ProposalData) (old new : Known) (fresh : _) (back : _)
+    → SettlesSome p old (Ok (Stale fresh back)) new → IsReached fresh.value
+reached-fresh p old new fresh back is = record {
+  log = is.book.log;
+  legal = is.legal.legal;
+  replay =
+      is.legal.replay ∙ sym is.settles.1;
+}
 
 -- on the draft's own base, or on a state that the node came to
 abbrev pub IsBaseOf : Draft → MachineState → Type 0
 IsBaseOf d desk = (desk ≡ d.base) ⊎ IsReached desk
 
-untested_on : (may : QuestionData → Type 0) (d e : Draft) (cause : CommitCause) → IsSameChange d e → IsBaseOf d e.base → IsUntested may (on_base e) cause → IsUntestedOn may d cause
+untested_on : (may : QuestionData → Type 0) (d e : Draft) (cause : CommitCause) → IsSameChange d e
+    → IsBaseOf d e.base → IsUntested may (on_base e) cause → IsUntestedOn may d cause
 untested_on may d e cause same from h =
-    let named : IsUntested may (applied d.team e.base.tasks e.changes) cause = subst (λ (t : ℕ). IsUntested may (applied t e.base.tasks e.changes) cause) same.0 h in
-    (e.base, from, subst (λ (cs : List (List ℕ × Change)). IsUntested may (applied d.team e.base.tasks cs) cause) same.1 named)
+    let named : IsUntested may (applied d.team e.base.tasks e.changes) cause =
+    subst (λ (t : ℕ). IsUntested may (applied t e.base.tasks e.changes) cause) same.0 h in (
+      e.base,
+      from,
+      subst (λ (cs : List (List ℕ × Change)). IsUntested may
+          (applied d.team e.base.tasks cs) cause) same.1 named,
+    )
 
-pub on_its_base : (d e f : Draft) (base kept : MachineState) → f ≡ e → IsSameChange d e → kept ≡ base → (let x : Draft = record { team = f.team; base = kept; changes = f.changes } in x) ≡ (let y : Draft = record { team = d.team; base = base; changes = d.changes } in y)
+pub on_its_base : (d e f : Draft) (base kept : MachineState) → f ≡ e → IsSameChange d e
+    → kept ≡ base → (let x : Draft = record { team = f.team; base = kept; changes = f.changes } in
+    x) ≡ (let y : Draft = record { team = d.team; base = base; changes = d.changes } in y)
 on_its_base d e f base kept back same k =
     let team : f.team ≡ d.team = ap (λ (x : Draft). x.team) back ∙ same.0 in
     let changes : f.changes ≡ d.changes = ap (λ (x : Draft). x.changes) back ∙ same.1 in
     λ i. let x : Draft = record { team = team i; base = k i; changes = changes i } in x
 
-pub later_fault : (may : QuestionData → Type 0) (d e : Draft) (base kept : MachineState) (old p new : Known) (f g : CommitFault)
-    → IsSameChange d e → IsBaseOf d e.base → p ≡ old → kept ≡ base → IsUntested may (on_base e) f.cause → f.draft ≡ e → new ≡ p
-    → g.cause ≡ f.cause → g.draft ≡ (let x : Draft = record { team = f.draft.team; base = kept; changes = f.draft.changes } in x)
+pub later_fault : (may : QuestionData → Type 0) (d e : Draft) (base kept : MachineState)
+    (old p new : Known) (f g : CommitFault)
+    → IsSameChange d e → IsBaseOf d e.base → p ≡ old → kept ≡ base
+    → IsUntested may (on_base e) f.cause → f.draft ≡ e → new ≡ p
+    → g.cause ≡ f.cause → g.draft ≡ (let x : Draft =
+    record { team = f.draft.team; base = kept; changes = f.draft.changes } in x)
     → IsLater may d base old (Err g) new
 later_fault may d e base kept old p new f g same from pass k h back unchanged cause draft = (
-  untested_on may d e g.cause same from (subst (λ (x : CommitCause). IsUntested may (on_base e) x) (sym cause) h),
+  untested_on may d e g.cause same from
+      (subst (λ (x : CommitCause). IsUntested may (on_base e) x) (sym cause) h),
   draft ∙ on_its_base d e f.draft base kept back same k,
   unchanged ∙ pass,
 )
 
-pub undecided : (may : QuestionData → Type 0) (workers : ℕ) (d : Draft) (p : Known) (cause : CommitCause) → d.team ≡ p.team → ¬ IsBadCount workers → IsUntestedOn may d cause → IsUndecided may workers d p cause
+pub undecided : (may : QuestionData → Type 0) (workers : ℕ) (d : Draft) (p : Known)
+    (cause : CommitCause) → d.team ≡ p.team → ¬ IsBadCount workers → IsUntestedOn may d cause
+    → IsUndecided may workers d p cause
 undecided may workers d p OtherTeam team good h = absurd h.2
 undecided may workers d p BadWorkers team good h = absurd h.2
 undecided may workers d p ThreadRefused team good h = (team, good, h)
@@ -66,27 +97,51 @@ undecided may workers d p (GateShut name) team good h = (team, good, h)
 undecided may workers d p OutOfMemory team good h = (team, good, h)
 
 -- a decision on the same changes is one on these
-pub received_for : (d back : Draft) (p old new : Known) (place : ℕ) → IsSameChange d back → p ≡ old → IsReceived back p place new → IsReceived d old place new
+pub received_for : (d back : Draft) (p old new : Known) (place : ℕ) → IsSameChange d back → p ≡ old
+    → IsReceived back p place new → IsReceived d old place new
 received_for d back p old new place same pass h =
     let b : Book = h.book in
     let e = h.entered.0 in
     let is = h.entered.1 in
     let named = subst (λ (t : ℕ). IsDecision b.desk t back.changes e.decision) same.0 is.3 in
-    let decided = subst (λ (cs : List (List ℕ × Change)). IsDecision b.desk d.team cs e.decision) same.1 named in
+    let decided = subst (λ (cs : List (List ℕ × Change)). IsDecision b.desk d.team cs e.decision)
+    same.1 named in
     record {
       book = b;
       next = h.next;
       legal = h.legal;
-      entered = (e, (is.0, is.1 ∙ same.0, is.2 ∙ same.1, decided), h.entered.2, h.entered.3 ∙ ap (λ (k : Known). receiving k place e) pass);
+      entered = (
+        e,
+        (is.0, is.1 ∙ same.0, is.2 ∙ same.1, decided),
+        h.entered.2,
+        h.entered.3
+            ∙ ap (λ (k : Known). receiving k place e) pass,
+      );
     }
 
-pub commits_later : (may always : QuestionData → Type 0) (workers : ℕ) (d back : Draft) (base : MachineState) (old p new : Known) (r : Result ℕ CommitFault)
-    → d.team ≡ old.team → ¬ IsBadCount workers → NoneShutApplied always (on_base d) → IsSameChange d back → base ≡ d.base → IsReached back.base → p ≡ old
+pub commits_later : (may always : QuestionData → Type 0) (workers : ℕ) (d back : Draft)
+    (base : MachineState) (old p new : Known) (r : Result ℕ CommitFault)
+    → d.team ≡ old.team → ¬ IsBadCount workers → NoneShutApplied always (on_base d)
+    → IsSameChange d back → base ≡ d.base → IsReached back.base → p ≡ old
     → IsLater may back base p r new → Commits may always workers d old r new
-commits_later may always workers d back base old p new (Ok place) team good none same b reached pass h =
+commits_later may always workers d back base old p new (Ok place) team good none same b reached
+    pass h =
     (team, good, none, received_for d back p old new place same pass h)
-commits_later may always workers d back base old p new (Err fault) team good none same b reached pass h =
-    let changes : IsUntested may (applied d.team h.0.0.tasks back.changes) fault.cause = subst (λ (t : ℕ). IsUntested may (applied t h.0.0.tasks back.changes) fault.cause) same.0 h.0.2 in
-    let from : IsReached h.0.0 = elim h.0.1 [ inl e ↦ subst IsReached (sym e) reached | inr r ↦ r ] in
-    let untested : IsUntestedOn may d fault.cause = (h.0.0, inr from, subst (λ (cs : List (List ℕ × Change)). IsUntested may (applied d.team h.0.0.tasks cs) fault.cause) same.1 changes) in
-    (undecided may workers d old fault.cause team good untested, h.1 ∙ on_its_base d back back d.base base refl same b, h.2 ∙ pass)
+commits_later may always workers d back base old p new (Err fault) team good none same b reached
+    pass h =
+    let changes : IsUntested may (applied d.team h.0.0.tasks back.changes) fault.cause =
+    subst (λ (t : ℕ). IsUntested may (applied t h.0.0.tasks back.changes) fault.cause) same.0
+    h.0.2 in
+    let from : IsReached h.0.0 =
+    elim h.0.1 [ inl e ↦ subst IsReached (sym e) reached | inr r ↦ r ] in
+    let untested : IsUntestedOn may d fault.cause = (
+      h.0.0,
+      inr from,
+      subst (λ (cs : List (List ℕ × Change)). IsUntested may
+          (applied d.team h.0.0.tasks cs) fault.cause) same.1 changes,
+    ) in (
+      undecided may workers d old fault.cause team good untested,
+      h.1
+          ∙ on_its_base d back back d.base base refl same b,
+      h.2 ∙ pass,
+    )

@@ -1,5 +1,6 @@
 -- What is said of the set that changes come to is said of what they come to.
-use Rattle.std.proofs.Common.{◌≡◌, ◌<◌, ◌≤◌, ℕ, inl, inr, List, length, refl, sym, ◌∙◌, subst, arith}
+use Rattle.std.proofs.Common.{◌≡◌, ◌<◌, ◌≤◌, ℕ, inl, inr, List, length, refl, sym, ◌∙◌, subst}
+use Rattle.std.proofs.Common.{arith}
 use Rattle.std.specs.Prelude.{Result, Ok, Err, OnOk, IfErr}
 use Rattle.task_sheet.specs.Sheet.{Task}
 use Rattle.task_sheet.specs.TaskSet.{IsTaskSet}
@@ -18,22 +19,33 @@ use Rattle.drafts.specs.declared.applying.Applied.TheVariants.{Tasks, Refused}
 use Rattle.drafts.specs.declared.judging.Judged.{Judged}
 use Rattle.drafts.specs.Applied.{set_of}
 use Rattle.drafts.specs.Outcomes.{IsApplied}
-use Rattle.book_lock.specs.Asking.{NoneShutOf, NoneShutApplied, MayShutName, IsUntestedSet, IsUntested, IsOnTask, IsCauseOf}
+use Rattle.book_lock.specs.Asking.{NoneShutOf, NoneShutApplied, MayShutName, IsUntestedSet}
+use Rattle.book_lock.specs.Asking.{IsUntested, IsOnTask, IsCauseOf}
 use Rattle.book_lock.specs.declared.commit.CommitCause.{CommitCause}
-use Rattle.book_lock.specs.declared.commit.CommitCause.TheVariants.{OtherTeam, BadWorkers, ThreadRefused, GateShut, OutOfMemory}
+use Rattle.book_lock.specs.declared.commit.CommitCause.TheVariants.{OtherTeam, BadWorkers}
+use Rattle.book_lock.specs.declared.commit.CommitCause.TheVariants.{ThreadRefused, GateShut}
+use Rattle.book_lock.specs.declared.commit.CommitCause.TheVariants.{OutOfMemory}
 
 -- ---- faults of the test
-pub on_task : (may : QuestionData → Type 0) (U : List Task) (workers : ℕ) (fault : AssayFault) → NoVerdict may U workers fault → IsOnTask U fault
+pub on_task : (may : QuestionData → Type 0) (U : List Task) (workers : ℕ) (fault : AssayFault)
+    → NoVerdict may U workers fault → IsOnTask U fault
 on_task may U workers assay.BadWorkers h = tt
 on_task may U workers assay.ThreadRefused h = tt
-on_task may U workers (assay.GateShut task) h = subst (λ (k : ℕ). k < length U) h.on (subst (λ (V : List Task). h.question.task < length V) h.same h.is.task)
+on_task may U workers (assay.GateShut task) h = subst (λ (k : ℕ). k < length U) h.on
+    (subst (λ (V : List Task). h.question.task < length V) h.same h.is.task)
 on_task may U workers assay.OutOfMemory h = tt
 
-pub untested_set : (may : QuestionData → Type 0) (U : List Task) (workers : ℕ) (fault : AssayFault) (cause : CommitCause) → ¬ IsBadCount workers → NoVerdict may U workers fault → IsCauseOf U fault cause → IsUntestedSet may U cause
+pub untested_set : (may : QuestionData → Type 0) (U : List Task) (workers : ℕ) (fault : AssayFault)
+    (cause : CommitCause) → ¬ IsBadCount workers → NoVerdict may U workers fault
+    → IsCauseOf U fault cause → IsUntestedSet may U cause
 untested_set may U workers assay.BadWorkers cause good h is = absurd (good h)
-untested_set may U workers assay.ThreadRefused cause good h is = subst (λ (x : CommitCause). IsUntestedSet may U x) (sym is) tt
-untested_set may U workers (assay.GateShut task) cause good h is = subst (λ (x : CommitCause). IsUntestedSet may U x) (sym is) (record { task = task; shut = h; named = refl })
-untested_set may U workers assay.OutOfMemory cause good h is = subst (λ (x : CommitCause). IsUntestedSet may U x) (sym is) tt
+untested_set may U workers assay.ThreadRefused cause good h is =
+    subst (λ (x : CommitCause). IsUntestedSet may U x) (sym is) tt
+untested_set may U workers (assay.GateShut task) cause good h is =
+    subst (λ (x : CommitCause). IsUntestedSet may U x) (sym is)
+    (record { task = task; shut = h; named = refl })
+untested_set may U workers assay.OutOfMemory cause good h is =
+    subst (λ (x : CommitCause). IsUntestedSet may U x) (sym is) tt
 
 -- no more workers than a good number of them, and some, are a good number
 pub still_good : (n workers : ℕ) → ¬ IsBadCount workers → 0 < n → n ≤ workers → ¬ IsBadCount n
@@ -43,32 +55,42 @@ still_good n workers good some le = λ bad. elim bad [
 ]
 
 -- ---- questions of the one verdict
-pub none_shut : (shut : QuestionData → Type 0) (U own : List Task) (v : VerdictData) → own ≡ U → IsTaskSet U → IsVerdictOf own v
+pub none_shut : (shut : QuestionData → Type 0) (U own : List Task) (v : VerdictData) → own ≡ U
+    → IsTaskSet U → IsVerdictOf own v
     → ((q : QuestionData) → IsOfVerdict own v q → shut q → ⊥) → NoneShutOf shut U
 none_shut shut U own v same valid right none = λ verdict is q of shuts.
     let here : IsVerdictOf U v = subst (λ (V : List Task). IsVerdictOf V v) same right in
     let one : verdict ≡ v = IsVerdictOf-one U (AllTasks-from_set U valid) verdict v is here in
-    none q (subst (λ (V : List Task). IsOfVerdict V v q) (sym same) (subst (λ (w : VerdictData). IsOfVerdict U w q) one of)) shuts
+    none q (subst (λ (V : List Task). IsOfVerdict V v q) (sym same)
+    (subst (λ (w : VerdictData). IsOfVerdict U w q) one of)) shuts
 
 -- ---- from a set to what changes come to
-untested_cause : (may : QuestionData → Type 0) (tasks : List Owned) (U : List Task) (cause : CommitCause) → U ≡ set_of tasks → IsUntestedSet may U cause → IsUntested may (Ok tasks) cause
+untested_cause : (may : QuestionData → Type 0) (tasks : List Owned) (U : List Task)
+    (cause : CommitCause) → U ≡ set_of tasks → IsUntestedSet may U cause
+    → IsUntested may (Ok tasks) cause
 untested_cause may tasks U OtherTeam e h = h
 untested_cause may tasks U BadWorkers e h = h
 untested_cause may tasks U ThreadRefused e h = h
-untested_cause may tasks U (GateShut name) e h = subst (λ (V : List Task). MayShutName may V name) e h
+untested_cause may tasks U (GateShut name) e h =
+    subst (λ (V : List Task). MayShutName may V name) e h
 untested_cause may tasks U OutOfMemory e h = h
 
 abbrev pub IsSetOf : Result (List Owned) Refusal → List Task → Type 0
 IsSetOf (Ok tasks) U = U ≡ set_of tasks
 IsSetOf (Err refusal) U = ⊥
 
-pub untested_from : (may : QuestionData → Type 0) (outcome : Result (List Owned) Refusal) (U : List Task) (r : Result Judged CommitCause) → IsSetOf outcome U → IfErr r (λ cause. IsUntestedSet may U cause) → IfErr r (λ cause. IsUntested may outcome cause)
+pub untested_from : (may : QuestionData → Type 0) (outcome : Result (List Owned) Refusal)
+    (U : List Task) (r : Result Judged CommitCause) → IsSetOf outcome U
+    → IfErr r (λ cause. IsUntestedSet may U cause) → IfErr r (λ cause. IsUntested may outcome cause)
 untested_from may (Ok tasks) U (Ok judged) is h = h
 untested_from may (Ok tasks) U (Err cause) is h = untested_cause may tasks U cause is h
 untested_from may (Err refusal) U r is h = absurd is
 
-pub none_shut_from : (shut : QuestionData → Type 0) (outcome : Result (List Owned) Refusal) (U : List Task) (r : Result Judged CommitCause) → IsSetOf outcome U → OnOk r (NoneShutOf shut U) → OnOk r (NoneShutApplied shut outcome)
-none_shut_from shut (Ok tasks) U (Ok judged) is h = subst (λ (V : List Task). NoneShutOf shut V) is h
+pub none_shut_from : (shut : QuestionData → Type 0) (outcome : Result (List Owned) Refusal)
+    (U : List Task) (r : Result Judged CommitCause) → IsSetOf outcome U → OnOk r (NoneShutOf shut U)
+    → OnOk r (NoneShutApplied shut outcome)
+none_shut_from shut (Ok tasks) U (Ok judged) is h =
+    subst (λ (V : List Task). NoneShutOf shut V) is h
 none_shut_from shut (Ok tasks) U (Err cause) is h = h
 none_shut_from shut (Err refusal) U r is h = absurd is
 
@@ -77,7 +99,8 @@ abbrev pub IsToldSet : Applied → List Task → Type 0
 IsToldSet (Tasks set) U = set.value ≡ U
 IsToldSet (Refused refusal) U = ⊥
 
-pub set_told : (outcome : Result (List Owned) Refusal) (o : Applied) (U : List Task) → IsApplied outcome o → IsToldSet o U → IsSetOf outcome U
+pub set_told : (outcome : Result (List Owned) Refusal) (o : Applied) (U : List Task)
+    → IsApplied outcome o → IsToldSet o U → IsSetOf outcome U
 set_told (Ok tasks) (Tasks set) U h e = sym e ∙ h
 set_told (Ok tasks) (Refused refusal) U h e = absurd h
 set_told (Err told) (Tasks set) U h e = absurd h

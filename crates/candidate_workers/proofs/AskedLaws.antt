@@ -177,7 +177,8 @@ among_listed (suc n) L k named = elim (cases_Bool (L n)) [
       (sym (list_any-append (λ x. x == k) (listed_below n L) (n ∷ [])) ∙ rw member at named)) [
         | inl before ↦ let h = among_listed n L k before in (omega (arith, h.0), h.1)
         | inr last ↦ elim (or_cases (n == k) false last) [
-          | inl e ↦ let is : n ≡ k = eqb-true n k e in (omega arith, subst (λ j. L j ≡ true) is member)
+          | inl e ↦ let is : n ≡ k = eqb-true n k e in
+              (omega arith, subst (λ j. L j ≡ true) is member)
           | inr none ↦ absurd (both_ways false refl none)
         ]
       ]

@@ -292,7 +292,8 @@ module _ (U : List Task) (rs : List Release)
         | None ↦ λ e. some_below-none k (is_soon_job U (jobs_of U rs) k)
             (λ j before. too_soon_job j before ∙ elim (cases_eq (task_no j) (task_no k)) [
               | inl same ↦
-                  let w : (l : ℕ) × (slice_index_or last (task_no j) None ≡ Some l) × (time_of j ≤ l) =
+                  let w : (l : ℕ) × (slice_index_or last (task_no j) None ≡ Some l)
+                  × (time_of j ≤ l) =
                   are.known j before in
                   absurd (none-some w.0 (sym e
                   ∙ subst (λ x. slice_index_or last x None ≡ Some w.0) same w.1))

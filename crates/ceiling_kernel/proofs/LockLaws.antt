@@ -240,7 +240,8 @@ module _ (node : Node) (jobs : List Job) (valid : IsSound node)
                         x).sections (executed_before node jobs t x) r ≡ false) e (holds_none r)))
                     | inr differ ↦ elim differ [
                       | inl before ↦ absurd (two_pending t p k before lt none same b.1 pp.1)
-                      | inr after ↦ absurd (two_pending t k p after is.below none (sym same) pp.0 h.2)
+                      | inr after ↦
+                          absurd (two_pending t k p after is.below none (sym same) pp.0 h.2)
                     ]
                   ]
             ];

@@ -1,9 +1,11 @@
 -- The tasks that are named, and those above which each task must stand, gathered by rank.
-use Rattle.std.proofs.Common.{◌≡◌, ℕ, ◌+◌, ◌<◌, ◌≤◌, Bool, false, List, [], length, replicate, set, get_or, IsTrue, IsFalse, inl, inr, sym, ◌∙◌, ap, arith}
+use Rattle.std.proofs.Common.{◌≡◌, ℕ, ◌+◌, ◌<◌, ◌≤◌, Bool, false, List, [], length, replicate, set}
+use Rattle.std.proofs.Common.{get_or, IsTrue, IsFalse, inl, inr, sym, ◌∙◌, ap, arith}
 use Rattle.std.specs.Ordering.{nat_cmp}
 use Rattle.std.specs.FinSet as members
 use Rattle.std.proofs.lemmas.Bool.{cases_eq, cases_lt, ne_eqb, eq-eqb}
-use Rattle.std.proofs.lemmas.List.{length-set, get_or-set_same, get_or-set_other, get_or-replicate, get_or_past, length-replicate}
+use Rattle.std.proofs.lemmas.List.{length-set, get_or-set_same, get_or-set_other, get_or-replicate}
+use Rattle.std.proofs.lemmas.List.{get_or_past, length-replicate}
 use Rattle.task_sheet.specs.Sheet.{Named, Task, task_at}
 use Rattle.task_sheet.specs.Indexes.{indexes_of, with_index}
 use Rattle.task_sheet.specs.Orders.{must_outrank}
@@ -15,11 +17,14 @@ pub record AreBelow (p : ℕ → Bool) (found : members.FinSet nat_cmp) (n : ℕ
   pub rest : (k : ℕ) → n ≤ k → indexes_of found k ≡ false
 
 pub AreBelow-none : (p : ℕ → Bool) → AreBelow p members.empty 0
-AreBelow-none p = record { seen = λ k lt. absurd (omega arith); rest = λ k le. ap (λ H. H k) indexes_of-empty }
+AreBelow-none p =
+    record { seen = λ k lt. absurd (omega arith); rest = λ k le. ap (λ H. H k) indexes_of-empty }
 
-pub AreBelow-with : (p : ℕ → Bool) (found : members.FinSet nat_cmp) (n : ℕ) → AreBelow p found n → IsTrue (p n) → AreBelow p (members.insert found n) (n + 1)
+pub AreBelow-with : (p : ℕ → Bool) (found : members.FinSet nat_cmp) (n : ℕ) → AreBelow p found n
+    → IsTrue (p n) → AreBelow p (members.insert found n) (n + 1)
 AreBelow-with p found n so passes =
-    let is : (k : ℕ) → indexes_of (members.insert found n) k ≡ with_index (indexes_of found) n k = λ k. ap (λ H. H k) (indexes_of-insert found n) in
+    let is : (k : ℕ) → indexes_of (members.insert found n) k ≡ with_index (indexes_of found) n k =
+    λ k. ap (λ H. H k) (indexes_of-insert found n) in
     record {
       seen = λ k lt. elim (cases_eq k n) [
         | inl e ↦ is k ∙ rw (eq-eqb k n e) (sym (ap p e ∙ passes))
@@ -30,7 +35,8 @@ AreBelow-with p found n so passes =
           is k ∙ rw (ne_eqb k n ne) (so.rest k (omega arith));
     }
 
-pub AreBelow-skip : (p : ℕ → Bool) (found : members.FinSet nat_cmp) (n : ℕ) → AreBelow p found n → IsFalse (p n) → AreBelow p found (n + 1)
+pub AreBelow-skip : (p : ℕ → Bool) (found : members.FinSet nat_cmp) (n : ℕ) → AreBelow p found n
+    → IsFalse (p n) → AreBelow p found (n + 1)
 AreBelow-skip p found n so fails = record {
   seen = λ k lt. elim (cases_eq k n) [
     | inl e ↦ so.rest k (omega arith) ∙ sym (ap p e ∙ fails)
@@ -42,44 +48,56 @@ AreBelow-skip p found n so fails = record {
 -- the rows of the first n tasks, and none for the others
 pub record AreRowsOf (U : List Task) (rows : List (members.FinSet nat_cmp)) (n : ℕ) : Type 0 where
   pub count : length rows ≡ 32
-  pub done : (i k : ℕ) → i < n → k < length U → indexes_of (get_or rows i members.empty) k ≡ must_outrank U i k
+  pub done : (i k : ℕ) → i < n → k < length U
+      → indexes_of (get_or rows i members.empty) k ≡ must_outrank U i k
   pub rest : (i : ℕ) → n ≤ i → get_or rows i members.empty ≡ members.empty
 
-pub AreRowsOf-none : (U : List Task) (row : members.FinSet nat_cmp) → row ≡ members.empty → AreRowsOf U (replicate 32 row) 0
+pub AreRowsOf-none : (U : List Task) (row : members.FinSet nat_cmp) → row ≡ members.empty
+    → AreRowsOf U (replicate 32 row) 0
 AreRowsOf-none U row none = record {
   count = length-replicate 32 row;
   done = λ i k before within. absurd (omega arith);
   rest = λ i le. elim (cases_lt i 32) [
     | inl lt ↦ get_or-replicate 32 i row members.empty lt ∙ none
-    | inr past ↦ get_or_past (replicate 32 row) i members.empty (omega (arith, length-replicate 32 row))
+    | inr past ↦ get_or_past (replicate 32 row) i members.empty
+        (omega (arith, length-replicate 32 row))
   ];
 }
 
-pub AreRowsOf-row : (U : List Task) (rows rows' : List (members.FinSet nat_cmp)) (n : ℕ) (row : members.FinSet nat_cmp) → AreRowsOf U rows n → n < 32
-    → rows' ≡ set rows n row → ((k : ℕ) → k < length U → indexes_of row k ≡ must_outrank U n k) → AreRowsOf U rows' (n + 1)
+pub AreRowsOf-row : (U : List Task) (rows rows' : List (members.FinSet nat_cmp)) (n : ℕ)
+    (row : members.FinSet nat_cmp) → AreRowsOf U rows n → n < 32
+    → rows' ≡ set rows n row → ((k : ℕ) → k < length U → indexes_of row k ≡ must_outrank U n k)
+    → AreRowsOf U rows' (n + 1)
 AreRowsOf-row U rows rows' n row so lt is right = record {
   count = ap length is ∙ length-set rows n row ∙ so.count;
   done = λ i k before within. elim (cases_eq i n) [
     | inl e ↦
-        let here : get_or rows' i members.empty ≡ row = ap (λ (rs : List (members.FinSet nat_cmp)). get_or rs i members.empty) is
-        ∙ ap (λ j. get_or (set rows n row) j members.empty) e ∙ get_or-set_same rows n row members.empty (omega (arith, so.count)) in
-        ap (λ (m : members.FinSet nat_cmp). indexes_of m k) here ∙ right k within ∙ ap (λ j. must_outrank U j k) (sym e)
+        let here : get_or rows' i members.empty ≡ row =
+        ap (λ (rs : List (members.FinSet nat_cmp)). get_or rs i members.empty) is
+        ∙ ap (λ j. get_or (set rows n row) j members.empty) e
+        ∙ get_or-set_same rows n row members.empty (omega (arith, so.count)) in
+        ap (λ (m : members.FinSet nat_cmp). indexes_of m k) here ∙ right k within
+        ∙ ap (λ j. must_outrank U j k) (sym e)
     | inr ne ↦
         ap (λ (rs : List (members.FinSet nat_cmp)). indexes_of (get_or rs i members.empty) k) is
-        ∙ ap (λ (m : members.FinSet nat_cmp). indexes_of m k) (get_or-set_other rows n i row members.empty ne) ∙ so.done i k (omega arith) within
+        ∙ ap (λ (m : members.FinSet nat_cmp). indexes_of m k)
+        (get_or-set_other rows n i row members.empty ne) ∙ so.done i k (omega arith) within
   ];
   rest = λ i le.
       let ne : i ≡ n → ⊥ = λ e. omega arith in
-      ap (λ (rs : List (members.FinSet nat_cmp)). get_or rs i members.empty) is ∙ get_or-set_other rows n i row members.empty ne ∙ so.rest i (omega arith);
+      ap (λ (rs : List (members.FinSet nat_cmp)). get_or rs i members.empty) is
+      ∙ get_or-set_other rows n i row members.empty ne ∙ so.rest i (omega arith);
 }
 
 -- a task that names none
-pub AreRowsOf-skip : (U : List Task) (rows : List (members.FinSet nat_cmp)) (n : ℕ) → AreRowsOf U rows n → (task_at U n).outranks ≡ Named [] → AreRowsOf U rows (n + 1)
+pub AreRowsOf-skip : (U : List Task) (rows : List (members.FinSet nat_cmp)) (n : ℕ)
+    → AreRowsOf U rows n → (task_at U n).outranks ≡ Named [] → AreRowsOf U rows (n + 1)
 AreRowsOf-skip U rows n so none = record {
   count = so.count;
   done = λ i k before within. elim (cases_eq i n) [
     | inl e ↦
-        ap (λ (m : members.FinSet nat_cmp). indexes_of m k) (so.rest i (omega arith)) ∙ ap (λ H. H k) indexes_of-empty
+        ap (λ (m : members.FinSet nat_cmp). indexes_of m k) (so.rest i (omega arith))
+        ∙ ap (λ H. H k) indexes_of-empty
         ∙ rw (e, none)
     | inr ne ↦ so.done i k (omega arith) within
   ];

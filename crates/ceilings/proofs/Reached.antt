@@ -1,5 +1,6 @@
 -- A section is reached by the members where one of its locks has a user among them.
-use Rattle.std.proofs.Common.{◌≡◌, ℕ, zero, suc, ◌≤◌, inl, inr, Bool, true, false, ◌||◌, ◌&&◌, List, [], ◌∷◌, length, refl, sym, ◌∙◌, ap, arith}
+use Rattle.std.proofs.Common.{◌≡◌, ℕ, zero, suc, ◌≤◌, inl, inr, Bool, true, false, ◌||◌, ◌&&◌, List}
+use Rattle.std.proofs.Common.{[], ◌∷◌, length, refl, sym, ◌∙◌, ap, arith}
 use Rattle.std.proofs.Math.Bool.{and_comm, or-false}
 use Rattle.std.proofs.lemmas.Bool.{cases_eq}
 use Rattle.std.specs.FinSet as set
@@ -20,12 +21,15 @@ swapped false true true d = refl
 swapped false true false d = refl
 swapped false false c d = refl
 
-some_below-or : (n : ℕ) (p q : ℕ → Bool) → some_below n (λ k. p k || q k) ≡ (some_below n p || some_below n q)
+some_below-or : (n : ℕ) (p q : ℕ → Bool)
+    → some_below n (λ k. p k || q k) ≡ (some_below n p || some_below n q)
 some_below-or zero p q = refl
-some_below-or (suc n) p q = ap (λ b. b || (p n || q n)) (some_below-or n p q) ∙ swapped (some_below n p) (some_below n q) (p n) (q n)
+some_below-or (suc n) p q = ap (λ b. b || (p n || q n)) (some_below-or n p q)
+    ∙ swapped (some_below n p) (some_below n q) (p n) (q n)
 
 -- numbers past n change nothing where none of them passes
-some_below-further : (n m : ℕ) (p : ℕ → Bool) → n ≤ m → ((k : ℕ) → n ≤ k → p k ≡ false) → some_below m p ≡ some_below n p
+some_below-further : (n m : ℕ) (p : ℕ → Bool) → n ≤ m → ((k : ℕ) → n ≤ k → p k ≡ false)
+    → some_below m p ≡ some_below n p
 some_below-further n zero p le none =
     let same : n ≡ 0 = omega arith in
     rw same refl
@@ -45,28 +49,38 @@ none_of : (x b : Bool) → b ≡ false → (x && b) ≡ false
 none_of true b e = e
 none_of false b e = refl
 
-module _ (U : List Task) (table : Table) (is_table : AreUsersOf U table) (members : set.FinSet nat_cmp) where
+module _ (U : List Task) (table : Table) (is_table : AreUsersOf U table)
+    (members : set.FinSet nat_cmp) where
   abbrev uses_one : List (List ℕ) → ℕ → Bool
   uses_one locks k = indexes_of members k && list_any (λ lock. uses (task_at U k) lock) locks
 
   abbrev member_uses : List ℕ → ℕ → Bool
   member_uses lock k = indexes_of members k && uses (task_at U k) lock
 
-  pub meet_is : (lock : List ℕ) → meet (indexes_of (users_in table lock)) (indexes_of members) ≡ some_below (length U) (member_uses lock)
+  pub meet_is : (lock : List ℕ) → meet (indexes_of (users_in table lock)) (indexes_of members)
+      ≡ some_below (length U) (member_uses lock)
   unfolding meet
   meet_is lock =
-      some_below-congr 32 (λ k. indexes_of (users_in table lock) k && indexes_of members k) (member_uses lock)
-      (λ k lt. ap (λ b. b && indexes_of members k) (is_table.users lock k) ∙ and_comm (uses (task_at U k) lock) (indexes_of members k))
-      ∙ some_below-further (length U) 32 (member_uses lock) is_table.few (λ k le. none_of (indexes_of members k) (uses (task_at U k) lock) (past_none U k lock le))
+      some_below-congr 32 (λ k. indexes_of (users_in table lock) k && indexes_of members k)
+      (member_uses lock)
+      (λ k lt. ap (λ b. b && indexes_of members k) (is_table.users lock k)
+      ∙ and_comm (uses (task_at U k) lock) (indexes_of members k))
+      ∙ some_below-further (length U) 32 (member_uses lock) is_table.few
+      (λ k le. none_of (indexes_of members k) (uses (task_at U k) lock) (past_none U k lock le))
 
-  some_uses-is : (locks : List (List ℕ)) → some_uses table members locks ≡ some_below (length U) (uses_one locks)
-  some_uses-is [] = sym (some_below-none (length U) (uses_one []) (λ k lt. none_of (indexes_of members k) false refl))
+  some_uses-is : (locks : List (List ℕ))
+      → some_uses table members locks ≡ some_below (length U) (uses_one locks)
+  some_uses-is [] = sym (some_below-none (length U) (uses_one [])
+      (λ k lt. none_of (indexes_of members k) false refl))
   some_uses-is (lock ∷ locks) =
       ap (λ b. b || some_uses table members locks) (meet_is lock)
       ∙ ap (λ b. some_below (length U) (member_uses lock) || b) (some_uses-is locks)
       ∙ sym (some_below-or (length U) (member_uses lock) (uses_one locks))
-      ∙ some_below-congr (length U) (λ k. member_uses lock k || uses_one locks k) (uses_one (lock ∷ locks))
-      (λ k lt. sym (both_or (indexes_of members k) (uses (task_at U k) lock) (list_any (λ l. uses (task_at U k) l) locks)))
+      ∙ some_below-congr (length U) (λ k. member_uses lock k || uses_one locks k)
+      (uses_one (lock ∷ locks))
+      (λ k lt. sym (both_or (indexes_of members k) (uses (task_at U k) lock)
+      (list_any (λ l. uses (task_at U k) l) locks)))
 
-  pub reached : (s : CriticalSection) → some_uses table members s.locks ≡ reaches U (indexes_of members) s
+  pub reached : (s : CriticalSection)
+      → some_uses table members s.locks ≡ reaches U (indexes_of members) s
   reached s = some_uses-is s.locks

@@ -142,7 +142,7 @@ fn hold_task(alloc: Global, users: &LockUsers, sheet: &Sheet) -> Result<Vec<Hold
     Ok(holds)
 }
 
-/// What the sections of each task of a set hold. The users are those of the set's locks; the error is want of memory.
+/// What the sections of each task of a set hold. The users are those of the set's locks; the error is out of memory.
 pub(crate) fn holds_of(
     alloc: Global,
     set: &TaskSet,

@@ -46,7 +46,7 @@ impl Model for LockTable {
 }
 
 impl LockTable {
-    /// The table of a set's locks. The error is want of memory.
+    /// The table of a set's locks. The error is out of memory.
     pub fn new(alloc: Global, set: &TaskSet) -> Result<LockTable, AllocError>
         ensures { IfOk result (λ table. IsTableOf set.now table) }
     {

@@ -45,7 +45,7 @@ fn uses_of(sheets: &[Sheet]) -> usize {
 }
 
 impl LockUsers {
-    /// The users of a set's locks. The error is want of memory.
+    /// The users of a set's locks. The error is out of memory.
     pub(crate) fn new(alloc: Global, set: &TaskSet) -> Result<LockUsers, AllocError>
         ensures { IfOk result (λ table. AreUsersOf set.now table) }
     {

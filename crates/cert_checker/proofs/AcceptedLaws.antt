@@ -1,5 +1,6 @@
 -- The certificate of a verdict is accepted.
-use Rattle.std.proofs.Common.{◌≡◌, ℕ, ◌+◌, ◌<◌, ◌≤◌, true, cond, nat_lt, List, [], ◌∷◌, length, Some, None, refl, sym, ◌∙◌, ap, subst, arith}
+use Rattle.std.proofs.Common.{◌≡◌, ℕ, ◌+◌, ◌<◌, ◌≤◌, true, cond, nat_lt, List, [], ◌∷◌, length}
+use Rattle.std.proofs.Common.{Some, None, refl, sym, ◌∙◌, ap, subst, arith}
 use Rattle.std.specs.Prelude.{unwrap_or}
 use Rattle.std.specs.List.{AllByRecursion}
 use Rattle.std.proofs.lemmas.Bool.{lt-ltb, ltb-true}
@@ -7,18 +8,22 @@ use Rattle.task_sheet.specs.Sheet.{Task, task_at}
 use Rattle.task_sheet.specs.TaskSet.{IsTaskSet}
 use Rattle.task_sheet.specs.Indexes.{Indexes, IsPart, among, without_index}
 use Rattle.task_sheet.specs.Orders.{all_of, IsOrderOf}
-use Rattle.task_sheet.specs.Verdicts.{ReasonData, Chain, Over, FailureData, LevelData, VerdictData, Admitted, Infeasible, tasks_of, order_of, IsVerdictOf}
+use Rattle.task_sheet.specs.Verdicts.{ReasonData, Chain, Over, FailureData, LevelData, VerdictData}
+use Rattle.task_sheet.specs.Verdicts.{Admitted, Infeasible, tasks_of, order_of, IsVerdictOf}
 use Rattle.task_sheet.specs.Ready.{time_of, AllReady, IsReadyOrder, IsReadySet}
 use Rattle.task_sheet.proofs.TaskLaws.{AllTasks-from_set, place_of_name}
-use Rattle.task_sheet.proofs.IndexLaws.{IsOrderOf-head, IsOrderOf-rest, without-part_of, order-below}
+use Rattle.task_sheet.proofs.IndexLaws.{IsOrderOf-head, IsOrderOf-rest, without-part_of}
+use Rattle.task_sheet.proofs.IndexLaws.{order-below}
 use Rattle.task_sheet.proofs.VerdictLaws.{IsBestOrder-ready, IsStuck-ready}
-use Rattle.certificate.specs.CertificateOf.{reason_named, fails_named, levels_named, body_named, certificate_of, IsKnownReason, IsKnownFail}
+use Rattle.certificate.specs.CertificateOf.{reason_named, fails_named, levels_named, body_named}
+use Rattle.certificate.specs.CertificateOf.{certificate_of, IsKnownReason, IsKnownFail}
 use Rattle.certificate.specs.Versions.{version_for}
 use Rattle.certificate.specs.declared.version.CertVersion.{CertVersion}
 use Rattle.certificate.specs.declared.version.CertVersion.TheVariants.{First, Second, Third}
 use Rattle.certificate.proofs.VerdictSpelling.{fails-below, fails-known, verdict-spelled}
 use Rattle.certificate.proofs.ReadingLaws.{reads_back}
-use Rattle.cert_checker.specs.Ready.{task_by_name, reason_by_index, failures_of, levels_of, may_serve, IsReadyBody, IsReady}
+use Rattle.cert_checker.specs.Ready.{task_by_name, reason_by_index, failures_of, levels_of}
+use Rattle.cert_checker.specs.Ready.{may_serve, IsReadyBody, IsReady}
 use Rattle.cert_checker.specs.Answers.{kind_of, kind_of_verdict, IsAccepted}
 use Rattle.cert_checker.proofs.ReadyLaws.{none-from_ready}
 
@@ -30,7 +35,8 @@ serves-own Second = refl
 serves-own Third = refl
 
 -- the response is its time and the jitter
-response-own : (U : List Task) (l : LevelData) → 1 ≤ time_of U l → time_of U l + (task_at U l.task).jitter ≡ l.response
+response-own : (U : List Task) (l : LevelData) → 1 ≤ time_of U l
+    → time_of U l + (task_at U l.task).jitter ≡ l.response
 response-own U l positive = omega (arith, positive)
 
 module _ (U : List Task) (set : IsTaskSet U) where
@@ -38,36 +44,66 @@ module _ (U : List Task) (set : IsTaskSet U) where
   task-own k lt =
       let at = place_of_name U set.distinct k lt in
       let found : nat_lt k (length U) ≡ true = lt-ltb k (length U) lt in
-      ap (λ (m : ℕ). unwrap_or (cond (nat_lt m (length U)) (Some m) None) (length U)) at ∙ rw found refl
+      ap (λ (m : ℕ). unwrap_or (cond (nat_lt m (length U)) (Some m) None) (length U)) at
+      ∙ rw found refl
 
-  reason-own : (reason : ReasonData) → IsKnownReason (length U) reason → reason_by_index U (reason_named U reason) ≡ reason
+  reason-own : (reason : ReasonData) → IsKnownReason (length U) reason
+      → reason_by_index U (reason_named U reason) ≡ reason
   reason-own (Chain numbers) known = refl
   reason-own (Over other) known = ap Over (task-own other known)
 
-  failures-own : (fails : List FailureData) → AllByRecursion (IsKnownFail (length U)) fails → failures_of U (fails_named U fails) ≡ fails
+  failures-own : (fails : List FailureData) → AllByRecursion (IsKnownFail (length U)) fails
+      → failures_of U (fails_named U fails) ≡ fails
   failures-own [] known = refl
   failures-own (f ∷ fails) known =
-      ap (λ (k : ℕ). let x : FailureData = record { task = k; reason = reason_by_index U (reason_named U f.reason) } in x ∷ failures_of U (fails_named U fails)) (task-own f.task known.0.task)
-      ∙ ap (λ (r : ReasonData). let x : FailureData = record { task = f.task; reason = r } in x ∷ failures_of U (fails_named U fails)) (reason-own f.reason known.0.reason)
+      ap (λ (k : ℕ). let x : FailureData =
+      record { task = k; reason = reason_by_index U (reason_named U f.reason) } in
+      x ∷ failures_of U (fails_named U fails)) (task-own f.task known.0.task)
+      ∙ ap (λ (r : ReasonData). let x : FailureData = record { task = f.task; reason = r } in
+      x ∷ failures_of U (fails_named U fails)) (reason-own f.reason known.0.reason)
       ∙ ap (λ (xs : List FailureData). f ∷ xs) (failures-own fails known.1)
 
-  levels-own : (L : Indexes) (levels : List LevelData) → IsOrderOf L (order_of levels) → IsPart L (all_of U) → AllReady U L levels → levels_of U (levels_named U levels) ≡ levels
+  levels-own : (L : Indexes) (levels : List LevelData) → IsOrderOf L (order_of levels)
+      → IsPart L (all_of U) → AllReady U L levels → levels_of U (levels_named U levels) ≡ levels
   levels-own L [] each part ready = refl
   levels-own L (l ∷ levels) each part ready =
-      let lt : l.task < length U = ltb-true l.task (length U) (part l.task (IsOrderOf-head L l.task (order_of levels) each)) in
+      let lt : l.task < length U = ltb-true l.task (length U)
+      (part l.task (IsOrderOf-head L l.task (order_of levels) each)) in
       let rest : List LevelData = levels_of U (levels_named U levels) in
-      ap (λ (k : ℕ). let x : LevelData = record { task = k; response = time_of U l + (task_at U k).jitter; fails = failures_of U (fails_named U l.fails) } in x ∷ rest) (task-own l.task lt)
-      ∙ ap (λ (r : ℕ). let x : LevelData = record { task = l.task; response = r; fails = failures_of U (fails_named U l.fails) } in x ∷ rest) (response-own U l ready.0.positive)
-      ∙ ap (λ (fs : List FailureData). let x : LevelData = record { task = l.task; response = l.response; fails = fs } in x ∷ rest) (failures-own l.fails (fails-known U L l.fails (fails-below (length U) L l.task (tasks_of l.fails) lt ready.0.lesser) ready.0.refuted))
-      ∙ ap (λ (xs : List LevelData). l ∷ xs) (levels-own (without_index L l.task) levels (IsOrderOf-rest L l.task (order_of levels) each) (without-part_of (length U) L l.task part) ready.1)
+      ap (λ (k : ℕ). let x : LevelData = record {
+        task = k;
+        response =
+            time_of U l + (task_at U k).jitter;
+        fails = failures_of U (fails_named U l.fails);
+      } in
+      x ∷ rest) (task-own l.task lt)
+      ∙ ap (λ (r : ℕ). let x : LevelData = record {
+        task = l.task;
+        response = r;
+        fails =
+            failures_of U (fails_named U l.fails);
+      } in x ∷ rest) (response-own U l ready.0.positive)
+      ∙ ap (λ (fs : List FailureData). let x : LevelData = record {
+        task = l.task;
+        response =
+            l.response;
+        fails = fs;
+      } in x ∷ rest) (failures-own l.fails (fails-known U L l.fails
+      (fails-below (length U) L l.task (tasks_of l.fails) lt ready.0.lesser) ready.0.refuted))
+      ∙ ap (λ (xs : List LevelData). l ∷ xs) (levels-own (without_index L l.task) levels
+      (IsOrderOf-rest L l.task (order_of levels) each)
+      (without-part_of (length U) L l.task part) ready.1)
 
   body-ready : (v : VerdictData) → IsVerdictOf U v → IsReadyBody U (body_named U v)
   body-ready (Admitted levels) h =
       let ready = IsBestOrder-ready U (AllTasks-from_set U set) levels h in
-      subst (IsReadyOrder U) (sym (levels-own (all_of U) levels ready.each_once (λ k is. is) ready.ready)) ready
+      subst (IsReadyOrder U)
+      (sym (levels-own (all_of U) levels ready.each_once (λ k is. is) ready.ready)) ready
   body-ready (Infeasible members) h =
       let ready = IsStuck-ready U members h in
-      subst (IsReadySet U) (sym (failures-own members (fails-known U (among (tasks_of members)) members (order-below (length U) (among (tasks_of members)) (tasks_of members) ready.distinct ready.within) ready.refuted))) ready
+      subst (IsReadySet U) (sym (failures-own members (fails-known U (among (tasks_of members))
+      members (order-below (length U) (among (tasks_of members)) (tasks_of members)
+      ready.distinct ready.within) ready.refuted))) ready
 
   same-kind : (v : VerdictData) → kind_of (body_named U v) ≡ kind_of_verdict v
   same-kind (Admitted levels) = refl
@@ -76,7 +112,8 @@ module _ (U : List Task) (set : IsTaskSet U) where
   pub verdict-accepted : (v : VerdictData) → IsVerdictOf U v → IsAccepted U v
   verdict-accepted v h =
       let spelled = verdict-spelled U set v h in
-      let ready : IsReady U (certificate_of U v) = record { version = serves-own (version_for U); body = body-ready v h } in
+      let ready : IsReady U (certificate_of U v) =
+      record { version = serves-own (version_for U); body = body-ready v h } in
       record {
         spelled = spelled;
         read_back = reads_back (certificate_of U v) spelled;

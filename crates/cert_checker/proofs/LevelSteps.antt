@@ -1,5 +1,7 @@
 -- The checks of the levels, one level after the other.
-use Rattle.std.proofs.Common.{◌≡◌, ℕ, zero, suc, ◌+◌, ◌<◌, Bool, true, false, ◌&&◌, not, nat_lt, List, [], ◌∷◌, length, drop, get_or, All, Option, Some, None, refl, sym, ◌∙◌, ap, arith, inl, inr}
+use Rattle.std.proofs.Common.{◌≡◌, ℕ, zero, suc, ◌+◌, ◌<◌, Bool, true, false, ◌&&◌, not, nat_lt}
+use Rattle.std.proofs.Common.{List, [], ◌∷◌, length, drop, get_or, All, Option, Some, None, refl}
+use Rattle.std.proofs.Common.{sym, ◌∙◌, ap, arith, inl, inr}
 use Rattle.std.specs.List.{AllByRecursion}
 use Rattle.std.proofs.lemmas.Bool.{cases_eq, and_parts, ltb-true}
 use Rattle.std.proofs.lemmas.List.Elements.{All-from_recursion}
@@ -14,7 +16,8 @@ use Rattle.cert_checker.specs.declared.fault.CheckFault.{CheckFault}
 use Rattle.cert_checker.proofs.SeenSteps.{dropped}
 
 -- the least index that is missing
-pub missing-at : (L : Indexes) (named : List ℕ) (k n : ℕ) → k < n → first_unnamed L named k ≡ None → L k ≡ true → among named k ≡ false → first_unnamed L named n ≡ Some k
+pub missing-at : (L : Indexes) (named : List ℕ) (k n : ℕ) → k < n → first_unnamed L named k ≡ None
+    → L k ≡ true → among named k ≡ false → first_unnamed L named n ≡ Some k
 missing-at L named k zero lt none member out = absurd (omega arith)
 missing-at L named k (suc n) lt none member out = elim (cases_eq k n) [
   | inl e ↦
@@ -24,29 +27,48 @@ missing-at L named k (suc n) lt none member out = elim (cases_eq k n) [
       let same : Some n ≡ Some k = ap (λ (m : ℕ). Some m) (sym e) in
       rw (before, here, gone) same
   | inr ne ↦
-      let before : first_unnamed L named n ≡ Some k = missing-at L named k n (omega arith) none member out in
+      let before : first_unnamed L named n ≡ Some k =
+      missing-at L named k n (omega arith) none member out in
       rw before refl
 ]
 
 -- one level more
-pub levels-step : (U : List Task) (asked : LevelCheck) (L M : Indexes) (ls : List CertLevelData) (i : ℕ) (l : CertLevelData) (total : Option CheckFault) → i < length ls → l ≡ get_or ls i l
-    → level_fault U asked (i + 1) L l ≡ None → M ≡ without_index L (task_by_name U l.name) → levels_fault U asked (i + 1) L (drop i ls) ≡ total → levels_fault U asked (i + 1 + 1) M (drop (i + 1) ls) ≡ total
+pub levels-step : (U : List Task) (asked : LevelCheck) (L M : Indexes) (ls : List CertLevelData)
+    (i : ℕ) (l : CertLevelData) (total : Option CheckFault) → i < length ls → l ≡ get_or ls i l
+    → level_fault U asked (i + 1) L l ≡ None → M ≡ without_index L (task_by_name U l.name)
+    → levels_fault U asked (i + 1) L (drop i ls) ≡ total
+    → levels_fault U asked (i + 1 + 1) M (drop (i + 1) ls) ≡ total
 levels-step U asked L M ls i l total lt e none is h =
     ap (λ (X : Indexes). levels_fault U asked (i + 1 + 1) X (drop (i + 1) ls)) is
     ∙ sym (ap (levels_fault U asked (i + 1) L) (dropped ls i l lt e) ∙ rw none refl) ∙ h
 
-pub levels-stop : (U : List Task) (asked : LevelCheck) (L : Indexes) (ls : List CertLevelData) (i : ℕ) (l : CertLevelData) (fault : CheckFault) (total : Option CheckFault) → i < length ls → l ≡ get_or ls i l
-    → level_fault U asked (i + 1) L l ≡ Some fault → levels_fault U asked (i + 1) L (drop i ls) ≡ total → Some fault ≡ total
+pub levels-stop : (U : List Task) (asked : LevelCheck) (L : Indexes) (ls : List CertLevelData)
+    (i : ℕ) (l : CertLevelData) (fault : CheckFault) (total : Option CheckFault) → i < length ls
+    → l ≡ get_or ls i l
+    → level_fault U asked (i + 1) L l ≡ Some fault
+    → levels_fault U asked (i + 1) L (drop i ls) ≡ total → Some fault ≡ total
 levels-stop U asked L ls i l fault total lt e some h =
     sym (ap (levels_fault U asked (i + 1) L) (dropped ls i l lt e) ∙ rw some refl) ∙ h
 
 -- levels that name tasks each once name tasks
-new-known : (U : List Task) (seen : Indexes) (ls : List CertLevelData) → are_new (length U) seen (order_of (levels_of U ls)) ≡ true → AllByRecursion (λ (l : CertLevelData). task_by_name U l.name < length U) ls
+new-known : (U : List Task) (seen : Indexes) (ls : List CertLevelData)
+    → are_new (length U) seen (order_of (levels_of U ls)) ≡ true
+    → AllByRecursion (λ (l : CertLevelData). task_by_name U l.name < length U) ls
 new-known U seen [] h = tt
 new-known U seen (l ∷ ls) h =
-    let parts = and_parts (nat_lt (task_by_name U l.name) (length U) && not (seen (task_by_name U l.name))) (are_new (length U) (with_index seen (task_by_name U l.name)) (order_of (levels_of U ls))) h in
-    let first = and_parts (nat_lt (task_by_name U l.name) (length U)) (not (seen (task_by_name U l.name))) parts.0 in
-    (ltb-true (task_by_name U l.name) (length U) first.0, new-known U (with_index seen (task_by_name U l.name)) ls parts.1)
+    let parts = and_parts
+    (nat_lt (task_by_name U l.name) (length U) && not (seen (task_by_name U l.name))) (are_new
+    (length U) (with_index seen (task_by_name U l.name)) (order_of (levels_of U ls))) h in
+    let first = and_parts (nat_lt (task_by_name U l.name) (length U))
+    (not (seen (task_by_name U l.name))) parts.0 in (
+      ltb-true (task_by_name U l.name) (length U) first.0,
+      new-known U
+          (with_index seen (task_by_name U l.name)) ls parts.1,
+    )
 
-pub levels-known : (U : List Task) (seen : Indexes) (ls : List CertLevelData) (b : Bool) → (are_new (length U) seen (order_of (levels_of U ls)) && b) ≡ true → All (λ (l : CertLevelData). task_by_name U l.name < length U) ls
-levels-known U seen ls b h = All-from_recursion (λ (l : CertLevelData). task_by_name U l.name < length U) ls (new-known U seen ls (and_parts (are_new (length U) seen (order_of (levels_of U ls))) b h).0)
+pub levels-known : (U : List Task) (seen : Indexes) (ls : List CertLevelData) (b : Bool)
+    → (are_new (length U) seen (order_of (levels_of U ls)) && b) ≡ true
+    → All (λ (l : CertLevelData). task_by_name U l.name < length U) ls
+levels-known U seen ls b h =
+    All-from_recursion (λ (l : CertLevelData). task_by_name U l.name < length U) ls
+    (new-known U seen ls (and_parts (are_new (length U) seen (order_of (levels_of U ls))) b h).0)

@@ -1,5 +1,7 @@
 -- A line with a failure: what is read is spelled so, and what is spelled so is read.
-use Rattle.std.proofs.Common.{◌≡◌, ℕ, ◌^◌, ◌<◌, ◌==◌, Bool, true, false, ◌&&◌, List, [], ◌∷◌, ◌++◌, length, map, All, Option, Some, None, option_map, refl, sym, ap, ◌∙◌, subst, arith}
+use Rattle.std.proofs.Common.{◌≡◌, ℕ, ◌^◌, ◌<◌, ◌==◌, Bool, true, false, ◌&&◌, List, [], ◌∷◌, ◌++◌}
+use Rattle.std.proofs.Common.{length, map, All, Option, Some, None, option_map, refl, sym, ap, ◌∙◌}
+use Rattle.std.proofs.Common.{subst, arith}
 use Rattle.std.specs.Prelude.{bytes_eq, codes}
 use Rattle.std.specs.Option.{option_or}
 use Rattle.std.specs.List.{list_all, AllByRecursion, join_with_byte}
@@ -12,10 +14,12 @@ use Rattle.std.proofs.lemmas.Option.{same_Some, cond_some}
 use Rattle.std.proofs.lemmas.Slice.Eq.{bytes_eq-Decides}
 use Rattle.std.proofs.lemmas.List.Concat.{flat_map-cons}
 use Rattle.std.proofs.lemmas.List.Elements.{All-from_recursion}
-use Rattle.std.proofs.lemmas.List.Splits.{slice_split_at, slice_split_none, join_with_byte-slice_split}
+use Rattle.std.proofs.lemmas.List.Splits.{slice_split_at, slice_split_none}
+use Rattle.std.proofs.lemmas.List.Splits.{join_with_byte-slice_split}
 use Rattle.std.proofs.lemmas.Fmt.{digits_decimal}
 use Rattle.task_sheet.specs.Name.{is_name, is_name_byte, IsName}
-use Rattle.certificate.specs.Body.{CertReasonData, Chain, Over, Fail, IsShort, IsReasonText, IsFailText}
+use Rattle.certificate.specs.Body.{CertReasonData, Chain, Over, Fail, IsShort, IsReasonText}
+use Rattle.certificate.specs.Body.{IsFailText}
 use Rattle.certificate.specs.Spelling.{numbers_text, reason_text}
 use Rattle.lines.specs.Words.{words}
 use Rattle.certificate.specs.Words.{◌>>=◌, numbers_in, over_in, later_in, reason_in, fail_in}
@@ -30,13 +34,15 @@ abbrev pub fail_text : List ℕ → Fail → List ℕ
 fail_text word f = word ++ 32 ∷ (f.name ++ reason_text f.reason)
 
 -- ---- bytes that do not stand in a text
-lacks_rec : (b : ℕ) (p : ℕ → Bool) → ((x : ℕ) → p x ≡ true → (x == b) ≡ false) → (xs : List ℕ) → list_all p xs ≡ true → AllByRecursion (λ x. (x == b) ≡ false) xs
+lacks_rec : (b : ℕ) (p : ℕ → Bool) → ((x : ℕ) → p x ≡ true → (x == b) ≡ false) → (xs : List ℕ)
+    → list_all p xs ≡ true → AllByRecursion (λ x. (x == b) ≡ false) xs
 lacks_rec b p apart [] h = tt
 lacks_rec b p apart (x ∷ xs) h =
     let parts = and_parts (p x) (list_all p xs) h in
     (apart x parts.0, lacks_rec b p apart xs parts.1)
 
-pub lacks : (b : ℕ) (p : ℕ → Bool) → ((x : ℕ) → p x ≡ true → (x == b) ≡ false) → (xs : List ℕ) → list_all p xs ≡ true → All (λ x. (x == b) ≡ false) xs
+pub lacks : (b : ℕ) (p : ℕ → Bool) → ((x : ℕ) → p x ≡ true → (x == b) ≡ false) → (xs : List ℕ)
+    → list_all p xs ≡ true → All (λ x. (x == b) ≡ false) xs
 lacks b p apart xs h = All-from_recursion (λ x. (x == b) ≡ false) xs (lacks_rec b p apart xs h)
 
 digit_apart : (b : ℕ) → b < 48 → (x : ℕ) → is_ascii_digit x ≡ true → (x == b) ≡ false
@@ -46,7 +52,8 @@ name_apart : (b : ℕ) → b < 45 → (x : ℕ) → is_name_byte x ≡ true → 
 name_apart b small x h = grind (arith, nat_tests)
 
 pub decimal_lacks : (b n : ℕ) → b < 48 → n < 2 ^ 64 → All (λ x. (x == b) ≡ false) (decimal n)
-decimal_lacks b n small h = lacks b is_ascii_digit (digit_apart b small) (decimal n) (digits_decimal own n h)
+decimal_lacks b n small h =
+    lacks b is_ascii_digit (digit_apart b small) (decimal n) (digits_decimal own n h)
 
 name_bytes : (text : List ℕ) → is_name text ≡ true → list_all is_name_byte text ≡ true
 name_bytes text h = grind (arith, nat_tests)
@@ -56,18 +63,25 @@ name_lacks b text small h = lacks b is_name_byte (name_apart b small) text (name
 
 -- ---- numbers behind spaces
 
-pub numbers_text-cons : (n : ℕ) (ns : List ℕ) → numbers_text (n ∷ ns) ≡ 32 ∷ (decimal n ++ numbers_text ns)
+pub numbers_text-cons : (n : ℕ) (ns : List ℕ)
+    → numbers_text (n ∷ ns) ≡ 32 ∷ (decimal n ++ numbers_text ns)
 numbers_text-cons n ns = flat_map-cons (λ m. 32 ∷ decimal m) n ns
 
-join_numbers : (n : ℕ) (ns : List ℕ) → 32 ∷ join_with_byte 32 (map decimal (n ∷ ns)) ≡ numbers_text (n ∷ ns)
-join_numbers n [] = sym (numbers_text-cons n [] ∙ ap (λ (x : List ℕ). 32 ∷ x) (append-nil (decimal n)))
-join_numbers n (m ∷ ms) = ap (λ (x : List ℕ). 32 ∷ (decimal n ++ x)) (join_numbers m ms) ∙ sym (numbers_text-cons n (m ∷ ms))
+join_numbers : (n : ℕ) (ns : List ℕ)
+    → 32 ∷ join_with_byte 32 (map decimal (n ∷ ns)) ≡ numbers_text (n ∷ ns)
+join_numbers n [] =
+    sym (numbers_text-cons n [] ∙ ap (λ (x : List ℕ). 32 ∷ x) (append-nil (decimal n)))
+join_numbers n (m ∷ ms) = ap (λ (x : List ℕ). 32 ∷ (decimal n ++ x)) (join_numbers m ms)
+    ∙ sym (numbers_text-cons n (m ∷ ms))
 
-pub words_numbers : (n : ℕ) (ns : List ℕ) → AllByRecursion IsShort (n ∷ ns) → words (decimal n ++ numbers_text ns) ≡ map decimal (n ∷ ns)
-words_numbers n [] short = ap words (append-nil (decimal n)) ∙ slice_split_none (λ b. b == 32) (decimal n) (decimal_lacks 32 n (omega arith) (omega (arith, short.0)))
+pub words_numbers : (n : ℕ) (ns : List ℕ) → AllByRecursion IsShort (n ∷ ns)
+    → words (decimal n ++ numbers_text ns) ≡ map decimal (n ∷ ns)
+words_numbers n [] short = ap words (append-nil (decimal n)) ∙ slice_split_none (λ b. b == 32)
+    (decimal n) (decimal_lacks 32 n (omega arith) (omega (arith, short.0)))
 words_numbers n (m ∷ ms) short =
     ap (λ (x : List ℕ). words (decimal n ++ x)) (numbers_text-cons m ms)
-    ∙ slice_split_at (λ b. b == 32) (decimal n) 32 (decimal m ++ numbers_text ms) (decimal_lacks 32 n (omega arith) (omega (arith, short.0))) refl
+    ∙ slice_split_at (λ b. b == 32) (decimal n) 32 (decimal m ++ numbers_text ms)
+    (decimal_lacks 32 n (omega arith) (omega (arith, short.0))) refl
     ∙ ap (λ (x : List (List ℕ)). decimal n ∷ x) (words_numbers m ms short.1)
 
 -- ---- a line
@@ -96,39 +110,54 @@ over_named Second other fits = fits
 over_named Third other fits = fits
 
 over_plain : All (λ x. (x == 32) ≡ false) (codes "over")
-over_plain = All-from_recursion (λ x. (x == 32) ≡ false) (codes "over") (refl, (refl, (refl, (refl, tt))))
+over_plain =
+    All-from_recursion (λ x. (x == 32) ≡ false) (codes "over") (refl, (refl, (refl, (refl, tt))))
 
-name_takes : (v : CertVersion) (n : List ℕ) (ns : List (List ℕ)) (r : CertReasonData) → ((other : List ℕ) → IsName other → IsReasonText v (Over other)) → over_in (n ∷ ns) ≡ Some r
+name_takes : (v : CertVersion) (n : List ℕ) (ns : List (List ℕ)) (r : CertReasonData)
+    → ((other : List ℕ) → IsName other → IsReasonText v (Over other)) → over_in (n ∷ ns) ≡ Some r
     → (32 ∷ join_with_byte 32 (n ∷ ns) ≡ reason_text r) × IsReasonText v r
 name_takes v n [] r may e = absurd cc
 name_takes v n (other ∷ x ∷ xs) r may e = absurd cc
 name_takes v n (other ∷ []) r may e =
     let g = cond_some (bytes_eq n (codes "over") && is_name other) (Over other) r e in
     let tests = and_parts (bytes_eq n (codes "over")) (is_name other) g.0 in
-    subst (λ (x : CertReasonData). (32 ∷ (n ++ 32 ∷ other) ≡ reason_text x) × IsReasonText v x) g.1
-    (ap (λ (x : List ℕ). 32 ∷ (x ++ 32 ∷ other)) (bytes_same n (codes "over") tests.0), may other tests.1)
+    subst (λ (x : CertReasonData). (32 ∷ (n ++ 32 ∷ other) ≡ reason_text x) × IsReasonText v x) g.1 (
+      ap (λ (x : List ℕ). 32 ∷ (x ++ 32 ∷ other)) (bytes_same n (codes "over") tests.0),
+      may other
+          tests.1,
+    )
 
-over_takes : (v : CertVersion) (n : List ℕ) (ns : List (List ℕ)) (r : CertReasonData) → later_in v (n ∷ ns) ≡ Some r → (32 ∷ join_with_byte 32 (n ∷ ns) ≡ reason_text r) × IsReasonText v r
+over_takes : (v : CertVersion) (n : List ℕ) (ns : List (List ℕ)) (r : CertReasonData) → later_in v
+    (n ∷ ns) ≡ Some r → (32 ∷ join_with_byte 32 (n ∷ ns) ≡ reason_text r) × IsReasonText v r
 over_takes First n ns r e = absurd cc
 over_takes Second n ns r e = name_takes Second n ns r (λ other named. named) e
 over_takes Third n ns r e = name_takes Third n ns r (λ other named. named) e
 
-numbers_take_text : (n : List ℕ) (ns : List (List ℕ)) (numbers : List ℕ) → n ∷ ns ≡ map decimal numbers → 32 ∷ join_with_byte 32 (n ∷ ns) ≡ numbers_text numbers
+numbers_take_text : (n : List ℕ) (ns : List (List ℕ)) (numbers : List ℕ)
+    → n ∷ ns ≡ map decimal numbers → 32 ∷ join_with_byte 32 (n ∷ ns) ≡ numbers_text numbers
 numbers_take_text n ns [] e = absurd cc
-numbers_take_text n ns (m ∷ ms) e = ap (λ (x : List (List ℕ)). 32 ∷ join_with_byte 32 x) e ∙ join_numbers m ms
+numbers_take_text n ns (m ∷ ms) e = ap (λ (x : List (List ℕ)). 32 ∷ join_with_byte 32 x) e
+    ∙ join_numbers m ms
 
-reason_takes : (v : CertVersion) (n : List ℕ) (ns : List (List ℕ)) (r : CertReasonData) → reason_in v (n ∷ ns) ≡ Some r → (32 ∷ join_with_byte 32 (n ∷ ns) ≡ reason_text r) × IsReasonText v r
+reason_takes : (v : CertVersion) (n : List ℕ) (ns : List (List ℕ)) (r : CertReasonData) → reason_in
+    v (n ∷ ns) ≡ Some r → (32 ∷ join_with_byte 32 (n ∷ ns) ≡ reason_text r) × IsReasonText v r
 unfolding reason_in
 reason_takes v n ns r = by (numbers_in (n ∷ ns)) refl
   where
-    by : (o : Option (List ℕ)) → numbers_in (n ∷ ns) ≡ o → option_or (option_map Chain o) (later_in v (n ∷ ns)) ≡ Some r → (32 ∷ join_with_byte 32 (n ∷ ns) ≡ reason_text r) × IsReasonText v r
+    by : (o : Option (List ℕ)) → numbers_in (n ∷ ns) ≡ o
+        → option_or (option_map Chain o) (later_in v (n ∷ ns)) ≡ Some r
+        → (32 ∷ join_with_byte 32 (n ∷ ns) ≡ reason_text r) × IsReasonText v r
     by (Some numbers) is e =
         let taken = numbers_take (n ∷ ns) numbers is in
-        subst (λ (x : CertReasonData). (32 ∷ join_with_byte 32 (n ∷ ns) ≡ reason_text x) × IsReasonText v x) (same_Some (Chain numbers) r e)
-        (numbers_take_text n ns numbers taken.0, (omega (arith, ap length taken.0, length-map numbers decimal), taken.1))
+        subst (λ (x : CertReasonData). (32 ∷ join_with_byte 32 (n ∷ ns) ≡ reason_text x)
+        × IsReasonText v x) (same_Some (Chain numbers) r e) (
+          numbers_take_text n ns numbers taken.0,
+          (omega (arith, ap length taken.0, length-map numbers decimal), taken.1),
+        )
     by None is e = over_takes v n ns r e
 
-reason_again : (v : CertVersion) (r : CertReasonData) → IsReasonText v r → reason_in v (reason_words r) ≡ Some r
+reason_again : (v : CertVersion) (r : CertReasonData) → IsReasonText v r
+    → reason_in v (reason_words r) ≡ Some r
 unfolding reason_in numbers_in
 reason_again v (Chain numbers) fits = rw (numbers_again numbers fits.1) refl
 reason_again First (Over other) fits = absurd fits
@@ -139,47 +168,60 @@ reason_again Third (Over other) fits =
     let is : is_name other ≡ true = fits in
     rw is refl
 
-reason_splits : (v : CertVersion) (r : CertReasonData) → IsReasonText v r → (reason_text r ≡ 32 ∷ reason_inner r) × (words (reason_inner r) ≡ reason_words r) × (0 < length (reason_words r))
+reason_splits : (v : CertVersion) (r : CertReasonData) → IsReasonText v r
+    → (reason_text r ≡ 32 ∷ reason_inner r) × (words (reason_inner r) ≡ reason_words r)
+    × (0 < length (reason_words r))
 reason_splits v (Chain []) fits = absurd (omega (arith, fits.0))
-reason_splits v (Chain (n ∷ ns)) fits = (numbers_text-cons n ns, words_numbers n ns fits.1, omega arith)
+reason_splits v (Chain (n ∷ ns)) fits =
+    (numbers_text-cons n ns, words_numbers n ns fits.1, omega arith)
 reason_splits v (Over other) fits = (
   refl,
   slice_split_at (λ b. b == 32) (codes "over") 32 other over_plain refl
-      ∙ ap (λ (x : List (List ℕ)). codes "over" ∷ x) (slice_split_none (λ b. b == 32) other (name_lacks 32 other (omega arith) (over_named v other fits))),
+      ∙ ap (λ (x : List (List ℕ)). codes "over" ∷ x) (slice_split_none (λ b. b == 32) other
+      (name_lacks 32 other (omega arith) (over_named v other fits))),
   omega arith,
 )
 
 -- ---- a failure
 module _ (v : CertVersion) where
-  take_words : (word : List ℕ) (ws : List (List ℕ)) (f : Fail) → fail_in v word ws ≡ Some f → (join_with_byte 32 ws ≡ fail_text word f) × IsFailText v f
+  take_words : (word : List ℕ) (ws : List (List ℕ)) (f : Fail) → fail_in v word ws ≡ Some f
+      → (join_with_byte 32 ws ≡ fail_text word f) × IsFailText v f
   unfolding fail_in
   take_words word [] f e = absurd cc
   take_words word (w ∷ []) f e = absurd cc
   take_words word (w ∷ name ∷ []) f e = absurd cc
   take_words word (w ∷ name ∷ n ∷ ns) f e =
-      let g = cond_given (bytes_eq w word && is_name name) (reason_in v (n ∷ ns) >>= λ reason. Some (record { name = name; reason = reason })) f e in
+      let g = cond_given (bytes_eq w word && is_name name)
+      (reason_in v (n ∷ ns) >>= λ reason. Some (record { name = name; reason = reason })) f e in
       let tests = and_parts (bytes_eq w word) (is_name name) g.0 in
-      let b = bind_some (reason_in v (n ∷ ns)) (λ reason. Some (record { name = name; reason = reason })) f g.1 in
+      let b = bind_some (reason_in v (n ∷ ns))
+      (λ reason. Some (record { name = name; reason = reason })) f g.1 in
       let taken = reason_takes v n ns b.0 b.1 in
-      subst (λ (x : Fail). (join_with_byte 32 (w ∷ name ∷ n ∷ ns) ≡ fail_text word x) × IsFailText v x) (same_Some (record { name = name; reason = b.0 }) f b.2) (
-        ap (λ (x : List ℕ). x ++ 32 ∷ (name ++ 32 ∷ join_with_byte 32 (n ∷ ns))) (bytes_same w word tests.0) ∙ ap (λ (x : List ℕ). word ++ 32 ∷ (name ++ x)) taken.0,
+      subst (λ (x : Fail). (join_with_byte 32 (w ∷ name ∷ n ∷ ns) ≡ fail_text word x)
+      × IsFailText v x) (same_Some (record { name = name; reason = b.0 }) f b.2) (
+        ap (λ (x : List ℕ). x ++ 32 ∷ (name ++ 32 ∷ join_with_byte 32 (n ∷ ns)))
+            (bytes_same w word tests.0) ∙ ap (λ (x : List ℕ). word ++ 32 ∷ (name ++ x)) taken.0,
         record { name = tests.1; reason = taken.1 },
       )
 
-  pub fail_takes : (word line : List ℕ) (f : Fail) → fail_in v word (words line) ≡ Some f → (line ≡ fail_text word f) × IsFailText v f
+  pub fail_takes : (word line : List ℕ) (f : Fail) → fail_in v word (words line) ≡ Some f
+      → (line ≡ fail_text word f) × IsFailText v f
   fail_takes word line f e =
       let t = take_words word (words line) f e in
       (sym (join_with_byte-slice_split 32 line) ∙ t.0, t.1)
 
-  again_words : (word : List ℕ) (f : Fail) → All (λ x. (x == 32) ≡ false) word → IsFailText v f → words (fail_text word f) ≡ word ∷ f.name ∷ reason_words f.reason
+  again_words : (word : List ℕ) (f : Fail) → All (λ x. (x == 32) ≡ false) word → IsFailText v f
+      → words (fail_text word f) ≡ word ∷ f.name ∷ reason_words f.reason
   again_words word f plain fits =
       let split = reason_splits v f.reason fits.reason in
       slice_split_at (λ b. b == 32) word 32 (f.name ++ reason_text f.reason) plain refl
       ∙ ap (λ (x : List ℕ). word ∷ words (f.name ++ x)) split.0
-      ∙ ap (λ (x : List (List ℕ)). word ∷ x) (slice_split_at (λ b. b == 32) f.name 32 (reason_inner f.reason) (name_lacks 32 f.name (omega arith) fits.name) refl)
+      ∙ ap (λ (x : List (List ℕ)). word ∷ x) (slice_split_at (λ b. b == 32) f.name 32
+      (reason_inner f.reason) (name_lacks 32 f.name (omega arith) fits.name) refl)
       ∙ ap (λ (x : List (List ℕ)). word ∷ f.name ∷ x) split.1
 
-  pub fail_again : (word : List ℕ) (f : Fail) → All (λ x. (x == 32) ≡ false) word → IsFailText v f → fail_in v word (words (fail_text word f)) ≡ Some f
+  pub fail_again : (word : List ℕ) (f : Fail) → All (λ x. (x == 32) ≡ false) word → IsFailText v f
+      → fail_in v word (words (fail_text word f)) ≡ Some f
   fail_again word f plain fits =
       let is : is_name f.name ≡ true = fits.name in
       ap (fail_in v word) (again_words word f plain fits)

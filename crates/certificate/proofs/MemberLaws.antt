@@ -1,34 +1,47 @@
 -- Lines with chains: what is read, and what is read of what is spelled.
-use Rattle.std.proofs.Common.{◌≡◌, ℕ, suc, ◌+◌, ◌<◌, ◌==◌, false, List, [], ◌∷◌, ◌++◌, length, All, Ok, refl, sym, ap, ◌∙◌, subst, append_assoc, arith, add-zero}
+use Rattle.std.proofs.Common.{◌≡◌, ℕ, suc, ◌+◌, ◌<◌, ◌==◌, false, List, [], ◌∷◌, ◌++◌, length, All}
+use Rattle.std.proofs.Common.{Ok, refl, sym, ap, ◌∙◌, subst, append_assoc, arith, add-zero}
 use Rattle.std.specs.Prelude.{codes}
 use Rattle.std.specs.List.{AllByRecursion}
 use Rattle.std.specs.Fmt.{decimal}
 use Rattle.std.proofs.lemmas.Bool.Decides.{nat_tests}
 use Rattle.std.proofs.lemmas.List.Concat.{flat_map-cons}
 use Rattle.std.proofs.lemmas.List.Elements.{All-append, All-from_recursion}
-use Rattle.certificate.specs.Body.{CertReasonData, Chain, Over, Fail, IsShort, IsReasonText, IsFailText}
+use Rattle.certificate.specs.Body.{CertReasonData, Chain, Over, Fail, IsShort, IsReasonText}
+use Rattle.certificate.specs.Body.{IsFailText}
 use Rattle.certificate.specs.Spelling.{numbers_text, reason_text, fail_line, fail_lines}
 use Rattle.lines.specs.Lines.{parts}
 use Rattle.lines.specs.Words.{words}
 use Rattle.certificate.specs.Words.{fail_in}
 use Rattle.lines.specs.Steps.{◌>>=◌}
 use Rattle.certificate.specs.Lines.{At, line_from, wanted, items_at, member_at, members_at}
-use Rattle.certificate.proofs.FailLaws.{over_named, numbers_text-cons, fail_text, fail_takes, fail_again, decimal_lacks, name_lacks}
-use Rattle.certificate.proofs.LineLaws.{left, bind_ok, ok_is, wanted_ok, items_take, line_takes, line_end, line_again}
+use Rattle.certificate.proofs.FailLaws.{over_named, numbers_text-cons, fail_text, fail_takes}
+use Rattle.certificate.proofs.FailLaws.{fail_again, decimal_lacks, name_lacks}
+use Rattle.certificate.proofs.LineLaws.{left, bind_ok, ok_is, wanted_ok, items_take, line_takes}
+use Rattle.certificate.proofs.LineLaws.{line_end, line_again}
 use Rattle.certificate.specs.declared.version.CertVersion.{CertVersion}
 
 module _ (v : CertVersion) where
-  pub member_takes : (a : At) (x : Fail × At) → member_at v a ≡ Ok x → (left a ≡ fail_line (codes "member") x.0 ++ left x.1) × IsFailText v x.0
+  pub member_takes : (a : At) (x : Fail × At) → member_at v a ≡ Ok x
+      → (left a ≡ fail_line (codes "member") x.0 ++ left x.1) × IsFailText v x.0
   unfolding member_at
   member_takes a x e =
-      let l = bind_ok (line_from a.parts a.line) (λ l. wanted a.line (fail_in v (codes "member") (words l.0)) >>= λ c. Ok (c, l.1)) x e in
-      let c = bind_ok (wanted a.line (fail_in v (codes "member") (words l.0.0))) (λ c. Ok (c, l.0.1)) x l.2 in
-      let t = fail_takes v (codes "member") l.0.0 c.0 (wanted_ok a.line (fail_in v (codes "member") (words l.0.0)) c.0 c.1) in
-      let whole : left a ≡ fail_line (codes "member") c.0 ++ left l.0.1 = line_takes a.parts a.line l.0 l.1 ∙ ap (λ (y : List ℕ). y ++ 10 ∷ left l.0.1) t.0 ∙ line_end (codes "member") c.0 (left l.0.1) in
+      let l = bind_ok (line_from a.parts a.line)
+      (λ l. wanted a.line (fail_in v (codes "member") (words l.0)) >>= λ c. Ok (c, l.1)) x e in
+      let c = bind_ok (wanted a.line (fail_in v (codes "member") (words l.0.0)))
+      (λ c. Ok (c, l.0.1)) x l.2 in
+      let t = fail_takes v (codes "member") l.0.0 c.0
+      (wanted_ok a.line (fail_in v (codes "member") (words l.0.0)) c.0 c.1) in
+      let whole : left a ≡ fail_line (codes "member") c.0 ++ left l.0.1 =
+      line_takes a.parts a.line l.0 l.1 ∙ ap (λ (y : List ℕ). y ++ 10 ∷ left l.0.1) t.0
+      ∙ line_end (codes "member") c.0 (left l.0.1) in
       let made : Fail × At = (c.0, l.0.1) in
-      subst (λ (y : Fail × At). (left a ≡ fail_line (codes "member") y.0 ++ left y.1) × IsFailText v y.0) (ok_is made x c.2) (whole, t.1)
+      subst (λ (y : Fail × At). (left a ≡ fail_line (codes "member") y.0 ++ left y.1)
+      × IsFailText v y.0) (ok_is made x c.2) (whole, t.1)
 
-  one_more : (k : ℕ) (a : At) (x : Fail × At) (xs : List Fail) (rest : List ℕ) → member_at v a ≡ Ok x → left x.1 ≡ fail_lines (codes "member") xs ++ rest → (left a ≡ fail_lines (codes "member") (x.0 ∷ xs) ++ rest) × IsFailText v x.0
+  one_more : (k : ℕ) (a : At) (x : Fail × At) (xs : List Fail) (rest : List ℕ)
+      → member_at v a ≡ Ok x → left x.1 ≡ fail_lines (codes "member") xs ++ rest
+      → (left a ≡ fail_lines (codes "member") (x.0 ∷ xs) ++ rest) × IsFailText v x.0
   one_more k a x xs rest e others =
       let first = member_takes a x e in
       let whole : left a ≡ fail_lines (codes "member") (x.0 ∷ xs) ++ rest =
@@ -37,49 +50,90 @@ module _ (v : CertVersion) where
       ∙ ap (λ (y : List ℕ). y ++ rest) (sym (flat_map-cons (fail_line (codes "member")) x.0 xs)) in
       (whole, first.1)
 
-  pub members_take : (n : ℕ) (a : At) (x : List Fail × At) → members_at v n a ≡ Ok x → (left a ≡ fail_lines (codes "member") x.0 ++ left x.1) × (length x.0 ≡ n) × AllByRecursion (IsFailText v) x.0
-  members_take n a x e = items_take (λ k. member_at v) (λ k ms. fail_lines (codes "member") ms) (IsFailText v) (λ k. refl) one_more n 1 a x e
+  pub members_take : (n : ℕ) (a : At) (x : List Fail × At) → members_at v n a ≡ Ok x
+      → (left a ≡ fail_lines (codes "member") x.0 ++ left x.1) × (length x.0 ≡ n)
+      × AllByRecursion (IsFailText v) x.0
+  members_take n a x e = items_take (λ k. member_at v) (λ k ms. fail_lines (codes "member") ms)
+      (IsFailText v) (λ k. refl) one_more n 1 a x e
 
 -- ---- and back
-numbers_lack : (ns : List ℕ) → AllByRecursion IsShort ns → All (λ x. (x == 10) ≡ false) (numbers_text ns)
+numbers_lack : (ns : List ℕ) → AllByRecursion IsShort ns
+    → All (λ x. (x == 10) ≡ false) (numbers_text ns)
 numbers_lack [] short = All-from_recursion (λ x. (x == 10) ≡ false) [] tt
 numbers_lack (n ∷ ns) short =
     subst (λ (y : List ℕ). All (λ x. (x == 10) ≡ false) y) (sym (numbers_text-cons n ns))
     (All-append (λ x. (x == 10) ≡ false) (32 ∷ decimal n) (numbers_text ns)
-    (All-append (λ x. (x == 10) ≡ false) (32 ∷ []) (decimal n) (All-from_recursion (λ x. (x == 10) ≡ false) (32 ∷ []) (refl, tt)) (decimal_lacks 10 n (omega arith) (omega (arith, short.0))))
+    (All-append (λ x. (x == 10) ≡ false) (32 ∷ []) (decimal n) (All-from_recursion (λ x. (x == 10)
+    ≡ false) (32 ∷ []) (refl, tt)) (decimal_lacks 10 n (omega arith) (omega (arith, short.0))))
     (numbers_lack ns short.1))
 
 eqb-less : (c b : ℕ) → b < c → (c == b) ≡ false
 eqb-less c b lt = grind (arith, nat_tests)
 
 member_plain : (b : ℕ) → b < 45 → All (λ x. (x == b) ≡ false) (codes "member")
-member_plain b small = All-from_recursion (λ x. (x == b) ≡ false) (codes "member") (eqb-less 109 b (omega arith), (eqb-less 101 b (omega arith), (eqb-less 109 b (omega arith), (eqb-less 98 b (omega arith), (eqb-less 101 b (omega arith), (eqb-less 114 b (omega arith), tt))))))
+member_plain b small = All-from_recursion (λ x. (x == b) ≡ false) (codes "member") (
+  eqb-less 109 b
+      (omega arith),
+  (
+    eqb-less 101 b (omega arith),
+    (
+      eqb-less 109 b (omega arith),
+      (
+        eqb-less 98 b
+            (omega arith),
+        (eqb-less 101 b (omega arith), (eqb-less 114 b (omega arith), tt)),
+      ),
+    ),
+  ),
+)
 
 module _ (v : CertVersion) where
-  reason_lacks : (reason : CertReasonData) → IsReasonText v reason → All (λ x. (x == 10) ≡ false) (reason_text reason)
+  reason_lacks : (reason : CertReasonData) → IsReasonText v reason
+      → All (λ x. (x == 10) ≡ false) (reason_text reason)
   reason_lacks (Chain numbers) fits = numbers_lack numbers fits.1
   reason_lacks (Over other) fits =
-      All-append (λ x. (x == 10) ≡ false) (codes " over ") other (All-from_recursion (λ x. (x == 10) ≡ false) (codes " over ") (refl, (refl, (refl, (refl, (refl, (refl, tt))))))) (name_lacks 10 other (omega arith) (over_named v other fits))
+      All-append (λ x. (x == 10) ≡ false) (codes " over ") other (All-from_recursion (λ x. (x == 10)
+      ≡ false) (codes " over ") (refl, (refl, (refl, (refl, (refl, (refl, tt)))))))
+      (name_lacks 10 other (omega arith) (over_named v other fits))
 
-  pub fail_lacks : (word : List ℕ) (c : Fail) → All (λ x. (x == 10) ≡ false) word → IsFailText v c → All (λ x. (x == 10) ≡ false) (fail_text word c)
+  pub fail_lacks : (word : List ℕ) (c : Fail) → All (λ x. (x == 10) ≡ false) word → IsFailText v c
+      → All (λ x. (x == 10) ≡ false) (fail_text word c)
   fail_lacks word c plain fits =
       All-append (λ x. (x == 10) ≡ false) word (32 ∷ (c.name ++ reason_text c.reason)) plain
-      (All-append (λ x. (x == 10) ≡ false) (32 ∷ []) (c.name ++ reason_text c.reason) (All-from_recursion (λ x. (x == 10) ≡ false) (32 ∷ []) (refl, tt))
-      (All-append (λ x. (x == 10) ≡ false) c.name (reason_text c.reason) (name_lacks 10 c.name (omega arith) fits.name) (reason_lacks c.reason fits.reason)))
+      (All-append (λ x. (x == 10) ≡ false) (32 ∷ []) (c.name ++ reason_text c.reason)
+      (All-from_recursion (λ x. (x == 10) ≡ false) (32 ∷ []) (refl, tt))
+      (All-append (λ x. (x == 10) ≡ false) c.name (reason_text c.reason)
+      (name_lacks 10 c.name (omega arith) fits.name) (reason_lacks c.reason fits.reason)))
 
-  pub member_again : (c : Fail) (rest : List ℕ) (n : ℕ) → IsFailText v c → member_at v (record { parts = parts (fail_line (codes "member") c ++ rest); line = n }) ≡ Ok (c, record { parts = parts rest; line = n + 1 })
+  pub member_again : (c : Fail) (rest : List ℕ) (n : ℕ) → IsFailText v c
+      → member_at v (record { parts = parts (fail_line (codes "member") c ++ rest); line = n })
+      ≡ Ok (c, record { parts = parts rest; line = n + 1 })
   unfolding member_at
   member_again c rest n fits =
-      let lines : line_from (parts (fail_line (codes "member") c ++ rest)) n ≡ Ok (fail_text (codes "member") c, record { parts = parts rest; line = n + 1 }) =
-      ap (λ (y : List ℕ). line_from (parts y) n) (sym (line_end (codes "member") c rest)) ∙ line_again (fail_text (codes "member") c) rest n (fail_lacks (codes "member") c (member_plain 10 (omega arith)) fits) in
+      let lines : line_from (parts (fail_line (codes "member") c ++ rest)) n
+      ≡ Ok (fail_text (codes "member") c, record { parts = parts rest; line = n + 1 }) =
+      ap (λ (y : List ℕ). line_from (parts y) n) (sym (line_end (codes "member") c rest))
+      ∙ line_again (fail_text (codes "member") c) rest n
+      (fail_lacks (codes "member") c (member_plain 10 (omega arith)) fits) in
       rw (lines, fail_again v (codes "member") c (member_plain 32 (omega arith)) fits) refl
 
-  pub members_again : (cs : List Fail) (rest : List ℕ) (k n : ℕ) → AllByRecursion (IsFailText v) cs → items_at (λ k. member_at v) (length cs) k (record { parts = parts (fail_lines (codes "member") cs ++ rest); line = n }) ≡ Ok (cs, record { parts = parts rest; line = n + length cs })
+  pub members_again : (cs : List Fail) (rest : List ℕ) (k n : ℕ) → AllByRecursion (IsFailText v) cs
+      → items_at (λ k. member_at v) (length cs) k
+      (record { parts = parts (fail_lines (codes "member") cs ++ rest); line = n })
+      ≡ Ok (cs, record { parts = parts rest; line = n + length cs })
   unfolding items_at
   members_again [] rest k n fits = rw (add-zero n) refl
   members_again (c ∷ cs) rest k n fits =
-      let regrouped : fail_lines (codes "member") (c ∷ cs) ++ rest ≡ fail_line (codes "member") c ++ (fail_lines (codes "member") cs ++ rest) =
-      ap (λ (y : List ℕ). y ++ rest) (flat_map-cons (fail_line (codes "member")) c cs) ∙ append_assoc (fail_line (codes "member") c) (fail_lines (codes "member") cs) rest in
+      let regrouped : fail_lines (codes "member") (c ∷ cs) ++ rest ≡ fail_line (codes "member") c
+      ++ (fail_lines (codes "member") cs ++ rest) =
+      ap (λ (y : List ℕ). y ++ rest) (flat_map-cons (fail_line (codes "member")) c cs)
+      ∙ append_assoc (fail_line (codes "member") c) (fail_lines (codes "member") cs) rest in
       let same : n + 1 + length cs ≡ n + suc (length cs) = omega arith in
-      ap (λ (y : List ℕ). items_at (λ k. member_at v) (suc (length cs)) k (record { parts = parts y; line = n })) regrouped
-      ∙ rw (member_again c (fail_lines (codes "member") cs ++ rest) n fits.0, members_again cs rest (k + 1) (n + 1) fits.1, same) refl
+      ap (λ (y : List ℕ). items_at (λ k. member_at v) (suc (length cs)) k
+      (record { parts = parts y; line = n })) regrouped
+      ∙ rw (
+        member_again c (fail_lines (codes "member") cs ++ rest) n fits.0,
+        members_again cs rest
+            (k + 1) (n + 1) fits.1,
+        same,
+      ) refl

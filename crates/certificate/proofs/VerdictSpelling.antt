@@ -1,5 +1,6 @@
 -- The certificate of a verdict has a spelling.
-use Rattle.std.proofs.Common.{◌≡◌, ℕ, zero, suc, ◌<◌, ◌≤◌, Bool, true, false, cond, List, [], ◌∷◌, ◌++◌, length, All, refl, sym, subst, arith}
+use Rattle.std.proofs.Common.{◌≡◌, ℕ, zero, suc, ◌<◌, ◌≤◌, Bool, true, false, cond, List, [], ◌∷◌}
+use Rattle.std.proofs.Common.{◌++◌, length, All, refl, sym, subst, arith}
 use Rattle.std.specs.List.{AllByRecursion}
 use Rattle.std.proofs.lemmas.Bool.{ltb-true}
 use Rattle.std.proofs.lemmas.List.{length-map}
@@ -14,28 +15,37 @@ use Rattle.task_sheet.specs.Responses.{ChainFrom}
 use Rattle.task_sheet.specs.Demand.{demand_of, limit_of, has_interrupts}
 use Rattle.task_sheet.specs.Orders.{all_of, must_outrank, IsOrderOf}
 use Rattle.task_sheet.specs.Verdicts as verdict
-use Rattle.task_sheet.specs.Verdicts.{ReasonData, FailureData, LevelData, VerdictData, Admitted, Infeasible, tasks_of, order_of, IsBestOrder, IsStuck, IsVerdictOf}
+use Rattle.task_sheet.specs.Verdicts.{ReasonData, FailureData, LevelData, VerdictData, Admitted}
+use Rattle.task_sheet.specs.Verdicts.{Infeasible, tasks_of, order_of, IsBestOrder, IsStuck}
+use Rattle.task_sheet.specs.Verdicts.{IsVerdictOf}
 use Rattle.task_sheet.specs.Ready.{Refutes, AllRefuted, AllReady, IsReadyOrder, IsReadySet}
-use Rattle.task_sheet.proofs.IndexLaws.{without-part_of, IsOrderOf-head, IsOrderOf-rest, order-below, order-few}
+use Rattle.task_sheet.proofs.IndexLaws.{without-part_of, IsOrderOf-head, IsOrderOf-rest}
+use Rattle.task_sheet.proofs.IndexLaws.{order-below, order-few}
 use Rattle.task_sheet.proofs.TaskLaws.{valid_at, AllTasks-from_set}
 use Rattle.task_sheet.proofs.DemandFits.{limit-fits, demand-fits}
 use Rattle.task_sheet.proofs.VerdictLaws.{IsBestOrder-ready, IsStuck-ready}
 use Rattle.certificate.specs.declared.version.CertVersion.{CertVersion}
 use Rattle.certificate.specs.declared.version.CertVersion.TheVariants.{Second, Third}
-use Rattle.certificate.specs.Body.{Over, IsShort, IsReasonText, IsFailText, IsLevelText, HasSpelling}
+use Rattle.certificate.specs.Body.{Over, IsShort, IsReasonText, IsFailText, IsLevelText}
+use Rattle.certificate.specs.Body.{HasSpelling}
 use Rattle.certificate.specs.Versions.{some_bound, version_for}
-use Rattle.certificate.specs.CertificateOf.{reason_named, fail_named, fails_named, level_named, levels_named, certificate_of, IsKnownReason, IsKnownFail, IsKnownLevel}
+use Rattle.certificate.specs.CertificateOf.{reason_named, fail_named, fails_named, level_named}
+use Rattle.certificate.specs.CertificateOf.{levels_named, certificate_of, IsKnownReason}
+use Rattle.certificate.specs.CertificateOf.{IsKnownFail, IsKnownLevel}
 
 -- ---- tasks of the set
-push-below : (n m : ℕ) (ks : List ℕ) → AllByRecursion (λ k. k < n) ks → n ≤ m → n < m → AllByRecursion (λ k. k < m) (ks ++ n ∷ [])
+push-below : (n m : ℕ) (ks : List ℕ) → AllByRecursion (λ k. k < n) ks → n ≤ m → n < m
+    → AllByRecursion (λ k. k < m) (ks ++ n ∷ [])
 push-below n m [] h le lt = (lt, tt)
 push-below n m (k ∷ ks) h le lt = (omega (arith, h.0), push-below n m ks h.1 le lt)
 
-keep-below : (n m : ℕ) (ks : List ℕ) → AllByRecursion (λ k. k < n) ks → n ≤ m → AllByRecursion (λ k. k < m) ks
+keep-below : (n m : ℕ) (ks : List ℕ) → AllByRecursion (λ k. k < n) ks → n ≤ m
+    → AllByRecursion (λ k. k < m) ks
 keep-below n m [] h le = tt
 keep-below n m (k ∷ ks) h le = (omega (arith, h.0), keep-below n m ks h.1 le)
 
-grown-below : (n : ℕ) (b : Bool) (ks : List ℕ) → AllByRecursion (λ k. k < n) ks → AllByRecursion (λ k. k < suc n) (cond b (ks ++ n ∷ []) ks)
+grown-below : (n : ℕ) (b : Bool) (ks : List ℕ) → AllByRecursion (λ k. k < n) ks
+    → AllByRecursion (λ k. k < suc n) (cond b (ks ++ n ∷ []) ks)
 grown-below n true ks h = push-below n (suc n) ks h (omega arith) (omega arith)
 grown-below n false ks h = keep-below n (suc n) ks h (omega arith)
 
@@ -44,12 +54,15 @@ listed-below zero L = tt
 listed-below (suc n) L = grown-below n (L n) (listed_below n L) (listed-below n L)
 
 -- failures of the tasks of L below the chosen one name tasks of the set
-pub fails-below : (n : ℕ) (L : Indexes) (chosen : ℕ) (ks : List ℕ) → chosen < n → ks ≡ listed_below chosen L → AllByRecursion (λ k. k < n) ks
-fails-below n L chosen ks lt lesser = subst (AllByRecursion (λ k. k < n)) (sym lesser) (keep-below chosen n (listed_below chosen L) (listed-below chosen L) (omega arith))
+pub fails-below : (n : ℕ) (L : Indexes) (chosen : ℕ) (ks : List ℕ) → chosen < n
+    → ks ≡ listed_below chosen L → AllByRecursion (λ k. k < n) ks
+fails-below n L chosen ks lt lesser = subst (AllByRecursion (λ k. k < n)) (sym lesser)
+    (keep-below chosen n (listed_below chosen L) (listed-below chosen L) (omega arith))
 
 -- ---- names and numbers
 module _ (U : List Task) (set : IsTaskSet U) where
-  climb-short : (i : ℕ) (H : Indexes) (a : ℕ) (bs : List ℕ) → i < length U → IsShort a → ChainFrom (demand_of U i H) (limit_of (task_at U i)) a bs → AllByRecursion IsShort (a ∷ bs)
+  climb-short : (i : ℕ) (H : Indexes) (a : ℕ) (bs : List ℕ) → i < length U → IsShort a
+      → ChainFrom (demand_of U i H) (limit_of (task_at U i)) a bs → AllByRecursion IsShort (a ∷ bs)
   climb-short i H a [] lt short chain = (short, tt)
   climb-short i H a (b ∷ bs) lt short chain =
       let limit = limit-fits U set i lt in
@@ -57,88 +70,151 @@ module _ (U : List Task) (set : IsTaskSet U) where
       (short, climb-short i H b bs lt (omega (arith, fits, chain.2)) chain.3)
 
   -- where a task of the set must stand above another one of it, the second version serves
-  bound_shows : (i k : ℕ) → i < length U → k < length U → must_outrank U i k ≡ true → some_bound U ≡ true
+  bound_shows : (i k : ℕ) → i < length U → k < length U → must_outrank U i k ≡ true
+      → some_bound U ≡ true
   unfolding some_bound
   bound_shows i k lt within named =
-      list_any_at (λ (t : Task). list_any (outranks_task t) U) U i no_task lt (list_any_at (outranks_task (task_at U i)) U k no_task within named)
+      list_any_at (λ (t : Task). list_any (outranks_task t) U) U i no_task lt
+      (list_any_at (outranks_task (task_at U i)) U k no_task within named)
 
   -- there a name is a reason, in the second version and in the third
-  name-text : (other : List ℕ) → some_bound U ≡ true → IsName other → IsReasonText (version_for U) (Over other)
+  name-text : (other : List ℕ) → some_bound U ≡ true → IsName other
+      → IsReasonText (version_for U) (Over other)
   name-text other bound named = by (has_interrupts U) refl
     where
       by : (b : Bool) → has_interrupts U ≡ b → IsReasonText (version_for U) (Over other)
-      by true is = let third : version_for U ≡ Third = rw is refl in subst (λ (v : CertVersion). IsReasonText v (Over other)) (sym third) named
-      by false is = let second : version_for U ≡ Second = rw (is, bound) refl in subst (λ (v : CertVersion). IsReasonText v (Over other)) (sym second) named
+      by true is = let third : version_for U ≡ Third = rw is refl in
+          subst (λ (v : CertVersion). IsReasonText v (Over other)) (sym third) named
+      by false is = let second : version_for U ≡ Second = rw (is, bound) refl in
+          subst (λ (v : CertVersion). IsReasonText v (Over other)) (sym second) named
 
-  reason-text : (i : ℕ) (H : Indexes) (reason : ReasonData) → i < length U → Refutes U i H reason → IsReasonText (version_for U) (reason_named U reason)
+  reason-text : (i : ℕ) (H : Indexes) (reason : ReasonData) → i < length U → Refutes U i H reason
+      → IsReasonText (version_for U) (reason_named U reason)
   reason-text i H (verdict.Chain []) lt chain = absurd chain
-  reason-text i H (verdict.Chain (a ∷ bs)) lt chain = (omega arith, climb-short i H a bs lt (omega (arith, chain.0)) chain.1)
+  reason-text i H (verdict.Chain (a ∷ bs)) lt chain =
+      (omega arith, climb-short i H a bs lt (omega (arith, chain.0)) chain.1)
   reason-text i H (verdict.Over other) lt over =
-      name-text (task_at U other).name (bound_shows i other lt over.0 over.2) (valid_at U other set over.0).named
+      name-text (task_at U other).name (bound_shows i other lt over.0 over.2)
+      (valid_at U other set over.0).named
 
-  fails-text : (L : Indexes) (fails : List FailureData) → AllByRecursion (λ k. k < length U) (tasks_of fails) → AllRefuted U L fails → AllByRecursion (IsFailText (version_for U)) (fails_named U fails)
+  fails-text : (L : Indexes) (fails : List FailureData)
+      → AllByRecursion (λ k. k < length U) (tasks_of fails) → AllRefuted U L fails
+      → AllByRecursion (IsFailText (version_for U)) (fails_named U fails)
   fails-text L [] known refuted = tt
   fails-text L (f ∷ fails) known refuted = (
-    record { name = (valid_at U f.task set known.0).named; reason = reason-text f.task (without_index L f.task) f.reason known.0 refuted.0 },
+    record {
+      name = (valid_at U f.task set known.0).named;
+      reason =
+          reason-text f.task (without_index L f.task) f.reason known.0 refuted.0;
+    },
     fails-text L fails known.1 refuted.1,
   )
 
-  levels-text : (L : Indexes) (levels : List LevelData) → IsOrderOf L (order_of levels) → IsPart L (all_of U) → AllReady U L levels → AllByRecursion (IsLevelText (version_for U)) (levels_named U levels)
+  levels-text : (L : Indexes) (levels : List LevelData) → IsOrderOf L (order_of levels)
+      → IsPart L (all_of U) → AllReady U L levels
+      → AllByRecursion (IsLevelText (version_for U)) (levels_named U levels)
   levels-text L [] each part ready = tt
   levels-text L (l ∷ levels) each part ready =
-      let lt : l.task < length U = ltb-true l.task (length U) (part l.task (IsOrderOf-head L l.task (order_of levels) each)) in (
+      let lt : l.task < length U = ltb-true l.task (length U)
+      (part l.task (IsOrderOf-head L l.task (order_of levels) each)) in (
         record {
           name = (valid_at U l.task set lt).named;
           short = omega (arith, ready.0.within, limit-fits U set l.task lt);
-          fails = fails-text L l.fails (fails-below (length U) L l.task (tasks_of l.fails) lt ready.0.lesser) ready.0.refuted;
+          fails = fails-text L l.fails (fails-below (length U) L l.task (tasks_of l.fails) lt
+              ready.0.lesser) ready.0.refuted;
         },
-        levels-text (without_index L l.task) levels (IsOrderOf-rest L l.task (order_of levels) each) (without-part_of (length U) L l.task part) ready.1,
+        levels-text (without_index L l.task) levels (IsOrderOf-rest L l.task (order_of levels) each)
+            (without-part_of (length U) L l.task part) ready.1,
       )
 
-  pub ready_order-spelled : (levels : List LevelData) → IsReadyOrder U levels → (length (levels_named U levels) ≤ 32) × AllByRecursion (IsLevelText (version_for U)) (levels_named U levels)
+  pub ready_order-spelled : (levels : List LevelData) → IsReadyOrder U levels
+      → (length (levels_named U levels) ≤ 32)
+      × AllByRecursion (IsLevelText (version_for U)) (levels_named U levels)
   ready_order-spelled levels ready = (
-    omega (arith, order-few (length U) (all_of U) (order_of levels) ready.each_once (λ k h. h), length-map levels (level_named U), length-map levels (λ (l : LevelData). l.task), set.few),
+    omega (
+      arith,
+      order-few (length U) (all_of U) (order_of levels) ready.each_once (λ k h. h),
+      length-map levels (level_named U),
+      length-map levels (λ (l : LevelData). l.task),
+      set.few,
+    ),
     levels-text (all_of U) levels ready.each_once (λ k h. h) ready.ready,
   )
 
-  pub ready_set-spelled : (members : List FailureData) → IsReadySet U members → (length (fails_named U members) ≤ 32) × AllByRecursion (IsFailText (version_for U)) (fails_named U members)
+  pub ready_set-spelled : (members : List FailureData) → IsReadySet U members
+      → (length (fails_named U members) ≤ 32)
+      × AllByRecursion (IsFailText (version_for U)) (fails_named U members)
   ready_set-spelled members ready = (
-    omega (arith, order-few (length U) (among (tasks_of members)) (tasks_of members) ready.distinct ready.within, length-map members (fail_named U), length-map members (λ (f : FailureData). f.task), set.few),
-    fails-text (among (tasks_of members)) members (order-below (length U) (among (tasks_of members)) (tasks_of members) ready.distinct ready.within) ready.refuted,
+    omega (
+      arith,
+      order-few (length U) (among (tasks_of members)) (tasks_of members) ready.distinct
+          ready.within,
+      length-map members (fail_named U),
+      length-map members
+          (λ (f : FailureData). f.task),
+      set.few,
+    ),
+    fails-text (among (tasks_of members)) members (order-below (length U) (among (tasks_of members))
+        (tasks_of members) ready.distinct ready.within) ready.refuted,
   )
 
   pub verdict-spelled : (v : VerdictData) → IsVerdictOf U v → HasSpelling (certificate_of U v)
-  verdict-spelled (Admitted levels) h = ready_order-spelled levels (IsBestOrder-ready U (AllTasks-from_set U set) levels h)
+  verdict-spelled (Admitted levels) h =
+      ready_order-spelled levels (IsBestOrder-ready U (AllTasks-from_set U set) levels h)
   verdict-spelled (Infeasible members) h = ready_set-spelled members (IsStuck-ready U members h)
 
 -- ---- which tasks a verdict names
-reason-known : (U : List Task) (i : ℕ) (H : Indexes) (reason : ReasonData) → Refutes U i H reason → IsKnownReason (length U) reason
+reason-known : (U : List Task) (i : ℕ) (H : Indexes) (reason : ReasonData) → Refutes U i H reason
+    → IsKnownReason (length U) reason
 reason-known U i H (verdict.Chain numbers) chain = tt
 reason-known U i H (verdict.Over other) over = over.0
 
-pub fails-known : (U : List Task) (L : Indexes) (fails : List FailureData) → AllByRecursion (λ k. k < length U) (tasks_of fails) → AllRefuted U L fails → AllByRecursion (IsKnownFail (length U)) fails
+pub fails-known : (U : List Task) (L : Indexes) (fails : List FailureData)
+    → AllByRecursion (λ k. k < length U) (tasks_of fails) → AllRefuted U L fails
+    → AllByRecursion (IsKnownFail (length U)) fails
 fails-known U L [] known refuted = tt
 fails-known U L (f ∷ fails) known refuted = (
-  record { task = known.0; reason = reason-known U f.task (without_index L f.task) f.reason refuted.0 },
+  record {
+    task = known.0;
+    reason =
+        reason-known U f.task (without_index L f.task) f.reason refuted.0;
+  },
   fails-known U L fails known.1 refuted.1,
 )
 
-all-known : (U : List Task) (L : Indexes) (fails : List FailureData) → AllByRecursion (λ k. k < length U) (tasks_of fails) → AllRefuted U L fails → All (IsKnownFail (length U)) fails
-all-known U L fails known refuted = All-from_recursion (IsKnownFail (length U)) fails (fails-known U L fails known refuted)
+all-known : (U : List Task) (L : Indexes) (fails : List FailureData) → AllByRecursion
+    (λ k. k < length U) (tasks_of fails) → AllRefuted U L fails → All (IsKnownFail (length U)) fails
+all-known U L fails known refuted =
+    All-from_recursion (IsKnownFail (length U)) fails (fails-known U L fails known refuted)
 
-levels-known : (U : List Task) (L : Indexes) (levels : List LevelData) → IsOrderOf L (order_of levels) → IsPart L (all_of U) → AllReady U L levels → AllByRecursion (IsKnownLevel U) levels
+levels-known : (U : List Task) (L : Indexes) (levels : List LevelData)
+    → IsOrderOf L (order_of levels) → IsPart L (all_of U) → AllReady U L levels
+    → AllByRecursion (IsKnownLevel U) levels
 levels-known U L [] each part ready = tt
 levels-known U L (l ∷ levels) each part ready =
-    let lt : l.task < length U = ltb-true l.task (length U) (part l.task (IsOrderOf-head L l.task (order_of levels) each)) in
-    let lesser = fails-below (length U) L l.task (tasks_of l.fails) lt ready.0.lesser in
-    (record { task = lt; late = omega (arith, ready.0.positive); fails = all-known U L l.fails lesser ready.0.refuted }, levels-known U (without_index L l.task) levels (IsOrderOf-rest L l.task (order_of levels) each) (without-part_of (length U) L l.task part) ready.1)
+    let lt : l.task < length U =
+    ltb-true l.task (length U) (part l.task (IsOrderOf-head L l.task (order_of levels) each)) in
+    let lesser = fails-below (length U) L l.task (tasks_of l.fails) lt ready.0.lesser in (
+      record {
+        task = lt;
+        late = omega (arith, ready.0.positive);
+        fails = all-known U L l.fails
+            lesser ready.0.refuted;
+      },
+      levels-known U (without_index L l.task) levels (IsOrderOf-rest L
+          l.task (order_of levels) each) (without-part_of (length U) L l.task part) ready.1,
+    )
 
-pub best-known : (U : List Task) → IsTaskSet U → (levels : List LevelData) → IsBestOrder U levels → All (IsKnownLevel U) levels
+pub best-known : (U : List Task) → IsTaskSet U → (levels : List LevelData) → IsBestOrder U levels
+    → All (IsKnownLevel U) levels
 best-known U set levels h =
     let ready = IsBestOrder-ready U (AllTasks-from_set U set) levels h in
-    All-from_recursion (IsKnownLevel U) levels (levels-known U (all_of U) levels ready.each_once (λ k h. h) ready.ready)
+    All-from_recursion (IsKnownLevel U) levels
+    (levels-known U (all_of U) levels ready.each_once (λ k h. h) ready.ready)
 
-pub stuck-known : (U : List Task) (members : List FailureData) → IsStuck U members → All (IsKnownFail (length U)) members
+pub stuck-known : (U : List Task) (members : List FailureData) → IsStuck U members
+    → All (IsKnownFail (length U)) members
 stuck-known U members h =
     let ready = IsStuck-ready U members h in
-    all-known U (among (tasks_of members)) members (order-below (length U) (among (tasks_of members)) (tasks_of members) ready.distinct ready.within) ready.refuted
+    all-known U (among (tasks_of members)) members (order-below (length U)
+    (among (tasks_of members)) (tasks_of members) ready.distinct ready.within) ready.refuted

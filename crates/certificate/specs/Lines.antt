@@ -24,12 +24,12 @@ pub record At : Type 0 where
 abbrev pub at_place : TextPlace → At
 at_place p = record { parts = parts p.rest.now; line = p.line }
 
--- the reading has this fault; want of memory says nothing of it
+-- the reading has this fault; out of memory says nothing of it
 abbrev pub Fails : {Y : Type 0} → CertFault → Result Y CertFault → Type 0
 Fails OutOfMemory read = Unit {0}
 Fails e read = read ≡ Err e
 
--- a result is that of the definition, or want of memory
+-- a result is that of the definition, or out of memory
 abbrev pub Gives : {X Y : Type 0} → (X → Y) → Result X CertFault → Result Y CertFault → Type 0
 Gives view (Ok x) read = read ≡ Ok (view x)
 Gives view (Err e) read = Fails e read

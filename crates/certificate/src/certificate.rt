@@ -39,7 +39,7 @@ impl Model for Certificate {
 
 impl Certificate {
     /// The certificate of a verdict: its numbers and reasons, with the names of the tasks, of the version that serves the
-    /// set. The error is want of memory.
+    /// set. The error is out of memory.
     pub fn of(alloc: Global, verdict: &Verdict) -> Result<Certificate, AllocError>
         ensures { IfOk result (λ c. c ≡ certificate_of (verdict_set verdict.now)
             (verdict_of verdict.now)) }
@@ -82,7 +82,7 @@ impl Certificate {
 }
 
 /// Reads a certificate. Lines end with LF, the last one too; a fault is that of the first line that shows one,
-/// or want of memory.
+/// or out of memory.
 pub fn read(alloc: Global, bytes: &[u8]) -> Result<Certificate, CertFault>
     ensures found { IfOk result (λ c. (bytes.now ≡ spelling c) × HasSpelling c) }
     ensures only { (c : Cert) → HasSpelling c → bytes.now ≡ spelling c

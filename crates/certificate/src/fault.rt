@@ -5,7 +5,7 @@ ghost use Rattle.certificate.specs.declared.fault.CertFault.TheVariants.{OutOfMe
 use std::alloc::{AllocError, AllocFailed};
 use thiserror::Error;
 
-/// The fault that the bytes show first, or want of memory. Lines are counted from 1.
+/// The fault that the bytes show first, or out of memory. Lines are counted from 1.
 #[derive(Clone, Copy, Debug, PartialEq, Eq, Error)]
 pub enum CertFault {
     /// The first complete line is not `desk-certificate` and a version, 1 to 3.
@@ -20,7 +20,7 @@ pub enum CertFault {
     /// Something follows the line `end`.
     #[error("something follows the line `end`")]
     Trailing,
-    /// A growth was refused.
+    /// An allocation was refused.
     #[error("out of memory")]
     OutOfMemory,
 }

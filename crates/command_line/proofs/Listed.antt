@@ -1,5 +1,6 @@
 -- The rows of the code's list of commands, as the definitions have them.
-use Rattle.std.proofs.Common.{◌≡◌, ◌∙◌, ap, refl, List, [], ◌∷◌, Option, Some, None, map, option_map}
+use Rattle.std.proofs.Common.{◌≡◌, ◌∙◌, ap, refl, List, [], ◌∷◌, Option, Some, None, map}
+use Rattle.std.proofs.Common.{option_map}
 use Rattle.std.specs.List.{find}
 use Rattle.std.specs.Str.{bytes_eq}
 use Rattle.clap.specs.Words.{App, Text}
@@ -16,7 +17,8 @@ app_of_listed listed = command_app listed.word.now listed.verb listed.options.no
 abbrev pub row_of : Listed → Text × Verb × List Choice
 row_of listed = (listed.word.now, listed.verb, listed.options.now)
 
-verb_of_row : (found : Option Listed) → option_map (λ l. l.verb) found ≡ option_map (λ row. row.1) (option_map row_of found)
+verb_of_row : (found : Option Listed)
+    → option_map (λ l. l.verb) found ≡ option_map (λ row. row.1) (option_map row_of found)
 verb_of_row None = refl
 verb_of_row (Some l) = refl
 
@@ -26,12 +28,16 @@ pub first_listed : (word : Text) (rows : List Listed) → map row_of rows ≡ co
 unfolding verb_of
 first_listed word rows same =
     verb_of_row (find (λ l. bytes_eq l.word.now word) rows)
-    ∙ ap (option_map (λ row. row.1)) (find-map (λ row. bytes_eq row.0 word) row_of rows ∙ ap (find (λ row. bytes_eq row.0 word)) same)
+    ∙ ap (option_map (λ row. row.1)) (find-map (λ row. bytes_eq row.0 word) row_of rows
+    ∙ ap (find (λ row. bytes_eq row.0 word)) same)
 
-apps_of : (rows : List Listed) → map app_of_listed rows ≡ map (λ row. command_app row.0 row.1 row.2) (map row_of rows)
+apps_of : (rows : List Listed)
+    → map app_of_listed rows ≡ map (λ row. command_app row.0 row.1 row.2) (map row_of rows)
 apps_of [] = refl
 apps_of (l ∷ rows) = ap (λ apps. app_of_listed l ∷ apps) (apps_of rows)
 
 -- the program has the commands of the list
-pub desk_listed : (rows : List Listed) → map row_of rows ≡ commands → with_commands bare_app (map app_of_listed rows) ≡ desk_app
-desk_listed rows same = ap (with_commands bare_app) (apps_of rows ∙ ap (map (λ row. command_app row.0 row.1 row.2)) same)
+pub desk_listed : (rows : List Listed) → map row_of rows ≡ commands
+    → with_commands bare_app (map app_of_listed rows) ≡ desk_app
+desk_listed rows same = ap (with_commands bare_app)
+    (apps_of rows ∙ ap (map (λ row. command_app row.0 row.1 row.2)) same)

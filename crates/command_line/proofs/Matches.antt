@@ -6,8 +6,10 @@ use Rattle.clap.specs.Words.{Row, Text, subcommand_name_of, subcommand_rows, sub
 use Rattle.clap.specs.declared.parser.matches.ArgMatches.{ArgMatches}
 use Rattle.clap.specs.declared.parser.matches.SubCommand.{SubCommand}
 use Rattle.clap.specs.declared.parser.matches.ArgMatches.TheViews.{out-ArgMatches, out-SubCommand}
-use Rattle.command_line.specs.Calls.{AreOptions, CountsWithin, HasNumber, HaveNumbers, IsCall, IsTaken}
-use Rattle.command_line.specs.declared.calls.TheConstants.{MOST_PRIORITY, MOST_SEED, MOST_TOLERANCE, LATEST_END, LEAST_WIDTH, MOST_WIDTH}
+use Rattle.command_line.specs.Calls.{AreOptions, CountsWithin, HasNumber, HaveNumbers, IsCall}
+use Rattle.command_line.specs.Calls.{IsTaken}
+use Rattle.command_line.specs.declared.calls.TheConstants.{MOST_PRIORITY, MOST_SEED, MOST_TOLERANCE}
+use Rattle.command_line.specs.declared.calls.TheConstants.{LATEST_END, LEAST_WIDTH, MOST_WIDTH}
 use Rattle.command_line.specs.declared.calls.Takes.TheVariants as takes
 use Rattle.command_line.specs.declared.calls.Options.{Options}
 use Rattle.command_line.specs.Commands.{least_of, most_of}
@@ -15,21 +17,27 @@ use Rattle.command_line.specs.declared.calls.Call.{Call}
 use Rattle.command_line.specs.declared.calls.Call.TheVariants.{One, Two, Number}
 
 module _ {Z : Type 0} (name : Text) (rows : List Row) where
-  found_in : (o : Option (Box SubCommand Z)) → Some name ≡ option_map (λ b. (out-SubCommand (box_value b)).name.now) o
-      → Some rows ≡ option_map (λ p. p.1) (subcommand_rows o) → subcommand_rows o ≡ Some (name, rows)
+  found_in : (o : Option (Box SubCommand Z))
+      → Some name ≡ option_map (λ b. (out-SubCommand (box_value b)).name.now) o
+      → Some rows ≡ option_map (λ p. p.1) (subcommand_rows o)
+      → subcommand_rows o ≡ Some (name, rows)
   found_in None n r = cc
   found_in (Some b) n r = cc
 
 -- the command that was found, by its name and its rows
 pub found_as : (m : ArgMatches) (name : Text) (rows : List Row) → Some name ≡ subcommand_name_of m
-    → Some rows ≡ option_map (λ p. p.1) (subcommand_rows_of m) → subcommand_rows_of m ≡ Some (name, rows)
+    → Some rows ≡ option_map (λ p. p.1) (subcommand_rows_of m)
+    → subcommand_rows_of m ≡ Some (name, rows)
 found_as m name rows n r = found_in name rows (out-ArgMatches m).subcommand n r
 
-within : (least most : ℕ) (text : Option Text) (number : ℕ) → CountsWithin least most text number → (least ≤ number) × (number ≤ most)
+within : (least most : ℕ) (text : Option Text) (number : ℕ) → CountsWithin least most text number
+    → (least ≤ number) × (number ≤ most)
 within least most None number none = absurd none
-within least most (Some text) number given = (omega (arith, given.0.2, given.1), omega (arith, given.0.3, given.1))
+within least most (Some text) number given =
+    (omega (arith, given.0.2, given.1), omega (arith, given.0.3, given.1))
 
-number_within : (least most : ℕ) (text : Option Text) (number : Option ℕ) → IsTaken (takes.Number least most) text number
+number_within : (least most : ℕ) (text : Option Text) (number : Option ℕ)
+    → IsTaken (takes.Number least most) text number
     → IfSome number (λ n. (least ≤ n) × (n ≤ most))
 number_within least most text None given = tt
 number_within least most text (Some n) given = within least most text n given

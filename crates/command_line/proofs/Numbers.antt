@@ -1,5 +1,7 @@
 -- Where `clap` takes the words of a command, those under the name of a number say one that is taken there.
-use Rattle.std.proofs.Common.{◌≡◌, ◌⊎◌, ◌∙◌, ap, ap₂, refl, sym, subst, List, [], ◌∷◌, ◌++◌, length, None, Some, Bool, cond, inl, inr, true, false, ◌&&◌, ◌||◌, ◌==◌, not, if◌then◌else◌, ℕ, suc, Option, arith}
+use Rattle.std.proofs.Common.{◌≡◌, ◌⊎◌, ◌∙◌, ap, ap₂, refl, sym, subst, List, [], ◌∷◌, ◌++◌, length}
+use Rattle.std.proofs.Common.{None, Some, Bool, cond, inl, inr, true, false, ◌&&◌, ◌||◌, ◌==◌, not}
+use Rattle.std.proofs.Common.{if◌then◌else◌, ℕ, suc, Option, arith}
 use Rattle.std.specs.List.{find, fold, list_all, list_any}
 use Rattle.std.specs.Option.{option_map_or}
 use Rattle.std.specs.Prelude.{IfSome, option_and_then, slice_get}
@@ -8,11 +10,15 @@ use Rattle.std.proofs.lemmas.Bool.{and_parts, eqb-true}
 use Rattle.std.proofs.lemmas.Slice.Eq.{bytes_eq-Decides}
 use Rattle.clap.specs.Facts.{explicit_source, parser_of_value, unwrap_or_range}
 use Rattle.clap.specs.Kinds.{check_kinds, range_kinds, value_kinds}
-use Rattle.clap.specs.Faults.{action_fault, check_fault, defaults_fault, level_fault, repeat_fault, set_fault, settle_fault, walk_fault}
+use Rattle.clap.specs.Faults.{action_fault, check_fault, defaults_fault, level_fault, repeat_fault}
+use Rattle.clap.specs.Faults.{set_fault, settle_fault, walk_fault}
 use Rattle.clap.specs.Simple.{Shape}
 use Rattle.clap.specs.Takes.{is_given}
 use Rattle.clap.specs.ValueTests.{accepts}
-use Rattle.clap.specs.Walk.{Row, Rule, Text, action_of, at_row, default_rows, has_row, is_empty, more_values, most_values, nothing_held, reading_by, row_text, rows_after, settled, used_as, values_or_missing, walk, walk_from, with_default, with_values, without}
+use Rattle.clap.specs.Walk.{Row, Rule, Text, action_of, at_row, default_rows, has_row, is_empty}
+use Rattle.clap.specs.Walk.{more_values, most_values, nothing_held, reading_by, row_text}
+use Rattle.clap.specs.Walk.{rows_after, settled, used_as, values_or_missing, walk, walk_from}
+use Rattle.clap.specs.Walk.{with_default, with_values, without}
 use Rattle.clap.specs.Values.{reading_of}
 use Rattle.clap.specs.Words.{IsUnsignedIn}
 use Rattle.clap.specs.declared.builder.action.ArgAction.{ArgAction}
@@ -85,7 +91,8 @@ module _ (id : Text) (least most : ℕ) where
   joined [] ys a b = b
   joined (x ∷ xs) ys a b = (a.0, joined xs ys a.1 b)
 
-  at_row_says : (name : Text) (change : Row → List Row) (missing : List Row) → ((r : Row) → SaysIf r → AllSay (change r))
+  at_row_says : (name : Text) (change : Row → List Row) (missing : List Row)
+      → ((r : Row) → SaysIf r → AllSay (change r))
       → AllSay missing → (rows : List Row) → AllSay rows → AllSay (at_row name change missing rows)
   at_row_says name change missing changed missed [] all = missed
   at_row_says name change missing changed missed (r ∷ rs) all =
@@ -97,32 +104,48 @@ module _ (id : Text) (least most : ℕ) where
       go later false = (all.0, later)
 
   -- more values leave the first
-  more_say : (source : ValueSource) (values : List Text) (r : Row) → SaysIf r → AllSay (more_values source values r)
+  more_say : (source : ValueSource) (values : List Text) (r : Row) → SaysIf r
+      → AllSay (more_values source values r)
   more_say source values r says = (
     (λ same. let old = says same in
-        record { first = old.first; more = old.more ++ values; are = ap (λ vs. vs ++ values) old.are; number = old.number; written = old.written }),
+        record {
+          first = old.first;
+          more = old.more ++ values;
+          are =
+              ap (λ vs. vs ++ values) old.are;
+          number = old.number;
+          written = old.written;
+        }),
     tt,
   )
 
-  values_say : (name : Text) (how : Reading) (source : ValueSource) (values : List Text) → (bytes_eq name id ≡ true → Says least most values how)
+  values_say : (name : Text) (how : Reading) (source : ValueSource) (values : List Text)
+      → (bytes_eq name id ≡ true → Says least most values how)
       → (rows : List Row) → AllSay rows → AllSay (with_values name how source values rows)
   values_say name how source values says rows all =
       at_row_says name (more_values source values) _ (more_say source values) (says, tt) rows all
 
-  set_says : (name : Text) (how : Reading) (values : List Text) → (bytes_eq name id ≡ true → Says least most values how)
-      → (rows : List Row) → AllSay rows → AllSay (with_values name how CommandLine values (without name rows))
+  set_says : (name : Text) (how : Reading) (values : List Text)
+      → (bytes_eq name id ≡ true → Says least most values how)
+      → (rows : List Row) → AllSay rows
+      → AllSay (with_values name how CommandLine values (without name rows))
   set_says name how values says rows all =
       values_say name how CommandLine values says (without name rows)
       (at_row_says name (λ _. []) [] (λ r h. tt) tt rows all)
 
-  given_says : (rows : List Row) → AllSay rows → is_given id rows ≡ true → SaysWithin id least most rows
+  given_says : (rows : List Row) → AllSay rows → is_given id rows ≡ true
+      → SaysWithin id least most rows
   given_says [] all given = cc
   given_says (r ∷ rs) all given = go (given_says rs all.1) (bytes_eq r.id id) all.0 given
     where
-      go : (is_given id rs ≡ true → SaysWithin id least most rs) → (b : Bool) → (b ≡ true → Says least most r.values r.reading)
-          → option_map_or (λ r. explicit_source r.source) (cond b (Some r) (find (λ r. bytes_eq r.id id) rs)) false ≡ true
-          → (text : Text) × (option_and_then (λ r. slice_get r.values 0) (cond b (Some r) (find (λ r. bytes_eq r.id id) rs)) ≡ Some text)
-          × (option_and_then row_text (cond b (Some r) (find (λ r. bytes_eq r.id id) rs)) ≡ Some text)
+      go : (is_given id rs ≡ true → SaysWithin id least most rs) → (b : Bool)
+          → (b ≡ true → Says least most r.values r.reading)
+          → option_map_or (λ r. explicit_source r.source)
+          (cond b (Some r) (find (λ r. bytes_eq r.id id) rs)) false ≡ true
+          → (text : Text) × (option_and_then (λ r. slice_get r.values 0)
+          (cond b (Some r) (find (λ r. bytes_eq r.id id) rs)) ≡ Some text)
+          × (option_and_then row_text (cond b (Some r) (find (λ r. bytes_eq r.id id) rs))
+          ≡ Some text)
           × IsUnsignedIn least most text
       go later true says there =
           let s = says refl in
@@ -132,7 +155,8 @@ module _ (id : Text) (least most : ℕ) where
   -- what a row that was found says, or that none was
   abbrev MayBeSaid : Option Row → Type 0
   MayBeSaid found =
-      ((option_and_then (λ r. slice_get r.values 0) found ≡ None) × (option_and_then row_text found ≡ None))
+      ((option_and_then (λ r. slice_get r.values 0) found ≡ None)
+      × (option_and_then row_text found ≡ None))
       ⊎ ((text : Text) × (option_and_then (λ r. slice_get r.values 0) found ≡ Some text)
       × (option_and_then row_text found ≡ Some text) × IsUnsignedIn least most text)
 
@@ -140,7 +164,8 @@ module _ (id : Text) (least most : ℕ) where
   may_say [] all = inl (refl, refl)
   may_say (r ∷ rs) all = go (may_say rs all.1) (bytes_eq r.id id) all.0
     where
-      go : MaySayWithin id least most rs → (b : Bool) → (b ≡ true → Says least most r.values r.reading)
+      go : MaySayWithin id least most rs → (b : Bool)
+          → (b ≡ true → Says least most r.values r.reading)
           → MayBeSaid (cond b (Some r) (find (λ r. bytes_eq r.id id) rs))
       go later true says =
           let s = says refl in
@@ -179,10 +204,13 @@ module _ (id : Text) (least most : ℕ) where
   abbrev pub fits : Rule → Bool
   fits a = if bytes_eq a.id id then is_number a else is_plain (action_of a)
 
-  used_says : (a : ArgAction) (name : Text) (how : Reading) (values : List Text) → is_plain a ≡ true → bytes_eq name id ≡ false
+  used_says : (a : ArgAction) (name : Text) (how : Reading) (values : List Text) → is_plain a ≡ true
+      → bytes_eq name id ≡ false
       → (rows : List Row) → AllSay rows → AllSay (used_as a name how values rows)
-  used_says action.Set name how values plain other rows all = set_says name how values (λ same. cc) rows all
-  used_says action.SetTrue name how values plain other rows all = set_says name how values (λ same. cc) rows all
+  used_says action.Set name how values plain other rows all =
+      set_says name how values (λ same. cc) rows all
+  used_says action.SetTrue name how values plain other rows all =
+      set_says name how values (λ same. cc) rows all
   used_says action.Help name how values plain other rows all = all
   used_says action.Append name how values plain other rows all = cc
   used_says action.SetFalse name how values plain other rows all = cc
@@ -197,9 +225,12 @@ module _ (id : Text) (least most : ℕ) where
         let one = and_parts _ _ is in
         let few = and_parts _ _ one.1 in
         let least = (unwrap_or_range a.range).start_inclusive in
-        let none = first_empty (range_kinds least (most_values a) 0) (action_fault (action_of a) again a (values_or_missing a []) rows) fine in
-        let start : range_kinds 1 (most_values a) 0 ≡ [] = subst (λ (k : ℕ). range_kinds k (most_values a) 0 ≡ []) (eqb-true least 1 one.0) none in
-        let bad : range_kinds 1 1 0 ≡ [] = subst (λ (k : ℕ). range_kinds 1 k 0 ≡ []) (eqb-true (most_values a) 1 few.0) start in
+        let none = first_empty (range_kinds least (most_values a) 0)
+        (action_fault (action_of a) again a (values_or_missing a []) rows) fine in
+        let start : range_kinds 1 (most_values a) 0 ≡ [] =
+        subst (λ (k : ℕ). range_kinds k (most_values a) 0 ≡ []) (eqb-true least 1 one.0) none in
+        let bad : range_kinds 1 1 0 ≡ [] =
+        subst (λ (k : ℕ). range_kinds 1 k 0 ≡ []) (eqb-true (most_values a) 1 few.0) start in
         absurd (no_fault kind.InvalidValue bad)
     number_keeps a is (v ∷ vs) rows fine all =
         let one = and_parts _ _ is in
@@ -207,37 +238,53 @@ module _ (id : Text) (least most : ℕ) where
         let rest = and_parts _ _ few.1 in
         let set = set_of _ rest.0 in
         let parser = parsed_of _ (and_parts _ _ rest.1).0 in
-        let used = second_empty (range_kinds (unwrap_or_range a.range).start_inclusive (most_values a) (length (v ∷ vs))) (action_fault (action_of a) again a (v ∷ vs) rows) fine in
-        let taken : set_fault again a (v ∷ vs) rows ≡ [] = subst (λ (x : ArgAction). action_fault x again a (v ∷ vs) rows ≡ []) set used in
+        let used = second_empty (range_kinds (unwrap_or_range a.range).start_inclusive (most_values
+        a) (length (v ∷ vs))) (action_fault (action_of a) again a (v ∷ vs) rows) fine in
+        let taken : set_fault again a (v ∷ vs) rows ≡ [] =
+        subst (λ (x : ArgAction). action_fault x again a (v ∷ vs) rows ≡ []) set used in
         let passed = second_empty (repeat_fault again a.id rows) _ taken in
         let first = first_empty (value_kinds a.ignore_case (parser_of_value a.parser) v) _ passed in
-        let here : value_kinds a.ignore_case (vp.Unsigned least most) v ≡ [] = subst (λ (p : ValueParser). value_kinds a.ignore_case p v ≡ []) parser first in
+        let here : value_kinds a.ignore_case (vp.Unsigned least most) v ≡ [] =
+        subst (λ (p : ValueParser). value_kinds a.ignore_case p v ≡ []) parser first in
         let accepted = is_accepted (accepts a.ignore_case (vp.Unsigned least most) v) _ here in
         subst (λ (x : ArgAction). AllSay (used_as x a.id (reading_by a) (v ∷ vs) rows)) (sym set)
         (set_says a.id (reading_by a) (v ∷ vs)
-        (λ same. record { first = v; more = vs; are = refl; number = accepts-Accepts a.ignore_case (vp.Unsigned least most) v accepted; written = ap reading_of parser })
+        (λ same. record {
+          first = v;
+          more = vs;
+          are = refl;
+          number = accepts-Accepts a.ignore_case
+              (vp.Unsigned least most) v accepted;
+          written = ap reading_of parser;
+        })
         rows all)
 
     fits_keeps : (a : Rule) → fits a ≡ true → Keeps again AllSay a
     fits_keeps a fit = go (bytes_eq a.id id) refl fit
       where
-        go : (b : Bool) → bytes_eq a.id id ≡ b → (if b then is_number a else is_plain (action_of a)) ≡ true → Keeps again AllSay a
+        go : (b : Bool) → bytes_eq a.id id ≡ b
+            → (if b then is_number a else is_plain (action_of a)) ≡ true → Keeps again AllSay a
         go true same is = number_keeps a is
-        go false other plain = λ values rows fine all. used_says (action_of a) a.id (reading_by a) (values_or_missing a values) plain other rows all
+        go false other plain = λ values rows fine all. used_says (action_of a) a.id (reading_by a)
+            (values_or_missing a values) plain other rows all
 
-    found_keeps : (p : Rule → Bool) (rules : List Rule) → list_all fits rules ≡ true → IfSome (find p rules) (Keeps again AllSay)
+    found_keeps : (p : Rule → Bool) (rules : List Rule) → list_all fits rules ≡ true
+        → IfSome (find p rules) (Keeps again AllSay)
     found_keeps p [] all = tt
     found_keeps p (a ∷ rules) all =
         let each = and_parts _ _ all in
         go (found_keeps p rules each.1) (fits_keeps a each.0) (p a)
       where
-        go : IfSome (find p rules) (Keeps again AllSay) → Keeps again AllSay a → (b : Bool) → IfSome (cond b (Some a) (find p rules)) (Keeps again AllSay)
+        go : IfSome (find p rules) (Keeps again AllSay) → Keeps again AllSay a → (b : Bool)
+            → IfSome (cond b (Some a) (find p rules)) (Keeps again AllSay)
         go later keeps true = keeps
         go later keeps false = later
 
-  no_default : (a : Rule) (values : List Text) → is_empty values ≡ true → (rows : List Row) → AllSay rows → AllSay (default_rows a.id (reading_by a) values rows)
+  no_default : (a : Rule) (values : List Text) → is_empty values ≡ true → (rows : List Row)
+      → AllSay rows → AllSay (default_rows a.id (reading_by a) values rows)
   no_default a [] none rows all = all
-  no_default a (v ∷ vs) none rows all = absurd (no_end (length vs) (eqb-true (length (v ∷ vs)) 0 none))
+  no_default a (v ∷ vs) none rows all =
+      absurd (no_end (length vs) (eqb-true (length (v ∷ vs)) 0 none))
 
   has_no_default : (a : Rule) → is_number a ≡ true → is_empty a.defaults ≡ true
   has_no_default a is =
@@ -246,23 +293,29 @@ module _ (id : Text) (least most : ℕ) where
       let sets = is_set (action_of a) && read in
       let few = (most_values a == 1) && sets in
       let later = (and_parts ((unwrap_or_range a.range).start_inclusive == 1) few is).1 in
-      let last = (and_parts (is_set (action_of a)) read (and_parts (most_values a == 1) sets later).1).1 in
+      let last =
+      (and_parts (is_set (action_of a)) read (and_parts (most_values a == 1) sets later).1).1 in
       (and_parts (parses (parser_of_value a.parser)) none last).1
 
-  other_default : (a : Rule) (values : List Text) → bytes_eq a.id id ≡ false → (rows : List Row) → AllSay rows → AllSay (default_rows a.id (reading_by a) values rows)
+  other_default : (a : Rule) (values : List Text) → bytes_eq a.id id ≡ false → (rows : List Row)
+      → AllSay rows → AllSay (default_rows a.id (reading_by a) values rows)
   other_default a [] other rows all = all
-  other_default a (v ∷ vs) other rows all = values_say a.id (reading_by a) DefaultValue (v ∷ vs) (λ same. cc) rows all
+  other_default a (v ∷ vs) other rows all =
+      values_say a.id (reading_by a) DefaultValue (v ∷ vs) (λ same. cc) rows all
 
-  default_says : (a : Rule) → fits a ≡ true → (rows : List Row) → AllSay rows → AllSay (with_default rows a)
+  default_says : (a : Rule) → fits a ≡ true → (rows : List Row) → AllSay rows
+      → AllSay (with_default rows a)
   default_says a fit rows all = go (has_row a.id rows) (bytes_eq a.id id) refl fit
     where
-      go : (has b : Bool) → bytes_eq a.id id ≡ b → (if b then is_number a else is_plain (action_of a)) ≡ true
+      go : (has b : Bool) → bytes_eq a.id id ≡ b
+          → (if b then is_number a else is_plain (action_of a)) ≡ true
           → AllSay (if has then rows else default_rows a.id (reading_by a) a.defaults rows)
       go true b same is = all
       go false true same is = no_default a a.defaults (has_no_default a is) rows all
       go false false other plain = other_default a a.defaults other rows all
 
-  defaults_say : (rules : List Rule) → list_all fits rules ≡ true → (rows : List Row) → AllSay rows → AllSay (fold with_default rows rules)
+  defaults_say : (rules : List Rule) → list_all fits rules ≡ true → (rows : List Row) → AllSay rows
+      → AllSay (fold with_default rows rules)
   defaults_say [] fit rows all = all
   defaults_say (a ∷ rules) fit rows all =
       let each = and_parts _ _ fit in
@@ -271,7 +324,8 @@ module _ (id : Text) (least most : ℕ) where
   -- ---- the words of the command
 
   -- where a level has no fault, its rows say the number
-  level_says : (s : Shape) → list_all fits s.rules ≡ true → (words : List Text) → level_fault s [] nothing_held words false [] ≡ []
+  level_says : (s : Shape) → list_all fits s.rules ≡ true → (words : List Text)
+      → level_fault s [] nothing_held words false [] ≡ []
       → AllSay (rows_after s.rules [] words)
   level_says s fit words fine =
       let again = s.args_override_self in
@@ -279,12 +333,14 @@ module _ (id : Text) (least most : ℕ) where
       let walked = first_empty (walk_fault s [] (walk_from nothing_held) words) _ fine in
       let ends = second_empty (walk_fault s [] (walk_from nothing_held) words) _ fine in
       let settles = first_empty (settle_fault s.rules again end) _ ends in
-      let each : (p : Rule → Bool) → IfSome (find p s.rules) (Keeps again AllSay) = λ p. found_keeps again p s.rules fit in
+      let each : (p : Rule → Bool) → IfSome (find p s.rules) (Keeps again AllSay) =
+      λ p. found_keeps again p s.rules fit in
       let held = walk_keeps s AllSay each [] words (walk_from nothing_held) walked tt in
       defaults_say s.rules fit _ (settled_keeps s AllSay each end settles held)
 
   -- so they say it or nothing
-  pub level_may_say : (s : Shape) → list_all fits s.rules ≡ true → (words : List Text) → level_fault s [] nothing_held words false [] ≡ []
+  pub level_may_say : (s : Shape) → list_all fits s.rules ≡ true → (words : List Text)
+      → level_fault s [] nothing_held words false [] ≡ []
       → MaySayWithin id least most (rows_after s.rules [] words)
   level_may_say s fit words fine = may_say _ (level_says s fit words fine)
 
@@ -292,7 +348,8 @@ module _ (id : Text) (least most : ℕ) where
   abbrev pub is_wanted : Rule → Bool
   is_wanted a = a.required && bytes_eq a.id id
 
-  nothing_wanted : (help command argument : Bool) → check_kinds help command argument ≡ [] → argument ≡ false
+  nothing_wanted : (help command argument : Bool) → check_kinds help command argument ≡ []
+      → argument ≡ false
   nothing_wanted true command argument none = cc
   nothing_wanted false true argument none = cc
   nothing_wanted false false true none = cc
@@ -302,19 +359,25 @@ module _ (id : Text) (least most : ℕ) where
   none_open true some none = none
   none_open false some none = none
 
-  same_given : (name : Text) (rows : List Row) → bytes_eq name id ≡ true → is_given name rows ≡ is_given id rows
+  same_given : (name : Text) (rows : List Row) → bytes_eq name id ≡ true
+      → is_given name rows ≡ is_given id rows
   same_given name rows same = ap (λ n. is_given n rows) ((bytes_eq-Decides name id).0 same)
 
   wanted_given : (rows : List Row) (rules : List Rule) → list_any is_wanted rules ≡ true
-      → list_any (λ a. a.required && not (is_given a.id rows)) rules ≡ false → is_given id rows ≡ true
+      → list_any (λ a. a.required && not (is_given a.id rows)) rules ≡ false
+      → is_given id rows ≡ true
   wanted_given rows [] wanted left = cc
   wanted_given rows (a ∷ rules) wanted left =
-      go (wanted_given rows rules) a.required (bytes_eq a.id id) refl (is_given a.id rows) refl wanted left
+      go (wanted_given rows rules) a.required (bytes_eq a.id id) refl (is_given a.id rows) refl
+      wanted left
     where
-      go : (list_any is_wanted rules ≡ true → list_any (λ a. a.required && not (is_given a.id rows)) rules ≡ false → is_given id rows ≡ true)
-          → (required same : Bool) → bytes_eq a.id id ≡ same → (given : Bool) → is_given a.id rows ≡ given
+      go : (list_any is_wanted rules ≡ true → list_any (λ a. a.required && not (is_given a.id rows))
+          rules ≡ false → is_given id rows ≡ true)
+          → (required same : Bool) → bytes_eq a.id id ≡ same → (given : Bool)
+          → is_given a.id rows ≡ given
           → ((required && same) || list_any is_wanted rules) ≡ true
-          → ((required && not given) || list_any (λ a. a.required && not (is_given a.id rows)) rules) ≡ false → is_given id rows ≡ true
+          → ((required && not given) || list_any (λ a. a.required && not (is_given a.id rows))
+          rules) ≡ false → is_given id rows ≡ true
       go later true true same true given wanted left = sym (same_given a.id rows same) ∙ given
       go later true true same false given wanted left = cc
       go later true false same true given wanted left = later wanted left
@@ -322,14 +385,17 @@ module _ (id : Text) (least most : ℕ) where
       go later false same is given e wanted left = later wanted left
 
   -- where the level wants the number, they say it
-  pub level_has_said : (s : Shape) → list_all fits s.rules ≡ true → list_any is_wanted s.rules ≡ true → (words : List Text)
-      → level_fault s [] nothing_held words false [] ≡ [] → SaysWithin id least most (rows_after s.rules [] words)
+  pub level_has_said : (s : Shape) → list_all fits s.rules ≡ true
+      → list_any is_wanted s.rules ≡ true → (words : List Text)
+      → level_fault s [] nothing_held words false [] ≡ []
+      → SaysWithin id least most (rows_after s.rules [] words)
   level_has_said s fit wanted words fine =
       let again = s.args_override_self in
       let end = (walk s.rules [] nothing_held words).held in
       let rows = rows_after s.rules [] words in
       let ends = second_empty (walk_fault s [] (walk_from nothing_held) words) _ fine in
       let after = second_empty (settle_fault s.rules again end) _ ends in
-      let checked = second_empty (defaults_fault (settled s.rules end).rows s.rules) (check_fault s rows false) after in
+      let checked = second_empty (defaults_fault (settled s.rules end).rows s.rules)
+      (check_fault s rows false) after in
       let left = none_open s.subcommand_negates_reqs _ (nothing_wanted _ _ _ checked) in
       given_says rows (level_says s fit words fine) (wanted_given rows s.rules wanted left)

@@ -8,7 +8,8 @@ use Rattle.clap.specs.Walk.{Rule, Text, nothing_held, rows_after}
 use Rattle.clap.proofs.OnLiterals.{clap_on_literals}
 use Rattle.command_line.specs.App.{command_app, desk_app}
 use Rattle.command_line.specs.Calls.{AllMayNumber, MayTake, SayChoices, SaysNumber}
-use Rattle.command_line.specs.Commands.{choice_id, commands, least_of, most_of, number_choices, number_name, takes_of}
+use Rattle.command_line.specs.Commands.{choice_id, commands, least_of, most_of, number_choices}
+use Rattle.command_line.specs.Commands.{number_name, takes_of}
 use Rattle.command_line.specs.declared.calls.Choice.{Choice}
 use Rattle.command_line.specs.declared.calls.Takes.{Takes}
 use Rattle.command_line.specs.declared.calls.Takes.TheVariants as takes
@@ -18,7 +19,8 @@ use Rattle.command_line.proofs.Numbers.{fits, is_wanted, level_has_said, level_m
 
 -- a command of the table, as `clap` builds it
 abbrev pub shape : Text × Verb × List Choice → Shape
-shape row = built_leaf (inherited (with_leaf_noted (marked_built desk_app.top)) (command_app row.0 row.1 row.2).top)
+shape row = built_leaf
+    (inherited (with_leaf_noted (marked_built desk_app.top)) (command_app row.0 row.1 row.2).top)
 
 -- each rule leaves alone what an option with a number is given, but that option's
 abbrev takes_fit : Text → Takes → List Rule → Bool
@@ -42,14 +44,19 @@ pub all_fit : list_all row_fits commands ≡ true
 unfolding clap_on_literals
 all_fit = refl
 
-may_take : (name : Text) (t : Takes) (s : Shape) → takes_fit name t s.rules ≡ true → (words : List Text)
-    → level_fault s [] nothing_held words false [] ≡ [] → MayTake name t (rows_after s.rules [] words)
-may_take name (takes.Number least most) s fit words fine = level_may_say name least most s fit words fine
+may_take : (name : Text) (t : Takes) (s : Shape) → takes_fit name t s.rules ≡ true
+    → (words : List Text)
+    → level_fault s [] nothing_held words false [] ≡ []
+    → MayTake name t (rows_after s.rules [] words)
+may_take name (takes.Number least most) s fit words fine =
+    level_may_say name least most s fit words fine
 may_take name takes.Word s fit words fine = tt
 may_take name takes.Flag s fit words fine = tt
 
-may_choose : (choices : List Choice) (s : Shape) → list_all (λ c. takes_fit (choice_id c) (takes_of c) s.rules) choices ≡ true
-    → (words : List Text) → level_fault s [] nothing_held words false [] ≡ [] → AllMayNumber choices (rows_after s.rules [] words)
+may_choose : (choices : List Choice) (s : Shape)
+    → list_all (λ c. takes_fit (choice_id c) (takes_of c) s.rules) choices ≡ true
+    → (words : List Text) → level_fault s [] nothing_held words false [] ≡ []
+    → AllMayNumber choices (rows_after s.rules [] words)
 may_choose [] s fit words fine = tt
 may_choose (c ∷ more) s fit words fine =
     let each = and_parts _ _ fit in
@@ -66,7 +73,11 @@ says_number (Number c) s fit words fine =
 -- where `clap` takes the words, they say the command's number, and of each option with a number one that it takes
 pub all_taken : (row : Text × Verb × List Choice) → row_fits row ≡ true → (words : List Text)
     → level_fault (shape row) [] nothing_held words false [] ≡ []
-    → SaysNumber row.1 (rows_after (shape row).rules [] words) × SayChoices (rows_after (shape row).rules [] words)
+    → SaysNumber row.1 (rows_after (shape row).rules [] words)
+    × SayChoices (rows_after (shape row).rules [] words)
 all_taken row fit words fine =
-    let each = and_parts _ _ fit in
-    (says_number row.1 (shape row) each.0 words fine, may_choose number_choices (shape row) each.1 words fine)
+    let each = and_parts _ _ fit in (
+      says_number row.1 (shape row) each.0 words fine,
+      may_choose number_choices (shape row) each.1
+          words fine,
+    )

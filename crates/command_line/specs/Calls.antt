@@ -218,7 +218,7 @@ HasNumber (Number c input number options) =
 abbrev pub AreTakenWords : List Text → Type 0
 AreTakenWords words = (words ≡ []) ⊎ (fault_of desk_app words ≡ [])
 
--- `clap` gives an error of a kind that the words have, or for want of memory; or it takes them, and they prefer
+-- `clap` gives an error of a kind that the words have, or one out of memory; or it takes them, and they prefer
 -- an order that isn't there, or their call names standard input twice
 abbrev pub IsWordsFault : List Text → WordsFault → Type 0
 IsWordsFault words (fault.Clap error) = (words ≢ []) × HasKind (fault_of desk_app words) error

@@ -14,7 +14,7 @@ use std::alloc::Global;
 /// Why words are no call.
 #[derive(Debug, Drop)]
 pub enum WordsFault {
-    /// `clap`'s error, which help is too, or want of memory.
+    /// `clap`'s error, which help is too, or out of memory.
     Clap(Error),
     /// `--prefer` is given a word other than `weight` and `deadline`.
     NoSuchPreference,

@@ -1,5 +1,6 @@
 -- What a draft answers to the finding that it asks for.
-use Rattle.std.proofs.Common.{◌≡◌, ◌∙◌, ℕ, set, get_or, ◌+◌, ◌<◌, List, length, Option, None, Some, Result, Ok, Err, IfOk, refl, sym, ap, subst}
+use Rattle.std.proofs.Common.{◌≡◌, ◌∙◌, ℕ, set, get_or, ◌+◌, ◌<◌, List, length, Option, None, Some}
+use Rattle.std.proofs.Common.{Result, Ok, Err, IfOk, refl, sym, ap, subst}
 use Rattle.std.proofs.lemmas.List.{get_or_default}
 use Rattle.std.specs.declared.alloc.AllocError.{AllocError}
 use Rattle.assignment.specs.Questions.{QuestionData}
@@ -22,17 +23,23 @@ use Rattle.desk_core.proofs.BroughtLaws.{live-brought}
 use Rattle.desk_core.proofs.SlotLaws.{set-same, found-moved}
 
 -- a draft that is tested asks nothing
-pub tested-silent : (outcome : Result (List Owned) Refusal) (found : List Asked) → IsTestedOn outcome found → (q : QuestionData) → ¬ IsStandingOn outcome found (Asking q)
+pub tested-silent : (outcome : Result (List Owned) Refusal) (found : List Asked)
+    → IsTestedOn outcome found → (q : QuestionData) → ¬ IsStandingOn outcome found (Asking q)
 tested-silent (Err refusal) found tested q asking = absurd tested
 tested-silent (Ok tasks) found tested q asking = asking.1.present.undecided (tested asking.0)
 
 -- ---- of a trial
-pub tried-none : (outcome : Result (List Owned) Refusal) (t u : TrialData) → IsTrialOn outcome t → IsTried t u None → IsAdvancedOn outcome t.found u.found None
+pub tried-none : (outcome : Result (List Owned) Refusal) (t u : TrialData) → IsTrialOn outcome t
+    → IsTried t u None → IsAdvancedOn outcome t.found u.found None
 tried-none (Err refusal) t u so tried = absurd so
-tried-none (Ok tasks) t u so tried =
-    (tested-silent (Ok tasks) t.found (subst (λ U. (k : ℕ) → Decides U t.found k) so tried.0), ap (λ (x : TrialData). x.found) tried.1)
+tried-none (Ok tasks) t u so tried = (
+  tested-silent (Ok tasks) t.found (subst (λ U. (k : ℕ) → Decides U t.found k) so tried.0),
+  ap (λ (x : TrialData). x.found) tried.1,
+)
 
-pub tried-some : (outcome : Result (List Owned) Refusal) (t u : TrialData) (told : Told) (r : Reply) → IsTrialOn outcome t → IsTried t u (Some told) → IsToldReply u.set told r → IsAdvancedOn outcome t.found u.found (Some r)
+pub tried-some : (outcome : Result (List Owned) Refusal) (t u : TrialData) (told : Told) (r : Reply)
+    → IsTrialOn outcome t → IsTried t u (Some told) → IsToldReply u.set told r
+    → IsAdvancedOn outcome t.found u.found (Some r)
 tried-some (Err refusal) t u told r so tried is = absurd so
 tried-some (Ok tasks) t u told r so tried is =
     let f = tried.0 in
@@ -40,19 +47,33 @@ tried-some (Ok tasks) t u told r so tried is =
     let same : u.set ≡ set_of tasks = on.same ∙ so in (
       f,
       subst (λ U. (k : ℕ) × IsNextAsked U t.found f.question k) so on.asked,
-      (told, subst (λ U. IsTold U t.found f.question told) so on.answer, subst (λ U. IsToldReply U told r) same is, on.found),
+      (
+        told,
+        subst (λ U. IsTold U t.found f.question told) so on.answer,
+        subst (λ U. IsToldReply U told r) same is,
+        on.found,
+      ),
     )
 
 -- ---- of a live draft
-pub live-advanced : (old l : Live) (r : Option Reply) (found after : List Asked) → l ≡ old → after ≡ found → IsAdvancedOn (on_base l.draft) l.found found r → IsAdvancedIn (Some old) (Some (with_found l after)) r
+pub live-advanced : (old l : Live) (r : Option Reply) (found after : List Asked) → l ≡ old
+    → after ≡ found → IsAdvancedOn (on_base l.draft) l.found found r
+    → IsAdvancedIn (Some old) (Some (with_found l after)) r
 live-advanced old l None found after is same so =
-    subst (λ (x : Live). IsAdvancedIn (Some x) (Some (with_found l after)) None) is (so.0, ap (λ xs. Some (with_found l xs)) (same ∙ so.1))
+    subst (λ (x : Live). IsAdvancedIn (Some x) (Some (with_found l after)) None) is
+    (so.0, ap (λ xs. Some (with_found l xs)) (same ∙ so.1))
 live-advanced old l (Some r) found after is same so =
-    subst (λ (x : Live). IsAdvancedIn (Some x) (Some (with_found l after)) (Some r)) is
-    (so.0, so.1, (with_found l after, live-brought l l so.0.question r found after refl same so.2, refl))
+    subst (λ (x : Live). IsAdvancedIn (Some x) (Some (with_found l after)) (Some r)) is (
+      so.0,
+      so.1,
+      (with_found l after, live-brought l l so.0.question r found after refl same so.2, refl),
+    )
 
-pub slot-advanced : (slot : Option Live) (l m : Live) (result : Result (Option Reply) AllocError) → slot ≡ Some l → IfOk result (IsAdvancedIn (Some l) (Some m)) → IfOk result (IsAdvancedIn slot (Some m))
-slot-advanced slot l m result is so = subst (λ (o : Option Live). IfOk result (IsAdvancedIn o (Some m))) (sym is) so
+pub slot-advanced : (slot : Option Live) (l m : Live) (result : Result (Option Reply) AllocError)
+    → slot ≡ Some l → IfOk result (IsAdvancedIn (Some l) (Some m))
+    → IfOk result (IsAdvancedIn slot (Some m))
+slot-advanced slot l m result is so =
+    subst (λ (o : Option Live). IfOk result (IsAdvancedIn o (Some m))) (sym is) so
 
 -- a slot without a draft asks nothing
 abbrev HasQuestion : Standing → Type 0
@@ -60,15 +81,26 @@ HasQuestion (Asking q) = Unit {0}
 HasQuestion _ = ⊥
 
 pub none-advanced : (slot new : Option Live) → slot ≡ None → new ≡ None → IsAdvancedIn slot new None
-none-advanced slot new is gone = (λ q asking. subst HasQuestion (subst (λ (o : Option Live). IsStanding o (Asking q)) is asking) tt, gone ∙ sym is)
+none-advanced slot new is gone = (
+  λ q asking. subst HasQuestion
+      (subst (λ (o : Option Live). IsStanding o (Asking q)) is asking) tt,
+  gone ∙ sym is,
+)
 
 -- ---- of the core
-moved : (w : World) (draft i : ℕ) (slot new : Option Live) (result : Result (Option Reply) AllocError) → i + 1 ≡ draft → live_at w.drafts draft ≡ slot → slot ≡ get_or w.drafts i slot
-    → IfOk result (IsAdvancedIn slot new) → IfOk result (IsAdvanced w draft (record { book = w.book; drafts = set w.drafts i new }))
+moved : (w : World) (draft i : ℕ) (slot new : Option Live)
+    (result : Result (Option Reply) AllocError) → i + 1 ≡ draft → live_at w.drafts draft ≡ slot
+    → slot ≡ get_or w.drafts i slot
+    → IfOk result (IsAdvancedIn slot new)
+    → IfOk result (IsAdvanced w draft (record { book = w.book; drafts = set w.drafts i new }))
 moved w draft i slot new (Err e) next at is so = tt
 moved w draft i slot new (Ok None) next at is so = (
   λ q asking. so.0 q (subst (λ (o : Option Live). IsStanding o (Asking q)) at asking),
-  λ j. let x : World = record { book = w.book; drafts = (ap (λ o. set w.drafts i o) so.1 ∙ set-same w.drafts i slot is) j } in x,
+  λ j. let x : World = record {
+    book = w.book;
+    drafts =
+        (ap (λ o. set w.drafts i o) so.1 ∙ set-same w.drafts i slot is) j;
+  } in x,
 )
 moved w draft i slot new (Ok (Some r)) next at is so = (
   so.0,
@@ -76,6 +108,10 @@ moved w draft i slot new (Ok (Some r)) next at is so = (
   found-moved w draft i slot new so.0 r next at is so.2,
 )
 
-pub core-advanced : (w : World) (draft i : ℕ) (slot new : Option Live) (result : Result (Option Reply) AllocError) → i + 1 ≡ draft → i < length w.drafts → live_at w.drafts draft ≡ get_or w.drafts i None → slot ≡ get_or w.drafts i slot
-    → IfOk result (IsAdvancedIn slot new) → IfOk result (IsAdvanced w draft (record { book = w.book; drafts = set w.drafts i new }))
-core-advanced w draft i slot new result next lt at is so = moved w draft i slot new result next (at ∙ get_or_default w.drafts i None slot lt ∙ sym is) is so
+pub core-advanced : (w : World) (draft i : ℕ) (slot new : Option Live)
+    (result : Result (Option Reply) AllocError) → i + 1 ≡ draft → i < length w.drafts
+    → live_at w.drafts draft ≡ get_or w.drafts i None → slot ≡ get_or w.drafts i slot
+    → IfOk result (IsAdvancedIn slot new)
+    → IfOk result (IsAdvanced w draft (record { book = w.book; drafts = set w.drafts i new }))
+core-advanced w draft i slot new result next lt at is so = moved w draft i slot new result next
+    (at ∙ get_or_default w.drafts i None slot lt ∙ sym is) is so

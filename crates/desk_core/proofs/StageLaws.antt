@@ -1,5 +1,6 @@
 -- How far the test of a draft has come, from stage to stage.
-use Rattle.std.proofs.Common.{◌≡◌, ◌∙◌, ◌↔◌, ℕ, zero, suc, ◌<◌, List, [], length, map, None, Result, Ok, Err, Box, Global, IfOk, IsTrue, refl, sym, ap, subst, arith}
+use Rattle.std.proofs.Common.{◌≡◌, ◌∙◌, ◌↔◌, ℕ, zero, suc, ◌<◌, List, [], length, map, None, Result}
+use Rattle.std.proofs.Common.{Ok, Err, Box, Global, IfOk, IsTrue, refl, sym, ap, subst, arith}
 use Rattle.std.specs.Ordering.{nat_cmp}
 use Rattle.std.specs.declared.sync.Arc.{Arc}
 use Rattle.std.specs.FinSet.{FinSet, contains, empty}
@@ -39,31 +40,49 @@ names-none U =
     ∙ ap (λ ns. map (λ i. (task_at U i).name) ns) (listed-none (length U))
 
 -- ---- whether it is tested
-pub trying-tested : (outcome : Result (List Owned) Refusal) (trial : TrialData) (found : List Asked) → IsTrialOn outcome trial → trial.found ≡ found → IsTested trial.set trial.found ↔ IsTestedOn outcome found
+pub trying-tested : (outcome : Result (List Owned) Refusal) (trial : TrialData) (found : List Asked)
+    → IsTrialOn outcome trial → trial.found ≡ found → IsTested trial.set trial.found
+    ↔ IsTestedOn outcome found
 trying-tested (Err refusal) trial found so same = absurd so
 trying-tested (Ok tasks) trial found so same = (
-  λ tested. subst (λ xs. IsTested (set_of tasks) xs) same (subst (λ U. IsTested U trial.found) so tested),
-  λ tested. subst (λ U. IsTested U trial.found) (sym so) (subst (λ xs. IsTested (set_of tasks) xs) (sym same) tested),
+  λ tested. subst (λ xs. IsTested (set_of tasks) xs) same
+      (subst (λ U. IsTested U trial.found) so tested),
+  λ tested. subst (λ U. IsTested U trial.found) (sym so)
+      (subst (λ xs. IsTested (set_of tasks) xs) (sym same) tested),
 )
 
-pub tested-tested : (outcome : Result (List Owned) Refusal) (set : Arc (List Task) Global) (members : FinSet nat_cmp) (kept : Kept) (found : Notes) → IsStage outcome (Tested set members kept found) → IsTestedOn outcome found.items
+pub tested-tested : (outcome : Result (List Owned) Refusal) (set : Arc (List Task) Global)
+    (members : FinSet nat_cmp) (kept : Kept) (found : Notes)
+    → IsStage outcome (Tested set members kept found) → IsTestedOn outcome found.items
 tested-tested (Err refusal) set members kept found so = absurd so
 tested-tested (Ok tasks) set members kept found so = so.1
 
 -- the same of a stage that is complete, by the findings that were brought
-pub tested-stage : (outcome : Result (List Owned) Refusal) (stage : Stage) (set : Arc (List Task) Global) (members : FinSet nat_cmp) (kept : Kept) (found : Notes) (brought : List Asked) → stage ≡ Tested set members kept found → IsStage outcome stage → found_of stage ≡ brought → IsTestedOn outcome brought
+pub tested-stage : (outcome : Result (List Owned) Refusal) (stage : Stage)
+    (set : Arc (List Task) Global) (members : FinSet nat_cmp) (kept : Kept) (found : Notes)
+    (brought : List Asked) → stage ≡ Tested set members kept found → IsStage outcome stage
+    → found_of stage ≡ brought → IsTestedOn outcome brought
 tested-stage outcome stage set members kept found brought is so same =
-    let tested = tested-tested outcome set members kept found (subst (λ (s : Stage). IsStage outcome s) is so) in
-    subst (λ (xs : List Asked). IsTestedOn outcome xs) (sym (ap (λ (s : Stage). found_of s) is) ∙ same) tested
+    let tested = tested-tested outcome set members kept found
+    (subst (λ (s : Stage). IsStage outcome s) is so) in
+    subst (λ (xs : List Asked). IsTestedOn outcome xs)
+    (sym (ap (λ (s : Stage). found_of s) is) ∙ same) tested
 
 -- a trial that goes on is one of what the changes come to, with the findings that were brought
-pub trying-stage : (outcome : Result (List Owned) Refusal) (stage : Stage) (trial : Box TrialData Global) (now : TrialData) (brought : List Asked) → stage ≡ Trying trial → now ≡ trial.value → IsStage outcome stage → found_of stage ≡ brought → IsTrialOn outcome now × (now.found ≡ brought)
+pub trying-stage : (outcome : Result (List Owned) Refusal) (stage : Stage)
+    (trial : Box TrialData Global) (now : TrialData) (brought : List Asked) → stage ≡ Trying trial
+    → now ≡ trial.value → IsStage outcome stage → found_of stage ≡ brought → IsTrialOn outcome now
+    × (now.found ≡ brought)
 trying-stage outcome stage trial now brought is at so same = (
-  subst (λ (t : TrialData). IsTrialOn outcome t) (sym at) (subst (λ (s : Stage). IsStage outcome s) is so),
+  subst (λ (t : TrialData). IsTrialOn outcome t) (sym at)
+      (subst (λ (s : Stage). IsStage outcome s) is so),
   ap (λ (t : TrialData). t.found) at ∙ sym (ap (λ (s : Stage). found_of s) is) ∙ same,
 )
 
-pub trying-rest : (outcome : Result (List Owned) Refusal) (trial : TrialData) (set : Arc (List Task) Global) (members : FinSet nat_cmp) (kept : Kept) (found : Notes) → IsTrialOn outcome trial → set.value ≡ trial.set → IsTested trial.set trial.found → IsShown trial.set (names_of trial.set members) → found.items ≡ trial.found
+pub trying-rest : (outcome : Result (List Owned) Refusal) (trial : TrialData)
+    (set : Arc (List Task) Global) (members : FinSet nat_cmp) (kept : Kept) (found : Notes)
+    → IsTrialOn outcome trial → set.value ≡ trial.set → IsTested trial.set trial.found
+    → IsShown trial.set (names_of trial.set members) → found.items ≡ trial.found
     → ((tasks : List Owned) → set_of tasks ≡ trial.set → IsKeptOn (Ok tasks) kept)
     → IsStage outcome (Tested set members kept found)
 trying-rest (Err refusal) trial set members kept found so of_set tested shown same right = absurd so
@@ -75,37 +94,65 @@ trying-rest (Ok tasks) trial set members kept found so of_set tested shown same 
 )
 
 -- the verdict of a test that is complete, and one kept in its place
-pub tested-kept : (outcome : Result (List Owned) Refusal) (stage : Stage) (set : Arc (List Task) Global) (members : FinSet nat_cmp) (kept : Kept) (found : Notes) → stage ≡ Tested set members kept found → IsStage outcome stage → IsKeptOn outcome kept
-tested-kept (Err refusal) stage set members kept found is so = absurd (subst (λ (s : Stage). IsStage (Err refusal) s) is so)
-tested-kept (Ok tasks) stage set members kept found is so = (subst (λ (s : Stage). IsStage (Ok tasks) s) is so).3
+pub tested-kept : (outcome : Result (List Owned) Refusal) (stage : Stage)
+    (set : Arc (List Task) Global) (members : FinSet nat_cmp) (kept : Kept) (found : Notes)
+    → stage ≡ Tested set members kept found → IsStage outcome stage → IsKeptOn outcome kept
+tested-kept (Err refusal) stage set members kept found is so =
+    absurd (subst (λ (s : Stage). IsStage (Err refusal) s) is so)
+tested-kept (Ok tasks) stage set members kept found is so =
+    (subst (λ (s : Stage). IsStage (Ok tasks) s) is so).3
 
-pub kept-again : (outcome : Result (List Owned) Refusal) (set : Arc (List Task) Global) (members : FinSet nat_cmp) (kept other : Kept) (found : Notes) → (IsKeptOn outcome kept → IsKeptOn outcome other) → IsStage outcome (Tested set members kept found) → IsStage outcome (Tested set members other found)
+pub kept-again : (outcome : Result (List Owned) Refusal) (set : Arc (List Task) Global)
+    (members : FinSet nat_cmp) (kept other : Kept) (found : Notes)
+    → (IsKeptOn outcome kept → IsKeptOn outcome other) → IsStage outcome
+    (Tested set members kept found) → IsStage outcome (Tested set members other found)
 kept-again (Err refusal) set members kept other found right so = absurd so
 kept-again (Ok tasks) set members kept other found right so = (so.0, so.1, so.2, right so.3)
 
 -- ---- where it stands
-pub tested-standing : {E : Type 0} (outcome : Result (List Owned) Refusal) (set : Arc (List Task) Global) (members : FinSet nat_cmp) (kept : Kept) (found : Notes) (before : List Asked) (result : Result Standing E) → IsStage outcome (Tested set members kept found) → found.items ≡ before
-    → IfOk result (IsNaming (names_of set.value members)) → IfOk result (IsStandingOn outcome before)
+pub tested-standing : {E : Type 0} (outcome : Result (List Owned) Refusal)
+    (set : Arc (List Task) Global) (members : FinSet nat_cmp) (kept : Kept) (found : Notes)
+    (before : List Asked) (result : Result Standing E)
+    → IsStage outcome (Tested set members kept found) → found.items ≡ before
+    → IfOk result (IsNaming (names_of set.value members))
+    → IfOk result (IsStandingOn outcome before)
 tested-standing (Err refusal) set members kept found before result so same is = absurd so
 tested-standing (Ok tasks) set members kept found before (Err e) so same is = tt
-tested-standing (Ok tasks) set members kept found before (Ok (standing.Tested infeasible)) so same is =
-    (subst (λ xs. IsTested (set_of tasks) xs) same so.1, subst (λ ns. IsShown (set_of tasks) ns) (sym (is ∙ ap (λ U. names_of U members) so.0)) so.2)
-tested-standing (Ok tasks) set members kept found before (Ok (standing.Asking question)) so same is = absurd is
-tested-standing (Ok tasks) set members kept found before (Ok standing.NoSuchDraft) so same is = absurd is
-tested-standing (Ok tasks) set members kept found before (Ok standing.Untestable) so same is = absurd is
+tested-standing (Ok tasks) set members kept found before (Ok (standing.Tested infeasible)) so
+    same is = (
+      subst (λ xs. IsTested (set_of tasks) xs) same so.1,
+      subst (λ ns. IsShown (set_of tasks) ns)
+          (sym (is ∙ ap (λ U. names_of U members) so.0)) so.2,
+    )
+tested-standing (Ok tasks) set members kept found before (Ok (standing.Asking question)) so same
+    is = absurd is
+tested-standing (Ok tasks) set members kept found before (Ok standing.NoSuchDraft) so same is =
+    absurd is
+tested-standing (Ok tasks) set members kept found before (Ok standing.Untestable) so same is =
+    absurd is
 
 -- a draft that is tested asks nothing
-pub tested-unasked : (outcome : Result (List Owned) Refusal) (found : List Asked) (name : List ℕ) → IsTestedOn outcome found → IsQuestionOn outcome found name None
+pub tested-unasked : (outcome : Result (List Owned) Refusal) (found : List Asked) (name : List ℕ)
+    → IsTestedOn outcome found → IsQuestionOn outcome found name None
 tested-unasked (Err refusal) found name tested = absurd tested
-tested-unasked (Ok tasks) found name tested = λ q asked. asked.present.undecided (tested asked.level)
+tested-unasked (Ok tasks) found name tested =
+    λ q asked. asked.present.undecided (tested asked.level)
 
 -- ---- a draft without findings asks for one where its changes come to some task
 untested : (U : List Task) → 0 < length U → ¬ IsTested U []
 unfolding level_at
 untested U some tested =
-    let member : IsTrue (contains (all_below (length U)) 0) = ap (λ X. X 0) (indexes_of-all_below (length U)) ∙ lt-ltb 0 (length U) some in
-    fresh-undecided (record { set = U; left = all_below (length U); missing = all_below (length U) }) refl 0 member (tested 0)
+    let member : IsTrue (contains (all_below (length U)) 0) =
+    ap (λ X. X 0) (indexes_of-all_below (length U)) ∙ lt-ltb 0 (length U) some in
+    fresh-undecided (record {
+      set = U;
+      left = all_below (length U);
+      missing =
+          all_below (length U);
+    }) refl 0 member (tested 0)
 
-pub fresh-untested : (outcome : Result (List Owned) Refusal) → HasTasks outcome → ¬ IsTestedOn outcome []
+pub fresh-untested : (outcome : Result (List Owned) Refusal) → HasTasks outcome
+    → ¬ IsTestedOn outcome []
 fresh-untested (Err refusal) some tested = tested
-fresh-untested (Ok tasks) some tested = untested (set_of tasks) (omega (arith, some, length-map tasks (λ o. o.sheet))) tested
+fresh-untested (Ok tasks) some tested =
+    untested (set_of tasks) (omega (arith, some, length-map tasks (λ o. o.sheet))) tested

@@ -32,7 +32,7 @@ impl Model for Core {
     ghost view = { λ c. record { book = c.book; drafts = c.drafts.items } };
 }
 
-/// Memory was wanting; the event is handed back, and the core is as it was.
+/// Memory ran out; the event is handed back, and the core is as it was.
 #[derive(Drop)]
 pub struct StepFault {
     pub event: Event,
@@ -175,7 +175,7 @@ impl Core {
     }
 
     /// The answer to a question, by the lock table of a draft's test where the question is on its set. The fault is
-    /// want of memory.
+    /// out of memory.
     pub fn answer(
         &self,
         alloc: Global,
@@ -196,7 +196,7 @@ impl Core {
 
     /// Answers the question that a draft's standing asks, and brings it the finding, as an event does: the reply. None
     /// where it asks none. The finding is known to answer the draft's own question, so no sets are compared. The error
-    /// is want of memory, which leaves the core as it was.
+    /// is out of memory, which leaves the core as it was.
     pub fn advance(&mut self, alloc: Global, draft: usize) -> Result<Option<Reply>, AllocError>
         ensures ok { IfOk result (IsAdvanced self.old draft self.new) }
         ensures err { OnErr result (self.new ≡ self.old) }

@@ -174,7 +174,7 @@ impl Live {
         &self.draft
     }
 
-    /// Puts a sheet. Where memory is wanting, it is handed back.
+    /// Puts a sheet. Where memory runs out, it is handed back.
     pub fn put(&mut self, sheet: Sheet) -> Result<Reply, Sheet>
         ensures ok { IfOk result
             (λ r. IsEdited self.old (after_put self.old.draft sheet) r self.new) }
@@ -233,7 +233,7 @@ impl Live {
         Ok(())
     }
 
-    /// Brings a finding. Where memory is wanting, it is handed back.
+    /// Brings a finding. Where memory runs out, it is handed back.
     pub fn take(&mut self, alloc: Global, finding: Finding) -> Result<Reply, Finding>
         ensures ok { IfOk result (λ r. IsBroughtTo self.old finding.question r self.new) }
         ensures err { OnErr result (self.new ≡ self.old) }

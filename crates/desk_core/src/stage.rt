@@ -166,7 +166,7 @@ fn rest_of(trial: Box<Trial>) -> Stage
     }
 }
 
-// Shares the verdict of a complete test; where memory is wanting, it stays as it was.
+// Shares the verdict of a complete test; where memory runs out, it stays as it was.
 fn share_kept(alloc: Global, kept: Kept) -> Result<Kept, Kept>
     ensures ok { IfOk result (λ shared. (outcome : Result (List Owned) Refusal)
         → IsKeptOn outcome kept → IsKeptOn outcome shared) }

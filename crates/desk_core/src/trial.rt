@@ -326,7 +326,7 @@ impl Trial {
         }
     }
 
-    /// Takes a finding. Want of memory leaves the trial as it was, and hands the finding back.
+    /// Takes a finding. Out of memory leaves the trial as it was, and hands the finding back.
     pub fn take(&mut self, alloc: Global, finding: Finding) -> Result<Told, Finding>
         ensures told { IfOk result
             (λ told. IsTold self.old.set self.old.found finding.question told) }
@@ -353,7 +353,7 @@ impl Trial {
     }
 
     /// Answers the question on the missing candidate of least rank at the present level by the table of the trial, and
-    /// takes the finding: no sets are compared. None where the verdict is complete. Want of memory leaves the trial as
+    /// takes the finding: no sets are compared. None where the verdict is complete. Out of memory leaves the trial as
     /// it was.
     pub(crate) fn advance(&mut self, alloc: Global) -> Result<Option<Told>, AllocError>
         ensures ok { IfOk result (IsTried self.old self.new) }

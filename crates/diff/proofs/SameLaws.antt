@@ -1,5 +1,7 @@
 -- A set beside itself: no task has a line.
-use Rattle.std.proofs.Common.{◌≡◌, ◌∙◌, ◌<◌, ◌&&◌, ◌||◌, ℕ, zero, suc, inl, inr, Bool, true, false, nat_lt, List, [], ◌∷◌, length, Option, Some, None, position, refl, ap, arith}
+use Rattle.std.proofs.Common.{◌≡◌, ◌∙◌, ◌<◌, ◌&&◌, ◌||◌, ℕ, zero, suc, inl, inr, Bool, true, false}
+use Rattle.std.proofs.Common.{nat_lt, List, [], ◌∷◌, length, Option, Some, None, position, refl, ap}
+use Rattle.std.proofs.Common.{arith}
 use Rattle.std.specs.List.{position_or_len}
 use Rattle.std.specs.Cmp.{nat_eq_equiv}
 use Rattle.std.specs.Cmp.Lexicographic.{nat_list_eq_equiv}
@@ -8,12 +10,14 @@ use Rattle.std.proofs.lemmas.List.Elements.{All-from_recursion}
 use Rattle.std.proofs.lemmas.List.Quantifiers.{position-Some}
 use Rattle.std.proofs.lemmas.Slice.Eq.{slice_eq-Decides}
 use Rattle.task_sheet.specs.Sheet.{Task, same_bytes, task_at, no_task}
-use Rattle.task_sheet.specs.SheetEquality.{same_section-Decides, same_outranks-Decides, same_node-Decides, same_interrupt-Decides}
+use Rattle.task_sheet.specs.SheetEquality.{same_section-Decides, same_outranks-Decides}
+use Rattle.task_sheet.specs.SheetEquality.{same_node-Decides, same_interrupt-Decides}
 use Rattle.task_sheet.specs.TaskSet.{AreDistinct, same_name}
 use Rattle.assignment.specs.declared.placing.Placing.{Placing}
 use Rattle.diff.specs.Keys.{is_changed}
 use Rattle.diff.specs.Seats.{seat_of}
-use Rattle.diff.specs.Lines.{change_lines, effect_of, effect_words, edit_from, edit_line, gone_line, index_in, lines_below, removed_line, rest_from, rest_line, seats_line}
+use Rattle.diff.specs.Lines.{change_lines, effect_of, effect_words, edit_from, edit_line, gone_line}
+use Rattle.diff.specs.Lines.{index_in, lines_below, removed_line, rest_from, rest_line, seats_line}
 use Rattle.diff.specs.declared.seats.Seat.{Seat}
 use Rattle.diff.specs.declared.text.Effect.{Effect}
 use Rattle.diff.specs.declared.text.Effect.TheVariants.{OnBound, OnLevel}
@@ -29,15 +33,18 @@ unchanged weighs t =
     let sections = (slice_eq-Decides same_section-Decides t.sections t.sections _ refl).1 refl in
     let outranks = (same_outranks-Decides t.outranks t.outranks).1 refl in
     let node = (same_node-Decides t.node t.node).1 refl in
-    let interrupts = (slice_eq-Decides same_interrupt-Decides t.interrupts t.interrupts _ refl).1 refl in
-    rw (weight, period, deadline, cost, jitter, sections, outranks, node, interrupts) (neither weighs)
+    let interrupts =
+    (slice_eq-Decides same_interrupt-Decides t.interrupts t.interrupts _ refl).1 refl in
+    rw (weight, period, deadline, cost, jitter, sections, outranks, node, interrupts)
+    (neither weighs)
   where
     neither : (w : Bool) → ((w && false) || false) ≡ false
     neither true = refl
     neither false = refl
 
 -- ---- a task's name is its own
-reached : (p : Task → Bool) (xs : List Task) (i : ℕ) → i < length xs → p (task_at xs i) ≡ true → position_or_len p xs < length xs
+reached : (p : Task → Bool) (xs : List Task) (i : ℕ) → i < length xs → p (task_at xs i) ≡ true
+    → position_or_len p xs < length xs
 reached p [] i lt h = absurd (omega arith)
 reached p (x ∷ xs) zero lt h = rw h (omega arith)
 reached p (x ∷ xs) (suc i) lt h =
@@ -46,45 +53,66 @@ reached p (x ∷ xs) (suc i) lt h =
       | inr later ↦ let rest = reached p xs i (omega arith) h in rw later (omega arith)
     ]
 
-one_name : (U : List Task) → AreDistinct same_name U → (i j : ℕ) → i < length U → j < length U → same_bytes (task_at U i).name (task_at U j).name ≡ true → i ≡ j
+one_name : (U : List Task) → AreDistinct same_name U → (i j : ℕ) → i < length U → j < length U
+    → same_bytes (task_at U i).name (task_at U j).name ≡ true → i ≡ j
 one_name [] apart i j lt below same = absurd (omega arith)
 one_name (x ∷ xs) apart zero zero lt below same = refl
 one_name (x ∷ xs) apart zero (suc j) lt below same =
-    absurd (both_ways (same_bytes x.name (task_at xs j).name) (All-from_recursion (λ y. same_bytes x.name y.name ≡ false) xs apart.0 j no_task (omega arith)) same)
+    absurd (both_ways (same_bytes x.name (task_at xs j).name) (All-from_recursion
+    (λ y. same_bytes x.name y.name ≡ false) xs apart.0 j no_task (omega arith)) same)
 one_name (x ∷ xs) apart (suc i) zero lt below same =
-    absurd (both_ways (same_bytes x.name (task_at xs i).name) (All-from_recursion (λ y. same_bytes x.name y.name ≡ false) xs apart.0 i no_task (omega arith)) (nat_list_eq_equiv.symm x.name (task_at xs i).name ∙ same))
-one_name (x ∷ xs) apart (suc i) (suc j) lt below same = ap (λ n. suc n) (one_name xs apart.1 i j (omega arith) (omega arith) same)
+    absurd (both_ways (same_bytes x.name (task_at xs i).name) (All-from_recursion
+    (λ y. same_bytes x.name y.name ≡ false) xs apart.0 i no_task (omega arith))
+    (nat_list_eq_equiv.symm x.name (task_at xs i).name ∙ same))
+one_name (x ∷ xs) apart (suc i) (suc j) lt below same =
+    ap (λ n. suc n) (one_name xs apart.1 i j (omega arith) (omega arith) same)
 
-own_index : (U : List Task) → AreDistinct same_name U → (i : ℕ) → i < length U → index_in U U i ≡ Some i
+own_index : (U : List Task) → AreDistinct same_name U → (i : ℕ) → i < length U
+    → index_in U U i ≡ Some i
 own_index U apart i lt =
     let p : Task → Bool = λ s. same_bytes s.name (task_at U i).name in
-    let at : position_or_len p U < length U = reached p U i lt (nat_list_eq_equiv.refl (task_at U i).name) in
-    let found : position p U ≡ Some (position_or_len p U) = rw (lt-ltb (position_or_len p U) (length U) at) refl in
+    let at : position_or_len p U < length U =
+    reached p U i lt (nat_list_eq_equiv.refl (task_at U i).name) in
+    let found : position p U ≡ Some (position_or_len p U) =
+    rw (lt-ltb (position_or_len p U) (length U) at) refl in
     let is = position-Some p U (position_or_len p U) no_task found in
     found ∙ ap Some (one_name U apart (position_or_len p U) i at lt is.1)
 
 -- ---- so no line is left
 no_effect : (effect : Effect) (s : Seat) → effect_of effect s s ≡ None
-no_effect OnBound s = let less : nat_lt s.bound s.bound ≡ false = le-ltb s.bound s.bound (omega arith) in rw less refl
-no_effect OnLevel s = let level = nat_eq_equiv.refl s.level in let bound = nat_eq_equiv.refl s.bound in rw (level, bound) refl
+no_effect OnBound s = let less : nat_lt s.bound s.bound ≡ false =
+    le-ltb s.bound s.bound (omega arith) in rw less refl
+no_effect OnLevel s = let level = nat_eq_equiv.refl s.level in let bound =
+    nat_eq_equiv.refl s.bound in rw (level, bound) refl
 
-no_seats : (effect : Effect) (U : List Task) (task : ℕ) (o : Option Seat) → seats_line effect U task o o ≡ []
+no_seats : (effect : Effect) (U : List Task) (task : ℕ) (o : Option Seat)
+    → seats_line effect U task o o ≡ []
 no_seats effect U task None = refl
 no_seats effect U task (Some s) = ap (effect_words U task s s) (no_effect effect s)
 
 no_lines : (n : ℕ) (line : ℕ → List ℕ) → ((k : ℕ) → k < n → line k ≡ []) → lines_below n line ≡ []
 no_lines zero line each = refl
-no_lines (suc n) line each = rw (no_lines n line (λ k lt. each k (omega arith)), each n (omega arith)) refl
+no_lines (suc n) line each =
+    rw (no_lines n line (λ k lt. each k (omega arith)), each n (omega arith)) refl
 
 module _ (weighs : Bool) (U : List Task) (P : Placing) (apart : AreDistinct same_name U) where
   removed : (k : ℕ) → k < length U → removed_line U P U k ≡ []
   removed k lt = ap (gone_line U P k) (own_index U apart k lt)
 
   edits : (k : ℕ) → k < length U → edit_line weighs U P U P k ≡ []
-  edits k lt = ap (λ o. edit_from weighs U P o U P k) (own_index U apart k lt) ∙ rw (unchanged weighs (task_at U k)) refl
+  edits k lt = ap (λ o. edit_from weighs U P o U P k) (own_index U apart k lt)
+      ∙ rw (unchanged weighs (task_at U k)) refl
 
   rests : (effect : Effect) (k : ℕ) → k < length U → rest_line effect weighs U P U P k ≡ []
-  rests effect k lt = ap (λ o. rest_from effect weighs U P o U P k) (own_index U apart k lt) ∙ rw (unchanged weighs (task_at U k)) (no_seats effect U k (seat_of U P k))
+  rests effect k lt = ap (λ o. rest_from effect weighs U P o U P k) (own_index U apart k lt)
+      ∙ rw (unchanged weighs (task_at U k)) (no_seats effect U k (seat_of U P k))
 
   pub unchanged_is_silent : change_lines weighs U P U P ≡ []
-  unchanged_is_silent = rw (no_lines (length U) (removed_line U P U) removed, no_lines (length U) (edit_line weighs U P U P) edits, no_lines (length U) (rest_line OnBound weighs U P U P) (rests OnBound), no_lines (length U) (rest_line OnLevel weighs U P U P) (rests OnLevel)) refl
+  unchanged_is_silent = rw (
+    no_lines (length U) (removed_line U P U) removed,
+    no_lines (length U)
+        (edit_line weighs U P U P) edits,
+    no_lines (length U) (rest_line OnBound weighs U P U P)
+        (rests OnBound),
+    no_lines (length U) (rest_line OnLevel weighs U P U P) (rests OnLevel),
+  ) refl

@@ -1,15 +1,20 @@
 -- Where no line is said, nothing has changed.
-use Rattle.std.proofs.Common.{◌≡◌, ◌∙◌, ◌<◌, ℕ, zero, suc, inl, inr, Bool, true, false, nat_lt, nat_eq, eqb, List, [], ◌∷◌, ◌++◌, length, Option, Some, None, codes, refl, sym, ap, arith}
+use Rattle.std.proofs.Common.{◌≡◌, ◌∙◌, ◌<◌, ℕ, zero, suc, inl, inr, Bool, true, false, nat_lt}
+use Rattle.std.proofs.Common.{nat_eq, eqb, List, [], ◌∷◌, ◌++◌, length, Option, Some, None, codes}
+use Rattle.std.proofs.Common.{refl, sym, ap, arith}
 use Rattle.std.proofs.lemmas.Bool.{cases_Bool, eq-eqb, eqb-true, eqb-false, ltb-false}
 use Rattle.task_sheet.specs.Sheet.{Task, task_at}
 use Rattle.assignment.specs.declared.placing.Placing.{Placing}
 use Rattle.diff.specs.Keys.{is_changed, keys_words}
 use Rattle.diff.specs.Seats.{seat_of}
-use Rattle.diff.specs.Lines.{change_lines, changed_line, edit_from, edit_line, effect_of, effect_words, gone_line, index_in, kept_line, lines_below, removed_line, rest_from, rest_line, seats_line, start_words}
+use Rattle.diff.specs.Lines.{change_lines, changed_line, edit_from, edit_line, effect_of}
+use Rattle.diff.specs.Lines.{effect_words, gone_line, index_in, kept_line, lines_below}
+use Rattle.diff.specs.Lines.{removed_line, rest_from, rest_line, seats_line, start_words}
 use Rattle.diff.specs.Unchanged.{IsKept, IsSameSeat, IsUnchanged}
 use Rattle.diff.specs.declared.seats.Seat.{Seat}
 use Rattle.diff.specs.declared.text.Kind.{Kind}
-use Rattle.diff.specs.declared.text.Kind.TheVariants.{Removed, Added, Changed, Slower, Faster, Moved}
+use Rattle.diff.specs.declared.text.Kind.TheVariants.{Removed, Added, Changed, Slower, Faster}
+use Rattle.diff.specs.declared.text.Kind.TheVariants.{Moved}
 use Rattle.diff.specs.declared.text.Effect.TheVariants.{OnBound, OnLevel}
 
 -- ---- nothing
@@ -30,44 +35,60 @@ no_line zero line none k lt = absurd (omega arith)
 no_line (suc n) line none k lt =
     elim (cases_Bool (eqb k n)) [
       | inl same ↦ ap line (eqb-true k n same) ∙ no_back (lines_below n line) (line n) none
-      | inr other ↦ let apart = eqb-false k n other in no_line n line (no_front (lines_below n line) (line n) none) k (omega (arith, apart))
+      | inr other ↦ let apart = eqb-false k n other in
+          no_line n line (no_front (lines_below n line) (line n) none) k (omega (arith, apart))
     ]
 
 -- ---- no task is gone
-still_there : (U : List Task) (P : Placing) (k : ℕ) (o : Option ℕ) → gone_line U P k o ≡ [] → (after : ℕ) × (o ≡ Some after)
+still_there : (U : List Task) (P : Placing) (k : ℕ) (o : Option ℕ) → gone_line U P k o ≡ []
+    → (after : ℕ) × (o ≡ Some after)
 still_there U P k (Some after) none = (after, refl)
 still_there U P k None none = absurd (some_line (start_words Removed U k (seat_of U P k) None) none)
 
 -- ---- each new task was there before
-was_there : (weighs : Bool) (U : List Task) (P : Placing) (V : List Task) (Q : Placing) (k : ℕ) (o : Option ℕ) → edit_from weighs U P o V Q k ≡ [] → (before : ℕ) × (o ≡ Some before)
+was_there : (weighs : Bool) (U : List Task) (P : Placing) (V : List Task) (Q : Placing) (k : ℕ)
+    (o : Option ℕ) → edit_from weighs U P o V Q k ≡ [] → (before : ℕ) × (o ≡ Some before)
 was_there weighs U P V Q k (Some before) none = (before, refl)
-was_there weighs U P V Q k None none = absurd (some_line (start_words Added V k None (seat_of V Q k)) none)
+was_there weighs U P V Q k None none =
+    absurd (some_line (start_words Added V k None (seat_of V Q k)) none)
 
-says_same : (weighs : Bool) (U : List Task) (P : Placing) (V : List Task) (Q : Placing) (before k : ℕ) → changed_line weighs U P before V Q k ≡ [] → is_changed weighs (task_at U before) (task_at V k) ≡ false
+says_same : (weighs : Bool) (U : List Task) (P : Placing) (V : List Task) (Q : Placing)
+    (before k : ℕ) → changed_line weighs U P before V Q k ≡ []
+    → is_changed weighs (task_at U before) (task_at V k) ≡ false
 says_same weighs U P V Q before k none =
     elim (cases_Bool (is_changed weighs (task_at U before) (task_at V k))) [
       | inl changed ↦ absurd (some_line
-          (start_words Changed V k (seat_of U P before) (seat_of V Q k) ++ keys_words weighs (task_at U before) (task_at V k))
+          (start_words Changed V k (seat_of U P before) (seat_of V Q k)
+          ++ keys_words weighs (task_at U before) (task_at V k))
           (rw changed at none))
       | inr kept ↦ kept
     ]
 
 -- ---- nothing becomes of it
-no_words : (V : List Task) (k : ℕ) (old new : Seat) (o : Option Kind) → effect_words V k old new o ≡ [] → o ≡ None
+no_words : (V : List Task) (k : ℕ) (old new : Seat) (o : Option Kind)
+    → effect_words V k old new o ≡ [] → o ≡ None
 no_words V k old new None none = refl
-no_words V k old new (Some kind) none = absurd (some_line (start_words kind V k (Some old) (Some new)) none)
+no_words V k old new (Some kind) none =
+    absurd (some_line (start_words kind V k (Some old) (Some new)) none)
 
 same_bound : (old new : Seat) → effect_of OnBound old new ≡ None → old.bound ≡ new.bound
 same_bound old new none =
     elim (cases_Bool (nat_lt old.bound new.bound)) [
       | inl slower ↦ let never : Some Slower ≡ None = (rw slower at none) in absurd (cc)
       | inr not_slower ↦ elim (cases_Bool (nat_lt new.bound old.bound)) [
-        | inl faster ↦ let never : Some Faster ≡ None = (rw (not_slower, faster) at none) in absurd (cc)
-        | inr not_faster ↦ omega (arith, ltb-false old.bound new.bound not_slower, ltb-false new.bound old.bound not_faster)
+        | inl faster ↦ let never : Some Faster ≡ None = (rw (not_slower, faster) at none) in
+            absurd (cc)
+        | inr not_faster ↦ omega (
+          arith,
+          ltb-false old.bound new.bound not_slower,
+          ltb-false
+              new.bound old.bound not_faster,
+        )
       ]
     ]
 
-same_level : (old new : Seat) → old.bound ≡ new.bound → effect_of OnLevel old new ≡ None → old.level ≡ new.level
+same_level : (old new : Seat) → old.bound ≡ new.bound → effect_of OnLevel old new ≡ None
+    → old.level ≡ new.level
 same_level old new bound none =
     elim (cases_Bool (nat_eq old.level new.level)) [
       | inl same ↦ eqb-true old.level new.level same
@@ -76,7 +97,8 @@ same_level old new bound none =
           let never : Some Moved ≡ None = (rw (is, other) at none) in absurd (cc)
     ]
 
-same_seat : (V : List Task) (k : ℕ) (old new : Option Seat) → seats_line OnBound V k old new ≡ [] → seats_line OnLevel V k old new ≡ [] → IsSameSeat old new
+same_seat : (V : List Task) (k : ℕ) (old new : Option Seat) → seats_line OnBound V k old new ≡ []
+    → seats_line OnLevel V k old new ≡ [] → IsSameSeat old new
 same_seat V k None None bound level = tt
 same_seat V k None (Some new) bound level = tt
 same_seat V k (Some old) None bound level = tt
@@ -85,7 +107,8 @@ same_seat V k (Some old) (Some new) bound level =
     (same_level old new at_bound (no_words V k old new (effect_of OnLevel old new) level), at_bound)
 
 -- ---- all
-module _ (weighs : Bool) (U : List Task) (P : Placing) (V : List Task) (Q : Placing) (silent : change_lines weighs U P V Q ≡ []) where
+module _ (weighs : Bool) (U : List Task) (P : Placing) (V : List Task) (Q : Placing)
+    (silent : change_lines weighs U P V Q ≡ []) where
   abbrev removals : List ℕ
   removals = lines_below (length U) (removed_line U P V)
 
@@ -99,34 +122,47 @@ module _ (weighs : Bool) (U : List Task) (P : Placing) (V : List Task) (Q : Plac
   levels = lines_below (length V) (rest_line OnLevel weighs U P V Q)
 
   no_removals : removals ≡ []
-  no_removals = no_front removals edits (no_front (removals ++ edits) bounds (no_front ((removals ++ edits) ++ bounds) levels silent))
+  no_removals = no_front removals edits
+      (no_front (removals ++ edits) bounds (no_front ((removals ++ edits) ++ bounds) levels silent))
 
   no_edits : edits ≡ []
-  no_edits = no_back removals edits (no_front (removals ++ edits) bounds (no_front ((removals ++ edits) ++ bounds) levels silent))
+  no_edits = no_back removals edits
+      (no_front (removals ++ edits) bounds (no_front ((removals ++ edits) ++ bounds) levels silent))
 
   no_bounds : bounds ≡ []
-  no_bounds = no_back (removals ++ edits) bounds (no_front ((removals ++ edits) ++ bounds) levels silent)
+  no_bounds =
+      no_back (removals ++ edits) bounds (no_front ((removals ++ edits) ++ bounds) levels silent)
 
   no_levels : levels ≡ []
   no_levels = no_back ((removals ++ edits) ++ bounds) levels silent
 
   kept_at : (k before : ℕ) → index_in U V k ≡ Some before → k < length V → IsKept weighs U P V Q k
   kept_at k before at lt =
-      let edit : edit_from weighs U P (Some before) V Q k ≡ [] = ap (λ o. edit_from weighs U P o V Q k) (sym at) ∙ no_line (length V) (edit_line weighs U P V Q) no_edits k lt in
-      let sheet : is_changed weighs (task_at U before) (task_at V k) ≡ false = says_same weighs U P V Q before k edit in
-      let bound : kept_line OnBound weighs U P before V Q k ≡ [] = ap (λ o. rest_from OnBound weighs U P o V Q k) (sym at) ∙ no_line (length V) (rest_line OnBound weighs U P V Q) no_bounds k lt in
-      let level : kept_line OnLevel weighs U P before V Q k ≡ [] = ap (λ o. rest_from OnLevel weighs U P o V Q k) (sym at) ∙ no_line (length V) (rest_line OnLevel weighs U P V Q) no_levels k lt in
+      let edit : edit_from weighs U P (Some before) V Q k ≡ [] =
+      ap (λ o. edit_from weighs U P o V Q k) (sym at)
+      ∙ no_line (length V) (edit_line weighs U P V Q) no_edits k lt in
+      let sheet : is_changed weighs (task_at U before) (task_at V k) ≡ false =
+      says_same weighs U P V Q before k edit in
+      let bound : kept_line OnBound weighs U P before V Q k ≡ [] =
+      ap (λ o. rest_from OnBound weighs U P o V Q k) (sym at)
+      ∙ no_line (length V) (rest_line OnBound weighs U P V Q) no_bounds k lt in
+      let level : kept_line OnLevel weighs U P before V Q k ≡ [] =
+      ap (λ o. rest_from OnLevel weighs U P o V Q k) (sym at)
+      ∙ no_line (length V) (rest_line OnLevel weighs U P V Q) no_levels k lt in
       record {
         before = before;
         index = at;
         sheet = sheet;
-        seat = same_seat V k (seat_of U P before) (seat_of V Q k) (rw sheet at bound) (rw sheet at level);
+        seat = same_seat V k (seat_of U P before) (seat_of V Q k) (rw sheet at bound)
+            (rw sheet at level);
       }
 
   pub silent_is_unchanged : IsUnchanged weighs U P V Q
   silent_is_unchanged = record {
-    none_gone = λ k lt. still_there U P k (index_in V U k) (no_line (length U) (removed_line U P V) no_removals k lt);
+    none_gone = λ k lt. still_there U P k (index_in V U k)
+        (no_line (length U) (removed_line U P V) no_removals k lt);
     all_kept = λ k lt.
-        let before = was_there weighs U P V Q k (index_in U V k) (no_line (length V) (edit_line weighs U P V Q) no_edits k lt) in
+        let before = was_there weighs U P V Q k (index_in U V k)
+        (no_line (length V) (edit_line weighs U P V Q) no_edits k lt) in
         kept_at k before.0 before.1 lt;
   }

@@ -358,7 +358,7 @@ fn push_rests(
 
 /// The lines of a change from one set to another: of the tasks that are gone, then of those that came and those whose
 /// sheets say something else, then of the others whose responses are other ones, and last of those whose levels alone are.
-/// Each by rank. A weight counts only where `weighs` says so. The error is want of memory.
+/// Each by rank. A weight counts only where `weighs` says so. The error is out of memory.
 pub fn change_text(
     alloc: Global,
     weighs: bool,

@@ -1,5 +1,6 @@
 -- One entry more.
-use Rattle.std.proofs.Common.{◌≡◌, ℕ, ◌+◌, ◌^◌, ◌<◌, ◌≤◌, List, [], ◌∷◌, ◌++◌, length, map, Option, Result, Ok, Err, Global, refl, sym, ◌∙◌, ap, subst, arith}
+use Rattle.std.proofs.Common.{◌≡◌, ℕ, ◌+◌, ◌^◌, ◌<◌, ◌≤◌, List, [], ◌∷◌, ◌++◌, length, map, Option}
+use Rattle.std.proofs.Common.{Result, Ok, Err, Global, refl, sym, ◌∙◌, ap, subst, arith}
 use Rattle.std.proofs.lemmas.List.{map_push, length-map}
 use Rattle.std.specs.declared.sync.Arc.{Arc}
 use Rattle.task_sheet.specs.TaskSet.{IsTaskSet}
@@ -11,70 +12,94 @@ use Rattle.drafts.specs.declared.change.Refusal.{Refusal}
 use Rattle.drafts.specs.declared.judging.Judged.{Judged}
 use Rattle.drafts.specs.declared.judging.Judged.TheVariants as judged
 use Rattle.drafts.specs.Applied.{set_of, applied}
-use Rattle.drafts.specs.Machine.{MachineState, empty_desk, Ruling, Admitted, Refused, Infeasible, Entry, IsRuling, IsDecision, moved, after_entry, IsLegal, replay, one_if_admitted, admissions}
+use Rattle.drafts.specs.Machine.{MachineState, empty_desk, Ruling, Admitted, Refused, Infeasible}
+use Rattle.drafts.specs.Machine.{Entry, IsRuling, IsDecision, moved, after_entry, IsLegal, replay}
+use Rattle.drafts.specs.Machine.{one_if_admitted, admissions}
 use Rattle.drafts.specs.Books.{Book, logged, IsNextEntry}
 use Rattle.drafts.specs.BookFields.{book_of, IsBookKept}
 use Rattle.drafts.specs.declared.book.Book.TheInside.{Inside}
 use Rattle.drafts.specs.Edits.{Draft}
 use Rattle.drafts.specs.Outcomes.{IsJudged, IsSaid, IsNextState, IsEntryOf, after_next}
 
-pub replay-push : (desk : MachineState) (log : List Entry) (e : Entry) → replay desk (log ++ e ∷ []) ≡ after_entry (replay desk log) e
+pub replay-push : (desk : MachineState) (log : List Entry) (e : Entry)
+    → replay desk (log ++ e ∷ []) ≡ after_entry (replay desk log) e
 replay-push desk [] e = refl
 replay-push desk (x ∷ log) e = replay-push (after_entry desk x) log e
 
-pub IsLegal-push : (desk : MachineState) (log : List Entry) (e : Entry) → IsLegal desk log → IsDecision (replay desk log) e.team e.changes e.decision → IsLegal desk (log ++ e ∷ [])
+pub IsLegal-push : (desk : MachineState) (log : List Entry) (e : Entry) → IsLegal desk log
+    → IsDecision (replay desk log) e.team e.changes e.decision → IsLegal desk (log ++ e ∷ [])
 IsLegal-push desk [] e legal next = (next, tt)
-IsLegal-push desk (x ∷ log) e legal next = (legal.0, IsLegal-push (after_entry desk x) log e legal.1 next)
+IsLegal-push desk (x ∷ log) e legal next =
+    (legal.0, IsLegal-push (after_entry desk x) log e legal.1 next)
 
 -- what was judged is decided as the machine decides
-pub said-answer : (version : ℕ) (outcome : Result (List Owned) Refusal) (j : Judged) (d : Ruling) → IsJudged outcome j → IsSaid version j d → IsRuling version outcome d
+pub said-answer : (version : ℕ) (outcome : Result (List Owned) Refusal) (j : Judged) (d : Ruling)
+    → IsJudged outcome j → IsSaid version j d → IsRuling version outcome d
 said-answer version (Err refusal) (judged.Refused told) (Refused again) h said = said ∙ h
 said-answer version (Err refusal) (judged.Refused told) (Admitted again) h said = said
 said-answer version (Err refusal) (judged.Refused told) (Infeasible again) h said = said
 said-answer version (Err refusal) (judged.Best a) d h said = absurd h
 said-answer version (Err refusal) (judged.Stuck o) d h said = absurd h
 said-answer version (Ok tasks) (judged.Refused told) d h said = absurd h
-said-answer version (Ok tasks) (judged.Best a) (Admitted again) h said = ((verdict.order_of a.value.levels, h.1.best.passing), said)
+said-answer version (Ok tasks) (judged.Best a) (Admitted again) h said =
+    ((verdict.order_of a.value.levels, h.1.best.passing), said)
 said-answer version (Ok tasks) (judged.Best a) (Refused again) h said = said
 said-answer version (Ok tasks) (judged.Best a) (Infeasible again) h said = absurd said
 said-answer version (Ok tasks) (judged.Stuck o) (Infeasible again) h said =
     let valid : IsTaskSet (set_of tasks) = subst IsTaskSet h.0 said.1 in (
-      IsObstruction-fails (set_of tasks) (AllTasks-from_set (set_of tasks) valid) _ h.1.greatest.obstruction,
+      IsObstruction-fails (set_of tasks) (AllTasks-from_set (set_of tasks) valid) _
+          h.1.greatest.obstruction,
       ap (λ p. p.set) said.0 ∙ h.0,
-      subst (λ p. verdict.IsVerdictOf (set_of tasks) (verdict.Infeasible p.members)) (sym said.0) h.1,
+      subst (λ p. verdict.IsVerdictOf (set_of tasks) (verdict.Infeasible p.members))
+          (sym said.0) h.1,
     )
 said-answer version (Ok tasks) (judged.Stuck o) (Refused again) h said = said
 said-answer version (Ok tasks) (judged.Stuck o) (Admitted again) h said = absurd said
 
 -- and the state moves as the machine moves
-pub next-moved : (desk : MachineState) (outcome : Result (List Owned) Refusal) (j : Judged) (d : Ruling) (next : Option MachineState) → IsSaid desk.version j d → IsNextState desk outcome j next → after_next desk next ≡ moved desk d outcome
-next-moved desk outcome (judged.Refused told) (Refused again) next said is = ap (λ o. after_next desk o) is
+pub next-moved : (desk : MachineState) (outcome : Result (List Owned) Refusal) (j : Judged)
+    (d : Ruling) (next : Option MachineState) → IsSaid desk.version j d
+    → IsNextState desk outcome j next → after_next desk next ≡ moved desk d outcome
+next-moved desk outcome (judged.Refused told) (Refused again) next said is =
+    ap (λ o. after_next desk o) is
 next-moved desk outcome (judged.Refused told) (Admitted again) next said is = absurd said
 next-moved desk outcome (judged.Refused told) (Infeasible again) next said is = absurd said
-next-moved desk outcome (judged.Best a) (Admitted again) next said is = ap (λ o. after_next desk o) is
+next-moved desk outcome (judged.Best a) (Admitted again) next said is =
+    ap (λ o. after_next desk o) is
 next-moved desk outcome (judged.Best a) (Refused again) next said is = absurd said
 next-moved desk outcome (judged.Best a) (Infeasible again) next said is = absurd said
-next-moved desk outcome (judged.Stuck o) (Infeasible again) next said is = ap (λ o. after_next desk o) is
+next-moved desk outcome (judged.Stuck o) (Infeasible again) next said is =
+    ap (λ o. after_next desk o) is
 next-moved desk outcome (judged.Stuck o) (Refused again) next said is = absurd said
 next-moved desk outcome (judged.Stuck o) (Admitted again) next said is = absurd said
 
 -- a book stays legal, and its log's replay is its state
-pub logged-legal : (b : Book) (e : Entry) → IsLegal empty_desk b.log → replay empty_desk b.log ≡ b.desk → IsDecision b.desk e.team e.changes e.decision → IsLegal empty_desk (logged b e).log × (replay empty_desk (logged b e).log ≡ (logged b e).desk)
+pub logged-legal : (b : Book) (e : Entry) → IsLegal empty_desk b.log
+    → replay empty_desk b.log ≡ b.desk → IsDecision b.desk e.team e.changes e.decision
+    → IsLegal empty_desk (logged b e).log × (replay empty_desk (logged b e).log ≡ (logged b e).desk)
 logged-legal b e legal same next = (
-  IsLegal-push empty_desk b.log e legal (subst (λ d. IsDecision d e.team e.changes e.decision) (sym same) next),
+  IsLegal-push empty_desk b.log e legal
+      (subst (λ d. IsDecision d e.team e.changes e.decision) (sym same) next),
   replay-push empty_desk b.log e ∙ ap (λ d. after_entry d e) same,
 )
 
 -- ---- the version counts the admitted entries
-answered-version : (desk : MachineState) (outcome : Result (List Owned) Refusal) (d : Ruling) → IsRuling desk.version outcome d → (moved desk d outcome).version ≡ desk.version + one_if_admitted d
+answered-version : (desk : MachineState) (outcome : Result (List Owned) Refusal) (d : Ruling)
+    → IsRuling desk.version outcome d
+    → (moved desk d outcome).version ≡ desk.version + one_if_admitted d
 answered-version desk (Ok tasks) (Admitted told) h = refl
 answered-version desk (Err refusal) (Admitted told) h = absurd h
 answered-version desk outcome (Refused told) h = omega arith
 answered-version desk outcome (Infeasible o) h = omega arith
 
-pub replay-version : (desk : MachineState) (log : List Entry) → IsLegal desk log → (replay desk log).version ≡ desk.version + admissions log
+pub replay-version : (desk : MachineState) (log : List Entry) → IsLegal desk log
+    → (replay desk log).version ≡ desk.version + admissions log
 replay-version desk [] legal = omega arith
-replay-version desk (e ∷ log) legal = omega (arith, replay-version (after_entry desk e) log legal.1, answered-version desk (applied e.team desk.tasks e.changes) e.decision legal.0)
+replay-version desk (e ∷ log) legal = omega (
+  arith,
+  replay-version (after_entry desk e) log legal.1,
+  answered-version desk (applied e.team desk.tasks e.changes) e.decision legal.0,
+)
 
 one-small : (d : Ruling) → one_if_admitted d ≤ 1
 one-small (Admitted told) = omega arith
@@ -86,61 +111,96 @@ admissions-few [] = omega arith
 admissions-few (e ∷ log) = omega (arith, one-small e.decision, admissions-few log)
 
 -- so the next version fits
-pub version_room : (desk : MachineState) (log : List Entry) → IsLegal empty_desk log → replay empty_desk log ≡ desk → length log < 2 ^ 63 → desk.version + 1 < 2 ^ 64
-version_room desk log legal same few = let e = ap (λ (d : MachineState). d.version) same in omega (arith, replay-version empty_desk log legal, admissions-few log)
+pub version_room : (desk : MachineState) (log : List Entry) → IsLegal empty_desk log
+    → replay empty_desk log ≡ desk → length log < 2 ^ 63 → desk.version + 1 < 2 ^ 64
+version_room desk log legal same few = let e = ap (λ (d : MachineState). d.version) same in
+    omega (arith, replay-version empty_desk log legal, admissions-few log)
 
 -- ---- an entry of what was judged, and the state that follows
-module _ (b : Book) (legal : IsLegal empty_desk b.log) (same : replay empty_desk b.log ≡ b.desk) (d : Draft) (j : Judged) (judged : IsJudged (applied d.team b.desk.tasks d.changes) j) (e : Entry) (is : IsEntryOf b.desk.version d j e) where
+module _ (b : Book) (legal : IsLegal empty_desk b.log) (same : replay empty_desk b.log ≡ b.desk)
+    (d : Draft) (j : Judged) (judged : IsJudged (applied d.team b.desk.tasks d.changes) j)
+    (e : Entry) (is : IsEntryOf b.desk.version d j e) where
   pub entered-next : (place : ℕ) → place ≡ length b.log + 1 → IsNextEntry b d place e
-  entered-next place at = (at, is.0, is.1, said-answer b.desk.version (applied d.team b.desk.tasks d.changes) j e.decision judged is.2)
+  entered-next place at = (
+    at,
+    is.0,
+    is.1,
+    said-answer b.desk.version
+        (applied d.team b.desk.tasks d.changes) j e.decision judged is.2,
+  )
 
   outcome : applied d.team b.desk.tasks d.changes ≡ applied e.team b.desk.tasks e.changes
-  outcome = ap (λ t. applied t b.desk.tasks d.changes) (sym is.0) ∙ ap (λ cs. applied e.team b.desk.tasks cs) (sym is.1)
+  outcome = ap (λ t. applied t b.desk.tasks d.changes) (sym is.0)
+      ∙ ap (λ cs. applied e.team b.desk.tasks cs) (sym is.1)
 
-  pub entered-kept : IsLegal empty_desk (logged b e).log × (replay empty_desk (logged b e).log ≡ (logged b e).desk)
-  entered-kept = logged-legal b e legal same (subst (λ o. IsRuling b.desk.version o e.decision) outcome (said-answer b.desk.version (applied d.team b.desk.tasks d.changes) j e.decision judged is.2))
+  pub entered-kept : IsLegal empty_desk (logged b e).log
+      × (replay empty_desk (logged b e).log ≡ (logged b e).desk)
+  entered-kept =
+      logged-legal b e legal same (subst (λ o. IsRuling b.desk.version o e.decision) outcome
+      (said-answer b.desk.version (applied d.team b.desk.tasks d.changes) j e.decision judged is.2))
 
-  pub entered-desk : (next : Option MachineState) → IsNextState b.desk (applied d.team b.desk.tasks d.changes) j next → after_next b.desk next ≡ (logged b e).desk
-  entered-desk next to = next-moved b.desk (applied d.team b.desk.tasks d.changes) j e.decision next is.2 to ∙ ap (λ o. moved b.desk e.decision o) outcome
+  pub entered-desk : (next : Option MachineState) → IsNextState b.desk
+      (applied d.team b.desk.tasks d.changes) j next → after_next b.desk next ≡ (logged b e).desk
+  entered-desk next to = next-moved b.desk (applied d.team b.desk.tasks d.changes) j e.decision next
+      is.2 to ∙ ap (λ o. moved b.desk e.decision o) outcome
 
-pub version-counts : (b : Book) → IsLegal empty_desk b.log → replay empty_desk b.log ≡ b.desk → b.desk.version ≡ admissions b.log
-version-counts b legal same = let e = ap (λ (d : MachineState). d.version) same in omega (arith, replay-version empty_desk b.log legal)
+pub version-counts : (b : Book) → IsLegal empty_desk b.log → replay empty_desk b.log ≡ b.desk
+    → b.desk.version ≡ admissions b.log
+version-counts b legal same = let e = ap (λ (d : MachineState). d.version) same in
+    omega (arith, replay-version empty_desk b.log legal)
 
 -- ---- a book by its fields
 pub version-fits : (a : Inside) → IsBookKept a → a.state.value.version + 1 < 2 ^ 64
 version-fits a kept =
-    let few : length (book_of a).log < 2 ^ 63 = omega (arith, length-map a.log.items (λ e. e.value), a.log.ok.0, a.log.ok.1, a.log.small) in
+    let few : length (book_of a).log < 2 ^ 63 =
+    omega (arith, length-map a.log.items (λ e. e.value), a.log.ok.0, a.log.ok.1, a.log.small) in
     version_room a.state.value (book_of a).log kept.legal kept.same few
 
 -- an entry of what was judged at its version
-module _ (a : Inside) (kept : IsBookKept a) (b : Book) (view : book_of a ≡ b) (d : Draft) (j : Judged) (version : ℕ) (at : version ≡ a.state.value.version) (e : Entry) (is : IsEntryOf version d j e) where
+module _ (a : Inside) (kept : IsBookKept a) (b : Book) (view : book_of a ≡ b) (d : Draft)
+    (j : Judged) (version : ℕ) (at : version ≡ a.state.value.version) (e : Entry)
+    (is : IsEntryOf version d j e) where
   entry : IsEntryOf a.state.value.version d j e
   entry = subst (λ v. IsEntryOf v d j e) at is
 
   pub enters-said : IsSaid b.desk.version j e.decision
   enters-said = subst (λ (x : Book). IsSaid x.desk.version j e.decision) view entry.2
 
-  pub enters-log : (new : List (Arc Entry Global)) (pushed : Arc Entry Global) → new ≡ a.log.items ++ pushed ∷ [] → pushed.value ≡ e → map (λ x. x.value) new ≡ (logged (book_of a) e).log
+  pub enters-log : (new : List (Arc Entry Global)) (pushed : Arc Entry Global) → new ≡ a.log.items
+      ++ pushed ∷ [] → pushed.value ≡ e → map (λ x. x.value) new ≡ (logged (book_of a) e).log
   enters-log new pushed is same =
-      ap (λ xs. map (λ x. x.value) xs) is ∙ map_push (λ x. x.value) a.log.items pushed ∙ ap (λ v. (book_of a).log ++ v ∷ []) same
+      ap (λ xs. map (λ x. x.value) xs) is ∙ map_push (λ x. x.value) a.log.items pushed
+      ∙ ap (λ v. (book_of a).log ++ v ∷ []) same
 
   module _ (right : IsJudged (applied d.team b.desk.tasks d.changes) j) where
     holds : IsJudged (applied d.team a.state.value.tasks d.changes) j
-    holds = subst (λ (x : Book). IsJudged (applied d.team x.desk.tasks d.changes) j) (sym view) right
+    holds =
+        subst (λ (x : Book). IsJudged (applied d.team x.desk.tasks d.changes) j) (sym view) right
 
     pub enters-next : (place : ℕ) → place ≡ length (book_of a).log + 1 → IsNextEntry b d place e
-    enters-next place last = subst (λ (x : Book). IsNextEntry x d place e) view (entered-next (book_of a) kept.legal kept.same d j holds e entry place last)
+    enters-next place last = subst (λ (x : Book). IsNextEntry x d place e) view
+        (entered-next (book_of a) kept.legal kept.same d j holds e entry place last)
 
-    pub enters-desk : (next : Option MachineState) → IsNextState b.desk (applied d.team b.desk.tasks d.changes) j next → after_next a.state.value next ≡ (logged (book_of a) e).desk
+    pub enters-desk : (next : Option MachineState)
+        → IsNextState b.desk (applied d.team b.desk.tasks d.changes) j next
+        → after_next a.state.value next ≡ (logged (book_of a) e).desk
     enters-desk next to =
         entered-desk (book_of a) kept.legal kept.same d j holds e entry next
-        (subst (λ (x : Book). IsNextState x.desk (applied d.team x.desk.tasks d.changes) j next) (sym view) to)
+        (subst (λ (x : Book). IsNextState x.desk (applied d.team x.desk.tasks d.changes) j next)
+        (sym view) to)
 
-    pub enters-legal : (log : List Entry) → log ≡ (logged (book_of a) e).log → IsLegal empty_desk log
-    enters-legal log same = subst (λ es. IsLegal empty_desk es) (sym same) (entered-kept (book_of a) kept.legal kept.same d j holds e entry).0
+    pub enters-legal : (log : List Entry) → log ≡ (logged (book_of a) e).log
+        → IsLegal empty_desk log
+    enters-legal log same = subst (λ es. IsLegal empty_desk es) (sym same)
+        (entered-kept (book_of a) kept.legal kept.same d j holds e entry).0
 
-    pub enters-replay : (log : List Entry) (desk : MachineState) → log ≡ (logged (book_of a) e).log → desk ≡ (logged (book_of a) e).desk → replay empty_desk log ≡ desk
-    enters-replay log desk same to = ap (λ es. replay empty_desk es) same ∙ (entered-kept (book_of a) kept.legal kept.same d j holds e entry).1 ∙ sym to
+    pub enters-replay : (log : List Entry) (desk : MachineState) → log ≡ (logged (book_of a) e).log
+        → desk ≡ (logged (book_of a) e).desk → replay empty_desk log ≡ desk
+    enters-replay log desk same to = ap (λ es. replay empty_desk es) same
+        ∙ (entered-kept (book_of a) kept.legal kept.same d j holds e entry).1 ∙ sym to
 
-    pub enters-book : (log : List Entry) (desk : MachineState) → log ≡ (logged (book_of a) e).log → desk ≡ (logged (book_of a) e).desk → (let x : Book = record { desk = desk; log = log } in x) ≡ logged b e
-    enters-book log desk same to = (λ i. let x : Book = record { desk = to i; log = same i } in x) ∙ ap (λ (x : Book). logged x e) view
+    pub enters-book : (log : List Entry) (desk : MachineState) → log ≡ (logged (book_of a) e).log
+        → desk ≡ (logged (book_of a) e).desk
+        → (let x : Book = record { desk = desk; log = log } in x) ≡ logged b e
+    enters-book log desk same to = (λ i. let x : Book = record { desk = to i; log = same i } in x)
+        ∙ ap (λ (x : Book). logged x e) view

@@ -1,5 +1,6 @@
 -- What a log was asked determines what it says.
-use Rattle.std.proofs.Common.{◌≡◌, ℕ, inl, inr, not, nat_le, List, [], ◌∷◌, length, Result, Ok, Err, refl, sym, ◌∙◌, ap, subst}
+use Rattle.std.proofs.Common.{◌≡◌, ℕ, inl, inr, not, nat_le, List, [], ◌∷◌, length, Result, Ok, Err}
+use Rattle.std.proofs.Common.{refl, sym, ◌∙◌, ap, subst}
 use Rattle.std.specs.List.{AllByRecursion}
 use Rattle.std.proofs.lemmas.Bool.{cases_Bool}
 use Rattle.std.proofs.lemmas.List.Elements.{All-from_recursion}
@@ -11,8 +12,10 @@ use Rattle.drafts.specs.declared.roster.Owned.{Owned}
 use Rattle.drafts.specs.declared.change.Change.{Change}
 use Rattle.drafts.specs.declared.change.Change.TheVariants.{Put, Remove}
 use Rattle.drafts.specs.declared.change.Refusal.{Refusal}
-use Rattle.drafts.specs.Applied.{set_of, held, is_foreign, is_there, without_name, after_change, then_on, if_few, all_changes, applied}
-use Rattle.drafts.specs.Machine.{MachineState, Ruling, Admitted, Refused, Infeasible, Entry, IsRuling, moved, after_entry, IsLegal}
+use Rattle.drafts.specs.Applied.{set_of, held, is_foreign, is_there, without_name, after_change}
+use Rattle.drafts.specs.Applied.{then_on, if_few, all_changes, applied}
+use Rattle.drafts.specs.Machine.{MachineState, Ruling, Admitted, Refused, Infeasible, Entry}
+use Rattle.drafts.specs.Machine.{IsRuling, moved, after_entry, IsLegal}
 use Rattle.drafts.specs.Commits.{commit_of, commits_of, IsTaskChange, PutTasks}
 use Rattle.drafts.proofs.RosterLaws.{all-placed, set_of-without}
 
@@ -25,13 +28,17 @@ ComeToTasks (Ok ts) = AreTasks ts
 ComeToTasks (Err refusal) = Unit {0}
 
 tasks-without : (name : List ℕ) (ts : List Owned) → AreTasks ts → AreTasks (without_name name ts)
-tasks-without name ts all = subst (AllByRecursion IsTask) (sym (set_of-without name ts)) (passing IsTask (λ x. not (same_bytes x.name name)) (set_of ts) all)
+tasks-without name ts all = subst (AllByRecursion IsTask) (sym (set_of-without name ts))
+    (passing IsTask (λ x. not (same_bytes x.name name)) (set_of ts) all)
 
-tasks-changed : (team : ℕ) (ts : List Owned) (name : List ℕ) (change : Change) → AreTasks ts → IsTaskChange change → ComeToTasks (after_change team ts name change)
-tasks-changed team ts name (Put sheet) all is = elim (cases_Bool (is_foreign team (held sheet.name ts))) [
-  | inl foreign ↦ rw foreign tt
-  | inr own ↦ rw own (all-placed IsTask (record { sheet = sheet; team = team }) (without_name sheet.name ts) is (tasks-without sheet.name ts all))
-]
+tasks-changed : (team : ℕ) (ts : List Owned) (name : List ℕ) (change : Change) → AreTasks ts
+    → IsTaskChange change → ComeToTasks (after_change team ts name change)
+tasks-changed team ts name (Put sheet) all is =
+    elim (cases_Bool (is_foreign team (held sheet.name ts))) [
+      | inl foreign ↦ rw foreign tt
+      | inr own ↦ rw own (all-placed IsTask (record { sheet = sheet; team = team })
+          (without_name sheet.name ts) is (tasks-without sheet.name ts all))
+    ]
 tasks-changed team ts name Remove all is = elim (cases_Bool (is_foreign team (held name ts))) [
   | inl foreign ↦ rw foreign tt
   | inr own ↦ elim (cases_Bool (is_there (held name ts))) [
@@ -40,34 +47,48 @@ tasks-changed team ts name Remove all is = elim (cases_Bool (is_foreign team (he
   ]
 ]
 
-tasks-then : (r : Result (List Owned) Refusal) (f : List Owned → Result (List Owned) Refusal) → ComeToTasks r → ((ts : List Owned) → AreTasks ts → ComeToTasks (f ts)) → ComeToTasks (then_on r f)
+tasks-then : (r : Result (List Owned) Refusal) (f : List Owned → Result (List Owned) Refusal)
+    → ComeToTasks r → ((ts : List Owned) → AreTasks ts → ComeToTasks (f ts))
+    → ComeToTasks (then_on r f)
 tasks-then (Ok ts) f all next = next ts all
 tasks-then (Err refusal) f all next = tt
 
-tasks-all : (team : ℕ) (ts : List Owned) (changes : List (List ℕ × Change)) → AreTasks ts → AllByRecursion (λ c. IsTaskChange c.1) changes → ComeToTasks (all_changes team ts changes)
+tasks-all : (team : ℕ) (ts : List Owned) (changes : List (List ℕ × Change)) → AreTasks ts
+    → AllByRecursion (λ c. IsTaskChange c.1) changes → ComeToTasks (all_changes team ts changes)
 tasks-all team ts [] all are = all
-tasks-all team ts (c ∷ changes) all are = tasks-then (after_change team ts c.0 c.1) (λ next. all_changes team next changes) (tasks-changed team ts c.0 c.1 all are.0) (λ next more. tasks-all team next changes more are.1)
+tasks-all team ts (c ∷ changes) all are =
+    tasks-then (after_change team ts c.0 c.1) (λ next. all_changes team next changes)
+    (tasks-changed team ts c.0 c.1 all are.0) (λ next more. tasks-all team next changes more are.1)
 
 tasks-few : (ts : List Owned) → AreTasks ts → ComeToTasks (if_few ts)
-tasks-few ts all = elim (cases_Bool (nat_le (length ts) 32)) [ inl few ↦ rw few all | inr many ↦ rw many tt ]
+tasks-few ts all = elim (cases_Bool (nat_le (length ts) 32)) [
+  | inl few ↦ rw few all
+  | inr many ↦ rw many tt
+]
 
-tasks-applied : (team : ℕ) (ts : List Owned) (changes : List (List ℕ × Change)) → AreTasks ts → AllByRecursion (λ c. IsTaskChange c.1) changes → ComeToTasks (applied team ts changes)
-tasks-applied team ts changes all are = tasks-then (all_changes team ts changes) if_few (tasks-all team ts changes all are) tasks-few
+tasks-applied : (team : ℕ) (ts : List Owned) (changes : List (List ℕ × Change)) → AreTasks ts
+    → AllByRecursion (λ c. IsTaskChange c.1) changes → ComeToTasks (applied team ts changes)
+tasks-applied team ts changes all are =
+    tasks-then (all_changes team ts changes) if_few (tasks-all team ts changes all are) tasks-few
 
-tasks-moved : (desk : MachineState) (d : Ruling) (outcome : Result (List Owned) Refusal) → AreTasks desk.tasks → ComeToTasks outcome → AreTasks (moved desk d outcome).tasks
+tasks-moved : (desk : MachineState) (d : Ruling) (outcome : Result (List Owned) Refusal)
+    → AreTasks desk.tasks → ComeToTasks outcome → AreTasks (moved desk d outcome).tasks
 tasks-moved desk (Admitted version) (Ok ts) all come = come
 tasks-moved desk (Admitted version) (Err refusal) all come = all
 tasks-moved desk (Refused refusal) outcome all come = all
 tasks-moved desk (Infeasible o) outcome all come = all
 
 -- ---- one answer
-answer-one : (version : ℕ) (outcome : Result (List Owned) Refusal) (d e : Ruling) → ComeToTasks outcome → IsRuling version outcome d → IsRuling version outcome e → d ≡ e
-answer-one version (Err refusal) (Refused told) (Refused again) come a b = ap (λ r. Refused r) (a ∙ sym b)
+answer-one : (version : ℕ) (outcome : Result (List Owned) Refusal) (d e : Ruling)
+    → ComeToTasks outcome → IsRuling version outcome d → IsRuling version outcome e → d ≡ e
+answer-one version (Err refusal) (Refused told) (Refused again) come a b =
+    ap (λ r. Refused r) (a ∙ sym b)
 answer-one version (Err refusal) (Refused told) (Admitted again) come a b = absurd b
 answer-one version (Err refusal) (Refused told) (Infeasible again) come a b = absurd b
 answer-one version (Err refusal) (Admitted told) e come a b = absurd a
 answer-one version (Err refusal) (Infeasible told) e come a b = absurd a
-answer-one version (Ok ts) (Admitted told) (Admitted again) come a b = ap (λ n. Admitted n) (a.1 ∙ sym b.1)
+answer-one version (Ok ts) (Admitted told) (Admitted again) come a b =
+    ap (λ n. Admitted n) (a.1 ∙ sym b.1)
 answer-one version (Ok ts) (Admitted told) (Infeasible again) come a b = absurd (b.0 a.0)
 answer-one version (Ok ts) (Admitted told) (Refused again) come a b = absurd b
 answer-one version (Ok ts) (Refused told) e come a b = absurd a
@@ -75,13 +96,16 @@ answer-one version (Ok ts) (Infeasible told) (Admitted again) come a b = absurd 
 answer-one version (Ok ts) (Infeasible told) (Refused again) come a b = absurd b
 answer-one version (Ok ts) (Infeasible told) (Infeasible again) come a b =
     let one : verdict.Infeasible told.members ≡ verdict.Infeasible again.members =
-    IsVerdictOf-one (set_of ts) (All-from_recursion IsTask (set_of ts) come) (verdict.Infeasible told.members) (verdict.Infeasible again.members) a.2 b.2 in
+    IsVerdictOf-one (set_of ts) (All-from_recursion IsTask (set_of ts) come)
+    (verdict.Infeasible told.members) (verdict.Infeasible again.members) a.2 b.2 in
     let members : told.members ≡ again.members = cc in
     let sets = a.1 ∙ sym b.1 in
     λ i. Infeasible (record { set = sets i; members = members i })
 
 -- ---- one log
-pub log-one : (desk : MachineState) (first second : List Entry) → AreTasks desk.tasks → PutTasks first → commits_of first ≡ commits_of second → IsLegal desk first → IsLegal desk second → first ≡ second
+pub log-one : (desk : MachineState) (first second : List Entry) → AreTasks desk.tasks
+    → PutTasks first → commits_of first ≡ commits_of second → IsLegal desk first
+    → IsLegal desk second → first ≡ second
 log-one desk [] [] all puts same a b = refl
 log-one desk [] (e ∷ second) all puts same a b = cc
 log-one desk (d ∷ first) [] all puts same a b = cc
@@ -90,8 +114,13 @@ log-one desk (d ∷ first) (e ∷ second) all puts same a b =
     let tails : commits_of first ≡ commits_of second = cc in
     let outcome = applied d.team desk.tasks d.changes in
     let come = tasks-applied d.team desk.tasks d.changes all puts.0 in
-    let as_first = subst (λ (c : ℕ × List (List ℕ × Change)). IsRuling desk.version (applied c.0 desk.tasks c.1) e.decision) (sym heads) b.0 in
-    let decisions : d.decision ≡ e.decision = answer-one desk.version outcome d.decision e.decision come a.0 as_first in
-    let entries : d ≡ e = λ i. record { team = (heads i).0; changes = (heads i).1; decision = decisions i } in
-    let rest = log-one (after_entry desk d) first second (tasks-moved desk d.decision outcome all come) puts.1 tails a.1 (subst (λ x. IsLegal (after_entry desk x) second) (sym entries) b.1) in
+    let as_first = subst (λ (c : ℕ × List (List ℕ × Change)). IsRuling desk.version
+    (applied c.0 desk.tasks c.1) e.decision) (sym heads) b.0 in
+    let decisions : d.decision ≡ e.decision =
+    answer-one desk.version outcome d.decision e.decision come a.0 as_first in
+    let entries : d ≡ e =
+    λ i. record { team = (heads i).0; changes = (heads i).1; decision = decisions i } in
+    let rest =
+    log-one (after_entry desk d) first second (tasks-moved desk d.decision outcome all come)
+    puts.1 tails a.1 (subst (λ x. IsLegal (after_entry desk x) second) (sym entries) b.1) in
     λ i. entries i ∷ rest i

@@ -1,5 +1,6 @@
 -- Two rosters that hold the same under each name are one list.
-use Rattle.std.proofs.Common.{◌≡◌, ℕ, inl, inr, true, false, List, [], ◌∷◌, Some, None, Less, Equal, refl, sym, ◌∙◌, ap, subst}
+use Rattle.std.proofs.Common.{◌≡◌, ℕ, inl, inr, true, false, List, [], ◌∷◌, Some, None, Less, Equal}
+use Rattle.std.proofs.Common.{refl, sym, ◌∙◌, ap, subst}
 use Rattle.std.specs.List.{AllByRecursion}
 use Rattle.std.specs.List.Sorted.{IsStrictlySortedBy}
 use Rattle.std.specs.Ordering.{is_lt}
@@ -16,23 +17,28 @@ use Rattle.drafts.specs.Rosters.{IsRoster}
 use Rattle.drafts.proofs.RosterLaws.{less, beyond}
 
 -- what each has, the one that is held has
-of_held : (P : Task → Type 0) (n : List ℕ) (ts : List Owned) (z : Owned) → AllByRecursion P (set_of ts) → held n ts ≡ Some z → P z.sheet
+of_held : (P : Task → Type 0) (n : List ℕ) (ts : List Owned) (z : Owned)
+    → AllByRecursion P (set_of ts) → held n ts ≡ Some z → P z.sheet
 of_held P n [] z all is = cc
 of_held P n (x ∷ ts) z all is = elim (cases_Bool (bears_name n x)) [
-  | inl here ↦ let found : Some x ≡ Some z = (rw here at is) in let e : x ≡ z = cc in subst (λ (o : Owned). P o.sheet) e all.0
+  | inl here ↦ let found : Some x ≡ Some z = (rw here at is) in let e : x ≡ z = cc in
+      subst (λ (o : Owned). P o.sheet) e all.0
   | inr away ↦ of_held P n ts z all.1 (rw away at is)
 ]
 
 -- none of a name that none has
-pub none_held : (n : List ℕ) (x : Owned) (ts : List Owned) → bears_name n x ≡ true → AllByRecursion (λ y. same_name x.sheet y ≡ false) (set_of ts) → held n ts ≡ None
+pub none_held : (n : List ℕ) (x : Owned) (ts : List Owned) → bears_name n x ≡ true
+    → AllByRecursion (λ y. same_name x.sheet y ≡ false) (set_of ts) → held n ts ≡ None
 none_held n x [] named apart = refl
 none_held n x (y ∷ ts) named apart =
     let e : x.sheet.name ≡ n = (bytes_eq-Decides x.sheet.name n).0 named in
-    let away : bears_name n y ≡ false = ap (λ m. same_bytes y.sheet.name m) (sym e) ∙ same_turned y.sheet x.sheet ∙ apart.0 in
+    let away : bears_name n y ≡ false = ap (λ m. same_bytes y.sheet.name m) (sym e)
+    ∙ same_turned y.sheet x.sheet ∙ apart.0 in
     rw away (none_held n x ts named apart.1)
 
 -- what is held under its name isn't before all
-not_before_all : (x : Owned) (n : List ℕ) (ts : List Owned) → held n ts ≡ Some x → AllByRecursion (λ z. rank_cmp x.sheet z ≡ Less) (set_of ts) → ⊥
+not_before_all : (x : Owned) (n : List ℕ) (ts : List Owned) → held n ts ≡ Some x
+    → AllByRecursion (λ z. rank_cmp x.sheet z ≡ Less) (set_of ts) → ⊥
 not_before_all x n ts is all =
     let before = of_held (λ z. rank_cmp x.sheet z ≡ Less) n ts x all is in
     let tied : rank_cmp x.sheet x.sheet ≡ Equal = tied_itself rank_total x.sheet in
@@ -41,7 +47,9 @@ not_before_all x n ts is all =
 own_name : (x : Owned) → bears_name x.sheet.name x ≡ true
 own_name x = (bytes_eq-Decides x.sheet.name x.sheet.name).1 refl
 
-one_head : (x y : Owned) (xs ys : List Owned) → IsStrictlySortedBy rank_cmp (set_of (x ∷ xs)) → IsStrictlySortedBy rank_cmp (set_of (y ∷ ys)) → ((n : List ℕ) → held n (x ∷ xs) ≡ held n (y ∷ ys)) → x ≡ y
+one_head : (x y : Owned) (xs ys : List Owned) → IsStrictlySortedBy rank_cmp (set_of (x ∷ xs))
+    → IsStrictlySortedBy rank_cmp (set_of (y ∷ ys))
+    → ((n : List ℕ) → held n (x ∷ xs) ≡ held n (y ∷ ys)) → x ≡ y
 unfolding IsStrictlySortedBy
 one_head x y xs ys a b same =
     let here : held x.sheet.name (x ∷ xs) ≡ Some x = rw (own_name x) refl in
@@ -53,32 +61,42 @@ one_head x y xs ys a b same =
       | inr away ↦ elim (cases_Bool (is_lt (rank_cmp x.sheet y.sheet))) [
         | inl lt ↦
             let before = less (rank_cmp x.sheet y.sheet) lt in
-            absurd (not_before_all x x.sheet.name (y ∷ ys) first (before, beyond x.sheet y.sheet (set_of ys) before b.0))
+            absurd (not_before_all x x.sheet.name (y ∷ ys) first
+            (before, beyond x.sheet y.sheet (set_of ys) before b.0))
         | inr ge ↦
             let before = below y.sheet x.sheet ge away in
-            absurd (not_before_all y y.sheet.name (x ∷ xs) second (before, beyond y.sheet x.sheet (set_of xs) before a.0))
+            absurd (not_before_all y y.sheet.name (x ∷ xs) second
+            (before, beyond y.sheet x.sheet (set_of xs) before a.0))
       ]
     ]
 
-one_tail : (x : Owned) (xs ys : List Owned) → AllByRecursion (λ z. same_name x.sheet z ≡ false) (set_of xs) → AllByRecursion (λ z. same_name x.sheet z ≡ false) (set_of ys)
+one_tail : (x : Owned) (xs ys : List Owned) → AllByRecursion (λ z. same_name x.sheet z ≡ false)
+    (set_of xs) → AllByRecursion (λ z. same_name x.sheet z ≡ false) (set_of ys)
     → ((n : List ℕ) → held n (x ∷ xs) ≡ held n (x ∷ ys)) → (n : List ℕ) → held n xs ≡ held n ys
 one_tail x xs ys a b same n = elim (cases_Bool (bears_name n x)) [
   | inl here ↦ none_held n x xs here a ∙ sym (none_held n x ys here b)
   | inr away ↦ (rw away at (same n))
 ]
 
-one : (xs ys : List Owned) → IsStrictlySortedBy rank_cmp (set_of xs) → IsStrictlySortedBy rank_cmp (set_of ys) → AreDistinct same_name (set_of xs) → AreDistinct same_name (set_of ys)
+one : (xs ys : List Owned) → IsStrictlySortedBy rank_cmp (set_of xs) → IsStrictlySortedBy rank_cmp
+    (set_of ys) → AreDistinct same_name (set_of xs) → AreDistinct same_name (set_of ys)
     → ((n : List ℕ) → held n xs ≡ held n ys) → xs ≡ ys
 unfolding IsStrictlySortedBy
 one [] [] a b c d same = refl
-one [] (y ∷ ys) a b c d same = let found : None ≡ Some y = same y.sheet.name ∙ rw (own_name y) refl in cc
-one (x ∷ xs) [] a b c d same = let found : Some x ≡ None = (rw (own_name x) at (same x.sheet.name)) in cc
+one [] (y ∷ ys) a b c d same = let found : None ≡ Some y = same y.sheet.name
+    ∙ rw (own_name y) refl in cc
+one (x ∷ xs) [] a b c d same = let found : Some x ≡ None =
+    (rw (own_name x) at (same x.sheet.name)) in cc
 one (x ∷ xs) (y ∷ ys) a b c d same =
     let heads = one_head x y xs ys a b same in
-    let apart : AllByRecursion (λ z. same_name x.sheet z ≡ false) (set_of ys) = subst (λ (o : Owned). AllByRecursion (λ z. same_name o.sheet z ≡ false) (set_of ys)) (sym heads) d.0 in
-    let rest : (n : List ℕ) → held n (x ∷ xs) ≡ held n (x ∷ ys) = λ n. same n ∙ ap (λ o. held n (o ∷ ys)) (sym heads) in
+    let apart : AllByRecursion (λ z. same_name x.sheet z ≡ false) (set_of ys) =
+    subst (λ (o : Owned). AllByRecursion (λ z. same_name o.sheet z ≡ false) (set_of ys))
+    (sym heads) d.0 in
+    let rest : (n : List ℕ) → held n (x ∷ xs) ≡ held n (x ∷ ys) = λ n. same n
+    ∙ ap (λ o. held n (o ∷ ys)) (sym heads) in
     let tails = one xs ys a.1 b.1 c.1 d.1 (one_tail x xs ys c.0 apart rest) in
     λ i. heads i ∷ tails i
 
-pub reached : (first second : List Owned) → IsRoster first → IsRoster second → ((n : List ℕ) → held n first ≡ held n second) → first ≡ second
+pub reached : (first second : List Owned) → IsRoster first → IsRoster second
+    → ((n : List ℕ) → held n first ≡ held n second) → first ≡ second
 reached first second a b same = one first second a.ranked b.ranked a.distinct b.distinct same

@@ -1,5 +1,8 @@
 -- Changes keep a roster by rank, with valid sheets and distinct names; so its sheets are a set.
-use Rattle.std.proofs.Common.{◌≡◌, ℕ, zero, suc, ◌+◌, ◌≤◌, inl, inr, Bool, true, false, not, nat_lt, nat_le, List, [], ◌∷◌, ◌++◌, length, insert, position, drop, slice_get, Some, None, Ok, Err, Ordering, Less, Equal, Greater, refl, sym, ◌∙◌, ap, subst, add-one, arith}
+use Rattle.std.proofs.Common.{◌≡◌, ℕ, zero, suc, ◌+◌, ◌≤◌, inl, inr, Bool, true, false, not, nat_lt}
+use Rattle.std.proofs.Common.{nat_le, List, [], ◌∷◌, ◌++◌, length, insert, position, drop}
+use Rattle.std.proofs.Common.{slice_get, Some, None, Ok, Err, Ordering, Less, Equal, Greater, refl}
+use Rattle.std.proofs.Common.{sym, ◌∙◌, ap, subst, add-one, arith}
 use Rattle.std.specs.List.{AllByRecursion, list_any, position_or_len}
 use Rattle.std.specs.List.Sorted.{IsStrictlySortedBy}
 use Rattle.std.specs.Ordering.{is_lt}
@@ -20,13 +23,15 @@ use Rattle.task_sheet.proofs.Unique.{sorted_unique}
 use Rattle.drafts.specs.declared.roster.Owned.{Owned}
 use Rattle.drafts.specs.declared.change.Change.{Change}
 use Rattle.drafts.specs.declared.change.Refusal.{Refusal}
-use Rattle.drafts.specs.Applied.{set_of, teams_of, owned_of, without_name, placed, with_task, after_change, then_on, all_changes, if_few}
+use Rattle.drafts.specs.Applied.{set_of, teams_of, owned_of, without_name, placed, with_task}
+use Rattle.drafts.specs.Applied.{after_change, then_on, all_changes, if_few}
 use Rattle.drafts.specs.Rosters.{IsRoster}
 use Rattle.drafts.proofs.OwnedFinds.{position-some, position-none}
 
 -- ---- a task that is put in
 
-pub all-placed : (P : Task → Type 0) (o : Owned) (ts : List Owned) → P o.sheet → AllByRecursion P (set_of ts) → AllByRecursion P (set_of (placed o ts))
+pub all-placed : (P : Task → Type 0) (o : Owned) (ts : List Owned) → P o.sheet
+    → AllByRecursion P (set_of ts) → AllByRecursion P (set_of (placed o ts))
 all-placed P o [] h all = (h, tt)
 all-placed P o (x ∷ ts) h all = elim (cases_Bool (is_lt (rank_cmp x.sheet o.sheet))) [
   | inl lt ↦ rw lt (all.0, all-placed P o ts h all.1)
@@ -38,52 +43,71 @@ less Less e = refl
 less Equal e = absurd (both_ways false refl e)
 less Greater e = absurd (both_ways false refl e)
 
-pub beyond : (x y : Task) (zs : List Task) → rank_cmp x y ≡ Less → AllByRecursion (λ z. rank_cmp y z ≡ Less) zs → AllByRecursion (λ z. rank_cmp x z ≡ Less) zs
+pub beyond : (x y : Task) (zs : List Task) → rank_cmp x y ≡ Less
+    → AllByRecursion (λ z. rank_cmp y z ≡ Less) zs → AllByRecursion (λ z. rank_cmp x z ≡ Less) zs
 beyond x y [] e all = tt
 beyond x y (z ∷ zs) e all = (rank_total.trans x y z e all.0, beyond x y zs e all.1)
 
-ranked-placed : (o : Owned) (ts : List Owned) → IsStrictlySortedBy rank_cmp (set_of ts) → AllByRecursion (λ y. same_name o.sheet y ≡ false) (set_of ts) → IsStrictlySortedBy rank_cmp (set_of (placed o ts))
+ranked-placed : (o : Owned) (ts : List Owned) → IsStrictlySortedBy rank_cmp (set_of ts)
+    → AllByRecursion (λ y. same_name o.sheet y ≡ false) (set_of ts)
+    → IsStrictlySortedBy rank_cmp (set_of (placed o ts))
 unfolding IsStrictlySortedBy
 ranked-placed o [] up apart = (tt, tt)
 ranked-placed o (x ∷ ts) up apart = elim (cases_Bool (is_lt (rank_cmp x.sheet o.sheet))) [
-  | inl lt ↦ rw lt (all-placed (λ y. rank_cmp x.sheet y ≡ Less) o ts (less (rank_cmp x.sheet o.sheet) lt) up.0, ranked-placed o ts up.1 apart.1)
-  | inr ge ↦ let first = below o.sheet x.sheet ge apart.0 in rw ge ((first, beyond o.sheet x.sheet (set_of ts) first up.0), up)
+  | inl lt ↦ rw lt (
+    all-placed (λ y. rank_cmp x.sheet y ≡ Less) o ts
+        (less (rank_cmp x.sheet o.sheet) lt) up.0,
+    ranked-placed o ts up.1 apart.1,
+  )
+  | inr ge ↦ let first = below o.sheet x.sheet ge apart.0 in
+      rw ge ((first, beyond o.sheet x.sheet (set_of ts) first up.0), up)
 ]
 
-distinct-placed : (o : Owned) (ts : List Owned) → AreDistinct same_name (set_of ts) → AllByRecursion (λ y. same_name o.sheet y ≡ false) (set_of ts) → AreDistinct same_name (set_of (placed o ts))
+distinct-placed : (o : Owned) (ts : List Owned) → AreDistinct same_name (set_of ts) → AllByRecursion
+    (λ y. same_name o.sheet y ≡ false) (set_of ts) → AreDistinct same_name (set_of (placed o ts))
 distinct-placed o [] names apart = (tt, tt)
 distinct-placed o (x ∷ ts) names apart = elim (cases_Bool (is_lt (rank_cmp x.sheet o.sheet))) [
-  | inl lt ↦ rw lt (all-placed (λ y. same_name x.sheet y ≡ false) o ts (same_turned x.sheet o.sheet ∙ apart.0) names.0, distinct-placed o ts names.1 apart.1)
+  | inl lt ↦ rw lt (
+    all-placed (λ y. same_name x.sheet y ≡ false) o ts
+        (same_turned x.sheet o.sheet ∙ apart.0) names.0,
+    distinct-placed o ts names.1 apart.1,
+  )
   | inr ge ↦ rw ge (apart, names)
 ]
 
 -- ---- tasks without a name
 
-pub set_of-without : (name : List ℕ) (ts : List Owned) → set_of (without_name name ts) ≡ others_of (set_of ts) name
+pub set_of-without : (name : List ℕ) (ts : List Owned)
+    → set_of (without_name name ts) ≡ others_of (set_of ts) name
 set_of-without name [] = refl
 set_of-without name (x ∷ ts) = elim (cases_Bool (same_bytes x.sheet.name name)) [
   | inl here ↦ rw here (set_of-without name ts)
   | inr away ↦ rw away (ap (λ ss. x.sheet ∷ ss) (set_of-without name ts))
 ]
 
-apart-without : (s : Task) (ts : List Owned) → AllByRecursion (λ y. same_name s y ≡ false) (set_of (without_name s.name ts))
+apart-without : (s : Task) (ts : List Owned)
+    → AllByRecursion (λ y. same_name s y ≡ false) (set_of (without_name s.name ts))
 apart-without s [] = tt
 apart-without s (x ∷ ts) = elim (cases_Bool (same_bytes x.sheet.name s.name)) [
   | inl here ↦ rw here (apart-without s ts)
   | inr away ↦ rw away (same_turned s x.sheet ∙ away, apart-without s ts)
 ]
 
-pub roster-without : (name : List ℕ) (ts : List Owned) → IsRoster ts → IsRoster (without_name name ts)
+pub roster-without : (name : List ℕ) (ts : List Owned) → IsRoster ts
+    → IsRoster (without_name name ts)
 roster-without name ts roster =
     let p : Task → Bool = λ x. not (same_bytes x.name name) in
     let e = sym (set_of-without name ts) in
     record {
-      valid = subst (AllByRecursion IsValidSheet) e (passing IsValidSheet p (set_of ts) roster.valid);
-      ranked = subst (IsStrictlySortedBy rank_cmp) e (IsStrictlySortedBy-filter rank_cmp p (set_of ts) roster.ranked);
+      valid =
+          subst (AllByRecursion IsValidSheet) e (passing IsValidSheet p (set_of ts) roster.valid);
+      ranked = subst (IsStrictlySortedBy rank_cmp) e
+          (IsStrictlySortedBy-filter rank_cmp p (set_of ts) roster.ranked);
       distinct = subst (AreDistinct same_name) e (distinct_less p (set_of ts) roster.distinct);
     }
 
-pub roster-with : (o : Owned) (ts : List Owned) → IsValidSheet o.sheet → IsRoster ts → IsRoster (with_task o.sheet.name o ts)
+pub roster-with : (o : Owned) (ts : List Owned) → IsValidSheet o.sheet → IsRoster ts
+    → IsRoster (with_task o.sheet.name o ts)
 roster-with o ts valid roster =
     let others = without_name o.sheet.name ts in
     let kept = roster-without o.sheet.name ts roster in
@@ -96,7 +120,8 @@ roster-with o ts valid roster =
 
 -- ---- where a task goes
 
-place_first : (o : Owned) (ts : List Owned) → insert ts (position_or_len (λ x. not (is_lt (rank_cmp x.sheet o.sheet))) ts) o ≡ placed o ts
+place_first : (o : Owned) (ts : List Owned)
+    → insert ts (position_or_len (λ x. not (is_lt (rank_cmp x.sheet o.sheet))) ts) o ≡ placed o ts
 place_first o [] = refl
 place_first o (x ∷ ts) = elim (cases_Bool (is_lt (rank_cmp x.sheet o.sheet))) [
   | inl lt ↦
@@ -106,25 +131,38 @@ place_first o (x ∷ ts) = elim (cases_Bool (is_lt (rank_cmp x.sheet o.sheet))) 
   | inr ge ↦ rw ge refl
 ]
 
-pub place-some : (o : Owned) (ts : List Owned) (i : ℕ) → position (λ x. not (is_lt (rank_cmp x.sheet o.sheet))) ts ≡ Some i → insert ts i o ≡ placed o ts
-place-some o ts i is = ap (λ k. insert ts k o) (sym (position-some (λ x. not (is_lt (rank_cmp x.sheet o.sheet))) ts i is).0) ∙ place_first o ts
+pub place-some : (o : Owned) (ts : List Owned) (i : ℕ) → position
+    (λ x. not (is_lt (rank_cmp x.sheet o.sheet))) ts ≡ Some i → insert ts i o ≡ placed o ts
+place-some o ts i is = ap (λ k. insert ts k o)
+    (sym (position-some (λ x. not (is_lt (rank_cmp x.sheet o.sheet))) ts i is).0) ∙ place_first o ts
 
-pub place-none : (o : Owned) (ts : List Owned) → position (λ x. not (is_lt (rank_cmp x.sheet o.sheet))) ts ≡ None → insert ts (length ts) o ≡ placed o ts
+pub place-none : (o : Owned) (ts : List Owned) → position
+    (λ x. not (is_lt (rank_cmp x.sheet o.sheet))) ts ≡ None → insert ts (length ts) o ≡ placed o ts
 place-none o ts is =
     let p : Owned → Bool = λ x. not (is_lt (rank_cmp x.sheet o.sheet)) in
-    let same : length ts ≡ position_or_len p ts = omega (arith, position-none p ts is, prefix_len-le-length (λ x. not (p x)) ts) in
+    let same : length ts ≡ position_or_len p ts =
+    omega (arith, position-none p ts is, prefix_len-le-length (λ x. not (p x)) ts) in
     ap (λ k. insert ts k o) same ∙ place_first o ts
 
 -- ---- the set of a roster
 
-unseen-more : (seen : List Task) (x : Task) (xs : List Task) → AllByRecursion (λ z. list_any (λ y. same_name y z) seen ≡ false) xs → AllByRecursion (λ z. same_name x z ≡ false) xs
+unseen-more : (seen : List Task) (x : Task) (xs : List Task)
+    → AllByRecursion (λ z. list_any (λ y. same_name y z) seen ≡ false) xs
+    → AllByRecursion (λ z. same_name x z ≡ false) xs
     → AllByRecursion (λ z. list_any (λ y. same_name y z) (seen ++ x ∷ []) ≡ false) xs
 unseen-more seen x [] old new = tt
-unseen-more seen x (z ∷ xs) old new = (list_any-append (λ y. same_name y z) seen (x ∷ []) ∙ rw (old.0, new.0) refl, unseen-more seen x xs old.1 new.1)
+unseen-more seen x (z ∷ xs) old new = (
+  list_any-append (λ y. same_name y z) seen (x ∷ [])
+      ∙ rw (old.0, new.0) refl,
+  unseen-more seen x xs old.1 new.1,
+)
 
-no_repeat : (seen : List Task) (place : ℕ) (xs : List Task) → AllByRecursion (λ z. list_any (λ y. same_name y z) seen ≡ false) xs → AreDistinct same_name xs → first_repeat seen place xs ≡ None
+no_repeat : (seen : List Task) (place : ℕ) (xs : List Task)
+    → AllByRecursion (λ z. list_any (λ y. same_name y z) seen ≡ false) xs → AreDistinct same_name xs
+    → first_repeat seen place xs ≡ None
 no_repeat seen place [] old names = refl
-no_repeat seen place (x ∷ xs) old names = rw (old.0) (no_repeat (seen ++ x ∷ []) (place + 1) xs (unseen-more seen x xs old.1 names.0) names.1)
+no_repeat seen place (x ∷ xs) old names = rw (old.0)
+    (no_repeat (seen ++ x ∷ []) (place + 1) xs (unseen-more seen x xs old.1 names.0) names.1)
 
 none_seen : (xs : List Task) → AllByRecursion (λ z. list_any (λ y. same_name y z) [] ≡ false) xs
 none_seen [] = tt
@@ -133,16 +171,22 @@ none_seen (x ∷ xs) = (refl, none_seen xs)
 -- the sheets of a few tasks are not refused
 pub roster-fits : (ts : List Owned) → IsRoster ts → length ts ≤ 32 → sheets_fault (set_of ts) ≡ None
 roster-fits ts roster few =
-    let room : nat_lt 32 (length (set_of ts)) ≡ false = let e = length-map ts (λ o. o.sheet) in grind (arith, nat_tests) in
+    let room : nat_lt 32 (length (set_of ts)) ≡ false = let e = length-map ts (λ o. o.sheet) in
+    grind (arith, nat_tests) in
     rw (no_repeat [] 1 (set_of ts) (none_seen (set_of ts)) roster.distinct, room) refl
 
 -- and the set of sheets that are by rank is the list of them
 pub ranked-set : (ss us : List Task) → IsStrictlySortedBy rank_cmp ss → IsByRank ss us → us ≡ ss
-ranked-set ss us ranked by = sorted_unique rank_total us ss by.ranked ranked (IsPermutation-sym ss us by.permutation)
+ranked-set ss us ranked by =
+    sorted_unique rank_total us ss by.ranked ranked (IsPermutation-sym ss us by.permutation)
 
 -- a set with teams is a roster
 pub roster-of_set : (ts : List Owned) → IsTaskSet (set_of ts) → IsRoster ts
-roster-of_set ts set = record { valid = recursion_from_All IsValidSheet (set_of ts) set.valid; ranked = set.ranked; distinct = set.distinct }
+roster-of_set ts set = record {
+  valid = recursion_from_All IsValidSheet (set_of ts) set.valid;
+  ranked = set.ranked;
+  distinct = set.distinct;
+}
 
 -- ---- sheets and teams apart
 
@@ -153,26 +197,36 @@ owned_of-parts (x ∷ ts) = ap (λ xs. x ∷ xs) (owned_of-parts ts)
 -- tasks are the same where their sheets and their teams are
 pub same-tasks : (xs ys : List Owned) → set_of xs ≡ set_of ys → teams_of xs ≡ teams_of ys → xs ≡ ys
 same-tasks xs ys set teams =
-    sym (owned_of-parts xs) ∙ ap (λ U. owned_of U (teams_of xs)) set ∙ ap (owned_of (set_of ys)) teams ∙ owned_of-parts ys
+    sym (owned_of-parts xs) ∙ ap (λ U. owned_of U (teams_of xs)) set
+    ∙ ap (owned_of (set_of ys)) teams ∙ owned_of-parts ys
 
 pub few-tasks : (ts : List Owned) → length ts ≤ 32 → if_few ts ≡ Ok ts
-few-tasks ts few = let test : nat_le (length ts) 32 ≡ true = grind (arith, nat_tests) in rw test refl
+few-tasks ts few = let test : nat_le (length ts) 32 ≡ true = grind (arith, nat_tests) in
+    rw test refl
 
 -- ---- changes, one after the other
 
-pub drop-at : {X : Type 0} (xs : List X) (i : ℕ) (x : X) → slice_get xs i ≡ Some x → drop i xs ≡ x ∷ drop (suc i) xs
+pub drop-at : {X : Type 0} (xs : List X) (i : ℕ) (x : X) → slice_get xs i ≡ Some x
+    → drop i xs ≡ x ∷ drop (suc i) xs
 drop-at [] i x at = cc
 drop-at (y ∷ xs) zero x at = let e : y ≡ x = cc in ap (λ z. z ∷ xs) e
 drop-at (y ∷ xs) (suc i) x at = drop-at xs i x at
 
 -- the next change is made
-pub next-made : (team : ℕ) (tasks next : List Owned) (changes : List (List ℕ × Change)) (i : ℕ) (name : List ℕ) (change : Change) → slice_get changes i ≡ Some (name, change) → after_change team tasks name change ≡ Ok next
+pub next-made : (team : ℕ) (tasks next : List Owned) (changes : List (List ℕ × Change)) (i : ℕ)
+    (name : List ℕ) (change : Change) → slice_get changes i ≡ Some (name, change)
+    → after_change team tasks name change ≡ Ok next
     → all_changes team tasks (drop i changes) ≡ all_changes team next (drop (i + 1) changes)
 next-made team tasks next changes i name change at made =
-    ap (λ cs. all_changes team tasks cs) (drop-at changes i (name, change) at) ∙ ap (λ r. then_on r (λ ts. all_changes team ts (drop (suc i) changes))) made ∙ ap (λ n. all_changes team next (drop n changes)) (sym (add-one i))
+    ap (λ cs. all_changes team tasks cs) (drop-at changes i (name, change) at)
+    ∙ ap (λ r. then_on r (λ ts. all_changes team ts (drop (suc i) changes))) made
+    ∙ ap (λ n. all_changes team next (drop n changes)) (sym (add-one i))
 
 -- or it is refused
-pub next-refused : (team : ℕ) (tasks : List Owned) (refusal : Refusal) (changes : List (List ℕ × Change)) (i : ℕ) (name : List ℕ) (change : Change) → slice_get changes i ≡ Some (name, change) → after_change team tasks name change ≡ Err refusal
+pub next-refused : (team : ℕ) (tasks : List Owned) (refusal : Refusal)
+    (changes : List (List ℕ × Change)) (i : ℕ) (name : List ℕ) (change : Change)
+    → slice_get changes i ≡ Some (name, change) → after_change team tasks name change ≡ Err refusal
     → all_changes team tasks (drop i changes) ≡ Err refusal
 next-refused team tasks refusal changes i name change at made =
-    ap (λ cs. all_changes team tasks cs) (drop-at changes i (name, change) at) ∙ ap (λ r. then_on r (λ ts. all_changes team ts (drop (suc i) changes))) made
+    ap (λ cs. all_changes team tasks cs) (drop-at changes i (name, change) at)
+    ∙ ap (λ r. then_on r (λ ts. all_changes team ts (drop (suc i) changes))) made

@@ -101,7 +101,7 @@ after_remove d name =
     else (if is_full name d.changes then Err DraftFull
     else Ok (recorded name Remove d.changes))))
 
--- want of memory, or the refusal that the edit comes to
+-- out of memory, or the refusal that the edit comes to
 abbrev pub IsEditFault : Result (List (List ℕ × Change)) EditRefusal → EditCause → Type 0
 IsEditFault outcome OutOfMemory = Unit {0}
 IsEditFault outcome (Refused refusal) = outcome ≡ Err refusal

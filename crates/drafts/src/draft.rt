@@ -82,7 +82,7 @@ fn is_put(change: &Change) -> bool
     }
 }
 
-// Puts a change in the place of the one on its name, or last. Where memory is wanting, the change is handed back.
+// Puts a change in the place of the one on its name, or last. Where memory runs out, the change is handed back.
 fn record(changes: &mut IndexMap<Name, Change>, name: Name, change: Change) -> Result<(), Change>
     ensures ok { OnOk result (changes.new.entries ≡ recorded name change changes.old.entries) }
     ensures few { is_full name changes.old.entries ≡ false

@@ -32,7 +32,7 @@ impl Model for Proposal {
     ghost invariant = { λ p. IsProposal (record { draft = p.draft; judged = p.judged }) };
 }
 
-/// Memory was wanting; the draft is handed back.
+/// Memory ran out; the draft is handed back.
 #[derive(Drop)]
 pub struct ProposeFault {
     pub draft: Draft,

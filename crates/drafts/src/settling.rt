@@ -38,7 +38,7 @@ pub enum SettleFault {
     OutOfMemory { proposal: Proposal },
 }
 
-/// Memory was wanting; the draft is handed back.
+/// Memory ran out; the draft is handed back.
 #[derive(Drop)]
 pub struct HeldFault {
     pub draft: Draft,

@@ -1,5 +1,6 @@
 -- Of an admitted set no job is late in the row of its task.
-use Rattle.std.proofs.Common.{◌≡◌, ◌∙◌, ℕ, ◌<◌, ◌≤◌, refl, sym, ap, subst, arith, All, true, false, List, [], ◌∷◌, length, Option, Some, None}
+use Rattle.std.proofs.Common.{◌≡◌, ◌∙◌, ℕ, ◌<◌, ◌≤◌, refl, sym, ap, subst, arith, All, true, false}
+use Rattle.std.proofs.Common.{List, [], ◌∷◌, length, Option, Some, None}
 use Rattle.std.proofs.lemmas.List.Elements.{All-from_get_or, All-nil, All-push}
 use Rattle.std.proofs.lemmas.List.Quantifiers.{position-Some}
 use Rattle.task_sheet.specs.Sheet.{Task, same_bytes, task_at}
@@ -27,7 +28,8 @@ use Rattle.drawn_runs.specs.Rows.{drawn_row, rows_of}
 use Rattle.drawn_runs.proofs.ListLaws.{kept_none}
 use Rattle.drawn_runs.proofs.RunLaws.{arrives, jobs_are, not_late}
 
-module _ (U : List Task) (places : List PlaceData) (rs : List Release) (until : ℕ) (trace : Trace) (rows : List TaskRow) (v : View) (run : IsBestRun U places rs until trace rows) where
+module _ (U : List Task) (places : List PlaceData) (rs : List Release) (until : ℕ) (trace : Trace)
+    (rows : List TaskRow) (v : View) (run : IsBestRun U places rs until trace rows) where
   abbrev frame : Frame
   frame = frame_of rows v until
 
@@ -38,30 +40,40 @@ module _ (U : List Task) (places : List PlaceData) (rs : List Release) (until : 
   node = node_in U (tasks_of_places places)
 
   -- a job in a row of its task
-  on_time : (row : TaskRow) (j : ℕ) → IsRowOf U row → j < length jobs → same_bytes (record_at jobs j).name row.sheet.name ≡ true → is_late frame row (record_at jobs j) ≡ false
+  on_time : (row : TaskRow) (j : ℕ) → IsRowOf U row → j < length jobs → same_bytes
+      (record_at jobs j).name row.sheet.name ≡ true → is_late frame row (record_at jobs j) ≡ false
   on_time row j of inside own =
       let is_job : j < length rs = omega (arith, inside, jobs_are node rs until trace run.runs) in
       let soon : (release_at rs j).time < until = arrives node rs until trace run.runs j is_job in
       let upto : end_of_run until ≤ until = omega (arith, soon) in
-      let named : (task_at U of.0).name ≡ (record_at jobs j).name = sym (ap (λ (t : Task). t.name) of.2) ∙ sym (same_is (record_at jobs j).name row.sheet.name own) in
-      subst (λ (t : Task). is_late frame (record { sheet = t; bound = row.bound }) (record_at jobs j) ≡ false) (sym of.2)
-      (not_late U places rs until trace run.set run.best run.runs of.0 j (end_of_run until) of.1 is_job upto named)
+      let named : (task_at U of.0).name ≡ (record_at jobs j).name =
+      sym (ap (λ (t : Task). t.name) of.2)
+      ∙ sym (same_is (record_at jobs j).name row.sheet.name own) in
+      subst (λ (t : Task). is_late frame (record { sheet = t; bound = row.bound })
+      (record_at jobs j) ≡ false) (sym of.2)
+      (not_late U places rs until trace run.set run.best run.runs of.0 j (end_of_run until) of.1
+      is_job upto named)
 
   pub all_on_time : All (NoneIsLate frame jobs) rows
   all_on_time =
       All-from_get_or (NoneIsLate frame jobs) rows no_row (λ k lt.
-      All-from_get_or (λ (job : JobRecord). same_bytes job.name (row_at rows k).sheet.name ≡ true → is_late frame (row_at rows k) job ≡ false) jobs no_record (λ j inside own.
+      All-from_get_or (λ (job : JobRecord). same_bytes job.name (row_at rows k).sheet.name ≡ true
+      → is_late frame (row_at rows k) job ≡ false) jobs no_record (λ j inside own.
       on_time (row_at rows k) j (run.tasks k no_row lt) inside own))
 
   -- a job that has a row
   not_missed : (j : ℕ) → j < length jobs → misses frame rows (record_at jobs j) ≡ false
   not_missed j inside =
       let name : List ℕ = (record_at jobs j).name in
-      elim (row_named rows name) as (λ (o : Option ℕ). row_named rows name ≡ o → is_late_at frame rows (record_at jobs j) o ≡ false) [
+      elim (row_named rows name) as (λ (o : Option ℕ). row_named rows name ≡ o
+      → is_late_at frame rows (record_at jobs j) o ≡ false) [
         | None ↦ λ _. refl
         | Some k ↦ λ at.
-            let found = position-Some (λ (r : TaskRow). same_bytes r.sheet.name name) rows k no_row at in
-            let own : same_bytes name (row_at rows k).sheet.name ≡ true = ap (λ (n : List ℕ). same_bytes name n) (same_is (row_at rows k).sheet.name name found.1) ∙ same_own name in
+            let found =
+            position-Some (λ (r : TaskRow). same_bytes r.sheet.name name) rows k no_row at in
+            let own : same_bytes name (row_at rows k).sheet.name ≡ true =
+            ap (λ (n : List ℕ). same_bytes name n)
+            (same_is (row_at rows k).sheet.name name found.1) ∙ same_own name in
             on_time (row_at rows k) j (run.tasks k no_row found.0) inside own
       ] refl
 
@@ -69,11 +81,14 @@ module _ (U : List Task) (places : List PlaceData) (rs : List Release) (until : 
   none_missed = kept_none (misses frame rows) jobs no_record not_missed
 
 -- ---- the rows of the best order
-rows_in : (U : List Task) (places : List PlaceData) → AreInTime U places → All (IsRowOf U) (rows_of U (bounds_of places))
+rows_in : (U : List Task) (places : List PlaceData) → AreInTime U places
+    → All (IsRowOf U) (rows_of U (bounds_of places))
 rows_in U [] each = All-nil (IsRowOf U)
 rows_in U (p ∷ places) each =
     let row : TaskRow = drawn_row U (record { task = p.task; bound = Some p.response }) in
-    All-push (IsRowOf U) (rows_of U (bounds_of places)) row (rows_in U places each.1) (p.task, each.0.in_set, refl)
+    All-push (IsRowOf U) (rows_of U (bounds_of places)) row (rows_in U places each.1)
+    (p.task, each.0.in_set, refl)
 
-pub best_rows : (U : List Task) (places : List PlaceData) → IsTaskSet U → IsBestPlacing U places → All (IsRowOf U) (rows_of U (bounds_of places))
+pub best_rows : (U : List Task) (places : List PlaceData) → IsTaskSet U → IsBestPlacing U places
+    → All (IsRowOf U) (rows_of U (bounds_of places))
 best_rows U places set best = rows_in U places (best-in_time U places set best)

@@ -1,6 +1,9 @@
 -- The jobs of a run in a set's best order: they stand by arrival, and are done by their deadlines.
-use Rattle.std.proofs.Common.{◌≡◌, ◌∙◌, ℕ, suc, ◌+◌, ◌-◌, ◌<◌, ◌≤◌, inl, inr, Bool, true, false, List, [], ◌∷◌, length, Option, Some, None, Ok, is_some, unwrap_or, nat_lt, nat_le, refl, sym, ap, arith, slice_index_or, eqb}
-use Rattle.std.proofs.lemmas.Bool.{and_from, cases_eq, cases_lt, le-leb, le-ltb, lt-leb, lt-ltb, ne_eqb, true≢false}
+use Rattle.std.proofs.Common.{◌≡◌, ◌∙◌, ℕ, suc, ◌+◌, ◌-◌, ◌<◌, ◌≤◌, inl, inr, Bool, true, false}
+use Rattle.std.proofs.Common.{List, [], ◌∷◌, length, Option, Some, None, Ok, is_some, unwrap_or}
+use Rattle.std.proofs.Common.{nat_lt, nat_le, refl, sym, ap, arith, slice_index_or, eqb}
+use Rattle.std.proofs.lemmas.Bool.{and_from, cases_eq, cases_lt, le-leb, le-ltb, lt-leb, lt-ltb}
+use Rattle.std.proofs.lemmas.Bool.{ne_eqb, true≢false}
 use Rattle.task_sheet.specs.Sheet.{Task, same_bytes, task_at}
 use Rattle.task_sheet.specs.TaskSet.{IsTaskSet}
 use Rattle.task_sheet.specs.Indexes.{among}
@@ -14,7 +17,8 @@ use Rattle.assignment.specs.Placings.{IsBestPlacing, tasks_of_places}
 use Rattle.explain.specs.Accounts.{AreInTime}
 use Rattle.explain.proofs.AccountLaws.{best-in_time}
 use Rattle.ceiling_kernel.specs.Tick.{Job, Node, node_in}
-use Rattle.ceiling_kernel.specs.Releases.{is_past, jobs_of, no_release, ready_of, release_at, task_named, task_number}
+use Rattle.ceiling_kernel.specs.Releases.{is_past, jobs_of, no_release, ready_of, release_at}
+use Rattle.ceiling_kernel.specs.Releases.{task_named, task_number}
 use Rattle.ceiling_kernel.specs.Runs.{Runs, no_record, record_of, records_from}
 use Rattle.ceiling_kernel.specs.declared.trace.JobRecord.{JobRecord}
 use Rattle.ceiling_kernel.specs.declared.trace.Release.{Release}
@@ -28,23 +32,28 @@ use Rattle.job_boxes.specs.Misses.{is_behind}
 use Rattle.drawn_runs.proofs.ListLaws.{kept_most}
 
 -- ---- the records of a run
-records_length : (node : Node) (jobs : List Job) (t k : ℕ) (rs : List Release) → length (records_from node jobs t k rs) ≡ length rs
+records_length : (node : Node) (jobs : List Job) (t k : ℕ) (rs : List Release)
+    → length (records_from node jobs t k rs) ≡ length rs
 records_length node jobs t k [] = refl
 records_length node jobs t k (r ∷ rs) = ap suc (records_length node jobs t (k + 1) rs)
 
-module _ (node : Node) (rs : List Release) (until : ℕ) (trace : Trace) (ran : Runs node rs until (Ok trace)) where
+module _ (node : Node) (rs : List Release) (until : ℕ) (trace : Trace)
+    (ran : Runs node rs until (Ok trace)) where
   -- the record of a job
   abbrev job : ℕ → JobRecord
   job j = slice_index_or trace.jobs.items j no_record
 
   pub jobs_are : length trace.jobs.items ≡ length rs
-  jobs_are = ap (λ (x : List JobRecord). length x) ran.2.jobs ∙ records_length node (jobs_of node.tasks rs) until 0 rs
+  jobs_are = ap (λ (x : List JobRecord). length x) ran.2.jobs
+      ∙ records_length node (jobs_of node.tasks rs) until 0 rs
 
-  pub job_is : (j : ℕ) → j < length rs → job j ≡ record_of node (jobs_of node.tasks rs) until j (release_at rs j)
+  pub job_is : (j : ℕ) → j < length rs
+      → job j ≡ record_of node (jobs_of node.tasks rs) until j (release_at rs j)
   job_is j lt =
       let z : 0 + j ≡ j = omega arith in
       ap (λ (x : List JobRecord). slice_index_or x j no_record) ran.2.jobs
-      ∙ (records_at node (jobs_of node.tasks rs) until 0 rs j lt ∙ ap (λ n. record_of node (jobs_of node.tasks rs) until n (release_at rs j)) z)
+      ∙ (records_at node (jobs_of node.tasks rs) until 0 rs j lt
+      ∙ ap (λ n. record_of node (jobs_of node.tasks rs) until n (release_at rs j)) z)
 
   pub is_accepted : IsAccepted node.tasks rs until
   is_accepted = accepted node.tasks rs until ran.0
@@ -52,19 +61,24 @@ module _ (node : Node) (rs : List Release) (until : ℕ) (trace : Trace) (ran : 
   -- it arrives before the run ends
   pub arrives : (j : ℕ) → j < length rs → (release_at rs j).time < until
   arrives j lt =
-      let before : nat_le until (ready_of (release_at rs j)) ≡ false = none_passes (is_past until) rs j no_release lt is_accepted.before in
+      let before : nat_le until (ready_of (release_at rs j)) ≡ false =
+      none_passes (is_past until) rs j no_release lt is_accepted.before in
       elim (cases_lt (ready_of (release_at rs j)) until) [
         | inl less ↦ omega (arith, less)
         | inr ge ↦ absurd (true≢false (sym (le-leb until (ready_of (release_at rs j)) ge) ∙ before))
       ]
 
   -- jobs stand by arrival
-  pub by_arrival : (i j : ℕ) → i ≤ j → j < length trace.jobs.items → (job i).release ≤ (job j).release
+  pub by_arrival : (i j : ℕ) → i ≤ j → j < length trace.jobs.items
+      → (job i).release ≤ (job j).release
   by_arrival i j le lt =
       let inside : j < length rs = omega (arith, lt, jobs_are) in
-      let first : (job i).release ≡ (release_at rs i).time = ap (λ (x : JobRecord). x.release) (job_is i (omega (arith, le, inside))) in
-      let last : (job j).release ≡ (release_at rs j).time = ap (λ (x : JobRecord). x.release) (job_is j inside) in
-      let sorted : (release_at rs i).time ≤ (release_at rs j).time = sorted_from rs is_accepted.sorted i j le inside in
+      let first : (job i).release ≡ (release_at rs i).time =
+      ap (λ (x : JobRecord). x.release) (job_is i (omega (arith, le, inside))) in
+      let last : (job j).release ≡ (release_at rs j).time =
+      ap (λ (x : JobRecord). x.release) (job_is j inside) in
+      let sorted : (release_at rs i).time ≤ (release_at rs j).time =
+      sorted_from rs is_accepted.sorted i j le inside in
       omega (arith, first, last, sorted)
 
 -- ---- what the analysis says of a task
@@ -73,16 +87,26 @@ record IsKept (U : List Task) (rs : List Release) (until : ℕ) (trace : Trace) 
   place : PlaceData
   task : place.task ≡ i
   done : DoneWithin U place rs until trace
-  reached : greatest_of response_of (done_of (task_at U place.task).name trace.jobs.items) ≤ place.response
+  reached : greatest_of response_of (done_of (task_at U place.task).name trace.jobs.items)
+      ≤ place.response
   in_time : place.response ≤ (task_at U place.task).deadline
 
-kept_in : (U : List Task) (rs : List Release) (until : ℕ) (trace : Trace) (i : ℕ) (places : List PlaceData)
-    → AllDoneWithin U places rs until trace → AllReachWithin U trace.jobs.items places → AreInTime U places
+kept_in : (U : List Task) (rs : List Release) (until : ℕ) (trace : Trace) (i : ℕ)
+    (places : List PlaceData)
+    → AllDoneWithin U places rs until trace → AllReachWithin U trace.jobs.items places
+    → AreInTime U places
     → among (tasks_of_places places) i ≡ true → IsKept U rs until trace i
 kept_in U rs until trace i [] done reached in_time has = absurd (true≢false (sym has))
 kept_in U rs until trace i (p ∷ places) done reached in_time has =
     elim (cases_eq p.task i) [
-      | inl same ↦ record { place = p; task = same; done = done.0; reached = reached.0; in_time = in_time.0.in_time }
+      | inl same ↦ record {
+        place = p;
+        task = same;
+        done = done.0;
+        reached = reached.0;
+        in_time =
+            in_time.0.in_time;
+      }
       | inr ne ↦
           let f : eqb p.task i ≡ false = ne_eqb p.task i ne in
           let rest : among (tasks_of_places places) i ≡ true = rw f at has in
@@ -90,15 +114,18 @@ kept_in U rs until trace i (p ∷ places) done reached in_time has =
     ]
 
 -- the task of a release that has the name of a task is that one
-numbered : (U : List Task) → IsTaskSet U → (i : ℕ) → i < length U → (r : Release) → r.name ≡ (task_at U i).name → task_number U r ≡ i
+numbered : (U : List Task) → IsTaskSet U → (i : ℕ) → i < length U → (r : Release)
+    → r.name ≡ (task_at U i).name → task_number U r ≡ i
 numbered U set i lt r own =
     let at = place_of_name U set.distinct i lt in
     let small : nat_lt i (length U) ≡ true = lt-ltb i (length U) lt in
     let found : task_named U (task_at U i).name ≡ Some i = rw (at, small) refl in
-    ap (λ (name : List ℕ). unwrap_or (task_named U name) (length U)) own ∙ ap (λ o. unwrap_or o (length U)) found
+    ap (λ (name : List ℕ). unwrap_or (task_named U name) (length U)) own
+    ∙ ap (λ o. unwrap_or o (length U)) found
 
 -- ---- a run in a set's best order
-module _ (U : List Task) (places : List PlaceData) (rs : List Release) (until : ℕ) (trace : Trace) (set : IsTaskSet U) (best : IsBestPlacing U places)
+module _ (U : List Task) (places : List PlaceData) (rs : List Release) (until : ℕ) (trace : Trace)
+    (set : IsTaskSet U) (best : IsBestPlacing U places)
     (ran : Runs (node_in U (tasks_of_places places)) rs until (Ok trace)) where
   abbrev node : Node
   node = node_in U (tasks_of_places places)
@@ -106,26 +133,37 @@ module _ (U : List Task) (places : List PlaceData) (rs : List Release) (until : 
   kept : (i : ℕ) → i < length U → IsKept U rs until trace i
   kept i lt =
       let both = all_within U places rs until trace set best ran in
-      let each : among (tasks_of_places places) ≡ all_of U = IsOrderOf-among (all_of U) (tasks_of_places places) best.best.passing.each_once in
+      let each : among (tasks_of_places places) ≡ all_of U =
+      IsOrderOf-among (all_of U) (tasks_of_places places) best.best.passing.each_once in
       let small : nat_lt i (length U) ≡ true = lt-ltb i (length U) lt in
-      kept_in U rs until trace i places both.0 both.1 (best-in_time U places set best) (ap (λ (H : ℕ → Bool). H i) each ∙ small)
+      kept_in U rs until trace i places both.0 both.1 (best-in_time U places set best)
+      (ap (λ (H : ℕ → Bool). H i) each ∙ small)
 
   -- no job of a task is late
-  pub not_late : (i j end : ℕ) → i < length U → j < length rs → end ≤ until → (task_at U i).name ≡ (job node rs until trace ran j).name
-      → is_behind (job node rs until trace ran j).release (task_at U i).deadline end (job node rs until trace ran j).finish ≡ false
+  pub not_late : (i j end : ℕ) → i < length U → j < length rs → end ≤ until
+      → (task_at U i).name ≡ (job node rs until trace ran j).name
+      → is_behind (job node rs until trace ran j).release (task_at U i).deadline end
+      (job node rs until trace ran j).finish ≡ false
   not_late i j end is_task is_job upto own =
       let it : JobRecord = job node rs until trace ran j in
       let k = kept i is_task in
-      let time : it.release ≡ (release_at rs j).time = ap (λ (x : JobRecord). x.release) (job_is node rs until trace ran j is_job) in
-      let name : it.name ≡ (release_at rs j).name = ap (λ (x : JobRecord). x.name) (job_is node rs until trace ran j is_job) in
-      let number : task_number U (release_at rs j) ≡ k.place.task = numbered U set i is_task (release_at rs j) (sym name ∙ sym own) ∙ sym k.task in
-      let deadline : (task_at U k.place.task).deadline ≡ (task_at U i).deadline = ap (λ x. (task_at U x).deadline) k.task in
-      let called : (task_at U k.place.task).name ≡ it.name = ap (λ x. (task_at U x).name) k.task ∙ own in
+      let time : it.release ≡ (release_at rs j).time =
+      ap (λ (x : JobRecord). x.release) (job_is node rs until trace ran j is_job) in
+      let name : it.name ≡ (release_at rs j).name =
+      ap (λ (x : JobRecord). x.name) (job_is node rs until trace ran j is_job) in
+      let number : task_number U (release_at rs j) ≡ k.place.task =
+      numbered U set i is_task (release_at rs j) (sym name ∙ sym own) ∙ sym k.task in
+      let deadline : (task_at U k.place.task).deadline ≡ (task_at U i).deadline =
+      ap (λ x. (task_at U x).deadline) k.task in
+      let called : (task_at U k.place.task).name ≡ it.name = ap (λ x. (task_at U x).name) k.task
+      ∙ own in
       let soon : (release_at rs j).time < until = arrives node rs until trace ran j is_job in
       let in_time = k.in_time in
-      elim it.finish as (λ o. it.finish ≡ o → is_behind it.release (task_at U i).deadline end o ≡ false) [
+      elim it.finish as (λ o. it.finish ≡ o
+      → is_behind it.release (task_at U i).deadline end o ≡ false) [
         | None ↦ λ is. elim (cases_lt until ((release_at rs j).time + k.place.response)) [
-          | inl past ↦ lt-leb (task_at U i).deadline (end - it.release) (omega (arith, past, time, deadline, in_time, soon, upto))
+          | inl past ↦ lt-leb (task_at U i).deadline (end - it.release)
+              (omega (arith, past, time, deadline, in_time, soon, upto))
           | inr in_run ↦
               let found = k.done j is_job number in_run in
               let both : ◌≡◌ {A = Option ℕ} (Some found.0) None = sym found.1 ∙ is in
@@ -133,11 +171,17 @@ module _ (U : List Task) (places : List PlaceData) (rs : List Release) (until : 
         ]
         | Some f ↦ λ is.
             let done : is_some it.finish ≡ true = rw is refl in
-            let same : same_bytes it.name (task_at U k.place.task).name ≡ true = ap (λ (n : List ℕ). same_bytes it.name n) called ∙ same_own it.name in
-            let counts : is_done_of (task_at U k.place.task).name it ≡ true = and_from (is_some it.finish) (same_bytes it.name (task_at U k.place.task).name) done same in
-            let most : response_of it ≤ greatest_of response_of (done_of (task_at U k.place.task).name trace.jobs.items) =
-            kept_most response_of (is_done_of (task_at U k.place.task).name) trace.jobs.items j no_record (omega (arith, is_job, jobs_are node rs until trace ran)) counts in
-            let response : response_of it ≡ f - it.release = ap (λ o. unwrap_or o 0 - it.release) is in
+            let same : same_bytes it.name (task_at U k.place.task).name ≡ true =
+            ap (λ (n : List ℕ). same_bytes it.name n) called ∙ same_own it.name in
+            let counts : is_done_of (task_at U k.place.task).name it ≡ true = and_from
+            (is_some it.finish) (same_bytes it.name (task_at U k.place.task).name) done same in
+            let most : response_of it
+            ≤ greatest_of response_of (done_of (task_at U k.place.task).name trace.jobs.items) =
+            kept_most response_of (is_done_of (task_at U k.place.task).name) trace.jobs.items j
+            no_record (omega (arith, is_job, jobs_are node rs until trace ran)) counts in
+            let response : response_of it ≡ f - it.release =
+            ap (λ o. unwrap_or o 0 - it.release) is in
             let within = k.reached in
-            le-ltb (task_at U i).deadline (f - it.release) (omega (arith, most, response, within, deadline, in_time))
+            le-ltb (task_at U i).deadline (f - it.release)
+            (omega (arith, most, response, within, deadline, in_time))
       ] refl

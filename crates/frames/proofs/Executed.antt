@@ -9,6 +9,7 @@ unfolding executed_in
 executed_none slices j = refl
 
 -- one slice more
-pub executed_more : (slices : List Slice) (n j : ℕ) → executed_in slices (n + 1) j ≡ executed_with j (executed_in slices n j) (slice_at slices n)
+pub executed_more : (slices : List Slice) (n j : ℕ)
+    → executed_in slices (n + 1) j ≡ executed_with j (executed_in slices n j) (slice_at slices n)
 unfolding executed_in
 executed_more slices n j = rw (add-one n) refl

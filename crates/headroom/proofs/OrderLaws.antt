@@ -97,7 +97,11 @@ module _ (U : List Task) (i cost : ℕ) where
             absurd (both_ways (among (k ∷ xs) i) out (or_right _ _ so))
         | inr so ↦ so
       ] in (
-        (Passes-above k (among xs) ne rest all.0.0, is_bound-costed U i cost k (among xs) ∙ all.0.1),
+        (
+          Passes-above k (among xs) ne rest all.0.0,
+          is_bound-costed U i cost k (among xs)
+              ∙ all.0.1,
+        ),
         AllStand-above xs rest all.1,
       )
 

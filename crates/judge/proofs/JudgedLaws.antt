@@ -1,5 +1,7 @@
 -- The tasks of an order, judged one after the other.
-use Rattle.std.proofs.Common.{◌≡◌, ◌∙◌, ℕ, ◌+◌, ◌<◌, ◌≤◌, inl, inr, Bool, true, false, ◌||◌, ◌==◌, List, [], ◌∷◌, ◌++◌, length, get_or, take, drop, append-nil, refl, sym, ap, subst, append_assoc}
+use Rattle.std.proofs.Common.{◌≡◌, ◌∙◌, ℕ, ◌+◌, ◌<◌, ◌≤◌, inl, inr, Bool, true, false, ◌||◌, ◌==◌}
+use Rattle.std.proofs.Common.{List, [], ◌∷◌, ◌++◌, length, get_or, take, drop, append-nil, refl}
+use Rattle.std.proofs.Common.{sym, ap, subst, append_assoc}
 use Rattle.std.proofs.Math.Path.{fun_ext}
 use Rattle.std.specs.Ordering.{nat_cmp}
 use Rattle.std.specs.FinSet as set
@@ -26,36 +28,55 @@ turned i k = elim (cases_eq i k) [
 ]
 
 among-push : (xs : List ℕ) (i : ℕ) → among (xs ++ i ∷ []) ≡ with_index (among xs) i
-among-push xs i = fun_ext (λ k. list_any-append (λ x. x == k) xs (i ∷ []) ∙ or_turned (among xs k) (i == k) ∙ ap (λ b. b || among xs k) (turned i k))
+among-push xs i = fun_ext (λ k. list_any-append (λ x. x == k) xs (i ∷ [])
+    ∙ or_turned (among xs k) (i == k) ∙ ap (λ b. b || among xs k) (turned i k))
 
 -- one more member
-pub members_step : (m n : set.FinSet nat_cmp) (xs : List ℕ) (k : ℕ) → k < length xs → indexes_of m ≡ among (take k xs) → n ≡ set.insert m (get_or xs k 0) → indexes_of n ≡ among (take (k + 1) xs)
+pub members_step : (m n : set.FinSet nat_cmp) (xs : List ℕ) (k : ℕ) → k < length xs → indexes_of m
+    ≡ among (take k xs) → n ≡ set.insert m (get_or xs k 0) → indexes_of n ≡ among (take (k + 1) xs)
 members_step m n xs k lt so is =
-    ap indexes_of is ∙ indexes_of-insert m (get_or xs k 0) ∙ ap (λ H. with_index H (get_or xs k 0)) so
+    ap indexes_of is ∙ indexes_of-insert m (get_or xs k 0)
+    ∙ ap (λ H. with_index H (get_or xs k 0)) so
     ∙ sym (among-push (take k xs) (get_or xs k 0)) ∙ ap among (sym (take_more xs k 0 lt))
 
 -- those that are judged so far, in front of the rest of the order
-pub record IsJudgedTo (U : List Task) (order : List ℕ) (place : ℕ) (judged : List JudgedTask) : Type 0 where
+pub record IsJudgedTo (U : List Task) (order : List ℕ) (place : ℕ)
+    (judged : List JudgedTask) : Type 0 where
   pub tasks : order_judged judged ≡ take place order
-  pub front : (rest : List JudgedTask) → order_judged rest ≡ drop place order → AllJudged U rest → AllJudged U (judged ++ rest)
+  pub front : (rest : List JudgedTask) → order_judged rest ≡ drop place order → AllJudged U rest
+      → AllJudged U (judged ++ rest)
 
-pub judged_step : (U : List Task) (order : List ℕ) (place : ℕ) (judged judged' : List JudgedTask) (j : JudgedTask) → place < length order → IsJudgedTo U order place judged → j.task ≡ get_or order place 0 → IsJudgementOf U (get_or order place 0) (among (drop (place + 1) order)) j.judgement → judged' ≡ judged ++ j ∷ [] → IsJudgedTo U order (place + 1) judged'
+pub judged_step : (U : List Task) (order : List ℕ) (place : ℕ) (judged judged' : List JudgedTask)
+    (j : JudgedTask) → place < length order → IsJudgedTo U order place judged
+    → j.task ≡ get_or order place 0
+    → IsJudgementOf U (get_or order place 0) (among (drop (place + 1) order)) j.judgement
+    → judged' ≡ judged ++ j ∷ [] → IsJudgedTo U order (place + 1) judged'
 judged_step U order place judged judged' j lt so task is pushed = record {
-  tasks = ap order_judged pushed ∙ map_push (λ (x : JudgedTask). x.task) judged j ∙ ap (λ xs. xs ++ j.task ∷ []) so.tasks ∙ ap (λ i. take place order ++ i ∷ []) task ∙ sym (take_more order place 0 lt);
+  tasks = ap order_judged pushed ∙ map_push (λ (x : JudgedTask). x.task) judged j
+      ∙ ap (λ xs. xs ++ j.task ∷ []) so.tasks ∙ ap (λ i. take place order ++ i ∷ []) task
+      ∙ sym (take_more order place 0 lt);
   front = λ rest same all.
-      let here = subst (λ i. IsJudgementOf U i (among (order_judged rest)) j.judgement) (sym task) (subst (λ xs. IsJudgementOf U (get_or order place 0) (among xs) j.judgement) (sym same) is) in
-      let from : order_judged (j ∷ rest) ≡ drop place order = ap (λ xs. j.task ∷ xs) same ∙ ap (λ i. i ∷ drop (place + 1) order) task ∙ sym (drop_more order place 0 lt) in
-      subst (λ xs. AllJudged U xs) (sym (ap (λ xs. xs ++ rest) pushed ∙ append_assoc judged (j ∷ []) rest)) (so.front (j ∷ rest) from (here, all));
+      let here = subst (λ i. IsJudgementOf U i (among (order_judged rest)) j.judgement) (sym task)
+      (subst (λ xs. IsJudgementOf U (get_or order place 0) (among xs) j.judgement)
+      (sym same) is) in
+      let from : order_judged (j ∷ rest) ≡ drop place order = ap (λ xs. j.task ∷ xs) same
+      ∙ ap (λ i. i ∷ drop (place + 1) order) task ∙ sym (drop_more order place 0 lt) in
+      subst (λ xs. AllJudged U xs) (sym (ap (λ xs. xs ++ rest) pushed
+      ∙ append_assoc judged (j ∷ []) rest)) (so.front (j ∷ rest) from (here, all));
 }
 
-pub judged_start : (U : List Task) (order : List ℕ) (judged : List JudgedTask) → judged ≡ [] → IsJudgedTo U order 0 judged
+pub judged_start : (U : List Task) (order : List ℕ) (judged : List JudgedTask) → judged ≡ []
+    → IsJudgedTo U order 0 judged
 judged_start U order judged none = record {
   tasks = ap order_judged none;
   front = λ rest same all. subst (λ xs. AllJudged U (xs ++ rest)) (sym none) all;
 }
 
-pub judged_end : (U : List Task) (order : List ℕ) (place : ℕ) (judged : List JudgedTask) → length order ≤ place → IsJudgedTo U order place judged → (order_judged judged ≡ order) × AllJudged U judged
+pub judged_end : (U : List Task) (order : List ℕ) (place : ℕ) (judged : List JudgedTask)
+    → length order ≤ place → IsJudgedTo U order place judged → (order_judged judged ≡ order)
+    × AllJudged U judged
 judged_end U order place judged past so = (
   so.tasks ∙ take_all place order past,
-  subst (λ xs. AllJudged U xs) (append-nil judged) (so.front [] (sym (drop_of_length-le order past)) tt),
+  subst (λ xs. AllJudged U xs) (append-nil judged)
+      (so.front [] (sym (drop_of_length-le order past)) tt),
 )

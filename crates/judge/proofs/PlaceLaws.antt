@@ -10,11 +10,16 @@ use Rattle.judge.specs.declared.judging.JudgedTask.{JudgedTask}
 use Rattle.judge.proofs.OrderLaws.{judged_meet, judged_passing, judged_tasks}
 
 -- their order passes
-pub places_pass : (U : List Task) (judged : List JudgedTask) (places : List PlaceData) → IsOrder U (order_judged judged) → AllJudged U judged → judged ≡ judged_of places → IsPassingOrder U (tasks_of_places places)
+pub places_pass : (U : List Task) (judged : List JudgedTask) (places : List PlaceData)
+    → IsOrder U (order_judged judged) → AllJudged U judged → judged ≡ judged_of places
+    → IsPassingOrder U (tasks_of_places places)
 places_pass U judged places each are is =
-    let same : order_judged judged ≡ tasks_of_places places = ap (λ (js : List JudgedTask). order_judged js) is ∙ judged_tasks places in
-    let meets = subst (λ (js : List JudgedTask). IsTrue (all_meet js)) (sym is) (judged_meet places) in
+    let same : order_judged judged ≡ tasks_of_places places =
+    ap (λ (js : List JudgedTask). order_judged js) is ∙ judged_tasks places in
+    let meets =
+    subst (λ (js : List JudgedTask). IsTrue (all_meet js)) (sym is) (judged_meet places) in
     record {
       each_once = subst (λ (order : List ℕ). IsOrder U order) same each;
-      each_stands = subst (λ (order : List ℕ). AllStand U order) same (judged_passing U judged are meets);
+      each_stands =
+          subst (λ (order : List ℕ). AllStand U order) same (judged_passing U judged are meets);
     }

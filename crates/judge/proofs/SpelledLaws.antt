@@ -1,5 +1,6 @@
 -- Lines of settings that are spelled, and what is read of them.
-use Rattle.std.proofs.Common.{◌≡◌, ◌∙◌, ℕ, ◌+◌, ◌^◌, ◌<◌, ◌≤◌, ◌==◌, Bool, true, false, cond, List, [], ◌∷◌, ◌++◌, All, Some, None, Ok, refl, ap, arith}
+use Rattle.std.proofs.Common.{◌≡◌, ◌∙◌, ℕ, ◌+◌, ◌^◌, ◌<◌, ◌≤◌, ◌==◌, Bool, true, false, cond, List}
+use Rattle.std.proofs.Common.{[], ◌∷◌, ◌++◌, All, Some, None, Ok, refl, ap, arith}
 use Rattle.std.specs.Prelude.{codes}
 use Rattle.std.specs.List.{list_all, AllByRecursion}
 use Rattle.std.specs.Fmt.{decimal}
@@ -22,13 +23,15 @@ use Rattle.judge.specs.declared.rows.TheConstants.{NUMBER_LIMIT}
 use Rattle.judge.specs.declared.rows.Setting.{Setting}
 
 -- ---- bytes that do not stand in a text
-lacks_each : (b : ℕ) (p : ℕ → Bool) → ((x : ℕ) → p x ≡ true → (x == b) ≡ false) → (xs : List ℕ) → list_all p xs ≡ true → AllByRecursion (λ x. (x == b) ≡ false) xs
+lacks_each : (b : ℕ) (p : ℕ → Bool) → ((x : ℕ) → p x ≡ true → (x == b) ≡ false) → (xs : List ℕ)
+    → list_all p xs ≡ true → AllByRecursion (λ x. (x == b) ≡ false) xs
 lacks_each b p apart [] h = tt
 lacks_each b p apart (x ∷ xs) h =
     let parts = and_parts (p x) (list_all p xs) h in
     (apart x parts.0, lacks_each b p apart xs parts.1)
 
-lacks : (b : ℕ) (p : ℕ → Bool) → ((x : ℕ) → p x ≡ true → (x == b) ≡ false) → (xs : List ℕ) → list_all p xs ≡ true → All (λ x. (x == b) ≡ false) xs
+lacks : (b : ℕ) (p : ℕ → Bool) → ((x : ℕ) → p x ≡ true → (x == b) ≡ false) → (xs : List ℕ)
+    → list_all p xs ≡ true → All (λ x. (x == b) ≡ false) xs
 lacks b p apart xs h = All-from_recursion (λ x. (x == b) ≡ false) xs (lacks_each b p apart xs h)
 
 digit_apart : (b : ℕ) → b < 48 → (x : ℕ) → is_ascii_digit x ≡ true → (x == b) ≡ false
@@ -38,7 +41,8 @@ name_apart : (b : ℕ) → b < 45 → (x : ℕ) → is_name_byte x ≡ true → 
 name_apart b small x h = grind (arith, nat_tests)
 
 decimal_lacks : (b n : ℕ) → b < 48 → n < 2 ^ 64 → All (λ x. (x == b) ≡ false) (decimal n)
-decimal_lacks b n small h = lacks b is_ascii_digit (digit_apart b small) (decimal n) (digits_decimal own n h)
+decimal_lacks b n small h =
+    lacks b is_ascii_digit (digit_apart b small) (decimal n) (digits_decimal own n h)
 
 name_bytes : (text : List ℕ) → is_name text ≡ true → list_all is_name_byte text ≡ true
 name_bytes text h = grind (arith, nat_tests)
@@ -79,12 +83,16 @@ word_lacks : (b : ℕ) → b < 45 → (kind : Bool) → All (λ x. (x == b) ≡ 
 word_lacks b small true = name_lacks b (codes "thread") small refl
 word_lacks b small false = name_lacks b (codes "mutex") small refl
 
-words_entry : (e : Entry) → IsEntry e → words (entry_text e) ≡ word_of e.is_thread ∷ e.name ∷ decimal e.number ∷ []
+words_entry : (e : Entry) → IsEntry e
+    → words (entry_text e) ≡ word_of e.is_thread ∷ e.name ∷ decimal e.number ∷ []
 words_entry e is =
-    slice_split_at (λ b. b == 32) (word_of e.is_thread) 32 (e.name ++ 32 ∷ decimal e.number) (word_lacks 32 (omega arith) e.is_thread) refl
+    slice_split_at (λ b. b == 32) (word_of e.is_thread) 32 (e.name ++ 32 ∷ decimal e.number)
+    (word_lacks 32 (omega arith) e.is_thread) refl
     ∙ ap (λ (ws : List (List ℕ)). word_of e.is_thread ∷ ws)
-    (slice_split_at (λ b. b == 32) e.name 32 (decimal e.number) (name_lacks 32 e.name (omega arith) is.named) refl
-    ∙ ap (λ (ws : List (List ℕ)). e.name ∷ ws) (slice_split_none (λ b. b == 32) (decimal e.number) (decimal_lacks 32 e.number (omega arith) (omega (arith, is.within)))))
+    (slice_split_at (λ b. b == 32) e.name 32 (decimal e.number)
+    (name_lacks 32 e.name (omega arith) is.named) refl
+    ∙ ap (λ (ws : List (List ℕ)). e.name ∷ ws) (slice_split_none (λ b. b == 32) (decimal e.number)
+    (decimal_lacks 32 e.number (omega arith) (omega (arith, is.within)))))
 
 spelled : (kind : Bool) (s : Setting) → setting_row (word_of kind) s ≡ Some (row_from kind s)
 spelled true s = refl
@@ -99,17 +107,22 @@ number_is n some within = ap in_range (number_again n (omega arith)) ∙ range_i
 name_is : (name : List ℕ) → IsName name → name_in name ≡ Some name
 name_is name named = ap (λ b. cond b (Some name) None) named
 
-row_entry : (line : ℕ) (e : Entry) → IsEntry e → setting_row_in line (words (entry_text e)) ≡ Some (row_at line e)
+row_entry : (line : ℕ) (e : Entry) → IsEntry e
+    → setting_row_in line (words (entry_text e)) ≡ Some (row_at line e)
 row_entry line e is =
     ap (setting_row_in line) (words_entry e is)
-    ∙ rw (name_is e.name is.named, number_is e.number is.some is.within) (spelled e.is_thread (record { line = line; name = e.name; number = e.number }))
+    ∙ rw (name_is e.name is.named, number_is e.number is.some is.within)
+    (spelled e.is_thread (record { line = line; name = e.name; number = e.number }))
 
 ends : (e : Entry) → IsEntry e → All (λ x. (x == 10) ≡ false) (entry_text e)
 ends e is =
     let P : ℕ → Type 0 = λ x. (x == 10) ≡ false in
-    let number = All-cons P 32 (decimal e.number) refl (decimal_lacks 10 e.number (omega arith) (omega (arith, is.within))) in
-    let name = All-cons P 32 (e.name ++ 32 ∷ decimal e.number) refl (All-append P e.name (32 ∷ decimal e.number) (name_lacks 10 e.name (omega arith) is.named) number) in
-    All-append P (word_of e.is_thread) (32 ∷ (e.name ++ 32 ∷ decimal e.number)) (word_lacks 10 (omega arith) e.is_thread) name
+    let number = All-cons P 32 (decimal e.number) refl
+    (decimal_lacks 10 e.number (omega arith) (omega (arith, is.within))) in
+    let name = All-cons P 32 (e.name ++ 32 ∷ decimal e.number) refl (All-append P e.name
+    (32 ∷ decimal e.number) (name_lacks 10 e.name (omega arith) is.named) number) in
+    All-append P (word_of e.is_thread) (32 ∷ (e.name ++ 32 ∷ decimal e.number))
+    (word_lacks 10 (omega arith) e.is_thread) name
 
 kept : (kind : Bool) (rest : List ℕ) → is_skipped (word_of kind ++ rest) ≡ false
 kept true rest = refl
@@ -125,10 +138,16 @@ abbrev pub rows_of : ℕ → List Entry → List SettingRow
 rows_of line [] = []
 rows_of line (e ∷ es) = row_at line e ∷ rows_of (line + 1) es
 
-pub entries_read : (line : ℕ) (es : List Entry) → AllByRecursion IsEntry es → rows_from (kept_from line (lines_of (text_of es))) ≡ Ok (rows_of line es)
+pub entries_read : (line : ℕ) (es : List Entry) → AllByRecursion IsEntry es
+    → rows_from (kept_from line (lines_of (text_of es))) ≡ Ok (rows_of line es)
 entries_read line [] each = refl
 entries_read line (e ∷ es) each =
-    let cut : lines_of (text_of (e ∷ es)) ≡ entry_text e ∷ lines_of (text_of es) = line_cut (text_of (e ∷ es)) (entry_text e) (text_of es) (slice_split_at (λ b. b == 10) (entry_text e) 10 (text_of es) (ends e each.0) refl) in
-    let first : kept_from line (lines_of (text_of (e ∷ es))) ≡ (line, entry_text e) ∷ kept_from (line + 1) (lines_of (text_of es)) =
-    ap (kept_from line) cut ∙ ap (λ b. cond b (kept_from (line + 1) (lines_of (text_of es))) ((line, entry_text e) ∷ kept_from (line + 1) (lines_of (text_of es)))) (kept e.is_thread (32 ∷ (e.name ++ 32 ∷ decimal e.number))) in
+    let cut : lines_of (text_of (e ∷ es)) ≡ entry_text e ∷ lines_of (text_of es) =
+    line_cut (text_of (e ∷ es)) (entry_text e) (text_of es)
+    (slice_split_at (λ b. b == 10) (entry_text e) 10 (text_of es) (ends e each.0) refl) in
+    let first : kept_from line (lines_of (text_of (e ∷ es))) ≡ (line, entry_text e)
+    ∷ kept_from (line + 1) (lines_of (text_of es)) =
+    ap (kept_from line) cut ∙ ap (λ b. cond b (kept_from (line + 1) (lines_of (text_of es)))
+    ((line, entry_text e) ∷ kept_from (line + 1) (lines_of (text_of es))))
+    (kept e.is_thread (32 ∷ (e.name ++ 32 ∷ decimal e.number))) in
     ap rows_from first ∙ rw (row_entry line e each.0, entries_read (line + 1) es each.1) refl

@@ -1,5 +1,7 @@
 -- The lines of judgements, one task after the other.
-use Rattle.std.proofs.Common.{◌≡◌, ◌++◌, ◌∙◌, ◌+◌, ◌<◌, ◌==◌, ◌&&◌, ◌||◌, not, ℕ, Bool, true, false, cond, List, [], ◌∷◌, length, get_or, take, slice_get, Bor, Option, Some, None, refl, ap, sym}
+use Rattle.std.proofs.Common.{◌≡◌, ◌++◌, ◌∙◌, ◌+◌, ◌<◌, ◌==◌, ◌&&◌, ◌||◌, not, ℕ, Bool, true, false}
+use Rattle.std.proofs.Common.{cond, List, [], ◌∷◌, length, get_or, take, slice_get, Bor, Option}
+use Rattle.std.proofs.Common.{Some, None, refl, ap, sym}
 use Rattle.std.proofs.Math.Path.{fun_ext}
 use Rattle.std.specs.Ordering.{nat_cmp}
 use Rattle.std.specs.FinSet as set
@@ -33,23 +35,32 @@ more true false = refl
 more false true = refl
 more false false = refl
 
-missed_push : (xs : List JudgedTask) (j : JudgedTask) (meets : Bool) → meets ≡ does_meet j.judgement → missed_of (xs ++ j ∷ []) ≡ cond meets (missed_of xs) (with_index (missed_of xs) j.task)
+missed_push : (xs : List JudgedTask) (j : JudgedTask) (meets : Bool) → meets ≡ does_meet j.judgement
+    → missed_of (xs ++ j ∷ []) ≡ cond meets (missed_of xs) (with_index (missed_of xs) j.task)
 missed_push xs j true is = fun_ext (λ k.
     list_any-append (λ x. (x.task == k) && not (does_meet x.judgement)) xs (j ∷ [])
-    ∙ ap (λ m. missed_of xs k || (((j.task == k) && not m) || false)) (sym is) ∙ kept (missed_of xs k) (j.task == k))
+    ∙ ap (λ m. missed_of xs k || (((j.task == k) && not m) || false)) (sym is)
+    ∙ kept (missed_of xs k) (j.task == k))
 missed_push xs j false is = fun_ext (λ k.
     list_any-append (λ x. (x.task == k) && not (does_meet x.judgement)) xs (j ∷ [])
-    ∙ ap (λ m. missed_of xs k || (((j.task == k) && not m) || false)) (sym is) ∙ more (missed_of xs k) (j.task == k) ∙ ap (λ b. b || missed_of xs k) (turned j.task k))
+    ∙ ap (λ m. missed_of xs k || (((j.task == k) && not m) || false)) (sym is)
+    ∙ more (missed_of xs k) (j.task == k) ∙ ap (λ b. b || missed_of xs k) (turned j.task k))
 
-pub missed_step : (m n : set.FinSet nat_cmp) (xs : List JudgedTask) (k : ℕ) (d : JudgedTask) (meets : Bool) → k < length xs → meets ≡ does_meet (get_or xs k d).judgement → indexes_of m ≡ missed_of (take k xs)
-    → n ≡ cond meets m (set.insert m (get_or xs k d).task) → indexes_of n ≡ missed_of (take (k + 1) xs)
+pub missed_step : (m n : set.FinSet nat_cmp) (xs : List JudgedTask) (k : ℕ) (d : JudgedTask)
+    (meets : Bool) → k < length xs → meets ≡ does_meet (get_or xs k d).judgement
+    → indexes_of m ≡ missed_of (take k xs)
+    → n ≡ cond meets m (set.insert m (get_or xs k d).task)
+    → indexes_of n ≡ missed_of (take (k + 1) xs)
 missed_step m n xs k d true lt is so next =
-    ap indexes_of next ∙ so ∙ sym (ap missed_of (take_more xs k d lt) ∙ missed_push (take k xs) (get_or xs k d) true is)
+    ap indexes_of next ∙ so
+    ∙ sym (ap missed_of (take_more xs k d lt) ∙ missed_push (take k xs) (get_or xs k d) true is)
 missed_step m n xs k d false lt is so next =
-    ap indexes_of next ∙ indexes_of-insert m (get_or xs k d).task ∙ ap (λ H. with_index H (get_or xs k d).task) so
+    ap indexes_of next ∙ indexes_of-insert m (get_or xs k d).task
+    ∙ ap (λ H. with_index H (get_or xs k d).task) so
     ∙ sym (ap missed_of (take_more xs k d lt) ∙ missed_push (take k xs) (get_or xs k d) false is)
 
 -- what is copied of an element that is lent
-pub copied_at : (xs : List ℕ) (k : ℕ) (r : Option (Bor ℕ)) → IsItemAt xs k r → option_copied r ≡ slice_get xs k
+pub copied_at : (xs : List ℕ) (k : ℕ) (r : Option (Bor ℕ)) → IsItemAt xs k r
+    → option_copied r ≡ slice_get xs k
 copied_at xs k None is = sym (slice_get_past xs k is.3)
 copied_at xs k (Some x) is = sym (slice_get_read xs (length xs) k x.now refl is.3.0 is.1)

@@ -128,13 +128,13 @@ abbrev pub settings_fault : List Task → List ℕ → Option SettingsFault
 settings_fault = settings_fault_by false
 
 -- ---- how they are found
--- a fault is want of memory, or the first faulty line
+-- a fault is out of memory, or the first faulty line
 abbrev pub IsRowsFault : SettingsFault → Result (List SettingRow) ℕ → Type 0
 IsRowsFault fault.OutOfMemory read = Unit {0}
 IsRowsFault (fault.BadLine line) read = read ≡ Err line
 IsRowsFault _ read = ⊥
 
--- a fault is want of memory, or the first reason
+-- a fault is out of memory, or the first reason
 abbrev pub IsSettingsFault : SettingsFault → Option SettingsFault → Type 0
 IsSettingsFault fault.OutOfMemory reason = Unit {0}
 IsSettingsFault e reason = reason ≡ Some e

@@ -204,7 +204,7 @@ fn asked_text(
 }
 
 /// The lines of each level of an order that was judged, the lowest first, or those of one task alone: with the parts of its
-/// response, where they are printed, or of what it needs that misses its deadline. The error is want of memory. The table is
+/// response, where they are printed, or of what it needs that misses its deadline. The error is out of memory. The table is
 /// that of the set.
 pub fn levels_text(
     alloc: Global,
@@ -246,7 +246,7 @@ fn push_load(text: &mut String, set: &TaskSet, asked: Option<usize>) -> Result<(
 }
 
 /// The lines that explain an order that was judged: each level, the lowest first, with the parts of its response, or of what
-/// its task needs, and then the load of the set; or those of one task alone. The error is want of memory. The
+/// its task needs, and then the load of the set; or those of one task alone. The error is out of memory. The
 /// table is that of the set.
 pub fn explained_text(
     alloc: Global,

@@ -28,7 +28,7 @@ pub enum SettingsFault {
     /// The mutex of the lock isn't at the number of its highest user, which is this: the first such in the order of first
     /// sight.
     WrongCeiling { name: Name, number: u64 },
-    /// A growth was refused.
+    /// An allocation was refused.
     OutOfMemory,
 }
 

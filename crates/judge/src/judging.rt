@@ -72,7 +72,7 @@ fn judge_place(set: &TaskSet, table: &LockTable, order: &[usize], place: usize) 
 }
 
 /// What becomes of each task of an order, the lowest first, with the tasks after it above it: for every order, whether
-/// it passes or not. The error is want of memory. The table is that of the set.
+/// it passes or not. The error is out of memory. The table is that of the set.
 pub fn judge_order(
     alloc: Global,
     set: &TaskSet,

@@ -17,7 +17,7 @@ use lines::push_name;
 use std::alloc::{AllocError, Global};
 use task_sheet::TaskSet;
 
-/// What a task needs at least below these, the lowest first, where it doesn't pass there. The error is want of memory. The
+/// What a task needs at least below these, the lowest first, where it doesn't pass there. The error is out of memory. The
 /// table is that of the set.
 pub(crate) fn missed_account(
     alloc: Global,
@@ -39,7 +39,7 @@ pub(crate) fn missed_account(
     needs_account(alloc, set, table, task, members, &order)
 }
 
-/// The lines of a level, which has a number, where its task misses its deadline. The error is want of memory.
+/// The lines of a level, which has a number, where its task misses its deadline. The error is out of memory.
 pub(crate) fn missed_text(
     alloc: Global,
     set: &TaskSet,

@@ -6,7 +6,7 @@ use crate::judging::{JudgedTask, Judgement};
 use assignment::Place;
 use std::alloc::{AllocError, Global};
 
-/// Each task of an order with its response, the lowest first, where all meet their deadlines. The error is want of memory.
+/// Each task of an order with its response, the lowest first, where all meet their deadlines. The error is out of memory.
 pub fn places_of(alloc: Global, judged: &[JudgedTask]) -> Result<Option<Vec<Place>>, AllocError>
     ensures meet { IfOk result (λ found. IfSome found (λ places. judged.now ≡ judged_of places.items)) }
     ensures miss { IfOk result (λ found. found ≡ None → all_meet judged.now ≡ false) }

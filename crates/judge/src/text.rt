@@ -130,7 +130,7 @@ fn push_levels(
 }
 
 /// The lines that say what becomes of the tasks of an order, the lowest first: whether all meet their deadlines, and then
-/// each, with the numbers of their threads, where they are given. The error is want of memory.
+/// each, with the numbers of their threads, where they are given. The error is out of memory.
 pub fn judged_text(
     alloc: Global,
     set: &TaskSet,
@@ -147,7 +147,7 @@ pub fn judged_text(
     Ok(text)
 }
 
-/// The first of them alone: whether all meet their deadlines. The error is want of memory.
+/// The first of them alone: whether all meet their deadlines. The error is out of memory.
 pub fn first_text(alloc: Global, set: &TaskSet, judged: &[JudgedTask]) -> Result<String, AllocError>
     requires { All (λ j. j.task < TASK_LIMIT) judged.now }
     ensures { IfOk result (λ text. string_bytes text ≡ meets_line set.now judged.now) }

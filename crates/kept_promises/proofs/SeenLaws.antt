@@ -389,7 +389,15 @@ module _ {U : List Task} {places : List PlaceData} {lines : TraceLines}
                     let period : (task_at U (job_at (jobs run) j).task).period
                     ≡ (promise_at j lt).period = ap (λ x. (task_at U x).period) (task_is run j lt)
                     ∙ sym period_is in
-                    omega (arith, spaced, period, time, arrival_is run k inside, arrival_is run j lt)
+                    omega (
+                      arith,
+                      spaced,
+                      period,
+                      time,
+                      arrival_is run k inside,
+                      arrival_is
+                          run j lt,
+                    )
               ]
         ] refl
 

@@ -65,7 +65,7 @@ fn line_of(alloc: Global, ran: Result<Trace, RunFault>) -> Result<String, AllocE
     Ok(line)
 }
 
-// The kernel of a set in an order, asked for again where memory was wanting.
+// The kernel of a set in an order, asked for again where memory ran out.
 fn kernel_of<'a>(
     alloc: Global,
     set: &'a TaskSet,
@@ -74,7 +74,7 @@ fn kernel_of<'a>(
     again!(Kernel::new(alloc, set, order), KernelFault::OutOfMemory)
 }
 
-// What comes of releases, run again where memory was wanting.
+// What comes of releases, run again where memory ran out.
 fn ran(
     alloc: Global,
     kernel: &Kernel,

@@ -47,7 +47,8 @@ module _ (V : List Task) (valid : AllTasks V) (prompt : AllPrompt V) (follow : F
                   let stand : Stands V j (among (less j (b ∷ bs))) = subst (λ X. Stands V j X)
                   (sym (IsOrderOf-among (without_index L j) (less j (b ∷ bs)) order))
                   (passes, free.1) in
-                  absurd (unbeaten (j ∷ less j (b ∷ bs)) (IsOrderOf-cons L j (less j (b ∷ bs)) member'
+                  absurd (unbeaten (j ∷ less j (b ∷ bs))
+                  (IsOrderOf-cons L j (less j (b ∷ bs)) member'
                   order) (stand, less-stand V valid j (b ∷ bs) all) (inl lesser))
             ];
       } in (

@@ -276,7 +276,7 @@ fn push_slack(
 /// The lines of a task of a placed set: for each of its numbers that may help its value, the furthest with which the
 /// order passes, and the furthest with which some order does, each less what of it is the node's; and where there is an
 /// order, its slack. That is any one which passes, the best or another; `order` is the same, the lowest first. The table is
-/// that of the set. The error is want of memory.
+/// that of the set. The error is out of memory.
 pub fn task_text(
     alloc: Global,
     set: &TaskSet,
@@ -354,7 +354,7 @@ fn factor_text(
 }
 
 /// The line of the factors on all execution, in the order of the placing and in any; nothing for the empty set. `order` is
-/// that of the placing, the lowest first. The error is want of memory.
+/// that of the placing, the lowest first. The error is out of memory.
 pub fn last_text(
     alloc: Global,
     set: &TaskSet,

@@ -59,7 +59,7 @@ pub trait LineRow: Drop + Sized {
 }
 
 /// What each line says from a place on, or the number of the first faulty one. Empty lines and lines that begin with `#`
-/// are skipped and counted; the last line may lack its LF. The error is want of memory.
+/// are skipped and counted; the last line may lack its LF. The error is out of memory.
 pub fn read_lines<R: LineRow>(
     alloc: Global,
     at: TextPlace<'_>,

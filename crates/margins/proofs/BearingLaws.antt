@@ -1,5 +1,6 @@
 -- Sets with other costs are alike, so that the order by limits passes where some order does.
-use Rattle.std.proofs.Common.{◌≡◌, ◌↔◌, ℕ, zero, suc, ◌<◌, ◌≤◌, inl, inr, List, [], ◌∷◌, length, get_or, refl, sym, ◌∙◌, ap, subst, arith}
+use Rattle.std.proofs.Common.{◌≡◌, ◌↔◌, ℕ, zero, suc, ◌<◌, ◌≤◌, inl, inr, List, [], ◌∷◌, length}
+use Rattle.std.proofs.Common.{get_or, refl, sym, ◌∙◌, ap, subst, arith}
 use Rattle.std.proofs.lemmas.Bool.{cases_eq}
 use Rattle.std.proofs.lemmas.List.{length-set, get_or_default}
 use Rattle.std.specs.List.{All}
@@ -16,7 +17,8 @@ use Rattle.factor.proofs.ScaledSets.{count-scaled, scaled-at, valid-at, keeps-sc
 use Rattle.preferences.specs.Preferences.{IsPreferred}
 use Rattle.latest_first.specs.LatestFirst.{IsPrompt, AllPrompt, AreAlike}
 use Rattle.task_sheet.specs.declared.prefer.Preference.TheVariants.{Deadline}
-use Rattle.latest_first.proofs.OneOrder.{AllPrompt-valid, IsOrder-alike, IsLatestFirst-alike, IsPassingOrder-latest}
+use Rattle.latest_first.proofs.OneOrder.{AllPrompt-valid, IsOrder-alike, IsLatestFirst-alike}
+use Rattle.latest_first.proofs.OneOrder.{IsPassingOrder-latest}
 use Rattle.latest_first.proofs.BestLatest.{best-latest}
 use Rattle.preferences.proofs.FollowLaws.{FollowLimits-preferred}
 use Rattle.task_sheet.proofs.TaskLaws.{AllTasks-from_set}
@@ -28,21 +30,29 @@ pub record AreRecosted (V W : List Task) : Type 0 where
 
 module _ (V W : List Task) (are : AreRecosted V W) where
   valid-any : (k : ℕ) (d : Task) → k < length W → IsValidSheet (get_or W k d)
-  valid-any k d lt = subst IsValidSheet (get_or_default W k no_task d lt) (are.valid k (omega (arith, lt, are.alike.count)))
+  valid-any k d lt = subst IsValidSheet (get_or_default W k no_task d lt)
+      (are.valid k (omega (arith, lt, are.alike.count)))
 
   tasks : AllTasks W
   tasks k d lt = IsTask-from_valid (get_or W k d) (valid-any k d lt)
 
   prompt : AllPrompt W
-  prompt k d lt = let valid = valid-any k d lt in record { period = omega (arith, valid.period_from); deadline = valid.deadline_to }
+  prompt k d lt = let valid = valid-any k d lt in
+      record { period = omega (arith, valid.period_from); deadline = valid.deadline_to }
 
-  pub passes-recosted : (U : List Task) (order : List ℕ) → IsPreferred Deadline U V → IsTaskSet V → IsBest V order → IsPassingOrder W order ↔ IsFeasible W
+  pub passes-recosted : (U : List Task) (order : List ℕ) → IsPreferred Deadline U V → IsTaskSet V
+      → IsBest V order → IsPassingOrder W order ↔ IsFeasible W
   passes-recosted U order preferred set best =
-      let first = best-latest V (AllTasks-from_set V set) (AllPrompt-valid V set) (FollowLimits-preferred U V preferred) order best in
-      (λ passing. (order, passing), IsPassingOrder-latest W tasks prompt order (IsOrder-alike V W are.alike order best.passing.each_once) (IsLatestFirst-alike V W are.alike order first))
+      let first = best-latest V (AllTasks-from_set V set) (AllPrompt-valid V set)
+      (FollowLimits-preferred U V preferred) order best in (
+        λ passing. (order, passing),
+        IsPassingOrder-latest W tasks prompt order (IsOrder-alike V W
+            are.alike order best.passing.each_once) (IsLatestFirst-alike V W are.alike order first),
+      )
 
 -- ---- scaled
-AreRecosted-scaled : (V : List Task) (factor : ℕ) → IsTaskSet V → MayScale V factor → AreRecosted V (scaled factor V)
+AreRecosted-scaled : (V : List Task) (factor : ℕ) → IsTaskSet V → MayScale V factor
+    → AreRecosted V (scaled factor V)
 AreRecosted-scaled V factor set may = record {
   alike = record {
     count = count-scaled factor V;
@@ -50,24 +60,32 @@ AreRecosted-scaled V factor set may = record {
     names = keeps-scaled (λ (t : Task). t.name) (λ factor t. refl) V factor;
     outranks = keeps-scaled (λ (t : Task). t.outranks) (λ factor t. refl) V factor;
   };
-  valid = λ k lt. subst IsValidSheet (sym (scaled-at factor V k lt)) (valid-at factor V k set may lt);
+  valid =
+      λ k lt. subst IsValidSheet (sym (scaled-at factor V k lt)) (valid-at factor V k set may lt);
 }
 
-pub passes-scaled : (U V : List Task) (order : List ℕ) (factor : ℕ) → IsPreferred Deadline U V → IsTaskSet V → IsBest V order → MayScale V factor → IsPassingOrder (scaled factor V) order ↔ IsFeasible (scaled factor V)
-passes-scaled U V order factor preferred set best may = passes-recosted V (scaled factor V) (AreRecosted-scaled V factor set may) U order preferred set best
+pub passes-scaled : (U V : List Task) (order : List ℕ) (factor : ℕ) → IsPreferred Deadline U V
+    → IsTaskSet V → IsBest V order → MayScale V factor → IsPassingOrder (scaled factor V) order
+    ↔ IsFeasible (scaled factor V)
+passes-scaled U V order factor preferred set best may = passes-recosted V (scaled factor V)
+    (AreRecosted-scaled V factor set may) U order preferred set best
 
-pub passes-factor : (U V : List Task) (order : List ℕ) (most : ℕ) → IsPreferred Deadline U V → IsTaskSet V → IsBest V order → IsFactor V most → IsPassingOrder (scaled most V) order
-passes-factor U V order most preferred set best is = (passes-scaled U V order most preferred set best is.may).1 is.feasible
+pub passes-factor : (U V : List Task) (order : List ℕ) (most : ℕ) → IsPreferred Deadline U V
+    → IsTaskSet V → IsBest V order → IsFactor V most → IsPassingOrder (scaled most V) order
+passes-factor U V order most preferred set best is =
+    (passes-scaled U V order most preferred set best is.may).1 is.feasible
 
 -- ---- one cost
-keeps-costed : {R : Type 0} (of : Task → R) → ((t : Task) (cost : ℕ) → of (with_cost t cost) ≡ of t) → (V : List Task) (i cost k : ℕ) → of (task_at (costed V i cost) k) ≡ of (task_at V k)
+keeps-costed : {R : Type 0} (of : Task → R) → ((t : Task) (cost : ℕ) → of (with_cost t cost) ≡ of t)
+    → (V : List Task) (i cost k : ℕ) → of (task_at (costed V i cost) k) ≡ of (task_at V k)
 keeps-costed of kept [] i cost k = refl
 keeps-costed of kept (t ∷ ts) zero cost zero = kept t cost
 keeps-costed of kept (t ∷ ts) zero cost (suc k) = refl
 keeps-costed of kept (t ∷ ts) (suc i) cost zero = refl
 keeps-costed of kept (t ∷ ts) (suc i) cost (suc k) = keeps-costed of kept ts i cost k
 
-AreRecosted-costed : (V : List Task) (i cost : ℕ) → IsTaskSet V → i < length V → MayCost V i cost → AreRecosted V (costed V i cost)
+AreRecosted-costed : (V : List Task) (i cost : ℕ) → IsTaskSet V → i < length V → MayCost V i cost
+    → AreRecosted V (costed V i cost)
 AreRecosted-costed V i cost set inside may = record {
   alike = record {
     count = length-set V i (with_cost (task_at V i) cost);
@@ -76,19 +94,26 @@ AreRecosted-costed V i cost set inside may = record {
     outranks = keeps-costed (λ (t : Task). t.outranks) (λ t n. refl) V i cost;
   };
   valid = λ k lt. elim (cases_eq k i) [
-    | inl e ↦ subst IsValidSheet (sym (ap (λ j. task_at (costed V i cost) j) e ∙ placed-same V i (with_cost (task_at V i) cost) inside)) may
-    | inr ne ↦ subst IsValidSheet (sym (placed-other V i (with_cost (task_at V i) cost) k ne)) (valid_at V k set lt)
+    | inl e ↦ subst IsValidSheet (sym (ap (λ j. task_at (costed V i cost) j) e
+        ∙ placed-same V i (with_cost (task_at V i) cost) inside)) may
+    | inr ne ↦ subst IsValidSheet (sym (placed-other V i (with_cost (task_at V i) cost) k ne))
+        (valid_at V k set lt)
   ];
 }
 
-pub passes-costed : (U V : List Task) (order : List ℕ) (i cost : ℕ) → IsPreferred Deadline U V → IsTaskSet V → IsBest V order → i < length V → MayCost V i cost
+pub passes-costed : (U V : List Task) (order : List ℕ) (i cost : ℕ) → IsPreferred Deadline U V
+    → IsTaskSet V → IsBest V order → i < length V → MayCost V i cost
     → IsPassingOrder (costed V i cost) order ↔ IsFeasible (costed V i cost)
 passes-costed U V order i cost preferred set best inside may =
-    passes-recosted V (costed V i cost) (AreRecosted-costed V i cost set inside may) U order preferred set best
+    passes-recosted V (costed V i cost) (AreRecosted-costed V i cost set inside may) U order
+    preferred set best
 
-pub headroom-same : (U V : List Task) (order : List ℕ) (i within any : ℕ) → IsPreferred Deadline U V → IsTaskSet V → IsBest V order → i < length V → IsHeadroomIn V order i within → IsHeadroom V i any → within ≡ any
+pub headroom-same : (U V : List Task) (order : List ℕ) (i within any : ℕ) → IsPreferred Deadline U V
+    → IsTaskSet V → IsBest V order → i < length V → IsHeadroomIn V order i within
+    → IsHeadroom V i any → within ≡ any
 headroom-same U V order i within any preferred set best inside is other =
     let up : within ≤ any = in_order-within V order i within any is other in
-    let passes = (passes-costed U V order i any preferred set best inside other.may).1 other.feasible in
+    let passes =
+    (passes-costed U V order i any preferred set best inside other.may).1 other.feasible in
     let down : any ≤ within = (in_order-each V order i within any is other.may).0 passes in
     omega (arith, up, down)

@@ -1,5 +1,7 @@
 -- What is seen of a job is seen in the pieces near it.
-use Rattle.std.proofs.Common.{◌≡◌, ◌∙◌, ℕ, zero, suc, ◌+◌, ◌<◌, ◌≤◌, nat_le, nat_lt, Bool, true, false, cond, List, [], ◌∷◌, take, length, get_or, Option, Some, None, option_map, refl, sym, ap, arith}
+use Rattle.std.proofs.Common.{◌≡◌, ◌∙◌, ℕ, zero, suc, ◌+◌, ◌<◌, ◌≤◌, nat_le, nat_lt, Bool, true}
+use Rattle.std.proofs.Common.{false, cond, List, [], ◌∷◌, take, length, get_or, Option, Some, None}
+use Rattle.std.proofs.Common.{option_map, refl, sym, ap, arith}
 use Rattle.std.specs.List.{find}
 use Rattle.std.specs.Prelude.{if◌then◌else◌}
 use Rattle.std.proofs.Math.Nat.{min-le_left, min-le_right, le-max_left, le-max_right}
@@ -16,27 +18,35 @@ use Rattle.observed.specs.declared.shares.Whom.TheVariants.{Job, Below, Foreign,
 -- ---- what lies behind a time
 
 -- from a later time on
-pub behind-behind : (first time : ℕ) (pieces : List Piece) → first ≤ time → behind time (behind first pieces) ≡ behind time pieces
+pub behind-behind : (first time : ℕ) (pieces : List Piece) → first ≤ time
+    → behind time (behind first pieces) ≡ behind time pieces
 behind-behind first time [] le = refl
-behind-behind first time (p ∷ pieces) le = go (behind-behind first time pieces le) (nat_le p.stop first) refl
+behind-behind first time (p ∷ pieces) le =
+    go (behind-behind first time pieces le) (nat_le p.stop first) refl
   where
-    go : behind time (behind first pieces) ≡ behind time pieces → (b : Bool) → nat_le p.stop first ≡ b
-        → behind time (if b then behind first pieces else p ∷ pieces) ≡ (if nat_le p.stop time then behind time pieces else p ∷ pieces)
+    go : behind time (behind first pieces) ≡ behind time pieces → (b : Bool)
+        → nat_le p.stop first ≡ b
+        → behind time (if b then behind first pieces else p ∷ pieces)
+        ≡ (if nat_le p.stop time then behind time pieces else p ∷ pieces)
     go more true ended =
         let stop : p.stop ≤ first = leb-true p.stop first ended in
         rw (le-leb p.stop time (omega (arith, stop, le))) more
     go more false goes = refl
 
 -- pieces that rise do so behind a time
-lower : (least : ℕ) (pieces : List Piece) → rise_from least pieces ≡ true → rise_from 0 pieces ≡ true
+lower : (least : ℕ) (pieces : List Piece) → rise_from least pieces ≡ true
+    → rise_from 0 pieces ≡ true
 lower least [] rises = refl
 lower least (p ∷ pieces) rises = rw (le-leb 0 p.start (omega (arith))) (and_parts _ _ rises).1
 
-pub behind-rises : (time : ℕ) (pieces : List Piece) → rise_from 0 pieces ≡ true → rise_from 0 (behind time pieces) ≡ true
+pub behind-rises : (time : ℕ) (pieces : List Piece) → rise_from 0 pieces ≡ true
+    → rise_from 0 (behind time pieces) ≡ true
 behind-rises time [] rises = refl
-behind-rises time (p ∷ pieces) rises = go (behind-rises time pieces (lower p.start pieces (and_parts _ _ rises).1)) (nat_le p.stop time)
+behind-rises time (p ∷ pieces) rises = go
+    (behind-rises time pieces (lower p.start pieces (and_parts _ _ rises).1)) (nat_le p.stop time)
   where
-    go : rise_from 0 (behind time pieces) ≡ true → (b : Bool) → rise_from 0 (if b then behind time pieces else p ∷ pieces) ≡ true
+    go : rise_from 0 (behind time pieces) ≡ true → (b : Bool)
+        → rise_from 0 (if b then behind time pieces else p ∷ pieces) ≡ true
     go more true = more
     go more false = rises
 
@@ -62,28 +72,35 @@ module _ (whom : Whom) (from to : ℕ) where
   after p le = no_share p (omega (arith, le, min-le_right p.stop to, le-max_left p.start from))
 
   -- so it adds nothing, and isn't the first
-  adds : (p : Piece) (pieces : List Piece) → share p ≡ 0 → time_in whom from to (p ∷ pieces) ≡ time_in whom from to pieces
+  adds : (p : Piece) (pieces : List Piece) → share p ≡ 0
+      → time_in whom from to (p ∷ pieces) ≡ time_in whom from to pieces
   adds p pieces none = omega (arith, none)
 
   passed : (p : Piece) (pieces : List Piece) → share p ≡ 0 → named (p ∷ pieces) ≡ named pieces
   passed p pieces none =
-      ap (λ n. option_map (λ (q : Piece). q.name) (cond (nat_lt 0 n) (Some p) (find (λ q. nat_lt 0 (share q)) pieces))) none
+      ap (λ n. option_map (λ (q : Piece). q.name)
+      (cond (nat_lt 0 n) (Some p) (find (λ q. nat_lt 0 (share q)) pieces))) none
 
-  pub behind-time : (time : ℕ) (pieces : List Piece) → time ≤ from → time_in whom from to (behind time pieces) ≡ time_in whom from to pieces
+  pub behind-time : (time : ℕ) (pieces : List Piece) → time ≤ from
+      → time_in whom from to (behind time pieces) ≡ time_in whom from to pieces
   behind-time time [] le = refl
   behind-time time (p ∷ pieces) le = go (behind-time time pieces le) (nat_le p.stop time) refl
     where
-      go : time_in whom from to (behind time pieces) ≡ time_in whom from to pieces → (b : Bool) → nat_le p.stop time ≡ b → time_in whom from to (if b then behind time pieces else p ∷ pieces) ≡ time_in whom from to (p ∷ pieces)
+      go : time_in whom from to (behind time pieces) ≡ time_in whom from to pieces → (b : Bool)
+          → nat_le p.stop time ≡ b → time_in whom from to
+          (if b then behind time pieces else p ∷ pieces) ≡ time_in whom from to (p ∷ pieces)
       go more true ended =
           let stop : p.stop ≤ time = leb-true p.stop time ended in
           more ∙ sym (adds p pieces (before p (omega (arith, stop, le))))
       go more false goes = refl
 
-  pub behind-name : (time : ℕ) (pieces : List Piece) → time ≤ from → named (behind time pieces) ≡ named pieces
+  pub behind-name : (time : ℕ) (pieces : List Piece) → time ≤ from
+      → named (behind time pieces) ≡ named pieces
   behind-name time [] le = refl
   behind-name time (p ∷ pieces) le = go (behind-name time pieces le) (nat_le p.stop time) refl
     where
-      go : named (behind time pieces) ≡ named pieces → (b : Bool) → nat_le p.stop time ≡ b → named (if b then behind time pieces else p ∷ pieces) ≡ named (p ∷ pieces)
+      go : named (behind time pieces) ≡ named pieces → (b : Bool) → nat_le p.stop time ≡ b
+          → named (if b then behind time pieces else p ∷ pieces) ≡ named (p ∷ pieces)
       go more true ended =
           let stop : p.stop ≤ time = leb-true p.stop time ended in
           more ∙ sym (passed p pieces (before p (omega (arith, stop, le))))
@@ -92,7 +109,8 @@ module _ (whom : Whom) (from to : ℕ) where
   -- ---- what lies ahead of the end
 
   -- nothing of pieces that rise from there
-  none_left : (least : ℕ) (pieces : List Piece) → to ≤ least → rise_from least pieces ≡ true → (time_in whom from to pieces ≡ 0) × (named pieces ≡ None)
+  none_left : (least : ℕ) (pieces : List Piece) → to ≤ least → rise_from least pieces ≡ true
+      → (time_in whom from to pieces ≡ 0) × (named pieces ≡ None)
   none_left least [] le rises = (refl, refl)
   none_left least (p ∷ pieces) le rises =
       let each = and_parts (nat_le least p.start) (rise_from p.start pieces) rises in
@@ -101,22 +119,28 @@ module _ (whom : Whom) (from to : ℕ) where
       let more = none_left p.start pieces (omega (arith, le, start)) each.1 in
       (adds p pieces none ∙ more.0, passed p pieces none ∙ more.1)
 
-  pub ahead-time : (least : ℕ) (pieces : List Piece) → rise_from least pieces ≡ true → time_in whom from to (ahead to pieces) ≡ time_in whom from to pieces
+  pub ahead-time : (least : ℕ) (pieces : List Piece) → rise_from least pieces ≡ true
+      → time_in whom from to (ahead to pieces) ≡ time_in whom from to pieces
   ahead-time least [] rises = refl
-  ahead-time least (p ∷ pieces) rises = go (ahead-time p.start pieces (and_parts (nat_le least p.start) (rise_from p.start pieces) rises).1) (nat_le to p.start) refl
+  ahead-time least (p ∷ pieces) rises = go (ahead-time p.start pieces (and_parts
+      (nat_le least p.start) (rise_from p.start pieces) rises).1) (nat_le to p.start) refl
     where
       each : (nat_le least p.start ≡ true) × (rise_from p.start pieces ≡ true)
       each = and_parts (nat_le least p.start) (rise_from p.start pieces) rises
 
-      go : time_in whom from to (ahead to pieces) ≡ time_in whom from to pieces → (b : Bool) → nat_le to p.start ≡ b → time_in whom from to (if b then [] else p ∷ ahead to pieces) ≡ time_in whom from to (p ∷ pieces)
+      go : time_in whom from to (ahead to pieces) ≡ time_in whom from to pieces → (b : Bool)
+          → nat_le to p.start ≡ b → time_in whom from to (if b then [] else p ∷ ahead to pieces)
+          ≡ time_in whom from to (p ∷ pieces)
       go more true over =
           let start : to ≤ p.start = leb-true to p.start over in
           sym (adds p pieces (after p start) ∙ (none_left p.start pieces start each.1).0)
       go more false goes = ap (λ n. share p + n) more
 
-  pub ahead-name : (least : ℕ) (pieces : List Piece) → rise_from least pieces ≡ true → named (ahead to pieces) ≡ named pieces
+  pub ahead-name : (least : ℕ) (pieces : List Piece) → rise_from least pieces ≡ true
+      → named (ahead to pieces) ≡ named pieces
   ahead-name least [] rises = refl
-  ahead-name least (p ∷ pieces) rises = go (ahead-name p.start pieces (and_parts (nat_le least p.start) (rise_from p.start pieces) rises).1) (nat_le to p.start) refl
+  ahead-name least (p ∷ pieces) rises = go (ahead-name p.start pieces (and_parts
+      (nat_le least p.start) (rise_from p.start pieces) rises).1) (nat_le to p.start) refl
     where
       each : (nat_le least p.start ≡ true) × (rise_from p.start pieces ≡ true)
       each = and_parts (nat_le least p.start) (rise_from p.start pieces) rises
@@ -124,11 +148,13 @@ module _ (whom : Whom) (from to : ℕ) where
       name : Bool → Option (List ℕ) → Option (List ℕ)
       name b rest = if b then Some p.name else rest
 
-      split : (b : Bool) (rest : Option Piece) → option_map (λ (q : Piece). q.name) (cond b (Some p) rest) ≡ name b (option_map (λ (q : Piece). q.name) rest)
+      split : (b : Bool) (rest : Option Piece) → option_map (λ (q : Piece). q.name)
+          (cond b (Some p) rest) ≡ name b (option_map (λ (q : Piece). q.name) rest)
       split true rest = refl
       split false rest = refl
 
-      go : named (ahead to pieces) ≡ named pieces → (b : Bool) → nat_le to p.start ≡ b → named (if b then [] else p ∷ ahead to pieces) ≡ named (p ∷ pieces)
+      go : named (ahead to pieces) ≡ named pieces → (b : Bool) → nat_le to p.start ≡ b
+          → named (if b then [] else p ∷ ahead to pieces) ≡ named (p ∷ pieces)
       go more true over =
           let start : to ≤ p.start = leb-true to p.start over in
           sym (passed p pieces (after p start) ∙ (none_left p.start pieces start each.1).1)
@@ -138,17 +164,23 @@ module _ (whom : Whom) (from to : ℕ) where
           split here (seen (ahead to pieces)) ∙ ap (name here) more ∙ sym (split here (seen pieces))
 
   -- both, where the pieces rise, or the first alone
-  near-time : (b : Bool) (time : ℕ) (pieces : List Piece) → rise_from 0 pieces ≡ b → time ≤ from → time_in whom from to (near b to (behind time pieces)) ≡ time_in whom from to pieces
-  near-time true time pieces rises le = ahead-time 0 (behind time pieces) (behind-rises time pieces rises) ∙ behind-time time pieces le
+  near-time : (b : Bool) (time : ℕ) (pieces : List Piece) → rise_from 0 pieces ≡ b → time ≤ from
+      → time_in whom from to (near b to (behind time pieces)) ≡ time_in whom from to pieces
+  near-time true time pieces rises le = ahead-time 0 (behind time pieces)
+      (behind-rises time pieces rises) ∙ behind-time time pieces le
   near-time false time pieces rises le = behind-time time pieces le
 
-  near-name : (b : Bool) (time : ℕ) (pieces : List Piece) → rise_from 0 pieces ≡ b → time ≤ from → named (near b to (behind time pieces)) ≡ named pieces
-  near-name true time pieces rises le = ahead-name 0 (behind time pieces) (behind-rises time pieces rises) ∙ behind-name time pieces le
+  near-name : (b : Bool) (time : ℕ) (pieces : List Piece) → rise_from 0 pieces ≡ b → time ≤ from
+      → named (near b to (behind time pieces)) ≡ named pieces
+  near-name true time pieces rises le = ahead-name 0 (behind time pieces)
+      (behind-rises time pieces rises) ∙ behind-name time pieces le
   near-name false time pieces rises le = behind-name time pieces le
 
 -- what is seen of a job is seen in the pieces near it
-pub seen-near : (promise : Promise) (level end : ℕ) (pieces : List Piece) (past : List TraceJob) (job : TraceJob)
-    → seen_job promise level end (near (rise_from 0 pieces) (until_of end job) (behind job.arrival pieces)) past job ≡ seen_job promise level end pieces past job
+pub seen-near : (promise : Promise) (level end : ℕ) (pieces : List Piece) (past : List TraceJob)
+    (job : TraceJob)
+    → seen_job promise level end (near (rise_from 0 pieces) (until_of end job)
+    (behind job.arrival pieces)) past job ≡ seen_job promise level end pieces past job
 seen-near promise level end pieces past job =
     let b = rise_from 0 pieces in
     let to = until_of end job in
@@ -174,14 +206,20 @@ no_piece = record { line = 0; name = []; level = None; job = None; start = 0; st
 abbrev pub begins : ℕ → Piece → Bool
 begins time p = nat_le time p.start
 
-pub all-ahead : (time : ℕ) (pieces : List Piece) (d : Piece) → ((k : ℕ) → k < length pieces → begins time (get_or pieces k d) ≡ false) → ahead time pieces ≡ pieces
+pub all-ahead : (time : ℕ) (pieces : List Piece) (d : Piece)
+    → ((k : ℕ) → k < length pieces → begins time (get_or pieces k d) ≡ false)
+    → ahead time pieces ≡ pieces
 all-ahead time [] d none = refl
 all-ahead time (p ∷ pieces) d none =
-    rw (none 0 (omega (arith))) (ap (λ qs. p ∷ qs) (all-ahead time pieces d (λ k lt. none (suc k) (omega (arith, lt)))))
+    rw (none 0 (omega (arith)))
+    (ap (λ qs. p ∷ qs) (all-ahead time pieces d (λ k lt. none (suc k) (omega (arith, lt)))))
 
-pub some-ahead : (time : ℕ) (pieces : List Piece) (count : ℕ) (d : Piece) → count < length pieces → begins time (get_or pieces count d) ≡ true
-    → ((k : ℕ) → k < count → begins time (get_or pieces k d) ≡ false) → take count pieces ≡ ahead time pieces
+pub some-ahead : (time : ℕ) (pieces : List Piece) (count : ℕ) (d : Piece) → count < length pieces
+    → begins time (get_or pieces count d) ≡ true
+    → ((k : ℕ) → k < count → begins time (get_or pieces k d) ≡ false)
+    → take count pieces ≡ ahead time pieces
 some-ahead time [] count d lt here none = absurd (omega (arith, lt))
 some-ahead time (p ∷ pieces) zero d lt here none = rw here refl
 some-ahead time (p ∷ pieces) (suc count) d lt here none =
-    rw (none 0 (omega (arith))) (ap (λ qs. p ∷ qs) (some-ahead time pieces count d (omega (arith, lt)) here (λ k below. none (suc k) (omega (arith, below)))))
+    rw (none 0 (omega (arith))) (ap (λ qs. p ∷ qs) (some-ahead time pieces count d
+    (omega (arith, lt)) here (λ k below. none (suc k) (omega (arith, below)))))

@@ -14,20 +14,26 @@ use Rattle.observed.specs.Promises.{promises_of}
 use Rattle.observed.specs.Sights.{AreInputs, IsSightFaultOf}
 
 -- a set refuses a trace for a slice in no job alone
-no-other : (line : Option ℕ) (e : TraceFault) → ((l : ℕ) → e ≡ fault.NoJob l → ⊥) → option_map (λ l. fault.NoJob l) line ≡ Some e → ⊥
+no-other : (line : Option ℕ) (e : TraceFault) → ((l : ℕ) → e ≡ fault.NoJob l → ⊥)
+    → option_map (λ l. fault.NoJob l) line ≡ Some e → ⊥
 no-other None e other is = cc
 no-other (Some l) e other is = other l cc
 
 -- a refusal of the trace of a set, in its best order
-pub fault-shown : (U : List Task) (found : Result (List TraceRow) ℕ) (places : List PlaceData) (trace : TraceLines) (e : TraceFault) → AreInputs U found places trace
+pub fault-shown : (U : List Task) (found : Result (List TraceRow) ℕ) (places : List PlaceData)
+    (trace : TraceLines) (e : TraceFault) → AreInputs U found places trace
     → IsTraceFault e (observed_fault (promises_of U places) trace) → IsSightFaultOf U found e
 fault-shown U found places trace fault.OutOfMemory inputs why = tt
 fault-shown U found places trace (fault.NoJob line) inputs why = (places, trace, inputs, why)
 fault-shown U found places trace (fault.BadLine line) inputs why =
-    absurd (no-other (homeless_line (pieces_of (promises_of U places) trace.jobs.items trace.slices.items)) (fault.BadLine line) (λ l is. cc) why)
+    absurd (no-other (homeless_line (pieces_of (promises_of U places) trace.jobs.items
+    trace.slices.items)) (fault.BadLine line) (λ l is. cc) why)
 fault-shown U found places trace (fault.SliceOverlap line) inputs why =
-    absurd (no-other (homeless_line (pieces_of (promises_of U places) trace.jobs.items trace.slices.items)) (fault.SliceOverlap line) (λ l is. cc) why)
+    absurd (no-other (homeless_line (pieces_of (promises_of U places) trace.jobs.items
+    trace.slices.items)) (fault.SliceOverlap line) (λ l is. cc) why)
 fault-shown U found places trace (fault.JobUnsorted line) inputs why =
-    absurd (no-other (homeless_line (pieces_of (promises_of U places) trace.jobs.items trace.slices.items)) (fault.JobUnsorted line) (λ l is. cc) why)
+    absurd (no-other (homeless_line (pieces_of (promises_of U places) trace.jobs.items
+    trace.slices.items)) (fault.JobUnsorted line) (λ l is. cc) why)
 fault-shown U found places trace fault.TooManyLines inputs why =
-    absurd (no-other (homeless_line (pieces_of (promises_of U places) trace.jobs.items trace.slices.items)) fault.TooManyLines (λ l is. cc) why)
+    absurd (no-other (homeless_line (pieces_of (promises_of U places) trace.jobs.items
+    trace.slices.items)) fault.TooManyLines (λ l is. cc) why)

@@ -47,7 +47,7 @@ IsSightOf U found (Infeasible members) =
     IsGreatestObstruction U (indexes_of members) × (rows_fault found ≡ None)
 IsSightOf U found (Seen observed) = IsObserved U found observed
 
--- why a reading shows nothing: want of memory; a slice of a task lies in no job of it; or it is no trace
+-- why a reading shows nothing: out of memory; a slice of a task lies in no job of it; or it is no trace
 abbrev pub IsSightFaultOf : List Task → Result (List TraceRow) ℕ → TraceFault → Type 0
 IsSightFaultOf U found fault.OutOfMemory = Unit {0}
 IsSightFaultOf U found (fault.NoJob line) =

@@ -75,7 +75,7 @@ fn push_tasks(text: &mut String, promises: &[Promise], seen: &[Seen]) -> Result<
 /// The lines that say what a trace shows: for each task of these promises, the lowest level first, its name, how many jobs
 /// it has, the longest execution of one and its cost, the least time between two arrivals, `-` where there is none, and
 /// its period, the greatest response, `-` where no job is done, and its bound; then, for each job in its order, the
-/// promises that it breaks by more than the tolerance. Times are in microseconds. The error is want of memory.
+/// promises that it breaks by more than the tolerance. Times are in microseconds. The error is out of memory.
 pub fn observed_text(
     alloc: Global,
     tolerance: u64,

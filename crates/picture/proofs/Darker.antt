@@ -6,15 +6,21 @@ use Rattle.std.specs.List.{list_all}
 use Rattle.task_sheet.specs.Sheet.{CriticalSection}
 use Rattle.task_sheet.specs.Name.{is_name_byte, is_letter}
 use Rattle.ceiling_kernel.specs.Tick.{is_inside}
-use Rattle.picture.specs.Laws.{AreTicksDark, IsHeldBetween, AreNamesPlain, executes_inside, is_plain}
+use Rattle.picture.specs.Laws.{AreTicksDark, IsHeldBetween, AreNamesPlain, executes_inside}
+use Rattle.picture.specs.Laws.{is_plain}
 
 pub ticks_dark : AreTicksDark
-ticks_dark x e s n within = (λ both. grind (arith, both.0, both.1), λ inside. (grind (arith, inside), grind (arith, inside, within)))
+ticks_dark x e s n within = (
+  λ both. grind (arith, both.0, both.1),
+  λ inside.
+      (grind (arith, inside), grind (arith, inside, within)),
+)
 
 held_first : (x : CriticalSection) → is_inside x 0 ≡ false
 held_first x = grind arith
 
-held_more : (x : CriticalSection) (e : ℕ) → is_inside x (e + 1) ≡ (executes_inside x e && executes_inside x (e + 1))
+held_more : (x : CriticalSection) (e : ℕ)
+    → is_inside x (e + 1) ≡ (executes_inside x e && executes_inside x (e + 1))
 held_more x e = grind arith
 
 pub held_law : IsHeldBetween
@@ -31,4 +37,5 @@ bytes_plain (c ∷ text) h =
 
 pub names_law : AreNamesPlain
 names_law name named =
-    bytes_plain name (and_parts (nat_lt 0 (length name) && nat_le (length name) 24 && is_letter (slice_index name 0)) (list_all is_name_byte name) named).1
+    bytes_plain name (and_parts (nat_lt 0 (length name) && nat_le (length name) 24
+    && is_letter (slice_index name 0)) (list_all is_name_byte name) named).1

@@ -23,7 +23,7 @@ use task_sheet::Name;
 /// Why there is no picture.
 #[derive(Clone, Copy, Debug, PartialEq, Eq)]
 pub enum DrawFault {
-    /// Want of memory; nothing was written.
+    /// Out of memory; nothing was written.
     OutOfMemory,
     /// The writer failed.
     WriteFailed,

@@ -1,67 +1,93 @@
 -- Each job has one place: the last one up to it at which a band of its task begins.
-use Rattle.std.proofs.Common.{◌≡◌, ◌⊎◌, inl, inr, ℕ, suc, zero, ◌+◌, ◌-◌, ◌<◌, ◌≤◌, List, length, Bool, true, false, not, Option, None, refl, sym, ap, ◌∙◌, subst, arith}
+use Rattle.std.proofs.Common.{◌≡◌, ◌⊎◌, inl, inr, ℕ, suc, zero, ◌+◌, ◌-◌, ◌<◌, ◌≤◌, List, length}
+use Rattle.std.proofs.Common.{Bool, true, false, not, Option, None, refl, sym, ap, ◌∙◌, subst}
+use Rattle.std.proofs.Common.{arith}
 use Rattle.std.specs.Prelude.{nat_lt, nat_le}
-use Rattle.std.proofs.lemmas.Bool.{both_ways, cases_lt, cases_order, and_parts, and_from, and_left, and_right, not-true, lt-ltb, le-leb, ltb-true, leb-true}
+use Rattle.std.proofs.lemmas.Bool.{both_ways, cases_lt, cases_order, and_parts, and_from, and_left}
+use Rattle.std.proofs.lemmas.Bool.{and_right, not-true, lt-ltb, le-leb, ltb-true, leb-true}
 use Rattle.task_sheet.proofs.NameLaws.{same_own, same_is}
 use Rattle.ceiling_kernel.specs.declared.trace.JobRecord.{JobRecord}
-use Rattle.pieces.specs.Bands.{job_of, is_of, last_of, is_close, joins, begins, next_from, next_of, is_within, is_behind, holds_job}
+use Rattle.pieces.specs.Bands.{job_of, is_of, last_of, is_close, joins, begins, next_from, next_of}
+use Rattle.pieces.specs.Bands.{is_within, is_behind, holds_job}
 
 -- ---- where the next band begins
-here : (gap : ℕ) (jobs : List JobRecord) (name : List ℕ) (n more : ℕ) → begins gap jobs name n ≡ true → next_from gap jobs name n (suc more) ≡ n
+here : (gap : ℕ) (jobs : List JobRecord) (name : List ℕ) (n more : ℕ)
+    → begins gap jobs name n ≡ true → next_from gap jobs name n (suc more) ≡ n
 unfolding next_from
 here gap jobs name n more h = rw h refl
 
-later : (gap : ℕ) (jobs : List JobRecord) (name : List ℕ) (n more : ℕ) → begins gap jobs name n ≡ false → next_from gap jobs name n (suc more) ≡ next_from gap jobs name (n + 1) more
+later : (gap : ℕ) (jobs : List JobRecord) (name : List ℕ) (n more : ℕ) → begins gap jobs name n
+    ≡ false → next_from gap jobs name n (suc more) ≡ next_from gap jobs name (n + 1) more
 unfolding next_from
 later gap jobs name n more h = rw h refl
 
-nowhere : (gap : ℕ) (jobs : List JobRecord) (name : List ℕ) (n : ℕ) → next_from gap jobs name n 0 ≡ n
+nowhere : (gap : ℕ) (jobs : List JobRecord) (name : List ℕ) (n : ℕ)
+    → next_from gap jobs name n 0 ≡ n
 unfolding next_from
 nowhere gap jobs name n = refl
 
-pub next_behind : (gap : ℕ) (jobs : List JobRecord) (name : List ℕ) (n more : ℕ) → n ≤ next_from gap jobs name n more
+pub next_behind : (gap : ℕ) (jobs : List JobRecord) (name : List ℕ) (n more : ℕ)
+    → n ≤ next_from gap jobs name n more
 next_behind gap jobs name n zero = rw (nowhere gap jobs name n) (omega arith)
-next_behind gap jobs name n (suc more) = by (begins gap jobs name n) refl (next_behind gap jobs name (n + 1) more)
+next_behind gap jobs name n (suc more) =
+    by (begins gap jobs name n) refl (next_behind gap jobs name (n + 1) more)
   where
-    by : (b : Bool) → begins gap jobs name n ≡ b → n + 1 ≤ next_from gap jobs name (n + 1) more → n ≤ next_from gap jobs name n (suc more)
+    by : (b : Bool) → begins gap jobs name n ≡ b → n + 1 ≤ next_from gap jobs name (n + 1) more
+        → n ≤ next_from gap jobs name n (suc more)
     by true h rest = rw (here gap jobs name n more h) (omega arith)
     by false h rest = rw (later gap jobs name n more h) (omega (arith, rest))
 
-pub next_within : (gap : ℕ) (jobs : List JobRecord) (name : List ℕ) (n more : ℕ) → next_from gap jobs name n more ≤ n + more
+pub next_within : (gap : ℕ) (jobs : List JobRecord) (name : List ℕ) (n more : ℕ)
+    → next_from gap jobs name n more ≤ n + more
 next_within gap jobs name n zero = rw (nowhere gap jobs name n) (omega arith)
-next_within gap jobs name n (suc more) = by (begins gap jobs name n) refl (next_within gap jobs name (n + 1) more)
+next_within gap jobs name n (suc more) =
+    by (begins gap jobs name n) refl (next_within gap jobs name (n + 1) more)
   where
-    by : (b : Bool) → begins gap jobs name n ≡ b → next_from gap jobs name (n + 1) more ≤ (n + 1) + more → next_from gap jobs name n (suc more) ≤ n + suc more
+    by : (b : Bool) → begins gap jobs name n ≡ b → next_from gap jobs name (n + 1) more
+        ≤ (n + 1) + more → next_from gap jobs name n (suc more) ≤ n + suc more
     by true h rest = rw (here gap jobs name n more h) (omega arith)
     by false h rest = rw (later gap jobs name n more h) (omega (arith, rest))
 
 -- no further than a place at which a band begins
-next_upto : (gap : ℕ) (jobs : List JobRecord) (name : List ℕ) (q n more : ℕ) → begins gap jobs name q ≡ true → n ≤ q → q < n + more → next_from gap jobs name n more ≤ q
+next_upto : (gap : ℕ) (jobs : List JobRecord) (name : List ℕ) (q n more : ℕ)
+    → begins gap jobs name q ≡ true → n ≤ q → q < n + more → next_from gap jobs name n more ≤ q
 next_upto gap jobs name q n zero is lo hi = absurd (omega (arith, lo, hi))
-next_upto gap jobs name q n (suc more) is lo hi = by (begins gap jobs name n) refl (cases_lt n q) (λ lt. next_upto gap jobs name q (n + 1) more is (omega (arith, lt)) (omega (arith, hi)))
+next_upto gap jobs name q n (suc more) is lo hi = by (begins gap jobs name n) refl (cases_lt n q)
+    (λ lt. next_upto gap jobs name q (n + 1) more is (omega (arith, lt)) (omega (arith, hi)))
   where
-    by : (b : Bool) → begins gap jobs name n ≡ b → (n < q) ⊎ (q ≤ n) → (n < q → next_from gap jobs name (n + 1) more ≤ q) → next_from gap jobs name n (suc more) ≤ q
+    by : (b : Bool) → begins gap jobs name n ≡ b → (n < q) ⊎ (q ≤ n)
+        → (n < q → next_from gap jobs name (n + 1) more ≤ q)
+        → next_from gap jobs name n (suc more) ≤ q
     by true h at rest = rw (here gap jobs name n more h) lo
     by false h (inl lt) rest = rw (later gap jobs name n more h) (rest lt)
     by false h (inr ge) rest =
         let at : q ≡ n = omega (arith, lo, ge) in
-        absurd (both_ways (begins gap jobs name n) h (subst (λ (z : ℕ). begins gap jobs name z ≡ true) at is))
+        absurd (both_ways (begins gap jobs name n) h
+        (subst (λ (z : ℕ). begins gap jobs name z ≡ true) at is))
 
 -- past a place up to which none begins
-next_past : (gap : ℕ) (jobs : List JobRecord) (name : List ℕ) (j n more : ℕ) → ((q : ℕ) → n ≤ q → q ≤ j → begins gap jobs name q ≡ false) → j < n + more → j < next_from gap jobs name n more
+next_past : (gap : ℕ) (jobs : List JobRecord) (name : List ℕ) (j n more : ℕ)
+    → ((q : ℕ) → n ≤ q → q ≤ j → begins gap jobs name q ≡ false) → j < n + more
+    → j < next_from gap jobs name n more
 next_past gap jobs name j n zero clear lt = rw (nowhere gap jobs name n) (omega (arith, lt))
-next_past gap jobs name j n (suc more) clear lt = by (begins gap jobs name n) refl (cases_lt j n) (next_past gap jobs name j (n + 1) more (λ q lo hi. clear q (omega (arith, lo)) hi) (omega (arith, lt)))
+next_past gap jobs name j n (suc more) clear lt =
+    by (begins gap jobs name n) refl (cases_lt j n) (next_past gap jobs name j (n + 1) more
+    (λ q lo hi. clear q (omega (arith, lo)) hi) (omega (arith, lt)))
   where
-    by : (b : Bool) → begins gap jobs name n ≡ b → (j < n) ⊎ (n ≤ j) → j < next_from gap jobs name (n + 1) more → j < next_from gap jobs name n (suc more)
+    by : (b : Bool) → begins gap jobs name n ≡ b → (j < n) ⊎ (n ≤ j)
+        → j < next_from gap jobs name (n + 1) more → j < next_from gap jobs name n (suc more)
     by true h (inl below) rest = rw (here gap jobs name n more h) below
-    by true h (inr ge) rest = absurd (both_ways (begins gap jobs name n) (clear n (omega arith) ge) h)
+    by true h (inr ge) rest =
+        absurd (both_ways (begins gap jobs name n) (clear n (omega arith) ge) h)
     by false h at rest = rw (later gap jobs name n more h) rest
 
 -- ---- the last band that begins below a place
-last_clear : (jobs : List JobRecord) (name : List ℕ) (n : ℕ) → ((q : ℕ) → q < n → is_of name (job_of jobs q) ≡ false) → last_of jobs name n ≡ None
+last_clear : (jobs : List JobRecord) (name : List ℕ) (n : ℕ)
+    → ((q : ℕ) → q < n → is_of name (job_of jobs q) ≡ false) → last_of jobs name n ≡ None
 unfolding last_of
 last_clear jobs name zero clear = refl
-last_clear jobs name (suc n) clear = rw (clear n (omega arith)) (last_clear jobs name n (λ q lt. clear q (omega (arith, lt))))
+last_clear jobs name (suc n) clear =
+    rw (clear n (omega arith)) (last_clear jobs name n (λ q lt. clear q (omega (arith, lt))))
 
 record Latest (gap : ℕ) (jobs : List JobRecord) (name : List ℕ) (m : ℕ) : Type 0 where
   place : ℕ
@@ -69,43 +95,54 @@ record Latest (gap : ℕ) (jobs : List JobRecord) (name : List ℕ) (m : ℕ) : 
   is : begins gap jobs name place ≡ true
   clear : (q : ℕ) → place < q → q < m → begins gap jobs name q ≡ false
 
-longer : (gap : ℕ) (jobs : List JobRecord) (name : List ℕ) (m : ℕ) → Latest gap jobs name m → begins gap jobs name m ≡ false → Latest gap jobs name (suc m)
+longer : (gap : ℕ) (jobs : List JobRecord) (name : List ℕ) (m : ℕ) → Latest gap jobs name m
+    → begins gap jobs name m ≡ false → Latest gap jobs name (suc m)
 longer gap jobs name m l not_here = record {
   place = l.place;
   below = let b : l.place < m = l.below in omega (arith, b);
   is = l.is;
   clear = λ q lo hi. elim (cases_lt q m) [
     | inl lt ↦ l.clear q lo lt
-    | inr ge ↦ let at : m ≡ q = omega (arith, hi, ge) in subst (λ (z : ℕ). begins gap jobs name z ≡ false) at not_here
+    | inr ge ↦ let at : m ≡ q = omega (arith, hi, ge) in
+        subst (λ (z : ℕ). begins gap jobs name z ≡ false) at not_here
   ];
 }
 
 -- the first job of a task joins none
-first_apart : (gap : ℕ) (jobs : List JobRecord) (name : List ℕ) (m : ℕ) → ((q : ℕ) → q < m → is_of name (job_of jobs q) ≡ false) → is_of name (job_of jobs m) ≡ true → joins gap jobs m ≡ false
+first_apart : (gap : ℕ) (jobs : List JobRecord) (name : List ℕ) (m : ℕ)
+    → ((q : ℕ) → q < m → is_of name (job_of jobs q) ≡ false) → is_of name (job_of jobs m) ≡ true
+    → joins gap jobs m ≡ false
 first_apart gap jobs name m none is =
     let same : (job_of jobs m).name ≡ name = same_is (job_of jobs m).name name is in
     ap (λ (n : List ℕ). is_close gap (last_of jobs n m) (job_of jobs m)) same
     ∙ ap (λ (o : Option JobRecord). is_close gap o (job_of jobs m)) (last_clear jobs name m none)
 
-latest : (gap : ℕ) (jobs : List JobRecord) (name : List ℕ) (m : ℕ) → ((q : ℕ) → q < m → is_of name (job_of jobs q) ≡ false) ⊎ Latest gap jobs name m
+latest : (gap : ℕ) (jobs : List JobRecord) (name : List ℕ) (m : ℕ)
+    → ((q : ℕ) → q < m → is_of name (job_of jobs q) ≡ false) ⊎ Latest gap jobs name m
 latest gap jobs name zero = inl (λ q lt. absurd (omega (arith, lt)))
-latest gap jobs name (suc m) = by (is_of name (job_of jobs m)) refl (joins gap jobs m) refl (latest gap jobs name m)
+latest gap jobs name (suc m) =
+    by (is_of name (job_of jobs m)) refl (joins gap jobs m) refl (latest gap jobs name m)
   where
-    by : (a : Bool) → is_of name (job_of jobs m) ≡ a → (b : Bool) → joins gap jobs m ≡ b → ((q : ℕ) → q < m → is_of name (job_of jobs q) ≡ false) ⊎ Latest gap jobs name m
+    by : (a : Bool) → is_of name (job_of jobs m) ≡ a → (b : Bool) → joins gap jobs m ≡ b
+        → ((q : ℕ) → q < m → is_of name (job_of jobs q) ≡ false) ⊎ Latest gap jobs name m
         → ((q : ℕ) → q < suc m → is_of name (job_of jobs q) ≡ false) ⊎ Latest gap jobs name (suc m)
     by false ha b hb (inl none) = inl (λ q lt. elim (cases_lt q m) [
       | inl below ↦ none q below
-      | inr ge ↦ let at : m ≡ q = omega (arith, lt, ge) in subst (λ (z : ℕ). is_of name (job_of jobs z) ≡ false) at ha
+      | inr ge ↦ let at : m ≡ q = omega (arith, lt, ge) in
+          subst (λ (z : ℕ). is_of name (job_of jobs z) ≡ false) at ha
     ])
-    by false ha b hb (inr l) = inr (longer gap jobs name m l (and_left (is_of name (job_of jobs m)) (not (joins gap jobs m)) ha))
+    by false ha b hb (inr l) = inr (longer gap jobs name m l
+        (and_left (is_of name (job_of jobs m)) (not (joins gap jobs m)) ha))
     by true ha false hb prior = inr (record {
       place = m;
       below = omega arith;
       is = and_from (is_of name (job_of jobs m)) (not (joins gap jobs m)) ha (ap not hb);
       clear = λ q lo hi. absurd (omega (arith, lo, hi));
     })
-    by true ha true hb (inl none) = absurd (both_ways (joins gap jobs m) (first_apart gap jobs name m none ha) hb)
-    by true ha true hb (inr l) = inr (longer gap jobs name m l (and_right (is_of name (job_of jobs m)) (not (joins gap jobs m)) (ap not hb)))
+    by true ha true hb (inl none) =
+        absurd (both_ways (joins gap jobs m) (first_apart gap jobs name m none ha) hb)
+    by true ha true hb (inr l) = inr (longer gap jobs name m l
+        (and_right (is_of name (job_of jobs m)) (not (joins gap jobs m)) (ap not hb)))
 
 -- ---- what a band holds
 record Held (gap : ℕ) (jobs : List JobRecord) (n j : ℕ) : Type 0 where
@@ -114,7 +151,8 @@ record Held (gap : ℕ) (jobs : List JobRecord) (n j : ℕ) : Type 0 where
   from : n ≤ j
   below : j < next_of gap jobs n
 
-held : (gap : ℕ) (jobs : List JobRecord) (n j : ℕ) → holds_job gap jobs n j ≡ true → Held gap jobs n j
+held : (gap : ℕ) (jobs : List JobRecord) (n j : ℕ) → holds_job gap jobs n j ≡ true
+    → Held gap jobs n j
 held gap jobs n j h =
     let name = (job_of jobs n).name in
     let next = next_of gap jobs n in
@@ -128,7 +166,9 @@ held gap jobs n j h =
       below = ltb-true j next within.1;
     }
 
-holding : (gap : ℕ) (jobs : List JobRecord) (n j : ℕ) → joins gap jobs n ≡ false → is_of (job_of jobs n).name (job_of jobs j) ≡ true → n ≤ j → j < next_of gap jobs n → holds_job gap jobs n j ≡ true
+holding : (gap : ℕ) (jobs : List JobRecord) (n j : ℕ) → joins gap jobs n ≡ false
+    → is_of (job_of jobs n).name (job_of jobs j) ≡ true → n ≤ j → j < next_of gap jobs n
+    → holds_job gap jobs n j ≡ true
 holding gap jobs n j apart same from below =
     let name = (job_of jobs n).name in
     let next = next_of gap jobs n in
@@ -137,10 +177,12 @@ holding gap jobs n j apart same from below =
     (and_from (nat_le n j) (nat_lt j next) (le-leb n j from) (lt-ltb j next below)))
 
 -- a band begins with the job that holds another, of that one's task
-begun : (gap : ℕ) (jobs : List JobRecord) (m j : ℕ) → Held gap jobs m j → begins gap jobs (job_of jobs j).name m ≡ true
+begun : (gap : ℕ) (jobs : List JobRecord) (m j : ℕ) → Held gap jobs m j
+    → begins gap jobs (job_of jobs j).name m ≡ true
 begun gap jobs m j h =
     and_from (is_of (job_of jobs j).name (job_of jobs m)) (not (joins gap jobs m))
-    (subst (λ (name : List ℕ). is_of name (job_of jobs m) ≡ true) h.same (same_own (job_of jobs m).name)) (ap not h.apart)
+    (subst (λ (name : List ℕ). is_of name (job_of jobs m) ≡ true) h.same
+    (same_own (job_of jobs m).name)) (ap not h.apart)
 
 -- the one place of a job
 pub record Place (gap : ℕ) (jobs : List JobRecord) (j : ℕ) : Type 0 where
@@ -152,7 +194,8 @@ pub record Place (gap : ℕ) (jobs : List JobRecord) (j : ℕ) : Type 0 where
   pub from : place ≤ j
   pub below : j < next_of gap jobs place
 
-stands_at : (gap : ℕ) (jobs : List JobRecord) (j : ℕ) → j < length jobs → Latest gap jobs (job_of jobs j).name (suc j) → Place gap jobs j
+stands_at : (gap : ℕ) (jobs : List JobRecord) (j : ℕ) → j < length jobs
+    → Latest gap jobs (job_of jobs j).name (suc j) → Place gap jobs j
 stands_at gap jobs j lt l =
     let name = (job_of jobs j).name in
     let p = l.place in
@@ -161,9 +204,12 @@ stands_at gap jobs j lt l =
     let same : (job_of jobs p).name ≡ name = same_is (job_of jobs p).name name is.0 in
     let apart : joins gap jobs p ≡ false = not-true (joins gap jobs p) is.1 in
     let clear : (q : ℕ) → p + 1 ≤ q → q ≤ j → begins gap jobs (job_of jobs p).name q ≡ false =
-    λ q lo hi. subst (λ (z : List ℕ). begins gap jobs z q ≡ false) (sym same) (l.clear q (omega (arith, lo)) (omega (arith, hi))) in
-    let under : j < next_of gap jobs p = next_past gap jobs (job_of jobs p).name j (p + 1) (length jobs - (p + 1)) clear (omega (arith, lt, some)) in
-    let own : is_of (job_of jobs p).name (job_of jobs j) ≡ true = subst (λ (z : List ℕ). is_of z (job_of jobs j) ≡ true) (sym same) (same_own name) in
+    λ q lo hi. subst (λ (z : List ℕ). begins gap jobs z q ≡ false) (sym same)
+    (l.clear q (omega (arith, lo)) (omega (arith, hi))) in
+    let under : j < next_of gap jobs p = next_past gap jobs (job_of jobs p).name j (p + 1)
+    (length jobs - (p + 1)) clear (omega (arith, lt, some)) in
+    let own : is_of (job_of jobs p).name (job_of jobs j) ≡ true =
+    subst (λ (z : List ℕ). is_of z (job_of jobs j) ≡ true) (sym same) (same_own name) in
     record {
       place = p;
       holds = holding gap jobs p j apart own (omega (arith, some)) under;
@@ -174,26 +220,34 @@ stands_at gap jobs j lt l =
       below = under;
     }
   where
-    one : (m : ℕ) → Held gap jobs m j → (m ≡ l.place) ⊎ ((m < l.place) ⊎ (l.place < m)) → m ≡ l.place
+    one : (m : ℕ) → Held gap jobs m j → (m ≡ l.place) ⊎ ((m < l.place) ⊎ (l.place < m))
+        → m ≡ l.place
     one m h (inl is) = is
     one m h (inr (inl before)) =
         let some : l.place < suc j = l.below in
         let below : j < next_of gap jobs m = h.below in
-        let begins_there : begins gap jobs (job_of jobs m).name l.place ≡ true = subst (λ (z : List ℕ). begins gap jobs z l.place ≡ true) (sym h.same) l.is in
-        let upto : next_of gap jobs m ≤ l.place = next_upto gap jobs (job_of jobs m).name l.place (m + 1) (length jobs - (m + 1)) begins_there (omega (arith, before)) (omega (arith, before, some, lt)) in
+        let begins_there : begins gap jobs (job_of jobs m).name l.place ≡ true =
+        subst (λ (z : List ℕ). begins gap jobs z l.place ≡ true) (sym h.same) l.is in
+        let upto : next_of gap jobs m ≤ l.place =
+        next_upto gap jobs (job_of jobs m).name l.place (m + 1) (length jobs - (m + 1))
+        begins_there (omega (arith, before)) (omega (arith, before, some, lt)) in
         absurd (omega (arith, upto, below, some))
     one m h (inr (inr behind)) =
         let from : m ≤ j = h.from in
-        absurd (both_ways (begins gap jobs (job_of jobs j).name m) (l.clear m behind (omega (arith, from))) (begun gap jobs m j h))
+        absurd (both_ways (begins gap jobs (job_of jobs j).name m)
+        (l.clear m behind (omega (arith, from))) (begun gap jobs m j h))
 
 pub place_of : (gap : ℕ) (jobs : List JobRecord) (j : ℕ) → j < length jobs → Place gap jobs j
 place_of gap jobs j lt = elim (latest gap jobs (job_of jobs j).name (suc j)) [
-  | inl none ↦ absurd (both_ways (is_of (job_of jobs j).name (job_of jobs j)) (none j (omega arith)) (same_own (job_of jobs j).name))
+  | inl none ↦ absurd (both_ways (is_of (job_of jobs j).name (job_of jobs j)) (none j (omega arith))
+      (same_own (job_of jobs j).name))
   | inr l ↦ stands_at gap jobs j lt l
 ]
 
 -- a job that joins none stands in its own
-pub stands_first : (gap : ℕ) (jobs : List JobRecord) (j : ℕ) → joins gap jobs j ≡ false → holds_job gap jobs j j ≡ true
+pub stands_first : (gap : ℕ) (jobs : List JobRecord) (j : ℕ) → joins gap jobs j ≡ false
+    → holds_job gap jobs j j ≡ true
 stands_first gap jobs j apart =
-    let from : j + 1 ≤ next_of gap jobs j = next_behind gap jobs (job_of jobs j).name (j + 1) (length jobs - (j + 1)) in
+    let from : j + 1 ≤ next_of gap jobs j =
+    next_behind gap jobs (job_of jobs j).name (j + 1) (length jobs - (j + 1)) in
     holding gap jobs j j apart (same_own (job_of jobs j).name) (omega arith) (omega (arith, from))

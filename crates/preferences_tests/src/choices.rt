@@ -23,7 +23,7 @@ fn document(alloc: Global, line: &str) -> Result<String, Fail> {
     Ok(format!(in alloc; "{line}\n{TASKS}")?)
 }
 
-// The set of a text by what a call prefers, read again where memory was wanting.
+// The set of a text by what a call prefers, read again where memory ran out.
 fn read(alloc: Global, text: &str, call: Option<Preference>) -> Result<Preferred, TeamsFault> {
     match read_preferred(alloc, text.as_bytes(), call) {
         Err(TeamsFault::OutOfMemory) => read_preferred(alloc, text.as_bytes(), call),

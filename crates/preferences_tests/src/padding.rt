@@ -6,7 +6,7 @@ use std::test::Fail;
 use task_sheet::{Name, Sheet};
 use teams::TeamsFault;
 
-// The set of a document, which is read again where memory was wanting.
+// The set of a document, which is read again where memory ran out.
 fn read(alloc: Global, document: &str) -> Result<Preferred, TeamsFault> {
     match read_preferred(alloc, document.as_bytes(), None) {
         Err(TeamsFault::OutOfMemory) => read_preferred(alloc, document.as_bytes(), None),

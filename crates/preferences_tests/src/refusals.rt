@@ -5,7 +5,7 @@ use std::test::Fail;
 use task_sheet::{Key, Preference, SetFault, SheetCause};
 use teams::TeamsFault;
 
-// Why a document is no set by what a call prefers; none where it is one. It is read again where memory was wanting.
+// Why a document is no set by what a call prefers; none where it is one. It is read again where memory ran out.
 fn fault_of(alloc: Global, document: &str, call: Option<Preference>) -> Option<SetFault> {
     let mut read = read_preferred(alloc, document.as_bytes(), call);
     if let Err(TeamsFault::OutOfMemory) = &read {

@@ -9,7 +9,7 @@ use std::alloc::{AllocError, AllocFailed, Global};
 use std::test::Fail;
 use task_sheet::{Preference, TaskSet};
 
-// The set by a preference, taken again with the set that is handed back where memory was wanting.
+// The set by a preference, taken again with the set that is handed back where memory ran out.
 fn taken(
     alloc: Global,
     set: TaskSet,

@@ -34,11 +34,15 @@ use Rattle.printed_runs.specs.Clean.{IsClean, IsForRoom}
 use Rattle.printed_runs.specs.TraceLines.{trace_lines}
 use Rattle.printed_runs.proofs.RunLaws.{in_order, says}
 
-module _ (U : List Task) (places : List PlaceData) (rs : List Release) (until : ℕ) (trace : Trace) (set : IsTaskSet U) (best : IsBestPlacing U places) (ran : Runs (node_in U (tasks_of_places places)) rs until (Ok trace)) where
+module _ (U : List Task) (places : List PlaceData) (rs : List Release) (until : ℕ) (trace : Trace)
+    (set : IsTaskSet U) (best : IsBestPlacing U places)
+    (ran : Runs (node_in U (tasks_of_places places)) rs until (Ok trace)) where
   -- what the lines are read as is of the run, in whatever best order
-  of_run : (others : List PlaceData) (lines : TraceLines) → IsBestPlacing U others → IsTraceIn (trace_lines trace) lines → AreOfRun U others lines
+  of_run : (others : List PlaceData) (lines : TraceLines) → IsBestPlacing U others
+      → IsTraceIn (trace_lines trace) lines → AreOfRun U others lines
   of_run others lines is_best read =
-      let same : tasks_of_places places ≡ tasks_of_places others = IsBest-one U (tasks_of_places places) (tasks_of_places others) best.best is_best.best in
+      let same : tasks_of_places places ≡ tasks_of_places others =
+      IsBest-one U (tasks_of_places places) (tasks_of_places others) best.best is_best.best in
       record {
         set = set;
         order = is_best.best.passing.each_once;
@@ -51,13 +55,18 @@ module _ (U : List Task) (places : List PlaceData) (rs : List Release) (until : 
         say = says U (tasks_of_places places) rs until trace set ran lines read;
       }
 
-  pub clean : (tolerance : ℕ) (sight : Sight) → IsSight U (trace_lines trace) sight → IsClean tolerance sight
-  clean tolerance (Infeasible members) is = IsObstruction-fails U (AllTasks-from_set U set) (indexes_of members) is.0.obstruction (tasks_of_places places, best.best.passing)
+  pub clean : (tolerance : ℕ) (sight : Sight) → IsSight U (trace_lines trace) sight
+      → IsClean tolerance sight
+  clean tolerance (Infeasible members) is = IsObstruction-fails U (AllTasks-from_set U set)
+      (indexes_of members) is.0.obstruction (tasks_of_places places, best.best.passing)
   clean tolerance (Seen shown) is =
-      let run : AreOfRun U is.places is.lines = of_run is.places is.lines is.inputs.best is.inputs.read in
+      let run : AreOfRun U is.places is.lines =
+      of_run is.places is.lines is.inputs.best is.inputs.read in
       let kept = all_seen run Keeps (keeps run) in (
-        subst (λ (seen : List SeenData). is_kept tolerance seen ≡ true) (sym is.seen) (all_are_kept tolerance (observed_in (promises_of U is.places) is.lines) kept),
-        subst (λ (seen : List SeenData). broken_lines tolerance seen ≡ []) (sym is.seen) (none_written tolerance (observed_in (promises_of U is.places) is.lines) kept),
+        subst (λ (seen : List SeenData). is_kept tolerance seen ≡ true) (sym is.seen)
+            (all_are_kept tolerance (observed_in (promises_of U is.places) is.lines) kept),
+        subst (λ (seen : List SeenData). broken_lines tolerance seen ≡ []) (sym is.seen)
+            (none_written tolerance (observed_in (promises_of U is.places) is.lines) kept),
       )
 
   -- of faults of the text, there is only want of room
@@ -71,7 +80,8 @@ module _ (U : List Task) (places : List PlaceData) (rs : List Release) (until : 
   pub refused : (e : TraceFault) → IsSightFault U (trace_lines trace) e → IsForRoom e
   refused fault.OutOfMemory is = tt
   refused fault.TooManyLines is = tt
-  refused (fault.NoJob line) is = none-some (fault.NoJob line) (sym (housed (of_run is.0 is.1 is.2.best is.2.read)) ∙ is.3)
+  refused (fault.NoJob line) is =
+      none-some (fault.NoJob line) (sym (housed (of_run is.0 is.1 is.2.best is.2.read)) ∙ is.3)
   refused (fault.BadLine line) is = (let same = only_many (fault.BadLine line) is in cc)
   refused (fault.SliceOverlap line) is = (let same = only_many (fault.SliceOverlap line) is in cc)
   refused (fault.JobUnsorted line) is = (let same = only_many (fault.JobUnsorted line) is in cc)

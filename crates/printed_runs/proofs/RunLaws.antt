@@ -1,8 +1,11 @@
 -- What the lines of a run say can be spelled, and stands in order.
-use Rattle.std.proofs.Common.{◌≡◌, ◌∙◌, ◌+◌, ◌<◌, ◌≤◌, ◌^◌, ◌⊎◌, ℕ, zero, suc, Bool, true, false, ◌||◌, List, [], ◌∷◌, ◌++◌, map, length, Option, Some, None, Result, Ok, IfSome, inl, inr, refl, sym, ap, subst, arith, nat_lt}
+use Rattle.std.proofs.Common.{◌≡◌, ◌∙◌, ◌+◌, ◌<◌, ◌≤◌, ◌^◌, ◌⊎◌, ℕ, zero, suc, Bool, true, false}
+use Rattle.std.proofs.Common.{◌||◌, List, [], ◌∷◌, ◌++◌, map, length, Option, Some, None, Result}
+use Rattle.std.proofs.Common.{Ok, IfSome, inl, inr, refl, sym, ap, subst, arith, nat_lt}
 use Rattle.std.specs.List.{AllByRecursion, list_any}
 use Rattle.std.specs.Option.{option_map, option_or}
-use Rattle.std.proofs.lemmas.Bool.{cases_Bool, cases_eq, cases_lt, le-leb, le-ltb, ltb-false, or_parts, true≢false}
+use Rattle.std.proofs.lemmas.Bool.{cases_Bool, cases_eq, cases_lt, le-leb, le-ltb, ltb-false}
+use Rattle.std.proofs.lemmas.Bool.{or_parts, true≢false}
 use Rattle.std.proofs.lemmas.Slice.Eq.{bytes_eq-Decides}
 use Rattle.task_sheet.specs.Name.{IsName}
 use Rattle.task_sheet.specs.Sheet.{Task, task_at}
@@ -11,7 +14,9 @@ use Rattle.task_sheet.proofs.TaskLaws.{valid_at}
 use Rattle.ceiling_kernel.specs.Tick.{Job, Node, executed_before, job_at, node_in, picked}
 use Rattle.ceiling_kernel.specs.Trace.{finish_before}
 use Rattle.ceiling_kernel.specs.Readings.{AreLongestRuns}
-use Rattle.ceiling_kernel.specs.Releases.{is_outside_cost, is_past, is_too_late, is_too_soon, is_unknown, is_unsorted, first_where, jobs_of, no_release, ready_of, refuse_if, release_at, task_number}
+use Rattle.ceiling_kernel.specs.Releases.{is_outside_cost, is_past, is_too_late, is_too_soon}
+use Rattle.ceiling_kernel.specs.Releases.{is_unknown, is_unsorted, first_where, jobs_of, no_release}
+use Rattle.ceiling_kernel.specs.Releases.{ready_of, refuse_if, release_at, task_number}
 use Rattle.ceiling_kernel.specs.Runs.{Runs, record_of, records_from}
 use Rattle.ceiling_kernel.specs.declared.trace.JobRecord.{JobRecord}
 use Rattle.ceiling_kernel.specs.declared.trace.Release.{Release}
@@ -19,14 +24,16 @@ use Rattle.ceiling_kernel.specs.declared.trace.RunFault.{RunFault}
 use Rattle.ceiling_kernel.specs.declared.trace.RunFault.TheVariants as fault
 use Rattle.ceiling_kernel.specs.declared.trace.Slice.{Slice}
 use Rattle.ceiling_kernel.specs.declared.trace.Trace.{Trace}
-use Rattle.ceiling_kernel.proofs.AcceptLaws.{IsAccepted, accepted, known_from, none_passes, sorted_from}
+use Rattle.ceiling_kernel.proofs.AcceptLaws.{IsAccepted, accepted, known_from, none_passes}
+use Rattle.ceiling_kernel.proofs.AcceptLaws.{sorted_from}
 use Rattle.ceiling_kernel.proofs.EndLaws.{records_at, some_executes}
 use Rattle.ceiling_kernel.proofs.FinishLaws.{finish_is}
 use Rattle.ceiling_kernel.proofs.MachineLaws.{idle_of, other_of, pending_parts, picked_is, start_of}
 use Rattle.ceiling_kernel.proofs.ReleaseLaws.{job_is, jobs_length}
 use Rattle.ceiling_kernel.proofs.SliceLaws.{longest_runs}
 use Rattle.lines.specs.Steps.{ahead}
-use Rattle.trace_text.specs.Faults.{IsTraceIn, are_too_many, overlap_from, trace_fault, rows_fault, unsorted_from}
+use Rattle.trace_text.specs.Faults.{IsTraceIn, are_too_many, overlap_from, trace_fault, rows_fault}
+use Rattle.trace_text.specs.Faults.{unsorted_from}
 use Rattle.trace_text.specs.Rows.{rows_in}
 use Rattle.trace_text.specs.Rows as rows
 use Rattle.trace_text.specs.declared.fault.TraceFault.TheVariants as trace_fault_is
@@ -46,7 +53,8 @@ slices_behind : (js : List TraceJob) → rows.slices_of (map row.Job js) ≡ []
 slices_behind [] = refl
 slices_behind (j ∷ js) = slices_behind js
 
-slices_said : (ss : List TraceSlice) (js : List TraceJob) → rows.slices_of (map row.Slice ss ++ map row.Job js) ≡ ss
+slices_said : (ss : List TraceSlice) (js : List TraceJob)
+    → rows.slices_of (map row.Slice ss ++ map row.Job js) ≡ ss
 slices_said [] js = slices_behind js
 slices_said (s ∷ ss) js = ap (λ (l : List TraceSlice). s ∷ l) (slices_said ss js)
 
@@ -54,25 +62,32 @@ jobs_behind : (js : List TraceJob) → rows.jobs_of (map row.Job js) ≡ js
 jobs_behind [] = refl
 jobs_behind (j ∷ js) = ap (λ (l : List TraceJob). j ∷ l) (jobs_behind js)
 
-jobs_said : (ss : List TraceSlice) (js : List TraceJob) → rows.jobs_of (map row.Slice ss ++ map row.Job js) ≡ js
+jobs_said : (ss : List TraceSlice) (js : List TraceJob)
+    → rows.jobs_of (map row.Slice ss ++ map row.Job js) ≡ js
 jobs_said [] js = jobs_behind js
 jobs_said (s ∷ ss) js = jobs_said ss js
 
 -- ---- the order of what is said
 -- no slice begins before the end of the one before it
-apart : (run : ℕ → Option ℕ) (until : ℕ) (records : List JobRecord) (line from : ℕ) (ss : List Slice) → AreLongestRuns run from until ss → overlap_from from (slices_from records line ss) ≡ None
+apart : (run : ℕ → Option ℕ) (until : ℕ) (records : List JobRecord) (line from : ℕ)
+    (ss : List Slice) → AreLongestRuns run from until ss
+    → overlap_from from (slices_from records line ss) ≡ None
 apart run until records line from [] h = refl
 apart run until records line from (s ∷ ss) h =
     let later : nat_lt s.start from ≡ false = le-ltb s.start from h.0 in
     rw later (apart run until records (line + 1) s.stop ss h.6)
 
 -- no job arrives before the one before it
-rising : (node : Node) (jobs : List Job) (until line k earliest : ℕ) (rs : List Release) → ((j : ℕ) → j < length rs → earliest ≤ (release_at rs j).time)
-    → ((i j : ℕ) → i ≤ j → j < length rs → (release_at rs i).time ≤ (release_at rs j).time) → unsorted_from earliest (jobs_from line (records_from node jobs until k rs)) ≡ None
+rising : (node : Node) (jobs : List Job) (until line k earliest : ℕ) (rs : List Release)
+    → ((j : ℕ) → j < length rs → earliest ≤ (release_at rs j).time)
+    → ((i j : ℕ) → i ≤ j → j < length rs → (release_at rs i).time ≤ (release_at rs j).time)
+    → unsorted_from earliest (jobs_from line (records_from node jobs until k rs)) ≡ None
 rising node jobs until line k earliest [] from sorted = refl
 rising node jobs until line k earliest (r ∷ rs) from sorted =
     let later : nat_lt r.time earliest ≡ false = le-ltb r.time earliest (from 0 (omega arith)) in
-    rw later (rising node jobs until (line + 1) (k + 1) r.time rs (λ j lt. sorted 0 (suc j) (omega arith) (omega (arith, lt))) (λ i j le lt. sorted (suc i) (suc j) (omega (arith, le)) (omega (arith, lt))))
+    rw later (rising node jobs until (line + 1) (k + 1) r.time rs
+    (λ j lt. sorted 0 (suc j) (omega arith) (omega (arith, lt)))
+    (λ i j le lt. sorted (suc i) (suc j) (omega (arith, le)) (omega (arith, lt))))
 
 -- ---- the end of a run
 last : (a b : Option RunFault) → option_or a b ≡ None → b ≡ None
@@ -87,7 +102,8 @@ not_refused : (b : Bool) (r : RunFault) → refuse_if b r ≡ None → b ≡ fal
 not_refused true r e = absurd (cc)
 not_refused false r e = refl
 
-module _ (U : List Task) (order : List ℕ) (rs : List Release) (until : ℕ) (trace : Trace) (set : IsTaskSet U) (ran : Runs (node_in U order) rs until (Ok trace)) where
+module _ (U : List Task) (order : List ℕ) (rs : List Release) (until : ℕ) (trace : Trace)
+    (set : IsTaskSet U) (ran : Runs (node_in U order) rs until (Ok trace)) where
   abbrev node : Node
   node = node_in U order
 
@@ -102,13 +118,21 @@ module _ (U : List Task) (order : List ℕ) (rs : List Release) (until : ℕ) (t
 
   until_short : until ≤ 60000000
   until_short =
-      let b = last (option_map (λ k. fault.Unsorted (k + 1)) (first_where (is_unsorted rs) (length rs))) _ ran.0 in
-      let c = last (option_map (λ k. fault.UnknownTask (k + 1)) (first_where (is_unknown U rs) (length rs))) _ b in
-      let l = last (option_map (λ k. fault.TooSoon (k + 1)) (first_where (is_too_soon U (jobs_of U rs)) (length rs))) _ c in
-      let o = last (option_map (λ k. fault.TooLate (k + 1)) (first_where (is_too_late U rs) (length rs))) _ l in
-      let d = last (option_map (λ k. fault.OutsideCost (k + 1)) (first_where (is_outside_cost U rs) (length rs))) _ o in
-      let e = first (refuse_if (nat_lt 60000000 until || list_any (is_past until) rs) fault.PastHorizon) _ d in
-      ltb-false 60000000 until (or_parts (nat_lt 60000000 until) (list_any (is_past until) rs) (not_refused (nat_lt 60000000 until || list_any (is_past until) rs) fault.PastHorizon e)).0
+      let b = last (option_map (λ k. fault.Unsorted (k + 1))
+      (first_where (is_unsorted rs) (length rs))) _ ran.0 in
+      let c = last (option_map (λ k. fault.UnknownTask (k + 1))
+      (first_where (is_unknown U rs) (length rs))) _ b in
+      let l = last (option_map (λ k. fault.TooSoon (k + 1))
+      (first_where (is_too_soon U (jobs_of U rs)) (length rs))) _ c in
+      let o = last (option_map (λ k. fault.TooLate (k + 1))
+      (first_where (is_too_late U rs) (length rs))) _ l in
+      let d = last (option_map (λ k. fault.OutsideCost (k + 1))
+      (first_where (is_outside_cost U rs) (length rs))) _ o in
+      let e = first (refuse_if (nat_lt 60000000 until || list_any (is_past until) rs)
+      fault.PastHorizon) _ d in
+      ltb-false 60000000 until
+      (or_parts (nat_lt 60000000 until) (list_any (is_past until) rs) (not_refused
+      (nat_lt 60000000 until || list_any (is_past until) rs) fault.PastHorizon e)).0
 
   -- ---- a job
   ready_from : (j : ℕ) → j < length rs → (job_at jobs j).ready ≡ ready_of (release_at rs j)
@@ -118,7 +142,8 @@ module _ (U : List Task) (order : List ℕ) (rs : List Release) (until : ℕ) (t
   ready_in j lt =
       elim (cases_lt (ready_of (release_at rs j)) until) [
         | inl early ↦ early
-        | inr past ↦ absurd (true≢false (sym (le-leb until (ready_of (release_at rs j)) past) ∙ none_passes (is_past until) rs j no_release lt is_accepted.before))
+        | inr past ↦ absurd (true≢false (sym (le-leb until (ready_of (release_at rs j)) past)
+            ∙ none_passes (is_past until) rs j no_release lt is_accepted.before))
       ]
 
   -- a job that has executed was ready
@@ -128,43 +153,62 @@ module _ (U : List Task) (order : List ℕ) (rs : List Release) (until : ℕ) (t
       elim (picked node jobs t) as (λ o. picked node jobs t ≡ o → (job_at jobs j).ready ≤ suc t) [
         | None ↦ λ e. omega (arith, began t j (omega (arith, some, idle_of node jobs t j e)))
         | Some p ↦ λ e. elim (cases_eq j p) [
-          | inl same ↦ (let is = picked_is node jobs t j (e ∙ ap Some (sym same)) in omega (arith, (pending_parts node jobs t j is.is_pending).0))
+          | inl same ↦ (let is = picked_is node jobs t j (e ∙ ap Some (sym same)) in
+              omega (arith, (pending_parts node jobs t j is.is_pending).0))
           | inr ne ↦ omega (arith, began t j (omega (arith, some, other_of node jobs t p j e ne)))
         ]
       ] refl
 
-  finishes : (j : ℕ) → j < length rs → IfSome (finish_before node jobs until j) (λ f. ((release_at rs j).time ≤ f) × (f < 10 ^ 10))
+  finishes : (j : ℕ) → j < length rs
+      → IfSome (finish_before node jobs until j) (λ f. ((release_at rs j).time ≤ f) × (f < 10 ^ 10))
   finishes j lt =
-      elim (finish_before node jobs until j) as (λ o. finish_before node jobs until j ≡ o → IfSome o (λ f. ((release_at rs j).time ≤ f) × (f < 10 ^ 10))) [
+      elim (finish_before node jobs until j) as (λ o. finish_before node jobs until j ≡ o
+      → IfSome o (λ f. ((release_at rs j).time ≤ f) × (f < 10 ^ 10))) [
         | None ↦ λ _. tt
         | Some f ↦ λ is.
             let some = some_executes node rs until j ran.0 lt in
-            let ends = finish_is node jobs j until f some is in
-            (omega (arith, began f j (omega (arith, some, ends.1.after)), ready_from j lt), omega (arith, ends.0, until_short))
+            let ends = finish_is node jobs j until f some is in (
+              omega (arith, began f j (omega (arith, some, ends.1.after)), ready_from j lt),
+              omega (arith, ends.0, until_short),
+            )
       ] refl
 
   has_name : (j : ℕ) → j < length rs → IsName (release_at rs j).name
   has_name j lt =
       let k : ℕ = task_number U (release_at rs j) in
       let inside : k < length U = known_from U rs is_accepted.known j lt in
-      let same : (task_at U k).name ≡ (release_at rs j).name = (bytes_eq-Decides (task_at U k).name (release_at rs j).name).0 (named U (release_at rs j).name k inside refl) in
+      let same : (task_at U k).name ≡ (release_at rs j).name =
+      (bytes_eq-Decides (task_at U k).name (release_at rs j).name).0
+      (named U (release_at rs j).name k inside refl) in
       subst (λ (name : List ℕ). IsName name) same (valid_at U k set inside).named
 
   job_line : (j : ℕ) → j < length rs → IsJobLine (record_of node jobs until j (release_at rs j))
-  job_line j lt = record { named = has_name j lt; arrives = omega (arith, ready_in j lt, until_short); finishes = finishes j lt }
+  job_line j lt = record {
+    named = has_name j lt;
+    arrives =
+        omega (arith, ready_in j lt, until_short);
+    finishes = finishes j lt;
+  }
 
   -- ---- all of them
-  each_record : (k : ℕ) (more : List Release) → ((j : ℕ) → j < length more → IsJobLine (record_of node jobs until (k + j) (release_at more j))) → AllByRecursion IsJobLine (records_from node jobs until k more)
+  each_record : (k : ℕ) (more : List Release) → ((j : ℕ) → j < length more
+      → IsJobLine (record_of node jobs until (k + j) (release_at more j)))
+      → AllByRecursion IsJobLine (records_from node jobs until k more)
   each_record k [] each = tt
   each_record k (r ∷ more) each = (
-    (let z : k + 0 ≡ k = omega arith in subst (λ n. IsJobLine (record_of node jobs until n r)) z (each 0 (omega arith))),
-    each_record (k + 1) more (λ j lt. (let e : k + suc j ≡ k + 1 + j = omega arith in subst (λ n. IsJobLine (record_of node jobs until n (release_at more j))) e (each (suc j) (omega (arith, lt))))),
+    (let z : k + 0 ≡ k = omega arith in
+        subst (λ n. IsJobLine (record_of node jobs until n r)) z (each 0 (omega arith))),
+    each_record (k + 1) more
+        (λ j lt. (let e : k + suc j ≡ k + 1 + j = omega arith in subst (λ n. IsJobLine
+        (record_of node jobs until n (release_at more j))) e (each (suc j) (omega (arith, lt))))),
   )
 
   each_job : AllByRecursion IsJobLine records
-  each_job = each_record 0 rs (λ j lt. (let e : j ≡ 0 + j = omega arith in subst (λ n. IsJobLine (record_of node jobs until n (release_at rs j))) e (job_line j lt)))
+  each_job = each_record 0 rs (λ j lt. (let e : j ≡ 0 + j = omega arith in
+      subst (λ n. IsJobLine (record_of node jobs until n (release_at rs j))) e (job_line j lt)))
 
-  each_slice : (from : ℕ) (ss : List Slice) → AreLongestRuns (picked node jobs) from until ss → AllByRecursion (λ s. IsSliceLine records s) ss
+  each_slice : (from : ℕ) (ss : List Slice) → AreLongestRuns (picked node jobs) from until ss
+      → AllByRecursion (λ s. IsSliceLine records s) ss
   each_slice from [] h = tt
   each_slice from (s ∷ ss) h =
       let is = picked_is node jobs s.start s.job (h.4 s.start (omega arith) h.1) in
@@ -173,16 +217,19 @@ module _ (U : List Task) (order : List ℕ) (rs : List Release) (until : ℕ) (t
         record {
           lasts = h.1;
           short = omega (arith, h.2, until_short);
-          named = subst (λ (name : List ℕ). IsName name) (sym (ap (λ (x : JobRecord). x.name) row_is)) (has_name s.job lt);
+          named = subst (λ (name : List ℕ). IsName name)
+              (sym (ap (λ (x : JobRecord). x.name) row_is)) (has_name s.job lt);
         },
         each_slice s.stop ss h.6,
       )
 
   are_longest : AreLongestRuns (picked node jobs) 0 until trace.slices.items
-  are_longest = subst (AreLongestRuns (picked node jobs) 0 until) (sym ran.2.slices) (longest_runs node jobs until)
+  are_longest = subst (AreLongestRuns (picked node jobs) 0 until) (sym ran.2.slices)
+      (longest_runs node jobs until)
 
   slices_spelled : AllByRecursion (λ s. IsSliceLine trace.jobs.items s) trace.slices.items
-  slices_spelled = subst (λ (js : List JobRecord). AllByRecursion (λ s. IsSliceLine js s) trace.slices.items) (sym ran.2.jobs) (each_slice 0 trace.slices.items are_longest)
+  slices_spelled = subst (λ (js : List JobRecord). AllByRecursion (λ s. IsSliceLine js s)
+      trace.slices.items) (sym ran.2.jobs) (each_slice 0 trace.slices.items are_longest)
 
   jobs_spelled : AllByRecursion IsJobLine trace.jobs.items
   jobs_spelled = subst (AllByRecursion IsJobLine) (sym ran.2.jobs) each_job
@@ -191,7 +238,8 @@ module _ (U : List Task) (order : List ℕ) (rs : List Release) (until : ℕ) (t
   pub read_back : rows_in (trace_lines trace) ≡ Ok (rows_of trace)
   read_back =
       slices_again trace.jobs.items trace.slices.items 1 (job_lines trace.jobs.items) slices_spelled
-      ∙ ap (ahead (map row.Slice (slices_from trace.jobs.items 1 trace.slices.items))) (jobs_again trace.jobs.items (1 + length trace.slices.items) jobs_spelled)
+      ∙ ap (ahead (map row.Slice (slices_from trace.jobs.items 1 trace.slices.items)))
+      (jobs_again trace.jobs.items (1 + length trace.slices.items) jobs_spelled)
 
   abbrev said_slices : List TraceSlice
   said_slices = slices_from trace.jobs.items 1 trace.slices.items
@@ -200,21 +248,41 @@ module _ (U : List Task) (order : List ℕ) (rs : List Release) (until : ℕ) (t
   said_jobs = jobs_from (1 + length trace.slices.items) trace.jobs.items
 
   -- the text is refused only for want of room
-  pub in_order : (trace_fault (trace_lines trace) ≡ None) ⊎ (trace_fault (trace_lines trace) ≡ Some trace_fault_is.TooManyLines)
+  pub in_order : (trace_fault (trace_lines trace) ≡ None)
+      ⊎ (trace_fault (trace_lines trace) ≡ Some trace_fault_is.TooManyLines)
   in_order =
-      let disjoint : overlap_from 0 said_slices ≡ None = apart (picked node jobs) until trace.jobs.items 1 0 trace.slices.items are_longest in
-      let sorted : unsorted_from 0 said_jobs ≡ None = subst (λ (js : List JobRecord). unsorted_from 0 (jobs_from (1 + length trace.slices.items) js) ≡ None) (sym ran.2.jobs)
-      (rising node jobs until (1 + length trace.slices.items) 0 0 rs (λ j lt. omega arith) (sorted_from rs is_accepted.sorted)) in
-      let here : trace_fault (trace_lines trace) ≡ rows_fault (Ok (rows_of trace)) = ap rows_fault read_back in
+      let disjoint : overlap_from 0 said_slices ≡ None =
+      apart (picked node jobs) until trace.jobs.items 1 0 trace.slices.items are_longest in
+      let sorted : unsorted_from 0 said_jobs ≡ None = subst (λ (js : List JobRecord). unsorted_from
+      0 (jobs_from (1 + length trace.slices.items) js) ≡ None) (sym ran.2.jobs)
+      (rising node jobs until (1 + length trace.slices.items) 0 0 rs (λ j lt. omega arith)
+      (sorted_from rs is_accepted.sorted)) in
+      let here : trace_fault (trace_lines trace) ≡ rows_fault (Ok (rows_of trace)) =
+      ap rows_fault read_back in
       elim (cases_Bool (are_too_many said_slices said_jobs)) [
-        | inl many ↦ inr (here ∙ rw (slices_said said_slices said_jobs, jobs_said said_slices said_jobs, disjoint, sorted, many) refl)
-        | inr few ↦ inl (here ∙ rw (slices_said said_slices said_jobs, jobs_said said_slices said_jobs, disjoint, sorted, few) refl)
+        | inl many ↦ inr (here ∙ rw (
+          slices_said said_slices said_jobs,
+          jobs_said said_slices
+              said_jobs,
+          disjoint,
+          sorted,
+          many,
+        ) refl)
+        | inr few ↦ inl (here ∙ rw (
+          slices_said said_slices said_jobs,
+          jobs_said said_slices
+              said_jobs,
+          disjoint,
+          sorted,
+          few,
+        ) refl)
       ]
 
   -- and what it is read as says the trace
   pub says : (lines : TraceLines) → IsTraceIn (trace_lines trace) lines → Say 1 lines trace
   says lines is =
-      let both : ◌≡◌ {A = Result (List TraceRow) ℕ} (Ok is.rows) (Ok (rows_of trace)) = sym is.read ∙ read_back in
+      let both : ◌≡◌ {A = Result (List TraceRow) ℕ} (Ok is.rows) (Ok (rows_of trace)) = sym is.read
+      ∙ read_back in
       let same : is.rows ≡ rows_of trace = cc (both) in
       record {
         slices = is.slices ∙ ap rows.slices_of same ∙ slices_said said_slices said_jobs;

@@ -13,7 +13,7 @@ IsClean tolerance (Infeasible members) = ⊥
 IsClean tolerance (Seen shown) =
     (is_kept tolerance shown.seen.items ≡ true) × (broken_lines tolerance shown.seen.items ≡ [])
 
--- a refusal for want of memory, or of more lines than are read
+-- a refusal out of memory, or of more lines than are read
 abbrev pub IsForRoom : TraceFault → Type 0
 IsForRoom fault.OutOfMemory = Unit {0}
 IsForRoom fault.TooManyLines = Unit {0}

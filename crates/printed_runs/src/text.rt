@@ -64,7 +64,7 @@ fn push_jobs(text: &mut String, jobs: &[JobRecord]) -> Result<(), AllocError>
 }
 
 /// The lines that say a trace: `START STOP NAME` for each slice, and then `job NAME ARRIVAL FINISH` for each job, with `-` where
-/// it isn't done. Times are in microseconds. The error is want of memory.
+/// it isn't done. Times are in microseconds. The error is out of memory.
 pub fn trace_text(alloc: Global, trace: &Trace) -> Result<String, AllocError>
     ensures { IfOk result (λ text. string_bytes text ≡ trace_lines trace.now) }
 {

@@ -147,7 +147,8 @@ in_by_time rs zero x h = absurd (subst (In x) (by_start rs) h)
 in_by_time rs (suc n) x h = elim (in_either x (by_time rs n) (filter (λ r. r.time == n) rs)
     (subst (In x) (by_step rs n) h)) [
       | inl before ↦
-          (let ih : In x rs × (x.time < n) = in_by_time rs n x before in (ih.0, omega (arith, ih.1)))
+          (let ih : In x rs × (x.time < n) = in_by_time rs n x before in
+          (ih.0, omega (arith, ih.1)))
       | inr here ↦ (let f : In x rs × ((x.time == n) ≡ true) =
           from_filter (λ r. r.time == n) x rs here in (f.0, omega (arith, eqb-true x.time n f.1)))
     ]

@@ -43,7 +43,7 @@ impl<L: Ledger> Model for Hand<L> {
     } };
 }
 
-// The refusal for which an edit was not made; the error is want of memory.
+// The refusal for which an edit was not made; the error is out of memory.
 fn refusal_of(cause: EditCause) -> Result<EditRefusal, AllocError>
     ensures { IfOk result (λ refusal. cause ≡ Refused refusal) }
 {

@@ -1,5 +1,7 @@
 -- The script of a set says the set.
-use Rattle.std.proofs.Common.{◌≡◌, ◌∙◌, ◌==◌, ◌+◌, ◌<◌, ◌≤◌, ◌^◌, ℕ, zero, suc, Bool, true, false, List, [], ◌∷◌, ◌++◌, map, length, codes, bytes_eq, Option, Some, None, Ok, if◌then◌else◌, refl, sym, ap, subst, arith, append_assoc}
+use Rattle.std.proofs.Common.{◌≡◌, ◌∙◌, ◌==◌, ◌+◌, ◌<◌, ◌≤◌, ◌^◌, ℕ, zero, suc, Bool, true, false}
+use Rattle.std.proofs.Common.{List, [], ◌∷◌, ◌++◌, map, length, codes, bytes_eq, Option, Some, None}
+use Rattle.std.proofs.Common.{Ok, if◌then◌else◌, refl, sym, ap, subst, arith, append_assoc}
 use Rattle.std.specs.List.{slice_split, join_with_byte, AllByRecursion}
 use Rattle.std.specs.Char.{is_ascii_digit}
 use Rattle.std.specs.Fmt.{decimal}
@@ -11,7 +13,9 @@ use Rattle.std.proofs.lemmas.List.Elements.{recursion_from_All}
 use Rattle.task_sheet.specs.Name.{IsName, is_name_byte}
 use Rattle.task_sheet.specs.declared.node.Node.{Node}
 use Rattle.task_sheet.specs.declared.node.Interrupt.{Interrupt}
-use Rattle.task_sheet.specs.Sheet.{CriticalSection, OutranksData, Named, AllOthers, Task, MayOutrank, AreOverheads, AreSections, IsInterrupt, IsValidSheet, names_said, no_overhead, same_node, task_of, with_jitter}
+use Rattle.task_sheet.specs.Sheet.{CriticalSection, OutranksData, Named, AllOthers, Task}
+use Rattle.task_sheet.specs.Sheet.{MayOutrank, AreOverheads, AreSections, IsInterrupt, IsValidSheet}
+use Rattle.task_sheet.specs.Sheet.{names_said, no_overhead, same_node, task_of, with_jitter}
 use Rattle.task_sheet.specs.TaskSet.{IsTaskSet}
 use Rattle.task_sheet.proofs.SheetLaws.{sheet_valid, outranks_valid}
 use Rattle.lines.specs.Lines.{kept_from, lines_of}
@@ -20,19 +24,28 @@ use Rattle.lines.specs.Words.{number_in, words}
 use Rattle.lines.proofs.NumberLaws.{number_again}
 use Rattle.lines.proofs.Parts.{line_cut}
 use Rattle.drafts.specs.declared.team.TheConstants.{TEAM_LIMIT}
-use Rattle.scripts.specs.Rows.{field_case, made_in, all_sign, interrupt_in, interrupts_or_none, node_of, node_or_none, over_in, over_or_none, next_draft, next_field, next_name, next_number, only_draft, open_in, or_bad, pair_of, put_in, round, row_in, section_in, sections_in, sheet_in, sheet_with_jitter, up_to, value_of, value_or_zero, word_names}
+use Rattle.scripts.specs.Rows.{field_case, made_in, all_sign, interrupt_in, interrupts_or_none}
+use Rattle.scripts.specs.Rows.{node_of, node_or_none, over_in, over_or_none, next_draft, next_field}
+use Rattle.scripts.specs.Rows.{next_name, next_number, only_draft, open_in, or_bad, pair_of, put_in}
+use Rattle.scripts.specs.Rows.{round, row_in, section_in, sections_in, sheet_in, sheet_with_jitter}
+use Rattle.scripts.specs.Rows.{up_to, value_of, value_or_zero, word_names}
 use Rattle.scripts.specs.Script.{script_from, script_in}
 use Rattle.scripts.proofs.Nodes.{overheads_tested, interrupts_tested}
 use Rattle.scripts.specs.declared.line.Row.TheVariants.{Open, Put, Commit}
-use Rattle.scripted.specs.Scripted.{delay_words, interrupt_word, interrupt_words, lines_from, lines_of_set, node_numbers, node_words, over_words, plus_names, put_line, put_lines, script_of, section_word, section_words, spaced, value_words}
-use Rattle.scripted.proofs.Spelled.{Lacks, cut_at, joined_again, joined_lacks, lacks_append, name_lacks, number_lacks, uncut}
+use Rattle.scripted.specs.Scripted.{delay_words, interrupt_word, interrupt_words, lines_from}
+use Rattle.scripted.specs.Scripted.{lines_of_set, node_numbers, node_words, over_words, plus_names}
+use Rattle.scripted.specs.Scripted.{put_line, put_lines, script_of, section_word, section_words}
+use Rattle.scripted.specs.Scripted.{spaced, value_words}
+use Rattle.scripted.proofs.Spelled.{Lacks, cut_at, joined_again, joined_lacks, lacks_append}
+use Rattle.scripted.proofs.Spelled.{name_lacks, number_lacks, uncut}
 
 -- ---- first words
 number_next : (n : ℕ) (ws : List (List ℕ)) → n < 10 ^ 10 → next_number (decimal n ∷ ws) ≡ Ok (n, ws)
 unfolding next_number
 number_next n ws short = ap (λ (o : Option ℕ). or_bad o >>= λ k. Ok (k, ws)) (number_again n short)
 
-name_next : (name : List ℕ) (ws : List (List ℕ)) → IsName name → next_name (name ∷ ws) ≡ Ok (name, ws)
+name_next : (name : List ℕ) (ws : List (List ℕ)) → IsName name
+    → next_name (name ∷ ws) ≡ Ok (name, ws)
 unfolding next_name
 name_next name ws is = rw is refl
 
@@ -48,7 +61,8 @@ names_each : (names : List (List ℕ)) → AllByRecursion IsName names → word_
 names_each [] each = refl
 names_each (n ∷ ns) each = rw (each.0, names_each ns each.1) refl
 
-each_lacks : (c : ℕ) (names : List (List ℕ)) → is_name_byte c ≡ false → AllByRecursion IsName names → AllByRecursion (λ w. Lacks c w) names
+each_lacks : (c : ℕ) (names : List (List ℕ)) → is_name_byte c ≡ false → AllByRecursion IsName names
+    → AllByRecursion (λ w. Lacks c w) names
 each_lacks c [] other each = tt
 each_lacks c (n ∷ ns) other each = (name_lacks c n other each.0, each_lacks c ns other each.1)
 
@@ -61,14 +75,18 @@ joined n [] = nothing n
     nothing (x ∷ xs) = ap (λ l. x ∷ l) (nothing xs)
 joined n (m ∷ ns) = ap (λ l. n ++ 43 ∷ l) (joined m ns)
 
-plus_again : (n : List ℕ) (ns : List (List ℕ)) → AllByRecursion IsName (n ∷ ns) → word_names (slice_split (λ b. b == 43) (plus_names (n ∷ ns))) ≡ Ok (n ∷ ns)
+plus_again : (n : List ℕ) (ns : List (List ℕ)) → AllByRecursion IsName (n ∷ ns)
+    → word_names (slice_split (λ b. b == 43) (plus_names (n ∷ ns))) ≡ Ok (n ∷ ns)
 plus_again n ns each =
     let lack = each_lacks 43 (n ∷ ns) refl each in
-    ap (λ (l : List ℕ). word_names (slice_split (λ b. b == 43) l)) (joined n ns) ∙ ap word_names (joined_again 43 n ns lack.0 lack.1) ∙ names_each (n ∷ ns) each
+    ap (λ (l : List ℕ). word_names (slice_split (λ b. b == 43) l)) (joined n ns)
+    ∙ ap word_names (joined_again 43 n ns lack.0 lack.1) ∙ names_each (n ∷ ns) each
 
-plus_lacks : (c : ℕ) (names : List (List ℕ)) → (43 == c) ≡ false → is_name_byte c ≡ false → AllByRecursion IsName names → Lacks c (plus_names names)
+plus_lacks : (c : ℕ) (names : List (List ℕ)) → (43 == c) ≡ false → is_name_byte c ≡ false
+    → AllByRecursion IsName names → Lacks c (plus_names names)
 plus_lacks c [] other letter each = record { none = tt }
-plus_lacks c (n ∷ ns) other letter each = subst (λ (l : List ℕ). Lacks c l) (sym (joined n ns)) (joined_lacks 43 c (n ∷ ns) other (each_lacks c (n ∷ ns) letter each))
+plus_lacks c (n ∷ ns) other letter each = subst (λ (l : List ℕ). Lacks c l) (sym (joined n ns))
+    (joined_lacks 43 c (n ∷ ns) other (each_lacks c (n ∷ ns) letter each))
 
 -- ---- sections
 -- a section with names and numbers that can be spelled
@@ -78,7 +96,8 @@ record IsSpelled (s : CriticalSection) : Type 0 where
   at : s.at < 10 ^ 10
   len : s.len < 10 ^ 10
 
-section_shape : (s : CriticalSection) → section_word s ≡ plus_names s.locks ++ 64 ∷ (decimal s.at ++ 58 ∷ decimal s.len)
+section_shape : (s : CriticalSection)
+    → section_word s ≡ plus_names s.locks ++ 64 ∷ (decimal s.at ++ 58 ∷ decimal s.len)
 section_shape s = simp append_assoc
 
 -- a byte that no section has
@@ -94,11 +113,16 @@ section_lacks : (c : ℕ) (s : CriticalSection) → IsApart c → IsSpelled s �
 section_lacks c s apart is =
     let len : Lacks c (decimal s.len) = number_lacks c s.len apart.digit (omega (arith, is.len)) in
     let back : Lacks c (58 ∷ decimal s.len) = record { none = (apart.colon, len.none) } in
-    let span : Lacks c (decimal s.at ++ 58 ∷ decimal s.len) = lacks_append c (decimal s.at) (58 ∷ decimal s.len) (number_lacks c s.at apart.digit (omega (arith, is.at))) back in
-    let side : Lacks c (64 ∷ (decimal s.at ++ 58 ∷ decimal s.len)) = record { none = (apart.sign, span.none) } in
-    subst (λ (w : List ℕ). Lacks c w) (sym (section_shape s)) (lacks_append c (plus_names s.locks) (64 ∷ (decimal s.at ++ 58 ∷ decimal s.len)) (plus_lacks c s.locks apart.plus apart.name is.named) side)
+    let span : Lacks c (decimal s.at ++ 58 ∷ decimal s.len) = lacks_append c (decimal s.at)
+    (58 ∷ decimal s.len) (number_lacks c s.at apart.digit (omega (arith, is.at))) back in
+    let side : Lacks c (64 ∷ (decimal s.at ++ 58 ∷ decimal s.len)) =
+    record { none = (apart.sign, span.none) } in
+    subst (λ (w : List ℕ). Lacks c w) (sym (section_shape s))
+    (lacks_append c (plus_names s.locks) (64 ∷ (decimal s.at ++ 58 ∷ decimal s.len))
+    (plus_lacks c s.locks apart.plus apart.name is.named) side)
 
-locks_again : (locks : List (List ℕ)) → AllByRecursion IsName locks → 0 < length locks → word_names (slice_split (λ b. b == 43) (plus_names locks)) ≡ Ok locks
+locks_again : (locks : List (List ℕ)) → AllByRecursion IsName locks → 0 < length locks
+    → word_names (slice_split (λ b. b == 43) (plus_names locks)) ≡ Ok locks
 locks_again [] named some = absurd (omega arith)
 locks_again (n ∷ ns) named some = plus_again n ns named
 
@@ -107,21 +131,38 @@ unfolding section_in
 section_again s is =
     let span : List ℕ = decimal s.at ++ 58 ∷ decimal s.len in
     let sign : Lacks 64 (decimal s.at ++ 58 ∷ decimal s.len) =
-    lacks_append 64 (decimal s.at) (58 ∷ decimal s.len) (number_lacks 64 s.at refl (omega (arith, is.at))) (record { none = (refl, (number_lacks 64 s.len refl (omega (arith, is.len))).none) }) in
-    let sides : round 64 (section_word s) ≡ Some (plus_names s.locks, decimal s.at ++ 58 ∷ decimal s.len) =
+    lacks_append 64 (decimal s.at) (58 ∷ decimal s.len)
+    (number_lacks 64 s.at refl (omega (arith, is.at)))
+    (record { none = (refl, (number_lacks 64 s.len refl (omega (arith, is.len))).none) }) in
+    let sides : round 64 (section_word s)
+    ≡ Some (plus_names s.locks, decimal s.at ++ 58 ∷ decimal s.len) =
     ap (λ (w : List ℕ). round 64 w) (section_shape s)
-    ∙ ap pair_of (cut_at 64 (plus_names s.locks) (decimal s.at ++ 58 ∷ decimal s.len) (plus_lacks 64 s.locks refl refl is.named))
-    ∙ ap (λ (l : List (List ℕ)). pair_of (plus_names s.locks ∷ l)) (uncut 64 (decimal s.at ++ 58 ∷ decimal s.len) sign) in
-    let halves : round 58 (decimal s.at ++ 58 ∷ decimal s.len) ≡ Some (decimal s.at, decimal s.len) =
-    ap pair_of (cut_at 58 (decimal s.at) (decimal s.len) (number_lacks 58 s.at refl (omega (arith, is.at))))
-    ∙ ap (λ (l : List (List ℕ)). pair_of (decimal s.at ∷ l)) (uncut 58 (decimal s.len) (number_lacks 58 s.len refl (omega (arith, is.len)))) in
-    rw (sides, halves, number_again s.at is.at, number_again s.len is.len, locks_again s.locks is.named is.some) refl
+    ∙ ap pair_of (cut_at 64 (plus_names s.locks) (decimal s.at ++ 58 ∷ decimal s.len)
+    (plus_lacks 64 s.locks refl refl is.named))
+    ∙ ap (λ (l : List (List ℕ)). pair_of (plus_names s.locks ∷ l))
+    (uncut 64 (decimal s.at ++ 58 ∷ decimal s.len) sign) in
+    let halves : round 58 (decimal s.at ++ 58 ∷ decimal s.len)
+    ≡ Some (decimal s.at, decimal s.len) =
+    ap pair_of (cut_at 58 (decimal s.at) (decimal s.len)
+    (number_lacks 58 s.at refl (omega (arith, is.at))))
+    ∙ ap (λ (l : List (List ℕ)). pair_of (decimal s.at ∷ l))
+    (uncut 58 (decimal s.len) (number_lacks 58 s.len refl (omega (arith, is.len)))) in
+    rw (
+      sides,
+      halves,
+      number_again s.at is.at,
+      number_again s.len is.len,
+      locks_again s.locks
+          is.named is.some,
+    ) refl
 
-sections_again : (ss : List CriticalSection) → AllByRecursion IsSpelled ss → sections_in (map section_word ss) ≡ Ok ss
+sections_again : (ss : List CriticalSection) → AllByRecursion IsSpelled ss
+    → sections_in (map section_word ss) ≡ Ok ss
 sections_again [] each = refl
 sections_again (s ∷ ss) each = rw (section_again s each.0, sections_again ss each.1) refl
 
-spelled_sections : (from cost : ℕ) (ss : List CriticalSection) → cost < 10 ^ 10 → AreSections from cost ss → AllByRecursion IsSpelled ss
+spelled_sections : (from cost : ℕ) (ss : List CriticalSection) → cost < 10 ^ 10
+    → AreSections from cost ss → AllByRecursion IsSpelled ss
 spelled_sections from cost [] short are = tt
 spelled_sections from cost (s ∷ ss) short are =
     let is = are.0 in (
@@ -136,9 +177,11 @@ spelled_sections from cost (s ∷ ss) short are =
 
 -- ---- fields that may be left out
 -- a word without the sign `=` is no such field
-no_field : (key w : List ℕ) (ws : List (List ℕ)) → Lacks 61 w → next_field key (w ∷ ws) ≡ (None, w ∷ ws)
+no_field : (key w : List ℕ) (ws : List (List ℕ)) → Lacks 61 w
+    → next_field key (w ∷ ws) ≡ (None, w ∷ ws)
 unfolding next_field
-no_field key w ws lacks = ap (λ (l : List (List ℕ)). field_case (value_of key (pair_of l)) w ws) (uncut 61 w lacks)
+no_field key w ws lacks =
+    ap (λ (l : List (List ℕ)). field_case (value_of key (pair_of l)) w ws) (uncut 61 w lacks)
 
 no_words : (key : List ℕ) → next_field key [] ≡ (None, [])
 unfolding next_field
@@ -163,25 +206,32 @@ record IsKey (key : List ℕ) : Type 0 where
   lacks : Lacks 61 key
   same : bytes_eq key key ≡ true
 
-other_field : (key front : List ℕ) (value : Option (List ℕ)) (ws : List (List ℕ)) → IsKey front → NoneHas 61 value → bytes_eq front key ≡ false → NoSuch key ws → NoSuch key (field_words front value ++ ws)
+other_field : (key front : List ℕ) (value : Option (List ℕ)) (ws : List (List ℕ)) → IsKey front
+    → NoneHas 61 value → bytes_eq front key ≡ false → NoSuch key ws
+    → NoSuch key (field_words front value ++ ws)
 unfolding next_field
 other_field key front None ws is lacks other after = after
 other_field key front (Some value) ws is lacks other after = record { none = none }
   where
     none : next_field key ((front ++ 61 ∷ value) ∷ ws) ≡ (None, (front ++ 61 ∷ value) ∷ ws)
     none =
-        ap (λ (l : List (List ℕ)). field_case (value_of key (pair_of l)) (front ++ 61 ∷ value) ws) (cut_at 61 front value is.lacks ∙ ap (λ (l : List (List ℕ)). front ∷ l) (uncut 61 value lacks))
+        ap (λ (l : List (List ℕ)). field_case (value_of key (pair_of l)) (front ++ 61 ∷ value) ws)
+        (cut_at 61 front value is.lacks
+        ∙ ap (λ (l : List (List ℕ)). front ∷ l) (uncut 61 value lacks))
         ∙ rw other refl
 
-this_field : (key : List ℕ) (value : Option (List ℕ)) (ws : List (List ℕ)) → IsKey key → NoneHas 61 value → NoSuch key ws → next_field key (field_words key value ++ ws) ≡ (value, ws)
+this_field : (key : List ℕ) (value : Option (List ℕ)) (ws : List (List ℕ)) → IsKey key
+    → NoneHas 61 value → NoSuch key ws → next_field key (field_words key value ++ ws) ≡ (value, ws)
 unfolding next_field
 this_field key None ws is lacks after = after.none
 this_field key (Some value) ws is lacks after =
-    ap (λ (l : List (List ℕ)). field_case (value_of key (pair_of l)) (key ++ 61 ∷ value) ws) (cut_at 61 key value is.lacks ∙ ap (λ (l : List (List ℕ)). key ∷ l) (uncut 61 value lacks))
+    ap (λ (l : List (List ℕ)). field_case (value_of key (pair_of l)) (key ++ 61 ∷ value) ws)
+    (cut_at 61 key value is.lacks ∙ ap (λ (l : List (List ℕ)). key ∷ l) (uncut 61 value lacks))
     ∙ rw is.same refl
 
 equals_apart : IsApart 61
-equals_apart = record { name = refl; digit = refl; plus = refl; sign = refl; colon = refl; star = refl }
+equals_apart =
+    record { name = refl; digit = refl; plus = refl; sign = refl; colon = refl; star = refl }
 
 delay_key : IsKey (codes "j")
 delay_key = record { lacks = record { none = (refl, tt) }; same = refl }
@@ -200,9 +250,13 @@ sign_lacks : (c : ℕ) → (42 == c) ≡ false → Lacks c all_sign
 sign_lacks c other = record { none = (other, tt) }
 
 -- sections are no field
-sections_no_field : (key : List ℕ) (ss : List CriticalSection) → AllByRecursion IsSpelled ss → NoSuch key (map section_word ss)
+sections_no_field : (key : List ℕ) (ss : List CriticalSection) → AllByRecursion IsSpelled ss
+    → NoSuch key (map section_word ss)
 sections_no_field key [] each = record { none = no_words key }
-sections_no_field key (s ∷ ss) each = record { none = no_field key (section_word s) (map section_word ss) (section_lacks 61 s equals_apart each.0) }
+sections_no_field key (s ∷ ss) each = record {
+  none =
+      no_field key (section_word s) (map section_word ss) (section_lacks 61 s equals_apart each.0);
+}
 
 -- ---- the value of `j`
 delay_value : ℕ → Option (List ℕ)
@@ -236,7 +290,8 @@ over_shape (Named []) = refl
 over_shape (Named (n ∷ ns)) = refl
 over_shape AllOthers = refl
 
-over_lacks : (c : ℕ) (said : OutranksData) → IsApart c → AllByRecursion IsName (names_said said) → NoneHas c (over_value said)
+over_lacks : (c : ℕ) (said : OutranksData) → IsApart c → AllByRecursion IsName (names_said said)
+    → NoneHas c (over_value said)
 unfolding over_value
 over_lacks c (Named []) apart named = tt
 over_lacks c (Named (n ∷ ns)) apart named = plus_lacks c (n ∷ ns) apart.plus apart.name named
@@ -247,19 +302,28 @@ not_all : (w : List ℕ) → Lacks 42 w → bytes_eq w all_sign ≡ false
 not_all [] lacks = refl
 not_all (b ∷ w) lacks = rw lacks.none.0 refl
 
-over_again : (said : OutranksData) → AllByRecursion IsName (names_said said) → over_or_none (over_value said) ≡ Ok said
+over_again : (said : OutranksData) → AllByRecursion IsName (names_said said)
+    → over_or_none (over_value said) ≡ Ok said
 unfolding over_value over_in
 over_again (Named []) named = refl
-over_again (Named (n ∷ ns)) named = rw (not_all (plus_names (n ∷ ns)) (plus_lacks 42 (n ∷ ns) refl refl named), plus_again n ns named) refl
+over_again (Named (n ∷ ns)) named = rw (
+  not_all (plus_names (n ∷ ns))
+      (plus_lacks 42 (n ∷ ns) refl refl named),
+  plus_again n ns named,
+) refl
 over_again AllOthers named = refl
 
 -- ---- words joined by the sign `+`
-pluses_lack : (c : ℕ) (ws : List (List ℕ)) → IsApart c → AllByRecursion (λ w. Lacks c w) ws → Lacks c (plus_names ws)
+pluses_lack : (c : ℕ) (ws : List (List ℕ)) → IsApart c → AllByRecursion (λ w. Lacks c w) ws
+    → Lacks c (plus_names ws)
 pluses_lack c [] apart each = record { none = tt }
-pluses_lack c (w ∷ ws) apart each = subst (λ (l : List ℕ). Lacks c l) (sym (joined w ws)) (joined_lacks 43 c (w ∷ ws) apart.plus each)
+pluses_lack c (w ∷ ws) apart each = subst (λ (l : List ℕ). Lacks c l) (sym (joined w ws))
+    (joined_lacks 43 c (w ∷ ws) apart.plus each)
 
-pluses_cut : (w : List ℕ) (ws : List (List ℕ)) → Lacks 43 w → AllByRecursion (λ v. Lacks 43 v) ws → slice_split (λ b. b == 43) (plus_names (w ∷ ws)) ≡ w ∷ ws
-pluses_cut w ws lack each = ap (λ (l : List ℕ). slice_split (λ b. b == 43) l) (joined w ws) ∙ joined_again 43 w ws lack each
+pluses_cut : (w : List ℕ) (ws : List (List ℕ)) → Lacks 43 w → AllByRecursion (λ v. Lacks 43 v) ws
+    → slice_split (λ b. b == 43) (plus_names (w ∷ ws)) ≡ w ∷ ws
+pluses_cut w ws lack each = ap (λ (l : List ℕ). slice_split (λ b. b == 43) l) (joined w ws)
+    ∙ joined_again 43 w ws lack each
 
 -- ---- the value of `node`
 -- numbers that can be spelled
@@ -292,13 +356,27 @@ node_shape : (node : Node) → node_words node ≡ field_words (codes "node") (n
 unfolding node_value
 node_shape node = by (same_node node no_overhead) refl
   where
-    by : (b : Bool) → same_node node no_overhead ≡ b → node_words node ≡ field_words (codes "node") (node_value node)
+    by : (b : Bool) → same_node node no_overhead ≡ b
+        → node_words node ≡ field_words (codes "node") (node_value node)
     by true same = rw same refl
     by false same = rw same refl
 
-numbers_lack : (c : ℕ) (node : Node) → is_ascii_digit c ≡ false → IsShortNode node → AllByRecursion (λ w. Lacks c w) (node_numbers node)
-numbers_lack c node digit short =
-    (number_lacks c node.job digit (omega (arith, short.job)), (number_lacks c node.lock digit (omega (arith, short.lock)), (number_lacks c node.release digit (omega (arith, short.release)), (number_lacks c node.late digit (omega (arith, short.late)), tt))))
+numbers_lack : (c : ℕ) (node : Node) → is_ascii_digit c ≡ false → IsShortNode node
+    → AllByRecursion (λ w. Lacks c w) (node_numbers node)
+numbers_lack c node digit short = (
+  number_lacks c node.job digit (omega (arith, short.job)),
+  (
+    number_lacks c node.lock digit
+        (omega (arith, short.lock)),
+    (
+      number_lacks c node.release digit (omega (
+        arith,
+        short.release,
+      )),
+      (number_lacks c node.late digit (omega (arith, short.late)), tt),
+    ),
+  ),
+)
 
 node_lacks : (c : ℕ) (node : Node) → IsApart c → IsShortNode node → NoneHas c (node_value node)
 unfolding node_value
@@ -310,7 +388,12 @@ node_lacks c node apart short = by (same_node node no_overhead)
 
 numbers_again : (node : Node) → IsShortNode node → node_of (node_numbers node) ≡ Ok node
 unfolding node_of
-numbers_again node short = rw (number_again node.job short.job, number_again node.lock short.lock, number_again node.release short.release, number_again node.late short.late) refl
+numbers_again node short = rw (
+  number_again node.job short.job,
+  number_again node.lock short.lock,
+  number_again node.release short.release,
+  number_again node.late short.late,
+) refl
 
 node_again : (node : Node) → IsShortNode node → node_or_none (node_value node) ≡ Ok node
 unfolding node_value
@@ -319,26 +402,32 @@ node_again node short = by (same_node node no_overhead) refl
     lack : AllByRecursion (λ w. Lacks 43 w) (node_numbers node)
     lack = numbers_lack 43 node refl short
 
-    by : (b : Bool) → same_node node no_overhead ≡ b → node_or_none (if b then None else Some (plus_names (node_numbers node))) ≡ Ok node
+    by : (b : Bool) → same_node node no_overhead ≡ b
+        → node_or_none (if b then None else Some (plus_names (node_numbers node))) ≡ Ok node
     by true same = ap (λ (n : Node). Ok n) (sym (same_none node same))
-    by false same = ap node_of (pluses_cut (decimal node.job) (decimal node.lock ∷ decimal node.release ∷ decimal node.late ∷ []) lack.0 lack.1) ∙ numbers_again node short
+    by false same = ap node_of (pluses_cut (decimal node.job) (decimal node.lock
+        ∷ decimal node.release ∷ decimal node.late ∷ []) lack.0 lack.1) ∙ numbers_again node short
 
 -- ---- the value of `irq`
 record IsShortInterrupt (x : Interrupt) : Type 0 where
   period : x.period < 10 ^ 10
   cost : x.cost < 10 ^ 10
 
-short_interrupts : (xs : List Interrupt) → AllByRecursion IsInterrupt xs → AllByRecursion IsShortInterrupt xs
+short_interrupts : (xs : List Interrupt) → AllByRecursion IsInterrupt xs
+    → AllByRecursion IsShortInterrupt xs
 short_interrupts [] each = tt
 short_interrupts (x ∷ xs) each =
-    let is = each.0 in
-    (record { period = omega (arith, is.period_to); cost = omega (arith, is.cost, is.period_to) }, short_interrupts xs each.1)
+    let is = each.0 in (
+      record { period = omega (arith, is.period_to); cost = omega (arith, is.cost, is.period_to) },
+      short_interrupts xs each.1,
+    )
 
 interrupt_value : List Interrupt → Option (List ℕ)
 interrupt_value [] = None
 interrupt_value (x ∷ xs) = Some (plus_names (map interrupt_word (x ∷ xs)))
 
-interrupt_shape : (xs : List Interrupt) → interrupt_words xs ≡ field_words (codes "irq") (interrupt_value xs)
+interrupt_shape : (xs : List Interrupt)
+    → interrupt_words xs ≡ field_words (codes "irq") (interrupt_value xs)
 unfolding interrupt_value
 interrupt_shape [] = refl
 interrupt_shape (x ∷ xs) = refl
@@ -346,43 +435,55 @@ interrupt_shape (x ∷ xs) = refl
 interrupt_parts : (x : Interrupt) → interrupt_word x ≡ decimal x.period ++ 58 ∷ decimal x.cost
 interrupt_parts x = simp append_assoc
 
-interrupt_lacks : (c : ℕ) (x : Interrupt) → (58 == c) ≡ false → is_ascii_digit c ≡ false → IsShortInterrupt x → Lacks c (interrupt_word x)
+interrupt_lacks : (c : ℕ) (x : Interrupt) → (58 == c) ≡ false → is_ascii_digit c ≡ false
+    → IsShortInterrupt x → Lacks c (interrupt_word x)
 interrupt_lacks c x colon digit short =
     let cost : Lacks c (decimal x.cost) = number_lacks c x.cost digit (omega (arith, short.cost)) in
     let back : Lacks c (58 ∷ decimal x.cost) = record { none = (colon, cost.none) } in
-    subst (λ (w : List ℕ). Lacks c w) (sym (interrupt_parts x)) (lacks_append c (decimal x.period) (58 ∷ decimal x.cost) (number_lacks c x.period digit (omega (arith, short.period))) back)
+    subst (λ (w : List ℕ). Lacks c w) (sym (interrupt_parts x)) (lacks_append c (decimal x.period)
+    (58 ∷ decimal x.cost) (number_lacks c x.period digit (omega (arith, short.period))) back)
 
-each_lacking : (c : ℕ) (xs : List Interrupt) → (58 == c) ≡ false → is_ascii_digit c ≡ false → AllByRecursion IsShortInterrupt xs → AllByRecursion (λ w. Lacks c w) (map interrupt_word xs)
+each_lacking : (c : ℕ) (xs : List Interrupt) → (58 == c) ≡ false → is_ascii_digit c ≡ false
+    → AllByRecursion IsShortInterrupt xs → AllByRecursion (λ w. Lacks c w) (map interrupt_word xs)
 each_lacking c [] colon digit each = tt
-each_lacking c (x ∷ xs) colon digit each = (interrupt_lacks c x colon digit each.0, each_lacking c xs colon digit each.1)
+each_lacking c (x ∷ xs) colon digit each =
+    (interrupt_lacks c x colon digit each.0, each_lacking c xs colon digit each.1)
 
-interrupts_lack : (c : ℕ) (xs : List Interrupt) → IsApart c → AllByRecursion IsShortInterrupt xs → NoneHas c (interrupt_value xs)
+interrupts_lack : (c : ℕ) (xs : List Interrupt) → IsApart c → AllByRecursion IsShortInterrupt xs
+    → NoneHas c (interrupt_value xs)
 unfolding interrupt_value
 interrupts_lack c [] apart each = tt
-interrupts_lack c (x ∷ xs) apart each = pluses_lack c (map interrupt_word (x ∷ xs)) apart (each_lacking c (x ∷ xs) apart.colon apart.digit each)
+interrupts_lack c (x ∷ xs) apart each = pluses_lack c (map interrupt_word (x ∷ xs)) apart
+    (each_lacking c (x ∷ xs) apart.colon apart.digit each)
 
 interrupt_again : (x : Interrupt) → IsShortInterrupt x → interrupt_in (interrupt_word x) ≡ Ok x
 unfolding interrupt_in
 interrupt_again x short =
     let sides : round 58 (interrupt_word x) ≡ Some (decimal x.period, decimal x.cost) =
     ap (λ (w : List ℕ). round 58 w) (interrupt_parts x)
-    ∙ ap pair_of (cut_at 58 (decimal x.period) (decimal x.cost) (number_lacks 58 x.period refl (omega (arith, short.period))))
-    ∙ ap (λ (l : List (List ℕ)). pair_of (decimal x.period ∷ l)) (uncut 58 (decimal x.cost) (number_lacks 58 x.cost refl (omega (arith, short.cost)))) in
+    ∙ ap pair_of (cut_at 58 (decimal x.period) (decimal x.cost)
+    (number_lacks 58 x.period refl (omega (arith, short.period))))
+    ∙ ap (λ (l : List (List ℕ)). pair_of (decimal x.period ∷ l))
+    (uncut 58 (decimal x.cost) (number_lacks 58 x.cost refl (omega (arith, short.cost)))) in
     rw (sides, number_again x.period short.period, number_again x.cost short.cost) refl
 
-each_again : (xs : List Interrupt) → AllByRecursion IsShortInterrupt xs → each_in interrupt_in (map interrupt_word xs) ≡ Ok xs
+each_again : (xs : List Interrupt) → AllByRecursion IsShortInterrupt xs
+    → each_in interrupt_in (map interrupt_word xs) ≡ Ok xs
 each_again [] each = refl
 each_again (x ∷ xs) each = rw (interrupt_again x each.0, each_again xs each.1) refl
 
-interrupts_again : (xs : List Interrupt) → AllByRecursion IsShortInterrupt xs → interrupts_or_none (interrupt_value xs) ≡ Ok xs
+interrupts_again : (xs : List Interrupt) → AllByRecursion IsShortInterrupt xs
+    → interrupts_or_none (interrupt_value xs) ≡ Ok xs
 unfolding interrupt_value
 interrupts_again [] each = refl
 interrupts_again (x ∷ xs) each =
     let lack = each_lacking 43 (x ∷ xs) refl refl each in
-    ap (each_in interrupt_in) (pluses_cut (interrupt_word x) (map interrupt_word xs) lack.0 lack.1) ∙ each_again (x ∷ xs) each
+    ap (each_in interrupt_in) (pluses_cut (interrupt_word x) (map interrupt_word xs) lack.0 lack.1)
+    ∙ each_again (x ∷ xs) each
 
 -- ---- a sheet
-names_valid : (own : List ℕ) (said : OutranksData) → MayOutrank own said → AllByRecursion IsName (names_said said)
+names_valid : (own : List ℕ) (said : OutranksData) → MayOutrank own said
+    → AllByRecursion IsName (names_said said)
 names_valid own (Named names) may = recursion_from_All IsName names may.named
 names_valid own AllOthers may = tt
 
@@ -409,20 +510,26 @@ short_sheet t is =
       jitter = omega (arith, is.jitter, is.deadline_to, is.period_to);
       names = names_valid t.name t.outranks is.outranked;
       node = short_node t.node is.overheads;
-      interrupts = short_interrupts t.interrupts (recursion_from_All IsInterrupt t.interrupts is.interrupts.valid);
+      interrupts = short_interrupts t.interrupts
+          (recursion_from_All IsInterrupt t.interrupts is.interrupts.valid);
       sections = spelled_sections 0 t.cost t.sections cost is.sections;
     }
 
-made_again : (t : Task) → IsValidSheet t → made_in t.name t.weight t.period t.deadline t.cost (map section_word t.sections) ≡ Ok (task_of t.name t.weight t.period t.deadline t.cost t.sections)
+made_again : (t : Task) → IsValidSheet t
+    → made_in t.name t.weight t.period t.deadline t.cost (map section_word t.sections)
+    ≡ Ok (task_of t.name t.weight t.period t.deadline t.cost t.sections)
 unfolding made_in
 made_again t is = rw (sections_again t.sections (short_sheet t is).sections, sheet_valid t is) refl
 
-late_again : (t : Task) → IsValidSheet t → sheet_with_jitter t.jitter (task_of t.name t.weight t.period t.deadline t.cost t.sections) ≡ Ok (with_jitter (task_of t.name t.weight t.period t.deadline t.cost t.sections) t.jitter)
+late_again : (t : Task) → IsValidSheet t
+    → sheet_with_jitter t.jitter (task_of t.name t.weight t.period t.deadline t.cost t.sections)
+    ≡ Ok (with_jitter (task_of t.name t.weight t.period t.deadline t.cost t.sections) t.jitter)
 late_again t is = rw (lt-ltb t.jitter t.deadline is.jitter) refl
 
 -- what may be left out, each with what stands behind it
 abbrev interrupt_rest : Task → List (List ℕ)
-interrupt_rest t = field_words (codes "irq") (interrupt_value t.interrupts) ++ map section_word t.sections
+interrupt_rest t =
+    field_words (codes "irq") (interrupt_value t.interrupts) ++ map section_word t.sections
 
 abbrev node_rest : Task → List (List ℕ)
 node_rest t = field_words (codes "node") (node_value t.node) ++ interrupt_rest t
@@ -435,65 +542,100 @@ more_words t = field_words (codes "j") (delay_value t.jitter) ++ over_rest t
 
 -- the words behind `put`
 abbrev put_words : Task → List (List ℕ)
-put_words t = codes "1" ∷ t.name ∷ decimal t.weight ∷ decimal t.period ∷ decimal t.deadline ∷ decimal t.cost ∷ more_words t
+put_words t = codes "1" ∷ t.name ∷ decimal t.weight ∷ decimal t.period ∷ decimal t.deadline
+    ∷ decimal t.cost ∷ more_words t
 
 spaced_append : (vs ws : List (List ℕ)) → spaced (vs ++ ws) ≡ spaced vs ++ spaced ws
 spaced_append [] ws = refl
-spaced_append (v ∷ vs) ws = ap (λ (l : List ℕ). (codes " " ++ v) ++ l) (spaced_append vs ws) ∙ sym (append_assoc (codes " " ++ v) (spaced vs) (spaced ws))
+spaced_append (v ∷ vs) ws = ap (λ (l : List ℕ). (codes " " ++ v) ++ l) (spaced_append vs ws)
+    ∙ sym (append_assoc (codes " " ++ v) (spaced vs) (spaced ws))
 
 -- the same words, one after the other
-more_spaced : (t : Task) → spaced (more_words t) ≡ spaced (delay_words t.jitter) ++ (spaced (over_words t.outranks) ++ (spaced (node_words t.node) ++ (spaced (interrupt_words t.interrupts) ++ spaced (section_words t.sections))))
+more_spaced : (t : Task) → spaced (more_words t) ≡ spaced (delay_words t.jitter)
+    ++ (spaced (over_words t.outranks) ++ (spaced (node_words t.node)
+    ++ (spaced (interrupt_words t.interrupts) ++ spaced (section_words t.sections))))
 more_spaced t =
     let D : List (List ℕ) = field_words (codes "j") (delay_value t.jitter) in
     let O : List (List ℕ) = field_words (codes "over") (over_value t.outranks) in
     let N : List (List ℕ) = field_words (codes "node") (node_value t.node) in
     let I : List (List ℕ) = field_words (codes "irq") (interrupt_value t.interrupts) in
-    let irq : spaced (interrupt_rest t) ≡ spaced I ++ spaced (section_words t.sections) = spaced_append I (section_words t.sections) in
-    let node : spaced (node_rest t) ≡ spaced N ++ spaced (interrupt_rest t) = spaced_append N (interrupt_rest t) in
-    let over : spaced (over_rest t) ≡ spaced O ++ spaced (node_rest t) = spaced_append O (node_rest t) in
-    let delay : spaced (more_words t) ≡ spaced D ++ spaced (over_rest t) = spaced_append D (over_rest t) in
-    rw (delay_shape t.jitter, over_shape t.outranks, node_shape t.node, interrupt_shape t.interrupts)
-    (delay ∙ ap (λ (l : List ℕ). spaced D ++ l) (over ∙ ap (λ (l : List ℕ). spaced O ++ l) (node ∙ ap (λ (l : List ℕ). spaced N ++ l) irq)))
+    let irq : spaced (interrupt_rest t) ≡ spaced I ++ spaced (section_words t.sections) =
+    spaced_append I (section_words t.sections) in
+    let node : spaced (node_rest t) ≡ spaced N ++ spaced (interrupt_rest t) =
+    spaced_append N (interrupt_rest t) in
+    let over : spaced (over_rest t) ≡ spaced O ++ spaced (node_rest t) =
+    spaced_append O (node_rest t) in
+    let delay : spaced (more_words t) ≡ spaced D ++ spaced (over_rest t) =
+    spaced_append D (over_rest t) in
+    rw (
+      delay_shape t.jitter,
+      over_shape t.outranks,
+      node_shape t.node,
+      interrupt_shape
+          t.interrupts,
+    )
+    (delay ∙ ap (λ (l : List ℕ). spaced D ++ l)
+    (over ∙ ap (λ (l : List ℕ). spaced O ++ l) (node ∙ ap (λ (l : List ℕ). spaced N ++ l) irq)))
 
 put_shape : (t : Task) → put_line t ≡ codes "put" ++ spaced (put_words t)
 put_shape t =
     let V : List (List ℕ) = value_words t in
-    regroup (codes "put") (spaced V) (spaced (delay_words t.jitter)) (spaced (over_words t.outranks)) (spaced (node_words t.node)) (spaced (interrupt_words t.interrupts)) (spaced (section_words t.sections))
-    ∙ ap (λ (l : List ℕ). codes "put" ++ l) (sym (spaced_append V (more_words t) ∙ ap (λ (l : List ℕ). spaced V ++ l) (more_spaced t)))
+    regroup (codes "put") (spaced V) (spaced (delay_words t.jitter))
+    (spaced (over_words t.outranks)) (spaced (node_words t.node))
+    (spaced (interrupt_words t.interrupts)) (spaced (section_words t.sections))
+    ∙ ap (λ (l : List ℕ). codes "put" ++ l)
+    (sym (spaced_append V (more_words t) ∙ ap (λ (l : List ℕ). spaced V ++ l) (more_spaced t)))
   where
-    regroup : (p v d o n i s : List ℕ) → ((p ++ v) ++ (((d ++ o) ++ n) ++ i)) ++ s ≡ p ++ (v ++ (d ++ (o ++ (n ++ (i ++ s)))))
+    regroup : (p v d o n i s : List ℕ)
+        → ((p ++ v) ++ (((d ++ o) ++ n) ++ i)) ++ s ≡ p ++ (v ++ (d ++ (o ++ (n ++ (i ++ s)))))
     regroup p v d o n i s = simp append_assoc
 
 -- no field stands where another one is wanted
 module _ (t : Task) (short : IsShort t) where
-  interrupt_none : (key : List ℕ) → bytes_eq (codes "irq") key ≡ false → NoSuch key (interrupt_rest t)
-  interrupt_none key other = other_field key (codes "irq") (interrupt_value t.interrupts) (map section_word t.sections) irq_key (interrupts_lack 61 t.interrupts equals_apart short.interrupts) other (sections_no_field key t.sections short.sections)
+  interrupt_none : (key : List ℕ) → bytes_eq (codes "irq") key ≡ false
+      → NoSuch key (interrupt_rest t)
+  interrupt_none key other =
+      other_field key (codes "irq") (interrupt_value t.interrupts) (map section_word t.sections)
+      irq_key (interrupts_lack 61 t.interrupts equals_apart short.interrupts) other
+      (sections_no_field key t.sections short.sections)
 
-  node_none : (key : List ℕ) → bytes_eq (codes "node") key ≡ false → bytes_eq (codes "irq") key ≡ false → NoSuch key (node_rest t)
-  node_none key other irq = other_field key (codes "node") (node_value t.node) (interrupt_rest t) node_key (node_lacks 61 t.node equals_apart short.node) other (interrupt_none key irq)
+  node_none : (key : List ℕ) → bytes_eq (codes "node") key ≡ false
+      → bytes_eq (codes "irq") key ≡ false → NoSuch key (node_rest t)
+  node_none key other irq = other_field key (codes "node") (node_value t.node) (interrupt_rest t)
+      node_key (node_lacks 61 t.node equals_apart short.node) other (interrupt_none key irq)
 
   over_none : NoSuch (codes "j") (over_rest t)
-  over_none = other_field (codes "j") (codes "over") (over_value t.outranks) (node_rest t) over_key (over_lacks 61 t.outranks equals_apart short.names) refl (node_none (codes "j") refl refl)
+  over_none = other_field (codes "j") (codes "over") (over_value t.outranks) (node_rest t) over_key
+      (over_lacks 61 t.outranks equals_apart short.names) refl (node_none (codes "j") refl refl)
 
   delay_next : next_field (codes "j") (more_words t) ≡ (delay_value t.jitter, over_rest t)
-  delay_next = this_field (codes "j") (delay_value t.jitter) (over_rest t) delay_key (delay_lacks 61 t.jitter equals_apart short.jitter) over_none
+  delay_next = this_field (codes "j") (delay_value t.jitter) (over_rest t) delay_key
+      (delay_lacks 61 t.jitter equals_apart short.jitter) over_none
 
   over_next : next_field (codes "over") (over_rest t) ≡ (over_value t.outranks, node_rest t)
-  over_next = this_field (codes "over") (over_value t.outranks) (node_rest t) over_key (over_lacks 61 t.outranks equals_apart short.names) (node_none (codes "over") refl refl)
+  over_next = this_field (codes "over") (over_value t.outranks) (node_rest t) over_key
+      (over_lacks 61 t.outranks equals_apart short.names) (node_none (codes "over") refl refl)
 
   node_next : next_field (codes "node") (node_rest t) ≡ (node_value t.node, interrupt_rest t)
-  node_next = this_field (codes "node") (node_value t.node) (interrupt_rest t) node_key (node_lacks 61 t.node equals_apart short.node) (interrupt_none (codes "node") refl)
+  node_next = this_field (codes "node") (node_value t.node) (interrupt_rest t) node_key
+      (node_lacks 61 t.node equals_apart short.node) (interrupt_none (codes "node") refl)
 
-  interrupt_next : next_field (codes "irq") (interrupt_rest t) ≡ (interrupt_value t.interrupts, map section_word t.sections)
-  interrupt_next = this_field (codes "irq") (interrupt_value t.interrupts) (map section_word t.sections) irq_key (interrupts_lack 61 t.interrupts equals_apart short.interrupts) (sections_no_field (codes "irq") t.sections short.sections)
+  interrupt_next : next_field (codes "irq") (interrupt_rest t)
+      ≡ (interrupt_value t.interrupts, map section_word t.sections)
+  interrupt_next = this_field (codes "irq") (interrupt_value t.interrupts) (map section_word
+      t.sections) irq_key (interrupts_lack 61 t.interrupts equals_apart short.interrupts)
+      (sections_no_field (codes "irq") t.sections short.sections)
 
-sheet_again : (t : Task) → IsValidSheet t → sheet_in (t.name ∷ decimal t.weight ∷ decimal t.period ∷ decimal t.deadline ∷ decimal t.cost ∷ more_words t) ≡ Ok t
+sheet_again : (t : Task) → IsValidSheet t → sheet_in (t.name ∷ decimal t.weight ∷ decimal t.period
+    ∷ decimal t.deadline ∷ decimal t.cost ∷ more_words t) ≡ Ok t
 unfolding sheet_in
 sheet_again t is =
     let short = short_sheet t is in
     rw (
-      name_next t.name (decimal t.weight ∷ decimal t.period ∷ decimal t.deadline ∷ decimal t.cost ∷ more_words t) is.named,
-      number_next t.weight (decimal t.period ∷ decimal t.deadline ∷ decimal t.cost ∷ more_words t) short.weight,
+      name_next t.name (decimal t.weight ∷ decimal t.period ∷ decimal t.deadline ∷ decimal t.cost
+          ∷ more_words t) is.named,
+      number_next t.weight (decimal t.period ∷ decimal t.deadline ∷ decimal t.cost ∷ more_words t)
+          short.weight,
       number_next t.period (decimal t.deadline ∷ decimal t.cost ∷ more_words t) short.period,
       number_next t.deadline (decimal t.cost ∷ more_words t) short.deadline,
       number_next t.cost (more_words t) short.cost,
@@ -513,18 +655,22 @@ sheet_again t is =
     ) refl
 
 -- ---- a line
-words_again : (w : List ℕ) (ws : List (List ℕ)) → Lacks 32 w → AllByRecursion (λ v. Lacks 32 v) ws → words (w ++ spaced ws) ≡ w ∷ ws
+words_again : (w : List ℕ) (ws : List (List ℕ)) → Lacks 32 w → AllByRecursion (λ v. Lacks 32 v) ws
+    → words (w ++ spaced ws) ≡ w ∷ ws
 words_again w [] lacks each = ap words (append_nil w) ∙ uncut 32 w lacks
   where
     append_nil : (xs : List ℕ) → xs ++ [] ≡ xs
     append_nil [] = refl
     append_nil (x ∷ xs) = ap (λ l. x ∷ l) (append_nil xs)
-words_again w (v ∷ ws) lacks each = cut_at 32 w (v ++ spaced ws) lacks ∙ ap (λ (l : List (List ℕ)). w ∷ l) (words_again v ws each.0 each.1)
+words_again w (v ∷ ws) lacks each = cut_at 32 w (v ++ spaced ws) lacks
+    ∙ ap (λ (l : List (List ℕ)). w ∷ l) (words_again v ws each.0 each.1)
 
-spaced_lacks : (c : ℕ) (ws : List (List ℕ)) → (32 == c) ≡ false → AllByRecursion (λ v. Lacks c v) ws → Lacks c (spaced ws)
+spaced_lacks : (c : ℕ) (ws : List (List ℕ)) → (32 == c) ≡ false → AllByRecursion (λ v. Lacks c v) ws
+    → Lacks c (spaced ws)
 spaced_lacks c [] other each = record { none = tt }
 spaced_lacks c (w ∷ ws) other each =
-    let rest : Lacks c (w ++ spaced ws) = lacks_append c w (spaced ws) each.0 (spaced_lacks c ws other each.1) in
+    let rest : Lacks c (w ++ spaced ws) =
+    lacks_append c w (spaced ws) each.0 (spaced_lacks c ws other each.1) in
     record { none = (other, rest.none) }
 
 -- a byte that no word has
@@ -537,7 +683,8 @@ record IsGap (c : ℕ) : Type 0 where
   node : Lacks c (codes "node")
   irq : Lacks c (codes "irq")
 
-all_append : (c : ℕ) (vs ws : List (List ℕ)) → AllByRecursion (λ v. Lacks c v) vs → AllByRecursion (λ v. Lacks c v) ws → AllByRecursion (λ v. Lacks c v) (vs ++ ws)
+all_append : (c : ℕ) (vs ws : List (List ℕ)) → AllByRecursion (λ v. Lacks c v) vs
+    → AllByRecursion (λ v. Lacks c v) ws → AllByRecursion (λ v. Lacks c v) (vs ++ ws)
 all_append c [] ws a b = b
 all_append c (v ∷ vs) ws a b = (a.0, all_append c vs ws a.1 b)
 
@@ -545,26 +692,46 @@ module _ (c : ℕ) (gap : IsGap c) where
   number_apart : (n : ℕ) → n < 10 ^ 10 → Lacks c (decimal n)
   number_apart n short = number_lacks c n gap.apart.digit (omega (arith, short))
 
-  sections_apart : (ss : List CriticalSection) → AllByRecursion IsSpelled ss → AllByRecursion (λ v. Lacks c v) (map section_word ss)
+  sections_apart : (ss : List CriticalSection) → AllByRecursion IsSpelled ss
+      → AllByRecursion (λ v. Lacks c v) (map section_word ss)
   sections_apart [] each = tt
   sections_apart (s ∷ ss) each = (section_lacks c s gap.apart each.0, sections_apart ss each.1)
 
-  field_apart : (key : List ℕ) (value : Option (List ℕ)) (ws : List (List ℕ)) → Lacks c key → NoneHas c value → AllByRecursion (λ v. Lacks c v) ws → AllByRecursion (λ v. Lacks c v) (field_words key value ++ ws)
+  field_apart : (key : List ℕ) (value : Option (List ℕ)) (ws : List (List ℕ)) → Lacks c key
+      → NoneHas c value → AllByRecursion (λ v. Lacks c v) ws
+      → AllByRecursion (λ v. Lacks c v) (field_words key value ++ ws)
   field_apart key None ws lacks none each = each
-  field_apart key (Some value) ws lacks none each = (lacks_append c key (61 ∷ value) lacks (record { none = (gap.equals, none.none) }), each)
+  field_apart key (Some value) ws lacks none each =
+      (lacks_append c key (61 ∷ value) lacks (record { none = (gap.equals, none.none) }), each)
 
   put_apart : (t : Task) → IsValidSheet t → AllByRecursion (λ v. Lacks c v) (put_words t)
   put_apart t is =
       let short = short_sheet t is in
       let irq : AllByRecursion (λ v. Lacks c v) (interrupt_rest t) =
-      field_apart (codes "irq") (interrupt_value t.interrupts) (map section_word t.sections) gap.irq (interrupts_lack c t.interrupts gap.apart short.interrupts) (sections_apart t.sections short.sections) in
+      field_apart (codes "irq") (interrupt_value t.interrupts) (map section_word t.sections) gap.irq
+      (interrupts_lack c t.interrupts gap.apart short.interrupts)
+      (sections_apart t.sections short.sections) in
       let node : AllByRecursion (λ v. Lacks c v) (node_rest t) =
-      field_apart (codes "node") (node_value t.node) (interrupt_rest t) gap.node (node_lacks c t.node gap.apart short.node) irq in
+      field_apart (codes "node") (node_value t.node) (interrupt_rest t) gap.node
+      (node_lacks c t.node gap.apart short.node) irq in
       let over : AllByRecursion (λ v. Lacks c v) (over_rest t) =
-      field_apart (codes "over") (over_value t.outranks) (node_rest t) gap.over (over_lacks c t.outranks gap.apart short.names) node in
+      field_apart (codes "over") (over_value t.outranks) (node_rest t) gap.over
+      (over_lacks c t.outranks gap.apart short.names) node in
       let more : AllByRecursion (λ v. Lacks c v) (more_words t) =
-      field_apart (codes "j") (delay_value t.jitter) (over_rest t) gap.delay (delay_lacks c t.jitter gap.apart short.jitter) over in
-      (gap.one, (name_lacks c t.name gap.apart.name is.named, (number_apart t.weight short.weight, (number_apart t.period short.period, (number_apart t.deadline short.deadline, (number_apart t.cost short.cost, more))))))
+      field_apart (codes "j") (delay_value t.jitter) (over_rest t) gap.delay
+      (delay_lacks c t.jitter gap.apart short.jitter) over in (
+        gap.one,
+        (
+          name_lacks c t.name gap.apart.name is.named,
+          (
+            number_apart t.weight short.weight,
+            (
+              number_apart t.period short.period,
+              (number_apart t.deadline short.deadline, (number_apart t.cost short.cost, more)),
+            ),
+          ),
+        ),
+      )
 
 space_gap : IsGap 32
 space_gap = record {
@@ -588,59 +755,82 @@ end_gap = record {
   irq = record { none = (refl, (refl, (refl, tt))) };
 }
 
-put_again : (ws : List (List ℕ)) (t : Task) → sheet_in ws ≡ Ok t → row_in 1 (codes "put" ∷ codes "1" ∷ ws) ≡ Ok (Put 1 t)
+put_again : (ws : List (List ℕ)) (t : Task) → sheet_in ws ≡ Ok t
+    → row_in 1 (codes "put" ∷ codes "1" ∷ ws) ≡ Ok (Put 1 t)
 unfolding row_in put_in
 put_again ws t is = rw (draft_next ws, is) refl
 
 line_again : (t : Task) → IsValidSheet t → row_in 1 (words (put_line t)) ≡ Ok (Put 1 t)
 line_again t is =
-    ap (λ (l : List ℕ). row_in 1 (words l)) (put_shape t) ∙ ap (row_in 1) (words_again (codes "put") (put_words t) (record { none = (refl, (refl, (refl, tt))) }) (put_apart 32 space_gap t is))
+    ap (λ (l : List ℕ). row_in 1 (words l)) (put_shape t) ∙ ap (row_in 1) (words_again (codes "put")
+    (put_words t) (record { none = (refl, (refl, (refl, tt))) }) (put_apart 32 space_gap t is))
     ∙ put_again _ t (sheet_again t is)
 
 put_ends : (t : Task) → IsValidSheet t → Lacks 10 (put_line t)
-put_ends t is = subst (λ (l : List ℕ). Lacks 10 l) (sym (put_shape t)) (lacks_append 10 (codes "put") (spaced (put_words t)) (record { none = (refl, (refl, (refl, tt))) }) (spaced_lacks 10 (put_words t) refl (put_apart 10 end_gap t is)))
+put_ends t is = subst (λ (l : List ℕ). Lacks 10 l) (sym (put_shape t)) (lacks_append 10
+    (codes "put") (spaced (put_words t)) (record { none = (refl, (refl, (refl, tt))) })
+    (spaced_lacks 10 (put_words t) refl (put_apart 10 end_gap t is)))
 
 commit_again : row_in 1 (words (codes "commit 1")) ≡ Ok (Commit 1)
 unfolding row_in only_draft
 commit_again = rw (draft_next []) refl
 
-open_again : (team : ℕ) → 1 ≤ team → team ≤ TEAM_LIMIT → row_in 0 (codes "open" ∷ decimal team ∷ []) ≡ Ok (Open team)
+open_again : (team : ℕ) → 1 ≤ team → team ≤ TEAM_LIMIT
+    → row_in 0 (codes "open" ∷ decimal team ∷ []) ≡ Ok (Open team)
 unfolding row_in open_in
-open_again team from to = rw (number_again team (omega (arith, to)), le-leb 1 team from, le-leb team TEAM_LIMIT to) refl
+open_again team from to =
+    rw (number_again team (omega (arith, to)), le-leb 1 team from, le-leb team TEAM_LIMIT to) refl
 
 -- ---- all lines
 put_texts : List Task → List (List ℕ)
 put_texts [] = codes "commit 1" ∷ []
 put_texts (t ∷ U) = put_line t ∷ put_texts U
 
-one_more : (line rest : List ℕ) → Lacks 10 line → lines_of (line ++ 10 ∷ rest) ≡ line ∷ lines_of rest
+one_more : (line rest : List ℕ) → Lacks 10 line
+    → lines_of (line ++ 10 ∷ rest) ≡ line ∷ lines_of rest
 one_more line rest lacks = line_cut (line ++ 10 ∷ rest) line rest (cut_at 10 line rest lacks)
 
-texts_again : (U : List Task) → AllByRecursion IsValidSheet U → lines_of (put_lines U ++ codes "commit 1\n") ≡ put_texts U
+texts_again : (U : List Task) → AllByRecursion IsValidSheet U
+    → lines_of (put_lines U ++ codes "commit 1\n") ≡ put_texts U
 unfolding put_texts
 texts_again [] each = refl
 texts_again (t ∷ U) each =
-    ap lines_of (regroup (put_line t) (codes "\n") (put_lines U) (codes "commit 1\n")) ∙ one_more (put_line t) (put_lines U ++ codes "commit 1\n") (put_ends t each.0) ∙ ap (λ (l : List (List ℕ)). put_line t ∷ l) (texts_again U each.1)
+    ap lines_of (regroup (put_line t) (codes "\n") (put_lines U) (codes "commit 1\n"))
+    ∙ one_more (put_line t) (put_lines U ++ codes "commit 1\n") (put_ends t each.0)
+    ∙ ap (λ (l : List (List ℕ)). put_line t ∷ l) (texts_again U each.1)
   where
-    regroup : (line end more last : List ℕ) → ((line ++ end) ++ more) ++ last ≡ line ++ (end ++ (more ++ last))
+    regroup : (line end more last : List ℕ)
+        → ((line ++ end) ++ more) ++ last ≡ line ++ (end ++ (more ++ last))
     regroup line end more last = simp append_assoc
 
-rows_again : (U : List Task) (number : ℕ) → AllByRecursion IsValidSheet U → script_from 1 (kept_from number (put_texts U)) ≡ Ok (lines_from number U)
+rows_again : (U : List Task) (number : ℕ) → AllByRecursion IsValidSheet U
+    → script_from 1 (kept_from number (put_texts U)) ≡ Ok (lines_from number U)
 unfolding script_from put_texts
 rows_again [] number each = rw commit_again refl
 rows_again (t ∷ U) number each = rw (line_again t each.0, rows_again U (number + 1) each.1) refl
 
-pub script_again : (team : ℕ) (U : List Task) → 1 ≤ team → team ≤ TEAM_LIMIT → IsTaskSet U → script_in (script_of team U) ≡ Ok (lines_of_set team U)
+pub script_again : (team : ℕ) (U : List Task) → 1 ≤ team → team ≤ TEAM_LIMIT → IsTaskSet U
+    → script_in (script_of team U) ≡ Ok (lines_of_set team U)
 unfolding script_from
 script_again team U from to set =
     let each : AllByRecursion IsValidSheet U = recursion_from_All IsValidSheet U set.valid in
     let number : Lacks 10 (decimal team) = number_lacks 10 team refl (omega (arith, to)) in
     let space : Lacks 32 (decimal team) = number_lacks 32 team refl (omega (arith, to)) in
-    let shape : script_of team U ≡ (codes "open" ++ spaced (decimal team ∷ [])) ++ 10 ∷ (put_lines U ++ codes "commit 1\n") = simp append_assoc in
+    let shape : script_of team U ≡ (codes "open" ++ spaced (decimal team ∷ [])) ++ 10
+    ∷ (put_lines U ++ codes "commit 1\n") = simp append_assoc in
     let line : Lacks 10 (codes "open" ++ spaced (decimal team ∷ [])) =
-    lacks_append 10 (codes "open") (spaced (decimal team ∷ [])) (record { none = (refl, (refl, (refl, (refl, tt)))) }) (spaced_lacks 10 (decimal team ∷ []) refl (number, tt)) in
-    let texts : lines_of (script_of team U) ≡ (codes "open" ++ spaced (decimal team ∷ [])) ∷ put_texts U =
-    ap lines_of shape ∙ one_more (codes "open" ++ spaced (decimal team ∷ [])) (put_lines U ++ codes "commit 1\n") line ∙ ap (λ (l : List (List ℕ)). (codes "open" ++ spaced (decimal team ∷ [])) ∷ l) (texts_again U each) in
+    lacks_append 10 (codes "open") (spaced (decimal team ∷ []))
+    (record { none = (refl, (refl, (refl, (refl, tt)))) })
+    (spaced_lacks 10 (decimal team ∷ []) refl (number, tt)) in
+    let texts : lines_of (script_of team U) ≡ (codes "open" ++ spaced (decimal team ∷ []))
+    ∷ put_texts U =
+    ap lines_of shape ∙ one_more (codes "open" ++ spaced (decimal team ∷ []))
+    (put_lines U ++ codes "commit 1\n") line
+    ∙ ap (λ (l : List (List ℕ)). (codes "open" ++ spaced (decimal team ∷ [])) ∷ l)
+    (texts_again U each) in
     let row : row_in 0 (words (codes "open" ++ spaced (decimal team ∷ []))) ≡ Ok (Open team) =
-    ap (row_in 0) (words_again (codes "open") (decimal team ∷ []) (record { none = (refl, (refl, (refl, (refl, tt)))) }) (space, tt)) ∙ open_again team from to in
-    ap (λ (ls : List (List ℕ)). script_from 0 (kept_from 1 ls)) texts ∙ rw (row, rows_again U 2 each) refl
+    ap (row_in 0) (words_again (codes "open") (decimal team ∷ [])
+    (record { none = (refl, (refl, (refl, (refl, tt)))) }) (space, tt))
+    ∙ open_again team from to in
+    ap (λ (ls : List (List ℕ)). script_from 0 (kept_from 1 ls)) texts
+    ∙ rw (row, rows_again U 2 each) refl

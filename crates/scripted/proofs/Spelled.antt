@@ -1,5 +1,6 @@
 -- Words that are cut where they were joined: names and numbers have none of the bytes that stand between words.
-use Rattle.std.proofs.Common.{◌≡◌, ◌∙◌, ◌==◌, ◌<◌, ◌^◌, ◌&&◌, ℕ, Bool, true, false, inl, inr, List, [], ◌∷◌, ◌++◌, All, refl, ap, arith}
+use Rattle.std.proofs.Common.{◌≡◌, ◌∙◌, ◌==◌, ◌<◌, ◌^◌, ◌&&◌, ℕ, Bool, true, false, inl, inr, List}
+use Rattle.std.proofs.Common.{[], ◌∷◌, ◌++◌, All, refl, ap, arith}
 use Rattle.std.specs.List.{list_all, slice_split, join_with_byte, AllByRecursion}
 use Rattle.std.specs.Char.{is_ascii_digit}
 use Rattle.std.specs.Fmt.{decimal}
@@ -21,12 +22,14 @@ all_lack c xs lacks = All-from_recursion (λ x. (x == c) ≡ false) xs lacks.non
 pub lacks_append : (c : ℕ) (xs ys : List ℕ) → Lacks c xs → Lacks c ys → Lacks c (xs ++ ys)
 lacks_append c xs ys a b = record { none = go xs a.none }
   where
-    go : (zs : List ℕ) → AllByRecursion (λ x. (x == c) ≡ false) zs → AllByRecursion (λ x. (x == c) ≡ false) (zs ++ ys)
+    go : (zs : List ℕ) → AllByRecursion (λ x. (x == c) ≡ false) zs
+        → AllByRecursion (λ x. (x == c) ≡ false) (zs ++ ys)
     go [] h = b.none
     go (z ∷ zs) h = (h.0, go zs h.1)
 
 -- a test that all bytes of a word pass, and this byte doesn't
-lacks_by : (p : ℕ → Bool) (c : ℕ) (xs : List ℕ) → p c ≡ false → list_all p xs ≡ true → AllByRecursion (λ x. (x == c) ≡ false) xs
+lacks_by : (p : ℕ → Bool) (c : ℕ) (xs : List ℕ) → p c ≡ false → list_all p xs ≡ true
+    → AllByRecursion (λ x. (x == c) ≡ false) xs
 lacks_by p c [] other all = tt
 lacks_by p c (x ∷ xs) other all = (here, lacks_by p c xs other rest)
   where
@@ -43,7 +46,8 @@ lacks_by p c (x ∷ xs) other all = (here, lacks_by p c xs other rest)
 
     here : (x == c) ≡ false
     here = elim (cases_Bool (x == c)) [
-      | inl same ↦ absurd (both_ways (p x) (ap p (eqb-true x c same) ∙ other) (first (p x) (list_all p xs) all))
+      | inl same ↦ absurd (both_ways (p x) (ap p (eqb-true x c same) ∙ other)
+          (first (p x) (list_all p xs) all))
       | inr apart ↦ apart
     ]
 
@@ -54,13 +58,15 @@ name_lacks c name other is = record { none = lacks_by is_name_byte c name other 
     bytes is = grind (arith, nat_tests)
 
 pub number_lacks : (c n : ℕ) → is_ascii_digit c ≡ false → n < 2 ^ 64 → Lacks c (decimal n)
-number_lacks c n other short = record { none = lacks_by is_ascii_digit c (decimal n) other (digits_decimal own n short) }
+number_lacks c n other short =
+    record { none = lacks_by is_ascii_digit c (decimal n) other (digits_decimal own n short) }
 
 -- ---- cut at a byte
 itself : (c : ℕ) → (c == c) ≡ true
 itself c = grind (arith, nat_tests)
 
-pub cut_at : (c : ℕ) (xs ys : List ℕ) → Lacks c xs → slice_split (λ b. b == c) (xs ++ c ∷ ys) ≡ xs ∷ slice_split (λ b. b == c) ys
+pub cut_at : (c : ℕ) (xs ys : List ℕ) → Lacks c xs
+    → slice_split (λ b. b == c) (xs ++ c ∷ ys) ≡ xs ∷ slice_split (λ b. b == c) ys
 cut_at c xs ys lacks = slice_split_at (λ b. b == c) xs c ys (all_lack c xs lacks) (itself c)
 
 pub uncut : (c : ℕ) (xs : List ℕ) → Lacks c xs → slice_split (λ b. b == c) xs ≡ xs ∷ []
@@ -70,12 +76,16 @@ uncut c xs lacks = slice_split_none (λ b. b == c) xs (all_lack c xs lacks)
 pub record AllLack (c : ℕ) (ws : List (List ℕ)) : Type 0 where
   pub each : AllByRecursion (λ w. Lacks c w) ws
 
-pub joined_again : (c : ℕ) (w : List ℕ) (ws : List (List ℕ)) → Lacks c w → AllByRecursion (λ v. Lacks c v) ws → slice_split (λ b. b == c) (join_with_byte c (w ∷ ws)) ≡ w ∷ ws
+pub joined_again : (c : ℕ) (w : List ℕ) (ws : List (List ℕ)) → Lacks c w → AllByRecursion
+    (λ v. Lacks c v) ws → slice_split (λ b. b == c) (join_with_byte c (w ∷ ws)) ≡ w ∷ ws
 joined_again c w [] lacks rest = uncut c w lacks
-joined_again c w (v ∷ ws) lacks rest = cut_at c w (join_with_byte c (v ∷ ws)) lacks ∙ ap (λ l. w ∷ l) (joined_again c v ws rest.0 rest.1)
+joined_again c w (v ∷ ws) lacks rest = cut_at c w (join_with_byte c (v ∷ ws)) lacks
+    ∙ ap (λ l. w ∷ l) (joined_again c v ws rest.0 rest.1)
 
-pub joined_lacks : (c d : ℕ) (ws : List (List ℕ)) → (c == d) ≡ false → AllByRecursion (λ v. Lacks d v) ws → Lacks d (join_with_byte c ws)
+pub joined_lacks : (c d : ℕ) (ws : List (List ℕ)) → (c == d) ≡ false
+    → AllByRecursion (λ v. Lacks d v) ws → Lacks d (join_with_byte c ws)
 joined_lacks c d [] other all = record { none = tt }
 joined_lacks c d (w ∷ []) other all = all.0
 joined_lacks c d (w ∷ v ∷ ws) other all =
-    lacks_append d w (c ∷ join_with_byte c (v ∷ ws)) all.0 (record { none = (other, (joined_lacks c d (v ∷ ws) other all.1).none) })
+    lacks_append d w (c ∷ join_with_byte c (v ∷ ws)) all.0
+    (record { none = (other, (joined_lacks c d (v ∷ ws) other all.1).none) })

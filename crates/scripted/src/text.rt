@@ -176,7 +176,7 @@ fn push_tasks(text: &mut String, sheets: &[Sheet]) -> Result<(), AllocError>
     Ok(())
 }
 
-/// The set as a script: a team opens a draft, puts each task by rank, and commits. The error is want of memory.
+/// The set as a script: a team opens a draft, puts each task by rank, and commits. The error is out of memory.
 pub fn script_text(alloc: Global, team: Team, set: &TaskSet) -> Result<String, AllocError>
     ensures { IfOk result (λ text. string_bytes text ≡ script_of team set.now) }
 {

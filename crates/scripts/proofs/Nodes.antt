@@ -1,5 +1,6 @@
 -- What a node takes as four words, and overheads and interrupts within the limits.
-use Rattle.std.proofs.Common.{◌≡◌, ℕ, Bool, true, false, ◌&&◌, List, [], ◌∷◌, Option, Some, None, Err, refl, ap, arith}
+use Rattle.std.proofs.Common.{◌≡◌, ℕ, Bool, true, false, ◌&&◌, List, [], ◌∷◌, Option, Some, None}
+use Rattle.std.proofs.Common.{Err, refl, ap, arith}
 use Rattle.std.specs.List.{list_all, AllByRecursion}
 use Rattle.std.proofs.lemmas.Bool.Decides.{nat_tests}
 use Rattle.std.proofs.lemmas.List.Elements.{All-from_recursion, recursion_from_All}
@@ -19,7 +20,8 @@ pub two_words : (job lock : List ℕ) → node_of (job ∷ lock ∷ []) ≡ Err 
 unfolding node_of
 two_words job lock = refl
 
-pub no_four : (job lock : List ℕ) (rest : List (List ℕ)) → pair_of rest ≡ None → node_of (job ∷ lock ∷ rest) ≡ Err Bad
+pub no_four : (job lock : List ℕ) (rest : List (List ℕ)) → pair_of rest ≡ None
+    → node_of (job ∷ lock ∷ rest) ≡ Err Bad
 unfolding node_of
 no_four job lock [] is = refl
 no_four job lock (a ∷ []) is = refl
@@ -34,7 +36,8 @@ abbrev back_of : Option (List ℕ × List ℕ) → List ℕ
 back_of None = []
 back_of (Some sides) = sides.1
 
-pub last_two : (release late : List ℕ) (rest : List (List ℕ)) → pair_of rest ≡ Some (release, late) → rest ≡ release ∷ late ∷ []
+pub last_two : (release late : List ℕ) (rest : List (List ℕ)) → pair_of rest ≡ Some (release, late)
+    → rest ≡ release ∷ late ∷ []
 last_two release late [] is = absurd (cc)
 last_two release late (a ∷ []) is = absurd (cc)
 last_two release late (a ∷ b ∷ []) is =
@@ -67,14 +70,19 @@ each_valid (x ∷ xs) all =
     let (here, rest) = both (is_interrupt x) (list_all is_interrupt xs) all in
     (interrupt_valid x here, each_valid xs rest)
 
-each_tested : (xs : List Interrupt) → AllByRecursion IsInterrupt xs → list_all is_interrupt xs ≡ true
+each_tested : (xs : List Interrupt) → AllByRecursion IsInterrupt xs
+    → list_all is_interrupt xs ≡ true
 each_tested [] each = refl
 each_tested (x ∷ xs) each = rw (interrupt_tested x each.0, each_tested xs each.1) refl
 
 pub interrupts_valid : (xs : List Interrupt) → are_interrupts xs ≡ true → AreInterrupts xs
 interrupts_valid xs are =
     let (few, each) = both _ (list_all is_interrupt xs) are in
-    record { valid = All-from_recursion IsInterrupt xs (each_valid xs each); few = grind (arith, nat_tests) }
+    record {
+      valid = All-from_recursion IsInterrupt xs (each_valid xs each);
+      few =
+          grind (arith, nat_tests);
+    }
 
 pub interrupts_tested : (xs : List Interrupt) → AreInterrupts xs → are_interrupts xs ≡ true
 interrupts_tested xs are =

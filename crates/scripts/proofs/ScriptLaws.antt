@@ -1,10 +1,12 @@
 -- Reading line after line, as a loop does.
-use Rattle.std.proofs.Common.{◌≡◌, ℕ, ◌≤◌, ◌+◌, List, [], ◌∷◌, ◌++◌, length, Result, Ok, Err, refl, sym, ap, ◌∙◌, append-nil, length-append, arith}
+use Rattle.std.proofs.Common.{◌≡◌, ℕ, ◌≤◌, ◌+◌, List, [], ◌∷◌, ◌++◌, length, Result, Ok, Err, refl}
+use Rattle.std.proofs.Common.{sym, ap, ◌∙◌, append-nil, length-append, arith}
 use Rattle.lines.specs.Steps.{ahead}
 use Rattle.lines.specs.Words.{words}
 use Rattle.scripts.specs.declared.line.Line.{Line}
 use Rattle.scripts.specs.declared.line.Row.{Row}
-use Rattle.scripts.specs.declared.line.Row.TheVariants.{Open, Put, Remove, Found, Test, Commit, Abandon}
+use Rattle.scripts.specs.declared.line.Row.TheVariants.{Open, Put, Remove, Found, Test, Commit}
+use Rattle.scripts.specs.declared.line.Row.TheVariants.{Abandon}
 use Rattle.scripts.specs.declared.line.RowFault.{RowFault}
 use Rattle.scripts.specs.declared.line.RowFault.TheVariants as row
 use Rattle.scripts.specs.declared.line.ScriptFault.{ScriptFault}
@@ -14,7 +16,8 @@ use Rattle.scripts.proofs.Ahead.{ahead-ahead}
 use Rattle.scripts.specs.Script.{fault_at, opened_after, script_from, IsFault}
 
 -- what is read so far is ahead of the lines that are left, and no more drafts were opened than lines were read
-pub record IsReadTo (front : List Line) (opened : ℕ) (left : List (ℕ × List ℕ)) (total : Result (List Line) ScriptFault) : Type 0 where
+pub record IsReadTo (front : List Line) (opened : ℕ) (left : List (ℕ × List ℕ))
+    (total : Result (List Line) ScriptFault) : Type 0 where
   pub so_far : ahead front (script_from opened left) ≡ total
   pub few : opened ≤ length front
 
@@ -27,25 +30,32 @@ opened_after-le opened (Test draft) = omega arith
 opened_after-le opened (Commit draft) = omega arith
 opened_after-le opened (Abandon draft) = omega arith
 
-module _ (front : List Line) (opened number : ℕ) (text : List ℕ) (ls all : List (ℕ × List ℕ)) (total : Result (List Line) ScriptFault) (cut : all ≡ (number, text) ∷ ls) (read : IsReadTo front opened all total) where
-  pub script_next : (row : Row) → row_in opened (words text) ≡ Ok row → IsReadTo (front ++ record { number = number; row = row } ∷ []) (opened_after opened row) ls total
+module _ (front : List Line) (opened number : ℕ) (text : List ℕ) (ls all : List (ℕ × List ℕ))
+    (total : Result (List Line) ScriptFault) (cut : all ≡ (number, text) ∷ ls)
+    (read : IsReadTo front opened all total) where
+  pub script_next : (row : Row) → row_in opened (words text) ≡ Ok row → IsReadTo
+      (front ++ record { number = number; row = row } ∷ []) (opened_after opened row) ls total
   unfolding script_from
   script_next row is =
       let line : Line = record { number = number; row = row } in
-      let one : ahead front (script_from opened all) ≡ ahead (front ++ line ∷ []) (script_from (opened_after opened row) ls) =
+      let one : ahead front (script_from opened all)
+      ≡ ahead (front ++ line ∷ []) (script_from (opened_after opened row) ls) =
       rw (cut, is) (ahead-ahead front line (script_from (opened_after opened row) ls)) in
       record {
         so_far = sym one ∙ read.so_far;
         few = omega (arith, opened_after-le opened row, read.few, length-append front (line ∷ []));
       }
 
-  stops : (fault : RowFault) → row_in opened (words text) ≡ Err fault → total ≡ Err (fault_at number fault)
+  stops : (fault : RowFault) → row_in opened (words text) ≡ Err fault
+      → total ≡ Err (fault_at number fault)
   unfolding script_from
   stops fault is =
-      let one : ahead front (script_from opened all) ≡ Err (fault_at number fault) = rw (cut, is) refl in
+      let one : ahead front (script_from opened all) ≡ Err (fault_at number fault) =
+      rw (cut, is) refl in
       sym read.so_far ∙ one
 
-  pub script_fails : (fault : RowFault) → FailsRow fault (row_in opened (words text)) → IsFault (fault_at number fault) total
+  pub script_fails : (fault : RowFault) → FailsRow fault (row_in opened (words text))
+      → IsFault (fault_at number fault) total
   script_fails row.Bad is = stops row.Bad is
   script_fails (row.Sheet cause) is = stops (row.Sheet cause) is
   script_fails row.BadJitter is = stops row.BadJitter is
@@ -54,8 +64,11 @@ module _ (front : List Line) (opened number : ℕ) (text : List ℕ) (ls all : L
   script_fails row.BadInterrupt is = stops row.BadInterrupt is
   script_fails row.OutOfMemory is = tt
 
-pub script_end : (front : List Line) (opened : ℕ) (all : List (ℕ × List ℕ)) (total : Result (List Line) ScriptFault) → all ≡ [] → IsReadTo front opened all total → total ≡ Ok front
+pub script_end : (front : List Line) (opened : ℕ) (all : List (ℕ × List ℕ))
+    (total : Result (List Line) ScriptFault) → all ≡ [] → IsReadTo front opened all total
+    → total ≡ Ok front
 unfolding script_from
 script_end front opened all total none read =
-    let one : ahead front (script_from opened all) ≡ Ok front = rw none (ap (λ (ys : List Line). Ok ys) (append-nil front)) in
+    let one : ahead front (script_from opened all) ≡ Ok front =
+    rw none (ap (λ (ys : List Line). Ok ys) (append-nil front)) in
     sym read.so_far ∙ one

@@ -43,7 +43,7 @@ script_from opened (l ∷ ls) =
 abbrev pub script_in : List ℕ → Result (List Line) ScriptFault
 script_in text = script_from 0 (kept_lines text)
 
--- the fault is that of the reading, or want of memory
+-- the fault is that of the reading, or out of memory
 abbrev pub IsFault : ScriptFault → Result (List Line) ScriptFault → Type 0
 IsFault OutOfMemory read = Unit {0}
 IsFault fault read = read ≡ Err fault

@@ -108,7 +108,7 @@ pub enum ScriptFault {
     BadOverhead { line: u64 },
     /// The interrupts of the line are too many, or one of them isn't within the limits.
     BadInterrupt { line: u64 },
-    /// A growth was refused.
+    /// An allocation was refused.
     OutOfMemory,
 }
 
@@ -127,7 +127,7 @@ pub(crate) enum RowFault {
     BadOverhead,
     // The interrupts are too many, or one of them isn't within the limits.
     BadInterrupt,
-    // A growth was refused.
+    // An allocation was refused.
     OutOfMemory,
 }
 

@@ -59,7 +59,7 @@ pub fn of_tasks(alloc: Global, set: &TaskSet, words: &str) -> Option<String> {
     None
 }
 
-/// What a person is told where nothing of a list's run lies in the window that is asked for; none where memory is wanting.
+/// What a person is told where nothing of a list's run lies in the window that is asked for; none where memory runs out.
 pub fn of_window(alloc: Global, bytes: &[u8], from: usize, to: Option<usize>) -> Option<String> {
     let mut told = Told::new(alloc);
     told.number("its run ends at ", until_of(bytes));

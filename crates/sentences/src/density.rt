@@ -54,7 +54,7 @@ pub fn greatest_until(set: &TaskSet) -> u64 {
     until
 }
 
-/// What a person is told where the densest list has too many releases; none where memory is wanting.
+/// What a person is told where the densest list has too many releases; none where memory runs out.
 pub fn of_density(alloc: Global, until: u64) -> Option<String> {
     let mut told = Told::new(alloc);
     told.number("more than ", RELEASE_LIMIT as u64);

@@ -10,7 +10,7 @@ use std::alloc::Global;
 use task_sheet::{Document, Name, Node, SetFault, read_document};
 use teams::{TeamsFault, first_part, node_part};
 
-/// What a person is told of the fault of a set's text, from its bytes; none where memory is wanting. What is said of a
+/// What a person is told of the fault of a set's text, from its bytes; none where memory runs out. What is said of a
 /// team's document names it as a file, `TEAM.toml`, and its own lines; what is said of the node's, `node.toml`.
 pub fn of_set_text(alloc: Global, bytes: &[u8], fault: TeamsFault) -> Option<String> {
     let mut told = Told::new(alloc);

@@ -10,7 +10,7 @@ use task_sheet::Name;
 
 // ---- release lists
 
-/// What a person is told of a line that a release list doesn't have; none where memory is wanting.
+/// What a person is told of a line that a release list doesn't have; none where memory runs out.
 pub fn of_release_line(alloc: Global, bytes: &[u8], line: u64) -> Option<String> {
     let mut told = Told::new(alloc);
     match line_of_place(bytes, 0) {
@@ -74,7 +74,7 @@ fn wrong_release(fault: RunFault) -> (usize, &'static str) {
     }
 }
 
-/// What a person is told of why a release list wasn't run; none where memory is wanting.
+/// What a person is told of why a release list wasn't run; none where memory runs out.
 pub fn of_run(alloc: Global, bytes: &[u8], fault: RunFault) -> Option<String> {
     let mut told = Told::new(alloc);
     match fault {
@@ -154,7 +154,7 @@ fn tell_horizon(told: &mut Told, bytes: &[u8]) {
 
 // ---- settings
 
-/// What a person is told of a fault of settings; none where memory is wanting.
+/// What a person is told of a fault of settings; none where memory runs out.
 pub fn of_settings(alloc: Global, bytes: &[u8], fault: SettingsFault) -> Option<String> {
     let mut told = Told::new(alloc);
     match fault {

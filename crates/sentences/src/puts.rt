@@ -13,7 +13,7 @@ use task_sheet::{INTERRUPT_FROM, INTERRUPT_LIMIT, PERIOD_FROM, PERIOD_TO, SheetC
 // The place of the first word of a put that may be a section, from 0.
 const BEHIND_COST: usize = 7;
 
-/// What a person is told of a script's fault; none where memory is wanting.
+/// What a person is told of a script's fault; none where memory runs out.
 pub fn of_script(alloc: Global, bytes: &[u8], fault: ScriptFault) -> Option<String> {
     let mut told = Told::new(alloc);
     match fault {

@@ -7,7 +7,7 @@ use certificate::CertFault;
 use std::alloc::Global;
 use task_sheet::Name;
 
-/// What a person is told of a fault of a certificate's text; none where memory is wanting.
+/// What a person is told of a fault of a certificate's text; none where memory runs out.
 pub fn of_certificate(alloc: Global, bytes: &[u8], fault: CertFault) -> Option<String> {
     let mut told = Told::new(alloc);
     match fault {
@@ -33,7 +33,7 @@ const WANTED: &str =
     ": no such line may stand here; after the head come best N, for each level from 1 \
     level K NAME NUMBER and lines fails NAME REASON, or none N and lines member NAME REASON, then end";
 
-/// What a person is told of what a certificate fails to show; none where memory is wanting.
+/// What a person is told of what a certificate fails to show; none where memory runs out.
 pub fn of_check(alloc: Global, fault: CheckFault) -> Option<String> {
     let mut told = Told::new(alloc);
     match fault {

@@ -25,7 +25,7 @@ impl Told {
         }
     }
 
-    /// There is nothing to be told: memory is wanting, or what it would be of isn't there.
+    /// There is nothing to be told: memory runs out, or what it would be of isn't there.
     pub(crate) fn give_up(&mut self) {
         self.is_whole = false;
     }

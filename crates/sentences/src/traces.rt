@@ -5,7 +5,7 @@ use crate::told::Told;
 use std::alloc::Global;
 use trace_text::{JOB_LIMIT, SLICE_LIMIT, TraceFault};
 
-/// What a person is told of a fault of a trace; none where memory is wanting.
+/// What a person is told of a fault of a trace; none where memory runs out.
 pub fn of_trace(alloc: Global, bytes: &[u8], fault: TraceFault) -> Option<String> {
     let mut told = Told::new(alloc);
     match fault {

@@ -17,10 +17,14 @@ keeps_flag (Ok x) a b c one two = two ∙ one
 keeps_flag (Err x) a b c one two = tt
 
 -- two texts, the last of which may have failed
-pub writes_both : {W : Type 0} {contents : W → Option (List ℕ)} {a b c : WatchedData W} {h i j : List ℕ} {u : ⊤} {r : Result ⊤ WriteFailed} {xs ys : List ℕ}
-    → Writes contents a h b i (Ok u) xs → Writes contents b i c j r ys → Writes contents a h c j r (xs ++ ys)
-writes_both {contents = contents} {a = a} {b = b} {c = c} {h = h} {i = i} {j = j} {r = r} {xs = xs} {ys = ys} one two = record {
-  sent = sends_both r (append_known (contents a.inner) h) (append_known (contents b.inner) i) (append_known (contents c.inner) j) xs ys one.sent two.sent;
-  ok = keeps_flag r a.has_failed b.has_failed c.has_failed one.ok two.ok;
-  failed = two.failed;
-}
+pub writes_both : {W : Type 0} {contents : W → Option (List ℕ)} {a b c : WatchedData W}
+    {h i j : List ℕ} {u : ⊤} {r : Result ⊤ WriteFailed} {xs ys : List ℕ}
+    → Writes contents a h b i (Ok u) xs → Writes contents b i c j r ys
+    → Writes contents a h c j r (xs ++ ys)
+writes_both {contents = contents} {a = a} {b = b} {c = c} {h = h} {i = i} {j = j} {r = r} {xs = xs}
+    {ys = ys} one two = record {
+      sent = sends_both r (append_known (contents a.inner) h) (append_known (contents b.inner) i)
+          (append_known (contents c.inner) j) xs ys one.sent two.sent;
+      ok = keeps_flag r a.has_failed b.has_failed c.has_failed one.ok two.ok;
+      failed = two.failed;
+    }

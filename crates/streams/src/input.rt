@@ -21,7 +21,7 @@ const CHUNK: usize = 16_384;
 pub enum InputFault {
     /// It has more than 16,777,216 bytes.
     TooLong,
-    /// A growth was refused.
+    /// An allocation was refused.
     OutOfMemory,
     /// A read failed, or reads were interrupted until no turn was left.
     ReadFailed,

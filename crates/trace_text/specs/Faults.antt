@@ -64,13 +64,13 @@ abbrev pub IsTraceIn : List ℕ → TraceLines → Type 0
 IsTraceIn text trace = IsTraceOf (rows_in text) trace
 
 -- ---- how they are found
--- a fault is want of memory, or the first faulty line
+-- a fault is out of memory, or the first faulty line
 abbrev pub IsRowsFault : TraceFault → Result (List TraceRow) ℕ → Type 0
 IsRowsFault fault.OutOfMemory read = Unit {0}
 IsRowsFault (fault.BadLine line) read = read ≡ Err line
 IsRowsFault _ read = ⊥
 
--- a fault is want of memory, or the first reason
+-- a fault is out of memory, or the first reason
 abbrev pub IsTraceFault : TraceFault → Option TraceFault → Type 0
 IsTraceFault fault.OutOfMemory reason = Unit {0}
 IsTraceFault e reason = reason ≡ Some e

@@ -17,7 +17,7 @@ pub enum TraceFault {
     TooManyLines,
     /// The slice of the line is of a task of the set, and lies in no job of it.
     NoJob { line: u64 },
-    /// A growth was refused.
+    /// An allocation was refused.
     OutOfMemory,
 }
 

@@ -27,7 +27,7 @@ fn others(alloc: Global, set: &TaskSet, conflict: Members) -> Result<Vec<usize>,
 }
 
 /// The order in which a task of a minimal conflict stands just below the others of it, which pass there, and above all other
-/// tasks, these by rank. The error is want of memory; the table is that of the set.
+/// tasks, these by rank. The error is out of memory; the table is that of the set.
 pub(crate) fn order_below(
     alloc: Global,
     set: &TaskSet,

@@ -80,7 +80,7 @@ fn next(set: &TaskSet, table: &LockTable, left: Members) -> Option<usize>
     }
 }
 
-/// An order of a set that decides, the lowest task first. The error is want of memory; the table is that of the set.
+/// An order of a set that decides, the lowest task first. The error is out of memory; the table is that of the set.
 pub(crate) fn deciding_order(
     alloc: Global,
     set: &TaskSet,
@@ -98,7 +98,7 @@ pub(crate) fn deciding_order(
     Ok(order)
 }
 
-/// What becomes of each task of a set in an order that decides, the lowest task first. The error is want of memory; the table
+/// What becomes of each task of a set in an order that decides, the lowest task first. The error is out of memory; the table
 /// is that of the set.
 pub fn judge_deciding(
     alloc: Global,

@@ -328,7 +328,7 @@ fn chosen_text(
 
 /// What is printed of a task's worst case: in a set's best order that of the task that is asked about, or of the one of least
 /// slack; of a refused set that of the task that is asked about, below the others of the minimal conflict where it is of that,
-/// else in an order that decides; or of the highest one that doesn't meet its deadline there. The error is want of memory.
+/// else in an order that decides; or of the highest one that doesn't meet its deadline there. The error is out of memory.
 pub fn worst_text(
     alloc: Global,
     set: &TaskSet,
@@ -358,7 +358,7 @@ fn order_of_judged(alloc: Global, judged: &[JudgedTask]) -> Result<Vec<usize>, A
 }
 
 /// The same in an order that is given, and was judged: of the task that is asked about; else, where all meet their deadlines,
-/// of the one of least slack, and else of the highest one that doesn't. The error is want of memory.
+/// of the one of least slack, and else of the highest one that doesn't. The error is out of memory.
 pub fn worst_text_in(
     alloc: Global,
     set: &TaskSet,

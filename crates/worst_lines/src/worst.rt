@@ -54,7 +54,7 @@ fn shown_in(alloc: Global, set: &TaskSet, order: &[usize], task: usize) -> Resul
     }
 }
 
-/// What is shown of the worst case of a task that was judged in an order. The error is want of memory.
+/// What is shown of the worst case of a task that was judged in an order. The error is out of memory.
 pub(crate) fn worst_of(
     alloc: Global,
     set: &TaskSet,

@@ -9,8 +9,11 @@ use Rattle.bars.proofs.bars.put_slices.Goals as goal
 
 pub loop-slice-init : goal.loop-slice-init
 loop-slice-init g c = record {
-  put = puts_none g.W.Write.contents c.args.out.now (slice_in c.args.chart.now.frame c.args.chart.now.locks.now c.args.chart.now.rows.now c.args.chart.now.shown.now c.args.chart.now.jobs.now c.args.chart.now.slices.now);
-  counts = none_counted c.args.executed.now c.args.chart.now.jobs.now c.args.chart.now.slices.now c.requires;
+  put = puts_none g.W.Write.contents c.args.out.now
+      (slice_in c.args.chart.now.frame c.args.chart.now.locks.now c.args.chart.now.rows.now
+      c.args.chart.now.shown.now c.args.chart.now.jobs.now c.args.chart.now.slices.now);
+  counts = none_counted c.args.executed.now c.args.chart.now.jobs.now c.args.chart.now.slices.now
+      c.requires;
 }
 
 pub loop-slice-preserved : goal.loop-slice-preserved
@@ -23,7 +26,12 @@ loop-slice-preserved g c =
     let n = c.loop-slice.slice-index in
     let slice = slice_at slices n in
     record {
-      put = puts_one_more (slice_in c.args.chart.now.frame c.args.chart.now.locks.now rows shown jobs slices) n c.loop-slice.invariant.put
-          (subst puts (counted_text c.args.chart.now.frame c.args.chart.now.locks.now rows shown jobs slices c.loop-slice.executed n slice refl c.loop-slice.invariant.counts) c.in_ok-put_slice.ensures.put);
-      counts = subst (λ (ticks : List ℕ). AreCounts ticks jobs slices (n + 1)) (sym c.in_ok-put_slice.ensures.counted) (one_counted c.loop-slice.executed jobs slices n slice refl c.loop-slice.invariant.counts);
+      put = puts_one_more (slice_in c.args.chart.now.frame c.args.chart.now.locks.now rows shown
+          jobs slices) n c.loop-slice.invariant.put
+          (subst puts (counted_text c.args.chart.now.frame c.args.chart.now.locks.now rows shown
+          jobs slices c.loop-slice.executed n slice refl c.loop-slice.invariant.counts)
+          c.in_ok-put_slice.ensures.put);
+      counts = subst (λ (ticks : List ℕ). AreCounts ticks jobs slices (n + 1))
+          (sym c.in_ok-put_slice.ensures.counted) (one_counted c.loop-slice.executed jobs slices n
+          slice refl c.loop-slice.invariant.counts);
     }

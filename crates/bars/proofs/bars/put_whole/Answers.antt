@@ -8,17 +8,33 @@ use Rattle.frames.proofs.Puts.{puts_head, puts_item_behind}
 use Rattle.bars.proofs.bars.put_whole.Goals as goal
 
 pub loop-section-init : goal.loop-section-init
-loop-section-init g c = puts_head (λ i. dark_text c.args.lane.now.frame c.args.lane.now.locks.now c.args.executed c.args.slice c.args.lane.now.spot.k c.args.lane.now.row.now (nth_section c.args.lane.now.row.now.sheet.sections i)) c.in_ok-put_bar.ensures
+loop-section-init g c = puts_head (λ i. dark_text c.args.lane.now.frame c.args.lane.now.locks.now
+    c.args.executed c.args.slice c.args.lane.now.spot.k c.args.lane.now.row.now
+    (nth_section c.args.lane.now.row.now.sheet.sections i)) c.in_ok-put_bar.ensures
 
 pub loop-section-preserved : goal.loop-section-preserved
 loop-section-preserved g c =
     let sections = c.sections-section-items.ensures in
-    puts_item_behind (bar_text c.args.lane.now.frame c.args.slice c.args.lane.now.spot c.args.lane.now.row.now) (λ (i : ℕ) (x : CriticalSection). dark_text c.args.lane.now.frame c.args.lane.now.locks.now c.args.executed c.args.slice c.args.lane.now.spot.k c.args.lane.now.row.now x) c.args.lane.now.row.now.sheet.sections no_section c.loop-section.section-index c.section-item.result (rw sections at c.loop-section-test.true) (rw sections at c.section-item.is) c.loop-section.invariant c.in_ok-put_dark.ensures
+    puts_item_behind (bar_text c.args.lane.now.frame c.args.slice c.args.lane.now.spot
+    c.args.lane.now.row.now) (λ (i : ℕ) (x : CriticalSection). dark_text c.args.lane.now.frame
+    c.args.lane.now.locks.now c.args.executed c.args.slice c.args.lane.now.spot.k
+    c.args.lane.now.row.now x) c.args.lane.now.row.now.sheet.sections no_section
+    c.loop-section.section-index c.section-item.result (rw sections at c.loop-section-test.true)
+    (rw sections at c.section-item.is) c.loop-section.invariant c.in_ok-put_dark.ensures
 
 pub returns : goal.returns
 returns g c =
     let row = c.args.lane.now.row.now in
-    let dark : ℕ → List ℕ = λ i. dark_text c.args.lane.now.frame c.args.lane.now.locks.now c.args.executed c.args.slice c.args.lane.now.spot.k row (nth_section row.sheet.sections i) in
+    let dark : ℕ → List ℕ =
+    λ i. dark_text c.args.lane.now.frame c.args.lane.now.locks.now c.args.executed c.args.slice
+    c.args.lane.now.spot.k row (nth_section row.sheet.sections i) in
     let all : c.loop-section.section-index ≡ length row.sheet.sections =
-    omega (arith, c.loop-section.auto.section-index-end, c.loop-section-test.false, ap (λ (xs : List CriticalSection). length xs) c.sections-section-items.ensures) in
-    subst (λ (n : ℕ). Puts g.W.Write.contents c.args.out.now c.loop-section.out (Ok tt) (bar_text c.args.lane.now.frame c.args.slice c.args.lane.now.spot row ++ each n dark)) all c.loop-section.invariant
+    omega (
+      arith,
+      c.loop-section.auto.section-index-end,
+      c.loop-section-test.false,
+      ap (λ (xs : List CriticalSection). length xs) c.sections-section-items.ensures,
+    ) in
+    subst (λ (n : ℕ). Puts g.W.Write.contents c.args.out.now c.loop-section.out (Ok tt)
+    (bar_text c.args.lane.now.frame c.args.slice c.args.lane.now.spot row ++ each n dark)) all
+    c.loop-section.invariant

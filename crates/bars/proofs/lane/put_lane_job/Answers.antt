@@ -13,5 +13,8 @@ returns-in-Some g c =
     let frame = c.args.chart.now.frame in
     let rank = c.in-Some.rank in
     let spot : Spot = record { rank = rank; k = rank } in
-    let put = puts_in_lane text rows frame spot c.lane.result.frame c.lane.result.spot c.lane.result.row.now c.lane.ensures.frame c.lane.ensures.spot c.lane.ensures.row c.put_lane_slice.ensures in
-    puts_on_row (λ (k : ℕ) (row : TaskRow). lane_text frame c.args.slice k row) rows c.args.job.now.name c.find_row.result rank c.find_row.ensures.place c.in-Some.is put
+    let put = puts_in_lane text rows frame spot c.lane.result.frame c.lane.result.spot
+    c.lane.result.row.now c.lane.ensures.frame c.lane.ensures.spot c.lane.ensures.row
+    c.put_lane_slice.ensures in
+    puts_on_row (λ (k : ℕ) (row : TaskRow). lane_text frame c.args.slice k row) rows
+    c.args.job.now.name c.find_row.result rank c.find_row.ensures.place c.in-Some.is put

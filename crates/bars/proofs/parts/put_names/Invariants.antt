@@ -6,4 +6,5 @@ use Rattle.std.specs.Prelude.{codes}
 use Rattle.bars.proofs.parts.put_names.Given as goal
 
 abbrev pub invariant-loop-name : goal.invariant-loop-name
-invariant-loop-name g l = Puts g.W.Write.contents l.fn.out l.out (Ok tt) (each l.name-index (λ i. codes " " ++ get_or l.fn.names i []))
+invariant-loop-name g l = Puts g.W.Write.contents l.fn.out l.out (Ok tt)
+    (each l.name-index (λ i. codes " " ++ get_or l.fn.names i []))

@@ -10,5 +10,8 @@ returns g c =
     let start = c.args.start in
     let stop = c.args.stop in
     let seen = sym c.sees.ensures ∙ c.if-not-sees.false in
-    let placed = puts_same (λ (x : ℕ). seen_part lane.locks.now lane.spot.k lane.row.now names start stop x c.part_right-right.result) c.part_left-x.ensures.value c.put_seen_part.ensures in
-    rw seen (puts_same (λ (right : ℕ). seen_part lane.locks.now lane.spot.k lane.row.now names start stop (part_left lane.frame c.args.slice start) right) c.part_right-right.ensures.value placed)
+    let placed = puts_same (λ (x : ℕ). seen_part lane.locks.now lane.spot.k lane.row.now names start
+    stop x c.part_right-right.result) c.part_left-x.ensures.value c.put_seen_part.ensures in
+    rw seen (puts_same (λ (right : ℕ). seen_part lane.locks.now lane.spot.k lane.row.now names start
+    stop (part_left lane.frame c.args.slice start) right)
+    c.part_right-right.ensures.value placed)

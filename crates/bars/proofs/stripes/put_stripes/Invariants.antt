@@ -5,4 +5,5 @@ use Rattle.bars.specs.Stripes.{stripe_text}
 use Rattle.bars.proofs.stripes.put_stripes.Given as goal
 
 abbrev pub invariant-loop-i : goal.invariant-loop-i
-invariant-loop-i g l = Puts g.W.Write.contents l.fn.out l.out (Ok tt) (each l.i (λ i. stripe_text l.fn.locks l.fn.x l.fn.right l.fn.k (length l.fn.names) i (slice_index_or l.fn.names i [])))
+invariant-loop-i g l = Puts g.W.Write.contents l.fn.out l.out (Ok tt) (each l.i (λ i. stripe_text
+    l.fn.locks l.fn.x l.fn.right l.fn.k (length l.fn.names) i (slice_index_or l.fn.names i [])))

@@ -10,8 +10,17 @@ use Rattle.book_lock.proofs.asking.test_set.Goals as goal
 
 pub returns-clause-fault : goal.returns-clause-fault
 returns-clause-fault g c =
-    untested_set (λ (q : QuestionData). g.G.Gate.may_shut c.args.gate.now q) c.args.set.value c.threads_worth.result c.in-Err.fault c.cause_of.result (still_good c.threads_worth.result c.args.workers c.requires c.threads_worth.ensures.from c.threads_worth.ensures.most) (subst (λ (U : List Task). NoVerdict (λ (q : QuestionData). g.G.Gate.may_shut c.args.gate.now q) U c.threads_worth.result c.in-Err.fault) c.in-Ok.ensures.cases c.in-Err.ensures.fault) (subst (λ (U : List Task). IsCauseOf U c.in-Err.fault c.cause_of.result) c.deref-in-Err.ensures c.cause_of.ensures)
+    untested_set (λ (q : QuestionData). g.G.Gate.may_shut c.args.gate.now q) c.args.set.value
+    c.threads_worth.result c.in-Err.fault c.cause_of.result (still_good c.threads_worth.result
+    c.args.workers c.requires c.threads_worth.ensures.from c.threads_worth.ensures.most)
+    (subst (λ (U : List Task). NoVerdict (λ (q : QuestionData). g.G.Gate.may_shut
+    c.args.gate.now q) U c.threads_worth.result c.in-Err.fault) c.in-Ok.ensures.cases
+    c.in-Err.ensures.fault) (subst (λ (U : List Task). IsCauseOf U c.in-Err.fault
+    c.cause_of.result) c.deref-in-Err.ensures c.cause_of.ensures)
 
 pub returns-in-Ok-share-clause-asked : goal.returns-in-Ok-share-clause-asked
 returns-in-Ok-share-clause-asked g c =
-    none_shut (λ (q : QuestionData). g.G.Gate.always_shuts c.args.gate.now q) c.args.set.value c.in-Ok.own.value (verdict_of c.in-Ok-assay.verdict) c.in-Ok.ensures.cases (subst IsTaskSet c.deref.ensures c.sheets.ensures.kept) c.in-Ok-assay.ensures.verdict c.in-Ok-assay.ensures.asked
+    none_shut (λ (q : QuestionData). g.G.Gate.always_shuts c.args.gate.now q) c.args.set.value
+    c.in-Ok.own.value (verdict_of c.in-Ok-assay.verdict) c.in-Ok.ensures.cases
+    (subst IsTaskSet c.deref.ensures c.sheets.ensures.kept) c.in-Ok-assay.ensures.verdict
+    c.in-Ok-assay.ensures.asked

@@ -8,4 +8,6 @@ use Rattle.book_lock.proofs.closing.agrees.Goals as goal
 pub returns : goal.returns
 returns c =
     let gone = drop_all c.loop-i.i c.args.log.now c.loop-i-test.false in
-    at_end receipt_of c.args.receipts.now c.loop-i.next (map receipt_of c.args.receipts.now ≡ placed_entries c.args.team 1 (map (λ e. e.value) c.args.log.now)) c.loop-i.invariant.0 (rw gone at c.loop-i.invariant.1)
+    at_end receipt_of c.args.receipts.now c.loop-i.next (map receipt_of c.args.receipts.now
+    ≡ placed_entries c.args.team 1 (map (λ e. e.value) c.args.log.now)) c.loop-i.invariant.0
+    (rw gone at c.loop-i.invariant.1)

@@ -3,4 +3,5 @@ use Rattle.book_lock.specs.Closing.{IsReceipted}
 use Rattle.book_lock.proofs.closing.mismatch.Given as goal
 
 abbrev pub invariant-loop-team : goal.invariant-loop-team
-invariant-loop-team g l = (t : ℕ) → 1 ≤ t → t < l.team → IsReceipted l.passes (map (λ e. e.value) l.log) t
+invariant-loop-team g l = (t : ℕ) → 1 ≤ t → t < l.team
+    → IsReceipted l.passes (map (λ e. e.value) l.log) t

@@ -37,7 +37,8 @@ loop-index-preserved c =
             level = c.level_of.ensures;
             cost = c.cost.ensures ∙ ap (λ t. t.cost) item;
             sections = subst (λ (xs : List CriticalSection). AreSectionsOf
-                (node_in c.args.set.now c.args.order.now) xs c.in_ok-sections_of.field-0.items) sections
+                (node_in c.args.set.now c.args.order.now) xs c.in_ok-sections_of.field-0.items)
+                sections
                 (c.in_ok-sections_of.ensures c.args.set.now c.requires.table);
           });
     }

@@ -7,4 +7,5 @@ use Rattle.ceilings.proofs.holds.hold_section.Given as goal
 
 abbrev pub invariant-loop-lock : goal.invariant-loop-lock
 invariant-loop-lock l = (members : FinSet nat_cmp) → longest_of l.holds.items members
-    ≡ max (longest_of l.fn.holds.items members) (if some_uses l.users members (take l.lock-index l.lock-items) then l.section.len else 0)
+    ≡ max (longest_of l.fn.holds.items members)
+    (if some_uses l.users members (take l.lock-index l.lock-items) then l.section.len else 0)

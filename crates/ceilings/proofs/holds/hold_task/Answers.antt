@@ -8,11 +8,15 @@ use Rattle.ceilings.proofs.holds.hold_task.Goals as goal
 
 pub loop-section-preserved : goal.loop-section-preserved
 loop-section-preserved c = λ U table members.
-    greatest-next (λ s. cond (reaches U (indexes_of members) s) s.len 0) c.sections-section-items.result.now c.loop-section.section-index c.section-item.result
-    (longest_of c.loop-section.holds.items members) (longest_of c.hold_section.new.holds.items members)
-    c.loop-section-test.true c.section-item.is (c.loop-section.invariant U table members) (c.in_ok-hold_section.ensures U table members)
+    greatest-next (λ s. cond (reaches U (indexes_of members) s) s.len 0)
+    c.sections-section-items.result.now c.loop-section.section-index c.section-item.result
+    (longest_of c.loop-section.holds.items members)
+    (longest_of c.hold_section.new.holds.items members)
+    c.loop-section-test.true c.section-item.is (c.loop-section.invariant U table members)
+    (c.in_ok-hold_section.ensures U table members)
 
 pub returns : goal.returns
 returns c = λ U table members.
-    let whole = take_all c.loop-section.section-index c.sections-section-items.result.now c.loop-section-test.false in
+    let whole = take_all c.loop-section.section-index c.sections-section-items.result.now
+    c.loop-section-test.false in
     rw (whole, c.sections-section-items.ensures) at (c.loop-section.invariant U table members)

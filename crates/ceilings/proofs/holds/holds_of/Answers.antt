@@ -13,19 +13,24 @@ loop-index-preserved c = λ members.
     let n = c.loop-index.index in
     let M = indexes_of members in
     let within : n < length U = rw (c.sheets-sheet-items.ensures.same) at c.loop-index-test.true in
-    let is = task_read U c.sheets-sheet-items.result.now n c.sheet-item.result c.sheets-sheet-items.ensures.same within c.sheet-item.is in
+    let is = task_read U c.sheets-sheet-items.result.now n c.sheet-item.result
+    c.sheets-sheet-items.ensures.same within c.sheet-item.is in
     let tasks = c.loop-index.tasks.items in
     let now = longest_held tasks members in
     let f : ℕ → ℕ = λ k. cond (M k) 0 (longest_reached U M (task_at U k)) in
     let here : longest_from members c.new.result ≡ f n =
-    ap (longest_from members) c.new.ensures ∙ ap (λ m. cond (M n) 0 m) (c.in_ok-holds.ensures U c.requires members ∙ ap (longest_reached U M) is) in
+    ap (longest_from members) c.new.ensures ∙ ap (λ m. cond (M n) 0 m)
+    (c.in_ok-holds.ensures U c.requires members ∙ ap (longest_reached U M) is) in
     let next : longest_held c.push.new.self.items members ≡ max now (f n) =
-    ap (λ ts. longest_held ts members) c.in_ok-push.ensures.items ∙ held-push tasks c.new.result members ∙ ap (λ m. max now m) here in
-    task-more n f now (longest_held c.push.new.self.items members) (c.loop-index.invariant members) next
+    ap (λ ts. longest_held ts members) c.in_ok-push.ensures.items
+    ∙ held-push tasks c.new.result members ∙ ap (λ m. max now m) here in
+    task-more n f now (longest_held c.push.new.self.items members)
+    (c.loop-index.invariant members) next
 
 pub returns : goal.returns
 returns c = λ members.
     let items = c.sheets-sheet-items.result.now in
     let all : c.loop-index.index ≡ length items = omega arith in
-    let whole : c.loop-index.index ≡ length c.args.set.now = all ∙ ap (λ V. length V) c.sheets-sheet-items.ensures.same in
+    let whole : c.loop-index.index ≡ length c.args.set.now = all
+    ∙ ap (λ V. length V) c.sheets-sheet-items.ensures.same in
     rw whole at (c.loop-index.invariant members)

@@ -9,4 +9,5 @@ use Rattle.ceilings.proofs.holds.holds_of.Given as goal
 
 abbrev pub invariant-loop-index : goal.invariant-loop-index
 invariant-loop-index l = (members : FinSet nat_cmp) → longest_held l.tasks.items members
-    ≡ greatest_below l.index (λ k. if indexes_of members k then 0 else longest_reached l.set (indexes_of members) (task_at l.set k))
+    ≡ greatest_below l.index (λ k. if indexes_of members k then 0 else longest_reached l.set
+    (indexes_of members) (task_at l.set k))

@@ -7,5 +7,15 @@ use Rattle.ceilings.proofs.holds.longest_len.Goals as goal
 pub loop-hold-preserved : goal.loop-hold-preserved
 loop-hold-preserved c = λ members.
     let hold = c.hold-item.result in
-    let more = greatest-more (λ (h : HoldData). cond (is_reached members h) h.len 0) c.args.holds.now c.loop-hold.hold-index hold c.loop-hold-test.true c.hold-item.is in
-    omega (arith, more, c.loop-hold.invariant members, reached-le (is_reached members hold) hold.len, c.max-longest.ensures, ord_max-is, ap (λ (h : HoldData). h.len) c.hold.view_is)
+    let more = greatest-more (λ (h : HoldData). cond (is_reached members h) h.len 0)
+    c.args.holds.now c.loop-hold.hold-index hold c.loop-hold-test.true c.hold-item.is in
+    omega (
+      arith,
+      more,
+      c.loop-hold.invariant members,
+      reached-le (is_reached members hold)
+          hold.len,
+      c.max-longest.ensures,
+      ord_max-is,
+      ap (λ (h : HoldData). h.len) c.hold.view_is,
+    )

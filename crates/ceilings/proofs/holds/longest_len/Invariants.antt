@@ -5,4 +5,5 @@ use Rattle.ceilings.specs.Holds.{longest_of}
 use Rattle.ceilings.proofs.holds.longest_len.Given as goal
 
 abbrev pub invariant-loop-hold : goal.invariant-loop-hold
-invariant-loop-hold l = (members : FinSet nat_cmp) → longest_of (take l.hold-index l.holds) members ≤ l.longest
+invariant-loop-hold l = (members : FinSet nat_cmp)
+    → longest_of (take l.hold-index l.holds) members ≤ l.longest

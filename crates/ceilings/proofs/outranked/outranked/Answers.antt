@@ -13,15 +13,23 @@ loop-index-preserved c =
     let U = c.args.set.now in
     let n = c.loop-index.index in
     let within : n < length U = rw (c.sheets-other-items.ensures.same) at c.loop-index-test.true in
-    let is = task_read U c.sheets-other-items.result.now n c.other-item.result c.sheets-other-items.ensures.same within c.other-item.is in
+    let is = task_read U c.sheets-other-items.result.now n c.other-item.result
+    c.sheets-other-items.ensures.same within c.other-item.is in
     let here : c.must_outrank.result ≡ outranks_task c.args.sheet.now (task_at U n) =
     c.must_outrank.ensures ∙ ap (λ (t : Task). outranks_task c.args.sheet.now t) is in
     elim c.if-must_outrank.branch [
-      | then-must_outrank w ↦ rw (w.found-is, w.with-found.ensures) (AreBelow-with _ c.loop-index.found n c.loop-index.invariant (sym here ∙ w.if-must_outrank.true))
-      | else-must_outrank w ↦ rw w.found-is (AreBelow-skip _ c.loop-index.found n c.loop-index.invariant (sym here ∙ w.if-must_outrank.false))
+      | then-must_outrank w ↦ rw (w.found-is, w.with-found.ensures) (AreBelow-with _
+          c.loop-index.found n c.loop-index.invariant (sym here ∙ w.if-must_outrank.true))
+      | else-must_outrank w ↦ rw w.found-is (AreBelow-skip _ c.loop-index.found n
+          c.loop-index.invariant (sym here ∙ w.if-must_outrank.false))
     ]
 
 pub returns : goal.returns
 returns c = λ k lt.
-    let all : k < c.loop-index.index = omega (arith, c.loop-index-test.false, lt, ap (λ (U : List Task). length U) c.sheets-other-items.ensures.same) in
+    let all : k < c.loop-index.index = omega (
+      arith,
+      c.loop-index-test.false,
+      lt,
+      ap (λ (U : List Task). length U) c.sheets-other-items.ensures.same,
+    ) in
     c.loop-index.invariant.seen k all

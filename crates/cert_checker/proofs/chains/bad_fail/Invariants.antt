@@ -4,4 +4,5 @@ use Rattle.cert_checker.specs.Faults.{bad_fail}
 use Rattle.cert_checker.proofs.chains.bad_fail.Given as goal
 
 abbrev pub invariant-loop-fail : goal.invariant-loop-fail
-invariant-loop-fail l = bad_fail l.set l.place (indexes_of l.left) (drop l.fail-index l.fails) ≡ bad_fail l.set l.place (indexes_of l.left) l.fails
+invariant-loop-fail l = bad_fail l.set l.place (indexes_of l.left) (drop l.fail-index l.fails)
+    ≡ bad_fail l.set l.place (indexes_of l.left) l.fails

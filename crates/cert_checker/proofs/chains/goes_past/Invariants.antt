@@ -6,5 +6,6 @@ use Rattle.cert_checker.proofs.chains.goes_past.Given as goal
 
 abbrev pub invariant-loop-number : goal.invariant-loop-number
 invariant-loop-number l =
-    goes_past (demand_from l.set (indexes_of l.above) l.base) l.limit l.last (drop l.number-index l.numbers)
+    goes_past (demand_from l.set (indexes_of l.above) l.base) l.limit l.last
+    (drop l.number-index l.numbers)
     ≡ goes_past (demand_from l.set (indexes_of l.above) l.base) l.limit l.first l.numbers

@@ -9,6 +9,7 @@ pub returns-then-covers : goal.returns-then-covers
 returns-then-covers c =
     let U = c.args.set.now in
     let i = c.args.task in
-    let so : covers U (indexes_of c.args.left) i c.args.time ≡ true = sym c.covers.ensures ∙ c.if-covers.true in
+    let so : covers U (indexes_of c.args.left) i c.args.time ≡ true = sym c.covers.ensures
+    ∙ c.if-covers.true in
     let rest = ap indexes_of c.without.ensures ∙ indexes_of-remove c.args.left i in
     rw so (ap not (c.is_bound.ensures ∙ ap (λ (H : Indexes). is_bound U i H) rest))

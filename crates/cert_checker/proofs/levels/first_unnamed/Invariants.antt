@@ -6,4 +6,5 @@ use Rattle.cert_checker.specs.Faults.{first_unnamed}
 use Rattle.cert_checker.proofs.levels.first_unnamed.Given as goal
 
 abbrev pub invariant-loop-k : goal.invariant-loop-k
-invariant-loop-k l = first_unnamed (indexes_of l.left) (tasks_of (failures_of l.set l.fails)) l.k ≡ None
+invariant-loop-k l =
+    first_unnamed (indexes_of l.left) (tasks_of (failures_of l.set l.fails)) l.k ≡ None

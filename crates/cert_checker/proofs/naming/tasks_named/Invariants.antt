@@ -6,5 +6,6 @@ use Rattle.cert_checker.proofs.SeenSteps.{IsSeen}
 use Rattle.cert_checker.proofs.naming.tasks_named.Given as goal
 
 abbrev pub invariant-loop-item : goal.invariant-loop-item
-invariant-loop-item g l = (task : _ → ℕ) → ((item : _) (name : List ℕ) → FnReturnsAt g.F.Fn l.fn.name_of item name → task_by_name l.set name ≡ task item)
+invariant-loop-item g l = (task : _ → ℕ) → ((item : _) (name : List ℕ)
+    → FnReturnsAt g.F.Fn l.fn.name_of item name → task_by_name l.set name ≡ task item)
     → IsSeen l.set (indexes_of l.seen) (map task (drop l.item-index l.items)) (map task l.items)

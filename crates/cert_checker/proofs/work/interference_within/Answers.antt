@@ -21,19 +21,26 @@ loop-h-preserved c =
     let f : ℕ → ℕ = λ h. cond (X h) (interference_of (task_at U h) t) 0 in
     let is = get_or_read U h x c.loop-h-test.true c.sheet-item.is no_task in
     let kept = rw (sym c.sheets-sheet-items.ensures.same) at c.sheets-sheet-items.ensures.kept in
-    let fits = interference-fits (task_at U h) t (valid_at U h kept c.loop-h-test.true) c.requires in
+    let fits =
+    interference-fits (task_at U h) t (valid_at U h kept c.loop-h-test.true) c.requires in
     elim c.if-has.branch [
       | then-has w ↦
-          let more : w.releases_within.result * w.cost.result ≡ interference_of (task_at U h) t = interference_from x (task_at U h) t w.releases_within.result w.cost.result is w.releases_within.ensures w.cost.ensures in
-          let here : f h ≡ interference_of (task_at U h) t = cond-true {A = ℕ} (X h) (interference_of (task_at U h) t) 0 (sym c.has.ensures ∙ w.if-has.true) in
+          let more : w.releases_within.result * w.cost.result ≡ interference_of (task_at U h) t =
+          interference_from x (task_at U h) t w.releases_within.result w.cost.result is
+          w.releases_within.ensures w.cost.ensures in
+          let here : f h ≡ interference_of (task_at U h) t = cond-true {A = ℕ} (X h)
+          (interference_of (task_at U h) t) 0 (sym c.has.ensures ∙ w.if-has.true) in
           record {
-            sum = sum_step h f c.loop-h.taken (interference_of (task_at U h) t) c.if-has.taken c.loop-h.invariant.sum here (w.taken-is ∙ ap (λ n. c.loop-h.taken + n) more);
+            sum = sum_step h f c.loop-h.taken (interference_of (task_at U h) t) c.if-has.taken
+                c.loop-h.invariant.sum here (w.taken-is ∙ ap (λ n. c.loop-h.taken + n) more);
             small = omega (arith, w.taken-is, more, fits, c.loop-h.invariant.small);
           }
       | else-has w ↦
-          let here : f h ≡ 0 = cond-false {A = ℕ} (X h) (interference_of (task_at U h) t) 0 (sym c.has.ensures ∙ w.if-has.false) in
+          let here : f h ≡ 0 = cond-false {A = ℕ} (X h) (interference_of (task_at U h) t) 0
+          (sym c.has.ensures ∙ w.if-has.false) in
           record {
-            sum = sum_step h f c.loop-h.taken 0 c.if-has.taken c.loop-h.invariant.sum here (omega (arith, w.taken-is));
+            sum = sum_step h f c.loop-h.taken 0 c.if-has.taken c.loop-h.invariant.sum here
+                (omega (arith, w.taken-is));
             small = omega (arith, w.taken-is, c.loop-h.invariant.small);
           }
     ]

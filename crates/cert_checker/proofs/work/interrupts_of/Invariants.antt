@@ -4,6 +4,7 @@ use Rattle.cert_checker.proofs.work.interrupts_of.Given as goal
 
 abbrev pub invariant-loop-interrupt : goal.invariant-loop-interrupt
 invariant-loop-interrupt l = record {
-  total : l.taken ≡ releases_within l.sheet l.time * l.sheet.node.release + sum_by (interrupt_within l.time) (take l.interrupt-index l.interrupt-items);
+  total : l.taken ≡ releases_within l.sheet l.time * l.sheet.node.release + sum_by
+      (interrupt_within l.time) (take l.interrupt-index l.interrupt-items);
   small : l.taken ≤ 190000000 + l.interrupt-index * 20000000;
 }

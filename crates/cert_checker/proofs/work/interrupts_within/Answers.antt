@@ -9,5 +9,7 @@ unfolding interrupts_within
 returns-clause-is c =
     let items = c.sheets-sheet-items.result.now in
     let all : c.loop-sheet.sheet-index ≡ length items = omega arith in
-    let P : ℕ → List Task → Type 0 = λ n V. c.loop-sheet.taken ≡ sum_below n (λ k. interrupts_of c.args.time (task_at V k)) in
-    subst (λ V. P (length V) V) c.sheets-sheet-items.ensures.same (subst (λ n. P n items) all c.loop-sheet.invariant.total)
+    let P : ℕ → List Task → Type 0 =
+    λ n V. c.loop-sheet.taken ≡ sum_below n (λ k. interrupts_of c.args.time (task_at V k)) in
+    subst (λ V. P (length V) V) c.sheets-sheet-items.ensures.same
+    (subst (λ n. P n items) all c.loop-sheet.invariant.total)

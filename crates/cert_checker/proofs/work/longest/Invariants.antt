@@ -5,4 +5,6 @@ use Rattle.task_sheet.specs.Demand.{greatest_of}
 use Rattle.cert_checker.proofs.work.longest.Given as goal
 
 abbrev pub invariant-loop-section : goal.invariant-loop-section
-invariant-loop-section l = l.longest ≡ greatest_of (λ s. if reaches l.set (indexes_of l.members) s then s.len else 0) (take l.section-index l.section-items)
+invariant-loop-section l =
+    l.longest ≡ greatest_of (λ s. if reaches l.set (indexes_of l.members) s then s.len else 0)
+    (take l.section-index l.section-items)

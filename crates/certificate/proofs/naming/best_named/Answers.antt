@@ -9,4 +9,6 @@ level_named-requires c =
     let kept = rw c.set-set.ensures.same at c.sheets-sheets.ensures.kept in
     let known = best-known c.args.best.now.set kept c.args.best.now.levels c.set-set.ensures.best in
     subst (IsKnownLevel c.set-set.result.now) (sym c.level-item.is)
-    (All-get_or (IsKnownLevel c.set-set.result.now) c.levels-level-items.result.now c.loop-level.level-index c.level-item.result c.loop-level-test.true (rw (c.levels-level-items.ensures.same, c.set-set.ensures.same) known))
+    (All-get_or (IsKnownLevel c.set-set.result.now) c.levels-level-items.result.now
+    c.loop-level.level-index c.level-item.result c.loop-level-test.true
+    (rw (c.levels-level-items.ensures.same, c.set-set.ensures.same) known))

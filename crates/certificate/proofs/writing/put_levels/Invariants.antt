@@ -4,4 +4,5 @@ use Rattle.streams.specs.Puts.{Puts}
 use Rattle.certificate.proofs.writing.put_levels.Given as goal
 
 abbrev pub invariant-loop-i : goal.invariant-loop-i
-invariant-loop-i g l = Puts g.W.Write.contents l.fn.out l.out (Ok tt) (level_spellings 1 (take l.i l.levels))
+invariant-loop-i g l =
+    Puts g.W.Write.contents l.fn.out l.out (Ok tt) (level_spellings 1 (take l.i l.levels))

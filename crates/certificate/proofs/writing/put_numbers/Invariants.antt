@@ -4,4 +4,5 @@ use Rattle.streams.specs.Puts.{Puts}
 use Rattle.certificate.proofs.writing.put_numbers.Given as goal
 
 abbrev pub invariant-loop-number : goal.invariant-loop-number
-invariant-loop-number g l = Puts g.W.Write.contents l.fn.out l.out (Ok tt) (numbers_text (take l.number-index l.numbers))
+invariant-loop-number g l =
+    Puts g.W.Write.contents l.fn.out l.out (Ok tt) (numbers_text (take l.number-index l.numbers))

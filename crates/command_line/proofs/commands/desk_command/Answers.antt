@@ -8,8 +8,10 @@ use Rattle.command_line.proofs.commands.desk_command.Goals as goal
 pub loop-listed-init : goal.loop-listed-init
 loop-listed-init c = record {
   app =
-      ap (λ a. with_commands a (map app_of_listed c.listed_commands-listed-items.result.now)) c.in_ok-desk.ensures.app
-      ∙ desk_listed c.listed_commands-listed-items.result.now c.listed_commands-listed-items.ensures;
+      ap (λ a. with_commands a (map app_of_listed c.listed_commands-listed-items.result.now))
+      c.in_ok-desk.ensures.app
+      ∙ desk_listed c.listed_commands-listed-items.result.now
+      c.listed_commands-listed-items.ensures;
   local = c.in_ok-desk.ensures.local;
 }
 
@@ -21,7 +23,8 @@ loop-listed-preserved c =
     record {
       app =
           ap (λ a. with_commands a later) c.in_ok-desk-2.ensures.app
-          ∙ sym (at_drop_more (λ more. with_commands above (map app_of_listed more)) rows c.loop-listed.listed-index _ c.loop-listed-test.true)
+          ∙ sym (at_drop_more (λ more. with_commands above (map app_of_listed more)) rows
+          c.loop-listed.listed-index _ c.loop-listed-test.true)
           ∙ c.loop-listed.invariant.app;
       local = c.in_ok-desk-2.ensures.local;
     }

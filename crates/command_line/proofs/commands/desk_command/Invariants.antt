@@ -7,6 +7,7 @@ use Rattle.command_line.proofs.commands.desk_command.Given as goal
 
 abbrev pub invariant-loop-listed : goal.invariant-loop-listed
 invariant-loop-listed l = record {
-  app : with_commands (app_of l.desk) (map app_of_listed (drop l.listed-index l.listed-items)) ≡ desk_app;
+  app : with_commands (app_of l.desk) (map app_of_listed (drop l.listed-index l.listed-items))
+      ≡ desk_app;
   local : (fields_of l.desk).has_globals ≡ false;
 }

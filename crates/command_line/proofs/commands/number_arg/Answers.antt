@@ -5,5 +5,6 @@ use Rattle.command_line.proofs.commands.number_arg.Goals as goal
 
 pub returns-clause-rule : goal.returns-clause-rule
 returns-clause-rule c =
-    let parser : c.value_parser-2.result.value_parser ≡ Some (Unsigned (least_of c.args.command) (most_of c.args.command)) = search rules in
+    let parser : c.value_parser-2.result.value_parser
+    ≡ Some (Unsigned (least_of c.args.command) (most_of c.args.command)) = search rules in
     search rules

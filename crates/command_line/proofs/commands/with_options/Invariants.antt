@@ -6,6 +6,7 @@ use Rattle.command_line.proofs.commands.with_options.Given as goal
 
 abbrev pub invariant-loop-choice : goal.invariant-loop-choice
 invariant-loop-choice l = record {
-  app : with_choices (app_of l.made) (drop l.choice-index l.options) ≡ with_choices (app_of l.fn.command) l.options;
+  app : with_choices (app_of l.made) (drop l.choice-index l.options)
+      ≡ with_choices (app_of l.fn.command) l.options;
   local : (fields_of l.made).has_globals ≡ false;
 }

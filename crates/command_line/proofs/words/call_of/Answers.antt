@@ -7,5 +7,6 @@ use Rattle.command_line.proofs.words.call_of.Goals as goal
 pub call_named-requires-clause-command : goal.call_named-requires-clause-command
 call_named-requires-clause-command c =
     subst IsCommand
-    (found_as c.args.matches.now c.in-Some.name.now (rows_of (found_of c.in-Some.found.now)) c.in-Some.ensures.name c.in-Some.ensures.rows)
+    (found_as c.args.matches.now c.in-Some.name.now (rows_of (found_of c.in-Some.found.now))
+    c.in-Some.ensures.name c.in-Some.ensures.rows)
     c.requires

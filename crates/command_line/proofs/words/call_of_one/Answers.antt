@@ -10,7 +10,8 @@ use Rattle.command_line.specs.declared.calls.Verb.TheVariants.{One}
 use Rattle.command_line.proofs.words.call_of_one.Goals as goal
 
 -- the first input of a command that may have a second is a set
-set_first : (o : OfOne) (rows : List Row) (c : OfTwo) (first second : Input) → NamesFile (by_file o) rows c second
+set_first : (o : OfOne) (rows : List Row) (c : OfTwo) (first second : Input)
+    → NamesFile (by_file o) rows c second
     → Names (first_of (input_of (One o)) rows) first → Names (first_of (codes "SET") rows) first
 set_first Settings rows c first second by names = names
 set_first Play rows c first second by names = absurd by

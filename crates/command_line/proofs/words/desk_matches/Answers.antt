@@ -1,6 +1,7 @@
 use Rattle.std.proofs.Common.{ap, ap₂, refl, subst, ◌∙◌, ◌≡◌, true, map, List}
 use Rattle.std.proofs.lemmas.Result.{IfOk-weaker}
-use Rattle.clap.specs.Words.{App, FailsBy, Text, app_of, fault_of, is_simple, is_simple_and_free, subcommand_of}
+use Rattle.clap.specs.Words.{App, FailsBy, Text, app_of, fault_of, is_simple, is_simple_and_free}
+use Rattle.clap.specs.Words.{subcommand_of}
 use Rattle.clap.proofs.OnLiterals.{clap_on_literals}
 use Rattle.command_line.proofs.Entered.{command_of}
 use Rattle.command_line.specs.App.{desk_app}
@@ -17,7 +18,8 @@ free = refl
 pub returns-clause-ok : goal.returns-clause-ok
 returns-clause-ok c =
     let is : app_of c.in_ok-desk.desk ≡ desk_app = c.in_ok-desk.ensures.app in
-    IfOk-weaker c.try_get_matches_from.result _ _ (λ m h. (h (ap is_simple is ∙ simple)).1 ∙ ap₂ subcommand_of is refl) c.try_get_matches_from.ensures.matches
+    IfOk-weaker c.try_get_matches_from.result _ _ (λ m h. (h (ap is_simple is ∙ simple)).1
+    ∙ ap₂ subcommand_of is refl) c.try_get_matches_from.ensures.matches
 
 pub returns-clause-kinds : goal.returns-clause-kinds
 returns-clause-kinds c =

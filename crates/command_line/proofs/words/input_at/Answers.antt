@@ -7,12 +7,14 @@ use Rattle.command_line.proofs.words.input_at.Goals as goal
 
 pub returns-in-None : goal.returns-in-None
 returns-in-None c =
-    subst (λ word. Names word Standard) (c.get_str.ensures ∙ first_value-rows (found_of c.args.matches.now) c.args.id.now)
+    subst (λ word. Names word Standard)
+    (c.get_str.ensures ∙ first_value-rows (found_of c.args.matches.now) c.args.id.now)
     (rw c.in-None.is refl)
 
 pub returns-in-Some-text : goal.returns-in-Some-text
 returns-in-Some-text c =
-    subst (λ word. Names word Standard) (c.get_str.ensures ∙ first_value-rows (found_of c.args.matches.now) c.args.id.now)
+    subst (λ word. Names word Standard)
+    (c.get_str.ensures ∙ first_value-rows (found_of c.args.matches.now) c.args.id.now)
     (rw c.in-Some-text.is c.in-Some-text.is-text)
 
 pub returns-in-Some : goal.returns-in-Some

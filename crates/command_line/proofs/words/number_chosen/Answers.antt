@@ -10,7 +10,8 @@ use Rattle.command_line.proofs.words.number_chosen.Goals as goal
 pub returns : goal.returns
 returns c = go (takes_of c.args.choice) c.requires c.get_one.result refl
   where
-    go : (t : Takes) → MayTake (choice_id c.args.choice) t (rows_of (found_of c.args.matches.now)) → (r : Option ℕ) → c.get_one.result ≡ r
+    go : (t : Takes) → MayTake (choice_id c.args.choice) t (rows_of (found_of c.args.matches.now))
+        → (r : Option ℕ) → c.get_one.result ≡ r
         → IsTaken t (first_of (choice_id c.args.choice) (rows_of (found_of c.args.matches.now))) r
     go takes.Word may r is = tt
     go takes.Flag may r is = tt

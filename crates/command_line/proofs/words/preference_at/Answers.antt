@@ -9,11 +9,13 @@ returns-in-None-clause-known c =
 
 pub returns-in-Some-weight-clause-known : goal.returns-in-Some-weight-clause-known
 returns-in-Some-weight-clause-known c =
-    sym (rw (c.in-Some-weight.is, c.in-Some-weight.is-weight) at c.get_str.ensures ∙ first_value-rows (found_of c.args.matches.now) _)
+    sym (rw (c.in-Some-weight.is, c.in-Some-weight.is-weight) at c.get_str.ensures
+    ∙ first_value-rows (found_of c.args.matches.now) _)
 
 pub returns-in-Some-deadline-clause-known : goal.returns-in-Some-deadline-clause-known
 returns-in-Some-deadline-clause-known c =
-    sym (rw (c.in-Some-deadline.is, c.in-Some-deadline.is-deadline) at c.get_str.ensures ∙ first_value-rows (found_of c.args.matches.now) _)
+    sym (rw (c.in-Some-deadline.is, c.in-Some-deadline.is-deadline) at c.get_str.ensures
+    ∙ first_value-rows (found_of c.args.matches.now) _)
 
 pub returns-in-Some-clause-none : goal.returns-in-Some-clause-none
 returns-in-Some-clause-none c _ = (

@@ -9,27 +9,34 @@ use Rattle.command_line.specs.declared.calls.Input.{Input}
 use Rattle.command_line.proofs.words.second_named.Goals as goal
 
 -- the option's word names the second input
-file_named : (by : Option (Choice × OfTwo)) (rows : List Row) (choice : Choice) (of_two : OfTwo) (input : Input) (word : Text)
-    → Some (choice, of_two) ≡ by → Some word ≡ first_of (choice_id choice) rows → Names (Some word) input → NamesFile by rows of_two input
+file_named : (by : Option (Choice × OfTwo)) (rows : List Row) (choice : Choice) (of_two : OfTwo)
+    (input : Input) (word : Text)
+    → Some (choice, of_two) ≡ by → Some word ≡ first_of (choice_id choice) rows
+    → Names (Some word) input → NamesFile by rows of_two input
 file_named by rows choice of_two input word is said names =
-    subst (λ (b : Option (Choice × OfTwo)). NamesFile b rows of_two input) is (refl, word, sym said, names)
+    subst (λ (b : Option (Choice × OfTwo)). NamesFile b rows of_two input) is
+    (refl, word, sym said, names)
 
 -- where the option says nothing there is none
 none_named : (by : Option (Choice × OfTwo)) (rows : List Row) (choice : Choice) (of_two : OfTwo)
     → Some (choice, of_two) ≡ by → None ≡ first_of (choice_id choice) rows → file_of by rows ≡ None
-none_named by rows choice of_two is said = subst (λ (b : Option (Choice × OfTwo)). file_of b rows ≡ None) is (sym said)
+none_named by rows choice of_two is said =
+    subst (λ (b : Option (Choice × OfTwo)). file_of b rows ≡ None) is (sym said)
 
 pub returns-in-None-clause-none : goal.returns-in-None-clause-none
 returns-in-None-clause-none c _ =
     none_named _ _ c.in_ok-choice.choice c.in_ok-choice.of_two c.in_ok-choice.ensures
-    (rw (c.in-None.is, c.id.ensures) at c.get_str.ensures ∙ first_value-rows (found_of c.args.found.now) _)
+    (rw (c.in-None.is, c.id.ensures) at c.get_str.ensures
+    ∙ first_value-rows (found_of c.args.found.now) _)
 
 pub returns-in-Some-text-clause-some : goal.returns-in-Some-text-clause-some
 returns-in-Some-text-clause-some c =
     file_named _ _ c.in_ok-choice.choice c.in_ok-choice.of_two _ _ c.in_ok-choice.ensures
-    (rw (c.in-Some-text.is, c.id.ensures) at c.get_str.ensures ∙ first_value-rows (found_of c.args.found.now) _) c.in-Some-text.is-text
+    (rw (c.in-Some-text.is, c.id.ensures) at c.get_str.ensures
+    ∙ first_value-rows (found_of c.args.found.now) _) c.in-Some-text.is-text
 
 pub returns-in-Some-clause-some : goal.returns-in-Some-clause-some
 returns-in-Some-clause-some c =
     file_named _ _ c.in_ok-choice.choice c.in_ok-choice.of_two _ _ c.in_ok-choice.ensures
-    (rw (c.in-Some.is, c.id.ensures) at c.get_str.ensures ∙ first_value-rows (found_of c.args.found.now) _) (refl, c.in-Some.not-text)
+    (rw (c.in-Some.is, c.id.ensures) at c.get_str.ensures
+    ∙ first_value-rows (found_of c.args.found.now) _) (refl, c.in-Some.not-text)

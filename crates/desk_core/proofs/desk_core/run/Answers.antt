@@ -1,4 +1,5 @@
-use Rattle.std.proofs.Common.{◌≡◌, ◌∙◌, List, [], ◌∷◌, ◌++◌, length, sym, ap, subst, arith, append_assoc}
+use Rattle.std.proofs.Common.{◌≡◌, ◌∙◌, List, [], ◌∷◌, ◌++◌, length, sym, ap, subst, arith}
+use Rattle.std.proofs.Common.{append_assoc}
 use Rattle.desk_core.specs.declared.events.Event.{Event}
 use Rattle.desk_core.specs.declared.events.Reply.{Reply}
 use Rattle.drafts.specs.Books.{Book}
@@ -11,7 +12,8 @@ pub loop-event-init : goal.loop-event-init
 loop-event-init c =
     let gives = c.into_iter-event-iterator.ensures.into_iter_gives in
     record {
-      run = subst (λ (rs : List Reply). IsRun start [] rs c.in_ok-core.core) (sym c.new-replies.ensures.items) c.in_ok-core.ensures;
+      run = subst (λ (rs : List Reply). IsRun start [] rs c.in_ok-core.core)
+          (sym c.new-replies.ensures.items) c.in_ok-core.ensures;
       rest = gives.0;
       counted = omega (arith, ap length gives.0, gives.1, c.args.events.ok.0, c.args.events.ok.1);
     }
@@ -26,16 +28,22 @@ loop-event-preserved c =
     let steps = c.in-Some.ensures.steps in
     let pushed = c.in_ok-push.ensures.items in
     record {
-      run = subst (λ ys. IsRun start (done ++ e ∷ []) ys c.step.new.self) (sym pushed) (IsRun-push start c.loop-event.core c.step.new.self done rs e r so.run c.in-Ok.ensures.ok);
-      rest = append_assoc done (e ∷ []) c.next.new.self.rest.items ∙ ap (λ xs. done ++ xs) (sym steps.0) ∙ so.rest;
+      run = subst (λ ys. IsRun start (done ++ e ∷ []) ys c.step.new.self) (sym pushed) (IsRun-push
+          start c.loop-event.core c.step.new.self done rs e r so.run c.in-Ok.ensures.ok);
+      rest = append_assoc done (e ∷ []) c.next.new.self.rest.items
+          ∙ ap (λ xs. done ++ xs) (sym steps.0) ∙ so.rest;
       counted = let more = ap length steps.0 in omega (arith, more, steps.1, so.counted);
     }
 
 pub returns-clause-run : goal.returns-clause-run
 returns-clause-run c =
     let so = c.loop-event.invariant in
-    let all = all_done c.loop-event.yielded c.loop-event.event-iterator.rest.items c.args.events.items c.loop-event.event-iterator.rest.len so.rest so.counted c.in-None.ensures.steps.0 in
-    subst (λ (es : List Event). IsRun start es c.loop-event.replies.items c.loop-event.core) all so.run
+    let all =
+    all_done c.loop-event.yielded c.loop-event.event-iterator.rest.items c.args.events.items
+    c.loop-event.event-iterator.rest.len so.rest so.counted c.in-None.ensures.steps.0 in
+    subst (λ (es : List Event). IsRun start es c.loop-event.replies.items c.loop-event.core)
+    all so.run
 
 pub returns-clause-version : goal.returns-clause-version
-returns-clause-version c = subst (λ (b : Book). b.desk.version ≡ admissions b.log) c.book.ensures c.state.ensures.version
+returns-clause-version c =
+    subst (λ (b : Book). b.desk.version ≡ admissions b.log) c.book.ensures c.state.ensures.version

@@ -10,11 +10,16 @@ use Rattle.desk_core.proofs.live.advance_to.Goals as goal
 pub returns-in-Trying-clause-ok : goal.returns-in-Trying-clause-ok
 returns-in-Trying-clause-ok c =
     let outcome = on_base c.args.draft.now in
-    let on = trying-stage outcome c.begin.new.stage c.in-Trying.trial c.deref_mut.result.now (found_of c.args.stage.now) c.in-Trying.is c.deref_mut.ensures.value c.begin.ensures.kept c.begin.ensures.found in
-    subst (λ (xs : List Asked). IfOk c.advance.result (IsAdvancedOn outcome xs c.advance.new.trial.found)) on.1 (c.advance.ensures.ok outcome on.0)
+    let on = trying-stage outcome c.begin.new.stage c.in-Trying.trial c.deref_mut.result.now
+    (found_of c.args.stage.now) c.in-Trying.is c.deref_mut.ensures.value c.begin.ensures.kept
+    c.begin.ensures.found in
+    subst (λ (xs : List Asked). IfOk c.advance.result (IsAdvancedOn outcome xs
+    c.advance.new.trial.found)) on.1 (c.advance.ensures.ok outcome on.0)
 
 pub returns-in-Tested-clause-ok : goal.returns-in-Tested-clause-ok
 returns-in-Tested-clause-ok c =
     let outcome = on_base c.args.draft.now in
-    let tested = tested-stage outcome c.begin.new.stage c.in-Tested.set c.in-Tested.members c.in-Tested.kept c.in-Tested.found _ c.in-Tested.is c.begin.ensures.kept c.begin.ensures.found in
+    let tested =
+    tested-stage outcome c.begin.new.stage c.in-Tested.set c.in-Tested.members c.in-Tested.kept
+    c.in-Tested.found _ c.in-Tested.is c.begin.ensures.kept c.begin.ensures.found in
     (tested-silent outcome (found_of c.args.stage.now) tested, c.begin.ensures.found)

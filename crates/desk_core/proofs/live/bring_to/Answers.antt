@@ -8,11 +8,16 @@ pub returns-in-Trying-clause-found : goal.returns-in-Trying-clause-found
 returns-in-Trying-clause-found c =
     let outcome = on_base c.args.draft.now in
     let found = found_of c.args.stage.now in
-    let on = trying-stage outcome c.begin.new.stage c.in-Trying.trial c.deref_mut.result.now found c.in-Trying.is c.deref_mut.ensures.value c.begin.ensures.kept c.begin.ensures.found in
-    brought-answer outcome c.deref_mut.result.now found c.bring.new.trial.found c.args.finding.question c.bring.result on.0 on.1 c.bring.ensures.brought
+    let on = trying-stage outcome c.begin.new.stage c.in-Trying.trial c.deref_mut.result.now found
+    c.in-Trying.is c.deref_mut.ensures.value c.begin.ensures.kept c.begin.ensures.found in
+    brought-answer outcome c.deref_mut.result.now found c.bring.new.trial.found
+    c.args.finding.question c.bring.result on.0 on.1 c.bring.ensures.brought
 
 pub returns-in-Tested-clause-found : goal.returns-in-Tested-clause-found
 returns-in-Tested-clause-found c =
     let outcome = on_base c.args.draft.now in
-    let tested = tested-stage outcome c.begin.new.stage c.in-Tested.set c.in-Tested.members c.in-Tested.kept c.in-Tested.found _ c.in-Tested.is c.begin.ensures.kept c.begin.ensures.found in
-    tested-stranger outcome (found_of c.args.stage.now) (found_of c.begin.new.stage) c.args.finding.question tested c.begin.ensures.found
+    let tested =
+    tested-stage outcome c.begin.new.stage c.in-Tested.set c.in-Tested.members c.in-Tested.kept
+    c.in-Tested.found _ c.in-Tested.is c.begin.ensures.kept c.begin.ensures.found in
+    tested-stranger outcome (found_of c.args.stage.now) (found_of c.begin.new.stage)
+    c.args.finding.question tested c.begin.ensures.found

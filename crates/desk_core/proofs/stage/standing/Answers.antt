@@ -10,4 +10,5 @@ returns-in-Tested-clause-ok c =
     let outcome = on_base c.args.draft.now in
     let so = subst (λ (s : Stage). IsStage outcome s) c.in-Tested.is c.begin.ensures.kept in
     let same = sym (ap (λ (s : Stage). found_of s) c.in-Tested.is) ∙ c.begin.ensures.found in
-    tested-standing outcome c.in-Tested.set c.in-Tested.members c.in-Tested.kept c.in-Tested.found (found_of c.args.stage.now) c.tested.result so same c.tested.ensures
+    tested-standing outcome c.in-Tested.set c.in-Tested.members c.in-Tested.kept c.in-Tested.found
+    (found_of c.args.stage.now) c.tested.result so same c.tested.ensures

@@ -6,7 +6,8 @@ use Rattle.desk_core.proofs.trial.close_level.Goals as goal
 
 pub returns-then-not-is_unfinished : goal.returns-then-not-is_unfinished
 returns-then-not-is_unfinished c = (
-  λ going. both_ways c.is_unfinished.result c.if-not-is_unfinished.true (c.is_unfinished.ensures.1 going),
+  λ going. both_ways c.is_unfinished.result c.if-not-is_unfinished.true
+      (c.is_unfinished.ensures.1 going),
   c.close_own.ensures,
 )
 
@@ -16,5 +17,13 @@ returns c =
     let new = c.close_own.new.self in
     let going = c.is_unfinished.ensures.0 c.if-not-is_unfinished.false in
     let placed = closed-placed old new going c.close_own.ensures in
-    let read = last-placed old new placed c.levels-levels.result.now c.index-levels-levels.result c.levels-levels.ensures.same c.index-levels-levels.is in
-    (placed, going, ap length c.levels-levels.ensures.same, c.read_level-task.ensures.task ∙ ap (λ (x : LevelData). x.task) read, c.read_level-task.ensures.response ∙ ap (λ (x : LevelData). x.response) read)
+    let read = last-placed old new placed c.levels-levels.result.now c.index-levels-levels.result
+    c.levels-levels.ensures.same c.index-levels-levels.is in (
+      placed,
+      going,
+      ap length c.levels-levels.ensures.same,
+      c.read_level-task.ensures.task
+          ∙ ap (λ (x : LevelData). x.task) read,
+      c.read_level-task.ensures.response
+          ∙ ap (λ (x : LevelData). x.response) read,
+    )

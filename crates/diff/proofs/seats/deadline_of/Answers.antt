@@ -8,4 +8,5 @@ pub returns-in-None : goal.returns-in-None
 returns-in-None c =
     let U : List Task = c.args.set.now in
     let past : None ≡ slice_get U c.args.task = c.in-None.ensures in
-    ap (λ (t : Task). t.deadline) (ap (λ o. unwrap_or o no_task) past ∙ unwrap_or-slice_get U c.args.task no_task)
+    ap (λ (t : Task). t.deadline)
+    (ap (λ o. unwrap_or o no_task) past ∙ unwrap_or-slice_get U c.args.task no_task)

@@ -5,4 +5,5 @@ use Rattle.diff.proofs.text.push_edits.Given as goal
 abbrev pub invariant-loop-task : goal.invariant-loop-task
 invariant-loop-task l =
     string_bytes l.text ≡ string_bytes l.fn.text
-    ++ lines_below l.task (edit_line l.weighs l.old.set.now l.old.placing.now l.new.set.now l.new.placing.now)
+    ++ lines_below l.task
+    (edit_line l.weighs l.old.set.now l.old.placing.now l.new.set.now l.new.placing.now)

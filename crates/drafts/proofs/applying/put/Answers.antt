@@ -8,12 +8,15 @@ use Rattle.drafts.proofs.applying.put.Goals as goal
 
 pub returns-in_err-place-clause-roster : goal.returns-in_err-place-clause-roster
 returns-in_err-place-clause-roster c =
-    subst IsRoster (sym (c.in_err-place.ensures.err ∙ c.take_out.ensures)) (roster-without c.name-name.result c.args.tasks.now.items c.requires)
+    subst IsRoster (sym (c.in_err-place.ensures.err ∙ c.take_out.ensures))
+    (roster-without c.name-name.result c.args.tasks.now.items c.requires)
 
 pub returns-clause-roster : goal.returns-clause-roster
 returns-clause-roster c =
     let tasks = c.args.tasks.now.items in
     let o : Owned = record { sheet = c.in_ok-sheet.sheet; team = c.args.team } in
     let name = c.name-name.ensures.same ∙ ap (λ s. s.name) (sym c.in_ok-sheet.ensures) in
-    let made : c.place.new.tasks.items ≡ with_task o.sheet.name o tasks = c.in_ok-place.ensures.ok ∙ ap (λ ts. placed o ts) (c.take_out.ensures ∙ ap (λ n. without_name n tasks) name) in
-    subst IsRoster (sym made) (roster-with o tasks (subst IsValidSheet (sym c.in_ok-sheet.ensures) c.name-name.ensures.valid) c.requires)
+    let made : c.place.new.tasks.items ≡ with_task o.sheet.name o tasks = c.in_ok-place.ensures.ok
+    ∙ ap (λ ts. placed o ts) (c.take_out.ensures ∙ ap (λ n. without_name n tasks) name) in
+    subst IsRoster (sym made) (roster-with o tasks
+    (subst IsValidSheet (sym c.in_ok-sheet.ensures) c.name-name.ensures.valid) c.requires)

@@ -4,4 +4,5 @@ use Rattle.drafts.specs.Applied.{is_team_at}
 use Rattle.drafts.proofs.state.places_of.Given as goal
 
 abbrev pub invariant-loop-index : goal.invariant-loop-index
-invariant-loop-index l = (k : ℕ) → contains l.members k ≡ (nat_lt k l.index && is_team_at l.team l.teams k)
+invariant-loop-index l = (k : ℕ)
+    → contains l.members k ≡ (nat_lt k l.index && is_team_at l.team l.teams k)

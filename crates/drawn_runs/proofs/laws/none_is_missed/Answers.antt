@@ -2,10 +2,12 @@ use Rattle.drawn_runs.proofs.LateLaws.{all_on_time, best_rows, none_missed}
 use Rattle.drawn_runs.proofs.laws.none_is_missed.Goals as goal
 
 pub returns-clause-late : goal.returns-clause-late
-returns-clause-late c = λ U places rs until trace rows v run. all_on_time U places rs until trace rows v run
+returns-clause-late c =
+    λ U places rs until trace rows v run. all_on_time U places rs until trace rows v run
 
 pub returns-clause-counted : goal.returns-clause-counted
-returns-clause-counted c = λ U places rs until trace rows v run. none_missed U places rs until trace rows v run
+returns-clause-counted c =
+    λ U places rs until trace rows v run. none_missed U places rs until trace rows v run
 
 pub returns-clause-rows : goal.returns-clause-rows
 returns-clause-rows c = λ U places set best. best_rows U places set best

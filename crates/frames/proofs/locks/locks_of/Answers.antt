@@ -10,6 +10,9 @@ pub returns-clause-few : goal.returns-clause-few
 returns-clause-few c =
     let rows = c.args.rows.now in
     let locks = c.loop-row.locks.items in
-    let none : drop c.loop-row.row-index rows ≡ [] = drop_all c.loop-row.row-index rows c.loop-row-test.false in
-    let all : locks ≡ locks_of rows = ap (λ (rest : List TaskRow). noted_rows locks rest) (sym none) ∙ c.loop-row.invariant in
-    subst (λ (names : List (List ℕ)). length names ≤ LOCKS_LIMIT) (sym all) (rows_small rows [] (omega arith))
+    let none : drop c.loop-row.row-index rows ≡ [] =
+    drop_all c.loop-row.row-index rows c.loop-row-test.false in
+    let all : locks ≡ locks_of rows = ap (λ (rest : List TaskRow). noted_rows locks rest) (sym none)
+    ∙ c.loop-row.invariant in
+    subst (λ (names : List (List ℕ)). length names ≤ LOCKS_LIMIT) (sym all)
+    (rows_small rows [] (omega arith))

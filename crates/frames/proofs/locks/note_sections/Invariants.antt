@@ -3,4 +3,5 @@ use Rattle.frames.specs.Locks.{noted_sections}
 use Rattle.frames.proofs.locks.note_sections.Given as goal
 
 abbrev pub invariant-loop-section : goal.invariant-loop-section
-invariant-loop-section l = noted_sections l.locks.items (drop l.section-index l.sections) ≡ noted_sections l.fn.locks.items l.fn.sections
+invariant-loop-section l = noted_sections l.locks.items (drop l.section-index l.sections)
+    ≡ noted_sections l.fn.locks.items l.fn.sections

@@ -7,6 +7,8 @@ pub returns : goal.returns
 returns g c =
     let lane = c.args.lane.now in
     puts_same (λ (text : List ℕ). text)
-    (apart_text lane.frame c.args.jobs.now c.args.i lane.spot.k lane.row.now c.gap_of-gap.result c.joins.result c.job_at-first.result c.stretch_of.result.now
-    c.gap_of-gap.ensures c.joins.ensures c.if-joins.false c.job_at-first.ensures c.stretch_of.ensures)
+    (apart_text lane.frame c.args.jobs.now c.args.i lane.spot.k lane.row.now c.gap_of-gap.result
+    c.joins.result c.job_at-first.result c.stretch_of.result.now
+    c.gap_of-gap.ensures c.joins.ensures c.if-joins.false c.job_at-first.ensures
+    c.stretch_of.ensures)
     c.put_stand.ensures

@@ -9,6 +9,8 @@ returns-then-band-gt1 g c =
     let band = c.band_in-band in
     let outcome = c.outcome_of in
     puts_same (λ (text : List ℕ). text)
-    (stands_in_band lane.frame c.args.first.now c.args.jobs.now lane.spot.k lane.row.now band.result.count band.result.latest outcome.result.done outcome.result.greatest
-    band.ensures.count band.ensures.latest outcome.ensures.done outcome.ensures.greatest c.if-band-gt1.true)
+    (stands_in_band lane.frame c.args.first.now c.args.jobs.now lane.spot.k lane.row.now
+    band.result.count band.result.latest outcome.result.done outcome.result.greatest
+    band.ensures.count band.ensures.latest outcome.ensures.done outcome.ensures.greatest
+    c.if-band-gt1.true)
     c.put_band.ensures

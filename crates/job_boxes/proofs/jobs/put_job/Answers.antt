@@ -15,6 +15,10 @@ returns-in-Some g c =
     let shown = c.args.chart.now.shown.now in
     let frame = c.args.chart.now.frame in
     let spot = c.in-Some.spot in
-    let named = c.spot_of.ensures.spot ∙ ap (λ (name : List ℕ). spot_named rows shown name) c.name_of.ensures in
-    let put = puts_in_lane text rows frame spot c.lane.result.frame c.lane.result.spot c.lane.result.row.now c.lane.ensures.frame c.lane.ensures.spot c.lane.ensures.row c.put_place.ensures in
-    puts_on_spot (text frame) rows shown (record_at jobs c.args.i).name c.spot_of.result spot named c.in-Some.is put
+    let named = c.spot_of.ensures.spot
+    ∙ ap (λ (name : List ℕ). spot_named rows shown name) c.name_of.ensures in
+    let put = puts_in_lane text rows frame spot c.lane.result.frame c.lane.result.spot
+    c.lane.result.row.now c.lane.ensures.frame c.lane.ensures.spot c.lane.ensures.row
+    c.put_place.ensures in
+    puts_on_spot (text frame) rows shown (record_at jobs c.args.i).name c.spot_of.result spot named
+    c.in-Some.is put

@@ -4,7 +4,12 @@ use Rattle.frames.proofs.Puts.{puts_none, puts_one_more}
 use Rattle.job_boxes.proofs.jobs.put_jobs.Goals as goal
 
 pub loop-i-init : goal.loop-i-init
-loop-i-init g c = puts_none g.W.Write.contents c.args.out.now (λ i. on_spot c.args.chart.now.rows.now c.args.chart.now.shown.now (record_at c.args.chart.now.jobs.now i).name (λ s. place_text c.args.chart.now.frame c.args.chart.now.jobs.now i s.k))
+loop-i-init g c = puts_none g.W.Write.contents c.args.out.now (λ i. on_spot
+    c.args.chart.now.rows.now c.args.chart.now.shown.now (record_at c.args.chart.now.jobs.now
+    i).name (λ s. place_text c.args.chart.now.frame c.args.chart.now.jobs.now i s.k))
 
 pub loop-i-preserved : goal.loop-i-preserved
-loop-i-preserved g c = puts_one_more (λ i. on_spot c.args.chart.now.rows.now c.args.chart.now.shown.now (record_at c.args.chart.now.jobs.now i).name (λ s. place_text c.args.chart.now.frame c.args.chart.now.jobs.now i s.k)) c.loop-i.i c.loop-i.invariant c.in_ok-put_job.ensures
+loop-i-preserved g c = puts_one_more (λ i. on_spot c.args.chart.now.rows.now
+    c.args.chart.now.shown.now (record_at c.args.chart.now.jobs.now i).name
+    (λ s. place_text c.args.chart.now.frame c.args.chart.now.jobs.now i s.k)) c.loop-i.i
+    c.loop-i.invariant c.in_ok-put_job.ensures

@@ -8,6 +8,8 @@ pub returns : goal.returns
 returns g c =
     let chart = c.args.chart.now in
     puts_same (λ (text : List ℕ). text)
-    (alone_mark chart.frame chart.rows.now chart.shown.now chart.jobs.now c.args.mark c.args.i (release_at chart.releases.now c.args.i) c.release_at.result c.gap_of.result c.is_banded.result
+    (alone_mark chart.frame chart.rows.now chart.shown.now chart.jobs.now c.args.mark c.args.i
+    (release_at chart.releases.now c.args.i) c.release_at.result c.gap_of.result
+    c.is_banded.result
     c.gap_of.ensures c.is_banded.ensures c.if-is_banded.false c.release_at.ensures)
     c.put_mark.ensures

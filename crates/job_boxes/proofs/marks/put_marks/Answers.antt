@@ -5,8 +5,13 @@ use Rattle.frames.proofs.Puts.{puts_head, puts_one_more_behind}
 use Rattle.job_boxes.proofs.marks.put_marks.Goals as goal
 
 pub loop-i-init : goal.loop-i-init
-loop-i-init g c = puts_head (λ i. mark_alone c.args.chart.now.frame c.args.chart.now.rows.now c.args.chart.now.shown.now c.args.chart.now.jobs.now c.args.mark i (release_at c.args.chart.now.releases.now i)) c.in_ok-put_mark_head.ensures
+loop-i-init g c = puts_head (λ i. mark_alone c.args.chart.now.frame c.args.chart.now.rows.now
+    c.args.chart.now.shown.now c.args.chart.now.jobs.now c.args.mark i
+    (release_at c.args.chart.now.releases.now i)) c.in_ok-put_mark_head.ensures
 
 pub loop-i-preserved : goal.loop-i-preserved
 loop-i-preserved g c =
-    puts_one_more_behind (mark_head c.args.mark) (λ i. mark_alone c.args.chart.now.frame c.args.chart.now.rows.now c.args.chart.now.shown.now c.args.chart.now.jobs.now c.args.mark i (release_at c.args.chart.now.releases.now i)) c.loop-i.i c.loop-i.invariant c.in_ok-put_mark_alone.ensures
+    puts_one_more_behind (mark_head c.args.mark)
+    (λ i. mark_alone c.args.chart.now.frame c.args.chart.now.rows.now c.args.chart.now.shown.now
+    c.args.chart.now.jobs.now c.args.mark i (release_at c.args.chart.now.releases.now i))
+    c.loop-i.i c.loop-i.invariant c.in_ok-put_mark_alone.ensures

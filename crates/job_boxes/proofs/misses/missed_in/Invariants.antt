@@ -5,5 +5,6 @@ use Rattle.job_boxes.proofs.misses.missed_in.Given as goal
 abbrev pub invariant-loop-job : goal.invariant-loop-job
 invariant-loop-job l = record {
   within : l.count ≤ l.job-index;
-  counted : l.count + missed_in l.frame l.row (drop l.job-index l.jobs) ≡ missed_in l.frame l.row l.jobs;
+  counted : l.count + missed_in l.frame l.row (drop l.job-index l.jobs)
+      ≡ missed_in l.frame l.row l.jobs;
 }

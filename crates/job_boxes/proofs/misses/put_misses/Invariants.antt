@@ -5,4 +5,6 @@ use Rattle.job_boxes.specs.Misses.{row_misses}
 use Rattle.job_boxes.proofs.misses.put_misses.Given as goal
 
 abbrev pub invariant-loop-k : goal.invariant-loop-k
-invariant-loop-k g l = Puts g.W.Write.contents l.fn.out l.out (Ok tt) (each l.k (λ k. row_misses l.fn.chart.frame l.fn.chart.jobs.now (spot_in l.fn.chart.shown.now k).k (row_at l.fn.chart.rows.now (spot_in l.fn.chart.shown.now k).rank)))
+invariant-loop-k g l = Puts g.W.Write.contents l.fn.out l.out (Ok tt) (each l.k
+    (λ k. row_misses l.fn.chart.frame l.fn.chart.jobs.now (spot_in l.fn.chart.shown.now k).k
+    (row_at l.fn.chart.rows.now (spot_in l.fn.chart.shown.now k).rank)))

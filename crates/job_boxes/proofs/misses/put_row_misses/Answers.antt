@@ -13,7 +13,8 @@ loop-i-init g c =
     let row = c.args.lane.now.row.now in
     let jobs = c.args.jobs.now in
     record {
-      put = puts_none g.W.Write.contents c.args.out.now (λ i. miss_text f c.args.lane.now.spot.k row (badge_before f row jobs i) (record_at jobs i));
+      put = puts_none g.W.Write.contents c.args.out.now (λ i. miss_text f c.args.lane.now.spot.k row
+          (badge_before f row jobs i) (record_at jobs i));
       last = sym (no_badge f row jobs);
     }
 
@@ -25,10 +26,13 @@ loop-i-preserved g c =
     let jobs = c.args.jobs.now in
     let n = c.loop-i.i in
     let last = c.loop-i.last in
-    let of_job = puts_same (λ (job : JobRecord). miss_text f k row last job) c.job_at-job.ensures c.in_ok-put_miss.ensures in
-    let here = puts_same (λ (o : Option ℕ). miss_text f k row o (record_at jobs n)) c.loop-i.invariant.last of_job in
+    let of_job = puts_same (λ (job : JobRecord). miss_text f k row last job) c.job_at-job.ensures
+    c.in_ok-put_miss.ensures in
+    let here = puts_same (λ (o : Option ℕ). miss_text f k row o (record_at jobs n))
+    c.loop-i.invariant.last of_job in
     record {
-      put = puts_one_more (λ i. miss_text f k row (badge_before f row jobs i) (record_at jobs i)) n c.loop-i.invariant.put here;
+      put = puts_one_more (λ i. miss_text f k row (badge_before f row jobs i) (record_at jobs i)) n
+          c.loop-i.invariant.put here;
       last = c.badge_after-last.ensures
           ∙ ap (λ (job : JobRecord). badge_after f row last job) c.job_at-job.ensures
           ∙ ap (λ (o : Option ℕ). badge_after f row o (record_at jobs n)) c.loop-i.invariant.last

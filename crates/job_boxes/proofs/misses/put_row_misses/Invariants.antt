@@ -7,6 +7,8 @@ use Rattle.job_boxes.proofs.misses.put_row_misses.Given as goal
 
 abbrev pub invariant-loop-i : goal.invariant-loop-i
 invariant-loop-i g l = record {
-  put : Puts g.W.Write.contents l.fn.out l.out (Ok tt) (each l.i (λ i. miss_text l.fn.lane.frame l.fn.lane.spot.k l.fn.lane.row.now (badge_before l.fn.lane.frame l.fn.lane.row.now l.fn.jobs i) (record_at l.fn.jobs i)));
+  put : Puts g.W.Write.contents l.fn.out l.out (Ok tt)
+      (each l.i (λ i. miss_text l.fn.lane.frame l.fn.lane.spot.k l.fn.lane.row.now
+      (badge_before l.fn.lane.frame l.fn.lane.row.now l.fn.jobs i) (record_at l.fn.jobs i)));
   last : l.last ≡ badge_before l.fn.lane.frame l.fn.lane.row.now l.fn.jobs l.i;
 }

@@ -10,7 +10,8 @@ invariant-loop-entry l = record {
   each : AllJudged l.set l.rest;
   within : All (λ (j : JudgedTask). j.task < length l.set) l.rest;
   counted : l.number + length l.rest ≡ 1 + length l.judged;
-  whole : (more : List ℕ) → AreLevels l.parted l.set l.asked l.number l.rest more → AreLevels l.parted l.set l.asked 1 l.judged (string_bytes l.text ++ more);
+  whole : (more : List ℕ) → AreLevels l.parted l.set l.asked l.number l.rest more
+      → AreLevels l.parted l.set l.asked 1 l.judged (string_bytes l.text ++ more);
 }
 
 abbrev pub decreases-loop-entry : goal.decreases-loop-entry

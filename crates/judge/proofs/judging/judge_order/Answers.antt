@@ -2,15 +2,20 @@ use Rattle.judge.proofs.JudgedLaws.{judged_start, judged_step, judged_end}
 use Rattle.judge.proofs.judging.judge_order.Goals as goal
 
 pub loop-place-init : goal.loop-place-init
-loop-place-init c = judged_start c.args.set.now c.args.order.now c.in_ok-judged.judged.items c.in_ok-judged.ensures.items
+loop-place-init c = judged_start c.args.set.now c.args.order.now c.in_ok-judged.judged.items
+    c.in_ok-judged.ensures.items
 
 pub loop-place-preserved : goal.loop-place-preserved
 loop-place-preserved c =
-    judged_step c.args.set.now c.args.order.now c.loop-place.place c.loop-place.judged.items c.push.new.self.items c.judge_place.result
-    c.loop-place-test.true c.loop-place.invariant c.judge_place.ensures.task c.judge_place.ensures.judged c.in_ok-push.ensures.items
+    judged_step c.args.set.now c.args.order.now c.loop-place.place c.loop-place.judged.items
+    c.push.new.self.items c.judge_place.result
+    c.loop-place-test.true c.loop-place.invariant c.judge_place.ensures.task
+    c.judge_place.ensures.judged c.in_ok-push.ensures.items
 
 pub returns-clause-order : goal.returns-clause-order
-returns-clause-order c = (judged_end c.args.set.now c.args.order.now c.loop-place.place c.loop-place.judged.items c.loop-place-test.false c.loop-place.invariant).0
+returns-clause-order c = (judged_end c.args.set.now c.args.order.now c.loop-place.place
+    c.loop-place.judged.items c.loop-place-test.false c.loop-place.invariant).0
 
 pub returns-clause-judged : goal.returns-clause-judged
-returns-clause-judged c = (judged_end c.args.set.now c.args.order.now c.loop-place.place c.loop-place.judged.items c.loop-place-test.false c.loop-place.invariant).1
+returns-clause-judged c = (judged_end c.args.set.now c.args.order.now c.loop-place.place
+    c.loop-place.judged.items c.loop-place-test.false c.loop-place.invariant).1

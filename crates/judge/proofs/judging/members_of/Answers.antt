@@ -8,4 +8,5 @@ pub loop-task-init : goal.loop-task-init
 loop-task-init c = ap indexes_of c.empty-members.ensures ∙ indexes_of-empty
 
 pub loop-task-preserved : goal.loop-task-preserved
-loop-task-preserved c = members_step c.loop-task.members c.with-members.result c.args.order.now c.loop-task.task-index c.loop-task-test.true c.loop-task.invariant c.with-members.ensures
+loop-task-preserved c = members_step c.loop-task.members c.with-members.result c.args.order.now
+    c.loop-task.task-index c.loop-task-test.true c.loop-task.invariant c.with-members.ensures

@@ -10,5 +10,7 @@ use Rattle.judge.proofs.laws.best_settings_meet.Goals as goal
 pub returns : goal.returns
 returns c = λ U places judged kept best order each.
     let tasks = tasks_of_places places in
-    let same = one_node_order false U (settings_lines U tasks) (order_judged judged) tasks order (comes_back U kept tasks best.best.passing.each_once) in
-    one_judged U judged (judged_of places) (same ∙ sym (judged_tasks places)) each (best_judged U places (AllTasks-from_set U kept) best)
+    let same = one_node_order false U (settings_lines U tasks) (order_judged judged) tasks order
+    (comes_back U kept tasks best.best.passing.each_once) in
+    one_judged U judged (judged_of places) (same ∙ sym (judged_tasks places)) each
+    (best_judged U places (AllTasks-from_set U kept) best)

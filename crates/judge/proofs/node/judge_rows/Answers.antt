@@ -15,27 +15,42 @@ in_set U order each = ((order_iff (length U) order).1 each).0
 
 pub judge_order-requires-clause-within : goal.judge_order-requires-clause-within
 judge_order-requires-clause-within c =
-    subst (λ (order : List ℕ). All (λ i. i < length c.args.set.now) order) (sym c.deref.ensures.value) (in_set c.args.set.now c.in_ok-order.order.items c.in_ok-order.ensures.by_numbers.each_once)
+    subst (λ (order : List ℕ). All (λ i. i < length c.args.set.now) order)
+    (sym c.deref.ensures.value)
+    (in_set c.args.set.now c.in_ok-order.order.items c.in_ok-order.ensures.by_numbers.each_once)
 
 pub numbers_of-requires : goal.numbers_of-requires
 numbers_of-requires c =
-    subst (λ (order : List ℕ). All (λ i. i < length c.args.set.now) order) (sym c.deref-2.ensures.value) (in_set c.args.set.now c.in_ok-order.order.items c.in_ok-order.ensures.by_numbers.each_once)
+    subst (λ (order : List ℕ). All (λ i. i < length c.args.set.now) order)
+    (sym c.deref-2.ensures.value)
+    (in_set c.args.set.now c.in_ok-order.order.items c.in_ok-order.ensures.by_numbers.each_once)
 
 pub returns-clause-judged : goal.returns-clause-judged
 returns-clause-judged c =
     let same = c.in_ok-judged.ensures.order ∙ c.deref.ensures.value in (
-      subst (λ (os : List ℕ). IsOrderOfRows c.args.lower_is_higher c.args.set.now c.args.rows.now os) (sym same) c.in_ok-order.ensures,
+      subst (λ (os : List ℕ). IsOrderOfRows c.args.lower_is_higher c.args.set.now c.args.rows.now
+          os) (sym same) c.in_ok-order.ensures,
       c.in_ok-judged.ensures.judged,
     )
 
 pub returns-clause-numbers : goal.returns-clause-numbers
 returns-clause-numbers c =
     let same = c.in_ok-judged.ensures.order ∙ c.deref.ensures.value in
-    c.in_ok-numbers.ensures ∙ ap (λ (os : List ℕ). map (thread_number c.args.set.now (threads_of c.args.rows.now)) os) (c.deref-2.ensures.value ∙ sym same)
+    c.in_ok-numbers.ensures
+    ∙ ap (λ (os : List ℕ). map (thread_number c.args.set.now (threads_of c.args.rows.now)) os)
+    (c.deref-2.ensures.value ∙ sym same)
 
 pub returns-clause-within : goal.returns-clause-within
 returns-clause-within c = λ k d lt.
     let judged : List JudgedTask = c.in_ok-judged.judged.items in
     let same = c.in_ok-judged.ensures.order ∙ c.deref.ensures.value in
-    let each = subst (λ (order : List ℕ). IsOrder c.args.set.now order) (sym same) c.in_ok-order.ensures.by_numbers.each_once in
-    omega (arith, in_set c.args.set.now (order_judged judged) each k 0 (omega (arith, lt, length-map judged (λ (j : JudgedTask). j.task))), get_or-map (λ (j : JudgedTask). j.task) judged k d 0 lt, c.requires.few)
+    let each = subst (λ (order : List ℕ). IsOrder c.args.set.now order) (sym same)
+    c.in_ok-order.ensures.by_numbers.each_once in
+    omega (
+      arith,
+      in_set c.args.set.now (order_judged judged) each k 0
+          (omega (arith, lt, length-map judged (λ (j : JudgedTask). j.task))),
+      get_or-map
+          (λ (j : JudgedTask). j.task) judged k d 0 lt,
+      c.requires.few,
+    )

@@ -12,24 +12,33 @@ use Rattle.judge.proofs.OrderLaws.{node_order}
 use Rattle.judge.proofs.node.judge_settings.Goals as goal
 
 -- what becomes of the rows of a text becomes of the text
-module _ (U : List Task) (text : List ℕ) (rows : List SettingRow) (read : rows_in text ≡ Ok rows) where
+module _ (U : List Task) (text : List ℕ) (rows : List SettingRow)
+    (read : rows_in text ≡ Ok rows) where
   judged_of_text : (lower : Bool) (answer : Result JudgedNode SettingsFault)
-      → MatchResult answer (λ node. IsOrderOfRows lower U rows (order_judged node.judged.items) × AllJudged U node.judged.items) (λ e. IsSettingsFault e (rows_fault lower U (Ok rows)))
-      → MatchResult answer (λ node. IsNodeOrderBy lower U text (order_judged node.judged.items) × AllJudged U node.judged.items) (λ e. IsSettingsFault e (settings_fault_by lower U text))
-  judged_of_text lower (Ok node) is = (node_order lower U text rows (order_judged node.judged.items) read is.0, is.1)
-  judged_of_text lower (Err e) is = subst (λ found. IsSettingsFault e (rows_fault lower U found)) (sym read) is
+      → MatchResult answer (λ node. IsOrderOfRows lower U rows (order_judged node.judged.items)
+      × AllJudged U node.judged.items) (λ e. IsSettingsFault e (rows_fault lower U (Ok rows)))
+      → MatchResult answer (λ node. IsNodeOrderBy lower U text (order_judged node.judged.items)
+      × AllJudged U node.judged.items) (λ e. IsSettingsFault e (settings_fault_by lower U text))
+  judged_of_text lower (Ok node) is =
+      (node_order lower U text rows (order_judged node.judged.items) read is.0, is.1)
+  judged_of_text lower (Err e) is =
+      subst (λ found. IsSettingsFault e (rows_fault lower U found)) (sym read) is
 
-  numbers_of_text : (answer : Result JudgedNode SettingsFault) → IfOk answer (λ node. AreNumbersOf U rows (order_judged node.judged.items) node.numbers.items)
-      → IfOk answer (λ node. AreNumbersIn U text (order_judged node.judged.items) node.numbers.items)
+  numbers_of_text : (answer : Result JudgedNode SettingsFault) → IfOk answer
+      (λ node. AreNumbersOf U rows (order_judged node.judged.items) node.numbers.items)
+      → IfOk answer
+      (λ node. AreNumbersIn U text (order_judged node.judged.items) node.numbers.items)
   numbers_of_text (Ok node) is = record { rows = rows; read = read; each = is }
   numbers_of_text (Err e) is = tt
 
 pub returns-clause-judged : goal.returns-clause-judged
 returns-clause-judged c =
     let is = rw c.deref.ensures.value at c.judge_rows.ensures.judged in
-    judged_of_text c.args.set.now c.args.text.now c.in_ok-rows.rows.items c.in_ok-rows.ensures c.args.lower_is_higher c.judge_rows.result is
+    judged_of_text c.args.set.now c.args.text.now c.in_ok-rows.rows.items c.in_ok-rows.ensures
+    c.args.lower_is_higher c.judge_rows.result is
 
 pub returns-clause-numbers : goal.returns-clause-numbers
 returns-clause-numbers c =
     let is = rw c.deref.ensures.value at c.judge_rows.ensures.numbers in
-    numbers_of_text c.args.set.now c.args.text.now c.in_ok-rows.rows.items c.in_ok-rows.ensures c.judge_rows.result is
+    numbers_of_text c.args.set.now c.args.text.now c.in_ok-rows.rows.items c.in_ok-rows.ensures
+    c.judge_rows.result is

@@ -3,4 +3,5 @@ use Rattle.judge.specs.Rows.{turned}
 use Rattle.judge.proofs.rows.all_turned.Given as goal
 
 abbrev pub invariant-loop-setting : goal.invariant-loop-setting
-invariant-loop-setting l = l.all.items ++ map turned (drop l.setting-index l.settings) ≡ map turned l.fn.settings
+invariant-loop-setting l =
+    l.all.items ++ map turned (drop l.setting-index l.settings) ≡ map turned l.fn.settings

@@ -7,5 +7,8 @@ use Rattle.judge.proofs.settings_fault.mutexless.Goals as goal
 
 pub returns : goal.returns
 returns c =
-    let some : 0 < length c.args.mutexes.now = grind (arith, nat_tests, c.is_empty.ensures, c.if-is_empty.false) in
-    c.first_lock.ensures (λ lock. not (is_set c.args.mutexes.now lock)) (λ lock answer gives. search rules) ∙ mutexless_some (locks_of c.args.set.now) c.args.mutexes.now some
+    let some : 0 < length c.args.mutexes.now =
+    grind (arith, nat_tests, c.is_empty.ensures, c.if-is_empty.false) in
+    c.first_lock.ensures (λ lock. not (is_set c.args.mutexes.now lock))
+    (λ lock answer gives. search rules)
+    ∙ mutexless_some (locks_of c.args.set.now) c.args.mutexes.now some

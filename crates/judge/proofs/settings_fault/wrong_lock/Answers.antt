@@ -10,5 +10,7 @@ returns c =
     let U = c.args.set.now in
     let threads = c.args.settings.now.threads.items in
     let mutexes = c.args.settings.now.mutexes.items in
-    let some : 0 < length mutexes = grind (arith, nat_tests, c.is_empty.ensures, c.if-is_empty.false) in
-    c.first_lock.ensures (λ lock. not (setting_number mutexes lock == top_number U threads lock)) (λ lock answer gives. search rules) ∙ wrong_some U (locks_of U) threads mutexes some
+    let some : 0 < length mutexes =
+    grind (arith, nat_tests, c.is_empty.ensures, c.if-is_empty.false) in
+    c.first_lock.ensures (λ lock. not (setting_number mutexes lock == top_number U threads lock))
+    (λ lock answer gives. search rules) ∙ wrong_some U (locks_of U) threads mutexes some

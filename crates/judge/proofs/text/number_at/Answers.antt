@@ -3,4 +3,5 @@ use Rattle.judge.proofs.TextLaws.{copied_at}
 use Rattle.judge.proofs.text.number_at.Goals as goal
 
 pub returns : goal.returns
-returns c = c.copied.ensures ∙ copied_at c.args.numbers.now c.args.place c.get.result c.get.ensures.lookup
+returns c = c.copied.ensures
+    ∙ copied_at c.args.numbers.now c.args.place c.get.result c.get.ensures.lookup

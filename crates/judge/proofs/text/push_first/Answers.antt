@@ -10,4 +10,6 @@ returns c =
     let judged = c.args.judged.now in
     let some : all_meet judged ≡ false = sym c.all_meet.ensures ∙ c.if-all_meet.false in
     let line : meets_line U judged ≡ missed_line U (missed_of judged) = rw some refl in
-    subst (λ (line : List ℕ). OnOk c.push_missed.result (string_bytes c.push_missed.new.text ≡ string_bytes c.args.text.now ++ line)) (ap (missed_line U) c.missed_of.ensures ∙ sym line) c.push_missed.ensures
+    subst (λ (line : List ℕ). OnOk c.push_missed.result
+    (string_bytes c.push_missed.new.text ≡ string_bytes c.args.text.now ++ line))
+    (ap (missed_line U) c.missed_of.ensures ∙ sym line) c.push_missed.ensures

@@ -7,7 +7,8 @@ use Rattle.limit_lines.proofs.text.in_order.Goals as goal
 
 pub furthest_in_order-requires-clause-passing : goal.furthest_in_order-requires-clause-passing
 furthest_in_order-requires-clause-passing c =
-    let placing = subst (λ (p : Placing). HasPassing c.args.set.now p) c.in-Best.is c.requires.placing in
+    let placing =
+    subst (λ (p : Placing). HasPassing c.args.set.now p) c.in-Best.is c.requires.placing in
     let order = c.requires.order ∙ ap order_in c.in-Best.is in
     subst (λ (o : List ℕ). IsPassingOrder c.args.set.now o) (sym order) placing
 
@@ -16,5 +17,7 @@ returns-in_ok-value-in-Best c =
     let U = c.args.set.now in
     let value : ℕ = c.in_ok-value-in-Best.value in
     let order = c.requires.order ∙ ap order_in c.in-Best.is in
-    let furthest = subst (λ (o : List ℕ). IsFurthestIn U o c.args.task c.args.number value) order c.in_ok-value-in-Best.ensures in
-    subst (λ (p : Placing). AnswersIn U (places_in p) c.args.task c.args.number (Some value)) (sym c.in-Best.is) furthest
+    let furthest = subst (λ (o : List ℕ). IsFurthestIn U o c.args.task c.args.number value) order
+    c.in_ok-value-in-Best.ensures in
+    subst (λ (p : Placing). AnswersIn U (places_in p) c.args.task c.args.number (Some value))
+    (sym c.in-Best.is) furthest

@@ -14,8 +14,11 @@ overflow_mul-result c =
     let items = c.sections.result.now in
     let same = c.sections.ensures in
     let inside : k < length t.sections = subst (λ n. HasNumber t n) c.in-Len.is c.requires.has in
-    let within : k < length items = omega (arith, inside, ap (λ (xs : List CriticalSection). length xs) same) in
-    let are : AreSections 0 t.cost items = subst (λ (xs : List CriticalSection). AreSections 0 t.cost xs) (sym same) c.requires.valid.sections in
+    let within : k < length items =
+    omega (arith, inside, ap (λ (xs : List CriticalSection). length xs) same) in
+    let are : AreSections 0 t.cost items =
+    subst (λ (xs : List CriticalSection). AreSections 0 t.cost xs) (sym same)
+    c.requires.valid.sections in
     let few = locks-few 0 t.cost items k x are within c.index-sections-place.is in
     let count : c.len.result ≡ length x.locks = search rules in
     let time : node.lock * c.len.result ≡ calls node x = ap (λ n. node.lock * n) count in

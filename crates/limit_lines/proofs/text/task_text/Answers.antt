@@ -11,6 +11,9 @@ loop-place-preserved c =
     let k = c.loop-place.place in
     let front : List ℕ = string_bytes c.loop-place.text in
     let line : List ℕ = string_bytes c.in_ok-line.line in
-    let said : string_bytes c.push_str.new.self ≡ front ++ line = c.in_ok-push_str.ensures.bytes ∙ ap (λ (t : List ℕ). front ++ t) c.as_str.ensures.value in
-    let is : IsNumberLine U places i (number_at k) line = subst (λ n. IsNumberLine U places i n line) c.number_at.ensures c.in_ok-line.ensures in
-    subst (λ (t : List ℕ). AreNumberLines U places i (k + 1) t) (sym said) (lines_more U places i k front line c.loop-place.invariant is)
+    let said : string_bytes c.push_str.new.self ≡ front ++ line = c.in_ok-push_str.ensures.bytes
+    ∙ ap (λ (t : List ℕ). front ++ t) c.as_str.ensures.value in
+    let is : IsNumberLine U places i (number_at k) line =
+    subst (λ n. IsNumberLine U places i n line) c.number_at.ensures c.in_ok-line.ensures in
+    subst (λ (t : List ℕ). AreNumberLines U places i (k + 1) t) (sym said)
+    (lines_more U places i k front line c.loop-place.invariant is)

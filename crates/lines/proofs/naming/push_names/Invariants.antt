@@ -4,4 +4,5 @@ use Rattle.lines.specs.Naming.{named}
 use Rattle.lines.proofs.naming.push_names.Given as goal
 
 abbrev pub invariant-loop-task : goal.invariant-loop-task
-invariant-loop-task l = string_bytes l.text ≡ string_bytes l.fn.text ++ named l.set (listed_below l.task (indexes_of l.fn.tasks))
+invariant-loop-task l = string_bytes l.text ≡ string_bytes l.fn.text
+    ++ named l.set (listed_below l.task (indexes_of l.fn.tasks))

@@ -4,4 +4,5 @@ use Rattle.observed.specs.End.{last_of}
 use Rattle.observed.proofs.end.last_time.Given as goal
 
 abbrev pub invariant-loop-job : goal.invariant-loop-job
-invariant-loop-job l = max l.last (greatest_of last_of (drop l.job-index l.jobs)) ≡ greatest_of last_of l.jobs
+invariant-loop-job l =
+    max l.last (greatest_of last_of (drop l.job-index l.jobs)) ≡ greatest_of last_of l.jobs

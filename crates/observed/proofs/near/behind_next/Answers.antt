@@ -6,4 +6,5 @@ use Rattle.observed.proofs.near.behind_next.Goals as goal
 pub returns-else-time-reached : goal.returns-else-time-reached
 returns-else-time-reached c =
     c.behind-else-time-reached.ensures ∙ ap (behind c.args.time) c.requires
-    ∙ behind-behind c.args.reached c.args.time c.args.pieces.now (omega (arith, c.if-time-reached.false))
+    ∙ behind-behind c.args.reached c.args.time c.args.pieces.now
+    (omega (arith, c.if-time-reached.false))

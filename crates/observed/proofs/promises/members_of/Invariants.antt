@@ -5,4 +5,5 @@ use Rattle.observed.proofs.promises.members_of.Given as goal
 
 abbrev pub invariant-loop-place : goal.invariant-loop-place
 invariant-loop-place l =
-    (k : ℕ) → (indexes_of l.members k || among (tasks_of_places (drop l.place-index l.places)) k) ≡ among (tasks_of_places l.places) k
+    (k : ℕ) → (indexes_of l.members k || among (tasks_of_places (drop l.place-index l.places)) k)
+    ≡ among (tasks_of_places l.places) k

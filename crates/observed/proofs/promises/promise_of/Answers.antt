@@ -9,7 +9,8 @@ use Rattle.observed.proofs.PlaceLaws.{places-within, sheet-at}
 use Rattle.observed.proofs.promises.promise_of.Goals as goal
 
 pub members_of-requires : goal.members_of-requires
-members_of-requires c = places-within (length c.args.set.now) 32 c.args.above.now c.requires.table.few c.requires.others
+members_of-requires c =
+    places-within (length c.args.set.now) 32 c.args.above.now c.requires.table.few c.requires.others
 
 pub returns : goal.returns
 returns c =
@@ -17,8 +18,13 @@ returns c =
     let own : PlaceData = c.args.place.now in
     let r : Task = c.index-sheets-place.result in
     let task : c.place.inside.task ≡ own.task = ap (λ (q : PlaceData). q.task) c.place.view_is in
-    let response : c.place.inside.response ≡ own.response = ap (λ (q : PlaceData). q.response) c.place.view_is in
-    let sheet : r ≡ task_at U own.task = sheet-at U c.sheets.result.now c.place.inside.task own.task r c.sheets.ensures.same task c.requires.task c.index-sheets-place.is in
-    let time : c.blocking-time.result ≡ blocking_of U own.task (among (tasks_of_places c.args.above.now)) = c.blocking-time.ensures.is ∙ ap₂ (λ (n : ℕ) (X : Indexes). blocking_of U n X) task c.members_of.ensures in
-    c.promised.ensures ∙ ap (λ (t : Task). promised t c.blocking-time.result c.place.inside.response) sheet
+    let response : c.place.inside.response ≡ own.response =
+    ap (λ (q : PlaceData). q.response) c.place.view_is in
+    let sheet : r ≡ task_at U own.task = sheet-at U c.sheets.result.now c.place.inside.task own.task
+    r c.sheets.ensures.same task c.requires.task c.index-sheets-place.is in
+    let time : c.blocking-time.result ≡ blocking_of U own.task
+    (among (tasks_of_places c.args.above.now)) = c.blocking-time.ensures.is
+    ∙ ap₂ (λ (n : ℕ) (X : Indexes). blocking_of U n X) task c.members_of.ensures in
+    c.promised.ensures
+    ∙ ap (λ (t : Task). promised t c.blocking-time.result c.place.inside.response) sheet
     ∙ ap₂ (λ (b n : ℕ). promised (task_at U own.task) b n) time response

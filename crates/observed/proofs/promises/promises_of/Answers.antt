@@ -12,9 +12,12 @@ loop-place-preserved c =
     let above = c.in-Some.above.now in
     let before : List Promise = c.loop-place.promises.items in
     let same : c.loop-place.rest.now ≡ p ∷ above = c.in-Some.ensures.cases.0 in
-    let whole = ap (λ (ps : List PlaceData). before ++ promises_of U ps) (sym same) ∙ c.loop-place.invariant.whole in
-    let pushed = ap (λ (ps : List Promise). ps ++ promises_of U above) (c.in_ok-push.ensures.items ∙ ap (λ (x : Promise). before ++ x ∷ []) c.promise_of.ensures) in
+    let whole = ap (λ (ps : List PlaceData). before ++ promises_of U ps) (sym same)
+    ∙ c.loop-place.invariant.whole in
+    let pushed = ap (λ (ps : List Promise). ps ++ promises_of U above) (c.in_ok-push.ensures.items
+    ∙ ap (λ (x : Promise). before ++ x ∷ []) c.promise_of.ensures) in
     record {
       tasks = rest-within _ c.loop-place.rest.now above p same c.loop-place.invariant.tasks;
-      whole = pushed ∙ (append_assoc before (promise_of U p above ∷ []) (promises_of U above) ∙ whole);
+      whole = pushed
+          ∙ (append_assoc before (promise_of U p above ∷ []) (promises_of U above) ∙ whole);
     }

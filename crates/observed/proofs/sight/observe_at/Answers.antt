@@ -15,8 +15,10 @@ use Rattle.observed.proofs.sight.observe_at.Goals as goal
 pub observe_places-requires-clause-tasks : goal.observe_places-requires-clause-tasks
 observe_places-requires-clause-tasks c =
     let U = c.args.set.now in
-    let placing : IsBestPlacing U c.in-Best.places.items = subst (IsPlacingOf U) c.in-Best.is c.in_ok-members.ensures in
-    subst (λ (ps : List PlaceData). All (λ (p : PlaceData). p.task < length U) ps) (sym c.deref.ensures.value) (best-within U c.in-Best.places.items placing)
+    let placing : IsBestPlacing U c.in-Best.places.items =
+    subst (IsPlacingOf U) c.in-Best.is c.in_ok-members.ensures in
+    subst (λ (ps : List PlaceData). All (λ (p : PlaceData). p.task < length U) ps)
+    (sym c.deref.ensures.value) (best-within U c.in-Best.places.items placing)
 
 pub returns-in_err-observed-in-Best : goal.returns-in_err-observed-in-Best
 returns-in_err-observed-in-Best c =
@@ -24,11 +26,16 @@ returns-in_err-observed-in-Best c =
     let places = c.in-Best.places.items in
     let lines = c.in_ok-trace.trace in
     let found : Result (List TraceRow) ℕ = rows_at c.args.at.line c.args.at.rest.now in
-    let placing : IsBestPlacing U places = subst (IsPlacingOf U) c.in-Best.is c.in_ok-members.ensures in
+    let placing : IsBestPlacing U places =
+    subst (IsPlacingOf U) c.in-Best.is c.in_ok-members.ensures in
     let e = c.in_err-observed-in-Best.field-0.0 in
-    let why : IsTraceFault e (observed_fault (promises_of U places) lines) = subst (λ (ps : List PlaceData). IsTraceFault e (observed_fault (promises_of U ps) lines)) c.deref.ensures.value c.in_err-observed-in-Best.ensures in
-    let shown = fault-shown U found places lines e (record { best = placing; read = c.in_ok-trace.ensures }) why in
-    let p = err_from_is_err_and c.from_residual-in_err-observed-in-Best.result c.from_residual-in_err-observed-in-Best.ensures.1 in
+    let why : IsTraceFault e (observed_fault (promises_of U places) lines) =
+    subst (λ (ps : List PlaceData). IsTraceFault e (observed_fault (promises_of U ps) lines))
+    c.deref.ensures.value c.in_err-observed-in-Best.ensures in
+    let shown = fault-shown U found places lines e
+    (record { best = placing; read = c.in_ok-trace.ensures }) why in
+    let p = err_from_is_err_and c.from_residual-in_err-observed-in-Best.result
+    c.from_residual-in_err-observed-in-Best.ensures.1 in
     rw (p.1, p.2) shown
 
 pub returns : goal.returns
@@ -36,8 +43,11 @@ returns c =
     let U = c.args.set.now in
     let places = c.in-Best.places.items in
     let lines = c.in_ok-trace.trace in
-    let placing : IsBestPlacing U places = subst (IsPlacingOf U) c.in-Best.is c.in_ok-members.ensures in
-    let shown : IsShownAt U places lines c.in_ok-observed-in-Best.observed = subst (λ (ps : List PlaceData). IsShownAt U ps lines c.in_ok-observed-in-Best.observed) c.deref.ensures.value c.in_ok-observed-in-Best.ensures in
+    let placing : IsBestPlacing U places =
+    subst (IsPlacingOf U) c.in-Best.is c.in_ok-members.ensures in
+    let shown : IsShownAt U places lines c.in_ok-observed-in-Best.observed =
+    subst (λ (ps : List PlaceData). IsShownAt U ps lines c.in_ok-observed-in-Best.observed)
+    c.deref.ensures.value c.in_ok-observed-in-Best.ensures in
     record {
       places = places;
       lines = lines;

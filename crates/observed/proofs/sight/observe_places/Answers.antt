@@ -10,18 +10,24 @@ pub returns-in_err-seen : goal.returns-in_err-seen
 returns-in_err-seen c =
     let places = c.args.places.now in
     let trace = c.args.trace.now in
-    let same : c.deref.result.now ≡ promises_of c.args.set.now places = c.deref.ensures.value ∙ c.in_ok-promises.ensures in
+    let same : c.deref.result.now ≡ promises_of c.args.set.now places = c.deref.ensures.value
+    ∙ c.in_ok-promises.ensures in
     let e = c.in_err-seen.field-0.0 in
-    let why : IsTraceFault e (observed_fault (promises_of c.args.set.now places) trace) = subst (λ (ps : List Promise). IsTraceFault e (observed_fault ps trace)) same c.in_err-seen.ensures in
-    let p = err_from_is_err_and c.from_residual-in_err-seen.result c.from_residual-in_err-seen.ensures.1 in
+    let why : IsTraceFault e (observed_fault (promises_of c.args.set.now places) trace) =
+    subst (λ (ps : List Promise). IsTraceFault e (observed_fault ps trace)) same
+    c.in_err-seen.ensures in
+    let p = err_from_is_err_and c.from_residual-in_err-seen.result
+    c.from_residual-in_err-seen.ensures.1 in
     rw (p.1, p.2) why
 
 pub returns : goal.returns
 returns c =
     let trace = c.args.trace.now in
-    let same : c.deref.result.now ≡ promises_of c.args.set.now c.args.places.now = c.deref.ensures.value ∙ c.in_ok-promises.ensures in
+    let same : c.deref.result.now ≡ promises_of c.args.set.now c.args.places.now =
+    c.deref.ensures.value ∙ c.in_ok-promises.ensures in
     record {
       promises = c.in_ok-promises.ensures;
-      housed = ap (λ (ps : List Promise). observed_fault ps trace) (sym same) ∙ c.in_ok-seen.ensures.0;
+      housed = ap (λ (ps : List Promise). observed_fault ps trace) (sym same)
+          ∙ c.in_ok-seen.ensures.0;
       seen = c.in_ok-seen.ensures.1 ∙ ap (λ (ps : List Promise). observed_in ps trace) same;
     }

@@ -2,4 +2,5 @@ use Rattle.streams.proofs.Puts.{puts_both}
 use Rattle.picture.proofs.ground.put_title.Goals as goal
 
 pub returns : goal.returns
-returns g c = puts_both (puts_both c.in_ok-put.ensures c.in_ok-put_title_head.ensures) c.put_title_words.ensures
+returns g c = puts_both (puts_both c.in_ok-put.ensures c.in_ok-put_title_head.ensures)
+    c.put_title_words.ensures

@@ -6,5 +6,7 @@ use Rattle.picture.proofs.ground.put_top.Goals as goal
 
 pub returns : goal.returns
 returns g c =
-    let verdict = puts_same (λ (n : ℕ). verdict_text c.args.chart.now.title.now n) c.all_missed.ensures c.in_ok-put_verdict.ensures in
-    puts_both (puts_both (puts_both c.in_ok-put_style.ensures verdict) c.in_ok-put_what.ensures) c.put_legend.ensures
+    let verdict = puts_same (λ (n : ℕ). verdict_text c.args.chart.now.title.now n)
+    c.all_missed.ensures c.in_ok-put_verdict.ensures in
+    puts_both (puts_both (puts_both c.in_ok-put_style.ensures verdict) c.in_ok-put_what.ensures)
+    c.put_legend.ensures

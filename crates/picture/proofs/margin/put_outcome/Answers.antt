@@ -7,6 +7,10 @@ use Rattle.picture.proofs.margin.put_outcome.Goals as goal
 pub returns : goal.returns
 returns g c =
     let jobs = c.args.jobs.now in
-    let done : c.outcome_of-outcome.result.done ≡ length (done_of c.args.row.now.sheet.name jobs) = c.outcome_of-outcome.ensures.done ∙ ap (λ n. length (done_of n jobs)) c.name.ensures.same in
-    let greatest : c.outcome_of-outcome.result.greatest ≡ greatest_of response_of (done_of c.args.row.now.sheet.name jobs) = c.outcome_of-outcome.ensures.greatest ∙ ap (λ n. greatest_of response_of (done_of n jobs)) c.name.ensures.same in
-    rw (← done) (rw (← greatest) (puts_both (puts_both c.in_ok-write.ensures.put c.in_ok-put_greatest.ensures) c.write-2.ensures.put))
+    let done : c.outcome_of-outcome.result.done ≡ length (done_of c.args.row.now.sheet.name jobs) =
+    c.outcome_of-outcome.ensures.done ∙ ap (λ n. length (done_of n jobs)) c.name.ensures.same in
+    let greatest : c.outcome_of-outcome.result.greatest ≡ greatest_of response_of
+    (done_of c.args.row.now.sheet.name jobs) = c.outcome_of-outcome.ensures.greatest
+    ∙ ap (λ n. greatest_of response_of (done_of n jobs)) c.name.ensures.same in
+    rw (← done) (rw (← greatest) (puts_both
+    (puts_both c.in_ok-write.ensures.put c.in_ok-put_greatest.ensures) c.write-2.ensures.put))

@@ -5,4 +5,5 @@ use Rattle.picture.specs.Titles.{shown_at}
 use Rattle.picture.proofs.title.put_bytes.Given as goal
 
 abbrev pub invariant-loop-i : goal.invariant-loop-i
-invariant-loop-i g l = Puts g.W.Write.contents l.fn.out l.out (Ok tt) (each l.i (shown_at l.fn.bytes))
+invariant-loop-i g l =
+    Puts g.W.Write.contents l.fn.out l.out (Ok tt) (each l.i (shown_at l.fn.bytes))

@@ -8,4 +8,6 @@ use Rattle.picture.proofs.title.put_title_head.Goals as goal
 pub returns : goal.returns
 returns g c =
     let title = c.args.title.now in
-    puts_same (λ (b : Bool). if b then [] else shown_bytes title ++ codes ": ") (sym c.if-is_empty.false ∙ c.is_empty.ensures) (puts_both c.in_ok-put_bytes.ensures c.put.ensures)
+    puts_same (λ (b : Bool). if b then [] else shown_bytes title ++ codes ": ")
+    (sym c.if-is_empty.false ∙ c.is_empty.ensures)
+    (puts_both c.in_ok-put_bytes.ensures c.put.ensures)

@@ -1,4 +1,5 @@
 use Rattle.reasons.proofs.blocker.executed_at.Goals as goal
 
 pub returns : goal.returns
-returns c = rw (← c.slice_at-slice.ensures) (rw (← c.executed_in-executed.ensures) c.executed_by.ensures)
+returns c =
+    rw (← c.slice_at-slice.ensures) (rw (← c.executed_in-executed.ensures) c.executed_by.ensures)

@@ -5,4 +5,5 @@ use Rattle.reasons.proofs.blocker.first_raised.Given as goal
 
 abbrev pub invariant-loop-lock : goal.invariant-loop-lock
 invariant-loop-lock l =
-    find (is_raised l.fn.rows l.fn.k) (drop l.lock-index l.locks) ≡ find (is_raised l.fn.rows l.fn.k) l.fn.locks
+    find (is_raised l.fn.rows l.fn.k) (drop l.lock-index l.locks)
+    ≡ find (is_raised l.fn.rows l.fn.k) l.fn.locks

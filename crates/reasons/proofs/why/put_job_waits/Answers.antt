@@ -14,8 +14,11 @@ returns-in-Some g c =
     let rows = chart.rows.now in
     let shown = chart.shown.now in
     let spot = c.in-Some.spot in
-    let text : Stay → Spot → List ℕ = λ stay s. stay_text chart.frame chart.locks.now rows shown chart.jobs.now chart.slices.now stay s in
+    let text : Stay → Spot → List ℕ = λ stay s. stay_text chart.frame chart.locks.now rows shown
+    chart.jobs.now chart.slices.now stay s in
     let stay = stay_of chart.frame chart.releases.now chart.jobs.now c.args.j in
-    let named = c.spot_of.ensures.spot ∙ ap (λ (name : List ℕ). spot_named rows shown name) c.name_of-name.ensures in
-    puts_on_spot (λ (s : Spot) (row : TaskRow). text stay s) rows shown (record_at chart.jobs.now c.args.j).name c.spot_of.result spot named c.in-Some.is
+    let named = c.spot_of.ensures.spot
+    ∙ ap (λ (name : List ℕ). spot_named rows shown name) c.name_of-name.ensures in
+    puts_on_spot (λ (s : Spot) (row : TaskRow). text stay s) rows shown
+    (record_at chart.jobs.now c.args.j).name c.spot_of.result spot named c.in-Some.is
     (puts_same (λ (s : Stay). text s spot) c.stay_of.ensures c.put_stay.ensures)

@@ -10,12 +10,20 @@ loop-n-init g c =
     let chart = c.args.chart.now in
     let stay = c.args.stay in
     let past = c.args.past in
-    let text = nth_wait_text chart.frame chart.locks.now chart.rows.now chart.shown.now chart.jobs.now chart.slices.now stay c.args.spot in
-    let none = each_none text past.count (λ m lt. quiet chart.frame chart.locks.now chart.rows.now chart.shown.now chart.jobs.now chart.slices.now stay c.args.spot m (omega (arith, lt, c.requires.within)) (inl (omega (arith, c.requires.ended m lt, c.requires.before)))) in
-    puts_same (λ (t : List ℕ). t) (each_none text 0 (λ m lt. absurd (omega (arith, lt))) ∙ sym none) (puts_none g.W.Write.contents c.args.out.now text)
+    let text = nth_wait_text chart.frame chart.locks.now chart.rows.now chart.shown.now
+    chart.jobs.now chart.slices.now stay c.args.spot in
+    let none = each_none text past.count
+    (λ m lt. quiet chart.frame chart.locks.now chart.rows.now chart.shown.now chart.jobs.now
+    chart.slices.now stay c.args.spot m (omega (arith, lt, c.requires.within))
+    (inl (omega (arith, c.requires.ended m lt, c.requires.before)))) in
+    puts_same (λ (t : List ℕ). t) (each_none text 0 (λ m lt. absurd (omega (arith, lt))) ∙ sym none)
+    (puts_none g.W.Write.contents c.args.out.now text)
 
 pub loop-n-preserved : goal.loop-n-preserved
-loop-n-preserved g c = puts_one_more (nth_wait_text c.args.chart.now.frame c.args.chart.now.locks.now c.args.chart.now.rows.now c.args.chart.now.shown.now c.args.chart.now.jobs.now c.args.chart.now.slices.now c.args.stay c.args.spot) c.loop-n.n c.loop-n.invariant c.in_ok-put_nth_wait.ensures
+loop-n-preserved g c = puts_one_more (nth_wait_text c.args.chart.now.frame
+    c.args.chart.now.locks.now c.args.chart.now.rows.now c.args.chart.now.shown.now
+    c.args.chart.now.jobs.now c.args.chart.now.slices.now c.args.stay c.args.spot) c.loop-n.n
+    c.loop-n.invariant c.in_ok-put_nth_wait.ensures
 
 pub returns-then-is_behind : goal.returns-then-is_behind
 returns-then-is_behind g c =
@@ -23,7 +31,11 @@ returns-then-is_behind g c =
     let stay = c.args.stay in
     let slices = chart.slices.now in
     let n = c.loop-n.n in
-    let text = nth_wait_text chart.frame chart.locks.now chart.rows.now chart.shown.now chart.jobs.now slices stay c.args.spot in
+    let text = nth_wait_text chart.frame chart.locks.now chart.rows.now chart.shown.now
+    chart.jobs.now slices stay c.args.spot in
     let rise = c.is_behind.ensures.rises c.if-is_behind.true in
     let done = c.is_behind.ensures.done c.if-is_behind.true in
-    puts_same (λ (t : List ℕ). t) (each_rest text n (length slices) (omega (arith, c.loop-n-test.true)) (λ m lo hi. quiet chart.frame chart.locks.now chart.rows.now chart.shown.now chart.jobs.now slices stay c.args.spot m hi (inr (omega (arith, done, rises_between slices 0 n m rise lo hi))))) c.loop-n.invariant
+    puts_same (λ (t : List ℕ). t) (each_rest text n (length slices)
+    (omega (arith, c.loop-n-test.true)) (λ m lo hi. quiet chart.frame chart.locks.now
+    chart.rows.now chart.shown.now chart.jobs.now slices stay c.args.spot m hi
+    (inr (omega (arith, done, rises_between slices 0 n m rise lo hi))))) c.loop-n.invariant

@@ -5,14 +5,19 @@ use Rattle.reasons.proofs.why.put_waits.Goals as goal
 
 pub loop-j-init : goal.loop-j-init
 loop-j-init g c = record {
-  put = puts_none g.W.Write.contents c.args.out.now (job_waits c.args.chart.now.frame c.args.chart.now.locks.now c.args.chart.now.rows.now c.args.chart.now.shown.now c.args.chart.now.releases.now c.args.chart.now.jobs.now c.args.chart.now.slices.now);
+  put = puts_none g.W.Write.contents c.args.out.now (job_waits c.args.chart.now.frame
+      c.args.chart.now.locks.now c.args.chart.now.rows.now c.args.chart.now.shown.now
+      c.args.chart.now.releases.now c.args.chart.now.jobs.now c.args.chart.now.slices.now);
   within = omega arith;
   ended = λ m lt. absurd (omega (arith, lt));
 }
 
 pub loop-j-preserved : goal.loop-j-preserved
 loop-j-preserved g c = record {
-  put = puts_one_more (job_waits c.args.chart.now.frame c.args.chart.now.locks.now c.args.chart.now.rows.now c.args.chart.now.shown.now c.args.chart.now.releases.now c.args.chart.now.jobs.now c.args.chart.now.slices.now) c.loop-j.j c.loop-j.invariant.put c.in_ok-put_job_waits.ensures;
+  put = puts_one_more (job_waits c.args.chart.now.frame c.args.chart.now.locks.now
+      c.args.chart.now.rows.now c.args.chart.now.shown.now c.args.chart.now.releases.now
+      c.args.chart.now.jobs.now c.args.chart.now.slices.now) c.loop-j.j c.loop-j.invariant.put
+      c.in_ok-put_job_waits.ensures;
   within = c.past_before-past.ensures.within;
   ended = c.past_before-past.ensures.ended;
 }

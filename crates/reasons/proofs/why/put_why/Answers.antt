@@ -10,17 +10,23 @@ returns-then-is_below g c =
     let chart = c.args.chart.now in
     let spot = c.args.spot in
     let w = c.args.wait in
-    let blocked : Option (List ℕ) → List ℕ = λ lock. blocked_text chart.frame chart.locks.now chart.rows.now chart.shown.now spot w lock in
-    let above = above_text chart.frame chart.rows.now spot w (is_gathered chart.frame chart.rows.now chart.jobs.now chart.slices.now c.args.stay spot.rank c.args.n) in
+    let blocked : Option (List ℕ) → List ℕ = λ lock. blocked_text chart.frame chart.locks.now
+    chart.rows.now chart.shown.now spot w lock in
+    let above = above_text chart.frame chart.rows.now spot w (is_gathered chart.frame chart.rows.now
+    chart.jobs.now chart.slices.now c.args.stay spot.rank c.args.n) in
     let lock = blocking_lock chart.rows.now chart.slices.now spot.rank c.args.n w.start w.row in
-    puts_same (λ (b : Bool). if b then blocked lock else above) (sym c.if-is_below.true ∙ c.is_below.ensures) (puts_same blocked c.blocking_lock-lock.ensures c.put_blocked.ensures)
+    puts_same (λ (b : Bool). if b then blocked lock else above) (sym c.if-is_below.true
+    ∙ c.is_below.ensures) (puts_same blocked c.blocking_lock-lock.ensures c.put_blocked.ensures)
 
 pub returns-else-is_below : goal.returns-else-is_below
 returns-else-is_below g c =
     let chart = c.args.chart.now in
     let spot = c.args.spot in
     let w = c.args.wait in
-    let blocked = blocked_text chart.frame chart.locks.now chart.rows.now chart.shown.now spot w (blocking_lock chart.rows.now chart.slices.now spot.rank c.args.n w.start w.row) in
+    let blocked = blocked_text chart.frame chart.locks.now chart.rows.now chart.shown.now spot w
+    (blocking_lock chart.rows.now chart.slices.now spot.rank c.args.n w.start w.row) in
     let above : Bool → List ℕ = λ gathered. above_text chart.frame chart.rows.now spot w gathered in
-    let gathered = is_gathered chart.frame chart.rows.now chart.jobs.now chart.slices.now c.args.stay spot.rank c.args.n in
-    puts_same (λ (b : Bool). if b then blocked else above gathered) (sym c.if-is_below.false ∙ c.is_below.ensures) (puts_same above c.is_gathered-gathered.ensures c.put_above.ensures)
+    let gathered = is_gathered chart.frame chart.rows.now chart.jobs.now chart.slices.now
+    c.args.stay spot.rank c.args.n in
+    puts_same (λ (b : Bool). if b then blocked else above gathered) (sym c.if-is_below.false
+    ∙ c.is_below.ensures) (puts_same above c.is_gathered-gathered.ensures c.put_above.ensures)

@@ -13,7 +13,8 @@ loop-line-preserved g c =
     let hand = c.loop-line.hand in
     let lt : i < length lines = search rules in
     let next : drop i lines ≡ line ∷ drop (i + 1) lines =
-    drop_more lines i line lt ∙ ap (λ (x : TeamLine). x ∷ drop (i + 1) lines) (sym c.line-item.is) in
+    drop_more lines i line lt
+    ∙ ap (λ (x : TeamLine). x ∷ drop (i + 1) lines) (sym c.line-item.is) in
     let workers = c.args.site.now.workers in
     let is = c.in_ok-run_line.ensures in
     record {
@@ -21,5 +22,6 @@ loop-line-preserved g c =
       rest =
           λ k done.
           c.loop-line.invariant.rest k
-          (subst (λ (xs : List TeamLine). AreDone workers hand xs k) (sym next) (c.run_line.new.self, is, done));
+          (subst (λ (xs : List TeamLine). AreDone workers hand xs k) (sym next)
+          (c.run_line.new.self, is, done));
     }

@@ -4,4 +4,5 @@ use Rattle.rushes.proofs.printing.notes_text.Given as goal
 
 abbrev pub invariant-loop-last : goal.invariant-loop-last
 invariant-loop-last g l =
-    string_bytes l.text ++ all_note_lines (map (λ last. last.notes) (drop l.last-index l.teams)) ≡ all_note_lines (map (λ last. last.notes) l.teams)
+    string_bytes l.text ++ all_note_lines (map (λ last. last.notes) (drop l.last-index l.teams))
+    ≡ all_note_lines (map (λ last. last.notes) l.teams)

@@ -14,7 +14,8 @@ returns-in-Ok-close g c =
     let lines = c.args.lines.now in
     let workers = c.args.workers in
     let teams = c.in_ok-teams.teams.items in
-    let runs : AreAfter workers lines 1 8 teams = all_run workers lines (newcomers 1 8) teams (rw (c.in_ok-split.ensures, new.2, c.in_ok-teams.ensures.teams) at c.in_ok-ends.ensures) in
+    let runs : AreAfter workers lines 1 8 teams = all_run workers lines (newcomers 1 8) teams
+    (rw (c.in_ok-split.ensures, new.2, c.in_ok-teams.ensures.teams) at c.in_ok-ends.ensures) in
     let closed = c.in-Ok-close.ensures.ok in
     let book = closed_book c.in-Ok-close.closing in (
       book,
@@ -30,7 +31,8 @@ returns-in-Ok-close g c =
             (closed.receipted team low (subst (λ (n : ℕ). team ≤ n) (sym new.1) (omega arith))));
       },
       c.in_ok-log-in-Ok-close.ensures.text,
-      subst (λ (all : List Hand). string_bytes c.in_ok-notes.notes ≡ all_note_lines (map (λ last. last.notes) all)) c.deref.ensures.value c.in_ok-notes.ensures,
+      subst (λ (all : List Hand). string_bytes c.in_ok-notes.notes ≡ all_note_lines
+          (map (λ last. last.notes) all)) c.deref.ensures.value c.in_ok-notes.ensures,
     )
 
 pub unreachable-requires : goal.unreachable-requires
@@ -40,9 +42,12 @@ unreachable-requires g c =
     let workers = c.args.workers in
     let teams = c.in_ok-teams.teams.items in
     let team = c.in-MissingPass.team in
-    let runs : AreAfter workers lines 1 8 teams = all_run workers lines (newcomers 1 8) teams (rw (c.in_ok-split.ensures, new.2, c.in_ok-teams.ensures.teams) at c.in_ok-ends.ensures) in
+    let runs : AreAfter workers lines 1 8 teams = all_run workers lines (newcomers 1 8) teams
+    (rw (c.in_ok-split.ensures, new.2, c.in_ok-teams.ensures.teams) at c.in_ok-ends.ensures) in
     let missing : IsMissing c.in-Ok.desk (map (λ last. last.pass) teams) team =
     subst (λ (passes : List Known). IsMissing c.in-Ok.desk passes team) c.in_ok-passes.ensures
-    (subst (λ (cause : CloseCause). IsUnclosed c.in-Ok.desk c.in_ok-passes.passes.items cause) c.in-MissingPass.is c.in-Err.ensures.err) in
+    (subst (λ (cause : CloseCause). IsUnclosed c.in-Ok.desk c.in_ok-passes.passes.items cause)
+    c.in-MissingPass.is c.in-Err.ensures.err) in
     let within : team ≤ 8 = subst (λ (n : ℕ). team ≤ n) new.1 missing.to in
-    false≢true (sym missing.none ∙ all_there workers lines 1 8 teams runs team missing.from (omega arith))
+    false≢true (sym missing.none
+    ∙ all_there workers lines 1 8 teams runs team missing.from (omega arith))

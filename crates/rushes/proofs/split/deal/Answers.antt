@@ -1,4 +1,5 @@
-use Rattle.std.proofs.Common.{◌≡◌, ◌<◌, ◌+◌, ◌++◌, ℕ, List, [], ◌∷◌, Some, Vec, Global, length, arith, rules}
+use Rattle.std.proofs.Common.{◌≡◌, ◌<◌, ◌+◌, ◌++◌, ℕ, List, [], ◌∷◌, Some, Vec, Global, length}
+use Rattle.std.proofs.Common.{arith, rules}
 use Rattle.rushes.specs.declared.split.TeamLine as declared
 use Rattle.rushes.specs.TeamLines.{TeamLine, draft_of}
 use Rattle.rushes.proofs.SplitLaws.{given}
@@ -16,6 +17,7 @@ returns-clause-given c =
     let x : TeamLine = record { line = line; draft = c.in-Some.draft } in
     let grown : c.push.new.self.items ≡ c.index_mut.result.now.items ++ x ∷ [] = search rules in
     λ script left split.
-    given f script left line c.args.openers.now.items c.draft_of.new.openers.items c.args.parts.now.items d i
+    given f script left line c.args.openers.now.items c.draft_of.new.openers.items
+    c.args.parts.now.items d i
     c.index_mut.result.now c.push.new.self is c.in_ok-team.ensures.openers at lt
     c.index_mut.ensures.value grown split

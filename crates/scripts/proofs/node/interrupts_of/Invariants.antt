@@ -5,7 +5,8 @@ use Rattle.scripts.specs.Rows.{interrupt_in}
 use Rattle.scripts.proofs.node.interrupts_of.Given as goal
 
 abbrev pub invariant-loop-word : goal.invariant-loop-word
-invariant-loop-word l = ahead l.interrupts.items (each_in interrupt_in (slice_split (λ b. b == 43) l.rest)) ≡ each_in interrupt_in (slice_split (λ b. b == 43) l.text)
+invariant-loop-word l = ahead l.interrupts.items (each_in interrupt_in
+    (slice_split (λ b. b == 43) l.rest)) ≡ each_in interrupt_in (slice_split (λ b. b == 43) l.text)
 
 abbrev pub decreases-loop-word : goal.decreases-loop-word
 decreases-loop-word l = length l.rest

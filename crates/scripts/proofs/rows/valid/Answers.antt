@@ -8,6 +8,7 @@ pub returns-clause-gives : goal.returns-clause-gives
 returns-clause-gives c = λ all kept.
     let v = c.args.values in
     let fault = sym (first_sections v.name v.weight v.period v.deadline v.cost all)
-    ∙ ap (λ (xs : List CriticalSection). sheet_fault (task_of v.name v.weight v.period v.deadline v.cost xs)) (sym kept)
+    ∙ ap (λ (xs : List CriticalSection). sheet_fault
+    (task_of v.name v.weight v.period v.deadline v.cost xs)) (sym kept)
     ∙ c.in-Err.ensures.err in
     rw fault

@@ -5,7 +5,8 @@ use Rattle.scripts.specs.Rows.{word_names}
 use Rattle.scripts.proofs.sections.names_of.Given as goal
 
 abbrev pub invariant-loop-word : goal.invariant-loop-word
-invariant-loop-word l = ahead l.names.items (word_names (slice_split (λ b. b == 43) l.rest)) ≡ word_names (slice_split (λ b. b == 43) l.text)
+invariant-loop-word l = ahead l.names.items (word_names (slice_split (λ b. b == 43) l.rest))
+    ≡ word_names (slice_split (λ b. b == 43) l.text)
 
 abbrev pub decreases-loop-word : goal.decreases-loop-word
 decreases-loop-word l = length l.rest

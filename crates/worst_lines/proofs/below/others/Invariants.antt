@@ -4,4 +4,5 @@ use Rattle.worst_lines.specs.Below.{others_of}
 use Rattle.worst_lines.proofs.below.others.Given as goal
 
 abbrev pub invariant-loop-task : goal.invariant-loop-task
-invariant-loop-task l = l.others.items ≡ listed_below l.task (others_of l.set (indexes_of l.conflict))
+invariant-loop-task l =
+    l.others.items ≡ listed_below l.task (others_of l.set (indexes_of l.conflict))

@@ -5,8 +5,11 @@ use Rattle.worst_lines.proofs.deciding.judge_deciding.Goals as goal
 
 pub judge_order-requires-clause-within : goal.judge_order-requires-clause-within
 judge_order-requires-clause-within c =
-    subst (λ (order : List ℕ). All (λ i. i < length c.args.set.now) order) (sym c.deref.ensures.value) (in_set c.args.set.now c.in_ok-order.order.items c.in_ok-order.ensures.each_once)
+    subst (λ (order : List ℕ). All (λ i. i < length c.args.set.now) order)
+    (sym c.deref.ensures.value)
+    (in_set c.args.set.now c.in_ok-order.order.items c.in_ok-order.ensures.each_once)
 
 pub returns-clause-decides : goal.returns-clause-decides
 returns-clause-decides c =
-    subst (λ (order : List ℕ). IsDeciding c.args.set.now order) (sym (c.in_ok-judged.ensures.order ∙ c.deref.ensures.value)) c.in_ok-order.ensures
+    subst (λ (order : List ℕ). IsDeciding c.args.set.now order)
+    (sym (c.in_ok-judged.ensures.order ∙ c.deref.ensures.value)) c.in_ok-order.ensures

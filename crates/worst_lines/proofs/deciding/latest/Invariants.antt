@@ -9,6 +9,7 @@ abbrev pub invariant-loop-task : goal.invariant-loop-task
 invariant-loop-task l = record {
   inside : IfSome l.found (λ i. i < l.task);
   free : IfSome l.found (λ i. IsFree l.set (indexes_of l.left) i);
-  longest : IfSome l.found (λ i. (j : ℕ) → j < l.task → IsFree l.set (indexes_of l.left) j → limit_of (task_at l.set j) ≤ limit_of (task_at l.set i));
+  longest : IfSome l.found (λ i. (j : ℕ) → j < l.task → IsFree l.set (indexes_of l.left) j
+      → limit_of (task_at l.set j) ≤ limit_of (task_at l.set i));
   none : IfNone l.found ((j : ℕ) → j < l.task → ¬ IsFree l.set (indexes_of l.left) j);
 }

@@ -10,5 +10,7 @@ pub returns-then-has-clause-order : goal.returns-then-has-clause-order
 returns-then-has-clause-order c =
     let U = c.args.set.now in
     let C = indexes_of c.args.conflict in
-    IfOk-weaker c.order_below.result (λ order. IsOrderBelow U C c.in-Some.task order.items) (λ order. IsOrder U order.items)
-    (λ order is. below-order U C c.in-Some.task order.items c.requires.conflict.obstruction.within (sym c.has.ensures ∙ c.if-has.true) is) c.order_below.ensures
+    IfOk-weaker c.order_below.result (λ order. IsOrderBelow U C c.in-Some.task order.items)
+    (λ order. IsOrder U order.items)
+    (λ order is. below-order U C c.in-Some.task order.items c.requires.conflict.obstruction.within
+    (sym c.has.ensures ∙ c.if-has.true) is) c.order_below.ensures

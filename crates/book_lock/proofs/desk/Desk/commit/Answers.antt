@@ -11,14 +11,24 @@ pub returns-in-Ok-Overtaken : goal.returns-in-Ok-Overtaken
 returns-in-Ok-Overtaken g c =
     let may : QuestionData → Type 0 = λ q. g.G.Gate.may_shut c.args.gate.now q in
     let always : QuestionData → Type 0 = λ q. g.G.Gate.always_shuts c.args.gate.now q in
-    let h : IsRound may always c.args.draft c.args.pass.now (Ok (Overtaken c.in-Ok-Overtaken.draft c.in-Ok-Overtaken.base)) c.round.new.pass = subst (λ (x : Round). IsRound may always c.args.draft c.args.pass.now (Ok x) c.round.new.pass) c.in-Ok-Overtaken.field-0-is c.in-Ok-Overtaken.ensures in
+    let h : IsRound may always c.args.draft c.args.pass.now
+    (Ok (Overtaken c.in-Ok-Overtaken.draft c.in-Ok-Overtaken.base)) c.round.new.pass =
+    subst (λ (x : Round). IsRound may always c.args.draft c.args.pass.now (Ok x)
+    c.round.new.pass) c.in-Ok-Overtaken.field-0-is c.in-Ok-Overtaken.ensures in
     let team : c.args.draft.team ≡ c.args.pass.now.team = search rules in
     let good : ¬ IsBadCount c.args.workers = search rules in
-    commits_later may always c.args.workers c.args.draft c.in-Ok-Overtaken.draft c.in-Ok-Overtaken.base.value c.args.pass.now c.round.new.pass c.later_rounds.new.pass c.later_rounds.result team good h.0 h.1 h.2 h.4 h.5 c.later_rounds.ensures
+    commits_later may always c.args.workers c.args.draft c.in-Ok-Overtaken.draft
+    c.in-Ok-Overtaken.base.value c.args.pass.now c.round.new.pass c.later_rounds.new.pass
+    c.later_rounds.result team good h.0 h.1 h.2 h.4 h.5 c.later_rounds.ensures
 
 pub returns-in-Err : goal.returns-in-Err
 returns-in-Err g c =
     let h = c.in-Err.ensures in
     let team : c.args.draft.team ≡ c.args.pass.now.team = search rules in
-    let good : ¬ IsBadCount c.args.workers = search rules in
-    (undecided (λ (q : QuestionData). g.G.Gate.may_shut c.args.gate.now q) c.args.workers c.args.draft c.args.pass.now c.in-Err.fault.cause team good (c.args.draft.base, inl refl, h.0), h.1, h.2)
+    let good : ¬ IsBadCount c.args.workers = search rules in (
+      undecided (λ (q : QuestionData). g.G.Gate.may_shut c.args.gate.now q) c.args.workers
+          c.args.draft c.args.pass.now c.in-Err.fault.cause team good
+          (c.args.draft.base, inl refl, h.0),
+      h.1,
+      h.2,
+    )

@@ -11,11 +11,18 @@ loop-name-preserved c =
     let name = c.in-Some.name.now in
     let change = c.in-Some.change.now in
     let before = map deref_pair c.loop-name.yielded in
-    let step : c.in_ok-sheets-2.sheets.items ≡ own_change name change c.loop-name.sheets.items = search rules in
-    let more : map deref_pair (c.loop-name.yielded ++ (c.in-Some.name, c.in-Some.change) ∷ []) ≡ before ++ (name, change) ∷ [] = map-append deref_pair c.loop-name.yielded ((c.in-Some.name, c.in-Some.change) ∷ []) in
-    step ∙ ap (λ (own : List Task). own_change name change own) c.loop-name.invariant ∙ sym (own_changes-last before name change c.args.self.now) ∙ sym (ap (λ changes. own_changes changes c.args.self.now) more)
+    let step : c.in_ok-sheets-2.sheets.items ≡ own_change name change c.loop-name.sheets.items =
+    search rules in
+    let more : map deref_pair (c.loop-name.yielded ++ (c.in-Some.name, c.in-Some.change) ∷ [])
+    ≡ before ++ (name, change) ∷ [] =
+    map-append deref_pair c.loop-name.yielded ((c.in-Some.name, c.in-Some.change) ∷ []) in
+    step ∙ ap (λ (own : List Task). own_change name change own) c.loop-name.invariant
+    ∙ sym (own_changes-last before name change c.args.self.now)
+    ∙ sym (ap (λ changes. own_changes changes c.args.self.now) more)
 
 pub invariant_of-result : goal.invariant_of-result
 invariant_of-result c =
-    let own : IsRanked c.args.self.now = subst (λ (xs : List Task). IsRanked xs) c.self.view_is c.self.invariant in
-    subst (λ (xs : List Task). IsRanked xs) (sym c.loop-name.invariant) (IsRanked-changes (map deref_pair c.loop-name.yielded) c.args.self.now own)
+    let own : IsRanked c.args.self.now =
+    subst (λ (xs : List Task). IsRanked xs) c.self.view_is c.self.invariant in
+    subst (λ (xs : List Task). IsRanked xs) (sym c.loop-name.invariant)
+    (IsRanked-changes (map deref_pair c.loop-name.yielded) c.args.self.now own)

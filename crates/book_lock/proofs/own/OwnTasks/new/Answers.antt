@@ -5,4 +5,5 @@ use Rattle.book_lock.proofs.RankLaws.{IsRanked-none}
 use Rattle.book_lock.proofs.own.OwnTasks.new.Goals as goal
 
 pub invariant_of-result : goal.invariant_of-result
-invariant_of-result c = subst (λ (xs : List Task). IsRanked xs) (sym c.new.ensures.items) IsRanked-none
+invariant_of-result c =
+    subst (λ (xs : List Task). IsRanked xs) (sym c.new.ensures.items) IsRanked-none

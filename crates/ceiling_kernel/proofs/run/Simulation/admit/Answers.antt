@@ -140,7 +140,8 @@ offset_bounds-tasks-task c =
     omega (
       arith,
       task_in_turn c.args.kernel.now c.args.agenda.now.releases.now
-          c.args.agenda.now.turns.now c.requires.runnable c.args.agenda.now.tasks.now c.args.self.now.next
+          c.args.agenda.now.turns.now c.requires.runnable c.args.agenda.now.tasks.now
+          c.args.self.now.next
           c.requires.tasks c.requires.next,
       few_tasks c.args.kernel.now c.args.agenda.now.releases.now
           c.args.agenda.now.turns.now c.requires.runnable,
@@ -168,7 +169,8 @@ pub index-requires : goal.index-requires
 index-requires c = omega (
   arith,
   task_in_turn c.args.kernel.now c.args.agenda.now.releases.now
-      c.args.agenda.now.turns.now c.requires.runnable c.args.agenda.now.tasks.now c.args.self.now.next
+      c.args.agenda.now.turns.now c.requires.runnable c.args.agenda.now.tasks.now
+      c.args.self.now.next
       c.requires.tasks c.requires.next,
   c.requires.running.kept.slot_count,
   c.args.self.now.slots.ok.0,
@@ -178,7 +180,8 @@ pub index_mut-requires : goal.index_mut-requires
 index_mut-requires c = omega (
   arith,
   task_in_turn c.args.kernel.now c.args.agenda.now.releases.now
-      c.args.agenda.now.turns.now c.requires.runnable c.args.agenda.now.tasks.now c.args.self.now.next
+      c.args.agenda.now.turns.now c.requires.runnable c.args.agenda.now.tasks.now
+      c.args.self.now.next
       c.requires.tasks c.requires.next,
   c.requires.running.kept.slot_count,
   c.args.self.now.slots.ok.0,

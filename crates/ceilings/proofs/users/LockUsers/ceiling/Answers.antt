@@ -10,13 +10,16 @@ loop-below-preserved c =
     let order = c.args.order.now in
     let k = c.loop-below.below in
     let i : ℕ = slice_index_or order k 0 in
-    let next : c.if-has.highest ≡ cond c.has.result (Some (k + 1)) c.loop-below.highest = elim c.if-has.branch [
+    let next : c.if-has.highest ≡ cond c.has.result (Some (k + 1)) c.loop-below.highest =
+    elim c.if-has.branch [
       | then-has w ↦ rw (w.if-has.true) w.highest-is
       | else-has w ↦ rw (w.if-has.false) w.highest-is
     ] in
-    highest_more (indexes_of c.users-users.result) order k i c.has.result c.loop-below.highest c.if-has.highest c.loop-below-test.true
+    highest_more (indexes_of c.users-users.result) order k i c.has.result c.loop-below.highest
+    c.if-has.highest c.loop-below-test.true
     (get_or_default order k 0 i c.loop-below-test.true) c.has.ensures c.loop-below.invariant next
 
 pub returns : goal.returns
-returns c = λ U table. ceiling_found U (indexes_of c.users-users.result) c.args.lock c.args.order.now c.loop-below.below c.loop-below.highest
+returns c = λ U table. ceiling_found U (indexes_of c.users-users.result) c.args.lock
+    c.args.order.now c.loop-below.below c.loop-below.highest
     (c.users-users.ensures.uses U table) c.loop-below-test.false c.loop-below.invariant

@@ -5,5 +5,6 @@ use Rattle.ceilings.proofs.users.LockUsers.reaches.Goals as goal
 
 pub returns-clause-reaches : goal.returns-clause-reaches
 returns-clause-reaches c = λ U table.
-    let noted : c.some_uses.result ≡ some_uses c.args.self.now c.args.members c.args.section.now.locks = search rules in
+    let noted : c.some_uses.result
+    ≡ some_uses c.args.self.now c.args.members c.args.section.now.locks = search rules in
     noted ∙ reached U c.args.self.now table c.args.members c.args.section.now

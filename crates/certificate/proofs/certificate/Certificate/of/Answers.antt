@@ -5,4 +5,6 @@ use Rattle.certificate.proofs.certificate.Certificate.of.Goals as goal
 pub invariant_of-result : goal.invariant_of-result
 invariant_of-result c =
     let kept = rw c.set-set.ensures.same at c.sheets-sheets.ensures.kept in
-    rw (c.version_for-version.ensures, c.set-set.ensures.same, c.in_ok-body.ensures) (verdict-spelled (verdict_set c.args.verdict.now) kept (verdict_of c.args.verdict.now) c.set-set.ensures.verdict)
+    rw (c.version_for-version.ensures, c.set-set.ensures.same, c.in_ok-body.ensures)
+    (verdict-spelled (verdict_set c.args.verdict.now) kept (verdict_of c.args.verdict.now)
+    c.set-set.ensures.verdict)

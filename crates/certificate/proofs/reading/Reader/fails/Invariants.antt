@@ -4,7 +4,8 @@ use Rattle.certificate.proofs.LevelLoops.{onto}
 use Rattle.certificate.proofs.reading.Reader.fails.Given as goal
 
 abbrev pub invariant-loop-line : goal.invariant-loop-line
-invariant-loop-line l = onto l.fails.items (fails_from l.self.version (at_place l.at).parts l.at.line) ≡ fails_from l.self.version (at_place l.fn.at).parts l.fn.at.line
+invariant-loop-line l = onto l.fails.items (fails_from l.self.version (at_place l.at).parts
+    l.at.line) ≡ fails_from l.self.version (at_place l.fn.at).parts l.fn.at.line
 
 abbrev pub decreases-loop-line : goal.decreases-loop-line
 decreases-loop-line l = length l.at.rest.now

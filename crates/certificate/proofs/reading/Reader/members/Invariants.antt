@@ -4,4 +4,6 @@ use Rattle.certificate.proofs.ItemLoops.{with_front}
 use Rattle.certificate.proofs.reading.Reader.members.Given as goal
 
 abbrev pub invariant-loop : goal.invariant-loop
-invariant-loop l = with_front l.members.items (items_at (λ k. member_at l.self.version) (l.count - l.counter) (l.counter + 1) (at_place l.at)) ≡ members_at l.self.version l.count (at_place l.fn.at)
+invariant-loop l = with_front l.members.items
+    (items_at (λ k. member_at l.self.version) (l.count - l.counter) (l.counter + 1) (at_place l.at))
+    ≡ members_at l.self.version l.count (at_place l.fn.at)

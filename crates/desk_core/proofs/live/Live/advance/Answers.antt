@@ -5,7 +5,9 @@ use Rattle.desk_core.proofs.AdvanceLaws.{live-advanced}
 use Rattle.desk_core.proofs.live.Live.advance.Goals as goal
 
 pub invariant_of-self-2 : goal.invariant_of-self-2
-invariant_of-self-2 c = c.put_away.ensures.kept (on_base c.self.inside.draft) c.in_ok-reply.ensures.kept
+invariant_of-self-2 c =
+    c.put_away.ensures.kept (on_base c.self.inside.draft) c.in_ok-reply.ensures.kept
 
 pub returns-clause-ok : goal.returns-clause-ok
-returns-clause-ok c = live-advanced c.args.self.now (live_of c.self.inside) c.in_ok-reply.reply _ (found_of c.put_away.new.stage) c.self.view_is c.put_away.ensures.found c.in_ok-reply.ensures.ok
+returns-clause-ok c = live-advanced c.args.self.now (live_of c.self.inside) c.in_ok-reply.reply _
+    (found_of c.put_away.new.stage) c.self.view_is c.put_away.ensures.found c.in_ok-reply.ensures.ok

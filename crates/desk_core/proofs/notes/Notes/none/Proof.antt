@@ -28,9 +28,11 @@ none_spec 𝓤 𝓛 𝓜 𝓡 wired =
     let y : (walk_of 𝓛 f.ended tt c).Ghost = ((κs, qs, bounds, a, tt), g) in
     let r : Notes = record { items = [] } in
     via 𝓤 _ (fst∗ 𝓤 _ (emp 𝓤)) (
-    qed 𝓛 (raw (alive 𝓛 f.signature κs qs) ∷ ‵ (owns (types_at f.signature.params κs) a y.0.4) ∷ []) ∵
+    qed 𝓛
+    (raw (alive 𝓛 f.signature κs qs) ∷ ‵ (owns (types_at f.signature.params κs) a y.0.4) ∷ []) ∵
     enter ! 𝓣.C 𝓣.Λ code.function [] _ $ alloc_all ! (λ l. pass_all ! refl tt $
     sets ! (agg ! (no_more !)) refl (tt, tt) $ returns ! (look_at ! 0 refl) $ free_all ! refl $
     suffices ! _ (ends_at 𝓛 f.ended tt c y (vstruct vnil) r tt tt) $ says ! refl $
-    pure_i ! (made.the_row.own_val r (vstruct vnil ∷ [])) ((λ vss. (tt, tt)), tt) ((tt, (refl, tt)), tt) $
+    pure_i ! (made.the_row.own_val r (vstruct vnil ∷ [])) ((λ vss. (tt, tt)), tt)
+    ((tt, (refl, tt)), tt) $
     move ! (1 ∷ 2 ∷ 0 ∷ []) $ done !)))

@@ -57,7 +57,10 @@ with_spec 𝓤 𝓛 𝓜 𝓡 wired =
     )
     f.Key.name code.function (code.unfolded 𝓤 𝓛.H 𝓜 𝓡 wired)
     (λ κs. (shr_vals, (shr_vals, (shr_vals, tt))))
-    (λ κs. (shr_Tells (named 0) κs.0 N, (shr_Tells (named 1) κs.1.0 S, (shr_Tells (named 2) κs.1.1.0 T, tt))))
+    (λ κs. (
+      shr_Tells (named 0) κs.0 N,
+      (shr_Tells (named 1) κs.1.0 S, (shr_Tells (named 2) κs.1.1.0 T, tt)),
+    ))
     (λ κs qs bounds a g are.
     let u : Val = vptr a.0.ref_ptr.0 a.0.ref_ptr.1 in
     let v : Val = vptr a.1.0.ref_ptr.0 a.1.0.ref_ptr.1 in
@@ -67,11 +70,14 @@ with_spec 𝓤 𝓛 𝓜 𝓡 wired =
     let r : Notes =
     record { items = found_after a.0.now.items (asked_of a.1.0.now.value.question) a.1.1.0.now } in
     via 𝓤 _ (fst∗ 𝓤 _ (emp 𝓤)) (
-    qed 𝓛 (raw (alive 𝓛 f.signature κs qs) ∷ ‵ (owns (types_at f.signature.params κs) a y.0.4) ∷ []) ∵
+    qed 𝓛
+    (raw (alive 𝓛 f.signature κs qs) ∷ ‵ (owns (types_at f.signature.params κs) a y.0.4) ∷ []) ∵
     enter ! 𝓣.C 𝓣.Λ code.function (u ∷ v ∷ w ∷ []) _ $
     alloc_all ! (λ l. pass_all ! refl ((tt, tt), ((tt, tt), ((tt, tt), tt))) $
     sets ! (agg ! (no_more !)) refl (tt, tt) $ returns ! (look_at ! 0 refl) $ free_all ! refl $
-    suffices ! _ (ends_at 𝓛 f.ended stayed c y (vstruct vnil) r (tt, (tt, (tt, tt))) (tt, (tt, (tt, tt)))) $
+    suffices ! _
+    (ends_at 𝓛 f.ended stayed c y (vstruct vnil) r (tt, (tt, (tt, tt))) (tt, (tt, (tt, tt)))) $
     says ! refl $
-    pure_i ! (made.the_row.own_val r (vstruct vnil ∷ [])) ((λ vss. (tt, tt)), tt) ((tt, (refl, tt)), tt) $
+    pure_i ! (made.the_row.own_val r (vstruct vnil ∷ [])) ((λ vss. (tt, tt)), tt)
+    ((tt, (refl, tt)), tt) $
     move ! (1 ∷ 2 ∷ 0 ∷ []) $ done !)))

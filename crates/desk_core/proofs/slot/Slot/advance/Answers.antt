@@ -8,6 +8,9 @@ pub returns-clause-ok : goal.returns-clause-ok
 returns-clause-ok c =
     let now : slot_of c.grow.new.kept ≡ c.args.self.now = c.grow.ensures.same ∙ c.self.view_is in
     elim c.match-self.branch [
-      | in-Grown w ↦ rw (w.result-is, w.self-inside-is) (slot-advanced c.args.self.now w.deref_mut.result.now w.advance.new.self w.advance.result (sym now ∙ ap slot_of w.in-Grown.is ∙ ap (λ l. Some l) (sym w.deref_mut.ensures.value)) w.advance.ensures.ok)
-      | in-Nothing w ↦ rw (w.result-is, w.self-inside-is) (none-advanced c.args.self.now (slot_of c.grow.new.kept) (sym now ∙ ap slot_of w.in-Nothing.is) (ap slot_of w.in-Nothing.is))
+      | in-Grown w ↦ rw (w.result-is, w.self-inside-is) (slot-advanced c.args.self.now
+          w.deref_mut.result.now w.advance.new.self w.advance.result (sym now ∙ ap slot_of
+          w.in-Grown.is ∙ ap (λ l. Some l) (sym w.deref_mut.ensures.value)) w.advance.ensures.ok)
+      | in-Nothing w ↦ rw (w.result-is, w.self-inside-is) (none-advanced c.args.self.now (slot_of
+          c.grow.new.kept) (sym now ∙ ap slot_of w.in-Nothing.is) (ap slot_of w.in-Nothing.is))
     ]

@@ -15,10 +15,13 @@ pub invariant_of-result : goal.invariant_of-result
 unfolding at_start
 invariant_of-result c =
     let climb = c.in_ok-climb.climb in
-    let is : climb ≡ at_start c.args.set.value = c.in_ok-climb.ensures ∙ ap (λ U. at_start U) c.in_ok-clone.ensures.cases in
+    let is : climb ≡ at_start c.args.set.value = c.in_ok-climb.ensures
+    ∙ ap (λ U. at_start U) c.in_ok-clone.ensures.cases in
     record {
       tabled = subst (λ U. IsTableOf U c.in_ok-table.table) c.deref.ensures c.in_ok-table.ensures;
       present = present_of climb None;
-      progress = subst (λ (xs : List Asked). IsProgress c.args.set.value climb (present_of climb None) xs) (sym c.none.ensures) (progress-start c.args.set.value climb is);
+      progress =
+          subst (λ (xs : List Asked). IsProgress c.args.set.value climb (present_of climb None) xs)
+          (sym c.none.ensures) (progress-start c.args.set.value climb is);
       kept = λ _. refl;
     }

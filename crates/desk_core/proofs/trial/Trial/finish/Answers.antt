@@ -7,5 +7,7 @@ use Rattle.desk_core.proofs.trial.Trial.finish.Goals as goal
 pub unreachable-requires : goal.unreachable-requires
 unreachable-requires c =
     let a = c.self.inside in
-    let tested = subst (λ (x : TrialData). IsTested x.set x.found) (sym c.self.view_is) c.requires in
-    (tested-iff a.set.value a.climb c.self.invariant.present a.found.items c.self.invariant.progress).1 tested c.in-Err.ensures.0
+    let tested =
+    subst (λ (x : TrialData). IsTested x.set x.found) (sym c.self.view_is) c.requires in
+    (tested-iff a.set.value a.climb c.self.invariant.present a.found.items
+    c.self.invariant.progress).1 tested c.in-Err.ensures.0

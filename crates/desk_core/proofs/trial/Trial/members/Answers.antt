@@ -21,22 +21,31 @@ returns-in-Some c =
     let fs = c.in-Some.field-0.now in
     let same = c.self.invariant.progress.same in
     let stuck = subst (λ V. IsStuck V fs) same c.in-Some.ensures.stuck in
-    let rest = subst (λ V. tasks_of fs ≡ listed_below (length V) (indexes_of a.climb.left)) same c.in-Some.ensures.rest in
-    let valid = AllTasks-from_set U (subst (λ V. IsTaskSet V) c.deref.ensures c.sheets.ensures.kept) in
+    let rest = subst (λ V. tasks_of fs ≡ listed_below (length V) (indexes_of a.climb.left)) same
+    c.in-Some.ensures.rest in
+    let valid =
+    AllTasks-from_set U (subst (λ V. IsTaskSet V) c.deref.ensures c.sheets.ensures.kept) in
     let names : names_of U c.left.result ≡ map (λ i. (task_at U i).name) (tasks_of fs) =
-    ap (λ m. map (λ i. (task_at U i).name) (listed_below (length U) (indexes_of m))) c.left.ensures.same
+    ap (λ m. map (λ i. (task_at U i).name) (listed_below (length U) (indexes_of m)))
+    c.left.ensures.same
     ∙ ap (λ ns. map (λ i. (task_at U i).name) ns) (sym rest) in
-    subst (λ (x : TrialData). IsShown x.set (names_of x.set c.left.result)) c.self.view_is (inr (IsStuck-infeasible U valid fs stuck, (fs, stuck, names)))
+    subst (λ (x : TrialData). IsShown x.set (names_of x.set c.left.result)) c.self.view_is
+    (inr (IsStuck-infeasible U valid fs stuck, (fs, stuck, names)))
 
 pub returns-in-None : goal.returns-in-None
 returns-in-None c =
     let a = c.self.inside in
     let U = a.set.value in
     let inv = c.self.invariant in
-    let tested = subst (λ (x : TrialData). IsTested x.set x.found) (sym c.self.view_is) c.requires in
+    let tested =
+    subst (λ (x : TrialData). IsTested x.set x.found) (sym c.self.view_is) c.requires in
     let ended = (tested-iff U a.climb inv.present a.found.items inv.progress).1 tested in
     let gone = not_unfinished a.climb (sym c.in-None.ensures.some) ended in
-    let best = IsClimbing-admitted a.climb.set a.climb.left a.climb.levels c.levels.ensures.right gone in
-    let passing = subst (λ V. (order : List ℕ) × IsPassingOrder V order) inv.progress.same (order_of a.climb.levels, best.best.passing) in
-    let none : names_of U c.empty.result ≡ [] = ap (λ m. names_of U m) c.empty.ensures ∙ names-none U in
-    subst (λ (x : TrialData). IsShown x.set (names_of x.set c.empty.result)) c.self.view_is (inl (passing, none))
+    let best =
+    IsClimbing-admitted a.climb.set a.climb.left a.climb.levels c.levels.ensures.right gone in
+    let passing = subst (λ V. (order : List ℕ) × IsPassingOrder V order) inv.progress.same
+    (order_of a.climb.levels, best.best.passing) in
+    let none : names_of U c.empty.result ≡ [] = ap (λ m. names_of U m) c.empty.ensures
+    ∙ names-none U in
+    subst (λ (x : TrialData). IsShown x.set (names_of x.set c.empty.result)) c.self.view_is
+    (inl (passing, none))

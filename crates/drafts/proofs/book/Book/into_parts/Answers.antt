@@ -6,4 +6,5 @@ use Rattle.drafts.proofs.BookLaws.{version-counts}
 use Rattle.drafts.proofs.book.Book.into_parts.Goals as goal
 
 pub returns-clause-version : goal.returns-clause-version
-returns-clause-version c = subst (λ (b : Book). b.desk.version ≡ admissions b.log) c.self.view_is (version-counts (book_of c.self.inside) c.self.invariant.legal c.self.invariant.same)
+returns-clause-version c = subst (λ (b : Book). b.desk.version ≡ admissions b.log) c.self.view_is
+    (version-counts (book_of c.self.inside) c.self.invariant.legal c.self.invariant.same)

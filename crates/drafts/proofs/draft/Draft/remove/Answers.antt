@@ -9,6 +9,8 @@ invariant_of-self c =
     let a = c.self.inside in
     let made = sym c.shift_remove.ensures.entries in
     record {
-      few = subst (λ (cs : List (List ℕ × Change)). length cs ≤ 64) made (dropped-few c.args.name a.changes.entries c.self.invariant.few);
-      named = subst AreNamed made (dropped-named c.args.name a.changes.entries c.self.invariant.named);
+      few = subst (λ (cs : List (List ℕ × Change)). length cs ≤ 64) made
+          (dropped-few c.args.name a.changes.entries c.self.invariant.few);
+      named =
+          subst AreNamed made (dropped-named c.args.name a.changes.entries c.self.invariant.named);
     }

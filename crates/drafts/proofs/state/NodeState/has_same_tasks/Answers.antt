@@ -14,11 +14,17 @@ returns-then-is_same c =
     let b = c.other.inside in
     let set = sym c.set.ensures ∙ c.is_same.ensures.0 c.if-is_same.true ∙ c.set-2.ensures in
     let mine : c.as_slice.result.now ≡ teams_of c.args.self.now.tasks =
-    c.as_slice.ensures.value ∙ sym (teams_of-owned a.assignment.value.set a.teams.items c.self.invariant) ∙ ap (λ (d : MachineState). teams_of d.tasks) c.self.view_is in
+    c.as_slice.ensures.value
+    ∙ sym (teams_of-owned a.assignment.value.set a.teams.items c.self.invariant)
+    ∙ ap (λ (d : MachineState). teams_of d.tasks) c.self.view_is in
     let theirs : c.as_slice-then-is_same.result.now ≡ teams_of c.args.other.now.tasks =
-    c.as_slice-then-is_same.ensures.value ∙ sym (teams_of-owned b.assignment.value.set b.teams.items c.other.invariant) ∙ ap (λ (d : MachineState). teams_of d.tasks) c.other.view_is in
-    let decides = slice_eq-Decides unsigned_Decides c.as_slice.result.now c.as_slice-then-is_same.result.now c.eq.result c.eq.ensures in (
-      λ yes. same-tasks c.args.self.now.tasks c.args.other.now.tasks set (sym mine ∙ decides.0 yes ∙ theirs),
+    c.as_slice-then-is_same.ensures.value
+    ∙ sym (teams_of-owned b.assignment.value.set b.teams.items c.other.invariant)
+    ∙ ap (λ (d : MachineState). teams_of d.tasks) c.other.view_is in
+    let decides = slice_eq-Decides unsigned_Decides c.as_slice.result.now
+    c.as_slice-then-is_same.result.now c.eq.result c.eq.ensures in (
+      λ yes. same-tasks c.args.self.now.tasks c.args.other.now.tasks set
+          (sym mine ∙ decides.0 yes ∙ theirs),
       λ same. decides.1 (mine ∙ ap teams_of same ∙ sym theirs),
     )
 

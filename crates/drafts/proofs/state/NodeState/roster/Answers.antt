@@ -9,5 +9,6 @@ pub returns-clause-roster : goal.returns-clause-roster
 returns-clause-roster c =
     let sheets = c.sheets.ensures.same ∙ c.set.ensures.same ∙ ap (λ x. x.set) c.deref.ensures in
     let same = ap length c.deref-2.ensures.value ∙ c.self.invariant ∙ sym (ap length sheets) in
-    let set = ap set_of c.in_ok-tasks.ensures ∙ set_of-owned c.sheets.result.now c.deref-2.result.now same ∙ c.sheets.ensures.same in
+    let set = ap set_of c.in_ok-tasks.ensures
+    ∙ set_of-owned c.sheets.result.now c.deref-2.result.now same ∙ c.sheets.ensures.same in
     roster-of_set c.in_ok-tasks.tasks.items (subst IsTaskSet (sym set) c.sheets.ensures.kept)

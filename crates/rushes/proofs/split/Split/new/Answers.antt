@@ -1,4 +1,5 @@
-use Rattle.std.proofs.Common.{◌≡◌, ◌<◌, ◌∙◌, ◌+◌, ◌-◌, List, ◌∷◌, Vec, Global, drop, length, map, refl, sym, ap, subst, rules}
+use Rattle.std.proofs.Common.{◌≡◌, ◌<◌, ◌∙◌, ◌+◌, ◌-◌, List, ◌∷◌, Vec, Global, drop, length, map}
+use Rattle.std.proofs.Common.{refl, sym, ap, subst, rules}
 use Rattle.std.proofs.lemmas.List.{drop_more}
 use Rattle.scripts.specs.declared.line.Line.{Line}
 use Rattle.rushes.specs.declared.split.TeamLine as declared
@@ -15,7 +16,11 @@ loop-line-init c =
       count = c.in_ok-parts.ensures.count;
       split =
           λ team low high.
-          rw (c.new-openers.ensures.items, empty_part items_of c.in_ok-parts.parts.items (team - 1) c.in_ok-parts.ensures.empty)
+          rw (
+            c.new-openers.ensures.items,
+            empty_part items_of c.in_ok-parts.parts.items (team - 1)
+                c.in_ok-parts.ensures.empty,
+          )
           refl;
     }
 
@@ -25,12 +30,14 @@ loop-line-preserved c =
     let i = c.loop-line.line-index in
     let lt : i < length script = search rules in
     let next : drop i script ≡ c.line-item.result ∷ drop (i + 1) script =
-    drop_more script i c.line-item.result lt ∙ ap (λ (x : Line). x ∷ drop (i + 1) script) (sym c.line-item.is) in
+    drop_more script i c.line-item.result lt
+    ∙ ap (λ (x : Line). x ∷ drop (i + 1) script) (sym c.line-item.is) in
     record {
       count = c.deal.ensures.count;
       split =
           c.in_ok-deal.ensures.given script (drop (i + 1) script)
           (subst
-          (λ (left : List Line). IsSplit script left c.loop-line.openers.items (map items_of c.loop-line.parts.items))
+          (λ (left : List Line). IsSplit script left c.loop-line.openers.items
+          (map items_of c.loop-line.parts.items))
           next c.loop-line.invariant.split);
     }

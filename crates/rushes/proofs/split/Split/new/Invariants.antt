@@ -7,5 +7,6 @@ use Rattle.rushes.proofs.split.Split.new.Given as goal
 abbrev pub invariant-loop-line : goal.invariant-loop-line
 invariant-loop-line l = record {
   count : length l.parts.items ≡ TEAM_LIMIT;
-  split : IsSplit l.script (drop l.line-index l.script) l.openers.items (map (λ p. p.items) l.parts.items);
+  split : IsSplit l.script (drop l.line-index l.script) l.openers.items
+      (map (λ p. p.items) l.parts.items);
 }
