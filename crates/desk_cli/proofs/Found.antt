@@ -7,20 +7,20 @@ use Rattle.command_line.specs.declared.calls.Options.{Options}
 use Rattle.command_line.specs.declared.calls.OfTwo.{OfTwo}
 use Rattle.command_line.specs.declared.calls.OfTwo.TheVariants as command
 use Rattle.desk_cli.specs.Found.{FindsIn, found_said, found_status}
-use Rattle.desk_cli.specs.Keep.{keeping_lines}
-use Rattle.desk_cli.specs.Outcomes.{failed_read}
-use Rattle.desk_cli.specs.Printed.{IsPrinted}
-use Rattle.desk_cli.specs.Refusals.{refusal_line, status_of}
+use Rattle.two_input_commands.specs.Keep.{keeping_lines}
+use Rattle.answering.specs.Outcomes.{failed_read}
+use Rattle.answering.specs.Printed.{IsPrinted}
+use Rattle.answering.specs.Refusals.{refusal_line, status_of}
 use Rattle.desk_cli.specs.Saying.{SaysOfBoth}
-use Rattle.desk_cli.specs.Commands.{preference_of}
-use Rattle.desk_cli.specs.Owning.{HaveOwned}
-use Rattle.desk_cli.specs.Sets.{HaveBoth}
-use Rattle.desk_cli.specs.Simulate.{SaysSimulation}
+use Rattle.answering.specs.Chosen.{preference_of}
+use Rattle.answering.specs.Owning.{HaveOwned}
+use Rattle.answering.specs.Sets.{HaveBoth}
+use Rattle.two_input_commands.specs.Simulate.{SaysSimulation}
 use Rattle.desk_cli.specs.declared.of_two.Found.{Found}
 use Rattle.desk_cli.specs.declared.of_two.Found.TheVariants.{Shown, Compared, Judged, Simulated, Reached, Drawn, Observed, Keeping, WorstAt, ExplainedAt, LimitedAt}
-use Rattle.desk_cli.specs.declared.refusal.CommandRefusal.{CommandRefusal}
-use Rattle.desk_cli.specs.declared.refusal.CommandRefusal.TheVariants as refusal
-use Rattle.desk_cli.specs.declared.status.Status.{Status}
+use Rattle.answering.specs.declared.refusal.CommandRefusal.{CommandRefusal}
+use Rattle.answering.specs.declared.refusal.CommandRefusal.TheVariants as refusal
+use Rattle.answering.specs.declared.status.Status.{Status}
 use Rattle.desk_cli.proofs.Refused.{two_refused}
 
 -- no text is refused as an input that was not read

@@ -7,17 +7,18 @@ use Rattle.command_line.specs.declared.calls.OfTwo.{OfTwo}
 use Rattle.command_line.specs.declared.calls.OfTwo.TheVariants.{Check, Judge, Diff, Simulate, Draw, Observe, Keep, WorstAt, ExplainAt, LimitsAt}
 use Rattle.command_line.specs.declared.calls.Options.{Options}
 use Rattle.task_sheet.specs.declared.prefer.Preference.{Preference}
-use Rattle.desk_cli.specs.Commands.{OneSays, TwoSay, preference_of, task_of}
-use Rattle.desk_cli.specs.OneTask.{AnswersOfTask, SaysPart}
-use Rattle.desk_cli.specs.declared.one_task.TaskPart.{TaskPart}
-use Rattle.desk_cli.specs.declared.one_task.TaskPart.TheVariants as part
-use Rattle.desk_cli.specs.Simulate.{SaysSimulation}
+use Rattle.desk_cli.specs.Commands.{OneSays, TwoSay}
+use Rattle.answering.specs.Chosen.{preference_of, task_of}
+use Rattle.set_commands.specs.OneTask.{AnswersOfTask, SaysPart}
+use Rattle.set_commands.specs.declared.one_task.TaskPart.{TaskPart}
+use Rattle.set_commands.specs.declared.one_task.TaskPart.TheVariants as part
+use Rattle.two_input_commands.specs.Simulate.{SaysSimulation}
 use Rattle.desk_cli.specs.Saying.{IsRefusalOf}
-use Rattle.desk_cli.specs.Refusals.{refusal_line, status_of}
-use Rattle.desk_cli.specs.Sets.{HasNoSet, HaveNotBoth}
-use Rattle.desk_cli.specs.declared.refusal.CommandRefusal.{CommandRefusal}
-use Rattle.desk_cli.specs.declared.refusal.CommandRefusal.TheVariants as refusal
-use Rattle.desk_cli.specs.declared.status.Status.{Status}
+use Rattle.answering.specs.Refusals.{refusal_line, status_of}
+use Rattle.answering.specs.Sets.{HasNoSet, HaveNotBoth}
+use Rattle.answering.specs.declared.refusal.CommandRefusal.{CommandRefusal}
+use Rattle.answering.specs.declared.refusal.CommandRefusal.TheVariants as refusal
+use Rattle.answering.specs.declared.status.Status.{Status}
 
 module _ (before after : Option (List ℕ)) (s : Status) (r : CommandRefusal) (wrote : Appends before after (refusal_line r)) (is : s ≡ status_of r) where
   no_set : (part : TaskPart) (word : List ℕ) (preference : Option Preference) (known : Option (List ℕ)) (r : CommandRefusal) → HasNoSet known r

@@ -1,55 +1,28 @@
 -- What each command says of what its readers have.
-use Rattle.std.specs.Prelude.{ℕ, List, Option, Some, None, min, option_map}
-use Rattle.task_sheet.specs.declared.prefer.Preference.{Preference}
-use Rattle.task_sheet.specs.declared.prefer.Preference.TheVariants as preference
-use Rattle.command_line.specs.declared.calls.TheConstants.{MOST_PRIORITY}
+use Rattle.std.specs.Prelude.{ℕ, List, Option}
 use Rattle.command_line.specs.declared.calls.Options.{Options}
-use Rattle.command_line.specs.declared.calls.Preferred.{Preferred}
-use Rattle.command_line.specs.declared.calls.Preferred.TheVariants as preferred
 use Rattle.command_line.specs.declared.calls.OfOne.{OfOne}
 use Rattle.command_line.specs.declared.calls.OfOne.TheVariants.{Admit, Certify, Limits, Settings, Explain, Worst, Play}
 use Rattle.command_line.specs.declared.calls.OfTwo.{OfTwo}
 use Rattle.command_line.specs.declared.calls.OfTwo.TheVariants.{Check, Judge, Diff, Simulate, Draw, Observe, Keep, WorstAt, ExplainAt, LimitsAt}
-use Rattle.desk_cli.specs.Admit.{Says, admit_lines}
-use Rattle.desk_cli.specs.Certify.{certificate_lines}
-use Rattle.desk_cli.specs.Check.{SaysChecked}
-use Rattle.desk_cli.specs.Diff.{SaysCompared}
-use Rattle.desk_cli.specs.Draw.{SaysDrawn}
-use Rattle.desk_cli.specs.ExplainAt.{SaysExplainedAt}
-use Rattle.desk_cli.specs.Judge.{SaysJudged}
-use Rattle.desk_cli.specs.LimitsAt.{SaysLimitsAt}
-use Rattle.desk_cli.specs.Observe.{SaysObserved, tolerance_of}
-use Rattle.desk_cli.specs.Keep.{SaysKeeping}
-use Rattle.desk_cli.specs.OneTask.{SaysPart}
-use Rattle.desk_cli.specs.Play.{SaysPlayed}
-use Rattle.desk_cli.specs.Settings.{settings_of}
-use Rattle.desk_cli.specs.Simulate.{SaysSimulation}
-use Rattle.desk_cli.specs.WorstAt.{SaysWorstAt}
-use Rattle.desk_cli.specs.declared.one_task.TaskPart.TheVariants as part
-use Rattle.desk_cli.specs.declared.status.Status.{Status}
-
--- what a call prefers, where its words say so
-abbrev pub preferred_by : Option Preferred → Option Preference
-preferred_by (Some preferred.Deadline) = Some preference.Deadline
-preferred_by (Some preferred.Weight) = Some preference.Weights
-preferred_by None = None
-
--- the same of what a call's words choose
-abbrev pub preference_of : Options → Option Preference
-preference_of options = preferred_by options.prefer
-
--- a priority that words choose for level 1, else 1; they choose none above the greatest
-abbrev pub base_chosen : Option ℕ → ℕ
-base_chosen (Some base) = min base MOST_PRIORITY
-base_chosen None = 1
-
--- the same of what a call's words choose
-abbrev pub base_of : Options → ℕ
-base_of options = base_chosen options.base
-
--- the word that names the task that is asked about
-abbrev pub task_of : Options → Option (List ℕ)
-task_of options = option_map (λ word. word.now) options.task
+use Rattle.set_commands.specs.Admit.{Says, admit_lines}
+use Rattle.set_commands.specs.Certify.{certificate_lines}
+use Rattle.two_input_commands.specs.Check.{SaysChecked}
+use Rattle.two_input_commands.specs.Diff.{SaysCompared}
+use Rattle.two_input_commands.specs.Draw.{SaysDrawn}
+use Rattle.two_input_commands.specs.ExplainAt.{SaysExplainedAt}
+use Rattle.two_input_commands.specs.Judge.{SaysJudged}
+use Rattle.two_input_commands.specs.LimitsAt.{SaysLimitsAt}
+use Rattle.two_input_commands.specs.Observe.{SaysObserved, tolerance_of}
+use Rattle.two_input_commands.specs.Keep.{SaysKeeping}
+use Rattle.set_commands.specs.OneTask.{SaysPart}
+use Rattle.script_commands.specs.Play.{SaysPlayed}
+use Rattle.set_commands.specs.Settings.{settings_of}
+use Rattle.two_input_commands.specs.Simulate.{SaysSimulation}
+use Rattle.two_input_commands.specs.WorstAt.{SaysWorstAt}
+use Rattle.set_commands.specs.declared.one_task.TaskPart.TheVariants as part
+use Rattle.answering.specs.declared.status.Status.{Status}
+use Rattle.answering.specs.Chosen.{base_of, preference_of, task_of}
 
 -- what the writer held, what it holds then, and the status, are those of the command's answer on what a reader has, by
 -- what the words choose

@@ -8,24 +8,24 @@ use Rattle.owners.specs.declared.owner.Owner.{Owner}
 use Rattle.command_line.specs.declared.calls.OfTwo.{OfTwo}
 use Rattle.command_line.specs.declared.calls.OfTwo.TheVariants as command
 use Rattle.judge.specs.Lines.{judged_lines}
-use Rattle.desk_cli.specs.Check.{ChecksText, checked_line}
-use Rattle.desk_cli.specs.Admit.{placing_status}
-use Rattle.desk_cli.specs.Commands.{base_of, preference_of, task_of}
-use Rattle.desk_cli.specs.Diff.{ComparesText, compared_lines}
-use Rattle.desk_cli.specs.Draw.{DrawsText, drawing_said}
-use Rattle.desk_cli.specs.ExplainAt.{ExplainsText, explained_at_lines}
-use Rattle.desk_cli.specs.Judge.{JudgesText, judged_status}
-use Rattle.desk_cli.specs.LimitsAt.{LimitsText}
-use Rattle.desk_cli.specs.Observe.{IsObservationOf, ObservesText, observation_said, observation_status, tolerance_of}
-use Rattle.desk_cli.specs.Printed.{IsPrinted}
-use Rattle.desk_cli.specs.Simulate.{IsInOrder, SimulatesText, reached_said, simulation_said, simulation_status}
+use Rattle.two_input_commands.specs.Check.{ChecksText, checked_line}
+use Rattle.answering.specs.Statuses.{placing_status}
+use Rattle.answering.specs.Chosen.{base_of, preference_of, task_of}
+use Rattle.two_input_commands.specs.Diff.{ComparesText, compared_lines}
+use Rattle.two_input_commands.specs.Draw.{DrawsText, drawing_said}
+use Rattle.two_input_commands.specs.ExplainAt.{ExplainsText, explained_at_lines}
+use Rattle.two_input_commands.specs.Judge.{JudgesText, judged_status}
+use Rattle.two_input_commands.specs.LimitsAt.{LimitsText}
+use Rattle.two_input_commands.specs.Observe.{IsObservationOf, ObservesText, observation_said, observation_status, tolerance_of}
+use Rattle.answering.specs.Printed.{IsPrinted}
+use Rattle.two_input_commands.specs.Simulate.{IsInOrder, SimulatesText, reached_said, simulation_said, simulation_status}
 use Rattle.desk_cli.specs.declared.of_two.Found.{Found}
 use Rattle.desk_cli.specs.declared.of_two.Found.TheVariants.{Shown, Compared, Judged, Simulated, Reached, Drawn, Observed, Keeping, WorstAt, ExplainedAt, LimitedAt}
-use Rattle.desk_cli.specs.Keep.{IsKeptIn, KeepsText, keeping_lines, keeping_status}
-use Rattle.desk_cli.specs.WorstAt.{WorstsText}
-use Rattle.desk_cli.specs.declared.refusal.CommandRefusal.{CommandRefusal}
-use Rattle.desk_cli.specs.declared.status.Status.{Status}
-use Rattle.desk_cli.specs.declared.status.Status.TheVariants.{Done}
+use Rattle.two_input_commands.specs.Keep.{IsKeptIn, KeepsText, keeping_lines, keeping_status}
+use Rattle.two_input_commands.specs.WorstAt.{WorstsText}
+use Rattle.answering.specs.declared.refusal.CommandRefusal.{CommandRefusal}
+use Rattle.answering.specs.declared.status.Status.{Status}
+use Rattle.answering.specs.declared.status.Status.TheVariants.{Done}
 
 -- the answer of a command on a set and a text
 abbrev pub FindsIn : OfTwo → Options → List Task → List ℕ → Result Found CommandRefusal → Type 0

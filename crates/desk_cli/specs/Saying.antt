@@ -6,12 +6,13 @@ use Rattle.owners.specs.declared.owner.Owner.{Owner}
 use Rattle.command_line.specs.declared.calls.OfOne.{OfOne}
 use Rattle.command_line.specs.declared.calls.OfOne.TheVariants.{Certify, Play}
 use Rattle.command_line.specs.declared.calls.OfTwo.{OfTwo}
-use Rattle.desk_cli.specs.Commands.{OneSays, TwoSay, preference_of}
-use Rattle.desk_cli.specs.Play.{Scripts}
-use Rattle.desk_cli.specs.Sets.{HasNoSet}
-use Rattle.desk_cli.specs.Owning.{HasOwned, HaveOwned}
-use Rattle.desk_cli.specs.declared.refusal.CommandRefusal.{CommandRefusal}
-use Rattle.desk_cli.specs.declared.status.Status.{Status}
+use Rattle.desk_cli.specs.Commands.{OneSays, TwoSay}
+use Rattle.answering.specs.Chosen.{preference_of}
+use Rattle.script_commands.specs.Play.{Scripts}
+use Rattle.answering.specs.Sets.{HasNoSet}
+use Rattle.answering.specs.Owning.{HasOwned, HaveOwned}
+use Rattle.answering.specs.declared.refusal.CommandRefusal.{CommandRefusal}
+use Rattle.answering.specs.declared.status.Status.{Status}
 
 -- why a command of one input has no answer
 abbrev pub IsRefusalOf : OfOne → Option (List ℕ) → CommandRefusal → Type 0

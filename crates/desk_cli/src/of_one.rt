@@ -3,20 +3,17 @@ ghost use Rattle.task_sheet.specs.TaskSet.{IsTaskSet};
 ghost use Rattle.assignment.specs.Placings.{IsPlacingOf};
 ghost use Rattle.desk_cli.specs.Commands.{OneSays};
 ghost use Rattle.desk_cli.specs.Saying.{IsOfPlacing, SaysOfSet};
-ghost use Rattle.desk_cli.specs.Outcomes.{IsCarriedOut, IsSaidOn};
+ghost use Rattle.answering.specs.Outcomes.{IsCarriedOut, IsSaidOn};
 
-use crate::admit::{decide, place, placing_status};
-use crate::answer::{OrderPart, placing_text};
-use crate::audience::Audience;
-use crate::certify::print_verdict;
-use crate::one_task::{TaskPart, say_part};
-use crate::output::{print_made, refuse};
-use crate::play::{lines_of, play};
-use crate::sets::{base_of, preference_of};
-use crate::status::Status;
+use answering::{
+    Audience, OrderPart, Status, base_of, placing_status, placing_text, preference_of, print_made,
+    refuse,
+};
 use assignment::Placing;
 use command_line::{OfOne, Options};
 use owners::Owner;
+use script_commands::{lines_of, play};
+use set_commands::{TaskPart, decide, place, print_verdict, say_part};
 use std::alloc::Global;
 use std::io::{Read, Write};
 use streams::Watched;

@@ -3,25 +3,12 @@ ghost use Rattle.std.specs.Prelude.{IfOk};
 ghost use Rattle.desk_cli.specs.Commands.{TwoSay};
 ghost use Rattle.desk_cli.specs.Found.{FindsIn, IsFoundOf, PrintsFound};
 ghost use Rattle.desk_cli.specs.Saying.{SaysOfBoth};
-ghost use Rattle.desk_cli.specs.Outcomes.{IsCarriedOutOnBoth, IsSaidOn};
+ghost use Rattle.answering.specs.Outcomes.{IsCarriedOutOnBoth, IsSaidOn};
 
-use crate::admit::placing_status;
-use crate::audience::{Audience, Which};
-use crate::check::{check_text, line_of};
-use crate::diff_lines::{Compared, compare_text, compared_text};
-use crate::draw::{Drawing, draw_text, print_drawing};
-use crate::explain_at::{explain_at, explained_at_text};
-use crate::in_order::InOrder;
-use crate::judge_lines::{judge_text, judged_status};
-use crate::keep_lines::{keep_text, keeping_status, keeping_text};
-use crate::limits_at::limits_at;
-use crate::observe_lines::{Observation, observe_text, print_observation, tolerance_of};
-use crate::output::{print, print_bytes, print_made, refuse};
-use crate::refusal::CommandRefusal;
-use crate::sets::{base_of, preference_of, read_two, tell};
-use crate::simulate::{Simulated, print_reached, print_simulated, simulate_text};
-use crate::status::Status;
-use crate::worst_at::worst_at;
+use answering::{
+    Audience, CommandRefusal, Status, Which, base_of, placing_status, preference_of, print,
+    print_bytes, print_made, read_two, refuse, tell,
+};
 use cert_checker::Checked;
 use command_line::{OfTwo, Options};
 use judge::{JudgedNode, judged_text};
@@ -31,6 +18,12 @@ use std::alloc::Global;
 use std::io::{Read, Write};
 use streams::Watched;
 use task_sheet::TaskSet;
+use two_input_commands::{
+    Compared, Drawing, InOrder, Observation, Simulated, check_text, checked_line, compare_text,
+    compared_text, draw_text, explain_at, explained_at_text, judge_text, judged_status, keep_text,
+    keeping_status, keeping_text, limits_at, observe_text, print_drawing, print_observation,
+    print_reached, print_simulated, simulate_text, tolerance_of, worst_at,
+};
 
 /// What a command finds of a set and a text.
 #[derive(Drop)]
@@ -114,7 +107,7 @@ fn print_found<W: Write + Drop>(
     ensures { IsSaidOn (PrintsFound owners.now tasks.now found.now) W.contents output.old output.new result }
 {
     match found {
-        Found::Shown(checked) => print(line_of(*checked), Status::Done, output),
+        Found::Shown(checked) => print(checked_line(*checked), Status::Done, output),
         Found::Compared(compared) => print_bytes(
             compared_text(alloc, owners, tasks, compared),
             placing_status(&compared.is),

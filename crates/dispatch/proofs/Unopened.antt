@@ -10,10 +10,10 @@ use Rattle.command_line.specs.declared.calls.Options.{Options}
 use Rattle.streams.specs.Watching.{WatchedData}
 use Rattle.desk_cli.specs.Commands.{OneSays, TwoSay}
 use Rattle.desk_cli.specs.Saying.{IsRefusalOf}
-use Rattle.desk_cli.specs.Outcomes.{failed_read}
-use Rattle.desk_cli.specs.Refusals.{refusal_line}
-use Rattle.desk_cli.specs.declared.status.Status.{Status}
-use Rattle.desk_cli.specs.declared.status.Status.TheVariants.{InputOrOutputFailed}
+use Rattle.answering.specs.Outcomes.{failed_read}
+use Rattle.answering.specs.Refusals.{refusal_line}
+use Rattle.answering.specs.declared.status.Status.{Status}
+use Rattle.answering.specs.declared.status.Status.TheVariants.{InputOrOutputFailed}
 use Rattle.desk_cli.proofs.Refused.{one_refused, two_refused}
 use Rattle.dispatch.specs.Running.{NumberSays}
 

@@ -1,11 +1,12 @@
 -- What a call prints and how it ends, on the inputs that it names.
 use Rattle.std.specs.Prelude.{ℕ, List, Option}
-use Rattle.desk_cli.specs.Commands.{OneSays, TwoSay, preference_of}
-use Rattle.desk_cli.specs.Releases.{SaysList}
-use Rattle.desk_cli.specs.Script.{SaysScript}
-use Rattle.desk_cli.specs.Rush.{SaysRushed}
+use Rattle.desk_cli.specs.Commands.{OneSays, TwoSay}
+use Rattle.answering.specs.Chosen.{preference_of}
+use Rattle.set_commands.specs.Releases.{SaysList}
+use Rattle.set_commands.specs.Script.{SaysScript}
+use Rattle.script_commands.specs.Rush.{SaysRushed}
 use Rattle.streams.specs.Watching.{WatchedData}
-use Rattle.desk_cli.specs.declared.status.Status.{Status}
+use Rattle.answering.specs.declared.status.Status.{Status}
 use Rattle.command_line.specs.declared.calls.Input.{Input}
 use Rattle.command_line.specs.declared.calls.Options.{Options}
 use Rattle.command_line.specs.declared.calls.OfNumber.{OfNumber}

@@ -6,8 +6,7 @@ ghost use Rattle.command_line.specs.Calls.{HasNumber};
 ghost use Rattle.command_line.specs.Commands.{least_of, most_of};
 ghost use Rattle.dispatch.specs.Running.{CallSays, MayTell, NumberSays, NumberTells};
 ghost use Rattle.streams.specs.Inputs.{IsDisturbed};
-ghost use Rattle.desk_cli.specs.Commands.{OneSays, TwoSay};
-ghost use Rattle.desk_cli.specs.Refusals.{refusal_line};
+ghost use Rattle.answering.specs.Refusals.{refusal_line};
 ghost use Rattle.dispatch.specs.Opened.{AreOpened, AreUnread, HasFailed};
 
 use command_line::{Call, Input, OfNumber, OfOne, OfTwo, Options};

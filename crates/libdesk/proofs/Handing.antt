@@ -1,8 +1,8 @@
 -- What a call answers, from what its command promises and what was handed out.
 use Rattle.std.proofs.Common.{rules, ◌≡◌, ◌≢◌, ℕ, List, [], Bool, true, false, length, Some, Option}
-use Rattle.desk_cli.specs.Statuses.{code_of}
-use Rattle.desk_cli.specs.declared.status.Status.{Status}
-use Rattle.desk_cli.specs.declared.status.Status.TheVariants.{InputOrOutputFailed}
+use Rattle.answering.specs.Statuses.{code_of}
+use Rattle.answering.specs.declared.status.Status.{Status}
+use Rattle.answering.specs.declared.status.Status.TheVariants.{InputOrOutputFailed}
 use Rattle.libdesk.specs.Answers.{AnswersCall, Fills, GivesUp, TellsCall}
 
 -- by cases of the status: of a failed write nothing is handed out, and any other shows that none has failed

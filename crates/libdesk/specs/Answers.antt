@@ -1,8 +1,8 @@
 -- What a call leaves in its caller's memory.
 use Rattle.std.specs.Prelude.{◌≡◌, ◌⊎◌, ◌<◌, ◌≤◌, ◌++◌, ℕ, List, [], Option, Some, length, drop}
-use Rattle.desk_cli.specs.Statuses.{code_of}
-use Rattle.desk_cli.specs.declared.status.Status.{Status}
-use Rattle.desk_cli.specs.declared.status.Status.TheVariants.{OutOfMemory}
+use Rattle.answering.specs.Statuses.{code_of}
+use Rattle.answering.specs.declared.status.Status.{Status}
+use Rattle.answering.specs.declared.status.Status.TheVariants.{OutOfMemory}
 
 -- a text stands at the start of a room, if it fits, and all else is as it was
 abbrev pub Fills : List ℕ → List ℕ → List ℕ → Type 0

@@ -1,11 +1,12 @@
 -- What a command says of what it is given.
 use Rattle.std.specs.Prelude.{◌≡◌, ◌⊎◌, ℕ, List, [], ◌∷◌, Option, Some, None, IsUtf8}
 use Rattle.command_line.specs.Calls.{no_options}
-use Rattle.desk_cli.specs.Commands.{OneSays, TwoSay, preference_of}
-use Rattle.desk_cli.specs.OneTask.{SaysPart}
-use Rattle.desk_cli.specs.declared.one_task.TaskPart.TheVariants as part
-use Rattle.desk_cli.specs.Releases.{SaysList}
-use Rattle.desk_cli.specs.declared.status.Status.{Status}
+use Rattle.desk_cli.specs.Commands.{OneSays, TwoSay}
+use Rattle.answering.specs.Chosen.{preference_of}
+use Rattle.set_commands.specs.OneTask.{SaysPart}
+use Rattle.set_commands.specs.declared.one_task.TaskPart.TheVariants as part
+use Rattle.set_commands.specs.Releases.{SaysList}
+use Rattle.answering.specs.declared.status.Status.{Status}
 use Rattle.libdesk.specs.declared.asked.Asked.{Asked}
 use Rattle.libdesk.specs.declared.asked.Asked.TheVariants.{One, Two, Releases, Worst}
 

@@ -1,6 +1,6 @@
 //! Handing out what a command has printed.
 ghost use Rattle.std.specs.Prelude.{◌≡◌, ◌≢◌, length};
-ghost use Rattle.desk_cli.specs.Statuses.{code_of};
+ghost use Rattle.answering.specs.Statuses.{code_of};
 ghost use Rattle.libdesk.specs.Answers.{Fills, GivesUp};
 
 use desk_cli::Status;

@@ -2,11 +2,11 @@ use Rattle.std.proofs.Common.{◌≡◌, List, Ok, Err, inl, inr, refl, sym, sub
 use Rattle.command_line.specs.declared.calls.OfOne.{OfOne}
 use Rattle.command_line.specs.declared.calls.OfOne.TheVariants.{Admit, Certify, Limits, Settings, Explain, Worst, Play}
 use Rattle.owners.specs.declared.owner.Owner.{Owner}
-use Rattle.desk_cli.specs.Commands.{preference_of}
+use Rattle.answering.specs.Chosen.{preference_of}
 use Rattle.desk_cli.specs.Saying.{IsOfPlacing}
-use Rattle.desk_cli.specs.Owning.{HasOwned}
-use Rattle.desk_cli.specs.declared.refusal.CommandRefusal.TheVariants as refusal
-use Rattle.desk_cli.proofs.CarriedOut.{carried_out, refused, said_as}
+use Rattle.answering.specs.Owning.{HasOwned}
+use Rattle.answering.specs.declared.refusal.CommandRefusal.TheVariants as refusal
+use Rattle.answering.proofs.CarriedOut.{carried_out, refused, said_as}
 use Rattle.desk_cli.proofs.Refused.{one_refused, placed_refused}
 use Rattle.desk_cli.proofs.of_one.carry_out.Goals as goal
 

@@ -2,13 +2,13 @@ use Rattle.std.proofs.Common.{◌∙◌, ℕ, List, Option, ap, sym, string_byte
 use Rattle.task_sheet.specs.Sheet.{Task}
 use Rattle.task_sheet.specs.declared.prefer.Preference.{Preference}
 use Rattle.owners.specs.declared.owner.Owner.{Owner}
-use Rattle.desk_cli.specs.Admit.{admit_lines}
-use Rattle.desk_cli.specs.Commands.{base_of, preference_of}
-use Rattle.desk_cli.specs.Owning.{HasOwned}
-use Rattle.desk_cli.specs.Sets.{HasSet}
-use Rattle.desk_cli.specs.Settings.{settings_of}
-use Rattle.desk_cli.proofs.CarriedOut.{made_printed, said_as}
-use Rattle.desk_cli.proofs.Placed.{printed_says}
+use Rattle.set_commands.specs.Admit.{admit_lines}
+use Rattle.answering.specs.Chosen.{base_of, preference_of}
+use Rattle.answering.specs.Owning.{HasOwned}
+use Rattle.answering.specs.Sets.{HasSet}
+use Rattle.set_commands.specs.Settings.{settings_of}
+use Rattle.answering.proofs.CarriedOut.{made_printed, said_as}
+use Rattle.set_commands.proofs.Placed.{printed_says}
 use Rattle.desk_cli.proofs.of_one.say_placing.Goals as goal
 
 -- a reader has the set, whosever its tasks are

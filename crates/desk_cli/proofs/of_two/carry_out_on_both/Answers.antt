@@ -1,8 +1,8 @@
 use Rattle.std.proofs.Common.{ℕ, List, sym, subst}
 use Rattle.owners.specs.declared.owner.Owner.{Owner}
-use Rattle.desk_cli.specs.Commands.{preference_of}
-use Rattle.desk_cli.specs.Owning.{HaveOwned}
-use Rattle.desk_cli.proofs.CarriedOut.{carried_out_on_both, refused_on_both, said_as}
+use Rattle.answering.specs.Chosen.{preference_of}
+use Rattle.answering.specs.Owning.{HaveOwned}
+use Rattle.answering.proofs.CarriedOut.{carried_out_on_both, refused_on_both, said_as}
 use Rattle.desk_cli.proofs.Refused.{two_refused}
 use Rattle.desk_cli.proofs.of_two.carry_out_on_both.Goals as goal
 

@@ -1,7 +1,7 @@
 use Rattle.std.proofs.Common.{Ok, Err, subst}
 use Rattle.desk_cli.specs.Found.{FindsIn}
-use Rattle.desk_cli.specs.declared.refusal.CommandRefusal.{CommandRefusal}
-use Rattle.desk_cli.proofs.CarriedOut.{refusal_said, said_as}
+use Rattle.answering.specs.declared.refusal.CommandRefusal.{CommandRefusal}
+use Rattle.answering.proofs.CarriedOut.{refusal_said, said_as}
 use Rattle.desk_cli.proofs.Found.{never_unread, printed_in, refused_in}
 use Rattle.desk_cli.proofs.of_two.say_both.Goals as goal
 

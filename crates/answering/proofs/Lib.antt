@@ -1,0 +1,2 @@
+pub mod CarriedOut
+pub mod LimitLines

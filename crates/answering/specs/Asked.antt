@@ -1,0 +1,20 @@
+-- The task that a word names.
+use Rattle.std.specs.Prelude.{ℕ, List, Option, Some, None}
+use Rattle.task_sheet.specs.Sheet.{Task}
+use Rattle.ceiling_kernel.specs.Releases.{task_named}
+use Rattle.lines.specs.Words.{name_in}
+use Rattle.answering.specs.declared.refusal.CommandRefusal.{CommandRefusal}
+use Rattle.answering.specs.declared.refusal.CommandRefusal.TheVariants as refusal
+
+-- the task of a set that has the name that a word is
+abbrev pub named_task : List Task → Option (List ℕ) → Option ℕ
+named_task U None = None
+named_task U (Some name) = task_named U name
+
+-- the same by the word
+abbrev pub asked_task : List Task → List ℕ → Option ℕ
+asked_task U word = named_task U (name_in word)
+
+-- no task has the name; where the word is no name, it isn't repeated
+abbrev pub no_such_task : List ℕ → CommandRefusal
+no_such_task word = refusal.NoSuchTask (name_in word)

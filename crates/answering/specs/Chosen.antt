@@ -1,0 +1,31 @@
+-- What the words of a call choose.
+use Rattle.std.specs.Prelude.{Option, Some, None, ℕ, min, List, option_map}
+use Rattle.task_sheet.specs.declared.prefer.Preference.{Preference}
+use Rattle.task_sheet.specs.declared.prefer.Preference.TheVariants as preference
+use Rattle.command_line.specs.declared.calls.Preferred.{Preferred}
+use Rattle.command_line.specs.declared.calls.Preferred.TheVariants as preferred
+use Rattle.command_line.specs.declared.calls.Options.{Options}
+use Rattle.command_line.specs.declared.calls.TheConstants.{MOST_PRIORITY}
+
+-- what a call prefers, where its words say so
+abbrev pub preferred_by : Option Preferred → Option Preference
+preferred_by (Some preferred.Deadline) = Some preference.Deadline
+preferred_by (Some preferred.Weight) = Some preference.Weights
+preferred_by None = None
+
+-- the same of what a call's words choose
+abbrev pub preference_of : Options → Option Preference
+preference_of options = preferred_by options.prefer
+
+-- a priority that words choose for level 1, else 1; they choose none above the greatest
+abbrev pub base_chosen : Option ℕ → ℕ
+base_chosen (Some base) = min base MOST_PRIORITY
+base_chosen None = 1
+
+-- the same of what a call's words choose
+abbrev pub base_of : Options → ℕ
+base_of options = base_chosen options.base
+
+-- the word that names the task that is asked about
+abbrev pub task_of : Options → Option (List ℕ)
+task_of options = option_map (λ word. word.now) options.task

@@ -1,0 +1,14 @@
+pub mod Asked
+pub mod Chosen
+pub mod LimitLines
+pub mod Lines
+pub mod OrderParts
+pub mod Outcomes
+pub mod Owning
+pub mod Printed
+pub mod Refusals
+pub mod ReleasesText
+pub mod Sets
+pub mod Statuses
+pub mod TextFaults
+pub mod WordsFaults

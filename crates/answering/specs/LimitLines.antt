@@ -1,0 +1,12 @@
+-- The lines of how far the numbers of the first tasks of a set may go.
+use Rattle.std.specs.Prelude.{◌≡◌, ℕ, zero, suc, List, [], ◌++◌, Option}
+use Rattle.task_sheet.specs.Sheet.{Task}
+use Rattle.assignment.specs.Places.{PlaceData}
+use Rattle.limit_lines.specs.Lines.{AreTaskLines}
+
+-- the text is the lines of the first tasks of a set, by rank
+abbrev pub AreLines : List Task → Option (List PlaceData) → ℕ → List ℕ → Type 0
+AreLines U places zero text = text ≡ []
+AreLines U places (suc k) text =
+    (front : List ℕ) × (lines : List ℕ) × AreLines U places k front × AreTaskLines U places k lines
+    × (text ≡ front ++ lines)

@@ -1,0 +1,118 @@
+//! The lines of a verdict.
+ghost use Rattle.std.specs.Prelude.{◌≡◌, ◌++◌, ◌<◌, length, OnOk, IfOk, string_bytes};
+ghost use Rattle.task_sheet.specs.Indexes.{indexes_of, listed_below};
+ghost use Rattle.answering.specs.Outcomes.{IsSaidOn};
+ghost use Rattle.answering.specs.Printed.{IsPrinted};
+ghost use Rattle.assignment.specs.Placings.{IsPlacingOf};
+ghost use Rattle.answering.specs.Lines.{admitted_lines, infeasible_line, level_line};
+ghost use Rattle.answering.specs.OrderParts.{placing_said};
+
+use crate::output::print_made;
+use crate::status::Status;
+use assignment::{Place, Placing};
+use lines::{push_name, push_names};
+use settings::settings_text;
+use std::alloc::{AllocError, Global};
+use std::io::Write;
+use streams::Watched;
+use task_sheet::{Members, TaskSet};
+
+/// How much is said of an order.
+#[derive(Clone, Copy)]
+pub enum OrderPart {
+    /// How many levels it has.
+    Count,
+    /// That, and each level, the lowest first.
+    Levels,
+    /// What a node is set to, where level 1 has this priority.
+    Settings { base: u32 },
+}
+
+// The line of a level, which has a number.
+fn push_level(
+    text: &mut String,
+    set: &TaskSet,
+    number: usize,
+    place: &Place,
+) -> Result<(), AllocError>
+    ensures { OnOk result (string_bytes text.new ≡ string_bytes text.old
+        ++ level_line set.now number place.now) }
+{
+    let response = place.response;
+    write!(text, "{number} ")?;
+    push_name(text, set, place.task)?;
+    writeln!(text, " {response}")
+}
+
+// The lines of an order, the lowest level first.
+fn admitted_text(alloc: Global, set: &TaskSet, places: &[Place]) -> Result<String, AllocError>
+    ensures { IfOk result (λ text. string_bytes text ≡ admitted_lines set.now places.now) }
+{
+    let count = places.len();
+    let mut text = format!(in alloc; "admitted {count}\n")?;
+    for (i, place) in places.iter().enumerate() {
+        push_level(&mut text, set, i + 1, place)?;
+    }
+    Ok(text)
+}
+
+/// The line of an obstruction.
+pub fn infeasible_text(alloc: Global, set: &TaskSet, members: Members) -> Result<String, AllocError>
+    ensures { IfOk result (λ text. string_bytes text
+        ≡ infeasible_line set.now (listed_below (length set.now) (indexes_of members))) }
+{
+    let mut text = String::from_str(alloc, "infeasible")?;
+    push_names(&mut text, set, members)?;
+    text.push_str("\n")?;
+    Ok(text)
+}
+
+/// So much of the order of a placing, or the line of its obstruction.
+pub fn placing_text(
+    alloc: Global,
+    part: OrderPart,
+    set: &TaskSet,
+    placing: &Placing,
+) -> Result<String, AllocError>
+    requires { IsPlacingOf set.now placing.now }
+    ensures { IfOk result (λ text. string_bytes text ≡ placing_said part set.now placing.now) }
+{
+    let places = match placing {
+        Placing::Best(places) => places,
+        Placing::Stuck(members) => return infeasible_text(alloc, set, *members),
+    };
+    let count = places.len();
+    match part {
+        OrderPart::Count => format!(in alloc; "admitted {count}\n"),
+        OrderPart::Levels => admitted_text(alloc, set, places),
+        OrderPart::Settings { base } => settings_text(alloc, set, base, places),
+    }
+}
+
+/// A text, and then another one.
+pub fn joined(alloc: Global, first: &[u8], second: &[u8]) -> Result<Vec<u8>, AllocError>
+    ensures { IfOk result (λ both. both.items ≡ first.now ++ second.now) }
+{
+    let mut both = Vec::new(alloc);
+    both.extend_from_slice(first)?;
+    both.extend_from_slice(second)?;
+    Ok(both)
+}
+
+/// Prints the line of an obstruction, or that memory was wanting for it.
+pub fn print_stuck<W: Write + Drop>(
+    alloc: Global,
+    set: &TaskSet,
+    members: Members,
+    output: &mut Watched<W>,
+) -> Status
+    ensures { IsSaidOn (λ before after s. IsPrinted before after
+        (infeasible_line set.now (listed_below (length set.now) (indexes_of members)))
+        Status.Infeasible s) W.contents output.old output.new result }
+{
+    print_made(
+        infeasible_text(alloc, set, members),
+        Status::Infeasible,
+        output,
+    )
+}

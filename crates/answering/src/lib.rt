@@ -1,0 +1,21 @@
+//! What all commands of `desk` share: their inputs, refusals, statuses, and what is printed.
+#![tactic(auto)]
+
+mod answer;
+mod asked;
+mod audience;
+mod output;
+mod refusal;
+mod release_text;
+mod sets;
+mod status;
+
+pub use answer::{OrderPart, infeasible_text, joined, placing_text, print_stuck};
+pub use asked::{find_task, no_such_task};
+pub use audience::{Audience, Nobody, Which};
+pub use output::{print, print_bytes, print_made, refuse, refuse_words};
+pub use refusal::CommandRefusal;
+pub use release_text::{TextFault, read_releases};
+pub use rushes::RushFault;
+pub use sets::{base_of, preference_of, read_one, read_owned, read_told, read_two, tell};
+pub use status::{Status, placing_status};

@@ -1,6 +1,0 @@
-use Rattle.std.proofs.Common.{string_bytes}
-use Rattle.desk_cli.proofs.CarriedOut.{made_printed}
-use Rattle.desk_cli.proofs.answer.print_stuck.Goals as goal
-
-pub returns : goal.returns
-returns g c = made_printed c.infeasible_text.result (λ t. string_bytes t) _ _ c.infeasible_text.ensures c.print_made.ensures

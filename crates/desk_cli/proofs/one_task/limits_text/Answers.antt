@@ -1,5 +1,0 @@
-use Rattle.limit_lines.proofs.LineLaws.{best_passes}
-use Rattle.desk_cli.proofs.one_task.limits_text.Goals as goal
-
-pub task_text-requires-clause-placing : goal.task_text-requires-clause-placing
-task_text-requires-clause-placing c = best_passes c.args.set.now c.args.placing.now c.requires.placing

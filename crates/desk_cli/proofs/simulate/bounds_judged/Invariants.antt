@@ -1,6 +1,0 @@
-use Rattle.std.proofs.Common.{◌≡◌, take}
-use Rattle.desk_cli.specs.Simulate.{bounds_judged}
-use Rattle.desk_cli.proofs.simulate.bounds_judged.Given as goal
-
-abbrev pub invariant-loop-entry : goal.invariant-loop-entry
-invariant-loop-entry l = l.bounds.items ≡ bounds_judged (take l.entry-index l.judged)

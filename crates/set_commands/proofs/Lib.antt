@@ -1,0 +1,3 @@
+pub mod ListedLimits
+pub mod Placed
+pub mod ReadBackLaws

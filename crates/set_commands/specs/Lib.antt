@@ -1,0 +1,10 @@
+pub mod Admit
+pub mod Certify
+pub mod Explain
+pub mod Limits
+pub mod OneTask
+pub mod ReadBack
+pub mod Releases
+pub mod Script
+pub mod Settings
+pub mod Worst

@@ -1,0 +1,102 @@
+-- What is said of one task of a set, where the words ask about it.
+use Rattle.std.specs.Prelude.{◌≡◌, ℕ, List, [], ◌++◌, Option, Some, None, Result, Ok, Err}
+use Rattle.task_sheet.specs.declared.prefer.Preference.{Preference}
+use Rattle.task_sheet.specs.Sheet.{Task}
+use Rattle.lines.specs.Words.{name_in}
+use Rattle.assignment.specs.Placings.{IsPlacingOf}
+use Rattle.assignment.specs.declared.placing.Placing.{Placing}
+use Rattle.explain.specs.Explanations.{Explains}
+use Rattle.explain.specs.TaskLines.{task_lines}
+use Rattle.explain.specs.declared.explanation.Explanation.{Explanation}
+use Rattle.limit_lines.specs.Lines.{AreTaskLines, places_in}
+use Rattle.worst_lines.specs.Lines.{AreWorstLines}
+use Rattle.owners.specs.NamedLines.{named_lines}
+use Rattle.owners.specs.declared.owner.Owner.{Owner}
+use Rattle.owners.specs.declared.words.Naming.TheVariants as naming
+use Rattle.set_commands.specs.Admit.{Places}
+use Rattle.answering.specs.Statuses.{placing_status}
+use Rattle.set_commands.specs.Explain.{AreDecided, SaysExplained}
+use Rattle.set_commands.specs.Limits.{SaysLimits}
+use Rattle.answering.specs.OrderParts.{placing_first}
+use Rattle.answering.specs.Printed.{Prints}
+use Rattle.answering.specs.Owning.{HasOwned}
+use Rattle.set_commands.specs.Worst.{SaysWorst}
+use Rattle.set_commands.specs.declared.one_task.TaskPart.{TaskPart}
+use Rattle.set_commands.specs.declared.one_task.TaskPart.TheVariants.{Limits, Reasons, Worst}
+use Rattle.answering.specs.declared.refusal.CommandRefusal.{CommandRefusal}
+use Rattle.answering.specs.declared.refusal.CommandRefusal.TheVariants as refusal
+use Rattle.answering.specs.declared.status.Status.{Status}
+use Rattle.answering.specs.Asked.{asked_task}
+
+-- the lines of a task in an explanation, and those in an order that decides, each task with its team
+abbrev pub task_reasons : List Owner → List Task → ℕ → Explanation → (decided : List ℕ) → List ℕ
+task_reasons owners U task e decided =
+    named_lines naming.Reasons owners (task_lines U task e ++ decided)
+
+-- a text is what is said of a task of a placed set: how far its numbers may go, what explains its response, or that it has
+-- none, or its worst case
+abbrev pub AreLinesOf : TaskPart → List Owner → List Task → Placing → ℕ → List ℕ → Type 0
+AreLinesOf Limits owners U placing task text = AreTaskLines U (places_in placing) task text
+AreLinesOf Reasons owners U placing task text =
+    (explanation : Explanation) × (decided : List ℕ) × Explains U placing explanation
+    × AreDecided U (Some task) placing decided
+    × (text ≡ task_reasons owners U task explanation decided)
+AreLinesOf Worst owners U placing task text = AreWorstLines U placing (Some task) text
+
+-- a set, whose its tasks are, its placing, and what is said of a task
+pub record OfTaskData : Type 0 where
+  pub set : List Task
+  pub owners : List Owner
+  pub placing : Placing
+  pub lines : List ℕ
+
+-- the answer on what a reader has: what is said of the task that a word names; or that there is none
+abbrev pub AnswersOfTask : TaskPart → List ℕ → Option Preference → Option (List ℕ)
+    → Result OfTaskData CommandRefusal → Type 0
+AnswersOfTask part word preference known (Ok d) =
+    HasOwned preference known d.set d.owners × IsPlacingOf d.set d.placing
+    × ((task : ℕ) × (asked_task d.set word ≡ Some task)
+    × AreLinesOf part d.owners d.set d.placing task d.lines)
+AnswersOfTask part word preference known (Err (refusal.NoSuchTask name)) =
+    (U : List Task) × (placing : Placing) × Places preference known (Ok (U, placing))
+    × (asked_task U word ≡ None) × (name ≡ name_in word)
+AnswersOfTask part word preference known (Err r) = Places preference known (Err r)
+
+-- what is printed in front of that: the first line of the verdict; before a worst case nothing
+abbrev pub first_said : TaskPart → List Task → Placing → List ℕ
+first_said Worst U placing = []
+first_said _ U placing = placing_first U placing
+
+-- what is printed of such an answer
+abbrev pub task_said : TaskPart → OfTaskData → List ℕ
+task_said part d = first_said part d.set d.placing ++ d.lines
+
+-- the answer on what the reader had is printed after what the writer held, and the status is the answer's
+abbrev pub SaysTask : TaskPart → List ℕ → Option Preference → Option (List ℕ)
+    → (before after : Option (List ℕ)) → Status → Type 0
+SaysTask part word preference known before after s =
+    Prints (AnswersOfTask part word preference known) (task_said part)
+    (λ d. placing_status d.placing) before after s
+
+-- what is said of all tasks: how far their numbers may go, or what explains the placing; or the worst case of the one that the
+-- set's verdict is about
+abbrev pub SaysAll : TaskPart → Option Preference → Option (List ℕ)
+    → (before after : Option (List ℕ)) → Status → Type 0
+SaysAll Limits preference known before after s = SaysLimits preference known before after s
+SaysAll Reasons preference known before after s = SaysExplained preference known before after s
+SaysAll Worst preference known before after s = SaysWorst preference known before after s
+
+-- that, or what is said of the task that the words ask about
+abbrev pub SaysPart : TaskPart → Option (List ℕ) → Option Preference → Option (List ℕ)
+    → (before after : Option (List ℕ)) → Status → Type 0
+SaysPart part None preference known before after s = SaysAll part preference known before after s
+SaysPart part (Some word) preference known before after s =
+    SaysTask part word preference known before after s
+
+-- this is said of each reader that has a set, whose tasks these have
+abbrev pub OfPlaced :
+    (Option Preference → Option (List ℕ) → (before after : Option (List ℕ)) → Status → Type 0)
+    → List Owner → List Task → (before after : Option (List ℕ)) → Status → Type 0
+OfPlaced says owners U before after s =
+    (preference : Option Preference) → (known : Option (List ℕ)) → HasOwned preference known U owners
+    → says preference known before after s

@@ -1,0 +1,51 @@
+-- What `desk releases` answers and prints.
+use Rattle.std.specs.Prelude.{◌≡◌, ◌⊎◌, ℕ, List, None, Option, Some, Result, Ok, Err}
+use Rattle.std.specs.Global.{Vec}
+use Rattle.task_sheet.specs.declared.prefer.Preference.{Preference}
+use Rattle.task_sheet.specs.Sheet.{Task}
+use Rattle.ceiling_kernel.specs.Releases.{IsRefusal, refusal_of}
+use Rattle.ceiling_kernel.specs.declared.trace.Release.{Release}
+use Rattle.ceiling_kernel.specs.declared.trace.RunFault.{RunFault}
+use Rattle.release_list.specs.Densest.{densest_of, list_refusal}
+use Rattle.release_list.specs.Random.{random_of, random_refusal}
+use Rattle.release_list.specs.Text.{list_lines}
+use Rattle.answering.specs.Printed.{Prints}
+use Rattle.answering.specs.Sets.{HasNoSet, HasSet}
+use Rattle.answering.specs.declared.refusal.CommandRefusal.{CommandRefusal}
+use Rattle.answering.specs.declared.refusal.CommandRefusal.TheVariants as refusal
+use Rattle.answering.specs.declared.status.Status.{Status}
+use Rattle.answering.specs.declared.status.Status.TheVariants as status
+
+-- a set's list up to an end: the random one of a seed, or else the densest
+abbrev pub list_of : Option ℕ → List Task → ℕ → List Release
+list_of None U until = densest_of U until
+list_of (Some seed) U until = random_of U until seed
+
+-- why there is none
+abbrev pub refusal_by : Option ℕ → List Task → ℕ → Option RunFault
+refusal_by None U until = list_refusal U until
+refusal_by (Some seed) U until = random_refusal U until seed
+
+-- the answer on a set: its list, which no kernel of the set refuses, or why there is none
+abbrev pub ListsOf : Option ℕ → ℕ → List Task → Result (Vec Release) CommandRefusal → Type 0
+ListsOf seed until U (Ok releases) =
+    (refusal_by seed U until ≡ None) × (releases.items ≡ list_of seed U until)
+    × (refusal_of U releases.items until ≡ None)
+ListsOf seed until U (Err (refusal.Run fault)) = IsRefusal fault (refusal_by seed U until)
+ListsOf seed until U _ = ⊥
+
+-- the answer on what a reader has
+abbrev pub Lists :
+    Option Preference → Option ℕ → ℕ → Option (List ℕ) → Result (Vec Release) CommandRefusal → Type 0
+Lists preference seed until known (Ok releases) =
+    (U : List Task) × HasSet preference known U × ListsOf seed until U (Ok releases)
+Lists preference seed until known (Err r) =
+    HasNoSet known r ⊎ ((U : List Task) × HasSet preference known U × ListsOf seed until U (Err r))
+
+-- the answer on what the reader had is printed after what the writer held, and the status is the answer's
+abbrev pub SaysList :
+    Option Preference → Option ℕ → ℕ → Option (List ℕ) → (before after : Option (List ℕ)) → Status
+    → Type 0
+SaysList preference seed until known before after s =
+    Prints (Lists preference seed until known) (λ releases. list_lines until releases.items)
+    (λ _. status.Done) before after s

@@ -1,0 +1,218 @@
+//! `desk limits`.
+ghost use Rattle.std.specs.Prelude.{◌≡◌, ◌≢◌, ℕ, ◌<◌, ◌==◌, ◌&&◌, List, ◌++◌, length, Err, true, IfOk, OnOk, string_bytes};
+ghost use Rattle.std.specs.Io.KnownBytes.{Appends};
+ghost use Rattle.task_sheet.specs.TaskSet.{IsTaskSet};
+ghost use Rattle.ceilings.specs.IsTableOf.{IsTableOf};
+ghost use Rattle.assignment.specs.Placings.{IsPlacingOf};
+ghost use Rattle.limit_lines.specs.Lines.{AreTaskLines, IsLast, order_in, places_in};
+ghost use Rattle.set_commands.specs.Limits.{IsListing, ListsAll, ListsSome, SaysPlaced, alone_line};
+ghost use Rattle.answering.specs.OrderParts.{placing_first};
+ghost use Rattle.streams.specs.Sending.{Sends};
+ghost use Rattle.answering.specs.Outcomes.{IsSaidOn};
+
+use answering::{CommandRefusal, OrderPart, Status, placing_status, placing_text, refuse};
+use assignment::{Placing, tasks_of_places};
+use ceilings::LockTable;
+use limit_lines::{last_text, task_text};
+use std::alloc::{AllocError, Global};
+use std::io::Write;
+use streams::{Held, Watched};
+use task_sheet::TaskSet;
+
+// What the lines of a placed set are made of, made before the first is printed.
+#[derive(Drop)]
+struct Listing<'a> {
+    set: &'a TaskSet,
+    // Of the set's locks.
+    table: LockTable,
+    placing: &'a Placing,
+    // That of the placing, the lowest level first; nothing after a no.
+    order: Vec<usize>,
+    // The first line.
+    first: String,
+}
+
+/// Why lines were not all printed.
+#[derive(Clone, Copy, PartialEq, Eq)]
+enum ListFault {
+    /// Memory ran out; what was printed before stands.
+    OutOfMemory,
+    /// The writer failed.
+    WriteFailed,
+}
+
+// The order of a placing, the lowest first; nothing after a no.
+pub(crate) fn order_of(alloc: Global, placing: &Placing) -> Result<Vec<usize>, AllocError>
+    ensures { IfOk result (λ order. order.items ≡ order_in placing.now) }
+{
+    match placing {
+        Placing::Best(places) => tasks_of_places(alloc, places),
+        Placing::Stuck(_) => Ok(Vec::new(alloc)),
+    }
+}
+
+// The lines of the task at an index.
+fn lines_of_task(alloc: Global, listing: &Listing<'_>, task: usize) -> Result<String, AllocError>
+    requires listing { IsListing listing.now }
+    requires task { task < length listing.now.set.now }
+    ensures { IfOk result (λ text. AreTaskLines listing.now.set.now
+        (places_in listing.now.placing.now) task (string_bytes text)) }
+{
+    task_text(
+        alloc,
+        listing.set,
+        &listing.table,
+        listing.placing,
+        &listing.order,
+        task,
+    )
+}
+
+// Whether no task had a line, with one more text.
+fn is_still_silent(is_silent: bool, text: &str) -> bool
+    ensures { result ≡ (is_silent && (length text.now == 0)) }
+{
+    is_silent && text.is_empty()
+}
+
+// The line of the factors, behind that which says that no single change mends the set where no task has a line.
+fn end_text(alloc: Global, listing: &Listing<'_>, is_silent: bool) -> Result<String, AllocError>
+    requires { IsListing listing.now }
+    ensures { let places = places_in listing.now.placing.now in
+        IfOk result (λ text. (last : List ℕ) × IsLast listing.now.set.now places last
+        × (string_bytes text ≡ alone_line is_silent places ++ last)) }
+{
+    let last = last_text(alloc, listing.set, listing.placing, &listing.order)?;
+    match listing.placing {
+        Placing::Best(_) => Ok(last),
+        Placing::Stuck(_) => {
+            if !is_silent {
+                return Ok(last);
+            }
+            let mut text = String::new(alloc);
+            text.push_str("no single change\n")?;
+            text.push_str(last.as_str())?;
+            Ok(text)
+        }
+    }
+}
+
+// Puts the first line, the lines of each task as they are found, and the last ones.
+fn put_lines<W: Write + Drop>(
+    alloc: Global,
+    listing: &Listing<'_>,
+    held: &mut Held,
+    output: &mut Watched<W>,
+) -> Result<(), ListFault>
+    requires { IsListing listing.now }
+    ensures all { OnOk result ((text : List ℕ)
+        × ListsAll listing.now.set.now (places_in listing.now.placing.now) text
+        × Sends (W.contents output.old.inner) held.old (W.contents output.new.inner) held.new
+        (string_bytes listing.now.first ++ text)) }
+    ensures some { result ≡ Err ListFault.OutOfMemory
+        → (text : List ℕ) × ListsSome listing.now.set.now (places_in listing.now.placing.now) text
+        × Sends (W.contents output.old.inner) held.old (W.contents output.new.inner) held.new
+        (string_bytes listing.now.first ++ text) }
+    ensures ok { result ≢ Err ListFault.WriteFailed
+        → output.new.has_failed ≡ output.old.has_failed }
+    ensures failed { result ≡ Err ListFault.WriteFailed → output.new.has_failed ≡ true }
+{
+    if held.put(listing.first.as_bytes(), output).is_err() {
+        return Err(ListFault::WriteFailed);
+    }
+    let mut is_silent = true;
+    for task in 0..listing.set.len() {
+        let Ok(text) = lines_of_task(alloc, listing, task) else {
+            return Err(ListFault::OutOfMemory);
+        };
+        is_silent = is_still_silent(is_silent, text.as_str());
+        if held.put(text.as_bytes(), output).is_err() {
+            return Err(ListFault::WriteFailed);
+        }
+    }
+    let Ok(text) = end_text(alloc, listing, is_silent) else {
+        return Err(ListFault::OutOfMemory);
+    };
+    match held.put(text.as_bytes(), output) {
+        Ok(()) => Ok(()),
+        Err(_) => Err(ListFault::WriteFailed),
+    }
+}
+
+// Prints the lines through a buffer of 16,384 bytes, which takes no memory. What it holds is written before any answer
+// but that the writer failed.
+fn print_lines<W: Write + Drop>(
+    alloc: Global,
+    listing: &Listing<'_>,
+    output: &mut Watched<W>,
+) -> Result<(), ListFault>
+    requires { IsListing listing.now }
+    ensures all { OnOk result ((text : List ℕ)
+        × ListsAll listing.now.set.now (places_in listing.now.placing.now) text
+        × Appends (W.contents output.old.inner) (W.contents output.new.inner)
+        (string_bytes listing.now.first ++ text)) }
+    ensures some { result ≡ Err ListFault.OutOfMemory
+        → (text : List ℕ) × ListsSome listing.now.set.now (places_in listing.now.placing.now) text
+        × Appends (W.contents output.old.inner) (W.contents output.new.inner)
+        (string_bytes listing.now.first ++ text) }
+    ensures ok { result ≢ Err ListFault.WriteFailed
+        → output.new.has_failed ≡ output.old.has_failed }
+    ensures failed { result ≡ Err ListFault.WriteFailed → output.new.has_failed ≡ true }
+{
+    let mut held = Held::new();
+    let listed = put_lines(alloc, listing, &mut held, output);
+    if let Err(ListFault::WriteFailed) = listed {
+        return listed;
+    }
+    match held.send(output) {
+        Ok(()) => listed,
+        Err(_) => Err(ListFault::WriteFailed),
+    }
+}
+
+// What the lines of a placed set are made of.
+fn make_ready<'a>(
+    alloc: Global,
+    set: &'a TaskSet,
+    placing: &'a Placing,
+) -> Result<Listing<'a>, AllocError>
+    requires { IsPlacingOf set.now placing.now }
+    ensures set { IfOk result (λ listing. listing.set.now ≡ set.now) }
+    ensures table { IfOk result (λ listing. IsTableOf listing.set.now listing.table) }
+    ensures placing { IfOk result (λ listing. listing.placing.now ≡ placing.now) }
+    ensures order { IfOk result (λ listing. listing.order.items ≡ order_in placing.now) }
+    ensures first { IfOk result (λ listing. string_bytes listing.first
+        ≡ placing_first set.now placing.now) }
+{
+    let table = LockTable::new(alloc, set)?;
+    let order = order_of(alloc, placing)?;
+    let first = placing_text(alloc, OrderPart::Count, set, placing)?;
+    Ok(Listing {
+        set,
+        table,
+        placing,
+        order,
+        first,
+    })
+}
+
+// Prints the lines of a placing, or that memory was wanting before the first.
+pub(crate) fn print_placing<W: Write + Drop>(
+    alloc: Global,
+    set: &TaskSet,
+    placing: &Placing,
+    output: &mut Watched<W>,
+) -> Status
+    requires kept { IsTaskSet set.now }
+    requires placing { IsPlacingOf set.now placing.now }
+    ensures { IsSaidOn (SaysPlaced set.now) W.contents output.old output.new result }
+{
+    let Ok(listing) = make_ready(alloc, set, placing) else {
+        return refuse(CommandRefusal::OutOfMemory, output);
+    };
+    match print_lines(alloc, &listing, output) {
+        Ok(()) => placing_status(placing),
+        Err(ListFault::OutOfMemory) => refuse(CommandRefusal::OutOfMemory, output),
+        Err(ListFault::WriteFailed) => Status::InputOrOutputFailed,
+    }
+}

@@ -1,0 +1,230 @@
+//! What is said of one task of a set, where the words ask about it.
+ghost use Rattle.std.specs.Prelude.{◌≡◌, ◌++◌, ◌<◌, ℕ, List, length, IfOk, option_map, Some, string_bytes};
+ghost use Rattle.task_sheet.specs.TaskSet.{IsTaskSet};
+ghost use Rattle.assignment.specs.Placings.{IsPlacingOf};
+ghost use Rattle.explain.specs.Explanations.{Explains};
+ghost use Rattle.explain.specs.declared.explanation.Explanation.{Explanation};
+ghost use Rattle.limit_lines.specs.Lines.{AreTaskLines, places_in};
+ghost use Rattle.worst_lines.specs.Lines.{AreWorstLines};
+ghost use Rattle.set_commands.specs.Explain.{AreDecided};
+ghost use Rattle.set_commands.specs.OneTask.{AreLinesOf, OfPlaced, SaysAll, SaysPart, SaysTask, first_said, task_reasons};
+ghost use Rattle.answering.specs.Outcomes.{IsSaidOn};
+
+use crate::explain_lines::{decided_text, explained_text};
+use crate::limits_lines::{order_of, print_placing};
+use answering::{
+    OrderPart, Status, find_task, joined, no_such_task, placing_status, placing_text, print_bytes,
+    print_made, refuse,
+};
+use assignment::Placing;
+use ceilings::LockTable;
+use explain::explain;
+use owners::{Naming, Owner, named_text};
+use std::alloc::{AllocError, Global};
+use std::io::Write;
+use streams::Watched;
+use task_sheet::TaskSet;
+use worst_lines::worst_text;
+
+/// What is said of a task.
+#[derive(Clone, Copy)]
+pub enum TaskPart {
+    /// How far its numbers may go.
+    Limits,
+    /// What its response is made of; or why it may not stand below the others of a conflict, and what becomes of it in an
+    /// order that decides.
+    Reasons,
+    /// Its worst case.
+    Worst,
+}
+
+// How far the numbers of a task may go.
+fn limits_text(
+    alloc: Global,
+    set: &TaskSet,
+    placing: &Placing,
+    task: usize,
+) -> Result<Vec<u8>, AllocError>
+    requires placing { IsPlacingOf set.now placing.now }
+    requires task { task < length set.now }
+    ensures { IfOk result (λ text. AreTaskLines set.now (places_in placing.now) task
+        text.items) }
+{
+    let table = LockTable::new(alloc, set)?;
+    let order = order_of(alloc, placing)?;
+    let text = limit_lines::task_text(alloc, set, &table, placing, &order, task)?;
+    let mut lines = Vec::new(alloc);
+    lines.extend_from_slice(text.as_bytes())?;
+    Ok(lines)
+}
+
+// What explains the response of a task, or that it has none.
+fn reasons_text(
+    alloc: Global,
+    owners: &[Owner],
+    set: &TaskSet,
+    placing: &Placing,
+    task: usize,
+) -> Result<Vec<u8>, AllocError>
+    requires { IsPlacingOf set.now placing.now }
+    ensures { IfOk result (λ text. (explanation : Explanation)
+        × (decided : List ℕ)
+        × Explains set.now placing.now explanation
+        × AreDecided set.now (Some task) placing.now decided
+        × (text.items ≡ task_reasons owners.now set.now task explanation decided)) }
+{
+    let table = LockTable::new(alloc, set)?;
+    let explanation = explain(alloc, set, &table, placing)?;
+    let decided = decided_text(alloc, set, &table, placing, Some(task))?;
+    let mut text = explain::task_text(alloc, set, &explanation, task)?;
+    text.push_str(decided.as_str())?;
+    let named = named_text(alloc, Naming::Reasons, owners, text.as_bytes())?;
+    Ok(named)
+}
+
+// The worst case of a task.
+fn case_text(
+    alloc: Global,
+    set: &TaskSet,
+    placing: &Placing,
+    task: usize,
+) -> Result<Vec<u8>, AllocError>
+    requires placing { IsPlacingOf set.now placing.now }
+    requires task { task < length set.now }
+    ensures { IfOk result (λ text. AreWorstLines set.now placing.now (Some task) text.items) }
+{
+    let text = worst_text(alloc, set, placing, Some(task))?;
+    let mut lines = Vec::new(alloc);
+    lines.extend_from_slice(text.as_bytes())?;
+    Ok(lines)
+}
+
+// What is said of a task.
+fn part_text(
+    alloc: Global,
+    part: TaskPart,
+    owners: &[Owner],
+    set: &TaskSet,
+    placing: &Placing,
+    task: usize,
+) -> Result<Vec<u8>, AllocError>
+    requires placing { IsPlacingOf set.now placing.now }
+    requires task { task < length set.now }
+    ensures { IfOk result (λ text. AreLinesOf part owners.now set.now placing.now task text.items) }
+{
+    match part {
+        TaskPart::Limits => limits_text(alloc, set, placing, task),
+        TaskPart::Reasons => reasons_text(alloc, owners, set, placing, task),
+        TaskPart::Worst => case_text(alloc, set, placing, task),
+    }
+}
+
+// The first line of a placing; before a worst case nothing.
+fn first_text(
+    alloc: Global,
+    part: TaskPart,
+    set: &TaskSet,
+    placing: &Placing,
+) -> Result<String, AllocError>
+    requires { IsPlacingOf set.now placing.now }
+    ensures { IfOk result (λ text. string_bytes text ≡ first_said part set.now placing.now) }
+{
+    match part {
+        TaskPart::Limits | TaskPart::Reasons => {
+            placing_text(alloc, OrderPart::Count, set, placing)
+        }
+        TaskPart::Worst => Ok(String::new(alloc)),
+    }
+}
+
+// That, and then what is said of a task.
+fn task_text(
+    alloc: Global,
+    part: TaskPart,
+    owners: &[Owner],
+    set: &TaskSet,
+    placing: &Placing,
+    task: usize,
+) -> Result<Vec<u8>, AllocError>
+    requires placing { IsPlacingOf set.now placing.now }
+    requires task { task < length set.now }
+    ensures { IfOk result (λ text. (lines : _) × AreLinesOf part owners.now set.now placing.now task lines
+        × (text.items ≡ first_said part set.now placing.now ++ lines)) }
+{
+    let lines = part_text(alloc, part, owners, set, placing, task)?;
+    let first = first_text(alloc, part, set, placing)?;
+    let text = joined(alloc, first.as_bytes(), &lines)?;
+    Ok(text)
+}
+
+// Prints that of the task that a word names, or why there is none.
+fn say_task<W: Write + Drop>(
+    alloc: Global,
+    part: TaskPart,
+    word: &str,
+    owners: &[Owner],
+    set: &TaskSet,
+    placing: &Placing,
+    output: &mut Watched<W>,
+) -> Status
+    requires { IsPlacingOf set.now placing.now }
+    ensures { IsSaidOn (OfPlaced (SaysTask part word.now) owners.now set.now)
+        W.contents output.old output.new result }
+{
+    match find_task(set, word) {
+        Some(task) => {
+            let status = placing_status(placing);
+            print_bytes(
+                task_text(alloc, part, owners, set, placing, task),
+                status,
+                output,
+            )
+        }
+        None => refuse(no_such_task(word), output),
+    }
+}
+
+// Prints it of all tasks of a placing; of worst cases that of the task that the placing is about.
+fn say_all<W: Write + Drop>(
+    alloc: Global,
+    part: TaskPart,
+    owners: &[Owner],
+    set: &TaskSet,
+    placing: &Placing,
+    output: &mut Watched<W>,
+) -> Status
+    requires kept { IsTaskSet set.now }
+    requires placing { IsPlacingOf set.now placing.now }
+    ensures { IsSaidOn (OfPlaced (SaysAll part) owners.now set.now)
+        W.contents output.old output.new result }
+{
+    let status = placing_status(placing);
+    match part {
+        TaskPart::Limits => print_placing(alloc, set, placing, output),
+        TaskPart::Reasons => {
+            print_bytes(explained_text(alloc, owners, set, placing), status, output)
+        }
+        TaskPart::Worst => print_made(worst_text(alloc, set, placing, None), status, output),
+    }
+}
+
+/// Prints what is said of all tasks of a placing, or of the task that a word names.
+pub fn say_part<W: Write + Drop>(
+    alloc: Global,
+    part: TaskPart,
+    word: Option<&str>,
+    owners: &[Owner],
+    set: &TaskSet,
+    placing: &Placing,
+    output: &mut Watched<W>,
+) -> Status
+    requires kept { IsTaskSet set.now }
+    requires placing { IsPlacingOf set.now placing.now }
+    ensures { IsSaidOn (OfPlaced (SaysPart part (option_map (λ w. w.now) word.entry))
+        owners.now set.now) W.contents output.old output.new result }
+{
+    match word {
+        Some(word) => say_task(alloc, part, word, owners, set, placing, output),
+        None => say_all(alloc, part, owners, set, placing, output),
+    }
+}

@@ -1,0 +1,4 @@
+mod Drawings
+pub mod Observations
+pub mod Ordered
+mod RowNames

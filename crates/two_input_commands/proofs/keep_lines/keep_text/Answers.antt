@@ -1,0 +1,23 @@
+use Rattle.std.proofs.Common.{ℕ, List, subst}
+use Rattle.task_sheet.specs.Sheet.{Task}
+use Rattle.kept_order.specs.Keeping.{IsKeepingOf}
+use Rattle.kept_order.specs.declared.Keeping.{Keeping}
+use Rattle.kept_order.specs.declared.Keeping.TheVariants.{Kept, Parted, Stuck}
+use Rattle.two_input_commands.specs.Keep.{IsKeptIn}
+use Rattle.two_input_commands.proofs.keep_lines.keep_text.Goals as goal
+
+-- what is kept is an order of the set
+kept_in : (U : List Task) (kept : List ℕ) (keeping : Keeping) → IsKeepingOf U kept keeping → IsKeptIn U keeping
+kept_in U kept (Kept places) is = is.best.passing.passing.each_once
+kept_in U kept (Parted low high) is = tt
+kept_in U kept (Stuck left) is = tt
+
+pub returns-clause-answer : goal.returns-clause-answer
+returns-clause-answer c = (
+  c.in-Ok.kept.items,
+  c.in-Ok.ensures.kept,
+  subst (λ (order : List ℕ). IsKeepingOf c.args.tasks.now order c.in_ok-keeping.keeping) c.deref.ensures.value c.in_ok-keeping.ensures,
+)
+
+pub returns-clause-order : goal.returns-clause-order
+returns-clause-order c = kept_in c.args.tasks.now _ c.in_ok-keeping.keeping c.in_ok-keeping.ensures

@@ -1,0 +1,82 @@
+-- What `desk diff` answers and prints.
+use Rattle.std.specs.Prelude.{◌≡◌, ℕ, Bool, true, false, List, ◌++◌, codes, Option, Result, Ok, Err}
+use Rattle.task_sheet.specs.declared.prefer.Preference.{Preference}
+use Rattle.task_sheet.specs.declared.prefer.Preference.TheVariants.{Weights}
+use Rattle.task_sheet.specs.declared.read.Document.{Document}
+use Rattle.preferences.specs.Preferences.{IsPreferred}
+use Rattle.preferences.specs.ReadsPreferred.{chosen}
+use Rattle.task_sheet.specs.Sheet.{Task}
+use Rattle.teams.specs.ReadsText.{ReadsText}
+use Rattle.owners.specs.NamedLines.{named_lines}
+use Rattle.owners.specs.Owners.{AreOwners}
+use Rattle.owners.specs.declared.owner.Owner.{Owner}
+use Rattle.owners.specs.declared.words.Naming.TheVariants.{Changes}
+use Rattle.assignment.specs.Placings.{IsPlacingOf}
+use Rattle.assignment.specs.declared.placing.Placing.{Placing}
+use Rattle.diff.specs.Lines.{change_lines}
+use Rattle.answering.specs.Statuses.{placing_status}
+use Rattle.answering.specs.OrderParts.{placing_first}
+use Rattle.answering.specs.Printed.{Prints}
+use Rattle.answering.specs.Owning.{HaveOwned}
+use Rattle.answering.specs.Sets.{OnBoth}
+use Rattle.two_input_commands.specs.declared.diff_lines.Compared.{Compared}
+use Rattle.answering.specs.declared.refusal.CommandRefusal.{CommandRefusal}
+use Rattle.answering.specs.declared.refusal.CommandRefusal.TheVariants as refusal
+use Rattle.answering.specs.declared.status.Status.{Status}
+
+-- weights are the sheets' own
+abbrev pub does_weigh : Preference → Bool
+does_weigh Weights = true
+does_weigh _ = false
+
+-- the text says this set, by what the call prefers or else the text; weights are the sheets' own where that is by weights
+abbrev pub IsNew : Option Preference → List ℕ → List Task → Bool → Type 0
+IsNew preference text V weighs =
+    (d : Document) × ReadsText text (Ok d) × IsPreferred (chosen preference d.prefers) d.set V
+    × (weighs ≡ does_weigh (chosen preference d.prefers))
+
+-- the text says the new set, and this becomes of both
+pub record IsComparison (preference : Option Preference) (U : List Task) (text : List ℕ) (c : Compared) : Type 0 where
+  pub new : IsNew preference text c.set c.weighs
+  pub owners : AreOwners text c.owners.items
+  pub was : IsPlacingOf U c.was
+  pub is : IsPlacingOf c.set c.is
+
+-- the answer on a set and the text of the new one
+abbrev pub ComparesText : Option Preference → List Task → List ℕ → Result Compared CommandRefusal → Type 0
+ComparesText preference U text (Ok c) = IsComparison preference U text c
+ComparesText preference U text (Err (refusal.New fault)) = ReadsText text (Err fault)
+ComparesText preference U text (Err refusal.OutOfMemory) = Unit {0}
+ComparesText preference U text _ = ⊥
+
+-- a set, whose its tasks are, and what becomes of it and of the new one
+pub record ComparedData : Type 0 where
+  pub set : List Task
+  pub owners : List Owner
+  pub compared : Compared
+
+-- the answer on what the readers have of the two
+abbrev pub Compares : Option Preference → Option (List ℕ) → Option (List ℕ)
+    → Result ComparedData CommandRefusal → Type 0
+Compares preference set other (Ok d) =
+    (text : List ℕ) × HaveOwned preference set other d.set d.owners text
+    × ComparesText preference d.set text (Ok d.compared)
+Compares preference set other (Err r) = OnBoth (ComparesText preference) preference set other (Err r)
+
+-- what becomes of the new set, and what became of the old one
+abbrev pub both_lines : List Task → Placing → List Task → Placing → List ℕ
+both_lines U P V Q = placing_first V Q ++ codes "was " ++ placing_first U P
+
+-- these, and then the change, each task with its team: that of the new set, where it has the task, else that of the old one
+abbrev pub compared_lines : List Owner → List Task → Compared → List ℕ
+compared_lines owners U c =
+    both_lines U c.was c.set c.is
+    ++ named_lines Changes (c.owners.items ++ owners) (change_lines c.weighs U c.was c.set c.is)
+
+-- the answer on what the readers had is printed after what the writer held, and the status is that of the new set
+abbrev pub SaysCompared :
+    Option Preference → (set other : Option (List ℕ)) → (before after : Option (List ℕ)) → Status
+    → Type 0
+SaysCompared preference set other before after s =
+    Prints (Compares preference set other) (λ d. compared_lines d.owners d.set d.compared)
+    (λ d. placing_status d.compared.is) before after s

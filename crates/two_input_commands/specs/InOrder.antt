@@ -1,0 +1,28 @@
+-- What is asked of an order that settings give.
+use Rattle.std.specs.Prelude.{◌≡◌, ℕ, false, List, Option, Some, None, Result, Ok, Err}
+use Rattle.task_sheet.specs.Sheet.{Task}
+use Rattle.lines.specs.Words.{name_in}
+use Rattle.judge.specs.Faults.{IsSettingsFault, settings_fault}
+use Rattle.judge.specs.declared.node.JudgedNode.{JudgedNode}
+use Rattle.two_input_commands.specs.Judge.{IsJudgement}
+use Rattle.answering.specs.Asked.{asked_task}
+use Rattle.answering.specs.declared.refusal.CommandRefusal.{CommandRefusal}
+use Rattle.answering.specs.declared.refusal.CommandRefusal.TheVariants as refusal
+
+-- the task that is asked about: the one that has the name that a word is, where there is a word; or that there is none
+abbrev pub AsksTask : List Task → Option (List ℕ) → Result (Option ℕ) CommandRefusal → Type 0
+AsksTask U None (Ok asked) = asked ≡ None
+AsksTask U (Some word) (Ok asked) = (task : ℕ) × (asked_task U word ≡ Some task) × (asked ≡ Some task)
+AsksTask U (Some word) (Err (refusal.NoSuchTask name)) = (asked_task U word ≡ None) × (name ≡ name_in word)
+AsksTask U _ _ = ⊥
+
+-- the answer on a set and the text of settings: what becomes of each task in the order that they give, and the task that is
+-- asked about
+abbrev pub AsksIn : Option (List ℕ) → List Task → List ℕ → Result (JudgedNode × Option ℕ) CommandRefusal
+    → Type 0
+AsksIn word U text (Ok found) = IsJudgement false U text found.0 × AsksTask U word (Ok found.1)
+AsksIn word U text (Err (refusal.Settings fault)) = IsSettingsFault fault (settings_fault U text)
+AsksIn word U text (Err (refusal.NoSuchTask name)) =
+    (settings_fault U text ≡ None) × AsksTask U word (Err (refusal.NoSuchTask name))
+AsksIn word U text (Err refusal.OutOfMemory) = Unit {0}
+AsksIn word U text _ = ⊥

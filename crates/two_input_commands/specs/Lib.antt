@@ -1,0 +1,12 @@
+pub mod Check
+pub mod Diff
+pub mod Draw
+pub mod ExplainAt
+pub mod InOrder
+pub mod Judge
+pub mod Keep
+pub mod LimitsAt
+pub mod Observe
+pub mod Simulate
+pub mod View
+pub mod WorstAt

@@ -1,0 +1,159 @@
+-- What `desk observe` answers and prints.
+use Rattle.std.specs.Prelude.{◌≡◌, ◌⊎◌, ℕ, ◌<◌, false, List, [], length, All, Option, None, Result, Ok, Err, unwrap_or, if◌then◌else◌}
+use Rattle.task_sheet.specs.declared.prefer.Preference.{Preference}
+use Rattle.task_sheet.specs.declared.set.TheConstants.{TASK_LIMIT}
+use Rattle.task_sheet.specs.Sheet.{Task}
+use Rattle.task_sheet.specs.Indexes.{indexes_of, listed_below}
+use Rattle.lines.specs.Lines.{kept_lines}
+use Rattle.command_line.specs.declared.calls.Options.{Options}
+use Rattle.assignment.specs.Places.{PlaceData}
+use Rattle.judge.specs.Faults.{IsRowsFault, IsSettingsFault}
+use Rattle.judge.specs.Front.{behind_front}
+use Rattle.judge.specs.Judgements.{AllJudged, all_meet, judged_of, order_judged}
+use Rattle.judge.specs.Lines.{judged_lines}
+use Rattle.judge.specs.Node.{AreNumbersOf}
+use Rattle.judge.specs.declared.judging.JudgedTask.{JudgedTask}
+use Rattle.judge.specs.declared.node.JudgedNode.{JudgedNode}
+use Rattle.judge.specs.declared.rows.SettingRow.{SettingRow}
+use Rattle.trace_text.specs.Faults.{IsTraceFault, IsTraceOf, rows_fault as trace_rows_fault}
+use Rattle.trace_text.specs.Rows.{rows_from}
+use Rattle.trace_text.specs.declared.fault.TraceFault.{TraceFault}
+use Rattle.trace_text.specs.declared.reading.TraceLines.{TraceLines}
+use Rattle.trace_text.specs.declared.rows.TraceRow.{TraceRow}
+use Rattle.observed.specs.Observed.{observed_fault}
+use Rattle.observed.specs.Promises.{promises_of}
+use Rattle.observed.specs.Sights.{IsShownAt, IsSightFaultOf, IsSightOf}
+use Rattle.observed.specs.declared.seen.Seen.{Seen as SeenData}
+use Rattle.observed.specs.declared.sight.Sight.{Sight}
+use Rattle.observed.specs.declared.sight.Sight.TheVariants.{Infeasible, Seen}
+use Rattle.observed_lines.specs.Breaks.{is_kept}
+use Rattle.observed_lines.specs.Lines.{observed_lines}
+use Rattle.two_input_commands.specs.Judge.{judged_status}
+use Rattle.answering.specs.Lines.{infeasible_line}
+use Rattle.answering.specs.Printed.{Prints}
+use Rattle.answering.specs.ReleasesText.{settings_in}
+use Rattle.answering.specs.Sets.{HaveBoth, OnBoth}
+use Rattle.two_input_commands.specs.Simulate.{IsListedOrder, order_fault}
+use Rattle.two_input_commands.specs.declared.observe_lines.Observation.{Observation}
+use Rattle.two_input_commands.specs.declared.observe_lines.Observation.TheVariants.{Best, Ordered, Missed}
+use Rattle.answering.specs.declared.refusal.CommandRefusal.{CommandRefusal}
+use Rattle.answering.specs.declared.refusal.CommandRefusal.TheVariants as refusal
+use Rattle.answering.specs.declared.status.Status.{Status}
+use Rattle.answering.specs.declared.status.Status.TheVariants as status
+
+-- by how many microseconds a time may be past what is promised: none where the words don't say it
+abbrev pub tolerance_of : Options → ℕ
+tolerance_of options = unwrap_or options.tolerance 0
+
+-- ---- the text
+-- what a text says behind its settings, or the number of its first faulty line there
+abbrev pub rows_behind : List ℕ → Result (List TraceRow) ℕ
+rows_behind text = rows_from (behind_front (kept_lines text))
+
+-- ---- an order that the trace gives
+-- what becomes of each task in the order that settings give, the lowest first; there are some
+pub record AreJudgedBy (U : List Task) (settings : Result (List SettingRow) ℕ)
+    (judged : List JudgedTask) : Type 0 where
+  pub order : IsListedOrder U settings (order_judged judged)
+  pub each : AllJudged U judged
+
+-- the same, with the numbers that they have of the threads
+pub record IsNodeOf (U : List Task) (settings : Result (List SettingRow) ℕ) (node : JudgedNode) : Type 0 where
+  pub judged : AreJudgedBy U settings node.judged.items
+  pub rows : List SettingRow
+  pub read : settings ≡ Ok rows
+  pub numbers : AreNumbersOf U rows (order_judged node.judged.items) node.numbers.items
+
+-- what was read is a trace, and these are the places of the order that settings give, in which all tasks meet their deadlines
+pub record AreGiven (U : List Task) (settings : Result (List SettingRow) ℕ) (found : Result (List TraceRow) ℕ)
+    (places : List PlaceData) (trace : TraceLines) : Type 0 where
+  pub judged : AreJudgedBy U settings (judged_of places)
+  pub read : IsTraceOf found trace
+
+-- ---- the answer
+-- what a trace shows of a set: in its best order where no settings stand in front, else in the order that they give, which
+-- promises nothing where some task doesn't meet its deadline
+abbrev pub IsObservation : List Task → Result (List SettingRow) ℕ → Result (List TraceRow) ℕ
+    → Observation → Type 0
+IsObservation U settings found (Best sight) = (settings ≡ Ok []) × IsSightOf U found sight
+IsObservation U settings found (Ordered observed) =
+    (places : List PlaceData) × (trace : TraceLines) × AreGiven U settings found places trace
+    × IsShownAt U places trace observed
+IsObservation U settings found (Missed node) =
+    IsNodeOf U settings node × (all_meet node.judged.items ≡ false) × (trace_rows_fault found ≡ None)
+
+-- why it shows nothing, in the best order and in one that settings give: want of memory; it is no trace; or a slice of a task
+-- lies in no job of it
+abbrev pub IsUnseen : List Task → Result (List SettingRow) ℕ → Result (List TraceRow) ℕ → TraceFault
+    → Type 0
+IsUnseen U settings found fault =
+    ((settings ≡ Ok []) × IsSightFaultOf U found fault)
+    ⊎ ((rows : List SettingRow) × (settings ≡ Ok rows) × IsTraceFault fault (trace_rows_fault found))
+    ⊎ ((places : List PlaceData) × (trace : TraceLines) × AreGiven U settings found places trace
+    × IsTraceFault fault (observed_fault (promises_of U places) trace))
+
+-- the answer on a set, on settings and on what stands behind them: the lines of both come first, and then the order
+abbrev pub ObservesRead : List Task → Result (List SettingRow) ℕ → Result (List TraceRow) ℕ
+    → Result Observation CommandRefusal → Type 0
+ObservesRead U settings found (Ok answer) = IsObservation U settings found answer
+ObservesRead U settings found (Err (refusal.Settings fault)) =
+    IsRowsFault fault settings
+    ⊎ ((trace_rows_fault found ≡ None) × IsSettingsFault fault (order_fault U settings))
+ObservesRead U settings found (Err (refusal.Trace fault)) = IsUnseen U settings found fault
+ObservesRead U settings found (Err refusal.OutOfMemory) = Unit {0}
+ObservesRead U settings found _ = ⊥
+
+-- the answer on a set and the text of a trace
+abbrev pub ObservesText : List Task → List ℕ → Result Observation CommandRefusal → Type 0
+ObservesText U text answer = ObservesRead U (settings_in text) (rows_behind text) answer
+
+-- what was found speaks of tasks that a set may have
+abbrev pub IsObservationOf : Observation → Type 0
+IsObservationOf (Best sight) = Unit {0}
+IsObservationOf (Ordered observed) = Unit {0}
+IsObservationOf (Missed node) = All (λ j. j.task < TASK_LIMIT) node.judged.items
+
+-- the answer on what the readers have of a set and of a trace, with the set
+abbrev pub Observes : Option Preference → Option (List ℕ) → Option (List ℕ)
+    → Result (List Task × Observation) CommandRefusal → Type 0
+Observes preference set trace (Ok answer) =
+    (text : List ℕ) × HaveBoth preference set trace answer.0 text
+    × ObservesText answer.0 text (Ok answer.1)
+Observes preference set trace (Err r) = OnBoth ObservesText preference set trace (Err r)
+
+-- what is printed of what a trace shows of a set in its best order
+abbrev pub sight_said : ℕ → List Task → Sight → List ℕ
+sight_said tolerance U (Infeasible members) =
+    infeasible_line U (listed_below (length U) (indexes_of members))
+sight_said tolerance U (Seen shown) =
+    observed_lines tolerance shown.promises.items shown.seen.items
+
+-- what is printed of what a trace shows of a set; of an order that promises nothing, what `desk judge` prints
+abbrev pub observation_said : ℕ → List Task → Observation → List ℕ
+observation_said tolerance U (Best sight) = sight_said tolerance U sight
+observation_said tolerance U (Ordered shown) =
+    observed_lines tolerance shown.promises.items shown.seen.items
+observation_said tolerance U (Missed node) = judged_lines U node.judged.items node.numbers.items
+
+-- the exit status of jobs
+abbrev pub observed_status : ℕ → List SeenData → Status
+observed_status tolerance seen = if is_kept tolerance seen then status.Done else status.Infeasible
+
+-- the exit status of what a trace shows in the best order
+abbrev pub sight_status : ℕ → Sight → Status
+sight_status tolerance (Infeasible members) = status.Infeasible
+sight_status tolerance (Seen shown) = observed_status tolerance shown.seen.items
+
+-- the exit status of what a trace shows
+abbrev pub observation_status : ℕ → Observation → Status
+observation_status tolerance (Best sight) = sight_status tolerance sight
+observation_status tolerance (Ordered shown) = observed_status tolerance shown.seen.items
+observation_status tolerance (Missed node) = judged_status node.judged.items
+
+-- the answer on what the readers had is printed after what the writer held, and the status is the answer's
+abbrev pub SaysObserved :
+    ℕ → Option Preference → (set trace : Option (List ℕ)) → (before after : Option (List ℕ))
+    → Status → Type 0
+SaysObserved tolerance preference set trace before after s =
+    Prints (Observes preference set trace) (λ found. observation_said tolerance found.0 found.1)
+    (λ found. observation_status tolerance found.1) before after s

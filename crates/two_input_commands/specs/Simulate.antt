@@ -1,0 +1,198 @@
+-- What `desk simulate` answers and prints.
+use Rattle.std.specs.Prelude.{◌≡◌, ◌⊎◌, ℕ, Bool, true, false, List, [], ◌∷◌, length, map, Option, Some, None, Result, Ok, Err}
+use Rattle.task_sheet.specs.declared.prefer.Preference.{Preference}
+use Rattle.task_sheet.specs.Sheet.{Task}
+use Rattle.task_sheet.specs.Indexes.{indexes_of, listed_below}
+use Rattle.task_sheet.specs.Levels.{IsGreatestObstruction}
+use Rattle.task_sheet.specs.Orders.{IsOrder, IsPassingOrder}
+use Rattle.assignment.specs.Places.{PlaceData}
+use Rattle.assignment.specs.Placings.{IsBestPlacing, tasks_of_places}
+use Rattle.ceiling_kernel.specs.Tick.{node_in}
+use Rattle.ceiling_kernel.specs.Runs.{IsNoOverrun, MeetsTighterBounds, Runs}
+use Rattle.ceiling_kernel.specs.declared.trace.Release.{Release}
+use Rattle.ceiling_kernel.specs.declared.trace.RunFault.{RunFault}
+use Rattle.ceiling_kernel.specs.declared.trace.Trace.{Trace}
+use Rattle.judge.specs.Faults.{IsRowsFault, IsSettingsFault, rows_fault}
+use Rattle.judge.specs.Node.{IsOrderOfRows}
+use Rattle.judge.specs.Judgements.{AllJudged, order_judged}
+use Rattle.judge.specs.declared.judging.JudgedTask.{JudgedTask}
+use Rattle.judge.specs.declared.judging.Judgement.{Judgement}
+use Rattle.judge.specs.declared.judging.Judgement.TheVariants.{Meets, Misses, Below}
+use Rattle.judge.specs.declared.fault.SettingsFault.{SettingsFault}
+use Rattle.judge.specs.declared.rows.SettingRow.{SettingRow}
+use Rattle.run_lines.specs.Lines.{task_lines}
+use Rattle.run_lines.specs.Responses.{AllDoneWithin, AllKeptWithin, AllReachWithin}
+use Rattle.run_lines.specs.TaskBounds.{bounds_of}
+use Rattle.run_lines.specs.declared.bounds.TaskBound.{TaskBound}
+use Rattle.printed_runs.specs.TraceLines.{trace_lines}
+use Rattle.answering.specs.Lines.{infeasible_line}
+use Rattle.answering.specs.Printed.{Prints}
+use Rattle.answering.specs.ReleasesText.{list_in, settings_in}
+use Rattle.answering.specs.Sets.{HaveBoth, OnBoth}
+use Rattle.answering.specs.TextFaults.{IsTextFault}
+use Rattle.answering.specs.declared.refusal.CommandRefusal.{CommandRefusal}
+use Rattle.answering.specs.declared.refusal.CommandRefusal.TheVariants as refusal
+use Rattle.two_input_commands.specs.declared.simulate.Simulated.{Simulated}
+use Rattle.two_input_commands.specs.declared.simulate.Simulated.TheVariants.{Infeasible, Ordered, Ran}
+use Rattle.answering.specs.declared.status.Status.{Status}
+use Rattle.answering.specs.declared.status.Status.TheVariants as status
+
+-- the kernel's answer on the tasks in an order: each job of which the analysis bounds the response is done by then, a tick of
+-- what blocks it sooner; and none overruns where the order passes
+abbrev pub RunsOrder : List Task → List ℕ → List Release → ℕ → Result Trace CommandRefusal → Type 0
+RunsOrder U order rs until (Ok trace) =
+    Runs (node_in U order) rs until (Ok trace)
+    × MeetsTighterBounds (node_in U order) rs until trace
+RunsOrder U order rs until (Err (refusal.Run fault)) =
+    Runs (node_in U order) rs until (Err fault) × (IsPassingOrder U order → IsNoOverrun fault)
+RunsOrder U order rs until (Err refusal.OutOfMemory) = Unit {0}
+RunsOrder U order rs until _ = ⊥
+
+-- what happens in a run of an order, and what its responses promise of it: each job whose bound lies in the run is done by
+-- then, and a tick of the section that blocks it sooner; and none is done later
+pub record IsRunOf (U : List Task) (places : List PlaceData) (rs : List Release) (until : ℕ)
+    (trace : Trace) : Type 0 where
+  pub ran : Runs (node_in U (tasks_of_places places)) rs until (Ok trace)
+  pub bounds : AllDoneWithin U places rs until trace
+  pub reached : AllReachWithin U trace.jobs.items places
+  pub tighter : MeetsTighterBounds (node_in U (tasks_of_places places)) rs until trace
+
+-- ---- an order that the list gives
+-- what settings say gives this order to a set's tasks, the lowest first; there are some
+abbrev pub IsListedOrder : List Task → Result (List SettingRow) ℕ → List ℕ → Type 0
+IsListedOrder U (Ok (row ∷ rows)) order = IsOrderOfRows false U (row ∷ rows) order
+IsListedOrder U _ order = ⊥
+
+-- the first reason why they give none; none where there are none
+abbrev pub order_fault : List Task → Result (List SettingRow) ℕ → Option SettingsFault
+order_fault U (Ok (row ∷ rows)) = rows_fault false U (Ok (row ∷ rows))
+order_fault U _ = None
+
+-- the bound of a task in an order: its response, where it meets its deadline
+abbrev pub bound_judged : Judgement → Option ℕ
+bound_judged (Meets response) = Some response
+bound_judged Misses = None
+bound_judged (Below other) = None
+
+-- those of the tasks, the lowest first
+abbrev pub bounds_judged : List JudgedTask → List TaskBound
+bounds_judged judged = map (λ j. record { task = j.task; bound = bound_judged j.judgement }) judged
+
+-- what happens in a run of any order, and what the bounds that there are promise of it
+pub record IsOrderedRun (U : List Task) (judged : List JudgedTask) (rs : List Release) (until : ℕ)
+    (trace : Trace) : Type 0 where
+  pub ran : Runs (node_in U (order_judged judged)) rs until (Ok trace)
+  pub kept : AllKeptWithin U (bounds_judged judged) rs until trace
+  pub tighter : MeetsTighterBounds (node_in U (order_judged judged)) rs until trace
+
+-- ---- the answer
+-- what comes of a set, of settings and of a list: a run in the order that they give, or else in the set's best order, or
+-- that there is no such order
+abbrev pub IsSimulated : List Task → Result (List SettingRow) ℕ → Result (ℕ × List Release) ℕ
+    → Simulated → Type 0
+IsSimulated U settings list (Ran run) =
+    (settings ≡ Ok []) × IsBestPlacing U run.places.items
+    × (list ≡ Ok (run.until, run.releases.items))
+    × IsRunOf U run.places.items run.releases.items run.until run.trace
+IsSimulated U settings list (Infeasible left) =
+    (settings ≡ Ok []) × IsGreatestObstruction U (indexes_of left)
+    × ((until : ℕ) × (rs : List Release) × (list ≡ Ok (until, rs)))
+IsSimulated U settings list (Ordered run) =
+    IsListedOrder U settings (order_judged run.judged.items) × AllJudged U run.judged.items
+    × (list ≡ Ok (run.until, run.releases.items))
+    × IsOrderedRun U run.judged.items run.releases.items run.until run.trace
+
+-- the answer on a set and a list in an order of the set
+abbrev pub SimulatesIn : List Task → List ℕ → ℕ → List Release → Result Simulated CommandRefusal → Type 0
+SimulatesIn U order until rs (Ok (Ordered run)) =
+    (order_judged run.judged.items ≡ order) × AllJudged U run.judged.items
+    × (run.until ≡ until) × (run.releases.items ≡ rs)
+    × IsOrderedRun U run.judged.items run.releases.items run.until run.trace
+SimulatesIn U order until rs (Ok _) = ⊥
+SimulatesIn U order until rs (Err r) = RunsOrder U order rs until (Err r)
+
+-- why a list isn't run in a set's best order, in which no job overruns the one before it
+abbrev pub IsStopped : List Task → Result (List SettingRow) ℕ → Result (ℕ × List Release) ℕ
+    → RunFault → Type 0
+IsStopped U settings list fault =
+    (settings ≡ Ok [])
+    × ((places : List PlaceData) × (until : ℕ) × (rs : List Release) × IsBestPlacing U places
+    × (list ≡ Ok (until, rs)) × Runs (node_in U (tasks_of_places places)) rs until
+    (Err fault) × IsNoOverrun fault)
+
+-- why one isn't run in an order that settings give, in which a job may, unless the order passes
+abbrev pub IsStoppedInOrder : List Task → Result (List SettingRow) ℕ → Result (ℕ × List Release) ℕ
+    → RunFault → Type 0
+IsStoppedInOrder U settings list fault =
+    (order : List ℕ) × (until : ℕ) × (rs : List Release) × IsListedOrder U settings order
+    × (list ≡ Ok (until, rs)) × RunsOrder U order rs until (Err (refusal.Run fault))
+
+-- the answer on a set, on settings and on a list: the lines of both come first, and then the order
+abbrev pub SimulatesRead : List Task → Result (List SettingRow) ℕ → Result (ℕ × List Release) ℕ
+    → Result Simulated CommandRefusal → Type 0
+SimulatesRead U settings list (Ok answer) = IsSimulated U settings list answer
+SimulatesRead U settings list (Err (refusal.Settings fault)) =
+    IsRowsFault fault settings
+    ⊎ ((until : ℕ) × (rs : List Release) × (list ≡ Ok (until, rs))
+    × IsSettingsFault fault (order_fault U settings))
+SimulatesRead U settings list (Err (refusal.Text fault)) =
+    (rows : List SettingRow) × (settings ≡ Ok rows) × IsTextFault fault list
+SimulatesRead U settings list (Err (refusal.Run fault)) =
+    IsStopped U settings list fault ⊎ IsStoppedInOrder U settings list fault
+SimulatesRead U settings list (Err refusal.OutOfMemory) = Unit {0}
+SimulatesRead U settings list _ = ⊥
+
+-- the answer on a set and the text of a release list
+abbrev pub SimulatesText : List Task → List ℕ → Result Simulated CommandRefusal → Type 0
+SimulatesText U text answer = SimulatesRead U (settings_in text) (list_in text) answer
+
+-- the answer on what the readers have of a set and of a release list, with the set
+abbrev pub Simulates : Option Preference → Option (List ℕ) → Option (List ℕ)
+    → Result (List Task × Simulated) CommandRefusal → Type 0
+Simulates preference set releases (Ok answer) =
+    (text : List ℕ) × HaveBoth preference set releases answer.0 text
+    × SimulatesText answer.0 text (Ok answer.1)
+Simulates preference set releases (Err r) = OnBoth SimulatesText preference set releases (Err r)
+
+-- what is printed of what came of a set
+abbrev pub simulation_said : List Task → Simulated → List ℕ
+simulation_said U (Ran run) = trace_lines run.trace
+simulation_said U (Ordered run) = trace_lines run.trace
+simulation_said U (Infeasible left) = infeasible_line U (listed_below (length U) (indexes_of left))
+
+-- the exit status of what came of a set
+abbrev pub simulation_status : Simulated → Status
+simulation_status (Ran run) = status.Done
+simulation_status (Ordered run) = status.Done
+simulation_status (Infeasible left) = status.Infeasible
+
+-- the answer on what the readers had is printed by a rule after what the writer held, and the status is the answer's
+abbrev pub SaysRun : (List Task → Simulated → List ℕ)
+    → Option Preference → (set releases : Option (List ℕ)) → (before after : Option (List ℕ)) → Status
+    → Type 0
+SaysRun said preference set releases before after s =
+    Prints (Simulates preference set releases) (λ found. said found.0 found.1)
+    (λ found. simulation_status found.1) before after s
+
+-- what is printed of what came of a set, by task: a line for each, the lowest level first
+abbrev pub reached_said : List Task → Simulated → List ℕ
+reached_said U (Ran run) = task_lines U run.trace.jobs.items (bounds_of run.places.items)
+reached_said U (Ordered run) = task_lines U run.trace.jobs.items (bounds_judged run.judged.items)
+reached_said U (Infeasible left) = infeasible_line U (listed_below (length U) (indexes_of left))
+
+-- a run is one in an order of the set
+abbrev pub IsInOrder : List Task → Simulated → Type 0
+IsInOrder U (Ran run) = IsOrder U (tasks_of_places run.places.items)
+IsInOrder U (Ordered run) = IsOrder U (order_judged run.judged.items)
+IsInOrder U (Infeasible left) = Unit {0}
+
+-- it is printed as the lines of a trace
+abbrev pub SaysSimulated : Option Preference → (set releases : Option (List ℕ))
+    → (before after : Option (List ℕ)) → Status → Type 0
+SaysSimulated = SaysRun simulation_said
+
+-- or as those of what the tasks came to, where the words say so
+abbrev pub SaysSimulation : Bool → Option Preference → (set releases : Option (List ℕ))
+    → (before after : Option (List ℕ)) → Status → Type 0
+SaysSimulation false = SaysSimulated
+SaysSimulation true = SaysRun reached_said

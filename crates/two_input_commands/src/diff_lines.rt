@@ -1,0 +1,139 @@
+//! `desk diff`.
+ghost use Rattle.std.specs.Prelude.{◌≡◌, ◌++◌, Err, IfOk, MatchResult, string_bytes};
+ghost use Rattle.assignment.specs.Placings.{IsPlacingOf};
+ghost use Rattle.two_input_commands.specs.Diff.{ComparesText, IsNew, both_lines, compared_lines, does_weigh};
+ghost use Rattle.teams.specs.ReadsText.{ReadsText};
+
+use answering::{CommandRefusal, OrderPart, joined, placing_text};
+use assignment::{Placing, place_all};
+use ceilings::LockTable;
+use diff::{Side, change_text};
+use owners::{Naming, Owner, named_text, read_owners};
+use preferences::{Preference, read_preferred};
+use std::alloc::{AllocError, Global};
+use task_sheet::TaskSet;
+use teams::TeamsFault;
+
+/// What becomes of a set, and the set that it becomes.
+#[derive(Drop)]
+pub struct Compared {
+    /// What became of the first set.
+    pub was: Placing,
+    /// The new set.
+    pub set: TaskSet,
+    /// Whose its tasks are.
+    pub owners: Vec<Owner>,
+    /// What becomes of it.
+    pub is: Placing,
+    /// Whether weights are the sheets' own.
+    pub weighs: bool,
+}
+
+// What becomes of a set's tasks.
+fn place_set(alloc: Global, set: &TaskSet) -> Result<Placing, AllocError>
+    ensures { IfOk result (λ placing. IsPlacingOf set.now placing) }
+{
+    let table = LockTable::new(alloc, set)?;
+    place_all(alloc, set, &table)
+}
+
+// Whether weights are the sheets' own.
+fn does_weigh(preference: Preference) -> bool
+    ensures { result ≡ does_weigh preference }
+{
+    match preference {
+        Preference::Weights => true,
+        _ => false,
+    }
+}
+
+// The set that a text says, by what the call prefers or else the text, and whether weights are the sheets' own there.
+fn read_new(
+    alloc: Global,
+    preference: Option<Preference>,
+    text: &[u8],
+) -> Result<(TaskSet, bool), TeamsFault>
+    ensures { MatchResult result (λ new. IsNew preference text.now new.0 new.1)
+        (λ fault. ReadsText text.now (Err fault)) }
+{
+    match read_preferred(alloc, text, preference) {
+        Ok(new) => Ok((new.set, does_weigh(new.choice.preference()))),
+        Err(fault) => Err(fault),
+    }
+}
+
+/// What becomes of a set and of the one that a text says.
+pub fn compare_text(
+    alloc: Global,
+    preference: Option<Preference>,
+    tasks: &TaskSet,
+    text: &[u8],
+) -> Result<Compared, CommandRefusal>
+    ensures { ComparesText preference tasks.now text.now result }
+{
+    let (set, weighs) = match read_new(alloc, preference, text) {
+        Ok(new) => new,
+        Err(fault) => return Err(CommandRefusal::New(fault)),
+    };
+    let owners = read_owners(alloc, text)?;
+    let was = place_set(alloc, tasks)?;
+    let is = place_set(alloc, &set)?;
+    Ok(Compared {
+        was,
+        set,
+        owners,
+        is,
+        weighs,
+    })
+}
+
+// What becomes of the new set, and what became of the old one.
+fn both_text(alloc: Global, old: &Side<'_>, new: &Side<'_>) -> Result<String, AllocError>
+    requires was { IsPlacingOf old.now.set.now old.now.placing.now }
+    requires is { IsPlacingOf new.now.set.now new.now.placing.now }
+    ensures { IfOk result (λ text. string_bytes text
+        ≡ both_lines old.now.set.now old.now.placing.now new.now.set.now new.now.placing.now) }
+{
+    let mut text = placing_text(alloc, OrderPart::Count, new.set, new.placing)?;
+    text.push_str("was ")?;
+    let was = placing_text(alloc, OrderPart::Count, old.set, old.placing)?;
+    text.push_str(was.as_str())?;
+    Ok(text)
+}
+
+// Whose the tasks of the new set are, and then whose those of the old one.
+fn all_owners(alloc: Global, new: &[Owner], old: &[Owner]) -> Result<Vec<Owner>, AllocError>
+    ensures { IfOk result (λ all. all.items ≡ new.now ++ old.now) }
+{
+    let mut all = Vec::new(alloc);
+    all.extend_from_slice(new)?;
+    all.extend_from_slice(old)?;
+    Ok(all)
+}
+
+/// What becomes of the new set, what became of the old one, and then the change, each task with its team.
+pub fn compared_text(
+    alloc: Global,
+    owners: &[Owner],
+    tasks: &TaskSet,
+    compared: &Compared,
+) -> Result<Vec<u8>, AllocError>
+    requires was { IsPlacingOf tasks.now compared.now.was }
+    requires is { IsPlacingOf compared.now.set compared.now.is }
+    ensures { IfOk result (λ text. text.items ≡ compared_lines owners.now tasks.now compared.now) }
+{
+    let old = Side {
+        set: tasks,
+        placing: &compared.was,
+    };
+    let new = Side {
+        set: &compared.set,
+        placing: &compared.is,
+    };
+    let first = both_text(alloc, &old, &new)?;
+    let change = change_text(alloc, compared.weighs, &old, &new)?;
+    let all = all_owners(alloc, &compared.owners, owners)?;
+    let named = named_text(alloc, Naming::Changes, &all, change.as_bytes())?;
+    let text = joined(alloc, first.as_bytes(), &named)?;
+    Ok(text)
+}

@@ -1,0 +1,34 @@
+//! `desk judge`.
+ghost use Rattle.std.specs.Prelude.{◌≡◌, ◌<◌, All, IfOk};
+ghost use Rattle.task_sheet.specs.declared.set.TheConstants.{TASK_LIMIT};
+ghost use Rattle.two_input_commands.specs.Judge.{JudgesText, judged_status};
+
+use answering::{CommandRefusal, Status};
+use judge::{JudgedNode, JudgedTask, all_meet, judge_settings};
+use std::alloc::Global;
+use task_sheet::TaskSet;
+
+/// What becomes of a set's tasks in the order that the text of settings gives, with the numbers of their threads; a
+/// smaller number may be the higher one.
+pub fn judge_text(
+    alloc: Global,
+    lower_is_higher: bool,
+    tasks: &TaskSet,
+    text: &[u8],
+) -> Result<JudgedNode, CommandRefusal>
+    ensures answer { JudgesText lower_is_higher tasks.now text.now result }
+    ensures within { IfOk result (λ node. All (λ j. j.task < TASK_LIMIT) node.judged.items) }
+{
+    judge_settings(alloc, tasks, lower_is_higher, text).map_err(CommandRefusal::Settings)
+}
+
+/// The exit status of an order.
+pub fn judged_status(judged: &[JudgedTask]) -> Status
+    ensures { result ≡ judged_status judged.now }
+{
+    if all_meet(judged) {
+        Status::Done
+    } else {
+        Status::Infeasible
+    }
+}

@@ -1,0 +1,27 @@
+//! The commands of `desk` on a task set and a second input: what they find, and what is printed of it.
+#![tactic(auto)]
+
+mod check;
+mod diff_lines;
+mod draw;
+mod explain_at_lines;
+mod in_order;
+mod judge_lines;
+mod keep_lines;
+mod limits_at_lines;
+mod observe_lines;
+mod simulate;
+mod view;
+mod worst_at_lines;
+
+pub use check::{check_text, checked_line};
+pub use diff_lines::{Compared, compare_text, compared_text};
+pub use draw::{Drawing, draw_text, print_drawing};
+pub use explain_at_lines::{explain_at, explained_at_text};
+pub use in_order::InOrder;
+pub use judge_lines::{judge_text, judged_status};
+pub use keep_lines::{keep_text, keeping_status, keeping_text};
+pub use limits_at_lines::limits_at;
+pub use observe_lines::{Observation, observe_text, print_observation, tolerance_of};
+pub use simulate::{OrderedRun, Run, Simulated, print_reached, print_simulated, simulate_text};
+pub use worst_at_lines::worst_at;

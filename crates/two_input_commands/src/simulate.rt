@@ -1,0 +1,300 @@
+//! `desk simulate`.
+ghost use Rattle.std.specs.Prelude.{◌≡◌, ◌<◌, length, Ok, [], IfOk, string_bytes};
+ghost use Rattle.task_sheet.specs.Orders.{IsBest, IsOrder};
+ghost use Rattle.assignment.specs.Placings.{tasks_of_places};
+ghost use Rattle.ceilings.specs.IsTableOf.{IsTableOf};
+ghost use Rattle.judge.specs.Judgements.{order_judged};
+ghost use Rattle.run_lines.specs.Lines.{task_lines};
+ghost use Rattle.run_lines.specs.TaskBounds.{bounds_of, tasks_of_bounds};
+ghost use Rattle.answering.specs.ReleasesText.{list_at};
+ghost use Rattle.answering.specs.Outcomes.{IsSaidOn};
+ghost use Rattle.answering.specs.Printed.{IsPrinted};
+ghost use Rattle.two_input_commands.specs.Simulate.{IsInOrder, RunsOrder, SimulatesIn, SimulatesRead, SimulatesText, bound_judged, bounds_judged, reached_said, simulation_said, simulation_status};
+
+use answering::{CommandRefusal, Status, print_made, print_stuck, read_releases};
+use assignment::{Place, Placing, place_all, tasks_of_places};
+use ceiling_kernel::{Kernel, KernelFault, Release, Trace};
+use ceilings::LockTable;
+use judge::{Front, JudgedTask, Judgement, SettingRow, judge_order, order_of_rows, read_front};
+use lines::TextPlace;
+use printed_runs::trace_text;
+use run_lines::{TaskBound, bounds_of, tasks_text};
+use std::alloc::{AllocError, Global};
+use std::io::Write;
+use streams::Watched;
+use task_sheet::{Members, TaskSet};
+
+/// A run of a set's tasks at the levels of their best order.
+#[derive(Drop)]
+pub struct Run {
+    /// The lowest level first.
+    pub places: Vec<Place>,
+    /// In microseconds.
+    pub until: u64,
+    pub releases: Vec<Release>,
+    /// What happened.
+    pub trace: Trace,
+}
+
+/// A run of a set's tasks in the order that a release list gives.
+#[derive(Drop)]
+pub struct OrderedRun {
+    /// The lowest level first, each with what becomes of it there.
+    pub judged: Vec<JudgedTask>,
+    /// In microseconds.
+    pub until: u64,
+    pub releases: Vec<Release>,
+    /// What happened.
+    pub trace: Trace,
+}
+
+/// What a simulation comes to.
+#[derive(Drop)]
+pub enum Simulated {
+    /// No order of the set passes, and nothing was run: the members of the greatest obstruction.
+    Infeasible(Members),
+    Ran(Run),
+    /// The list gives an order, which may pass or not.
+    Ordered(OrderedRun),
+}
+
+// Runs the tasks at the levels of an order.
+fn run_order(
+    alloc: Global,
+    set: &TaskSet,
+    order: &[usize],
+    until: u64,
+    releases: &[Release],
+) -> Result<Trace, CommandRefusal>
+    requires { IsOrder set.now order.now }
+    ensures { RunsOrder set.now order.now releases.now until result }
+{
+    let kernel = match Kernel::new(alloc, set, order) {
+        Ok(kernel) => kernel,
+        Err(KernelFault::OutOfMemory) => return Err(CommandRefusal::OutOfMemory),
+        Err(KernelFault::WrongOrder) => unreachable!(),
+    };
+    match kernel.run(alloc, releases, until) {
+        Ok(trace) => Ok(trace),
+        Err(fault) => Err(CommandRefusal::Run(fault)),
+    }
+}
+
+// Runs the tasks at the levels of their best order.
+fn run_best(
+    alloc: Global,
+    set: &TaskSet,
+    places: &[Place],
+    until: u64,
+    releases: &[Release],
+) -> Result<Trace, CommandRefusal>
+    requires { IsBest set.now (tasks_of_places places.now) }
+    ensures { RunsOrder set.now (tasks_of_places places.now) releases.now until result }
+{
+    let order = tasks_of_places(alloc, places)?;
+    run_order(alloc, set, &order, until, releases)
+}
+
+// What a set and a release list come to in the set's best order.
+fn simulate_best(
+    alloc: Global,
+    tasks: &TaskSet,
+    until: u64,
+    releases: Vec<Release>,
+) -> Result<Simulated, CommandRefusal>
+    ensures { SimulatesRead tasks.now (Ok []) (Ok (until, releases.items)) result }
+{
+    // The set is valid: the proof has it from its sheets.
+    let _ = tasks.sheets();
+    let table = LockTable::new(alloc, tasks)?;
+    match place_all(alloc, tasks, &table)? {
+        Placing::Stuck(members) => Ok(Simulated::Infeasible(members)),
+        Placing::Best(places) => {
+            let trace = run_best(alloc, tasks, &places, until, &releases)?;
+            Ok(Simulated::Ran(Run {
+                places,
+                until,
+                releases,
+                trace,
+            }))
+        }
+    }
+}
+
+// What a set and a release list come to in an order of the set.
+fn simulate_in(
+    alloc: Global,
+    tasks: &TaskSet,
+    table: &LockTable,
+    order: &[usize],
+    until: u64,
+    releases: Vec<Release>,
+) -> Result<Simulated, CommandRefusal>
+    requires table { IsTableOf tasks.now table.now }
+    requires order { IsOrder tasks.now order.now }
+    ensures { SimulatesIn tasks.now order.now until releases.items result }
+{
+    // The set is valid: the proof has it from its sheets.
+    let _ = tasks.sheets();
+    let judged = judge_order(alloc, tasks, table, order)?;
+    let trace = run_order(alloc, tasks, order, until, &releases)?;
+    Ok(Simulated::Ordered(OrderedRun {
+        judged,
+        until,
+        releases,
+        trace,
+    }))
+}
+
+// What a set and a release list come to in the order that some settings give.
+fn simulate_order(
+    alloc: Global,
+    tasks: &TaskSet,
+    rows: &[SettingRow],
+    until: u64,
+    releases: Vec<Release>,
+) -> Result<Simulated, CommandRefusal>
+    requires { 0 < length rows.now }
+    ensures { SimulatesRead tasks.now (Ok rows.now) (Ok (until, releases.items)) result }
+{
+    let table = LockTable::new(alloc, tasks)?;
+    let order = match order_of_rows(alloc, tasks, &table, false, rows) {
+        Ok(order) => order,
+        Err(fault) => return Err(CommandRefusal::Settings(fault)),
+    };
+    simulate_in(alloc, tasks, &table, &order, until, releases)
+}
+
+// What a set and a release list come to behind settings, of which there may be none.
+fn simulate_rows(
+    alloc: Global,
+    tasks: &TaskSet,
+    rows: &[SettingRow],
+    until: u64,
+    releases: Vec<Release>,
+) -> Result<Simulated, CommandRefusal>
+    ensures { SimulatesRead tasks.now (Ok rows.now) (Ok (until, releases.items)) result }
+{
+    if rows.is_empty() {
+        simulate_best(alloc, tasks, until, releases)
+    } else {
+        simulate_order(alloc, tasks, rows, until, releases)
+    }
+}
+
+// What a set and a release list come to whose settings were read.
+fn simulate_front(
+    alloc: Global,
+    tasks: &TaskSet,
+    front: &Front<'_>,
+) -> Result<Simulated, CommandRefusal>
+    ensures { SimulatesRead tasks.now (Ok front.now.rows.items)
+        (list_at front.now.behind.line front.now.behind.rest.now) result }
+{
+    match read_releases(alloc, front.behind) {
+        Ok((until, releases)) => simulate_rows(alloc, tasks, &front.rows, until, releases),
+        Err(fault) => Err(CommandRefusal::Text(fault)),
+    }
+}
+
+/// What a set and a release list's text come to.
+pub fn simulate_text(
+    alloc: Global,
+    tasks: &TaskSet,
+    text: &[u8],
+) -> Result<Simulated, CommandRefusal>
+    ensures answer { SimulatesText tasks.now text.now result }
+    ensures order { IfOk result (IsInOrder tasks.now) }
+{
+    match read_front(alloc, TextPlace::start(text)) {
+        Ok(front) => simulate_front(alloc, tasks, &front),
+        Err(fault) => Err(CommandRefusal::Settings(fault)),
+    }
+}
+
+// The bound of a task in an order.
+fn bound_judged(judgement: Judgement) -> Option<u64>
+    ensures { result ≡ bound_judged judgement }
+{
+    match judgement {
+        Judgement::Meets { response } => Some(response),
+        Judgement::Misses | Judgement::Below { .. } => None,
+    }
+}
+
+// The bounds of tasks in an order.
+pub(crate) fn bounds_judged(
+    alloc: Global,
+    judged: &[JudgedTask],
+) -> Result<Vec<TaskBound>, AllocError>
+    ensures bounds { IfOk result (λ bounds. bounds.items ≡ bounds_judged judged.now) }
+    ensures tasks { IfOk result (λ bounds. tasks_of_bounds bounds.items ≡ order_judged judged.now) }
+{
+    let mut bounds = Vec::with_capacity(alloc, judged.len())?;
+    for entry in judged {
+        bounds.push(TaskBound {
+            task: entry.task,
+            bound: bound_judged(entry.judgement),
+        })?;
+    }
+    Ok(bounds)
+}
+
+// The lines of what the tasks of a set came to in a run of its best order.
+fn reached_text(alloc: Global, set: &TaskSet, run: &Run) -> Result<String, AllocError>
+    requires { IsOrder set.now (tasks_of_places run.now.places.items) }
+    ensures { IfOk result (λ text. string_bytes text
+        ≡ task_lines set.now run.now.trace.jobs.items (bounds_of run.now.places.items)) }
+{
+    let bounds = bounds_of(alloc, &run.places)?;
+    tasks_text(alloc, set, &bounds, &run.trace.jobs)
+}
+
+// The same of a run in a given order.
+fn ordered_text(alloc: Global, set: &TaskSet, run: &OrderedRun) -> Result<String, AllocError>
+    requires { IsOrder set.now (order_judged run.now.judged.items) }
+    ensures { IfOk result (λ text. string_bytes text
+        ≡ task_lines set.now run.now.trace.jobs.items (bounds_judged run.now.judged.items)) }
+{
+    let bounds = bounds_judged(alloc, &run.judged)?;
+    tasks_text(alloc, set, &bounds, &run.trace.jobs)
+}
+
+/// Prints the lines of the trace of a run, or why there is none.
+pub fn print_simulated<W: Write + Drop>(
+    alloc: Global,
+    tasks: &TaskSet,
+    answer: &Simulated,
+    output: &mut Watched<W>,
+) -> Status
+    ensures { IsSaidOn (λ before after s. IsPrinted before after (simulation_said tasks.now answer.now)
+        (simulation_status answer.now) s) W.contents output.old output.new result }
+{
+    match answer {
+        Simulated::Ran(run) => print_made(trace_text(alloc, &run.trace), Status::Done, output),
+        Simulated::Ordered(run) => print_made(trace_text(alloc, &run.trace), Status::Done, output),
+        Simulated::Infeasible(members) => print_stuck(alloc, tasks, *members, output),
+    }
+}
+
+/// Prints what the tasks came to in a run, or why there is none.
+pub fn print_reached<W: Write + Drop>(
+    alloc: Global,
+    tasks: &TaskSet,
+    answer: &Simulated,
+    output: &mut Watched<W>,
+) -> Status
+    requires { IsInOrder tasks.now answer.now }
+    ensures { IsSaidOn (λ before after s. IsPrinted before after (reached_said tasks.now answer.now)
+        (simulation_status answer.now) s) W.contents output.old output.new result }
+{
+    match answer {
+        Simulated::Ran(run) => print_made(reached_text(alloc, tasks, run), Status::Done, output),
+        Simulated::Ordered(run) => print_made(
+            ordered_text(alloc, tasks, run),
+            Status::Done,
+            output,
+        ),
+        Simulated::Infeasible(members) => print_stuck(alloc, tasks, *members, output),
+    }
+}

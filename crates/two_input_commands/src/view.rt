@@ -1,0 +1,124 @@
+//! The view that the words of `desk draw` choose.
+ghost use Rattle.std.specs.Prelude.{◌≡◌, [], Ok, Err, Some, IfOk, option_map, MatchResult};
+ghost use Rattle.std.specs.Option.{unwrap_or};
+ghost use Rattle.two_input_commands.specs.View.{AsksRows, IsViewOf, Notes, is_unseen, known_name, rows_word};
+
+use crate::simulate::Simulated;
+use answering::CommandRefusal;
+use command_line::Options;
+use frames::View;
+use lines::{cut, name_of};
+use std::alloc::{AllocError, Global};
+use task_sheet::{Name, TaskSet};
+
+// The name of a task that a part of a word is.
+fn known_name(tasks: &TaskSet, part: &[u8]) -> Option<Name>
+    ensures { result ≡ known_name tasks.now part.now }
+{
+    let name = name_of(part)?;
+    match tasks.find(name) {
+        Some(_) => Some(name),
+        None => None,
+    }
+}
+
+// The name of one more task among those that have rows, or that there is none.
+fn note_name(names: &mut Vec<Name>, tasks: &TaskSet, part: &[u8]) -> Result<(), CommandRefusal>
+    ensures { Notes tasks.now part.now names.old.items names.new.items result }
+{
+    let Some(name) = known_name(tasks, part) else {
+        return Err(CommandRefusal::NoSuchTask {
+            name: name_of(part),
+        });
+    };
+    match names.push(name) {
+        Ok(()) => Ok(()),
+        Err(_) => Err(CommandRefusal::OutOfMemory),
+    }
+}
+
+// The names of the tasks that the parts of a text name, or that there is none of a name.
+fn names_in(alloc: Global, tasks: &TaskSet, text: &[u8]) -> Result<Vec<Name>, CommandRefusal>
+    ensures { MatchResult result (λ names. AsksRows tasks.now (Some text.now) (Ok names.items))
+        (λ r. AsksRows tasks.now (Some text.now) (Err r)) }
+{
+    let mut names = Vec::new(alloc);
+    let mut rest = text;
+    for _ in 0..text.len() + 1 {
+        match cut(rest, b',') {
+            None => {
+                note_name(&mut names, tasks, rest)?;
+                return Ok(names);
+            }
+            Some((part, after)) => {
+                note_name(&mut names, tasks, part)?;
+                rest = after;
+            }
+        }
+    }
+    unreachable!()
+}
+
+// The same, where there is a word.
+fn rows_of(alloc: Global, tasks: &TaskSet, word: Option<&str>) -> Result<Vec<Name>, CommandRefusal>
+    ensures { MatchResult result
+        (λ names. AsksRows tasks.now (option_map (λ w. w.now) word.entry) (Ok names.items))
+        (λ r. AsksRows tasks.now (option_map (λ w. w.now) word.entry) (Err r)) }
+{
+    match word {
+        None => Ok(Vec::new(alloc)),
+        Some(word) => names_in(alloc, tasks, word.as_bytes()),
+    }
+}
+
+// The title, where there is one.
+fn title_of(alloc: Global, word: Option<&str>) -> Result<Vec<u8>, AllocError>
+    ensures { IfOk result (λ title. title.items ≡ unwrap_or (option_map (λ w. w.now) word.entry) []) }
+{
+    let mut title = Vec::new(alloc);
+    if let Some(word) = word {
+        title.extend_from_slice(word.as_bytes())?;
+    }
+    Ok(title)
+}
+
+// A number that words say.
+fn number_said(number: Option<usize>) -> Option<u64>
+    ensures { result ≡ number }
+{
+    match number {
+        Some(number) => Some(number as u64),
+        None => None,
+    }
+}
+
+// The view that words choose.
+pub(crate) fn view_of(
+    alloc: Global,
+    options: Options<'_>,
+    tasks: &TaskSet,
+) -> Result<View, CommandRefusal>
+    ensures { MatchResult result (IsViewOf tasks.now options.entry)
+        (λ r. AsksRows tasks.now (rows_word options.entry) (Err r)) }
+{
+    let tasks = rows_of(alloc, tasks, options.rows)?;
+    let title = title_of(alloc, options.title)?;
+    Ok(View {
+        from: options.from.unwrap_or(0) as u64,
+        to: number_said(options.to),
+        width: number_said(options.width),
+        title,
+        tasks,
+    })
+}
+
+// Whether nothing of what came of a set and a list lies in the window of a view.
+pub(crate) fn is_unseen(view: &View, answer: &Simulated) -> bool
+    ensures { result ≡ is_unseen view.now answer.now }
+{
+    match answer {
+        Simulated::Ran(run) => view.is_empty(run.until),
+        Simulated::Ordered(run) => view.is_empty(run.until),
+        Simulated::Infeasible(_) => false,
+    }
+}
