@@ -18,7 +18,7 @@ use std::io::Write;
 use streams::{Watched, WriteFailed};
 use task_sheet::TaskSet;
 
-/// Tells a person what is wrong with an input, and what is odd in a set. A sentence for which memory is wanting, or that
+/// Tells a person what is wrong with an input, and what is odd in a set. A sentence for which memory runs out, or that
 /// can't be written, is dropped: no answer and no status rests on it.
 #[derive(Drop)]
 pub struct Advice<'a, W: Write + Drop> {

@@ -62,7 +62,7 @@ fn of_view(alloc: Global, bytes: &[u8], options: Options<'_>) -> Option<String> 
     of_window(alloc, bytes, options.from.unwrap_or(0), options.to)
 }
 
-/// What is wrong with an input, from its bytes. None for want of memory, here or before, and for what is no fault of an
+/// What is wrong with an input, from its bytes. None where memory ran out, here or before, and for what is no fault of an
 /// input.
 pub(crate) fn sentence_of(
     alloc: Global,

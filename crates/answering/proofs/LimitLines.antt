@@ -6,7 +6,8 @@ use Rattle.limit_lines.specs.Lines.{AreTaskLines}
 use Rattle.answering.specs.LimitLines.{AreLines}
 
 -- the lines of one task more
-pub lines_more : (U : List Task) (places : Option (List PlaceData)) (k : ℕ) (front lines : List ℕ) → AreLines U places k front → AreTaskLines U places k lines
+pub lines_more : (U : List Task) (places : Option (List PlaceData)) (k : ℕ) (front lines : List ℕ)
+    → AreLines U places k front → AreTaskLines U places k lines
     → AreLines U places (k + 1) (front ++ lines)
 lines_more U places k front lines before are =
     let next : suc k ≡ k + 1 = omega arith in

@@ -14,7 +14,7 @@ abbrev pub HasSet : Option Preference → Option (List ℕ) → List Task → Ty
 HasSet preference known U =
     (bytes : List ℕ) × IsReadFrom known bytes × SaysPreferred preference bytes U
 
--- why there is no set: the input was not read, or the first fault of its bytes. Want of memory may come at any time,
+-- why there is no set: the input was not read, or the first fault of its bytes. Out of memory may come at any time,
 -- and the function's own clause says where a failed read is answered.
 abbrev pub HasNoSet : Option (List ℕ) → CommandRefusal → Type 0
 HasNoSet known (refusal.Input input.TooLong) = IsTooLong known

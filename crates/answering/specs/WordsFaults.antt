@@ -21,7 +21,7 @@ fault_status (fault.Clap error) = kind_status (kind_of error)
 fault_status fault.NoSuchPreference = status.BadArguments
 fault_status fault.InputTwice = status.BadArguments
 
--- help, and want of memory, are answered on the output; any mistake is answered on the errors
+-- help, and out of memory, are answered on the output; any mistake is answered on the errors
 abbrev pub kind_goes_out : ErrorKind → Bool
 kind_goes_out kind.OutOfMemory = true
 kind_goes_out kind.DisplayHelp = true
@@ -34,7 +34,7 @@ goes_out (fault.Clap error) = kind_goes_out (kind_of error)
 goes_out fault.NoSuchPreference = false
 goes_out fault.InputTwice = false
 
--- memory was wanting
+-- memory ran out
 abbrev pub IsMemory : WordsFault → Type 0
 IsMemory (fault.Clap error) = kind_of error ≡ kind.OutOfMemory
 IsMemory fault.NoSuchPreference = ⊥

@@ -99,7 +99,7 @@ pub fn joined(alloc: Global, first: &[u8], second: &[u8]) -> Result<Vec<u8>, All
     Ok(both)
 }
 
-/// Prints the line of an obstruction, or that memory was wanting for it.
+/// Prints the line of an obstruction, or that memory ran out for it.
 pub fn print_stuck<W: Write + Drop>(
     alloc: Global,
     set: &TaskSet,

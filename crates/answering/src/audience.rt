@@ -16,7 +16,7 @@ pub enum Which {
 /// Somebody who is told what became of a command's inputs, beside its answer. No contract speaks of what it does with
 /// that: no answer rests on it.
 pub trait Audience {
-    /// A set was read, and an answer on it follows, or want of memory for its lines.
+    /// A set was read, and an answer on it follows, or out of memory for its lines.
     fn read(&mut self, set: &TaskSet);
 
     /// What becomes of the tasks of a set that was read, by their analysis.

@@ -85,7 +85,7 @@ fn show<W: Write + Drop>(error: &Error, status: Status, writer: &mut Watched<W>)
     }
 }
 
-/// Prints why words were refused: help to the output, want of memory as each command prints it,
+/// Prints why words were refused: help to the output, out of memory as each command prints it,
 /// and anything else to the errors.
 pub fn refuse_words<O: Write + Drop, E: Write + Drop>(
     fault: &WordsFault,

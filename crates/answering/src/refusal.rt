@@ -274,7 +274,7 @@ fn write_teams_fault<W: fmt::Write>(fault: TeamsFault, f: &mut fmt::Formatter<W>
     }
 }
 
-// The same of the new set's text, which the line says; want of memory stands alone.
+// The same of the new set's text, which the line says; out of memory stands alone.
 fn write_new_fault<W: fmt::Write>(fault: TeamsFault, f: &mut fmt::Formatter<W>) -> fmt::Result
     ensures { DisplaysOnOk W.write_str_gives f.old result (Some (words_of (CommandRefusal.New fault)))
         f.new }

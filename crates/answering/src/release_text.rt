@@ -11,12 +11,12 @@ use ceiling_kernel::Release;
 use lines::{TextPlace, Words, name_of, next_kept, number_of};
 use std::alloc::{AllocFailed, Global};
 
-/// Why a text is no release list, or want of memory. Lines are counted from 1.
+/// Why a text is no release list, or out of memory. Lines are counted from 1.
 #[derive(Clone, Copy, Debug, PartialEq, Eq)]
 pub enum TextFault {
     /// The line is not one that may stand there; one past the last where the line `until N` is missing.
     BadLine { line: u64 },
-    /// A growth was refused.
+    /// An allocation was refused.
     OutOfMemory,
 }
 

@@ -17,14 +17,17 @@ use Rattle.answering.specs.Owning.{HaveOwned}
 use Rattle.answering.specs.Sets.{HaveBoth}
 use Rattle.two_input_commands.specs.Simulate.{SaysSimulation}
 use Rattle.desk_cli.specs.declared.of_two.Found.{Found}
-use Rattle.desk_cli.specs.declared.of_two.Found.TheVariants.{Shown, Compared, Judged, Simulated, Reached, Drawn, Observed, Keeping, WorstAt, ExplainedAt, LimitedAt}
+use Rattle.desk_cli.specs.declared.of_two.Found.TheVariants.{Shown, Compared, Judged, Simulated}
+use Rattle.desk_cli.specs.declared.of_two.Found.TheVariants.{Reached, Drawn, Observed, Keeping}
+use Rattle.desk_cli.specs.declared.of_two.Found.TheVariants.{WorstAt, ExplainedAt, LimitedAt}
 use Rattle.answering.specs.declared.refusal.CommandRefusal.{CommandRefusal}
 use Rattle.answering.specs.declared.refusal.CommandRefusal.TheVariants as refusal
 use Rattle.answering.specs.declared.status.Status.{Status}
 use Rattle.desk_cli.proofs.Refused.{two_refused}
 
 -- no text is refused as an input that was not read
-pub never_unread : (c : OfTwo) (options : Options) (U : List Task) (text : List ℕ) → FindsIn c options U text (Err failed_read) → ⊥
+pub never_unread : (c : OfTwo) (options : Options) (U : List Task) (text : List ℕ)
+    → FindsIn c options U text (Err failed_read) → ⊥
 never_unread command.Check options U text never = never
 never_unread command.Diff options U text never = never
 never_unread command.Judge options U text never = never
@@ -36,43 +39,79 @@ never_unread command.WorstAt options U text never = never
 never_unread command.LimitsAt options U text never = never
 never_unread command.ExplainAt options U text never = never
 
-module _ (options : Options) (owners : List Owner) (U : List Task) (text : List ℕ) (before after : Option (List ℕ)) (s : Status) where
-  both : (set other : Option (List ℕ)) → HaveOwned (preference_of options) set other U owners text → HaveBoth (preference_of options) set other U text
+module _ (options : Options) (owners : List Owner) (U : List Task) (text : List ℕ)
+    (before after : Option (List ℕ)) (s : Status) where
+  both : (set other : Option (List ℕ)) → HaveOwned (preference_of options) set other U owners text
+      → HaveBoth (preference_of options) set other U text
   both set other has = ((has.0.0, has.0.1, has.0.2.set), has.1)
 
   -- a refusal was printed
-  pub refused_in : (c : OfTwo) (r : CommandRefusal) → FindsIn c options U text (Err r) → Appends before after (refusal_line r) → s ≡ status_of r → SaysOfBoth c options owners U text before after s
-  refused_in command.Check r why wrote is = λ set other has. (Err r, inr (U, text, both set other has, why), wrote, is)
-  refused_in command.Diff r why wrote is = λ set other has. (Err r, inr (U, text, both set other has, why), wrote, is)
-  refused_in command.Judge r why wrote is = λ set other has. (Err r, inr (U, text, both set other has, why), wrote, is)
+  pub refused_in : (c : OfTwo) (r : CommandRefusal) → FindsIn c options U text (Err r)
+      → Appends before after (refusal_line r) → s ≡ status_of r
+      → SaysOfBoth c options owners U text before after s
+  refused_in command.Check r why wrote is =
+      λ set other has. (Err r, inr (U, text, both set other has, why), wrote, is)
+  refused_in command.Diff r why wrote is =
+      λ set other has. (Err r, inr (U, text, both set other has, why), wrote, is)
+  refused_in command.Judge r why wrote is =
+      λ set other has. (Err r, inr (U, text, both set other has, why), wrote, is)
   refused_in command.Simulate r why wrote is =
-      elim options.by_task as (λ b. (set other : Option (List ℕ)) → HaveOwned (preference_of options) set other U owners text → SaysSimulation b (preference_of options) set other before after s) [
+      elim options.by_task as (λ b. (set other : Option (List ℕ))
+      → HaveOwned (preference_of options) set other U owners text
+      → SaysSimulation b (preference_of options) set other before after s) [
         | true ↦ λ set other has. (Err r, inr (U, text, both set other has, why), wrote, is)
         | false ↦ λ set other has. (Err r, inr (U, text, both set other has, why), wrote, is)
       ]
-  refused_in command.Draw r why wrote is = λ set other has. (Err r, inr (U, text, both set other has, why), wrote, is)
-  refused_in command.Observe r why wrote is = λ set other has. (Err r, inr (U, text, both set other has, why), wrote, is)
-  refused_in command.Keep r why wrote is = λ set other has. (Err r, inr (U, text, both set other has, why), wrote, is)
-  refused_in command.WorstAt r why wrote is = λ set other has. (Err r, inr (U, text, both set other has, why), wrote, is)
-  refused_in command.LimitsAt r why wrote is = λ set other has. (Err r, inr (U, text, both set other has, why), wrote, is)
-  refused_in command.ExplainAt r why wrote is = λ set other has. (Err r, inr (U, text, both set other has, why), wrote, is)
+  refused_in command.Draw r why wrote is =
+      λ set other has. (Err r, inr (U, text, both set other has, why), wrote, is)
+  refused_in command.Observe r why wrote is =
+      λ set other has. (Err r, inr (U, text, both set other has, why), wrote, is)
+  refused_in command.Keep r why wrote is =
+      λ set other has. (Err r, inr (U, text, both set other has, why), wrote, is)
+  refused_in command.WorstAt r why wrote is =
+      λ set other has. (Err r, inr (U, text, both set other has, why), wrote, is)
+  refused_in command.LimitsAt r why wrote is =
+      λ set other has. (Err r, inr (U, text, both set other has, why), wrote, is)
+  refused_in command.ExplainAt r why wrote is =
+      λ set other has. (Err r, inr (U, text, both set other has, why), wrote, is)
 
   -- what was found was printed
-  said_in : (c : OfTwo) (found : Found) → FindsIn c options U text (Ok found) → Appends before after (found_said owners U found) → s ≡ found_status found → SaysOfBoth c options owners U text before after s
-  said_in command.Check (Shown kind) finds wrote is = λ set other has. (Ok kind, (U, text, both set other has, finds), wrote, is)
-  said_in command.Diff (Compared c) finds wrote is = λ set other has. (Ok (record { set = U; owners = owners; compared = c }), (text, has, finds), wrote, is)
-  said_in command.Judge (Judged judged) finds wrote is = λ set other has. (Ok (U, judged), (text, both set other has, finds), wrote, is)
-  said_in command.Simulate (Simulated answer) finds wrote is = λ set other has. rw finds.0 (Ok (U, answer), (text, both set other has, finds.1), wrote, is)
-  said_in command.Simulate (Reached answer) finds wrote is = λ set other has. rw finds.0 (Ok (U, answer), (text, both set other has, finds.1), wrote, is)
-  said_in command.Draw (Drawn drawing) finds wrote is = λ set other has. (Ok (U, drawing), (text, both set other has, finds), wrote, is)
-  said_in command.Observe (Observed tolerance sight) finds wrote is = λ set other has. rw (← finds.0) (Ok (U, sight), (text, both set other has, finds.1), wrote, is)
-  said_in command.Keep (Keeping keeping base) finds wrote is = λ set other has. (Ok (U, keeping), (text, both set other has, finds.1), subst (λ (b : ℕ). Appends before after (keeping_lines U b keeping)) finds.0 wrote, is)
-  said_in command.WorstAt (WorstAt worst) finds wrote is = λ set other has. (Ok (U, worst), (text, both set other has, finds), wrote, is)
-  said_in command.LimitsAt (LimitedAt found) finds wrote is = λ set other has. (Ok (U, found), (text, both set other has, finds), wrote, is)
-  said_in command.ExplainAt (ExplainedAt found) finds wrote is = λ set other has. (Ok (record { set = U; owners = owners; found = found }), (text, has, finds), wrote, is)
+  said_in : (c : OfTwo) (found : Found) → FindsIn c options U text (Ok found)
+      → Appends before after (found_said owners U found) → s ≡ found_status found
+      → SaysOfBoth c options owners U text before after s
+  said_in command.Check (Shown kind) finds wrote is =
+      λ set other has. (Ok kind, (U, text, both set other has, finds), wrote, is)
+  said_in command.Diff (Compared c) finds wrote is = λ set other has.
+      (Ok (record { set = U; owners = owners; compared = c }), (text, has, finds), wrote, is)
+  said_in command.Judge (Judged judged) finds wrote is =
+      λ set other has. (Ok (U, judged), (text, both set other has, finds), wrote, is)
+  said_in command.Simulate (Simulated answer) finds wrote is =
+      λ set other has. rw finds.0 (Ok (U, answer), (text, both set other has, finds.1), wrote, is)
+  said_in command.Simulate (Reached answer) finds wrote is =
+      λ set other has. rw finds.0 (Ok (U, answer), (text, both set other has, finds.1), wrote, is)
+  said_in command.Draw (Drawn drawing) finds wrote is =
+      λ set other has. (Ok (U, drawing), (text, both set other has, finds), wrote, is)
+  said_in command.Observe (Observed tolerance sight) finds wrote is = λ set other has.
+      rw (← finds.0) (Ok (U, sight), (text, both set other has, finds.1), wrote, is)
+  said_in command.Keep (Keeping keeping base) finds wrote is =
+      λ set other has. (
+        Ok (U, keeping),
+        (text, both set other has, finds.1),
+        subst (λ (b : ℕ). Appends before after (keeping_lines U b keeping)) finds.0 wrote,
+        is,
+      )
+  said_in command.WorstAt (WorstAt worst) finds wrote is =
+      λ set other has. (Ok (U, worst), (text, both set other has, finds), wrote, is)
+  said_in command.LimitsAt (LimitedAt found) finds wrote is =
+      λ set other has. (Ok (U, found), (text, both set other has, finds), wrote, is)
+  said_in command.ExplainAt (ExplainedAt found) finds wrote is = λ set other has.
+      (Ok (record { set = U; owners = owners; found = found }), (text, has, finds), wrote, is)
   said_in _ _ finds wrote is = absurd finds
 
-  -- the same; or that memory was wanting for it, which is an answer of its own
-  pub printed_in : (c : OfTwo) (found : Found) → FindsIn c options U text (Ok found) → IsPrinted before after (found_said owners U found) (found_status found) s → SaysOfBoth c options owners U text before after s
+  -- the same; or that memory ran out for it, which is an answer of its own
+  pub printed_in : (c : OfTwo) (found : Found) → FindsIn c options U text (Ok found)
+      → IsPrinted before after (found_said owners U found) (found_status found) s
+      → SaysOfBoth c options owners U text before after s
   printed_in c found finds (inl wrote) = said_in c found finds wrote.0 wrote.1
-  printed_in c found finds (inr want) = λ set other has. two_refused before after s refusal.OutOfMemory want.0 want.1 c options set other tt
+  printed_in c found finds (inr want) = λ set other has. two_refused before after s
+      refusal.OutOfMemory want.0 want.1 c options set other tt

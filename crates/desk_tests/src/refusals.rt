@@ -21,7 +21,7 @@ fn refuses<R: Abort>(
     Ok(())
 }
 
-// Refusals for want of memory or of a thread, and those of a rush that went wrong, with their lines: one status tells of
+// Refusals out of memory or of a thread, and those of a rush that went wrong, with their lines: one status tells of
 // them all.
 const WANTS: [(CommandRefusal, &str); 6] = [
     (CommandRefusal::OutOfMemory, "refused: OutOfMemory\n"),

@@ -2,7 +2,8 @@
 use Rattle.std.proofs.Common.{◌≡◌, ℕ, List, Option, Err, inl, refl}
 use Rattle.std.specs.Io.KnownBytes.{Appends}
 use Rattle.command_line.specs.declared.calls.OfOne.{OfOne}
-use Rattle.command_line.specs.declared.calls.OfOne.TheVariants.{Admit, Certify, Limits, Settings, Explain, Worst, Play}
+use Rattle.command_line.specs.declared.calls.OfOne.TheVariants.{Admit, Certify, Limits, Settings}
+use Rattle.command_line.specs.declared.calls.OfOne.TheVariants.{Explain, Worst, Play}
 use Rattle.command_line.specs.declared.calls.OfTwo.{OfTwo}
 use Rattle.command_line.specs.declared.calls.OfNumber.{OfNumber}
 use Rattle.command_line.specs.declared.calls.OfNumber.TheVariants.{Releases, Script, Rush}
@@ -27,15 +28,22 @@ any_time Explain known = tt
 any_time Worst known = tt
 any_time Play known = tt
 
-module _ (before after : Option (List ℕ)) (s : Status) (says : Appends before after (refusal_line failed_read)) (is : s ≡ InputOrOutputFailed) where
-  pub one_unopened : (c : OfOne) (options : Options) (known : Option (List ℕ)) → OneSays c options known before after s
-  one_unopened c options known = one_refused before after s failed_read says is c options known (any_time c known)
+module _ (before after : Option (List ℕ)) (s : Status)
+    (says : Appends before after (refusal_line failed_read)) (is : s ≡ InputOrOutputFailed) where
+  pub one_unopened : (c : OfOne) (options : Options) (known : Option (List ℕ))
+      → OneSays c options known before after s
+  one_unopened c options known =
+      one_refused before after s failed_read says is c options known (any_time c known)
 
-  pub two_unopened : (c : OfTwo) (options : Options) (first second : Option (List ℕ)) → TwoSay c options first second before after s
-  two_unopened c options first second = two_refused before after s failed_read says is c options first second tt
+  pub two_unopened : (c : OfTwo) (options : Options) (first second : Option (List ℕ))
+      → TwoSay c options first second before after s
+  two_unopened c options first second =
+      two_refused before after s failed_read says is c options first second tt
 
-  pub number_unopened : {E : Type 0} (c : OfNumber) (options : Options) (number : ℕ) (known : Option (List ℕ)) (told : E → Option (List ℕ)) (w : WatchedData E)
+  pub number_unopened : {E : Type 0} (c : OfNumber) (options : Options) (number : ℕ)
+      (known : Option (List ℕ)) (told : E → Option (List ℕ)) (w : WatchedData E)
       → NumberSays c options number known before after told w w s
   number_unopened Releases options number known told w = (Err failed_read, inl tt, says, is)
   number_unopened Script options number known told w = (Err failed_read, tt, says, is)
-  number_unopened Rush options number known told w = (refusal_line failed_read, says, inl ((failed_read, tt, refl, is), refl))
+  number_unopened Rush options number known told w =
+      (refusal_line failed_read, says, inl ((failed_read, tt, refl, is), refl))

@@ -1,5 +1,6 @@
 -- The lines of a set's limits, one after the other, and the order that they speak of.
-use Rattle.std.proofs.Common.{◌≡◌, ◌∙◌, ℕ, ◌+◌, ◌++◌, ◌==◌, ◌&&◌, Bool, List, [], ◌∷◌, length, ap, Option, Result, Ok, Err, false, refl, sym, subst}
+use Rattle.std.proofs.Common.{◌≡◌, ◌∙◌, ℕ, ◌+◌, ◌++◌, ◌==◌, ◌&&◌, Bool, List, [], ◌∷◌, length, ap}
+use Rattle.std.proofs.Common.{Option, Result, Ok, Err, false, refl, sym, subst}
 use Rattle.std.specs.Prelude.{OnOk}
 use Rattle.std.specs.Io.KnownBytes.{Appends}
 use Rattle.std.specs.Result.{is_err}
@@ -31,37 +32,56 @@ where_sound (Ok x) P sound holds = holds
 where_sound (Err e) P sound holds = absurd (true≢false sound)
 
 -- whether all lines so far are silent, with those of one task more
-pub silent_more : (before after : Bool) (front lines : List ℕ) → before ≡ (length front == 0) → after ≡ (before && (length lines == 0))
+pub silent_more : (before after : Bool) (front lines : List ℕ) → before ≡ (length front == 0)
+    → after ≡ (before && (length lines == 0))
     → after ≡ (length (front ++ lines) == 0)
 silent_more before after [] lines is then = then ∙ ap (λ b. b && (length lines == 0)) is
-silent_more before after (x ∷ xs) lines is then = then ∙ ap (λ b. b && (length lines == 0)) (is ∙ eqb-suc-zero (length xs)) ∙ sym (eqb-suc-zero (length (xs ++ lines)))
+silent_more before after (x ∷ xs) lines is then = then ∙ ap (λ b. b && (length lines == 0))
+    (is ∙ eqb-suc-zero (length xs)) ∙ sym (eqb-suc-zero (length (xs ++ lines)))
 
 -- what is told of a placed set is the answer on what the reader has
-pub admits_placed : (preference : Option Preference) (known : Option (List ℕ)) (U : List Task) (p : Placing) → Places preference known (Ok (U, p)) → (answer : Result Verdict CommandRefusal) → TellsPlaced U answer
+pub admits_placed : (preference : Option Preference) (known : Option (List ℕ)) (U : List Task)
+    (p : Placing) → Places preference known (Ok (U, p)) → (answer : Result Verdict CommandRefusal)
+    → TellsPlaced U answer
     → Admits preference known answer
-admits_placed preference known U p placed (Ok v) told = (subst (λ (V : List Task). HasSet preference known V) (sym told.0) placed.0, told.1)
+admits_placed preference known U p placed (Ok v) told =
+    (subst (λ (V : List Task). HasSet preference known V) (sym told.0) placed.0, told.1)
 admits_placed preference known U p placed (Err refusal.OutOfMemory) told = tt
 admits_placed preference known U p placed (Err _) told = absurd told
 
 -- the first line and the lines behind it are those of the verdict that says what the placing says
-pub placed_said : (U : List Task) → IsTaskSet U → (p : Placing) → IsPlacingOf U p → (first : List ℕ) → first ≡ placing_first U p
-    → (before after : Option (List ℕ)) (s : Status) (rest : List ℕ) → Lists U (places_in p) (placing_status p) rest s → Appends before after (first ++ rest) → SaysPlaced U before after s
+pub placed_said : (U : List Task) → IsTaskSet U → (p : Placing) → IsPlacingOf U p → (first : List ℕ)
+    → first ≡ placing_first U p
+    → (before after : Option (List ℕ)) (s : Status) (rest : List ℕ)
+    → Lists U (places_in p) (placing_status p) rest s → Appends before after (first ++ rest)
+    → SaysPlaced U before after s
 placed_said U kept p placing first begins before after s rest lists wrote =
     let found = said_by U kept p placing in
     let v = found.0 in
     let says = found.1 in
-    let lists_set = subst (λ (X : List Task). Lists X (places_in p) (placing_status p) rest s) (sym says.set) lists in
-    let lists_places = subst (λ o. Lists (verdict_set v) o (placing_status p) rest s) (sym says.places) lists_set in (
+    let lists_set = subst (λ (X : List Task). Lists X (places_in p) (placing_status p) rest s)
+    (sym says.set) lists in
+    let lists_places = subst (λ o. Lists (verdict_set v) o (placing_status p) rest s)
+    (sym says.places) lists_set in (
       Ok v,
       first_line v ++ rest,
       (says.set, says.verdict),
-      (rest, refl, subst (λ done. Lists (verdict_set v) (verdict_places v) done rest s) (sym says.status) lists_places),
-      subst (λ (text : List ℕ). Appends before after (text ++ rest)) (begins ∙ sym says.first) wrote,
+      (
+        rest,
+        refl,
+        subst (λ done. Lists (verdict_set v) (verdict_places v) done rest s)
+            (sym says.status) lists_places,
+      ),
+      subst (λ (text : List ℕ). Appends before after (text ++ rest))
+          (begins ∙ sym says.first) wrote,
     )
 
 -- what was put behind a first text, where nothing was held back, is written once that is sent
-pub known_after : (P : List ℕ → Type 0) (first : List ℕ) (before between after : Option (List ℕ)) (start held : List ℕ) → start ≡ [] → Appends between after held
-    → ((text : List ℕ) × P text × Sends before start between held (first ++ text)) → (text : List ℕ) × P text × Appends before after (first ++ text)
+pub known_after : (P : List ℕ → Type 0) (first : List ℕ) (before between after : Option (List ℕ))
+    (start held : List ℕ) → start ≡ [] → Appends between after held
+    → ((text : List ℕ) × P text × Sends before start between held (first ++ text)) → (text : List ℕ)
+    × P text × Appends before after (first ++ text)
 known_after P first before between after start held empty sent put =
-    let whole = known_written (λ all. all ≡ first ++ put.0) before between after start held empty sent (first ++ put.0, refl, put.2) in
+    let whole = known_written (λ all. all ≡ first ++ put.0) before between after start held empty
+    sent (first ++ put.0, refl, put.2) in
     (put.0, put.1, subst (λ all. Appends before after all) whole.1 whole.2)

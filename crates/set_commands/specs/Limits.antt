@@ -38,7 +38,7 @@ ListsAll U places text =
 abbrev pub ListsSome : List Task → Option (List PlaceData) → List ℕ → Type 0
 ListsSome U places text = (count : ℕ) × (count ≤ length U) × AreLines U places count text
 
--- the lines of a set, with the status that belongs to it; or some, and then that memory was wanting for the next
+-- the lines of a set, with the status that belongs to it; or some, and then that memory ran out for the next
 abbrev pub Lists : List Task → Option (List PlaceData) → Status → List ℕ → Status → Type 0
 Lists U places done text s =
     (ListsAll U places text × (s ≡ done))
@@ -69,7 +69,7 @@ Tells (Ok v) text s =
     × Lists (verdict_set v) (verdict_places v) (verdict_status v) rest s
 Tells (Err r) text s = (text ≡ refusal_line r) × (s ≡ status_of r)
 
--- the answer is a verdict on the set, or want of memory
+-- the answer is a verdict on the set, or out of memory
 abbrev pub TellsPlaced : List Task → Result Verdict CommandRefusal → Type 0
 TellsPlaced U (Ok v) = (verdict_set v ≡ U) × IsVerdictOf (verdict_set v) (verdict_of v)
 TellsPlaced U (Err refusal.OutOfMemory) = Unit {0}

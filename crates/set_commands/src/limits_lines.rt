@@ -196,7 +196,7 @@ fn make_ready<'a>(
     })
 }
 
-// Prints the lines of a placing, or that memory was wanting before the first.
+// Prints the lines of a placing, or that memory ran out before the first.
 pub(crate) fn print_placing<W: Write + Drop>(
     alloc: Global,
     set: &TaskSet,

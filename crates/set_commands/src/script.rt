@@ -19,7 +19,7 @@ use std::io::{Read, Write};
 use streams::Watched;
 use task_sheet::TaskSet;
 
-// The script of a team that is a set, or that memory was wanting.
+// The script of a team that is a set, or that memory ran out.
 fn script_of(alloc: Global, team: Team, tasks: &TaskSet) -> Result<String, CommandRefusal>
     ensures { MatchResult result (λ text. string_bytes text ≡ script_of team tasks.now)
         (λ r. r ≡ CommandRefusal.OutOfMemory) }

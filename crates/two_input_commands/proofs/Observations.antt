@@ -1,5 +1,6 @@
 -- What a trace shows in the order that settings give.
-use Rattle.std.proofs.Common.{◌≡◌, ◌<◌, ℕ, zero, suc, false, List, [], ◌∷◌, length, Result, Ok, All, refl, subst, arith}
+use Rattle.std.proofs.Common.{◌≡◌, ◌<◌, ℕ, zero, suc, false, List, [], ◌∷◌, length, Result, Ok, All}
+use Rattle.std.proofs.Common.{refl, subst, arith}
 use Rattle.task_sheet.specs.Sheet.{Task}
 use Rattle.task_sheet.specs.Orders.{IsOrder}
 use Rattle.assignment.specs.Places.{PlaceData}
@@ -15,26 +16,48 @@ use Rattle.two_input_commands.specs.Observe.{AreGiven, AreJudgedBy, IsNodeOf}
 use Rattle.two_input_commands.proofs.Ordered.{order_within}
 
 -- the tasks of places are those of their order
-places_within : (n : ℕ) (places : List PlaceData) → All (λ k. k < n) (order_judged (judged_of places)) → All (λ (p : PlaceData). p.task < n) places
+places_within : (n : ℕ) (places : List PlaceData) → All (λ k. k < n)
+    (order_judged (judged_of places)) → All (λ (p : PlaceData). p.task < n) places
 places_within n [] all k d lt = absurd (omega (arith, lt))
 places_within n (p ∷ places) all zero d lt = all zero 0 (omega arith)
-places_within n (p ∷ places) all (suc k) d lt = places_within n places (λ j e below. all (suc j) e (omega (arith, below))) k d (omega (arith, lt))
+places_within n (p ∷ places) all (suc k) d lt = places_within n places
+    (λ j e below. all (suc j) e (omega (arith, below))) k d (omega (arith, lt))
 
-pub tasks_within : (U : List Task) (judged : List JudgedTask) (places : List PlaceData) → IsOrder U (order_judged judged) → judged ≡ judged_of places → All (λ (p : PlaceData). p.task < length U) places
+pub tasks_within : (U : List Task) (judged : List JudgedTask) (places : List PlaceData)
+    → IsOrder U (order_judged judged) → judged ≡ judged_of places
+    → All (λ (p : PlaceData). p.task < length U) places
 tasks_within U judged places each same =
-    places_within (length U) places (subst (λ (js : List JudgedTask). All (λ k. k < length U) (order_judged js)) same (order_within U (order_judged judged) each))
+    places_within (length U) places (subst (λ (js : List JudgedTask). All (λ k. k < length U)
+    (order_judged js)) same (order_within U (order_judged judged) each))
 
 -- what becomes of each task in the order that some settings give
-judged_by : (U : List Task) (rows : List SettingRow) (judged : List JudgedTask) → 0 < length rows → IsOrderOfRows false U rows (order_judged judged) → AllJudged U judged → AreJudgedBy U (Ok rows) judged
+judged_by : (U : List Task) (rows : List SettingRow) (judged : List JudgedTask) → 0 < length rows
+    → IsOrderOfRows false U rows (order_judged judged) → AllJudged U judged
+    → AreJudgedBy U (Ok rows) judged
 judged_by U [] judged some gives all = absurd (omega (arith, some))
 judged_by U (row ∷ rows) judged some gives all = record { order = gives; each = all }
 
-pub node_of : (U : List Task) (rows : List SettingRow) (node : JudgedNode) → 0 < length rows → IsOrderOfRows false U rows (order_judged node.judged.items) × AllJudged U node.judged.items
-    → AreNumbersOf U rows (order_judged node.judged.items) node.numbers.items → IsNodeOf U (Ok rows) node
-node_of U rows node some is numbers = record { judged = judged_by U rows node.judged.items some is.0 is.1; rows = rows; read = refl; numbers = numbers }
+pub node_of : (U : List Task) (rows : List SettingRow) (node : JudgedNode) → 0 < length rows
+    → IsOrderOfRows false U rows (order_judged node.judged.items) × AllJudged U node.judged.items
+    → AreNumbersOf U rows (order_judged node.judged.items) node.numbers.items
+    → IsNodeOf U (Ok rows) node
+node_of U rows node some is numbers = record {
+  judged =
+      judged_by U rows node.judged.items some is.0 is.1;
+  rows = rows;
+  read = refl;
+  numbers = numbers;
+}
 
 -- where all tasks meet their deadlines
-pub given : (U : List Task) (rows : List SettingRow) (found : Result (List TraceRow) ℕ) (trace : TraceLines) (judged : List JudgedTask) (places : List PlaceData) → 0 < length rows → IsTraceOf found trace
-    → IsOrderOfRows false U rows (order_judged judged) × AllJudged U judged → judged ≡ judged_of places → AreGiven U (Ok rows) found places trace
+pub given : (U : List Task) (rows : List SettingRow) (found : Result (List TraceRow) ℕ)
+    (trace : TraceLines) (judged : List JudgedTask) (places : List PlaceData) → 0 < length rows
+    → IsTraceOf found trace
+    → IsOrderOfRows false U rows (order_judged judged) × AllJudged U judged
+    → judged ≡ judged_of places → AreGiven U (Ok rows) found places trace
 given U rows found trace judged places some read is same =
-    record { judged = subst (λ (js : List JudgedTask). AreJudgedBy U (Ok rows) js) same (judged_by U rows judged some is.0 is.1); read = read }
+    record {
+      judged = subst (λ (js : List JudgedTask). AreJudgedBy U (Ok rows) js) same
+          (judged_by U rows judged some is.0 is.1);
+      read = read;
+    }

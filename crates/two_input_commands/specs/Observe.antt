@@ -82,7 +82,7 @@ IsObservation U settings found (Ordered observed) =
 IsObservation U settings found (Missed node) =
     IsNodeOf U settings node × (all_meet node.judged.items ≡ false) × (trace_rows_fault found ≡ None)
 
--- why it shows nothing, in the best order and in one that settings give: want of memory; it is no trace; or a slice of a task
+-- why it shows nothing, in the best order and in one that settings give: out of memory; it is no trace; or a slice of a task
 -- lies in no job of it
 abbrev pub IsUnseen : List Task → Result (List SettingRow) ℕ → Result (List TraceRow) ℕ → TraceFault
     → Type 0

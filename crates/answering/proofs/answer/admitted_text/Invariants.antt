@@ -4,4 +4,5 @@ use Rattle.answering.proofs.answer.admitted_text.Given as goal
 
 abbrev pub invariant-loop-i : goal.invariant-loop-i
 invariant-loop-i l =
-    string_bytes l.text ++ level_lines l.set (l.i + 1) (drop l.i l.places) ≡ admitted_lines l.set l.places
+    string_bytes l.text ++ level_lines l.set (l.i + 1) (drop l.i l.places)
+    ≡ admitted_lines l.set l.places

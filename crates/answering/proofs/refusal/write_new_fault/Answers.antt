@@ -7,10 +7,12 @@ use Rattle.answering.specs.Refusals.{teams_words, words_of}
 use Rattle.answering.specs.declared.refusal.CommandRefusal.TheVariants as refusal
 use Rattle.answering.proofs.refusal.write_new_fault.Goals as goal
 
--- a fault that isn't want of memory stands behind the word
-behind_new : (fault : TeamsFault) → (fault ≡ teams.OutOfMemory → ⊥) → codes "new " ++ teams_words fault ≡ words_of (refusal.New fault)
+-- a fault that isn't out of memory stands behind the word
+behind_new : (fault : TeamsFault) → (fault ≡ teams.OutOfMemory → ⊥)
+    → codes "new " ++ teams_words fault ≡ words_of (refusal.New fault)
 behind_new teams.OutOfMemory other = absurd (other refl)
 behind_new _ other = refl
 
 pub returns-in_ok-write_str-in_default : goal.returns-in_ok-write_str-in_default
-returns-in_ok-write_str-in_default g c = grind (arith, common_steps, behind_new c.args.fault c.in_default.not-OutOfMemory)
+returns-in_ok-write_str-in_default g c =
+    grind (arith, common_steps, behind_new c.args.fault c.in_default.not-OutOfMemory)

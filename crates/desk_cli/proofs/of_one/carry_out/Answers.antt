@@ -1,6 +1,7 @@
 use Rattle.std.proofs.Common.{◌≡◌, List, Ok, Err, inl, inr, refl, sym, subst}
 use Rattle.command_line.specs.declared.calls.OfOne.{OfOne}
-use Rattle.command_line.specs.declared.calls.OfOne.TheVariants.{Admit, Certify, Limits, Settings, Explain, Worst, Play}
+use Rattle.command_line.specs.declared.calls.OfOne.TheVariants.{Admit, Certify, Limits, Settings}
+use Rattle.command_line.specs.declared.calls.OfOne.TheVariants.{Explain, Worst, Play}
 use Rattle.owners.specs.declared.owner.Owner.{Owner}
 use Rattle.answering.specs.Chosen.{preference_of}
 use Rattle.desk_cli.specs.Saying.{IsOfPlacing}
@@ -21,37 +22,46 @@ of_placing Worst one other = tt
 of_placing Play one other = absurd (other refl)
 
 pub say_placing-requires-clause-command : goal.say_placing-requires-clause-command
-say_placing-requires-clause-command g c = of_placing c.args.command c.in_default.not-Certify c.in_default.not-Play
+say_placing-requires-clause-command g c =
+    of_placing c.args.command c.in_default.not-Certify c.in_default.not-Play
 
--- want of memory for what is printed is an answer of its own
+-- out of memory for what is printed is an answer of its own
 pub returns-in-Ok : goal.returns-in-Ok
 returns-in-Ok g c =
     let answer = rw c.preference_of-preference.ensures at c.in-Ok.ensures.answer in
-    rw c.in-Certify.is (carried_out c.in-Ok.ensures.read (said_as c.print_verdict.ensures (λ told. elim told [
+    rw c.in-Certify.is
+    (carried_out c.in-Ok.ensures.read (said_as c.print_verdict.ensures (λ told. elim told [
       | inl wrote ↦ (Ok c.in-Ok.verdict, answer, wrote.0, wrote.1)
       | inr want ↦ (Err refusal.OutOfMemory, tt, want.0, want.1)
     ])))
 
 pub returns-in-Err : goal.returns-in-Err
 returns-in-Err g c =
-    rw c.in-Certify.is (refused c.in-Err.ensures.read c.refuse.ensures (λ wrote is. one_refused _ _ _ c.in-Err.refusal wrote is Certify c.args.options _ c.in-Err.ensures.answer))
+    rw c.in-Certify.is (refused c.in-Err.ensures.read c.refuse.ensures (λ wrote is. one_refused _ _
+    _ c.in-Err.refusal wrote is Certify c.args.options _ c.in-Err.ensures.answer))
 
 pub returns-in-Ok-lines_of : goal.returns-in-Ok-lines_of
 returns-in-Ok-lines_of g c =
     let lines = c.in-Ok-lines_of.lines.items in
-    rw c.in-Play.is (carried_out c.in-Ok-lines_of.ensures.read (said_as c.play.ensures (λ played. (played.0, played.1, inr (lines, c.in-Ok-lines_of.ensures.answer, played.2)))))
+    rw c.in-Play.is (carried_out c.in-Ok-lines_of.ensures.read (said_as c.play.ensures
+    (λ played. (played.0, played.1, inr (lines, c.in-Ok-lines_of.ensures.answer, played.2)))))
 
 pub returns-in-Err-lines_of : goal.returns-in-Err-lines_of
 returns-in-Err-lines_of g c =
-    rw c.in-Play.is (refused c.in-Err-lines_of.ensures.read c.refuse-in-Err-lines_of.ensures (λ wrote is. one_refused _ _ _ c.in-Err-lines_of.refusal wrote is Play c.args.options _ c.in-Err-lines_of.ensures.answer))
+    rw c.in-Play.is (refused c.in-Err-lines_of.ensures.read c.refuse-in-Err-lines_of.ensures
+    (λ wrote is. one_refused _ _ _ c.in-Err-lines_of.refusal wrote is Play c.args.options _
+    c.in-Err-lines_of.ensures.answer))
 
 pub returns-in-Ok-place : goal.returns-in-Ok-place
 returns-in-Ok-place g c =
     let placed = rw c.preference_of-preference.ensures at c.in-Ok-place.ensures.answer in
-    let has = subst (λ (owners : List Owner). HasOwned (preference_of c.args.options) (g.R.Read.remaining c.args.input.now.inner) c.in-Ok-place.tasks owners) (sym c.deref.ensures.value) placed.0 in
+    let has = subst (λ (owners : List Owner). HasOwned (preference_of c.args.options)
+    (g.R.Read.remaining c.args.input.now.inner) c.in-Ok-place.tasks owners)
+    (sym c.deref.ensures.value) placed.0 in
     carried_out c.in-Ok-place.ensures.read (said_as c.say_placing.ensures (λ told. told _ has))
 
 pub returns-in-Err-place : goal.returns-in-Err-place
 returns-in-Err-place g c =
     refused c.in-Err-place.ensures.read c.refuse-in-Err-place.ensures
-    (λ wrote is. placed_refused _ _ _ c.in-Err-place.refusal wrote is c.args.command c.args.options _ c.in_default.not-Play c.in-Err-place.ensures.answer)
+    (λ wrote is. placed_refused _ _ _ c.in-Err-place.refusal wrote is c.args.command c.args.options
+    _ c.in_default.not-Play c.in-Err-place.ensures.answer)

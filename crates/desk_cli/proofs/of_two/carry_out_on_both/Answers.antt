@@ -12,10 +12,16 @@ returns-in-Ok g c =
     let other = g.S.Read.remaining c.args.other.now.inner in
     let answer = rw c.preference_of-preference.ensures at c.in-Ok.ensures.answer in
     let preference = preference_of c.args.options in
-    let named : HaveOwned preference set other c.in-Ok.tasks c.deref.result.now c.in-Ok.text.items = subst (λ (owners : List Owner). HaveOwned preference set other c.in-Ok.tasks owners c.in-Ok.text.items) (sym c.deref.ensures.value) answer in
-    let both : HaveOwned preference set other c.in-Ok.tasks c.deref.result.now c.deref-in-Ok.result.now = subst (λ (text : List ℕ). HaveOwned preference set other c.in-Ok.tasks c.deref.result.now text) (sym c.deref-in-Ok.ensures.value) named in
-    carried_out_on_both c.in-Ok.ensures.read (said_as c.say_both.ensures (λ told. told set other both))
+    let named : HaveOwned preference set other c.in-Ok.tasks c.deref.result.now c.in-Ok.text.items =
+    subst (λ (owners : List Owner). HaveOwned preference set other c.in-Ok.tasks owners
+    c.in-Ok.text.items) (sym c.deref.ensures.value) answer in
+    let both : HaveOwned preference set other c.in-Ok.tasks c.deref.result.now
+    c.deref-in-Ok.result.now = subst (λ (text : List ℕ). HaveOwned preference set other
+    c.in-Ok.tasks c.deref.result.now text) (sym c.deref-in-Ok.ensures.value) named in
+    carried_out_on_both c.in-Ok.ensures.read
+    (said_as c.say_both.ensures (λ told. told set other both))
 
 pub returns-in-Err : goal.returns-in-Err
 returns-in-Err g c =
-    refused_on_both c.in-Err.ensures.read c.refuse.ensures (λ wrote is. two_refused _ _ _ _ wrote is c.args.command c.args.options _ _ c.in-Err.ensures.answer)
+    refused_on_both c.in-Err.ensures.read c.refuse.ensures (λ wrote is. two_refused _ _ _ _ wrote is
+    c.args.command c.args.options _ _ c.in-Err.ensures.answer)

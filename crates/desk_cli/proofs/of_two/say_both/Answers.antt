@@ -9,13 +9,20 @@ pub returns-in-Ok : goal.returns-in-Ok
 returns-in-Ok g c =
     let U = c.args.tasks.now in
     let text = c.args.text.now in
-    let finds : FindsIn c.args.command c.args.options U text (Ok c.in-Ok.found) = subst (FindsIn c.args.command c.args.options U text) c.in-Ok.is c.find-answer.ensures.answer in
-    said_as c.print_found.ensures (λ told. printed_in c.args.options c.args.owners.now U text _ _ _ c.args.command c.in-Ok.found finds told)
+    let finds : FindsIn c.args.command c.args.options U text (Ok c.in-Ok.found) =
+    subst (FindsIn c.args.command c.args.options U text) c.in-Ok.is
+    c.find-answer.ensures.answer in
+    said_as c.print_found.ensures (λ told. printed_in c.args.options c.args.owners.now U text _ _ _
+    c.args.command c.in-Ok.found finds told)
 
 pub returns-in-Err : goal.returns-in-Err
 returns-in-Err g c =
     let U = c.args.tasks.now in
     let text = c.args.text.now in
-    let why : FindsIn c.args.command c.args.options U text (Err c.in-Err.refusal) = subst (FindsIn c.args.command c.args.options U text) c.in-Err.is c.find-answer.ensures.answer in
-    refusal_said c.in-Err.refusal (λ (r : CommandRefusal). FindsIn c.args.command c.args.options U text (Err r)) why (never_unread c.args.command c.args.options U text) c.refuse.ensures
-    (λ wrote is. refused_in c.args.options c.args.owners.now U text _ _ _ c.args.command c.in-Err.refusal why wrote is)
+    let why : FindsIn c.args.command c.args.options U text (Err c.in-Err.refusal) =
+    subst (FindsIn c.args.command c.args.options U text) c.in-Err.is
+    c.find-answer.ensures.answer in
+    refusal_said c.in-Err.refusal (λ (r : CommandRefusal). FindsIn c.args.command c.args.options U
+    text (Err r)) why (never_unread c.args.command c.args.options U text) c.refuse.ensures
+    (λ wrote is. refused_in c.args.options c.args.owners.now U text _ _ _ c.args.command
+    c.in-Err.refusal why wrote is)

@@ -10,10 +10,15 @@ returns-in-Ok-rush_lines-clause-printed g c = λ sound.
     let texts = c.in-Ok-rush_lines.texts in
     let told = string_bytes texts.notes in
     let rushed : IsRushText c.args.workers c.in-Ok.lines.items (string_bytes texts.log) told =
-    subst (λ (lines : List Line). IsRushText c.args.workers lines (string_bytes texts.log) told) c.deref.ensures.value c.in-Ok-rush_lines.ensures in (
+    subst (λ (lines : List Line). IsRushText c.args.workers lines (string_bytes texts.log) told)
+    c.deref.ensures.value c.in-Ok-rush_lines.ensures in (
       string_bytes texts.log,
       c.print_both.ensures.printed sound,
-      inr (c.in-Ok.lines.items, c.in-Ok.ensures.answer, inl (told, rushed, c.print_both.ensures.noted sound)),
+      inr (
+        c.in-Ok.lines.items,
+        c.in-Ok.ensures.answer,
+        inl (told, rushed, c.print_both.ensures.noted sound),
+      ),
     )
 
 pub returns-clause-printed : goal.returns-clause-printed

@@ -10,5 +10,9 @@ returns-clause-answer g c =
     let verdict = c.in_ok-verdict.verdict in
     let same : verdict_set verdict ≡ c.in_ok-tasks.tasks = search rules in
     let shared : verdict_set verdict ≡ c.in_ok-shared.shared.value = search rules in
-    let set = subst (λ (U : List Task). HasSet c.args.preference (g.R.Read.remaining c.args.set.now.inner) U) (sym same) c.in_ok-tasks.ensures.answer in
-    (set, subst (λ (U : List Task). IsVerdictOf U (verdict_of verdict)) (sym shared) c.in_ok-verdict.ensures.verdict)
+    let set = subst (λ (U : List Task). HasSet c.args.preference
+    (g.R.Read.remaining c.args.set.now.inner) U) (sym same) c.in_ok-tasks.ensures.answer in (
+      set,
+      subst (λ (U : List Task). IsVerdictOf U (verdict_of verdict)) (sym shared)
+          c.in_ok-verdict.ensures.verdict,
+    )

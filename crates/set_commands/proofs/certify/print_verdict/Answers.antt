@@ -15,7 +15,8 @@ verdict_ends (verdict.Infeasible o) is = cc
 
 pub returns-in-Ok : goal.returns-in-Ok
 returns-in-Ok g c =
-    shown c.print_certificate.ensures (ap (λ (k : Cert). spelling k) c.in-Ok.ensures) c.status_of.ensures (verdict_ends c.args.verdict.now) (λ wrote is. inl (wrote, is))
+    shown c.print_certificate.ensures (ap (λ (k : Cert). spelling k) c.in-Ok.ensures)
+    c.status_of.ensures (verdict_ends c.args.verdict.now) (λ wrote is. inl (wrote, is))
 
 pub returns-in-Err : goal.returns-in-Err
 returns-in-Err g c = wanting c.refuse.ensures (λ wrote is. inr (wrote, is))

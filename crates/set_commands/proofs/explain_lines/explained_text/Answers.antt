@@ -11,5 +11,6 @@ returns c =
       found.1,
       found.2,
       found.3,
-      c.in_ok-text.ensures ∙ ap (λ (t : List ℕ). t ++ c.deref.result.now) first ∙ ap (λ (t : List ℕ). placing_first c.args.set.now c.args.placing.now ++ t) lines,
+      c.in_ok-text.ensures ∙ ap (λ (t : List ℕ). t ++ c.deref.result.now) first
+          ∙ ap (λ (t : List ℕ). placing_first c.args.set.now c.args.placing.now ++ t) lines,
     )

@@ -9,10 +9,12 @@ returns c =
     let reasons = explanation_lines c.args.set.now c.in_ok-explanation.explanation in
     let decided : List ℕ = string_bytes c.in_ok-decided.decided in
     let said : string_bytes c.push_str.new.self ≡ reasons ++ decided =
-    c.in_ok-push_str.ensures.bytes ∙ ap (λ (t : List ℕ). t ++ c.as_str.result.now) c.in_ok-text.ensures ∙ ap (λ (t : List ℕ). reasons ++ t) c.as_str.ensures.value in (
+    c.in_ok-push_str.ensures.bytes ∙ ap (λ (t : List ℕ). t ++ c.as_str.result.now)
+    c.in_ok-text.ensures ∙ ap (λ (t : List ℕ). reasons ++ t) c.as_str.ensures.value in (
       c.in_ok-explanation.explanation,
       decided,
       c.in_ok-explanation.ensures,
       c.in_ok-decided.ensures,
-      c.in_ok-named.ensures ∙ ap (λ (t : List ℕ). named_lines Reasons c.args.owners.now t) (c.as_bytes.ensures.value ∙ said),
+      c.in_ok-named.ensures ∙ ap (λ (t : List ℕ). named_lines Reasons c.args.owners.now t)
+          (c.as_bytes.ensures.value ∙ said),
     )

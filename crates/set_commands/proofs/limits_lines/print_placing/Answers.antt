@@ -1,4 +1,5 @@
-use Rattle.std.proofs.Common.{◌≡◌, ◌∙◌, ◌++◌, ℕ, List, Err, inl, inr, refl, sym, ap, subst, append_assoc, string_bytes}
+use Rattle.std.proofs.Common.{◌≡◌, ◌∙◌, ◌++◌, ℕ, List, Err, inl, inr, refl, sym, ap, subst}
+use Rattle.std.proofs.Common.{append_assoc, string_bytes}
 use Rattle.std.specs.Prelude.{⊤, Result}
 use Rattle.std.specs.Io.KnownBytes.{Appends}
 use Rattle.task_sheet.specs.Sheet.{Task}
@@ -13,12 +14,14 @@ use Rattle.answering.proofs.CarriedOut.{never_err, placing_ends, said_sound, wan
 use Rattle.set_commands.proofs.ListedLimits.{placed_said}
 use Rattle.set_commands.proofs.limits_lines.print_placing.Goals as goal
 
--- want of memory is no failed write
-apart : (f : ListFault) (r : Result ⊤ ListFault) → r ≡ Err f → f ≡ list.OutOfMemory → r ≡ Err list.WriteFailed → ⊥
+-- out of memory is no failed write
+apart : (f : ListFault) (r : Result ⊤ ListFault) → r ≡ Err f → f ≡ list.OutOfMemory
+    → r ≡ Err list.WriteFailed → ⊥
 apart f r is memory same = cc
 
 pub returns-in_default : goal.returns-in_default
-returns-in_default g c = wanting c.refuse.ensures (λ wrote is. (Err refusal.OutOfMemory, refusal_line refusal.OutOfMemory, tt, (refl, is), wrote))
+returns-in_default g c = wanting c.refuse.ensures
+    (λ wrote is. (Err refusal.OutOfMemory, refusal_line refusal.OutOfMemory, tt, (refl, is), wrote))
 
 pub print_lines-requires : goal.print_lines-requires
 print_lines-requires g c =
@@ -33,20 +36,30 @@ pub returns-in-Ok-print_lines : goal.returns-in-Ok-print_lines
 returns-in-Ok-print_lines g c =
     let made = c.in-Ok.ensures in
     let said = c.in-Ok-print_lines.ensures.all in
-    let lists = subst (λ (U : List Task). ListsAll U (places_in c.args.placing.now) said.0) made.set (subst (λ (p : Placing). ListsAll c.in-Ok.listing.set.now (places_in p) said.0) made.placing said.1) in
-    said_sound (c.in-Ok-print_lines.ensures.ok never_err) (λ is. placing_ends c.args.placing.now (sym c.placing_status.ensures ∙ is))
-    (placed_said c.args.set.now c.requires.kept c.args.placing.now c.requires.placing _ made.first _ _ _ said.0 (inl (lists, c.placing_status.ensures)) said.2)
+    let lists = subst (λ (U : List Task). ListsAll U (places_in c.args.placing.now) said.0) made.set
+    (subst (λ (p : Placing). ListsAll c.in-Ok.listing.set.now (places_in p) said.0) made.placing
+    said.1) in
+    said_sound (c.in-Ok-print_lines.ensures.ok never_err)
+    (λ is. placing_ends c.args.placing.now (sym c.placing_status.ensures ∙ is))
+    (placed_said c.args.set.now c.requires.kept c.args.placing.now c.requires.placing _ made.first _
+    _ _ said.0 (inl (lists, c.placing_status.ensures)) said.2)
 
 pub returns-in-Err-OutOfMemory : goal.returns-in-Err-OutOfMemory
 returns-in-Err-OutOfMemory g c =
     let made = c.in-Ok.ensures in
     let printed = c.print_lines.ensures in
-    let said = printed.some (c.in-Err-OutOfMemory.is ∙ ap (λ f. Err f) c.in-Err-OutOfMemory.field-0-is) in
-    let lists = subst (λ (U : List Task). ListsSome U (places_in c.args.placing.now) said.0) made.set (subst (λ (p : Placing). ListsSome c.in-Ok.listing.set.now (places_in p) said.0) made.placing said.1) in
+    let said =
+    printed.some (c.in-Err-OutOfMemory.is ∙ ap (λ f. Err f) c.in-Err-OutOfMemory.field-0-is) in
+    let lists = subst (λ (U : List Task). ListsSome U (places_in c.args.placing.now) said.0)
+    made.set (subst (λ (p : Placing). ListsSome c.in-Ok.listing.set.now (places_in p) said.0)
+    made.placing said.1) in
     let before = g.W.Write.contents c.args.output.now.inner in
     let after = g.W.Write.contents c.refuse-in-Err-OutOfMemory.new.output.inner in
     let first : List ℕ = string_bytes c.in-Ok.listing.first in
     let none = refusal_line refusal.OutOfMemory in
-    wanting_after (first ++ said.0) (printed.ok (apart _ _ c.in-Err-OutOfMemory.is c.in-Err-OutOfMemory.field-0-is)) said.2 c.refuse-in-Err-OutOfMemory.ensures (λ all is.
-    placed_said c.args.set.now c.requires.kept c.args.placing.now c.requires.placing _ made.first _ _ _ (said.0 ++ none) (inr (said.0, lists, refl, is))
+    wanting_after (first ++ said.0)
+    (printed.ok (apart _ _ c.in-Err-OutOfMemory.is c.in-Err-OutOfMemory.field-0-is)) said.2
+    c.refuse-in-Err-OutOfMemory.ensures (λ all is.
+    placed_said c.args.set.now c.requires.kept c.args.placing.now c.requires.placing _ made.first _
+    _ _ (said.0 ++ none) (inr (said.0, lists, refl, is))
     (subst (λ (text : List ℕ). Appends before after text) (append_assoc first said.0 none) all))

@@ -7,21 +7,43 @@ use Rattle.set_commands.proofs.one_task.say_all.Goals as goal
 
 pub returns-in-Limits : goal.returns-in-Limits
 returns-in-Limits g c =
-    rw c.in-Limits.is (said_as c.print_placing.ensures (λ told. λ preference known has.
-    (told.0, told.1, admits_placed preference known c.args.set.now c.args.placing.now ((has.0, has.1, has.2.set), c.requires.placing) told.0 told.2, told.3, told.4)))
+    rw c.in-Limits.is (said_as c.print_placing.ensures (λ told. λ preference known has. (
+      told.0,
+      told.1,
+      admits_placed preference known c.args.set.now c.args.placing.now
+          ((has.0, has.1, has.2.set), c.requires.placing) told.0 told.2,
+      told.3,
+      told.4,
+    )))
 
--- want of memory for the lines is an answer of its own
+-- out of memory for the lines is an answer of its own
 pub returns-in-Reasons : goal.returns-in-Reasons
 returns-in-Reasons g c =
     let before = g.W.Write.contents c.args.output.now.inner in
     let after = g.W.Write.contents c.print_bytes.new.output.inner in
-    rw c.in-Reasons.is (made_said c.explained_text.result (λ t. t.items) _ c.explained_text.ensures c.print_bytes.ensures
-    (λ text found wrote is. λ preference known has. (Ok (record { set = c.args.set.now; owners = c.args.owners.now; placing = c.args.placing.now; explanation = found.0; decided = found.1 }), (has, c.requires.placing, found.2, found.3), subst (λ (t : List ℕ). Appends before after t) found.4 wrote, is ∙ c.placing_status-status.ensures))
+    rw c.in-Reasons.is (made_said c.explained_text.result (λ t. t.items) _ c.explained_text.ensures
+    c.print_bytes.ensures
+    (λ text found wrote is. λ preference known has. (
+      Ok (record {
+        set = c.args.set.now;
+        owners =
+            c.args.owners.now;
+        placing = c.args.placing.now;
+        explanation = found.0;
+        decided =
+            found.1;
+      }),
+      (has, c.requires.placing, found.2, found.3),
+      subst (λ (t : List ℕ). Appends
+          before after t) found.4 wrote,
+      is ∙ c.placing_status-status.ensures,
+    ))
     (λ wrote is. λ preference known has. (Err refusal.OutOfMemory, tt, wrote, is)))
 
 pub returns-in-Worst : goal.returns-in-Worst
 returns-in-Worst g c =
-    rw c.in-Worst.is (made_said c.worst_text.result (λ t. string_bytes t) _ c.worst_text.ensures c.print_made.ensures
+    rw c.in-Worst.is (made_said c.worst_text.result (λ t. string_bytes t) _ c.worst_text.ensures
+    c.print_made.ensures
     (λ text lines wrote is. λ preference known has. (
       Ok (record { set = c.args.set.now; placing = c.args.placing.now; lines = string_bytes text }),
       (((has.0, has.1, has.2.set), c.requires.placing), lines),

@@ -6,7 +6,7 @@ use Rattle.answering.specs.declared.refusal.CommandRefusal.TheVariants as refusa
 use Rattle.answering.proofs.CarriedOut.{made_said, shown}
 use Rattle.set_commands.proofs.one_task.say_task.Goals as goal
 
--- want of memory for the lines is an answer of its own
+-- out of memory for the lines is an answer of its own
 pub returns-in-Some : goal.returns-in-Some
 returns-in-Some g c =
     let before = g.W.Write.contents c.args.output.now.inner in
@@ -14,7 +14,12 @@ returns-in-Some g c =
     let named = sym c.find_task.ensures.found ∙ c.in-Some.is in
     made_said c.task_text.result (λ t. t.items) _ c.task_text.ensures c.print_bytes.ensures
     (λ text found wrote is. λ preference known has. (
-      Ok (record { set = c.args.set.now; owners = c.args.owners.now; placing = c.args.placing.now; lines = found.0 }),
+      Ok (record {
+        set = c.args.set.now;
+        owners = c.args.owners.now;
+        placing = c.args.placing.now;
+        lines = found.0;
+      }),
       (has, c.requires, (c.in-Some.task, named, found.1)),
       subst (λ (t : List ℕ). Appends before after t) found.2 wrote,
       is ∙ c.placing_status-status.ensures,
@@ -24,5 +29,17 @@ returns-in-Some g c =
 pub returns-in-None : goal.returns-in-None
 returns-in-None g c =
     let none = sym c.find_task.ensures.found ∙ c.in-None.is in
-    shown c.refuse.ensures (ap refusal_line c.no_such_task.ensures) (ap status_of c.no_such_task.ensures) (λ is. cc)
-    (λ wrote is. λ preference known has. (Err (no_such_task c.args.word.now), (c.args.set.now, c.args.placing.now, ((has.0, has.1, has.2.set), c.requires), none, refl), wrote, is))
+    shown c.refuse.ensures (ap refusal_line c.no_such_task.ensures)
+    (ap status_of c.no_such_task.ensures) (λ is. cc)
+    (λ wrote is. λ preference known has. (
+      Err (no_such_task c.args.word.now),
+      (
+        c.args.set.now,
+        c.args.placing.now,
+        ((has.0, has.1, has.2.set), c.requires),
+        none,
+        refl,
+      ),
+      wrote,
+      is,
+    ))

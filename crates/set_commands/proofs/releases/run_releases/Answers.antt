@@ -8,14 +8,18 @@ use Rattle.set_commands.proofs.releases.run_releases.Goals as goal
 pub returns-in-Ok-list_text : goal.returns-in-Ok-list_text
 returns-in-Ok-list_text g c =
     let answer = rw c.preference_of-preference.ensures at c.in-Ok.ensures.answer in
-    let lines = c.as_bytes.ensures.value ∙ c.in-Ok-list_text.ensures ∙ ap (λ (rs : List Release). list_lines c.args.until rs) c.deref.ensures.value in
-    carried_out c.in-Ok.ensures.read (shown c.print.ensures lines refl done_ends (λ wrote is. (Ok c.in-Ok.releases, answer, wrote, is)))
+    let lines = c.as_bytes.ensures.value ∙ c.in-Ok-list_text.ensures
+    ∙ ap (λ (rs : List Release). list_lines c.args.until rs) c.deref.ensures.value in
+    carried_out c.in-Ok.ensures.read (shown c.print.ensures lines refl done_ends
+    (λ wrote is. (Ok c.in-Ok.releases, answer, wrote, is)))
 
--- want of memory for the lines is an answer of its own
+-- out of memory for the lines is an answer of its own
 pub returns-in-Ok : goal.returns-in-Ok
-returns-in-Ok g c = carried_out c.in-Ok.ensures.read (wanting c.refuse.ensures (λ wrote is. (Err refusal.OutOfMemory, inl tt, wrote, is)))
+returns-in-Ok g c = carried_out c.in-Ok.ensures.read
+    (wanting c.refuse.ensures (λ wrote is. (Err refusal.OutOfMemory, inl tt, wrote, is)))
 
 pub returns : goal.returns
 returns g c =
     let answer = rw c.preference_of-preference.ensures at c.in-Err.ensures.answer in
-    refused c.in-Err.ensures.read c.refuse-in-Err.ensures (λ wrote is. (Err c.in-Err.refusal, answer, wrote, is))
+    refused c.in-Err.ensures.read c.refuse-in-Err.ensures
+    (λ wrote is. (Err c.in-Err.refusal, answer, wrote, is))

@@ -10,5 +10,6 @@ returns-in-Ok-draw g c =
     let before = g.W.Write.contents c.args.output.now.inner in
     let after = g.W.Write.contents c.draw.new.output.inner in
     let rows = c.deref.ensures.value ∙ c.in-Ok.ensures.rows in
-    let drawn = subst (λ (rs : List TaskRow). Appends before after (document rs c.args.view.now c.args.until c.args.releases.now c.args.trace.now)) rows c.in-Ok-draw.ensures.drawn in
+    let drawn = subst (λ (rs : List TaskRow). Appends before after (document rs c.args.view.now
+    c.args.until c.args.releases.now c.args.trace.now)) rows c.in-Ok-draw.ensures.drawn in
     said_sound c.in-Ok-draw.ensures.ok done_ends (inl (drawn, refl))

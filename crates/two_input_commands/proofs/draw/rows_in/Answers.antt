@@ -1,4 +1,5 @@
-use Rattle.std.proofs.Common.{◌≡◌, ◌<◌, List, [], ◌∷◌, length, slice_index_or, ap, refl, sym, subst, arith, length-append}
+use Rattle.std.proofs.Common.{◌≡◌, ◌<◌, List, [], ◌∷◌, length, slice_index_or, ap, refl, sym, subst}
+use Rattle.std.proofs.Common.{arith, length-append}
 use Rattle.std.proofs.lemmas.Result.{IfOk-weaker}
 use Rattle.task_sheet.specs.Sheet.{Task}
 use Rattle.run_lines.specs.TaskBounds.{tasks_of_bounds}
@@ -9,9 +10,11 @@ use Rattle.drawn_runs.specs.Rows.{drawn_row, rows_of}
 use Rattle.two_input_commands.proofs.draw.rows_in.Goals as goal
 
 -- as many rows as tasks
-count_of : (U : List Task) (bounds : List TaskBound) → length (rows_of U bounds) ≡ length (tasks_of_bounds bounds)
+count_of : (U : List Task) (bounds : List TaskBound)
+    → length (rows_of U bounds) ≡ length (tasks_of_bounds bounds)
 count_of U [] = refl
-count_of U (b ∷ bounds) = omega (arith, count_of U bounds, length-append (rows_of U bounds) (drawn_row U b ∷ []))
+count_of U (b ∷ bounds) =
+    omega (arith, count_of U bounds, length-append (rows_of U bounds) (drawn_row U b ∷ []))
 
 pub rows_of-requires : goal.rows_of-requires
 rows_of-requires c = λ k d lt.
@@ -27,5 +30,11 @@ returns-clause-few c =
     let V : List Task = c.sheets.result.now in
     let all = order_length (length U) (tasks_of_bounds bounds) c.requires in
     IfOk-weaker c.rows_of.result _ _
-    (λ rows is. omega (arith, c.sheets.ensures.kept.few, all, count_of V bounds, ap (λ (rs : List TaskRow). length rs) is))
+    (λ rows is. omega (
+      arith,
+      c.sheets.ensures.kept.few,
+      all,
+      count_of V bounds,
+      ap (λ (rs : List TaskRow). length rs) is,
+    ))
     c.rows_of.ensures

@@ -7,7 +7,8 @@ use Rattle.two_input_commands.specs.Keep.{IsKeptIn}
 use Rattle.two_input_commands.proofs.keep_lines.keep_text.Goals as goal
 
 -- what is kept is an order of the set
-kept_in : (U : List Task) (kept : List ℕ) (keeping : Keeping) → IsKeepingOf U kept keeping → IsKeptIn U keeping
+kept_in : (U : List Task) (kept : List ℕ) (keeping : Keeping) → IsKeepingOf U kept keeping
+    → IsKeptIn U keeping
 kept_in U kept (Kept places) is = is.best.passing.passing.each_once
 kept_in U kept (Parted low high) is = tt
 kept_in U kept (Stuck left) is = tt
@@ -16,7 +17,8 @@ pub returns-clause-answer : goal.returns-clause-answer
 returns-clause-answer c = (
   c.in-Ok.kept.items,
   c.in-Ok.ensures.kept,
-  subst (λ (order : List ℕ). IsKeepingOf c.args.tasks.now order c.in_ok-keeping.keeping) c.deref.ensures.value c.in_ok-keeping.ensures,
+  subst (λ (order : List ℕ). IsKeepingOf c.args.tasks.now order c.in_ok-keeping.keeping)
+      c.deref.ensures.value c.in_ok-keeping.ensures,
 )
 
 pub returns-clause-order : goal.returns-clause-order

@@ -7,5 +7,8 @@ use Rattle.two_input_commands.proofs.limits_at_lines.node_text.Goals as goal
 
 pub returns-in-None : goal.returns-in-None
 returns-in-None c =
-    let missed : all_meet c.args.node.now.judged.items ≡ false = ap (λ (js : List JudgedTask). all_meet js) (sym c.deref.ensures.value) ∙ c.in_ok-found.ensures.miss c.in-None.is in
-    subst (λ (b : Bool). IfOk c.missed_text.result (λ text. IsLimitsBy b c.args.set.now c.args.node.now c.args.asked (string_bytes text))) (sym missed) c.missed_text.ensures
+    let missed : all_meet c.args.node.now.judged.items ≡ false =
+    ap (λ (js : List JudgedTask). all_meet js) (sym c.deref.ensures.value)
+    ∙ c.in_ok-found.ensures.miss c.in-None.is in
+    subst (λ (b : Bool). IfOk c.missed_text.result (λ text. IsLimitsBy b c.args.set.now
+    c.args.node.now c.args.asked (string_bytes text))) (sym missed) c.missed_text.ensures

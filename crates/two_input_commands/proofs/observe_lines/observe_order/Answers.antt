@@ -13,8 +13,10 @@ use Rattle.two_input_commands.proofs.observe_lines.observe_order.Goals as goal
 pub returns-in_default-clause-answer : goal.returns-in_default-clause-answer
 returns-in_default-clause-answer c =
     let node = c.in-Ok-judge_rows.node in
-    let missed : all_meet node.judged.items ≡ false = subst (λ (js : List JudgedTask). all_meet js ≡ false) c.deref.ensures.value (c.in_ok-places.ensures.miss (search rules)) in (
-      node_of c.args.tasks.now c.args.rows.now node c.requires c.in-Ok-judge_rows.ensures.judged c.in-Ok-judge_rows.ensures.numbers,
+    let missed : all_meet node.judged.items ≡ false = subst (λ (js : List JudgedTask). all_meet js
+    ≡ false) c.deref.ensures.value (c.in_ok-places.ensures.miss (search rules)) in (
+      node_of c.args.tasks.now c.args.rows.now node c.requires c.in-Ok-judge_rows.ensures.judged
+          c.in-Ok-judge_rows.ensures.numbers,
       missed,
       c.in-Ok.ensures.sound,
     )
@@ -24,8 +26,10 @@ observe_places-requires-clause-tasks c =
     let U = c.args.tasks.now in
     let judged = c.in-Ok-judge_rows.node.judged.items in
     let places = c.in-Some.places.items in
-    let same : judged ≡ judged_of places = sym c.deref.ensures.value ∙ (rw c.in-Some.is at c.in_ok-places.ensures.meet) in
-    subst (λ (ps : List PlaceData). All (λ (p : PlaceData). p.task < length U) ps) (sym c.deref-2.ensures.value)
+    let same : judged ≡ judged_of places = sym c.deref.ensures.value
+    ∙ (rw c.in-Some.is at c.in_ok-places.ensures.meet) in
+    subst (λ (ps : List PlaceData). All (λ (p : PlaceData). p.task < length U) ps)
+    (sym c.deref-2.ensures.value)
     (tasks_within U judged places c.in-Ok-judge_rows.ensures.judged.0.by_numbers.each_once same)
 
 pub returns-in-Ok-observe_places-clause-answer : goal.returns-in-Ok-observe_places-clause-answer
@@ -33,11 +37,14 @@ returns-in-Ok-observe_places-clause-answer c =
     let U = c.args.tasks.now in
     let judged = c.in-Ok-judge_rows.node.judged.items in
     let places = c.in-Some.places.items in
-    let same : judged ≡ judged_of places = sym c.deref.ensures.value ∙ (rw c.in-Some.is at c.in_ok-places.ensures.meet) in (
+    let same : judged ≡ judged_of places = sym c.deref.ensures.value
+    ∙ (rw c.in-Some.is at c.in_ok-places.ensures.meet) in (
       places,
       c.in-Ok.trace,
-      given U c.args.rows.now (rows_at c.args.at.line c.args.at.rest.now) c.in-Ok.trace judged places c.requires c.in-Ok.ensures c.in-Ok-judge_rows.ensures.judged same,
-      subst (λ (ps : List PlaceData). IsShownAt U ps c.in-Ok.trace c.in-Ok-observe_places.observed) c.deref-2.ensures.value c.in-Ok-observe_places.ensures,
+      given U c.args.rows.now (rows_at c.args.at.line c.args.at.rest.now) c.in-Ok.trace judged
+          places c.requires c.in-Ok.ensures c.in-Ok-judge_rows.ensures.judged same,
+      subst (λ (ps : List PlaceData). IsShownAt U ps c.in-Ok.trace c.in-Ok-observe_places.observed)
+          c.deref-2.ensures.value c.in-Ok-observe_places.ensures,
     )
 
 pub returns-clause-answer : goal.returns-clause-answer
@@ -45,10 +52,14 @@ returns-clause-answer c =
     let U = c.args.tasks.now in
     let judged = c.in-Ok-judge_rows.node.judged.items in
     let places = c.in-Some.places.items in
-    let same : judged ≡ judged_of places = sym c.deref.ensures.value ∙ (rw c.in-Some.is at c.in_ok-places.ensures.meet) in
+    let same : judged ≡ judged_of places = sym c.deref.ensures.value
+    ∙ (rw c.in-Some.is at c.in_ok-places.ensures.meet) in
     inr (inr (
       places,
       c.in-Ok.trace,
-      given U c.args.rows.now (rows_at c.args.at.line c.args.at.rest.now) c.in-Ok.trace judged places c.requires c.in-Ok.ensures c.in-Ok-judge_rows.ensures.judged same,
-      subst (λ (ps : List PlaceData). IsTraceFault c.in-Err-observe_places.fault (observed_fault (promises_of U ps) c.in-Ok.trace)) c.deref-2.ensures.value c.in-Err-observe_places.ensures,
+      given U c.args.rows.now (rows_at c.args.at.line c.args.at.rest.now) c.in-Ok.trace judged
+          places c.requires c.in-Ok.ensures c.in-Ok-judge_rows.ensures.judged same,
+      subst (λ (ps : List PlaceData). IsTraceFault c.in-Err-observe_places.fault
+          (observed_fault (promises_of U ps) c.in-Ok.trace)) c.deref-2.ensures.value
+          c.in-Err-observe_places.ensures,
     ))

@@ -14,10 +14,13 @@ returns-in_ok-trace-in-Best c =
     let until = c.args.until in
     let trace = c.in_ok-trace-in-Best.trace in
     let rs = c.args.releases.items in
-    let placing : IsBestPlacing U places = subst (IsPlacingOf U) c.in-Best.is c.in_ok-members.ensures in
+    let placing : IsBestPlacing U places =
+    subst (IsPlacingOf U) c.in-Best.is c.in_ok-members.ensures in
     let both : RunsOrder U (tasks_of_places places) rs until (Ok trace) =
-    subst (λ (rs : List Release). RunsOrder U (tasks_of_places places) rs until (Ok trace)) c.deref-in-Best.ensures.value
-    (subst (λ (ps : List PlaceData). RunsOrder U (tasks_of_places ps) c.deref-in-Best.result.now until (Ok trace)) c.deref.ensures.value
+    subst (λ (rs : List Release). RunsOrder U (tasks_of_places places) rs until (Ok trace))
+    c.deref-in-Best.ensures.value
+    (subst (λ (ps : List PlaceData). RunsOrder U (tasks_of_places ps) c.deref-in-Best.result.now
+    until (Ok trace)) c.deref.ensures.value
     c.in_ok-trace-in-Best.ensures) in
     let set : IsTaskSet U = search rules in
     let within = all_within U places rs until trace set placing both.0 in (

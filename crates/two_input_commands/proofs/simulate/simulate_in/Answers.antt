@@ -6,7 +6,8 @@ use Rattle.two_input_commands.proofs.Ordered.{order_within, ordered_run}
 use Rattle.two_input_commands.proofs.simulate.simulate_in.Goals as goal
 
 pub judge_order-requires-clause-within : goal.judge_order-requires-clause-within
-judge_order-requires-clause-within c = order_within c.args.tasks.now c.args.order.now c.requires.order
+judge_order-requires-clause-within c =
+    order_within c.args.tasks.now c.args.order.now c.requires.order
 
 pub returns : goal.returns
 returns c =
@@ -14,11 +15,13 @@ returns c =
     let rs = c.args.releases.items in
     let trace = c.in_ok-trace.trace in
     let runs : RunsOrder U c.args.order.now rs c.args.until (Ok trace) =
-    subst (λ (rs : List Release). RunsOrder U c.args.order.now rs c.args.until (Ok trace)) c.deref.ensures.value c.in_ok-trace.ensures in
+    subst (λ (rs : List Release). RunsOrder U c.args.order.now rs c.args.until (Ok trace))
+    c.deref.ensures.value c.in_ok-trace.ensures in
     let set : IsTaskSet U = search rules in (
       c.in_ok-judged.ensures.order,
       c.in_ok-judged.ensures.judged,
       refl,
       refl,
-      ordered_run U c.in_ok-judged.judged.items c.args.order.now rs c.args.until trace set c.requires.order c.in_ok-judged.ensures.order c.in_ok-judged.ensures.judged runs,
+      ordered_run U c.in_ok-judged.judged.items c.args.order.now rs c.args.until trace set
+          c.requires.order c.in_ok-judged.ensures.order c.in_ok-judged.ensures.judged runs,
     )

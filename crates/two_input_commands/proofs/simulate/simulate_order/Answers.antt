@@ -6,12 +6,21 @@ use Rattle.two_input_commands.proofs.simulate.simulate_order.Goals as goal
 
 pub simulate_in-requires-clause-order : goal.simulate_in-requires-clause-order
 simulate_in-requires-clause-order c =
-    subst (λ (order : List ℕ). IsOrder c.args.tasks.now order) (sym c.deref.ensures.value) c.in-Ok.ensures.by_numbers.each_once
+    subst (λ (order : List ℕ). IsOrder c.args.tasks.now order) (sym c.deref.ensures.value)
+    c.in-Ok.ensures.by_numbers.each_once
 
 pub returns : goal.returns
 returns c =
-    in_order c.args.tasks.now c.in-Ok.order.items c.args.rows.now c.args.until c.args.releases.items c.simulate_in.result c.requires c.in-Ok.ensures
-    (subst (λ (order : List ℕ). SimulatesIn c.args.tasks.now order c.args.until c.args.releases.items c.simulate_in.result) c.deref.ensures.value c.simulate_in.ensures)
+    in_order c.args.tasks.now c.in-Ok.order.items c.args.rows.now c.args.until c.args.releases.items
+    c.simulate_in.result c.requires c.in-Ok.ensures
+    (subst (λ (order : List ℕ). SimulatesIn c.args.tasks.now order c.args.until
+    c.args.releases.items c.simulate_in.result) c.deref.ensures.value c.simulate_in.ensures)
 
 pub returns-in-Err : goal.returns-in-Err
-returns-in-Err c = inr (c.args.until, c.args.releases.items, refl, no_order c.args.tasks.now c.in-Err.fault c.args.rows.now c.requires c.in-Err.ensures)
+returns-in-Err c = inr (
+  c.args.until,
+  c.args.releases.items,
+  refl,
+  no_order c.args.tasks.now
+      c.in-Err.fault c.args.rows.now c.requires c.in-Err.ensures,
+)
