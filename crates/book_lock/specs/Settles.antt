@@ -38,6 +38,9 @@ Holds b d old (Ok place) next new = IsEntered b d old place next new
 Holds b d old (Err fault) next new = (fault.draft ≡ d) × (next ≡ b) × (new ≡ old)
 
 -- ---- for a caller who doesn't see the book
+-- Outside the lock no clause can name the shared book. What is said here is that some legal book behaves so, and nothing
+-- ties it to what the pass knew; that it is this desk's is shown at `close`, where the receipts are compared with the log
+-- (`IsDeskClosed`).
 -- a decision on a draft's changes, which some legal book logged next, is the pass's last receipt
 pub record IsReceived (d : Draft) (old : Known) (place : ℕ) (new : Known) : Type 0 where
   pub book : Book

@@ -1,4 +1,5 @@
--- What a pass knows, and how it goes on.
+-- What a team's side, its pass, knows without the lock: its number, its own tasks, and for each of its commits that was
+-- decided the log entry and its place. `close` compares this with the log.
 use Rattle.std.specs.Prelude.{◌≡◌, ℕ, ◌+◌, ◌-◌, ◌==◌, List, [], ◌∷◌, ◌++◌, length, Bool, true, false, ◌||◌, ◌&&◌, nat_le, zero, suc, if◌then◌else◌}
 use Rattle.task_sheet.specs.Sheet.{Task}
 use Rattle.book_lock.specs.Own.{own_changes}

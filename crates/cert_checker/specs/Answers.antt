@@ -2,7 +2,7 @@
 use Rattle.std.specs.Prelude.{◌≡◌, ℕ, List, [], None, Ok}
 use Rattle.task_sheet.specs.Sheet.{Task}
 use Rattle.task_sheet.specs.Verdicts.{VerdictData, Admitted, Infeasible, order_of}
-use Rattle.certificate.specs.Body.{Body, Cert, HasSpelling}
+use Rattle.certificate.specs.Body.{Body, HasSpelling}
 use Rattle.certificate.specs.Body as says
 use Rattle.certificate.specs.Spelling.{spelling}
 use Rattle.certificate.specs.Lines.{certificate_in}

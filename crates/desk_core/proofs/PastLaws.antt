@@ -8,7 +8,7 @@ use Rattle.assignment.specs.Questions.{QuestionData}
 use Rattle.drafts.specs.declared.change.Change.{Change}
 use Rattle.drafts.specs.declared.draft.EditRefusal.{EditRefusal}
 use Rattle.drafts.specs.Machine.{MachineState, Entry, empty_desk, replay}
-use Rattle.drafts.specs.Books.{Book, IsLegalBook}
+use Rattle.drafts.specs.Books.{Book}
 use Rattle.drafts.specs.Edits.{after_put, after_remove}
 use Rattle.desk_core.specs.Bases.{IsPast}
 use Rattle.desk_core.specs.declared.events.Event.{Event}

@@ -46,7 +46,7 @@ pub record IsPresent (U : List Task) (found : List Asked) (k : ℕ) : Type 0 whe
   pub before : (j : ℕ) → j < k → Decides U found j
   pub undecided : ¬ Decides U found k
 
--- they decide all
+-- they decide all; past the last level no task is left, and such a level is decided without findings
 abbrev pub IsTested : List Task → List Asked → Type 0
 IsTested U found = (k : ℕ) → Decides U found k
 

@@ -3,7 +3,6 @@ use Rattle.std.proofs.Common.{◌≡◌, ◌↔◌, ℕ, zero, suc, ◌<◌, ◌
 use Rattle.std.proofs.Common.{get_or, refl, sym, ◌∙◌, ap, subst, arith}
 use Rattle.std.proofs.lemmas.Bool.{cases_eq}
 use Rattle.std.proofs.lemmas.List.{length-set, get_or_default}
-use Rattle.std.specs.List.{All}
 use Rattle.task_sheet.specs.Sheet.{Task, IsTask, IsValidSheet, AllTasks, no_task, task_at}
 use Rattle.task_sheet.specs.TaskSet.{IsTaskSet}
 use Rattle.task_sheet.specs.Demand.{limit_of}
@@ -15,7 +14,7 @@ use Rattle.headroom.proofs.OrderLaws.{in_order-within, in_order-each}
 use Rattle.factor.specs.Factors.{scaled, MayScale, IsFactor}
 use Rattle.factor.proofs.ScaledSets.{count-scaled, scaled-at, valid-at, keeps-scaled}
 use Rattle.preferences.specs.Preferences.{IsPreferred}
-use Rattle.latest_first.specs.LatestFirst.{IsPrompt, AllPrompt, AreAlike}
+use Rattle.latest_first.specs.LatestFirst.{AllPrompt, AreAlike}
 use Rattle.task_sheet.specs.declared.prefer.Preference.TheVariants.{Deadline}
 use Rattle.latest_first.proofs.OneOrder.{AllPrompt-valid, IsOrder-alike, IsLatestFirst-alike}
 use Rattle.latest_first.proofs.OneOrder.{IsPassingOrder-latest}

@@ -1,5 +1,5 @@
 -- Whose the tasks of a set are: those of the teams whose documents are gathered in its text.
-use Rattle.std.specs.Prelude.{◌≡◌, ◌⊎◌, ℕ, Bool, true, false, List, [], ◌∷◌, ◌++◌, map, Option, None, Some, Ok, Err, if◌then◌else◌}
+use Rattle.std.specs.Prelude.{◌≡◌, ◌⊎◌, ℕ, Bool, true, false, List, [], ◌∷◌, ◌++◌, map, Option, None, Some, Err, if◌then◌else◌}
 use Rattle.task_sheet.specs.Sheet.{Task, same_bytes}
 use Rattle.task_sheet.specs.ReadsSet.{SaysDocument}
 use Rattle.task_sheet.specs.declared.read.Document.{Document}

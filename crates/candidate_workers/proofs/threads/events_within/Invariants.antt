@@ -1,5 +1,4 @@
 use Rattle.std.proofs.Common.{◌≡◌, ◌≤◌, ◌+◌, ◌*◌, take, sum_by}
-use Rattle.task_sheet.specs.Demand.{releases_within}
 use Rattle.candidate_workers.specs.Threads.{comes_within}
 use Rattle.candidate_workers.proofs.threads.events_within.Given as goal
 
