@@ -4,7 +4,7 @@ ghost use Rattle.assignment.specs.Placings.{IsPlacingOf};
 use crate::causes::LastError;
 use crate::sentence::{Known, sentence_of};
 use assignment::Placing;
-use ceilings::LockTable;
+use ceilings::{LockTable, Tabled};
 use command_line::{Call, Input, OfNumber, OfOne, OfTwo, Options};
 use desk_cli::{Audience, CommandRefusal, Status, Which};
 use explain::least_conflict;
@@ -226,7 +226,7 @@ impl<'a, W: Write + Drop> Audience for Advice<'a, W> {
             return;
         }
         if let Ok(table) = LockTable::new(self.alloc, set) {
-            let least = least_conflict(set, &table, *greatest);
+            let least = least_conflict(&Tabled::of(set, &table), *greatest);
             let _ = put_conflict(set, *greatest, least, &mut self.errors);
         }
     }

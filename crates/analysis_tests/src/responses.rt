@@ -1,15 +1,14 @@
 //! Ceilings, blocking, demands, and how many numbers lead to a response.
 ghost use Rattle.std.specs.Prelude.{◌<◌, length};
-ghost use Rattle.ceilings.specs.IsTableOf.{IsTableOf};
 
 use blocking::blocking;
-use ceilings::LockTable;
+use ceilings::{LockTable, Tabled};
 use example_sets::{again, name, padded_set_of, set_of};
 use response_time::{Answer, demand, passes, respond};
 use std::alloc::Global;
 use std::process::Abort;
 use std::test::Fail;
-use task_sheet::{Members, Name, TaskSet};
+use task_sheet::{Members, Name};
 
 // The tasks with these indexes.
 fn members_of(rt: &impl Abort, indexes: &[usize]) -> Members {
@@ -25,17 +24,15 @@ fn members_of(rt: &impl Abort, indexes: &[usize]) -> Members {
 fn response_in(
     rt: &impl Abort,
     alloc: Global,
-    set: &TaskSet,
-    table: &LockTable,
+    set: &Tabled<'_>,
     task: usize,
     above: Members,
 ) -> Result<(bool, usize), Fail>
-    requires table { IsTableOf set.now table.now }
     requires task { task < length set.now }
 {
-    let response = again!(respond(alloc, set, table, task, above))?;
+    let response = again!(respond(alloc, set, task, above))?;
     let does_pass = matches!(&response.answer, Answer::Pass { .. });
-    assert!(rt; passes(set, table, task, above) == does_pass);
+    assert!(rt; passes(set, task, above) == does_pass);
     Ok((does_pass, response.evaluations))
 }
 
@@ -50,7 +47,13 @@ fn response_of(
     let set = padded_set_of(alloc, document)?;
     let table = again!(LockTable::new(alloc, &set))?;
     assert!(rt; task < set.len());
-    response_in(rt, alloc, &set, &table, task, members_of(rt, above))
+    response_in(
+        rt,
+        alloc,
+        &Tabled::of(&set, &table),
+        task,
+        members_of(rt, above),
+    )
 }
 
 // An example, a task of it, the tasks above it, whether it passes, and its evaluations.
@@ -97,8 +100,9 @@ type LockFacts = (Option<u32>, usize, Option<usize>);
 fn facts_of(alloc: Global, lock: Name) -> Result<LockFacts, Fail> {
     let set = set_of(alloc, example_sets::SHARED_LOCK)?;
     let table = again!(LockTable::new(alloc, &set))?;
-    let ceiling = table.ceiling(lock, &[0, 1, 2]);
-    Ok((ceiling, table.users(lock).len(), table.index_of(lock)))
+    let set = Tabled::of(&set, &table);
+    let ceiling = set.ceiling(lock, &[0, 1, 2]);
+    Ok((ceiling, set.users(lock).len(), set.lock_index(lock)))
 }
 
 const LOCKS: [(&str, LockFacts); 2] = [("m", (Some(3), 2, Some(0))), ("z", (None, 0, None))];
@@ -118,7 +122,7 @@ fn blocking_in(rt: &impl Abort, alloc: Global, task: usize, above: &[usize]) -> 
     let table = again!(LockTable::new(alloc, &set))?;
     assert!(rt; set.len() == 3);
     assert!(rt; task < 3);
-    Ok(blocking(&set, &table, task, members_of(rt, above)))
+    Ok(blocking(&Tabled::of(&set, &table), task, members_of(rt, above)))
 }
 
 // A task of the shared lock, the tasks above it, and what blocks it.
@@ -147,7 +151,7 @@ fn demand_in(
     let above = members_of(rt, above);
     assert!(rt; task < set.len());
     assert!(rt; time <= 20001);
-    Ok(demand(&set, &table, task, above, time))
+    Ok(demand(&Tabled::of(&set, &table), task, above, time))
 }
 
 // A document, a task of it, the tasks above that one, a window and the task's demand in it: the exchange with equality,

@@ -2,7 +2,7 @@
 //! chain. And placings: each level with its response, or the members of the greatest obstruction, as in the verdicts.
 use crate::sheets::without_hi;
 use assignment::{Failure, LevelRecord, Place, Placing, Reason, Verdict, assign, place_all};
-use ceilings::LockTable;
+use ceilings::{LockTable, Tabled};
 use example_sets::{again, match_both, set_of, shared_set};
 use std::alloc::{AllocError, Global};
 use std::sync::Arc;
@@ -125,7 +125,7 @@ fn placing_line(alloc: Global, set: &TaskSet, placing: &Placing) -> Result<Strin
 fn placing_at(alloc: Global, document: &str) -> Result<String, Fail> {
     let set = set_of(alloc, document)?;
     let table = again!(LockTable::new(alloc, &set))?;
-    let placing = again!(place_all(alloc, &set, &table))?;
+    let placing = again!(place_all(alloc, &Tabled::of(&set, &table)))?;
     Ok(placing_line(alloc, &set, &placing)?)
 }
 

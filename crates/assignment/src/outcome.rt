@@ -4,13 +4,12 @@ ghost use Rattle.task_sheet.specs.Sheet.{Task};
 ghost use Rattle.task_sheet.specs.Indexes.{Indexes, indexes_of, IsPart};
 ghost use Rattle.task_sheet.specs.Orders.{all_of, is_bound};
 ghost use Rattle.task_sheet.specs.Verdicts.{IsLeastOver};
-ghost use Rattle.ceilings.specs.IsTableOf.{IsTableOf};
 ghost use Rattle.response_time.specs.Answers.{IsAnswer};
 ghost use Rattle.assignment.specs.Outcomes.{IsOutcome};
 
-use ceilings::LockTable;
+use ceilings::Tabled;
 use response_time::Answer;
-use task_sheet::{Members, TaskSet};
+use task_sheet::Members;
 
 /// Why a task may not stand where it was asked.
 #[derive(Drop)]
@@ -45,24 +44,22 @@ pub(crate) fn unbound_outcome(answer: Answer) -> Outcome
     }
 }
 
-/// Whether a task must stand above one of these. The table is that of the set.
-pub(crate) fn is_bound(set: &TaskSet, table: &LockTable, task: usize, above: Members) -> bool
-    requires table { IsTableOf set.now table.now }
+/// Whether a task must stand above one of these.
+pub(crate) fn is_bound(set: &Tabled<'_>, task: usize, above: Members) -> bool
     requires task { task < length set.now }
     requires part { IsPart (indexes_of above) (all_of set.now) }
     ensures { result ≡ is_bound set.now task (indexes_of above) }
 {
-    table.outranked(task).meets(above)
+    set.outranked(task).meets(above)
 }
 
-/// Of these that a task must stand above, the one of least rank. The table is that of the set.
-pub fn least_over(set: &TaskSet, table: &LockTable, task: usize, above: Members) -> Option<usize>
-    requires table { IsTableOf set.now table.now }
+/// Of these that a task must stand above, the one of least rank.
+pub fn least_over(set: &Tabled<'_>, task: usize, above: Members) -> Option<usize>
     requires task { task < length set.now }
     ensures none { IfNone result (IsFalse (is_bound set.now task (indexes_of above))) }
     ensures some { IfSome result (λ other. IsLeastOver set.now task (indexes_of above) other) }
 {
-    let outranked = table.outranked(task);
+    let outranked = set.outranked(task);
     for other in 0..set.len() {
         if outranked.has(other) && above.has(other) {
             return Some(other);

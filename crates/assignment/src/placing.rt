@@ -5,15 +5,14 @@ ghost use Rattle.task_sheet.specs.Indexes.{indexes_of, without_index, IsPart};
 ghost use Rattle.task_sheet.specs.Demand.{IsResponseOf};
 ghost use Rattle.task_sheet.specs.Orders.{all_of, Stands};
 ghost use Rattle.task_sheet.specs.Levels.{IsChosen, NoneStands};
-ghost use Rattle.ceilings.specs.IsTableOf.{IsTableOf};
 ghost use Rattle.assignment.specs.Placings.{IsPlacingOf, tasks_of_places};
 
 use crate::outcome::is_bound;
-use ceilings::LockTable;
+use ceilings::Tabled;
 use response_time::response_in_time;
 use std::alloc::{AllocError, Global};
 use std::marker::Model;
-use task_sheet::{Members, TaskSet};
+use task_sheet::Members;
 
 /// A level: the index of its task, and the task's response there in microseconds from the arrival.
 #[derive(Clone, Copy)]
@@ -53,8 +52,7 @@ pub fn tasks_of_places(alloc: Global, places: &[Place]) -> Result<Vec<usize>, Al
 }
 
 // The response of a task with these above it, where it may stand there.
-fn response_below(set: &TaskSet, table: &LockTable, task: usize, above: Members) -> Option<u64>
-    requires table { IsTableOf set.now table.now }
+fn response_below(set: &Tabled<'_>, task: usize, above: Members) -> Option<u64>
     requires task { task < length set.now }
     requires part { IsPart (indexes_of above) (all_of set.now) }
     ensures some { IfSome result
@@ -62,15 +60,14 @@ fn response_below(set: &TaskSet, table: &LockTable, task: usize, above: Members)
     ensures stands { IfSome result (λ _. Stands set.now task (indexes_of above)) }
     ensures none { IfNone result (¬ Stands set.now task (indexes_of above)) }
 {
-    if is_bound(set, table, task, above) {
+    if is_bound(set, task, above) {
         return None;
     }
-    response_in_time(set, table, task, above)
+    response_in_time(set, task, above)
 }
 
 // Of the tasks that are left, the one of least rank that may stand below the others; none where none may.
-fn lowest(set: &TaskSet, table: &LockTable, left: Members) -> Option<Place>
-    requires table { IsTableOf set.now table.now }
+fn lowest(set: &Tabled<'_>, left: Members) -> Option<Place>
     requires part { IsPart (indexes_of left) (all_of set.now) }
     ensures chosen { IfSome result (λ place. IsChosen set.now (indexes_of left) place.task) }
     ensures response { IfSome result (λ place.
@@ -80,7 +77,7 @@ fn lowest(set: &TaskSet, table: &LockTable, left: Members) -> Option<Place>
 {
     for task in 0..set.len() {
         if left.has(task) {
-            if let Some(response) = response_below(set, table, task, left.without(task)) {
+            if let Some(response) = response_below(set, task, left.without(task)) {
                 return Some(Place { task, response });
             }
         }
@@ -90,15 +87,13 @@ fn lowest(set: &TaskSet, table: &LockTable, left: Members) -> Option<Place>
 
 /// The best order of a set with its responses, or its greatest obstruction: what `assign` says, without what shows it.
 /// It takes no memory but for its levels; the error is want of it.
-/// The table is that of the set.
-pub fn place_all(alloc: Global, set: &TaskSet, table: &LockTable) -> Result<Placing, AllocError>
-    requires { IsTableOf set.now table.now }
+pub fn place_all(alloc: Global, set: &Tabled<'_>) -> Result<Placing, AllocError>
     ensures { IfOk result (λ placing. IsPlacingOf set.now placing) }
 {
     let mut left = Members::all(set.sheets().len());
     let mut places = Vec::with_capacity(alloc, left.len())?;
     while !left.is_empty() {
-        match lowest(set, table, left) {
+        match lowest(set, left) {
             Some(place) => {
                 left = left.without(place.task);
                 places.push(place)?;

@@ -8,7 +8,7 @@ ghost use Rattle.ceilings.specs.IsTableOf.{IsTableOf};
 ghost use Rattle.assignment.specs.Questions.{IsQuestion, IsRight, QuestionData, FindingData};
 
 use crate::outcome::{Outcome, Reason, is_bound, least_over, unbound_outcome};
-use ceilings::LockTable;
+use ceilings::{LockTable, Tabled};
 use response_time::respond;
 use std::alloc::{AllocError, Global};
 use std::marker::Model;
@@ -129,10 +129,11 @@ fn over(question: &Question, table: &LockTable) -> Option<usize>
     ensures some { IfSome result (λ other.
         IsLeastOver question.now.set question.now.task (indexes_of question.now.above) other) }
 {
-    if !is_bound(&question.set, table, question.task, question.above) {
+    let set = Tabled::of(&question.set, table);
+    if !is_bound(&set, question.task, question.above) {
         return None;
     }
-    least_over(&question.set, table, question.task, question.above)
+    least_over(&set, question.task, question.above)
 }
 
 // The right answer to a question.
@@ -145,7 +146,12 @@ fn answer_to(alloc: Global, question: &Question, table: &LockTable) -> Result<Ou
             reason: Reason::Over(other),
         });
     }
-    let response = respond(alloc, &question.set, table, question.task, question.above)?;
+    let response = respond(
+        alloc,
+        &Tabled::of(&question.set, table),
+        question.task,
+        question.above,
+    )?;
     Ok(unbound_outcome(response.answer))
 }
 

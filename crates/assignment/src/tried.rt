@@ -4,21 +4,19 @@ ghost use Rattle.task_sheet.specs.TaskSet.{IsTaskSet};
 ghost use Rattle.task_sheet.specs.Indexes.{indexes_of, IsPart};
 ghost use Rattle.task_sheet.specs.Orders.{all_of};
 ghost use Rattle.latest_first.specs.LatestFirst.{IsFree, IsLatest};
-ghost use Rattle.ceilings.specs.IsTableOf.{IsTableOf};
 ghost use Rattle.assignment.specs.Longer.{is_longer};
 
 use crate::outcome::is_bound;
-use ceilings::LockTable;
+use ceilings::Tabled;
 use task_sheet::{Members, TaskSet};
 
 // Whether a task is left, and need not stand above another one that is.
-fn is_free(set: &TaskSet, table: &LockTable, left: Members, task: usize) -> bool
-    requires table { IsTableOf set.now table.now }
+fn is_free(set: &Tabled<'_>, left: Members, task: usize) -> bool
     requires task { task < length set.now }
     requires part { IsPart (indexes_of left) (all_of set.now) }
     ensures { IsTrue result ↔ IsFree set.now (indexes_of left) task }
 {
-    left.has(task) && !is_bound(set, table, task, left.without(task))
+    left.has(task) && !is_bound(set, task, left.without(task))
 }
 
 // Whether a task has a longer limit than the one that was found, or is the first.
@@ -35,8 +33,7 @@ fn is_longer(set: &TaskSet, found: Option<usize>, task: usize) -> bool
 }
 
 // Of the tasks that are left and need not stand above another of them the first with the longest limit.
-pub(crate) fn latest(set: &TaskSet, table: &LockTable, left: Members) -> Option<usize>
-    requires table { IsTableOf set.now table.now }
+pub(crate) fn latest(set: &Tabled<'_>, left: Members) -> Option<usize>
     requires part { IsPart (indexes_of left) (all_of set.now) }
     ensures some { IfSome result (IsLatest set.now (indexes_of left)) }
     ensures none { IfNone result ((j : ℕ) → ¬ IsFree set.now (indexes_of left) j) }
@@ -44,7 +41,7 @@ pub(crate) fn latest(set: &TaskSet, table: &LockTable, left: Members) -> Option<
 {
     let mut found = None;
     for task in 0..set.sheets().len() {
-        if is_free(set, table, left, task) && is_longer(set, found, task) {
+        if is_free(set, left, task) && is_longer(set.tasks(), found, task) {
             found = Some(task);
         }
     }

@@ -1,22 +1,20 @@
 //! How a kernel's tasks are kept.
-ghost use Rattle.std.specs.Prelude.{◌<◌, ◌≤◌, ◌+◌, ◌^◌, List, length, All, IfOk};
-ghost use Rattle.task_sheet.specs.Sheet.{Task};
+ghost use Rattle.std.specs.Prelude.{◌<◌, ◌≤◌, ◌+◌, ◌^◌, length, All, IfOk};
 ghost use Rattle.task_sheet.specs.declared.set.TheConstants.{TASK_LIMIT};
 ghost use Rattle.task_sheet.specs.TaskSet.{IsTaskSet};
-ghost use Rattle.ceilings.specs.IsTableOf.{IsTableOf};
 ghost use Rattle.ceiling_kernel.specs.Tick.{node_in};
 ghost use Rattle.ceiling_kernel.specs.NodeTasks.{AreSectionsOf, KeepsTasks};
 
 use crate::levels::{level_of, top_of};
 use crate::tasks::{NodeSection, NodeTask};
-use ceilings::LockTable;
+use ceilings::Tabled;
 use std::alloc::{AllocError, Global};
-use task_sheet::{Section, TaskSet};
+use task_sheet::Section;
 
 // What a kernel keeps of sections.
 fn sections_of(
     alloc: Global,
-    table: &LockTable,
+    set: &Tabled<'_>,
     order: &[usize],
     sections: &[Section],
 ) -> Result<Vec<NodeSection>, AllocError>
@@ -24,15 +22,14 @@ fn sections_of(
     requires few { length order.now ≤ TASK_LIMIT }
     requires fit { All (λ s. s.at + s.len < 2 ^ 64) sections.now }
     requires run { All (λ s. 0 < s.len) sections.now }
-    ensures { (U : List Task) → IsTableOf U table.now
-        → IfOk result (λ kept. AreSectionsOf (node_in U order.now) sections.now kept.items) }
+    ensures { IfOk result (λ kept. AreSectionsOf (node_in set.now order.now) sections.now kept.items) }
 {
     let mut kept = Vec::new(alloc);
     for section in sections {
         kept.push(NodeSection {
             at: section.at,
             stop: section.at + section.len,
-            top: top_of(table, order, &section.locks),
+            top: top_of(set, order, &section.locks),
         })?;
     }
     Ok(kept)
@@ -41,11 +38,9 @@ fn sections_of(
 // What a kernel keeps of tasks.
 pub fn tasks_of(
     alloc: Global,
-    table: &LockTable,
+    set: &Tabled<'_>,
     order: &[usize],
-    set: &TaskSet,
 ) -> Result<Vec<NodeTask>, AllocError>
-    requires table { IsTableOf set.now table.now }
     requires within { All (λ index. index < TASK_LIMIT) order.now }
     requires few { length order.now ≤ TASK_LIMIT }
     ensures tasks { IfOk result (λ kept. KeepsTasks (node_in set.now order.now) kept.items) }
@@ -56,7 +51,7 @@ pub fn tasks_of(
         kept.push(NodeTask {
             level: level_of(order, index),
             cost: sheet.cost(),
-            sections: sections_of(alloc, table, order, sheet.sections())?,
+            sections: sections_of(alloc, set, order, sheet.sections())?,
         })?;
     }
     Ok(kept)

@@ -8,7 +8,7 @@ ghost use Rattle.ceiling_kernel.specs.Waits.{IsNode};
 use crate::build::tasks_of;
 use crate::levels::is_order;
 use crate::tasks::NodeTask;
-use ceilings::LockTable;
+use ceilings::{LockTable, Tabled};
 use std::alloc::{AllocError, Global};
 use std::marker::Model;
 use task_sheet::TaskSet;
@@ -65,7 +65,7 @@ impl<'a> Kernel<'a> {
         ensures { IfOk result (λ kernel. kernel ≡ node_in set.now order.now) }
     {
         let table = LockTable::new(alloc, set)?;
-        let tasks = tasks_of(alloc, &table, order, set)?;
+        let tasks = tasks_of(alloc, &Tabled::of(set, &table), order)?;
         let order = order.to_vec(alloc)?;
         Ok(Kernel { set, order, tasks })
     }

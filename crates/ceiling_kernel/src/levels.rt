@@ -4,10 +4,9 @@ ghost use Rattle.task_sheet.specs.Sheet.{Task};
 ghost use Rattle.task_sheet.specs.declared.set.TheConstants.{TASK_LIMIT};
 ghost use Rattle.task_sheet.specs.Orders.{IsOrderOf};
 ghost use Rattle.task_sheet.specs.Indexes.{below};
-ghost use Rattle.ceilings.specs.IsTableOf.{IsTableOf};
 ghost use Rattle.ceiling_kernel.specs.Tick.{level_from, node_in, top_ceiling};
 
-use ceilings::LockTable;
+use ceilings::Tabled;
 use task_sheet::Name;
 
 // The order names no index from `count` on.
@@ -58,15 +57,14 @@ pub fn level_of(order: &[usize], index: usize) -> u32
 }
 
 // The highest ceiling of some locks.
-pub fn top_of(table: &LockTable, order: &[usize], locks: &[Name]) -> u32
+pub fn top_of(set: &Tabled<'_>, order: &[usize], locks: &[Name]) -> u32
     requires within { All (λ index. index < TASK_LIMIT) order.now }
     requires few { length order.now ≤ TASK_LIMIT }
-    ensures { (U : List Task) → IsTableOf U table.now
-        → result ≡ top_ceiling (node_in U order.now) locks.now }
+    ensures { result ≡ top_ceiling (node_in set.now order.now) locks.now }
 {
     let mut top = 0;
     for lock in locks {
-        top = top.max(table.ceiling(*lock, order).unwrap_or(0));
+        top = top.max(set.ceiling(*lock, order).unwrap_or(0));
     }
     top
 }

@@ -1,6 +1,6 @@
 //! The lines of a change from one set to another.
 use assignment::{Placing, place_all};
-use ceilings::LockTable;
+use ceilings::{LockTable, Tabled};
 use diff::{Side, change_text};
 use example_sets::{EXCHANGE_WITH_EQUALITY, SHARED_LOCK, again, match_rows, set_of, set_on_node};
 use std::alloc::Global;
@@ -62,7 +62,7 @@ task = [
 // What becomes of a set's tasks.
 fn placing_of(alloc: Global, set: &TaskSet) -> Result<Placing, Fail> {
     let table = again!(LockTable::new(alloc, set))?;
-    let placing = again!(place_all(alloc, set, &table))?;
+    let placing = again!(place_all(alloc, &Tabled::of(set, &table)))?;
     Ok(placing)
 }
 

@@ -6,8 +6,8 @@ ghost use Rattle.assignment.specs.Placings.{tasks_of_places};
 ghost use Rattle.explain.specs.Accounts.{AreInTime, AreResponseAccounts, IsInTime, IsResponseAccount};
 
 use crate::parts::{Parts, parts_of};
-use crate::tabled::TabledSet;
 use assignment::Place;
+use ceilings::Tabled;
 use std::alloc::{AllocError, Global};
 use task_sheet::Members;
 
@@ -47,26 +47,18 @@ fn falling_tasks(alloc: Global, places: &[Place]) -> Result<Vec<usize>, AllocErr
 // The account of a response, below these places.
 fn response_account(
     alloc: Global,
-    tabled: TabledSet<'_>,
+    set: &Tabled<'_>,
     place: &Place,
     above: &[Place],
 ) -> Result<Account, AllocError>
-    requires { IsInTime tabled.set.now (tasks_of_places above.now) place.now }
-    ensures { IfOk result (λ account. IsResponseAccount tabled.entry.set.now
+    requires { IsInTime set.now (tasks_of_places above.now) place.now }
+    ensures { IfOk result (λ account. IsResponseAccount set.now
         (tasks_of_places above.now) place.now account) }
 {
     let order = falling_tasks(alloc, above)?;
-    let sheet = &tabled.set.sheets()[place.task];
+    let sheet = &set.sheets()[place.task];
     let window = place.response - sheet.jitter();
-    let parts = parts_of(
-        alloc,
-        tabled.set,
-        tabled.table,
-        place.task,
-        members_of(above),
-        &order,
-        window,
-    )?;
+    let parts = parts_of(alloc, set, place.task, members_of(above), &order, window)?;
     Ok(Account {
         task: place.task,
         time: place.response,
@@ -78,17 +70,17 @@ fn response_account(
 /// The account of each response of an order of a set, the lowest level first. The error is out of memory.
 pub(crate) fn response_accounts(
     alloc: Global,
-    tabled: TabledSet<'_>,
+    set: &Tabled<'_>,
     places: &[Place],
 ) -> Result<Vec<Account>, AllocError>
-    requires { AreInTime tabled.set.now places.now }
+    requires { AreInTime set.now places.now }
     ensures { IfOk result (λ accounts.
-        AreResponseAccounts tabled.entry.set.now places.now accounts.items) }
+        AreResponseAccounts set.now places.now accounts.items) }
 {
     let mut accounts = Vec::with_capacity(alloc, places.len())?;
     let mut rest = places;
     while let Some((place, above)) = rest.split_first() {
-        accounts.push(response_account(alloc, tabled, place, above)?)?;
+        accounts.push(response_account(alloc, set, place, above)?)?;
         rest = above;
     }
     Ok(accounts)

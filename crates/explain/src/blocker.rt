@@ -2,15 +2,13 @@
 ghost use Rattle.std.specs.Prelude.{◌≡◌, ◌<◌, length, find, IfSome, IfNone};
 ghost use Rattle.task_sheet.specs.Sheet.{task_at};
 ghost use Rattle.task_sheet.specs.Indexes.{indexes_of};
-ghost use Rattle.ceilings.specs.IsTableOf.{IsTableOf};
 ghost use Rattle.explain.specs.Blocking.{IsBlockerOf, has_user, reached_lock, BlockerData};
 ghost use Rattle.explain.specs.Blocking.{HasNoneBefore, IsFirstOf};
 
-use crate::tabled::TabledSet;
 use blocking::blocking;
-use ceilings::LockTable;
+use ceilings::Tabled;
 use std::marker::Model;
-use task_sheet::{Members, Name, Section, TaskSet};
+use task_sheet::{Members, Name, Section};
 
 /// A section that blocks: its task's index, its place among that task's sections from 0, its length in microseconds,
 /// and the first of its locks, as written, that makes it block.
@@ -29,18 +27,18 @@ impl Model for Blocker {
 }
 
 // Some member uses a lock.
-fn has_user(tabled: TabledSet<'_>, lock: Name, members: Members) -> bool
-    ensures { result ≡ has_user tabled.entry.set.now (indexes_of members) lock }
+fn has_user(set: &Tabled<'_>, lock: Name, members: Members) -> bool
+    ensures { result ≡ has_user set.now (indexes_of members) lock }
 {
-    tabled.table.users(lock).meets(members)
+    set.users(lock).meets(members)
 }
 
 // The first of some locks that some member uses.
-fn first_used(tabled: TabledSet<'_>, locks: &[Name], members: Members) -> Option<Name>
-    ensures { result ≡ find (has_user tabled.entry.set.now (indexes_of members)) locks.now }
+fn first_used(set: &Tabled<'_>, locks: &[Name], members: Members) -> Option<Name>
+    ensures { result ≡ find (has_user set.now (indexes_of members)) locks.now }
 {
     for lock in locks {
-        if has_user(tabled, *lock, members) {
+        if has_user(set, *lock, members) {
             return Some(*lock);
         }
     }
@@ -48,24 +46,24 @@ fn first_used(tabled: TabledSet<'_>, locks: &[Name], members: Members) -> Option
 }
 
 // Of a section's locks the first as written that some member uses.
-fn reached_lock(tabled: TabledSet<'_>, section: &Section, members: Members) -> Option<Name>
-    ensures { result ≡ reached_lock tabled.entry.set.now (indexes_of members) section.now }
+fn reached_lock(set: &Tabled<'_>, section: &Section, members: Members) -> Option<Name>
+    ensures { result ≡ reached_lock set.now (indexes_of members) section.now }
 {
-    first_used(tabled, &section.locks, members)
+    first_used(set, &section.locks, members)
 }
 
 // Of a task's sections that are this long the first that the members reach.
-fn first_of(tabled: TabledSet<'_>, task: usize, members: Members, len: u64) -> Option<Blocker>
-    requires { task < length tabled.set.now }
+fn first_of(set: &Tabled<'_>, task: usize, members: Members, len: u64) -> Option<Blocker>
+    requires { task < length set.now }
     ensures some { IfSome result (λ b.
-        IsFirstOf tabled.entry.set.now (indexes_of members) task len b) }
+        IsFirstOf set.now (indexes_of members) task len b) }
     ensures none { IfNone result
-        (HasNoneBefore tabled.entry.set.now (indexes_of members) task len
-        (length (task_at tabled.entry.set.now task).sections)) }
+        (HasNoneBefore set.now (indexes_of members) task len
+        (length (task_at set.now task).sections)) }
 {
-    for (place, section) in tabled.set.sheets()[task].sections().iter().enumerate() {
+    for (place, section) in set.sheets()[task].sections().iter().enumerate() {
         if section.len == len {
-            if let Some(lock) = reached_lock(tabled, section, members) {
+            if let Some(lock) = reached_lock(set, section, members) {
                 return Some(Blocker {
                     task,
                     place: place as u32,
@@ -79,26 +77,19 @@ fn first_of(tabled: TabledSet<'_>, task: usize, members: Members, len: u64) -> O
 }
 
 /// Of the sections that block a task longest with these above it the first, by the rank of its task and its place;
-/// none where nothing blocks (Sha, Rajkumar, Lehoczky 1990). The table is that of the set.
-pub fn first_blocker(
-    set: &TaskSet,
-    table: &LockTable,
-    task: usize,
-    above: Members,
-) -> Option<Blocker>
-    requires table { IsTableOf set.now table.now }
+/// none where nothing blocks (Sha, Rajkumar, Lehoczky 1990).
+pub fn first_blocker(set: &Tabled<'_>, task: usize, above: Members) -> Option<Blocker>
     requires task { task < length set.now }
     ensures { IsBlockerOf set.now task (indexes_of above) result }
 {
-    let longest = blocking(set, table, task, above);
+    let longest = blocking(set, task, above);
     if longest == 0 {
         return None;
     }
-    let tabled = TabledSet { set, table };
     let members = above.with(task);
     for owner in 0..set.len() {
         if !members.has(owner) {
-            if let Some(found) = first_of(tabled, owner, members, longest) {
+            if let Some(found) = first_of(set, owner, members, longest) {
                 return Some(found);
             }
         }

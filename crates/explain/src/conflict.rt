@@ -4,16 +4,14 @@ ghost use Rattle.task_sheet.specs.declared.set.TheConstants.{TASK_LIMIT};
 ghost use Rattle.task_sheet.specs.Indexes.{indexes_of, IsPart};
 ghost use Rattle.task_sheet.specs.Orders.{all_of};
 ghost use Rattle.task_sheet.specs.Levels.{IsObstruction};
-ghost use Rattle.ceilings.specs.IsTableOf.{IsTableOf};
 ghost use Rattle.explain.specs.Conflict.{HoldsObstruction, IsGreatestWithin, IsLeastConflict, IsGoneThrough, IsLeftOf};
 
 use assignment::standing;
-use ceilings::LockTable;
-use task_sheet::{Members, TaskSet};
+use ceilings::Tabled;
+use task_sheet::Members;
 
-/// The greatest obstruction within some tasks of a set; none where they hold none. The table is that of the set.
-pub fn greatest_within(set: &TaskSet, table: &LockTable, tasks: Members) -> Option<Members>
-    requires table { IsTableOf set.now table.now }
+/// The greatest obstruction within some tasks of a set; none where they hold none.
+pub fn greatest_within(set: &Tabled<'_>, tasks: Members) -> Option<Members>
     requires part { IsPart (indexes_of tasks) (all_of set.now) }
     ensures some { IfSome result (λ found. IsGreatestWithin set.now (indexes_of tasks)
         (indexes_of found)) }
@@ -22,15 +20,14 @@ pub fn greatest_within(set: &TaskSet, table: &LockTable, tasks: Members) -> Opti
     // The set is valid: the proof has it from its sheets.
     let _sheets = set.sheets();
     let mut left = tasks;
-    while let Some(task) = standing(set, table, left) {
+    while let Some(task) = standing(set, left) {
         left = left.without(task);
     }
     if left.is_empty() { None } else { Some(left) }
 }
 
 // What some tasks become where one of them is gone through.
-fn gone_through(set: &TaskSet, table: &LockTable, task: usize, tasks: Members) -> Members
-    requires table { IsTableOf set.now table.now }
+fn gone_through(set: &Tabled<'_>, task: usize, tasks: Members) -> Members
     requires task { task < TASK_LIMIT }
     requires part { IsPart (indexes_of tasks) (all_of set.now) }
     ensures { IsGoneThrough set.now task (indexes_of tasks) (indexes_of result) }
@@ -38,16 +35,15 @@ fn gone_through(set: &TaskSet, table: &LockTable, task: usize, tasks: Members) -
     if !tasks.has(task) {
         return tasks;
     }
-    match greatest_within(set, table, tasks.without(task)) {
+    match greatest_within(set, tasks.without(task)) {
         Some(rest) => rest,
         None => tasks,
     }
 }
 
 /// A least conflict within an obstruction: its members are gone through by rank, and where what is left without one
-/// still holds an obstruction, the greatest of these takes its place. The table is that of the set.
-pub fn least_conflict(set: &TaskSet, table: &LockTable, obstruction: Members) -> Members
-    requires table { IsTableOf set.now table.now }
+/// still holds an obstruction, the greatest of these takes its place.
+pub fn least_conflict(set: &Tabled<'_>, obstruction: Members) -> Members
     requires obstruction { IsObstruction set.now (indexes_of obstruction) }
     ensures least { IsLeastConflict set.now (indexes_of result) }
     ensures part { IsPart (indexes_of result) (indexes_of obstruction) }
@@ -55,7 +51,7 @@ pub fn least_conflict(set: &TaskSet, table: &LockTable, obstruction: Members) ->
 {
     let mut conflict = obstruction;
     for task in 0..set.len() {
-        conflict = gone_through(set, table, task, conflict);
+        conflict = gone_through(set, task, conflict);
     }
     conflict
 }

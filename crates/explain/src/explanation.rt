@@ -1,17 +1,15 @@
 //! What explains a placing of a set.
 ghost use Rattle.std.specs.Prelude.{IfOk};
-ghost use Rattle.ceilings.specs.IsTableOf.{IsTableOf};
 ghost use Rattle.assignment.specs.Placings.{IsPlacingOf};
 ghost use Rattle.explain.specs.Explanations.{Explains};
 
 use crate::accounts::{Account, response_accounts};
 use crate::conflict::least_conflict;
 use crate::needs::{Need, needs_of};
-use crate::tabled::TabledSet;
 use assignment::Placing;
-use ceilings::LockTable;
+use ceilings::Tabled;
 use std::alloc::{AllocError, Global};
-use task_sheet::{Members, TaskSet};
+use task_sheet::Members;
 
 /// What explains a placing.
 #[derive(Drop)]
@@ -23,28 +21,25 @@ pub enum Explanation {
 }
 
 /// What explains a placing of a set: the parts of its responses, or a least conflict with what its tasks need
-/// (Audsley et al. 1993; Audsley 1991). The table is that of the set. The error is out of memory.
+/// (Audsley et al. 1993; Audsley 1991). The error is out of memory.
 pub fn explain(
     alloc: Global,
-    set: &TaskSet,
-    table: &LockTable,
+    set: &Tabled<'_>,
     placing: &Placing,
 ) -> Result<Explanation, AllocError>
-    requires table { IsTableOf set.now table.now }
     requires placing { IsPlacingOf set.now placing.now }
     ensures { IfOk result (λ explanation. Explains set.now placing.now explanation) }
 {
     // The set is valid: the proof has it from its sheets.
     let _sheets = set.sheets();
-    let tabled = TabledSet { set, table };
     match placing {
         Placing::Best(places) => {
-            let accounts = response_accounts(alloc, tabled, places)?;
+            let accounts = response_accounts(alloc, set, places)?;
             Ok(Explanation::Responses(accounts))
         }
         Placing::Stuck(greatest) => {
-            let left = least_conflict(set, table, *greatest);
-            let needs = needs_of(alloc, tabled, left)?;
+            let left = least_conflict(set, *greatest);
+            let needs = needs_of(alloc, set, left)?;
             Ok(Explanation::Conflict { left, needs })
         }
     }

@@ -10,7 +10,6 @@ mod needs;
 mod one_task;
 mod parts;
 mod shares;
-mod tabled;
 mod text;
 
 pub use crate::accounts::Account;

@@ -5,14 +5,12 @@ ghost use Rattle.task_sheet.specs.Indexes.{indexes_of, listed_below, IsPart};
 ghost use Rattle.task_sheet.specs.Responses.{IsFullChain};
 ghost use Rattle.task_sheet.specs.Demand.{Passes, demand_of, limit_of};
 ghost use Rattle.task_sheet.specs.Levels.{IsObstruction};
-ghost use Rattle.ceilings.specs.IsTableOf.{IsTableOf};
 ghost use Rattle.explain.specs.Needs.{AreNeedsOf, EndsWith, IsNeedOf, IsNeedsAccount};
 
 use crate::accounts::Account;
 use crate::parts::parts_of;
-use crate::tabled::TabledSet;
 use assignment::least_over;
-use ceilings::LockTable;
+use ceilings::Tabled;
 use response_time::{Answer, respond};
 use std::alloc::{AllocError, Global};
 use task_sheet::{Members, TaskSet};
@@ -53,14 +51,12 @@ fn falling(alloc: Global, set: &TaskSet, tasks: Members) -> Result<Vec<usize>, A
 // What a task needs at least with these above it, who are listed in an order, by its full chain.
 fn chain_account(
     alloc: Global,
-    set: &TaskSet,
-    table: &LockTable,
+    set: &Tabled<'_>,
     task: usize,
     above: Members,
     order: &[usize],
     chain: &[u64],
 ) -> Result<Account, AllocError>
-    requires table { IsTableOf set.now table.now }
     requires task { task < length set.now }
     requires within { All (λ index. index < length set.now) order.now }
     requires chain { IsFullChain (demand_of set.now task (indexes_of above))
@@ -70,7 +66,7 @@ fn chain_account(
 {
     let sheet = &set.sheets()[task];
     let (before, last) = last_two(chain);
-    let parts = parts_of(alloc, set, table, task, above, order, before)?;
+    let parts = parts_of(alloc, set, task, above, order, before)?;
     Ok(Account {
         task,
         time: last + sheet.jitter(),
@@ -79,25 +75,23 @@ fn chain_account(
     })
 }
 
-/// What a task needs at least with these above it, where it doesn't pass with them; they are listed in an order. The table is
-/// that of the set. The error is out of memory.
+/// What a task needs at least with these above it, where it doesn't pass with them; they are listed in an order. The error is
+/// out of memory.
 pub fn needs_account(
     alloc: Global,
-    set: &TaskSet,
-    table: &LockTable,
+    set: &Tabled<'_>,
     task: usize,
     above: Members,
     order: &[usize],
 ) -> Result<Account, AllocError>
-    requires table { IsTableOf set.now table.now }
     requires task { task < length set.now }
     requires within { All (λ index. index < length set.now) order.now }
     requires fails { ¬ Passes set.now task (indexes_of above) }
     ensures { IfOk result (λ account.
         IsNeedsAccount set.now task (indexes_of above) order.now account) }
 {
-    match respond(alloc, set, table, task, above)?.answer {
-        Answer::Fail { chain } => chain_account(alloc, set, table, task, above, order, &chain),
+    match respond(alloc, set, task, above)?.answer {
+        Answer::Fail { chain } => chain_account(alloc, set, task, above, order, &chain),
         Answer::Pass { .. } => unreachable!(),
     }
 }
@@ -105,40 +99,40 @@ pub fn needs_account(
 // Why a task of a conflict may not stand below the others.
 fn need_of(
     alloc: Global,
-    tabled: TabledSet<'_>,
+    set: &Tabled<'_>,
     conflict: Members,
     task: usize,
 ) -> Result<Need, AllocError>
-    requires obstruction { IsObstruction tabled.set.now (indexes_of conflict) }
-    requires in_set { task < length tabled.set.now }
+    requires obstruction { IsObstruction set.now (indexes_of conflict) }
+    requires in_set { task < length set.now }
     requires member { IsTrue (indexes_of conflict task) }
     ensures { IfOk result (λ need.
-        IsNeedOf tabled.entry.set.now (indexes_of conflict) task need) }
+        IsNeedOf set.now (indexes_of conflict) task need) }
 {
     let above = conflict.without(task);
-    if let Some(other) = least_over(tabled.set, tabled.table, task, above) {
+    if let Some(other) = least_over(set, task, above) {
         return Ok(Need::MustBeAbove { task, other });
     }
-    let order = falling(alloc, tabled.set, above)?;
-    let account = needs_account(alloc, tabled.set, tabled.table, task, above, &order)?;
+    let order = falling(alloc, set.tasks(), above)?;
+    let account = needs_account(alloc, set, task, above, &order)?;
     Ok(Need::Needs(account))
 }
 
 /// Why each task of a conflict may not stand below the others, by rank. The error is out of memory.
 pub(crate) fn needs_of(
     alloc: Global,
-    tabled: TabledSet<'_>,
+    set: &Tabled<'_>,
     conflict: Members,
 ) -> Result<Vec<Need>, AllocError>
-    requires { IsObstruction tabled.set.now (indexes_of conflict) }
+    requires { IsObstruction set.now (indexes_of conflict) }
     ensures { IfOk result (λ needs.
-        AreNeedsOf tabled.entry.set.now (indexes_of conflict)
-        (listed_below (length tabled.entry.set.now) (indexes_of conflict)) needs.items) }
+        AreNeedsOf set.now (indexes_of conflict)
+        (listed_below (length set.now) (indexes_of conflict)) needs.items) }
 {
     let mut needs = Vec::new(alloc);
-    for task in 0..tabled.set.len() {
+    for task in 0..set.len() {
         if conflict.has(task) {
-            needs.push(need_of(alloc, tabled, conflict, task)?)?;
+            needs.push(need_of(alloc, set, conflict, task)?)?;
         }
     }
     Ok(needs)

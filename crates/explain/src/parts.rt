@@ -3,11 +3,10 @@ ghost use Rattle.std.specs.Prelude.{◌≡◌, ◌++◌, ◌<◌, ◌≤◌, len
 ghost use Rattle.task_sheet.specs.Sheet.{IsInterrupt};
 ghost use Rattle.task_sheet.specs.declared.sheet.TheConstants.{PERIOD_TO};
 ghost use Rattle.task_sheet.specs.Indexes.{indexes_of};
-ghost use Rattle.ceilings.specs.IsTableOf.{IsTableOf};
 ghost use Rattle.explain.specs.Parts.{above_at, all_interrupts, interruption_at, timer_within, timers_within, IsPartsOf, AboveData, PartsData};
 
 use crate::blocker::{Blocker, first_blocker};
-use ceilings::LockTable;
+use ceilings::Tabled;
 use std::alloc::{AllocError, Global};
 use std::marker::Model;
 use task_sheet::{Interrupt, Members, Sheet, TaskSet};
@@ -153,32 +152,30 @@ fn interrupt_parts(alloc: Global, set: &TaskSet, time: u64) -> Result<Vec<Interr
 }
 
 /// The parts of what a task demands in a window of `time` microseconds with these above it, and of its jitter; those
-/// above are listed in their order. The table is that of the set. The error is out of memory.
+/// above are listed in their order. The error is out of memory.
 pub fn parts_of(
     alloc: Global,
-    set: &TaskSet,
-    table: &LockTable,
+    set: &Tabled<'_>,
     task: usize,
     above: Members,
     order: &[usize],
     time: u64,
 ) -> Result<Parts, AllocError>
-    requires table { IsTableOf set.now table.now }
     requires task { task < length set.now }
     requires within { All (λ task. task < length set.now) order.now }
     requires time { time ≤ PERIOD_TO }
     ensures { IfOk result (λ parts. IsPartsOf set.now task
         (indexes_of above) order.now time parts) }
 {
-    let above_it = above_parts(alloc, set, order, time)?;
-    let interrupts = interrupt_parts(alloc, set, time)?;
+    let above_it = above_parts(alloc, set.tasks(), order, time)?;
+    let interrupts = interrupt_parts(alloc, set.tasks(), time)?;
     let sheet = &set.sheets()[task];
     Ok(Parts {
         cost: sheet.cost(),
         jitter: sheet.jitter(),
-        blocker: first_blocker(set, table, task, above),
+        blocker: first_blocker(set, task, above),
         above: above_it,
-        timers: timers_within(set, time),
+        timers: timers_within(set.tasks(), time),
         interrupts,
     })
 }

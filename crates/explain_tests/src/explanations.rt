@@ -1,6 +1,6 @@
 //! The lines that explain a placing.
 use assignment::place_all;
-use ceilings::LockTable;
+use ceilings::{LockTable, Tabled};
 use example_sets::{again, match_rows, set_of, set_on_node};
 use explain::{explain, explanation_text};
 use std::alloc::Global;
@@ -143,8 +143,8 @@ load 1000000
 // The lines that explain the placing of a set.
 fn lines_on(alloc: Global, set: &TaskSet) -> Result<String, Fail> {
     let table = again!(LockTable::new(alloc, set))?;
-    let placing = again!(place_all(alloc, set, &table))?;
-    let explanation = again!(explain(alloc, set, &table, &placing))?;
+    let placing = again!(place_all(alloc, &Tabled::of(set, &table)))?;
+    let explanation = again!(explain(alloc, &Tabled::of(set, &table), &placing))?;
     Ok(again!(explanation_text(alloc, set, &explanation))?)
 }
 

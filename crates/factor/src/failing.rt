@@ -3,26 +3,24 @@ ghost use Rattle.std.specs.Prelude.{◌≡◌, ◌↔◌, ◌+◌, ◌<◌, ℕ,
 ghost use Rattle.task_sheet.specs.TaskSet.{IsTaskSet};
 ghost use Rattle.task_sheet.specs.Indexes.{indexes_of, IsPart};
 ghost use Rattle.task_sheet.specs.Orders.{all_of};
-ghost use Rattle.ceilings.specs.IsTableOf.{IsTableOf};
 ghost use Rattle.factor.specs.Factors.{IsFactor};
 ghost use Rattle.factor.specs.Failing.{FailsFirst, IsFree, IsLongestFree, is_longer};
 
 use crate::scaling::{first_past, scaled};
 use assignment::{Placing, least_over, place_all};
-use ceilings::LockTable;
+use ceilings::{LockTable, Tabled};
 use std::alloc::{AllocError, Global};
 use task_sheet::{Members, TaskSet};
 
 // Whether a task is one of these, and need not stand above another of them.
-fn is_free(set: &TaskSet, table: &LockTable, tasks: Members, task: usize) -> bool
-    requires table { IsTableOf set.now table.now }
+fn is_free(set: &Tabled<'_>, tasks: Members, task: usize) -> bool
     requires task { task < length set.now }
     ensures { IsTrue result ↔ IsFree set.now (indexes_of tasks) task }
 {
     if !tasks.has(task) {
         return false;
     }
-    match least_over(set, table, task, tasks.without(task)) {
+    match least_over(set, task, tasks.without(task)) {
         Some(_) => false,
         None => true,
     }
@@ -42,15 +40,14 @@ fn is_longer(set: &TaskSet, found: Option<usize>, task: usize) -> bool
 }
 
 // Of these tasks that need not stand above another of them, the first with the longest limit.
-fn longest_free(set: &TaskSet, table: &LockTable, tasks: Members) -> Option<usize>
-    requires table { IsTableOf set.now table.now }
+fn longest_free(set: &Tabled<'_>, tasks: Members) -> Option<usize>
     requires part { IsPart (indexes_of tasks) (all_of set.now) }
     ensures some { IfSome result (IsLongestFree set.now (indexes_of tasks)) }
     ensures none { IfNone result ((j : ℕ) → ¬ IsFree set.now (indexes_of tasks) j) }
 {
     let mut found = None;
     for task in 0..set.len() {
-        if is_free(set, table, tasks, task) && is_longer(set, found, task) {
+        if is_free(set, tasks, task) && is_longer(set.tasks(), found, task) {
             found = Some(task);
         }
     }
@@ -74,10 +71,11 @@ pub fn first_to_fail(alloc: Global, set: &TaskSet, factor: u64) -> Result<usize,
     }
     let other = scaled(alloc, set, more)?;
     let table = LockTable::new(alloc, &other)?;
-    let Placing::Stuck(tasks) = place_all(alloc, &other, &table)? else {
+    let tabled = Tabled::of(&other, &table);
+    let Placing::Stuck(tasks) = place_all(alloc, &tabled)? else {
         unreachable!()
     };
-    match longest_free(&other, &table, tasks) {
+    match longest_free(&tabled, tasks) {
         Some(task) => Ok(task),
         None => unreachable!(),
     }

@@ -6,7 +6,7 @@ ghost use Rattle.factor.specs.declared.scaling.TheConstants.{FACTOR_END};
 ghost use Rattle.factor.specs.Factors.{ScalesIn, IsFactorIn};
 
 use crate::scaling::{FACTOR_END, first_past, scaled};
-use ceilings::LockTable;
+use ceilings::{LockTable, Tabled};
 use limits::order_passes;
 use std::alloc::{AllocError, Global};
 use task_sheet::TaskSet;
@@ -30,7 +30,7 @@ fn order_passes_at(
     }
     let other = scaled(alloc, set, factor)?;
     let table = LockTable::new(alloc, &other)?;
-    Ok(order_passes(&other, &table, order))
+    Ok(order_passes(&Tabled::of(&other, &table), order))
 }
 
 /// The greatest factor, in thousandths, with which an order of the set that passes still passes as it stands. It is 1000 at

@@ -16,7 +16,7 @@ pub use crate::failing::first_to_fail;
 pub use crate::in_order::factor_in_order;
 use crate::scaling::{FACTOR_END, first_past, scaled};
 use assignment::is_feasible;
-use ceilings::LockTable;
+use ceilings::{LockTable, Tabled};
 use std::alloc::{AllocError, Global};
 use task_sheet::TaskSet;
 
@@ -33,7 +33,7 @@ fn passes_at(alloc: Global, set: &TaskSet, factor: u64) -> Result<bool, AllocErr
     }
     let other = scaled(alloc, set, factor)?;
     let table = LockTable::new(alloc, &other)?;
-    Ok(is_feasible(&other, &table))
+    Ok(is_feasible(&Tabled::of(&other, &table)))
 }
 
 /// The greatest factor, in thousandths and at least 1, with which some order of the set passes where each execution takes

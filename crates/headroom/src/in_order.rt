@@ -5,11 +5,10 @@ ghost use Rattle.task_sheet.specs.TaskSet.{IsTaskSet};
 ghost use Rattle.task_sheet.specs.Indexes.{indexes_of};
 ghost use Rattle.task_sheet.specs.Demand.{IsResponseOf, Passes};
 ghost use Rattle.task_sheet.specs.Orders.{IsPassingOrder};
-ghost use Rattle.ceilings.specs.IsTableOf.{IsTableOf};
 ghost use Rattle.headroom.specs.Costs.{costed, MayCost, PassesWithSome, IsHeadroomIn, IsRoomIn};
 
 use crate::costs::costed;
-use ceilings::LockTable;
+use ceilings::Tabled;
 use response_time::response_in_time;
 use std::alloc::{AllocError, Global};
 use task_sheet::{Members, TaskSet};
@@ -47,8 +46,7 @@ fn room_of(set: &TaskSet, task: usize, low: usize, above: Members, response: u64
 
 // By how much the cost of a task may grow at most with an order still passing; none where the order doesn't pass. It
 // passes with some cost of the task, so only the task and those below it are asked.
-fn room_in(set: &TaskSet, table: &LockTable, order: &[usize], task: usize) -> Option<u64>
-    requires table { IsTableOf set.now table.now }
+fn room_in(set: &Tabled<'_>, order: &[usize], task: usize) -> Option<u64>
     requires task { task < length set.now }
     requires some { PassesWithSome set.now order.now task }
     ensures passes { IfSome result (λ _. IsPassingOrder set.now order.now) }
@@ -62,8 +60,8 @@ fn room_in(set: &TaskSet, table: &LockTable, order: &[usize], task: usize) -> Op
     let mut above = Members::all(set.len());
     for low in order {
         above = above.without(*low);
-        let response = response_in_time(set, table, *low, above)?;
-        room = room.min(room_of(set, task, *low, above, response));
+        let response = response_in_time(set, *low, above)?;
+        room = room.min(room_of(set.tasks(), task, *low, above, response));
         if *low == task {
             return Some(room);
         }
@@ -74,13 +72,11 @@ fn room_in(set: &TaskSet, table: &LockTable, order: &[usize], task: usize) -> Op
 // The same with another cost of the task.
 fn room_at(
     alloc: Global,
-    set: &TaskSet,
-    table: &LockTable,
+    set: &Tabled<'_>,
     order: &[usize],
     task: usize,
     cost: u64,
 ) -> Result<Option<u64>, AllocError>
-    requires table { IsTableOf set.now table.now }
     requires task { task < length set.now }
     requires passing { IsPassingOrder set.now order.now }
     requires may { MayCost set.now task cost }
@@ -93,32 +89,30 @@ fn room_at(
     ensures none { IfOk result (λ found. IfNone found
         (¬ IsPassingOrder (costed set.now task cost) order.now)) }
 {
-    let other = costed(alloc, set, task, cost)?;
-    Ok(room_in(&other, table, order, task))
+    let other = costed(alloc, set.tasks(), task, cost)?;
+    Ok(room_in(&Tabled::of(&other, set.table()), order, task))
 }
 
 /// The greatest cost that a task may have, in microseconds, with which an order of the set that passes still passes as
-/// it stands, all else equal. The table is that of the set. The error is out of memory.
+/// it stands, all else equal. The error is out of memory.
 pub fn headroom_in_order(
     alloc: Global,
-    set: &TaskSet,
-    table: &LockTable,
+    set: &Tabled<'_>,
     order: &[usize],
     task: usize,
 ) -> Result<u64, AllocError>
-    requires table { IsTableOf set.now table.now }
     requires task { task < length set.now }
     requires passing { IsPassingOrder set.now order.now }
     ensures { IfOk result (IsHeadroomIn set.now order.now task) }
 {
     let mut passing = set.sheets()[task].cost();
-    let Some(room) = room_in(set, table, order, task) else {
+    let Some(room) = room_in(set, order, task) else {
         unreachable!()
     };
     let mut failing = passing + room + 1;
     let mut cost = passing + room;
     while failing - passing > 1 {
-        match room_at(alloc, set, table, order, task, cost)? {
+        match room_at(alloc, set, order, task, cost)? {
             Some(room) => {
                 passing = cost;
                 failing = failing.min(cost + room + 1);

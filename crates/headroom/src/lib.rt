@@ -5,7 +5,6 @@
 ghost use Rattle.std.specs.Prelude.{◌≡◌, ◌↔◌, ◌<◌, ◌≤◌, length, IsTrue, IfOk, IfSome, IfNone};
 ghost use Rattle.task_sheet.specs.Sheet.{task_at};
 ghost use Rattle.task_sheet.specs.Orders.{IsPassingOrder, IsFeasible};
-ghost use Rattle.ceilings.specs.IsTableOf.{IsTableOf};
 ghost use Rattle.headroom.specs.Costs.{costed, MayCost, AnswersHeadroom, IsHeadroom};
 
 mod costs;
@@ -19,19 +18,16 @@ use crate::costs::{costed, least_cost};
 pub use crate::in_order::headroom_in_order;
 pub use crate::others::{Times, copy_sections, remade, times_of};
 use crate::some_order::some_order;
-use ceilings::LockTable;
+use ceilings::Tabled;
 use std::alloc::{AllocError, Global};
-use task_sheet::TaskSet;
 
 // The greatest cost with which some order passes that passes with this cost; none where no order does.
 fn further(
     alloc: Global,
-    set: &TaskSet,
-    table: &LockTable,
+    set: &Tabled<'_>,
     task: usize,
     cost: u64,
 ) -> Result<Option<u64>, AllocError>
-    requires table { IsTableOf set.now table.now }
     requires task { task < length set.now }
     requires may { MayCost set.now task cost }
     ensures from { IfOk result (λ found. IfSome found (λ more. cost ≤ more)) }
@@ -40,9 +36,10 @@ fn further(
         (λ more. IsFeasible (costed set.now task more))) }
     ensures none { IfOk result (λ found. IfNone found (¬ IsFeasible (costed set.now task cost))) }
 {
-    let other = costed(alloc, set, task, cost)?;
-    match some_order(alloc, &other, table)? {
-        Some(order) => Ok(Some(headroom_in_order(alloc, &other, table, &order, task)?)),
+    let other = costed(alloc, set.tasks(), task, cost)?;
+    let other = Tabled::of(&other, set.table());
+    match some_order(alloc, &other)? {
+        Some(order) => Ok(Some(headroom_in_order(alloc, &other, &order, task)?)),
         None => Ok(None),
     }
 }
@@ -51,12 +48,10 @@ fn further(
 // followed as far as it passes.
 fn headroom_from(
     alloc: Global,
-    set: &TaskSet,
-    table: &LockTable,
+    set: &Tabled<'_>,
     task: usize,
     mut passing: u64,
 ) -> Result<u64, AllocError>
-    requires table { IsTableOf set.now table.now }
     requires task { task < length set.now }
     requires may { MayCost set.now task passing }
     requires feasible { IsFeasible (costed set.now task passing) }
@@ -66,7 +61,7 @@ fn headroom_from(
     let mut step = 1;
     while failing - passing > 1 {
         let cost = passing + ((failing - passing) / 2).min(step);
-        match further(alloc, set, table, task, cost)? {
+        match further(alloc, set, task, cost)? {
             Some(more) => {
                 step = (more - passing) * 8;
                 passing = more;
@@ -79,24 +74,18 @@ fn headroom_from(
 
 /// The greatest cost that a task may have, in microseconds, with which some order of the set passes, all else equal;
 /// none where no cost that its sheet may have helps. A sheet may have each cost from 1, or the end of its last section,
-/// to its period. The table is that of the set, and is made once for all its tasks. The error is out of memory.
-pub fn headroom(
-    alloc: Global,
-    set: &TaskSet,
-    table: &LockTable,
-    task: usize,
-) -> Result<Option<u64>, AllocError>
-    requires table { IsTableOf set.now table.now }
+/// to its period. The error is out of memory.
+pub fn headroom(alloc: Global, set: &Tabled<'_>, task: usize) -> Result<Option<u64>, AllocError>
     requires task { task < length set.now }
     ensures { IfOk result (λ answer. AnswersHeadroom set.now task answer) }
 {
     let sheet = &set.sheets()[task];
-    let found = match further(alloc, set, table, task, sheet.cost())? {
+    let found = match further(alloc, set, task, sheet.cost())? {
         Some(cost) => Some(cost),
-        None => further(alloc, set, table, task, least_cost(sheet))?,
+        None => further(alloc, set, task, least_cost(sheet))?,
     };
     match found {
-        Some(passing) => Ok(Some(headroom_from(alloc, set, table, task, passing)?)),
+        Some(passing) => Ok(Some(headroom_from(alloc, set, task, passing)?)),
         None => Ok(None),
     }
 }

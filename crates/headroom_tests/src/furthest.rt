@@ -1,5 +1,5 @@
 //! How far the numbers of a task may go.
-use ceilings::LockTable;
+use ceilings::{LockTable, Tabled};
 use example_sets::{again, padded_set_of};
 use limits::{Number, furthest};
 use std::alloc::Global;
@@ -23,7 +23,7 @@ fn furthest_in(
         }
     }
     let table = again!(LockTable::new(alloc, set))?;
-    Ok(again!(furthest(alloc, set, &table, task, number))?)
+    Ok(again!(furthest(alloc, &Tabled::of(set, &table), task, number))?)
 }
 
 // Documents, and for the task at an index the furthest value of a number. Of TIMERS, whichever stands above, x and y are done

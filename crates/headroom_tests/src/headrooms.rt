@@ -1,14 +1,12 @@
 //! The headroom of each task: with some order, and in the best order as it stands.
-ghost use Rattle.ceilings.specs.IsTableOf.{IsTableOf};
 ghost use Rattle.task_sheet.specs.Orders.{IsPassingOrder};
 
 use assignment::{Placing, place_all, tasks_of_places};
-use ceilings::LockTable;
+use ceilings::{LockTable, Tabled};
 use example_sets::{again, match_both, padded_set_of};
 use headroom::{headroom, headroom_in_order};
 use std::alloc::{AllocError, Global};
 use std::test::Fail;
-use task_sheet::TaskSet;
 
 /// `a` every 1000 with cost 300, and `b` every 2000 with cost 500.
 pub const ADMITTED: &str = "
@@ -47,7 +45,7 @@ fn line_of(alloc: Global, document: &str) -> Result<String, Fail> {
     let table = again!(LockTable::new(alloc, &set))?;
     let mut text = String::new(alloc);
     for task in 0..set.len() {
-        match again!(headroom(alloc, &set, &table, task))? {
+        match again!(headroom(alloc, &Tabled::of(&set, &table), task))? {
             Some(cost) => write!(text, "{cost};")?,
             None => write!(text, "-;")?,
         }
@@ -56,18 +54,12 @@ fn line_of(alloc: Global, document: &str) -> Result<String, Fail> {
 }
 
 // The headroom of each task by rank, in an order that passes.
-fn line_in(
-    alloc: Global,
-    set: &TaskSet,
-    table: &LockTable,
-    order: &[usize],
-) -> Result<String, AllocError>
-    requires table { IsTableOf set.now table.now }
+fn line_in(alloc: Global, set: &Tabled<'_>, order: &[usize]) -> Result<String, AllocError>
     requires passing { IsPassingOrder set.now order.now }
 {
     let mut text = String::new(alloc);
     for task in 0..set.len() {
-        let cost = again!(headroom_in_order(alloc, set, table, order, task))?;
+        let cost = again!(headroom_in_order(alloc, set, order, task))?;
         write!(text, "{cost};")?;
     }
     Ok(text)
@@ -77,10 +69,10 @@ fn line_in(
 fn best_line_of(alloc: Global, document: &str) -> Result<String, Fail> {
     let set = padded_set_of(alloc, document)?;
     let table = again!(LockTable::new(alloc, &set))?;
-    match again!(place_all(alloc, &set, &table))? {
+    match again!(place_all(alloc, &Tabled::of(&set, &table)))? {
         Placing::Best(places) => {
             let order = tasks_of_places(alloc, &places)?;
-            Ok(line_in(alloc, &set, &table, &order)?)
+            Ok(line_in(alloc, &Tabled::of(&set, &table), &order)?)
         }
         Placing::Stuck(_) => Ok(String::from_str(alloc, "none")?),
     }

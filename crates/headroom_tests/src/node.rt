@@ -1,6 +1,6 @@
 //! What a node is set to.
 use assignment::{Placing, place_all};
-use ceilings::LockTable;
+use ceilings::{LockTable, Tabled};
 use example_sets::{again, match_rows, set_of};
 use settings::settings_text;
 use std::alloc::Global;
@@ -10,7 +10,7 @@ use std::test::Fail;
 fn settings_of(alloc: Global, document: &str) -> Result<String, Fail> {
     let set = set_of(alloc, document)?;
     let table = again!(LockTable::new(alloc, &set))?;
-    match again!(place_all(alloc, &set, &table))? {
+    match again!(place_all(alloc, &Tabled::of(&set, &table)))? {
         Placing::Best(places) => Ok(again!(settings_text(alloc, &set, 1, &places))?),
         Placing::Stuck(_) => Ok(String::from_str(alloc, "none")?),
     }

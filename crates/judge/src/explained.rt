@@ -4,7 +4,6 @@ ghost use Rattle.task_sheet.specs.Sheet.{task_at};
 ghost use Rattle.task_sheet.specs.Indexes.{among};
 ghost use Rattle.task_sheet.specs.Demand.{IsResponseOf};
 ghost use Rattle.task_sheet.specs.Orders.{IsOrder};
-ghost use Rattle.ceilings.specs.IsTableOf.{IsTableOf};
 ghost use Rattle.explain.specs.Accounts.{IsResponseAccount};
 ghost use Rattle.explain.specs.Lines.{level_account_lines};
 ghost use Rattle.judge.specs.Explained.{AreAskedLines, AreExplained, AreLevelLines, AreLevels, AreMetLines, is_asked, judged_line, load_asked};
@@ -13,7 +12,7 @@ ghost use Rattle.judge.specs.Judgements.{AllJudged, IsJudgementOf, order_judged}
 use crate::judging::{JudgedTask, Judgement, members_of};
 use crate::missed::{missed_account, missed_text};
 use crate::text::push_judged;
-use ceilings::LockTable;
+use ceilings::Tabled;
 use explain::{Account, load, parts_of, parts_text};
 use lines::push_name;
 use std::alloc::{AllocError, Global};
@@ -42,13 +41,11 @@ pub(crate) fn order_of(alloc: Global, judged: &[JudgedTask]) -> Result<Vec<usize
 // The response of a task below these, with what it is made of.
 fn account_of(
     alloc: Global,
-    set: &TaskSet,
-    table: &LockTable,
+    set: &Tabled<'_>,
     task: usize,
     response: u64,
     above: &[JudgedTask],
 ) -> Result<Account, AllocError>
-    requires table { IsTableOf set.now table.now }
     requires task { task < length set.now }
     requires above { All (λ j. j.task < length set.now) above.now }
     requires response { IsResponseOf set.now task (among (order_judged above.now)) response }
@@ -61,7 +58,7 @@ fn account_of(
     order.reverse();
     let sheet = &set.sheets()[task];
     let window = response - sheet.jitter();
-    let parts = parts_of(alloc, set, table, task, members, &order, window)?;
+    let parts = parts_of(alloc, set, task, members, &order, window)?;
     Ok(Account {
         task,
         time: response,
@@ -108,15 +105,13 @@ fn line_text(
 // The lines of a level, which has a number, where its task meets its deadline.
 fn met_text(
     alloc: Global,
-    set: &TaskSet,
-    table: &LockTable,
+    set: &Tabled<'_>,
     parted: Parted,
     number: usize,
     task: usize,
     response: u64,
     above: &[JudgedTask],
 ) -> Result<String, AllocError>
-    requires table { IsTableOf set.now table.now }
     requires task { task < length set.now }
     requires above { All (λ j. j.task < length set.now) above.now }
     requires response { IsResponseOf set.now task (among (order_judged above.now)) response }
@@ -126,12 +121,12 @@ fn met_text(
 {
     match parted {
         Parted::Each => {
-            let account = account_of(alloc, set, table, task, response, above)?;
-            account_text(alloc, set, number, account)
+            let account = account_of(alloc, set, task, response, above)?;
+            account_text(alloc, set.tasks(), number, account)
         }
         Parted::Missed => {
             let judgement = Judgement::Meets { response };
-            line_text(alloc, set, number, JudgedTask { task, judgement })
+            line_text(alloc, set.tasks(), number, JudgedTask { task, judgement })
         }
     }
 }
@@ -139,14 +134,12 @@ fn met_text(
 // The lines of a level, which has a number.
 fn level_text(
     alloc: Global,
-    set: &TaskSet,
-    table: &LockTable,
+    set: &Tabled<'_>,
     parted: Parted,
     number: usize,
     entry: JudgedTask,
     above: &[JudgedTask],
 ) -> Result<String, AllocError>
-    requires table { IsTableOf set.now table.now }
     requires task { entry.task < length set.now }
     requires above { All (λ j. j.task < length set.now) above.now }
     requires judged { IsJudgementOf set.now entry.task (among (order_judged above.now))
@@ -156,15 +149,13 @@ fn level_text(
 {
     match entry.judgement {
         Judgement::Meets { response } => {
-            met_text(
-                alloc, set, table, parted, number, entry.task, response, above,
-            )
+            met_text(alloc, set, parted, number, entry.task, response, above)
         }
         Judgement::Misses => {
-            let account = missed_account(alloc, set, table, entry.task, above)?;
-            missed_text(alloc, set, number, account)
+            let account = missed_account(alloc, set, entry.task, above)?;
+            missed_text(alloc, set.tasks(), number, account)
         }
-        Judgement::Below { .. } => line_text(alloc, set, number, entry),
+        Judgement::Below { .. } => line_text(alloc, set.tasks(), number, entry),
     }
 }
 
@@ -181,15 +172,13 @@ fn is_asked(asked: Option<usize>, task: usize) -> bool
 // The lines of a level, where it is asked about its task.
 fn asked_text(
     alloc: Global,
-    set: &TaskSet,
-    table: &LockTable,
+    set: &Tabled<'_>,
     parted: Parted,
     asked: Option<usize>,
     number: usize,
     entry: JudgedTask,
     above: &[JudgedTask],
 ) -> Result<String, AllocError>
-    requires table { IsTableOf set.now table.now }
     requires task { entry.task < length set.now }
     requires above { All (λ j. j.task < length set.now) above.now }
     requires judged { IsJudgementOf set.now entry.task (among (order_judged above.now))
@@ -200,21 +189,18 @@ fn asked_text(
     if !is_asked(asked, entry.task) {
         return Ok(String::new(alloc));
     }
-    level_text(alloc, set, table, parted, number, entry, above)
+    level_text(alloc, set, parted, number, entry, above)
 }
 
 /// The lines of each level of an order that was judged, the lowest first, or those of one task alone: with the parts of its
-/// response, where they are printed, or of what it needs that misses its deadline. The error is out of memory. The table is
-/// that of the set.
+/// response, where they are printed, or of what it needs that misses its deadline. The error is out of memory.
 pub fn levels_text(
     alloc: Global,
-    set: &TaskSet,
-    table: &LockTable,
+    set: &Tabled<'_>,
     parted: Parted,
     asked: Option<usize>,
     judged: &[JudgedTask],
 ) -> Result<String, AllocError>
-    requires table { IsTableOf set.now table.now }
     requires order { IsOrder set.now (order_judged judged.now) }
     requires judged { AllJudged set.now judged.now }
     ensures { IfOk result (λ text. AreLevels parted set.now asked 1 judged.now (string_bytes text)) }
@@ -223,7 +209,7 @@ pub fn levels_text(
     let mut number = 1;
     let mut rest = judged;
     while let Some((entry, above)) = rest.split_first() {
-        let level = asked_text(alloc, set, table, parted, asked, number, *entry, above)?;
+        let level = asked_text(alloc, set, parted, asked, number, *entry, above)?;
         text.push_str(level.as_str())?;
         number += 1;
         rest = above;
@@ -246,21 +232,18 @@ fn push_load(text: &mut String, set: &TaskSet, asked: Option<usize>) -> Result<(
 }
 
 /// The lines that explain an order that was judged: each level, the lowest first, with the parts of its response, or of what
-/// its task needs, and then the load of the set; or those of one task alone. The error is out of memory. The
-/// table is that of the set.
+/// its task needs, and then the load of the set; or those of one task alone. The error is out of memory.
 pub fn explained_text(
     alloc: Global,
-    set: &TaskSet,
-    table: &LockTable,
+    set: &Tabled<'_>,
     judged: &[JudgedTask],
     asked: Option<usize>,
 ) -> Result<String, AllocError>
-    requires table { IsTableOf set.now table.now }
     requires order { IsOrder set.now (order_judged judged.now) }
     requires judged { AllJudged set.now judged.now }
     ensures { IfOk result (λ text. AreExplained set.now asked judged.now (string_bytes text)) }
 {
-    let mut text = levels_text(alloc, set, table, Parted::Each, asked, judged)?;
-    push_load(&mut text, set, asked)?;
+    let mut text = levels_text(alloc, set, Parted::Each, asked, judged)?;
+    push_load(&mut text, set.tasks(), asked)?;
     Ok(text)
 }

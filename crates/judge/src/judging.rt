@@ -2,14 +2,13 @@
 ghost use Rattle.std.specs.Prelude.{◌≡◌, ◌<◌, ◌+◌, length, slice_index, drop, All, IfOk};
 ghost use Rattle.task_sheet.specs.declared.set.TheConstants.{TASK_LIMIT};
 ghost use Rattle.task_sheet.specs.Indexes.{among, indexes_of};
-ghost use Rattle.ceilings.specs.IsTableOf.{IsTableOf};
 ghost use Rattle.judge.specs.Judgements.{AllJudged, IsJudgementOf, all_meet, does_meet, order_judged};
 
 use assignment::least_over;
-use ceilings::LockTable;
+use ceilings::Tabled;
 use response_time::response_in_time;
 use std::alloc::{AllocError, Global};
-use task_sheet::{Members, TaskSet};
+use task_sheet::Members;
 
 /// What becomes of a task in an order.
 #[derive(Clone, Copy, Debug, PartialEq, Eq)]
@@ -42,14 +41,13 @@ pub(crate) fn members_of(order: &[usize]) -> Members
 }
 
 // What becomes of a task with these above it.
-fn judge_task(set: &TaskSet, table: &LockTable, task: usize, above: Members) -> Judgement
-    requires table { IsTableOf set.now table.now }
+fn judge_task(set: &Tabled<'_>, task: usize, above: Members) -> Judgement
     requires task { task < length set.now }
     ensures { IsJudgementOf set.now task (indexes_of above) result }
 {
-    match least_over(set, table, task, above) {
+    match least_over(set, task, above) {
         Some(other) => Judgement::Below { other },
-        None => match response_in_time(set, table, task, above) {
+        None => match response_in_time(set, task, above) {
             Some(response) => Judgement::Meets { response },
             None => Judgement::Misses,
         },
@@ -57,8 +55,7 @@ fn judge_task(set: &TaskSet, table: &LockTable, task: usize, above: Members) -> 
 }
 
 // What becomes of the task at a place of an order.
-fn judge_place(set: &TaskSet, table: &LockTable, order: &[usize], place: usize) -> JudgedTask
-    requires table { IsTableOf set.now table.now }
+fn judge_place(set: &Tabled<'_>, order: &[usize], place: usize) -> JudgedTask
     requires within { All (λ index. index < length set.now) order.now }
     requires place { place < length order.now }
     ensures task { result.task ≡ slice_index order.now place }
@@ -67,26 +64,24 @@ fn judge_place(set: &TaskSet, table: &LockTable, order: &[usize], place: usize) 
 {
     let task = order[place];
     let above = members_of(&order[place + 1..]);
-    let judgement = judge_task(set, table, task, above);
+    let judgement = judge_task(set, task, above);
     JudgedTask { task, judgement }
 }
 
 /// What becomes of each task of an order, the lowest first, with the tasks after it above it: for every order, whether
-/// it passes or not. The error is out of memory. The table is that of the set.
+/// it passes or not. The error is out of memory.
 pub fn judge_order(
     alloc: Global,
-    set: &TaskSet,
-    table: &LockTable,
+    set: &Tabled<'_>,
     order: &[usize],
 ) -> Result<Vec<JudgedTask>, AllocError>
-    requires table { IsTableOf set.now table.now }
     requires within { All (λ index. index < length set.now) order.now }
     ensures order { IfOk result (λ judged. order_judged judged.items ≡ order.now) }
     ensures judged { IfOk result (λ judged. AllJudged set.now judged.items) }
 {
     let mut judged = Vec::with_capacity(alloc, order.len())?;
     for place in 0..order.len() {
-        judged.push(judge_place(set, table, order, place))?;
+        judged.push(judge_place(set, order, place))?;
     }
     Ok(judged)
 }

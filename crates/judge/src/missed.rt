@@ -3,7 +3,6 @@ ghost use Rattle.std.specs.Prelude.{◌≡◌, ◌++◌, ◌<◌, length, codes,
 ghost use Rattle.std.specs.Fmt.{decimal};
 ghost use Rattle.task_sheet.specs.Indexes.{among};
 ghost use Rattle.task_sheet.specs.Demand.{Passes};
-ghost use Rattle.ceilings.specs.IsTableOf.{IsTableOf};
 ghost use Rattle.lines.specs.Naming.{name_at};
 ghost use Rattle.explain.specs.Lines.{parts_lines};
 ghost use Rattle.judge.specs.Judgements.{order_judged};
@@ -11,22 +10,19 @@ ghost use Rattle.judge.specs.Missed.{IsMissedBelow, missed_lines};
 
 use crate::explained::order_of;
 use crate::judging::{JudgedTask, members_of};
-use ceilings::LockTable;
+use ceilings::Tabled;
 use explain::{Account, needs_account, parts_text};
 use lines::push_name;
 use std::alloc::{AllocError, Global};
 use task_sheet::TaskSet;
 
-/// What a task needs at least below these, the lowest first, where it doesn't pass there. The error is out of memory. The
-/// table is that of the set.
+/// What a task needs at least below these, the lowest first, where it doesn't pass there. The error is out of memory.
 pub(crate) fn missed_account(
     alloc: Global,
-    set: &TaskSet,
-    table: &LockTable,
+    set: &Tabled<'_>,
     task: usize,
     above: &[JudgedTask],
 ) -> Result<Account, AllocError>
-    requires table { IsTableOf set.now table.now }
     requires task { task < length set.now }
     requires above { All (λ j. j.task < length set.now) above.now }
     requires misses { ¬ Passes set.now task (among (order_judged above.now)) }
@@ -36,7 +32,7 @@ pub(crate) fn missed_account(
     let mut order = order_of(alloc, above)?;
     let members = members_of(&order);
     order.reverse();
-    needs_account(alloc, set, table, task, members, &order)
+    needs_account(alloc, set, task, members, &order)
 }
 
 /// The lines of a level, which has a number, where its task misses its deadline. The error is out of memory.

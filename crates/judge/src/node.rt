@@ -1,7 +1,6 @@
 //! What becomes of the tasks of a node.
 ghost use Rattle.std.specs.Prelude.{◌≡◌, ◌<◌, All, MatchResult, Ok, IfOk};
 ghost use Rattle.task_sheet.specs.declared.set.TheConstants.{TASK_LIMIT};
-ghost use Rattle.ceilings.specs.IsTableOf.{IsTableOf};
 ghost use Rattle.judge.specs.Faults.{IsSettingsFault, rows_fault, settings_fault_by};
 ghost use Rattle.judge.specs.Judgements.{AllJudged, order_judged};
 ghost use Rattle.judge.specs.Node.{AreNumbersIn, AreNumbersOf, IsNodeOrderBy, IsOrderOfRows};
@@ -11,7 +10,7 @@ use crate::judging::{JudgedTask, judge_order};
 use crate::numbers::numbers_of;
 use crate::reading::order_of_rows;
 use crate::rows::{SettingRow, read_rows};
-use ceilings::LockTable;
+use ceilings::{LockTable, Tabled};
 use std::alloc::Global;
 use task_sheet::TaskSet;
 
@@ -25,16 +24,13 @@ pub struct JudgedNode {
 }
 
 /// What becomes of each task in the order that rows of settings give a node, the lowest first, and the numbers of their
-/// threads; a smaller number may be the higher one. Refused in the order of `SettingsFault`, but for `BadLine`. The table
-/// is that of the set.
+/// threads; a smaller number may be the higher one. Refused in the order of `SettingsFault`, but for `BadLine`.
 pub fn judge_rows(
     alloc: Global,
-    set: &TaskSet,
-    table: &LockTable,
+    set: &Tabled<'_>,
     lower_is_higher: bool,
     rows: &[SettingRow],
 ) -> Result<JudgedNode, SettingsFault>
-    requires { IsTableOf set.now table.now }
     ensures judged { MatchResult result
         (λ node. IsOrderOfRows lower_is_higher set.now rows.now (order_judged node.judged.items)
         × AllJudged set.now node.judged.items)
@@ -43,9 +39,9 @@ pub fn judge_rows(
         (order_judged node.judged.items) node.numbers.items) }
     ensures within { IfOk result (λ node. All (λ j. j.task < TASK_LIMIT) node.judged.items) }
 {
-    let order = order_of_rows(alloc, set, table, lower_is_higher, rows)?;
-    let judged = judge_order(alloc, set, table, &order)?;
-    let numbers = numbers_of(alloc, set, rows, &order)?;
+    let order = order_of_rows(alloc, set, lower_is_higher, rows)?;
+    let judged = judge_order(alloc, set, &order)?;
+    let numbers = numbers_of(alloc, set.tasks(), rows, &order)?;
     Ok(JudgedNode { judged, numbers })
 }
 
@@ -68,5 +64,5 @@ pub fn judge_settings(
 {
     let table = LockTable::new(alloc, set)?;
     let rows = read_rows(alloc, text)?;
-    judge_rows(alloc, set, &table, lower_is_higher, &rows)
+    judge_rows(alloc, &Tabled::of(set, &table), lower_is_higher, &rows)
 }

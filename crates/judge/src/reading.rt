@@ -1,6 +1,5 @@
 //! Reading settings.
 ghost use Rattle.std.specs.Prelude.{◌≡◌, Ok, MatchResult};
-ghost use Rattle.ceilings.specs.IsTableOf.{IsTableOf};
 ghost use Rattle.judge.specs.Faults.{IsSettingsFault, rows_fault, settings_fault, settings_fault_by};
 ghost use Rattle.judge.specs.Node.{IsNodeOrder, IsNodeOrderBy, IsOrderOfRows};
 
@@ -8,62 +7,55 @@ use crate::fault::SettingsFault;
 use crate::order::order_by;
 use crate::rows::{SettingRow, by_height, read_rows, sort_rows};
 use crate::settings_fault::setting_fault;
-use ceilings::LockTable;
+use ceilings::Tabled;
 use std::alloc::Global;
-use task_sheet::TaskSet;
 
 /// Reads what a node is set to: the order that the numbers of its threads give, as indexes, the lowest first. Refused in
-/// the order of `SettingsFault`. The table is that of the set.
+/// the order of `SettingsFault`.
 pub fn read_settings(
     alloc: Global,
-    set: &TaskSet,
-    table: &LockTable,
+    set: &Tabled<'_>,
     text: &[u8],
 ) -> Result<Vec<usize>, SettingsFault>
-    requires { IsTableOf set.now table.now }
     ensures { MatchResult result
         (λ order. IsNodeOrder set.now text.now order.items)
         (λ fault. IsSettingsFault fault (settings_fault set.now text.now)) }
 {
-    read_settings_by(alloc, set, table, false, text)
+    read_settings_by(alloc, set, false, text)
 }
 
 /// The same, where a smaller number may be the higher one.
 pub fn read_settings_by(
     alloc: Global,
-    set: &TaskSet,
-    table: &LockTable,
+    set: &Tabled<'_>,
     lower_is_higher: bool,
     text: &[u8],
 ) -> Result<Vec<usize>, SettingsFault>
-    requires { IsTableOf set.now table.now }
     ensures { MatchResult result
         (λ order. IsNodeOrderBy lower_is_higher set.now text.now order.items)
         (λ fault. IsSettingsFault fault (settings_fault_by lower_is_higher set.now text.now)) }
 {
     let rows = read_rows(alloc, text)?;
-    order_of_rows(alloc, set, table, lower_is_higher, &rows)
+    order_of_rows(alloc, set, lower_is_higher, &rows)
 }
 
 /// The order that rows of settings give, as indexes, the lowest first; a smaller number may be the higher one. Refused in
-/// the order of `SettingsFault`, but for `BadLine`. The table is that of the set.
+/// the order of `SettingsFault`, but for `BadLine`.
 pub fn order_of_rows(
     alloc: Global,
-    set: &TaskSet,
-    table: &LockTable,
+    set: &Tabled<'_>,
     lower_is_higher: bool,
     rows: &[SettingRow],
 ) -> Result<Vec<usize>, SettingsFault>
-    requires { IsTableOf set.now table.now }
     ensures { MatchResult result
         (λ order. IsOrderOfRows lower_is_higher set.now rows.now order.items)
         (λ fault. IsSettingsFault fault (rows_fault lower_is_higher set.now (Ok rows.now))) }
 {
     let sorted = sort_rows(alloc, rows)?;
     let settings = by_height(alloc, lower_is_higher, sorted)?;
-    if let Some(fault) = setting_fault(set, table, lower_is_higher, &settings) {
+    if let Some(fault) = setting_fault(set, lower_is_higher, &settings) {
         return Err(fault);
     }
-    let order = order_by(alloc, set, &settings.threads)?;
+    let order = order_by(alloc, set.tasks(), &settings.threads)?;
     Ok(order)
 }

@@ -6,7 +6,7 @@ ghost use Rattle.judge.specs.Faults.{ceiling_fault, is_no_lock, is_no_task, is_s
 
 use crate::fault::SettingsFault;
 use crate::rows::{NodeSettings, Setting, as_written};
-use ceilings::LockTable;
+use ceilings::Tabled;
 use task_sheet::{Name, TaskSet};
 
 // Some setting is of this name.
@@ -29,11 +29,10 @@ pub(crate) fn number_of(settings: &[Setting], name: Name) -> u64
 }
 
 // The number of the highest user of a lock.
-fn top_of(set: &TaskSet, table: &LockTable, threads: &[Setting], lock: Name) -> u64
-    requires { IsTableOf set.now table.now }
+fn top_of(set: &Tabled<'_>, threads: &[Setting], lock: Name) -> u64
     ensures { result ≡ top_number set.now threads.now lock }
 {
-    let users = table.users(lock);
+    let users = set.users(lock);
     let mut top = 0;
     for (task, sheet) in set.sheets().iter().enumerate() {
         if users.has(task) {
@@ -51,11 +50,10 @@ fn is_no_task(set: &TaskSet, thread: &Setting) -> bool
 }
 
 // No lock has the name of the mutex.
-fn is_no_lock(set: &TaskSet, table: &LockTable, mutex: &Setting) -> bool
-    requires { IsTableOf set.now table.now }
+fn is_no_lock(set: &Tabled<'_>, mutex: &Setting) -> bool
     ensures { result ≡ is_no_lock set.now mutex.now }
 {
-    table.index_of(mutex.name).is_none()
+    set.lock_index(mutex.name).is_none()
 }
 
 // The line of the first thread that has the name of no task.
@@ -69,13 +67,12 @@ fn unknown_task(set: &TaskSet, threads: &[Setting]) -> Option<u64>
 }
 
 // The line of the first mutex that has the name of no lock.
-fn unknown_lock(set: &TaskSet, table: &LockTable, mutexes: &[Setting]) -> Option<u64>
-    requires { IsTableOf set.now table.now }
+fn unknown_lock(set: &Tabled<'_>, mutexes: &[Setting]) -> Option<u64>
     ensures { result ≡ line_where (is_no_lock set.now) mutexes.now }
 {
     mutexes
         .iter()
-        .find(|mutex| is_no_lock(set, table, mutex))
+        .find(|mutex| is_no_lock(set, mutex))
         .map(|mutex| mutex.line)
 }
 
@@ -126,15 +123,14 @@ fn threadless(set: &TaskSet, threads: &[Setting]) -> Option<Name>
 }
 
 // The first lock, in the order of first sight, that passes a test.
-fn first_lock<F: Fn(Name) -> bool>(set: &TaskSet, table: &LockTable, test: F) -> Option<Name>
-    requires table { IsTableOf set.now table.now }
+fn first_lock<F: Fn(Name) -> bool>(set: &Tabled<'_>, test: F) -> Option<Name>
     requires test { F.IsAlwaysCallable test }
     ensures { (passes : List ℕ → Bool)
         → ((lock : List ℕ) (answer : Bool) → F.post test lock answer → answer ≡ passes lock)
         → result ≡ find passes (locks_of set.now) }
 {
-    for place in 0..table.count() {
-        let lock = table.lock_at(place)?;
+    for place in 0..set.lock_count() {
+        let lock = set.lock_at(place)?;
         if test(lock) {
             return Some(lock);
         }
@@ -143,69 +139,61 @@ fn first_lock<F: Fn(Name) -> bool>(set: &TaskSet, table: &LockTable, test: F) ->
 }
 
 // Where there are mutexes, the first lock, in the order of first sight, that has none.
-fn mutexless(set: &TaskSet, table: &LockTable, mutexes: &[Setting]) -> Option<Name>
-    requires { IsTableOf set.now table.now }
+fn mutexless(set: &Tabled<'_>, mutexes: &[Setting]) -> Option<Name>
     ensures { result ≡ mutexless (locks_of set.now) mutexes.now }
 {
     if mutexes.is_empty() {
         return None;
     }
-    first_lock(set, table, |lock| !is_set(mutexes, lock))
+    first_lock(set, |lock| !is_set(mutexes, lock))
 }
 
 // The mutex of a lock isn't at the number of the lock's highest user.
-fn is_wrong(set: &TaskSet, table: &LockTable, settings: &NodeSettings, lock: Name) -> bool
-    requires { IsTableOf set.now table.now }
+fn is_wrong(set: &Tabled<'_>, settings: &NodeSettings, lock: Name) -> bool
     ensures { result ≡ not (setting_number settings.now.mutexes.items lock
         == top_number set.now settings.now.threads.items lock) }
 {
-    number_of(&settings.mutexes, lock) != top_of(set, table, &settings.threads, lock)
+    number_of(&settings.mutexes, lock) != top_of(set, &settings.threads, lock)
 }
 
 // Where there are mutexes, the first lock, in the order of first sight, whose mutex isn't at the number of its highest
 // user.
-fn wrong_lock(set: &TaskSet, table: &LockTable, settings: &NodeSettings) -> Option<Name>
-    requires { IsTableOf set.now table.now }
+fn wrong_lock(set: &Tabled<'_>, settings: &NodeSettings) -> Option<Name>
     ensures { result ≡ wrong_lock set.now (locks_of set.now)
         settings.now.threads.items settings.now.mutexes.items }
 {
     if settings.mutexes.is_empty() {
         return None;
     }
-    first_lock(set, table, |lock| is_wrong(set, table, settings, lock))
+    first_lock(set, |lock| is_wrong(set, settings, lock))
 }
 
 // That a lock's mutex isn't at the number of its highest user.
 fn ceiling_fault(
-    set: &TaskSet,
-    table: &LockTable,
+    set: &Tabled<'_>,
     lower_is_higher: bool,
     threads: &[Setting],
     name: Name,
 ) -> SettingsFault
-    requires { IsTableOf set.now table.now }
     ensures { result ≡ ceiling_fault lower_is_higher set.now threads.now name }
 {
-    let number = as_written(lower_is_higher, top_of(set, table, threads, name));
+    let number = as_written(lower_is_higher, top_of(set, threads, name));
     SettingsFault::WrongCeiling { name, number }
 }
 
-/// The first reason why threads and mutexes are no settings of a set, whose text's numbers count so. The table is that of
-/// the set.
+/// The first reason why threads and mutexes are no settings of a set, whose text's numbers count so.
 pub(crate) fn setting_fault(
-    set: &TaskSet,
-    table: &LockTable,
+    set: &Tabled<'_>,
     lower_is_higher: bool,
     settings: &NodeSettings,
 ) -> Option<SettingsFault>
-    requires { IsTableOf set.now table.now }
     ensures { result ≡ setting_fault lower_is_higher set.now
         settings.now.threads.items settings.now.mutexes.items }
 {
-    if let Some(line) = unknown_task(set, &settings.threads) {
+    if let Some(line) = unknown_task(set.tasks(), &settings.threads) {
         return Some(SettingsFault::UnknownTask { line });
     }
-    if let Some(line) = unknown_lock(set, table, &settings.mutexes) {
+    if let Some(line) = unknown_lock(set, &settings.mutexes) {
         return Some(SettingsFault::UnknownLock { line });
     }
     if let Some(line) = first_again(&settings.threads, SettingField::Name) {
@@ -217,14 +205,14 @@ pub(crate) fn setting_fault(
     if let Some(line) = first_again(&settings.threads, SettingField::Number) {
         return Some(SettingsFault::SameNumber { line });
     }
-    if let Some(name) = threadless(set, &settings.threads) {
+    if let Some(name) = threadless(set.tasks(), &settings.threads) {
         return Some(SettingsFault::MissingTask { name });
     }
-    if let Some(name) = mutexless(set, table, &settings.mutexes) {
+    if let Some(name) = mutexless(set, &settings.mutexes) {
         return Some(SettingsFault::MissingLock { name });
     }
-    match wrong_lock(set, table, settings) {
-        Some(name) => Some(ceiling_fault(set, table, lower_is_higher, &settings.threads, name)),
+    match wrong_lock(set, settings) {
+        Some(name) => Some(ceiling_fault(set, lower_is_higher, &settings.threads, name)),
         None => None,
     }
 }

@@ -4,14 +4,13 @@ ghost use Rattle.task_sheet.specs.declared.set.TheConstants.{TASK_LIMIT};
 ghost use Rattle.task_sheet.specs.Indexes.{among, indexes_of, without_index, IsPart};
 ghost use Rattle.task_sheet.specs.Demand.{IsResponseOf};
 ghost use Rattle.task_sheet.specs.Orders.{all_of, Stands};
-ghost use Rattle.ceilings.specs.IsTableOf.{IsTableOf};
 ghost use Rattle.kept_order.specs.Keeping.{is_held, IsChosenKept, IsKeptPlacing, IsPassingKept, NoneStandsKept, StandsKept};
 
 use assignment::{Place, least_over};
-use ceilings::LockTable;
+use ceilings::Tabled;
 use response_time::response_in_time;
 use std::alloc::{AllocError, Global};
-use task_sheet::{Members, TaskSet};
+use task_sheet::Members;
 
 // The task is one of a list.
 fn is_in(order: &[usize], task: usize) -> bool
@@ -44,29 +43,21 @@ fn is_held(kept: &[usize], others: Members, task: usize) -> bool
 }
 
 // The response of a task with these above it, where it may stand there.
-fn response_below(set: &TaskSet, table: &LockTable, task: usize, above: Members) -> Option<u64>
-    requires table { IsTableOf set.now table.now }
+fn response_below(set: &Tabled<'_>, task: usize, above: Members) -> Option<u64>
     requires task { task < length set.now }
     ensures some { IfSome result
         (λ response. IsResponseOf set.now task (indexes_of above) response) }
     ensures stands { IfSome result (λ _. Stands set.now task (indexes_of above)) }
     ensures none { IfNone result (¬ Stands set.now task (indexes_of above)) }
 {
-    match least_over(set, table, task, above) {
+    match least_over(set, task, above) {
         Some(_) => None,
-        None => response_in_time(set, table, task, above),
+        None => response_in_time(set, task, above),
     }
 }
 
 // The same, where none of these stands below it in a list.
-fn response_kept(
-    set: &TaskSet,
-    table: &LockTable,
-    kept: &[usize],
-    task: usize,
-    above: Members,
-) -> Option<u64>
-    requires table { IsTableOf set.now table.now }
+fn response_kept(set: &Tabled<'_>, kept: &[usize], task: usize, above: Members) -> Option<u64>
     requires within { All (λ index. index < TASK_LIMIT) kept.now }
     requires task { task < length set.now }
     ensures some { IfSome result
@@ -77,14 +68,13 @@ fn response_kept(
     if is_held(kept, above, task) {
         None
     } else {
-        response_below(set, table, task, above)
+        response_below(set, task, above)
     }
 }
 
 // Of the tasks that are left the one of least rank that may stand below the others and has none of them below it in the
 // list; none where there is none.
-fn lowest(set: &TaskSet, table: &LockTable, kept: &[usize], left: Members) -> Option<Place>
-    requires table { IsTableOf set.now table.now }
+fn lowest(set: &Tabled<'_>, kept: &[usize], left: Members) -> Option<Place>
     requires within { All (λ index. index < TASK_LIMIT) kept.now }
     requires part { IsPart (indexes_of left) (all_of set.now) }
     ensures chosen { IfSome result
@@ -96,7 +86,7 @@ fn lowest(set: &TaskSet, table: &LockTable, kept: &[usize], left: Members) -> Op
 {
     for task in 0..set.len() {
         if left.has(task) {
-            if let Some(response) = response_kept(set, table, kept, task, left.without(task)) {
+            if let Some(response) = response_kept(set, kept, task, left.without(task)) {
                 return Some(Place { task, response });
             }
         }
@@ -104,15 +94,12 @@ fn lowest(set: &TaskSet, table: &LockTable, kept: &[usize], left: Members) -> Op
     None
 }
 
-/// The best of the orders that pass and keep the list, with its responses; none where there is none. The table is that of
-/// the set. The error is out of memory.
+/// The best of the orders that pass and keep the list, with its responses; none where there is none. The error is out of memory.
 pub(crate) fn climb(
     alloc: Global,
-    set: &TaskSet,
-    table: &LockTable,
+    set: &Tabled<'_>,
     kept: &[usize],
 ) -> Result<Option<Vec<Place>>, AllocError>
-    requires table { IsTableOf set.now table.now }
     requires within { All (λ index. index < TASK_LIMIT) kept.now }
     ensures some { IfOk result (λ found. IfSome found
         (λ places. IsKeptPlacing set.now kept.now places.items)) }
@@ -122,7 +109,7 @@ pub(crate) fn climb(
     let mut left = Members::all(set.sheets().len());
     let mut places = Vec::with_capacity(alloc, left.len())?;
     while !left.is_empty() {
-        match lowest(set, table, kept, left) {
+        match lowest(set, kept, left) {
             Some(place) => {
                 left = left.without(place.task);
                 places.push(place)?;

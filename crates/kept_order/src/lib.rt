@@ -5,7 +5,6 @@
 ghost use Rattle.std.specs.Prelude.{◌≡◌, ◌-◌, ◌<◌, ◌≤◌, ℕ, List, length, slice_index, All, IfOk};
 ghost use Rattle.task_sheet.specs.declared.set.TheConstants.{TASK_LIMIT};
 ghost use Rattle.task_sheet.specs.Orders.{IsFeasible};
-ghost use Rattle.ceilings.specs.IsTableOf.{IsTableOf};
 ghost use Rattle.kept_order.specs.Keeping.{IsKeepingOf, IsPassingKept};
 ghost use Rattle.kept_order.specs.declared.Keeping.TheVariants.{Parted};
 
@@ -14,9 +13,9 @@ pub mod laws;
 
 use crate::climbing::climb;
 use assignment::{Place, Placing, place_all};
-use ceilings::LockTable;
+use ceilings::Tabled;
 use std::alloc::{AllocError, Global};
-use task_sheet::{Members, TaskSet};
+use task_sheet::Members;
 
 /// What becomes of a set that is to keep an order.
 #[derive(Drop)]
@@ -42,20 +41,14 @@ fn parted_at(kept: &[usize], high: usize) -> Keeping
 }
 
 // The first pair that has to change, where some order passes and none keeps the other one.
-fn first_parted(
-    alloc: Global,
-    set: &TaskSet,
-    table: &LockTable,
-    kept: &[usize],
-) -> Result<Keeping, AllocError>
-    requires table { IsTableOf set.now table.now }
+fn first_parted(alloc: Global, set: &Tabled<'_>, kept: &[usize]) -> Result<Keeping, AllocError>
     requires within { All (λ index. index < TASK_LIMIT) kept.now }
     requires none { (order : List ℕ) → ¬ IsPassingKept set.now kept.now order }
     requires some { IsFeasible set.now }
     ensures { IfOk result (IsKeepingOf set.now kept.now) }
 {
     for high in 1..kept.len() {
-        match climb(alloc, set, table, &kept[..high + 1])? {
+        match climb(alloc, set, &kept[..high + 1])? {
             Some(_) => {}
             None => return Ok(parted_at(kept, high)),
         }
@@ -64,23 +57,16 @@ fn first_parted(
 }
 
 /// The best of the orders of a set that pass and keep another order, which need not have all tasks of the set: no two of
-/// its tasks stand the other way round. Else the first pair that has to change, or what is in the way of all orders. The
-/// table is that of the set. The error is out of memory.
-pub fn keep_order(
-    alloc: Global,
-    set: &TaskSet,
-    table: &LockTable,
-    kept: &[usize],
-) -> Result<Keeping, AllocError>
-    requires table { IsTableOf set.now table.now }
+/// its tasks stand the other way round. Else the first pair that has to change, or what is in the way of all orders. The error is out of memory.
+pub fn keep_order(alloc: Global, set: &Tabled<'_>, kept: &[usize]) -> Result<Keeping, AllocError>
     requires within { All (λ index. index < TASK_LIMIT) kept.now }
     ensures { IfOk result (IsKeepingOf set.now kept.now) }
 {
-    if let Some(places) = climb(alloc, set, table, kept)? {
+    if let Some(places) = climb(alloc, set, kept)? {
         return Ok(Keeping::Kept(places));
     }
-    match place_all(alloc, set, table)? {
+    match place_all(alloc, set)? {
         Placing::Stuck(members) => Ok(Keeping::Stuck(members)),
-        Placing::Best(_) => first_parted(alloc, set, table, kept),
+        Placing::Best(_) => first_parted(alloc, set, kept),
     }
 }

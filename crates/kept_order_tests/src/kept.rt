@@ -1,5 +1,5 @@
 //! What becomes of a set that is to keep two tasks of it as they stand.
-use ceilings::LockTable;
+use ceilings::{LockTable, Tabled};
 use example_sets::{again, match_rows, set_of};
 use kept_order::{Keeping, keep_order};
 use std::alloc::{AllocError, Global};
@@ -68,7 +68,7 @@ fn answer_to(alloc: Global, case: Case<'_>) -> Result<String, Fail> {
     let set = set_of(alloc, document)?;
     let table = again!(LockTable::new(alloc, &set))?;
     let kept = [low % MOST_TASKS, high % MOST_TASKS];
-    let keeping = again!(keep_order(alloc, &set, &table, &kept))?;
+    let keeping = again!(keep_order(alloc, &Tabled::of(&set, &table), &kept))?;
     let text = keeping_text(alloc, &set, &keeping)?;
     Ok(text)
 }

@@ -4,13 +4,12 @@ ghost use Rattle.task_sheet.specs.Sheet.{IsValidSheet, task_at};
 ghost use Rattle.task_sheet.specs.Orders.{IsFeasible};
 ghost use Rattle.task_sheet.specs.declared.sheet.TheConstants.{SECTION_LIMIT};
 ghost use Rattle.task_sheet.specs.TaskSet.{IsTaskSet};
-ghost use Rattle.ceilings.specs.IsTableOf.{IsTableOf};
 ghost use Rattle.factor.specs.Factors.{AnswersFactor};
 ghost use Rattle.limits.specs.Numbers.{AnswersFurthest, HasNumber, MayHave, numbered};
 ghost use Rattle.limit_lines.specs.Lines.{AnswersFactorIn, AnswersIn, AreTaskLines, HasPassing, IsFactorLine, IsLast, IsNumberLine, label_of, leaves_own, less_of, node_part, number_at, number_line, order_in, places_in, slack_in, slack_line, slack_of, some_words, values_line};
 
 use assignment::{Place, Placing};
-use ceilings::LockTable;
+use ceilings::Tabled;
 use factor::{factor, factor_in_order, first_to_fail};
 use limits::{Number, furthest, furthest_from, furthest_in_order, value_of};
 use lines::push_name;
@@ -157,14 +156,12 @@ fn push_number(
 // The furthest value of a number with which the order of a placing passes; none after a no.
 fn in_order(
     alloc: Global,
-    set: &TaskSet,
-    table: &LockTable,
+    set: &Tabled<'_>,
     placing: &Placing,
     order: &[usize],
     task: usize,
     number: Number,
 ) -> Result<Option<u64>, AllocError>
-    requires table { IsTableOf set.now table.now }
     requires placing { HasPassing set.now placing.now }
     requires order { order.now ≡ order_in placing.now }
     requires task { task < length set.now }
@@ -173,7 +170,7 @@ fn in_order(
 {
     match placing {
         Placing::Best(_) => {
-            let value = furthest_in_order(alloc, set, table, order, task, number)?;
+            let value = furthest_in_order(alloc, set, order, task, number)?;
             Ok(Some(value))
         }
         Placing::Stuck(_) => Ok(None),
@@ -184,13 +181,11 @@ fn in_order(
 // from one on with which some order is known to pass, where there is one.
 fn in_any(
     alloc: Global,
-    set: &TaskSet,
-    table: &LockTable,
+    set: &Tabled<'_>,
     task: usize,
     number: Number,
     known: Option<u64>,
 ) -> Result<Option<u64>, AllocError>
-    requires table { IsTableOf set.now table.now }
     requires task { task < length set.now }
     requires has { HasNumber (task_at set.now task) number }
     requires may { IfSome known (MayHave set.now task number) }
@@ -199,24 +194,22 @@ fn in_any(
 {
     match known {
         Some(value) => {
-            let most = furthest_from(alloc, set, table, task, number, value)?;
+            let most = furthest_from(alloc, set, task, number, value)?;
             Ok(Some(most))
         }
-        None => furthest(alloc, set, table, task, number),
+        None => furthest(alloc, set, task, number),
     }
 }
 
 // The line of a number.
 fn number_text(
     alloc: Global,
-    set: &TaskSet,
-    table: &LockTable,
+    set: &Tabled<'_>,
     placing: &Placing,
     order: &[usize],
     task: usize,
     number: Number,
 ) -> Result<String, AllocError>
-    requires table { IsTableOf set.now table.now }
     requires placing { HasPassing set.now placing.now }
     requires order { order.now ≡ order_in placing.now }
     requires task { task < length set.now }
@@ -224,10 +217,10 @@ fn number_text(
     ensures { IfOk result (λ text. IsNumberLine set.now (places_in placing.now) task number
         (string_bytes text)) }
 {
-    let own = in_order(alloc, set, table, placing, order, task, number)?;
-    let most = in_any(alloc, set, table, task, number, own)?;
+    let own = in_order(alloc, set, placing, order, task, number)?;
+    let most = in_any(alloc, set, task, number, own)?;
     let mut text = String::new(alloc);
-    push_number(&mut text, set, task, number, own, most)?;
+    push_number(&mut text, set.tasks(), task, number, own, most)?;
     Ok(text)
 }
 
@@ -275,17 +268,15 @@ fn push_slack(
 
 /// The lines of a task of a placed set: for each of its numbers that may help its value, the furthest with which the
 /// order passes, and the furthest with which some order does, each less what of it is the node's; and where there is an
-/// order, its slack. That is any one which passes, the best or another; `order` is the same, the lowest first. The table is
-/// that of the set. The error is out of memory.
+/// order, its slack. That is any one which passes, the best or another; `order` is the same, the lowest first. The error is
+/// out of memory.
 pub fn task_text(
     alloc: Global,
-    set: &TaskSet,
-    table: &LockTable,
+    set: &Tabled<'_>,
     placing: &Placing,
     order: &[usize],
     task: usize,
 ) -> Result<String, AllocError>
-    requires table { IsTableOf set.now table.now }
     requires placing { HasPassing set.now placing.now }
     requires order { order.now ≡ order_in placing.now }
     requires task { task < length set.now }
@@ -295,11 +286,11 @@ pub fn task_text(
     let count = 4 + set.sheets()[task].sections().len();
     let mut text = String::new(alloc);
     for place in 0..count {
-        let line = number_text(alloc, set, table, placing, order, task, number_at(place))?;
+        let line = number_text(alloc, set, placing, order, task, number_at(place))?;
         text.push_str(line.as_str())?;
     }
-    let slack = slack_of(set, placing, task);
-    push_slack(&mut text, set, task, slack)?;
+    let slack = slack_of(set.tasks(), placing, task);
+    push_slack(&mut text, set.tasks(), task, slack)?;
     Ok(text)
 }
 

@@ -2,7 +2,6 @@
 ghost use Rattle.std.specs.Prelude.{◌≡◌, ◌↔◌, ◌<◌, length, IsTrue, IfOk};
 ghost use Rattle.task_sheet.specs.Sheet.{task_at};
 ghost use Rattle.task_sheet.specs.Orders.{IsOrder, IsPassingOrder};
-ghost use Rattle.ceilings.specs.IsTableOf.{IsTableOf};
 ghost use Rattle.limits.specs.Numbers.{HasNumber, MayHave, numbered};
 ghost use Rattle.limits.specs.InOrder.{IsFurthestIn};
 
@@ -10,43 +9,39 @@ use crate::number::Number;
 use crate::numbered::{keeps_sections, numbered};
 use crate::spans::{at_distance, distance, span_in, value_of};
 use assignment::least_over;
-use ceilings::LockTable;
+use ceilings::{LockTable, Tabled};
 use response_time::passes;
 use std::alloc::{AllocError, Global};
-use task_sheet::{Members, TaskSet};
+use task_sheet::Members;
 
-/// Whether an order of the set passes as it stands. The table is that of the set.
-pub fn order_passes(set: &TaskSet, table: &LockTable, order: &[usize]) -> bool
-    requires table { IsTableOf set.now table.now }
+/// Whether an order of the set passes as it stands.
+pub fn order_passes(set: &Tabled<'_>, order: &[usize]) -> bool
     requires each { IsOrder set.now order.now }
     ensures { IsTrue result ↔ IsPassingOrder set.now order.now }
 {
     let mut above = Members::all(set.len());
     for low in order {
         above = above.without(*low);
-        match least_over(set, table, *low, above) {
+        match least_over(set, *low, above) {
             Some(_) => return false,
             None => {}
         }
-        if !passes(set, table, *low, above) {
+        if !passes(set, *low, above) {
             return false;
         }
     }
     true
 }
 
-// Whether it passes with this number of a task. The table is that of the set; only another length of a section needs
-// another one.
+// Whether it passes with this number of a task. Only another length of a section needs another table.
 fn order_passes_with(
     alloc: Global,
-    set: &TaskSet,
-    table: &LockTable,
+    set: &Tabled<'_>,
     order: &[usize],
     task: usize,
     number: Number,
     value: u64,
 ) -> Result<bool, AllocError>
-    requires table { IsTableOf set.now table.now }
     requires each { IsOrder set.now order.now }
     requires task { task < length set.now }
     requires has { HasNumber (task_at set.now task) number }
@@ -54,38 +49,36 @@ fn order_passes_with(
     ensures { IfOk result (λ passes. IsTrue passes
         ↔ IsPassingOrder (numbered set.now task number value) order.now) }
 {
-    let other = numbered(alloc, set, task, number, value)?;
+    let other = numbered(alloc, set.tasks(), task, number, value)?;
     if keeps_sections(number) {
-        return Ok(order_passes(&other, table, order));
+        return Ok(order_passes(&Tabled::of(&other, set.table()), order));
     }
     let own = LockTable::new(alloc, &other)?;
-    Ok(order_passes(&other, &own, order))
+    Ok(order_passes(&Tabled::of(&other, &own), order))
 }
 
 /// The furthest value that a number of a task may have with which an order of the set that passes still passes as it
-/// stands, all else equal. The table is that of the set. The error is out of memory.
+/// stands, all else equal. The error is out of memory.
 pub fn furthest_in_order(
     alloc: Global,
-    set: &TaskSet,
-    table: &LockTable,
+    set: &Tabled<'_>,
     order: &[usize],
     task: usize,
     number: Number,
 ) -> Result<u64, AllocError>
-    requires table { IsTableOf set.now table.now }
     requires passing { IsPassingOrder set.now order.now }
     requires task { task < length set.now }
     requires has { HasNumber (task_at set.now task) number }
     ensures { IfOk result (IsFurthestIn set.now order.now task number) }
 {
-    let span = span_in(set, task, number);
+    let span = span_in(set.tasks(), task, number);
     let own = value_of(&set.sheets()[task], number);
     let mut passing = distance(number, span.easiest, own);
     let mut failing = span.length + 1;
     while failing - passing > 1 {
         let middle = passing + (failing - passing) / 2;
         let value = at_distance(number, span.easiest, middle);
-        if order_passes_with(alloc, set, table, order, task, number, value)? {
+        if order_passes_with(alloc, set, order, task, number, value)? {
             passing = middle;
         } else {
             failing = middle;

@@ -6,7 +6,6 @@ ghost use Rattle.std.specs.Prelude.{◌≡◌, ◌↔◌, ◌+◌, ◌<◌, ◌�
 ghost use Rattle.task_sheet.specs.Sheet.{task_at};
 ghost use Rattle.task_sheet.specs.TaskSet.{IsTaskSet};
 ghost use Rattle.task_sheet.specs.Orders.{IsFeasible};
-ghost use Rattle.ceilings.specs.IsTableOf.{IsTableOf};
 ghost use Rattle.limits.specs.Numbers.{HasNumber, IsSpan, at_distance, numbered, MayHave, IsFurthest, AnswersFurthest};
 
 mod in_order;
@@ -21,48 +20,42 @@ use crate::numbered::{keeps_sections, numbered};
 pub use crate::spans::value_of;
 use crate::spans::{Span, at_distance, distance, span_in};
 use assignment::is_feasible;
-use ceilings::LockTable;
+use ceilings::{LockTable, Tabled};
 use std::alloc::{AllocError, Global};
-use task_sheet::TaskSet;
 
-// Whether some order passes with this number of a task. The table is that of the set; only another length of a section
-// needs another one.
+// Whether some order passes with this number of a task. Only another length of a section needs another table.
 fn passes_with(
     alloc: Global,
-    set: &TaskSet,
-    table: &LockTable,
+    set: &Tabled<'_>,
     task: usize,
     number: Number,
     value: u64,
 ) -> Result<bool, AllocError>
-    requires table { IsTableOf set.now table.now }
     requires task { task < length set.now }
     requires has { HasNumber (task_at set.now task) number }
     requires may { MayHave set.now task number value }
     ensures { IfOk result (λ passes. IsTrue passes
         ↔ IsFeasible (numbered set.now task number value)) }
 {
-    let other = numbered(alloc, set, task, number, value)?;
+    let other = numbered(alloc, set.tasks(), task, number, value)?;
     if keeps_sections(number) {
-        return Ok(is_feasible(&other, table));
+        return Ok(is_feasible(&Tabled::of(&other, set.table())));
     }
     let own = LockTable::new(alloc, &other)?;
-    Ok(is_feasible(&other, &own))
+    Ok(is_feasible(&Tabled::of(&other, &own)))
 }
 
 // The furthest value of a number with which some order passes, from one so far from the easiest on, with which one does.
 // The value next to that is tried first, since it is often past the furthest.
 fn furthest_beyond(
     alloc: Global,
-    set: &TaskSet,
-    table: &LockTable,
+    set: &Tabled<'_>,
     task: usize,
     number: Number,
     span: Span,
     known: u64,
 ) -> Result<u64, AllocError>
     requires kept { IsTaskSet set.now }
-    requires table { IsTableOf set.now table.now }
     requires task { task < length set.now }
     requires has { HasNumber (task_at set.now task) number }
     requires span { IsSpan (task_at set.now task) number span.easiest span.length }
@@ -77,7 +70,7 @@ fn furthest_beyond(
     while failing - passing > 1 {
         let middle = passing + step.min((failing - passing) / 2);
         let value = at_distance(number, span.easiest, middle);
-        if passes_with(alloc, set, table, task, number, value)? {
+        if passes_with(alloc, set, task, number, value)? {
             passing = middle;
             step = failing;
         } else {
@@ -89,45 +82,41 @@ fn furthest_beyond(
 
 /// The furthest value that a number of a task may have with which some order of the set passes, all else equal; none where
 /// none helps. Further is a greater cost, jitter or length of a section, a shorter period, an earlier deadline. A period
-/// that is shorter than the deadline takes it along, a deadline that is later than the period takes that along. The table
-/// is that of the set. The error is out of memory.
+/// that is shorter than the deadline takes it along, a deadline that is later than the period takes that along. The error
+/// is out of memory.
 pub fn furthest(
     alloc: Global,
-    set: &TaskSet,
-    table: &LockTable,
+    set: &Tabled<'_>,
     task: usize,
     number: Number,
 ) -> Result<Option<u64>, AllocError>
-    requires table { IsTableOf set.now table.now }
     requires task { task < length set.now }
     requires has { HasNumber (task_at set.now task) number }
     ensures { IfOk result (λ answer. AnswersFurthest set.now task number answer) }
 {
-    let span = span_in(set, task, number);
-    if !passes_with(alloc, set, table, task, number, span.easiest)? {
+    let span = span_in(set.tasks(), task, number);
+    if !passes_with(alloc, set, task, number, span.easiest)? {
         return Ok(None);
     }
-    let most = furthest_beyond(alloc, set, table, task, number, span, 0)?;
+    let most = furthest_beyond(alloc, set, task, number, span, 0)?;
     Ok(Some(most))
 }
 
 /// The same where some order passes with a value that is known: it is sought from that on.
 pub fn furthest_from(
     alloc: Global,
-    set: &TaskSet,
-    table: &LockTable,
+    set: &Tabled<'_>,
     task: usize,
     number: Number,
     known: u64,
 ) -> Result<u64, AllocError>
-    requires table { IsTableOf set.now table.now }
     requires task { task < length set.now }
     requires has { HasNumber (task_at set.now task) number }
     requires may { MayHave set.now task number known }
     requires passes { IsFeasible (numbered set.now task number known) }
     ensures { IfOk result (IsFurthest set.now task number) }
 {
-    let span = span_in(set, task, number);
+    let span = span_in(set.tasks(), task, number);
     let far = distance(number, span.easiest, known);
-    furthest_beyond(alloc, set, table, task, number, span, far)
+    furthest_beyond(alloc, set, task, number, span, far)
 }

@@ -9,7 +9,6 @@ ghost use Rattle.task_sheet.specs.Orders.{IsOrder};
 ghost use Rattle.miss.specs.Misses.{IsMissOf, HasMiss, MustMiss, IsLockFree, AllPass};
 ghost use Rattle.miss.specs.Found.{IsMissed, record_at};
 ghost use Rattle.miss.specs.Shown.{IsShown, IsWorstMiss, NoneAboveMisses, is_too_long, IsLeftOpen};
-ghost use Rattle.ceilings.specs.IsTableOf.{IsTableOf};
 
 use crate::fault::MissFault;
 use crate::orders::{kernel_of, place_of};
@@ -19,7 +18,7 @@ use crate::shown::{Miss, NoRun, Shown};
 use crate::worst::{Run, worst_case};
 use assignment::least_over;
 use ceiling_kernel::{JobRecord, Kernel, Release, RunFault};
-use ceilings::LockTable;
+use ceilings::{LockTable, Tabled};
 use response_time::passes;
 use std::alloc::Global;
 use task_sheet::TaskSet;
@@ -91,13 +90,11 @@ fn missed_in(
 fn shown_at(
     alloc: Global,
     kernel: &Kernel,
-    set: &TaskSet,
-    table: &LockTable,
+    set: &Tabled<'_>,
     order: &[usize],
     place: usize,
 ) -> Result<Shown, MissFault>
     requires kernel { kernel.now ≡ node_in set.now order.now }
-    requires table { IsTableOf set.now table.now }
     requires order { IsOrder set.now order.now }
     requires place { place < length order.now }
     ensures shown { IfOk result (IsShown (node_in set.now order.now)
@@ -107,17 +104,17 @@ fn shown_at(
     // The set is valid: the proof has it from its sheets.
     let _ = set.sheets();
     let task = order[place];
-    let members = members_above(set, order, place);
-    if passes(set, table, task, members) {
-        return match least_over(set, table, task, members) {
+    let members = members_above(set.tasks(), order, place);
+    if passes(set, task, members) {
+        return match least_over(set, task, members) {
             Some(other) => Ok(Shown::NoRun(NoRun::MustOutrank { other })),
             None => Ok(Shown::Stands),
         };
     }
-    let Some(run) = worst_case(alloc, set, table, task, &order[place + 1..])? else {
+    let Some(run) = worst_case(alloc, set, task, &order[place + 1..])? else {
         return Ok(Shown::NoRun(NoRun::TooMany));
     };
-    if let Some(job) = missed_in(alloc, kernel, set, task, &run)? {
+    if let Some(job) = missed_in(alloc, kernel, set.tasks(), task, &run)? {
         return Ok(Shown::Misses(Miss {
             task,
             job,
@@ -125,7 +122,7 @@ fn shown_at(
             releases: run.releases,
         }));
     }
-    Ok(Shown::NoRun(why_not(set, table, order, place)))
+    Ok(Shown::NoRun(why_not(set, order, place)))
 }
 
 /// What is shown of a task of the set at its place in an order, lowest first: it may stand there, or it misses its
@@ -145,7 +142,13 @@ pub fn show_miss(
     // The set is valid: the proof has it from its sheets.
     let _ = set.sheets();
     let table = LockTable::new(alloc, set)?;
-    shown_at(alloc, &kernel, set, &table, order, place_of(order, task))
+    shown_at(
+        alloc,
+        &kernel,
+        &Tabled::of(set, &table),
+        order,
+        place_of(order, task),
+    )
 }
 
 // The worst case has more releases than a run takes.
@@ -179,11 +182,12 @@ pub fn find_miss(alloc: Global, set: &TaskSet, order: &[usize]) -> Result<Option
     // The set is valid: the proof has it from its sheets.
     let _ = set.sheets();
     let table = LockTable::new(alloc, set)?;
+    let tabled = Tabled::of(set, &table);
     let mut is_long = false;
     let mut place = order.len();
     while place > 0 {
         place -= 1;
-        let shown = shown_at(alloc, &kernel, set, &table, order, place)?;
+        let shown = shown_at(alloc, &kernel, &tabled, order, place)?;
         is_long = is_long | is_too_long(&shown);
         if let Shown::Misses(miss) = shown {
             return Ok(Some(miss));

@@ -4,7 +4,6 @@ ghost use Rattle.std.specs.Bool.{OnTrue, OnFalse};
 ghost use Rattle.ceiling_kernel.specs.Tick.{node_in};
 ghost use Rattle.ceiling_kernel.specs.Releases.{task_number, release_at};
 ghost use Rattle.task_sheet.specs.Orders.{IsOrder};
-ghost use Rattle.ceilings.specs.IsTableOf.{IsTableOf};
 ghost use Rattle.miss.specs.declared.fault.MissFault.TheVariants.{WrongOrder, TooMany, OutOfMemory};
 ghost use Rattle.miss.specs.Misses.{IsRunOf};
 ghost use Rattle.miss.specs.Reached.{IsReadOf, IsFinishIn, IsReachedOf};
@@ -13,7 +12,7 @@ use crate::fault::MissFault;
 use crate::orders::{kernel_of, place_of};
 use crate::worst::{Run, worst_case};
 use ceiling_kernel::{JobRecord, Kernel, Release, RunFault};
-use ceilings::LockTable;
+use ceilings::{LockTable, Tabled};
 use std::alloc::Global;
 use task_sheet::TaskSet;
 
@@ -118,13 +117,11 @@ fn finish_in(
 fn reach_at(
     alloc: Global,
     kernel: &Kernel,
-    set: &TaskSet,
-    table: &LockTable,
+    set: &Tabled<'_>,
     order: &[usize],
     place: usize,
 ) -> Result<Reached, MissFault>
     requires kernel { kernel.now ≡ node_in set.now order.now }
-    requires table { IsTableOf set.now table.now }
     requires order { IsOrder set.now order.now }
     requires place { place < length order.now }
     ensures reached { IfOk result (IsReachedOf (node_in set.now order.now)
@@ -134,10 +131,10 @@ fn reach_at(
     // The set is valid: the proof has it from its sheets.
     let _ = set.sheets();
     let task = order[place];
-    let Some(run) = worst_case(alloc, set, table, task, &order[place + 1..])? else {
+    let Some(run) = worst_case(alloc, set, task, &order[place + 1..])? else {
         return Ok(Reached::TooMany);
     };
-    match finish_in(alloc, kernel, set, task, &run)? {
+    match finish_in(alloc, kernel, set.tasks(), task, &run)? {
         Some(found) => Ok(Reached::Ran(WorstRun {
             job: found.job,
             finish: found.time,
@@ -165,5 +162,11 @@ pub fn reach(
     // The set is valid: the proof has it from its sheets.
     let _ = set.sheets();
     let table = LockTable::new(alloc, set)?;
-    reach_at(alloc, &kernel, set, &table, order, place_of(order, task))
+    reach_at(
+        alloc,
+        &kernel,
+        &Tabled::of(set, &table),
+        order,
+        place_of(order, task),
+    )
 }

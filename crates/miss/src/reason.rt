@@ -4,7 +4,6 @@ ghost use Rattle.task_sheet.specs.Sheet.{Task};
 ghost use Rattle.task_sheet.specs.Indexes.{indexes_of};
 ghost use Rattle.task_sheet.specs.Locks.{reaches};
 ghost use Rattle.task_sheet.specs.Orders.{IsOrder};
-ghost use Rattle.ceilings.specs.IsTableOf.{IsTableOf};
 ghost use Rattle.ceiling_kernel.specs.Tick.{node_in, is_inside};
 ghost use Rattle.ceiling_kernel.specs.Bounds.{above_of};
 ghost use Rattle.miss.specs.Misses.{MustMiss};
@@ -13,15 +12,14 @@ ghost use Rattle.miss.specs.Shown.{PassesThere, ends_inside, IsLowestFailing, Ab
 use crate::shown::NoRun;
 use crate::uninterrupted::passes_uninterrupted;
 use crate::worst::members_of;
-use ceilings::LockTable;
+use ceilings::Tabled;
 use response_time::passes;
 use task_sheet::{Members, Section, TaskSet};
 
 // A job that has executed so long is inside the section, and one of these tasks reaches that.
-fn is_raised(table: &LockTable, section: &Section, executed: u64, above: Members) -> bool
-    ensures { (U : List Task) → IsTableOf U table.now
-        → result ≡ (is_inside section.now executed
-        && reaches U (indexes_of above) section.now) }
+fn is_raised(set: &Tabled<'_>, section: &Section, executed: u64, above: Members) -> bool
+    ensures { result ≡ (is_inside section.now executed
+        && reaches set.now (indexes_of above) section.now) }
 {
     if executed <= section.at {
         return false;
@@ -29,19 +27,18 @@ fn is_raised(table: &LockTable, section: &Section, executed: u64, above: Members
     if executed - section.at >= section.len {
         return false;
     }
-    table.reaches(section, above)
+    set.reaches(section, above)
 }
 
 // A job of a task that executes its cost executes the last tick inside a section that one of these reaches.
-fn ends_inside(set: &TaskSet, table: &LockTable, task: usize, above: Members) -> bool
-    requires table { IsTableOf set.now table.now }
+fn ends_inside(set: &Tabled<'_>, task: usize, above: Members) -> bool
     requires task { task < length set.now }
     ensures { result ≡ ends_inside set.now task (indexes_of above) }
 {
     let sheet = &set.sheets()[task];
     let last = sheet.cost().saturating_sub(1);
     for section in sheet.sections() {
-        if is_raised(table, section, last, above) {
+        if is_raised(set, section, last, above) {
             return true;
         }
     }
@@ -61,8 +58,7 @@ pub(crate) fn members_above(set: &TaskSet, order: &[usize], place: usize) -> Mem
 }
 
 // The lowest of those above the task at a place of an order that doesn't pass.
-fn fails_above(set: &TaskSet, table: &LockTable, order: &[usize], place: usize) -> Option<usize>
-    requires table { IsTableOf set.now table.now }
+fn fails_above(set: &Tabled<'_>, order: &[usize], place: usize) -> Option<usize>
     requires order { IsOrder set.now order.now }
     requires place { place < length order.now }
     ensures some { IfSome result (IsLowestFailing (node_in set.now order.now)
@@ -74,8 +70,8 @@ fn fails_above(set: &TaskSet, table: &LockTable, order: &[usize], place: usize) 
     let _ = set.sheets();
     for higher in place + 1..order.len() {
         let task = order[higher];
-        let above = members_above(set, order, higher);
-        let holds = passes(set, table, task, above);
+        let above = members_above(set.tasks(), order, higher);
+        let holds = passes(set, task, above);
         if !holds {
             return Some(task);
         }
@@ -84,8 +80,7 @@ fn fails_above(set: &TaskSet, table: &LockTable, order: &[usize], place: usize) 
 }
 
 /// Why the task at a place of an order, which doesn't pass, need not miss its deadline: its worst case shows no miss.
-pub(crate) fn why_not(set: &TaskSet, table: &LockTable, order: &[usize], place: usize) -> NoRun
-    requires table { IsTableOf set.now table.now }
+pub(crate) fn why_not(set: &Tabled<'_>, order: &[usize], place: usize) -> NoRun
     requires order { IsOrder set.now order.now }
     requires place { place < length order.now }
     requires fails { ¬ PassesThere (node_in set.now order.now) (slice_index_or order.now place 0) }
@@ -95,14 +90,14 @@ pub(crate) fn why_not(set: &TaskSet, table: &LockTable, order: &[usize], place: 
 {
     // The set is valid: the proof has it from its sheets.
     let _ = set.sheets();
-    if let Some(above) = fails_above(set, table, order, place) {
+    if let Some(above) = fails_above(set, order, place) {
         return NoRun::Below { above };
     }
-    let above = members_above(set, order, place);
-    if ends_inside(set, table, order[place], above) {
+    let above = members_above(set.tasks(), order, place);
+    if ends_inside(set, order[place], above) {
         return NoRun::EndsInside;
     }
-    if passes_uninterrupted(set, table, order[place], above) {
+    if passes_uninterrupted(set, order[place], above) {
         return NoRun::WithinInterrupts;
     }
     NoRun::WithinTick

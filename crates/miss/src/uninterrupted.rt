@@ -6,11 +6,10 @@ ghost use Rattle.task_sheet.specs.Indexes.{indexes_of};
 ghost use Rattle.task_sheet.specs.Demand.{interference_within, limit_of};
 ghost use Rattle.task_sheet.specs.Responses.{Covers};
 ghost use Rattle.task_sheet.specs.Sheet.{task_at};
-ghost use Rattle.ceilings.specs.IsTableOf.{IsTableOf};
 ghost use Rattle.response_time.specs.Workload.{work_of};
 
 use blocking::blocking;
-use ceilings::LockTable;
+use ceilings::Tabled;
 use task_sheet::{Members, TaskSet};
 
 // What the jobs of those above execute in a window, in microseconds.
@@ -29,24 +28,18 @@ fn interference_within(set: &TaskSet, above: Members, time: u64) -> u64
     work
 }
 
-/// Whether a task would pass with these above it if no timer and no interrupt took anything. The table is that of the set.
-pub(crate) fn passes_uninterrupted(
-    set: &TaskSet,
-    table: &LockTable,
-    task: usize,
-    above: Members,
-) -> bool
-    requires table { IsTableOf set.now table.now }
+/// Whether a task would pass with these above it if no timer and no interrupt took anything.
+pub(crate) fn passes_uninterrupted(set: &Tabled<'_>, task: usize, above: Members) -> bool
     requires task { task < length set.now }
     ensures { IsTrue result ↔ Covers (work_of set.now task (indexes_of above))
         (limit_of (task_at set.now task)) }
 {
     let sheet = &set.sheets()[task];
     let limit = sheet.limit();
-    let always = sheet.cost() + blocking(set, table, task, above);
+    let always = sheet.cost() + blocking(set, task, above);
     let mut time = 1;
     while time <= limit {
-        let next = always + interference_within(set, above, time);
+        let next = always + interference_within(set.tasks(), above, time);
         if next <= time {
             return true;
         }

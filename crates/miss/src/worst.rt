@@ -5,14 +5,13 @@ ghost use Rattle.ceiling_kernel.specs.declared.accept.TheConstants.{HORIZON, REL
 ghost use Rattle.task_sheet.specs.declared.set.TheConstants.{TASK_LIMIT};
 ghost use Rattle.task_sheet.specs.Indexes.{indexes_of, among};
 ghost use Rattle.task_sheet.specs.Demand.{greatest_of};
-ghost use Rattle.ceilings.specs.IsTableOf.{IsTableOf};
 ghost use Rattle.miss.specs.Shown.{IsTooLong};
 ghost use Rattle.miss.specs.Misses.{IsInSet, lead_of, member_stream, blocker_streams, IsWorstCase};
 ghost use Rattle.ceiling_kernel.specs.Waits.{lateness_of};
 ghost use Rattle.task_sheet.specs.Sheet.{task_at};
 
 use ceiling_kernel::{Release, RunFault};
-use ceilings::LockTable;
+use ceilings::Tabled;
 use explain::{Blocker, first_blocker};
 use release_list::{Stream, list_of, stream_of};
 use std::alloc::{AllocError, Global};
@@ -129,23 +128,21 @@ fn streams_of(
 /// run takes.
 pub fn worst_case(
     alloc: Global,
-    set: &TaskSet,
-    table: &LockTable,
+    set: &Tabled<'_>,
     task: usize,
     above: &[usize],
 ) -> Result<Option<Run>, AllocError>
-    requires table { IsTableOf set.now table.now }
     requires task { task < length set.now }
     requires above { All (λ k. k < length set.now) above.now }
     ensures some { IfOk result (λ run. IfSome run (λ run. IsWorstCase set.now task above.now
         run.releases.items run.until × (length run.releases.items ≤ RELEASE_LIMIT))) }
     ensures none { IfOk result (λ run. IfNone run (IsTooLong set.now task above.now)) }
 {
-    let blocker = first_blocker(set, table, task, members_of(above));
-    let lead = lead_of(set, &blocker);
-    let instant = instant_of(set, task, above, lead);
+    let blocker = first_blocker(set, task, members_of(above));
+    let lead = lead_of(set.tasks(), &blocker);
+    let instant = instant_of(set.tasks(), task, above, lead);
     let until = instant + set.sheets()[task].limit();
-    let streams = streams_of(alloc, set, task, above, &blocker, instant, until)?;
+    let streams = streams_of(alloc, set.tasks(), task, above, &blocker, instant, until)?;
     match list_of(alloc, &streams, until) {
         Ok(releases) => Ok(Some(Run { releases, until })),
         Err(RunFault::TooMany) => Ok(None),

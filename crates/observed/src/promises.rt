@@ -2,15 +2,14 @@
 ghost use Rattle.std.specs.Prelude.{◌≡◌, ◌<◌, length, All, IfOk};
 ghost use Rattle.task_sheet.specs.declared.set.TheConstants.{TASK_LIMIT};
 ghost use Rattle.task_sheet.specs.Indexes.{among, indexes_of};
-ghost use Rattle.ceilings.specs.IsTableOf.{IsTableOf};
 ghost use Rattle.assignment.specs.Placings.{tasks_of_places};
 ghost use Rattle.observed.specs.Promises.{promise_of, promised, promises_of};
 
 use assignment::Place;
 use blocking::blocking;
-use ceilings::LockTable;
+use ceilings::Tabled;
 use std::alloc::{AllocError, Global};
-use task_sheet::{Members, Name, Sheet, TaskSet};
+use task_sheet::{Members, Name, Sheet};
 
 /// What a set promises of a task at a level of an order: the numbers of its sheet, its blocking there, and the bound of its
 /// response from the arrival; in microseconds.
@@ -51,33 +50,30 @@ fn promised(sheet: &Sheet, blocking: u64, bound: u64) -> Promise
 }
 
 // What is promised of the task of a place, below these places.
-fn promise_of(set: &TaskSet, table: &LockTable, place: &Place, above: &[Place]) -> Promise
-    requires table { IsTableOf set.now table.now }
+fn promise_of(set: &Tabled<'_>, place: &Place, above: &[Place]) -> Promise
     requires task { place.now.task < length set.now }
     requires others { All (λ p. p.task < length set.now) above.now }
     ensures { result ≡ promise_of set.now place.now above.now }
 {
     let sheet = &set.sheets()[place.task];
-    let time = blocking(set, table, place.task, members_of(above));
+    let time = blocking(set, place.task, members_of(above));
     promised(sheet, time, place.response)
 }
 
-/// What a set promises of the tasks of an order, the lowest level first. The table is that of the set. The error is want
+/// What a set promises of the tasks of an order, the lowest level first. The error is want
 /// of memory.
 pub fn promises_of(
     alloc: Global,
-    set: &TaskSet,
-    table: &LockTable,
+    set: &Tabled<'_>,
     places: &[Place],
 ) -> Result<Vec<Promise>, AllocError>
-    requires table { IsTableOf set.now table.now }
     requires tasks { All (λ p. p.task < length set.now) places.now }
     ensures { IfOk result (λ promises. promises.items ≡ promises_of set.now places.now) }
 {
     let mut promises = Vec::with_capacity(alloc, places.len())?;
     let mut rest = places;
     while let Some((place, above)) = rest.split_first() {
-        promises.push(promise_of(set, table, place, above))?;
+        promises.push(promise_of(set, place, above))?;
         rest = above;
     }
     Ok(promises)

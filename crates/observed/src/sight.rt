@@ -1,7 +1,6 @@
 //! What a trace shows of a set's tasks at the levels of an order, and a text at those of their best one.
 ghost use Rattle.std.specs.Prelude.{◌≡◌, ◌<◌, length, All, MatchResult};
 ghost use Rattle.task_sheet.specs.Indexes.{indexes_of};
-ghost use Rattle.ceilings.specs.IsTableOf.{IsTableOf};
 ghost use Rattle.trace_text.specs.Faults.{IsTraceFault};
 ghost use Rattle.trace_text.specs.Rows.{rows_at};
 ghost use Rattle.observed.specs.Observed.{observed_fault};
@@ -12,7 +11,7 @@ use crate::observing::observe;
 use crate::promises::{Promise, promises_of};
 use crate::seen::Seen;
 use assignment::{Place, Placing, place_all};
-use ceilings::LockTable;
+use ceilings::{LockTable, Tabled};
 use lines::TextPlace;
 use std::alloc::Global;
 use task_sheet::{Members, TaskSet};
@@ -34,23 +33,21 @@ pub struct Observed {
     pub seen: Vec<Seen>,
 }
 
-/// What a trace shows of a set's tasks at the levels of an order with these places. The table is that of the set. Refused
+/// What a trace shows of a set's tasks at the levels of an order with these places. Refused
 /// only as `NoJob`.
 pub fn observe_places(
     alloc: Global,
-    set: &TaskSet,
-    table: &LockTable,
+    set: &Tabled<'_>,
     places: &[Place],
     trace: &TraceLines,
 ) -> Result<Observed, TraceFault>
-    requires table { IsTableOf set.now table.now }
     requires tasks { All (λ p. p.task < length set.now) places.now }
     ensures { MatchResult result
         (λ observed. IsShownAt set.now places.now trace.now observed)
         (λ fault. IsTraceFault fault
         (observed_fault (promises_of set.now places.now) trace.now)) }
 {
-    let promises = promises_of(alloc, set, table, places)?;
+    let promises = promises_of(alloc, set, places)?;
     let seen = observe(alloc, &promises, trace)?;
     Ok(Observed { promises, seen })
 }
@@ -66,10 +63,11 @@ pub fn observe_at(alloc: Global, set: &TaskSet, at: TextPlace<'_>) -> Result<Sig
     let _sheets = set.sheets();
     let trace = read_trace_at(alloc, at)?;
     let table = LockTable::new(alloc, set)?;
-    match place_all(alloc, set, &table)? {
+    let tabled = Tabled::of(set, &table);
+    match place_all(alloc, &tabled)? {
         Placing::Stuck(members) => Ok(Sight::Infeasible(members)),
         Placing::Best(places) => {
-            let observed = observe_places(alloc, set, &table, &places, &trace)?;
+            let observed = observe_places(alloc, &tabled, &places, &trace)?;
             Ok(Sight::Seen(observed))
         }
     }

@@ -6,7 +6,8 @@ ghost use Rattle.task_sheet.specs.declared.set.TheConstants.{TASK_LIMIT};
 ghost use Rattle.task_sheet.specs.Demand.{interrupts_some, interrupts_of, interrupts_within, IsUninterrupted};
 ghost use Rattle.response_time.specs.declared.workload.TheConstants.{WINDOW_LIMIT};
 
-use task_sheet::{Sheet, TaskSet};
+use ceilings::Tabled;
+use task_sheet::Sheet;
 
 // Whether a task has a timer that takes time, or an interrupt on its account.
 fn interrupts_some(sheet: &Sheet) -> bool
@@ -16,7 +17,7 @@ fn interrupts_some(sheet: &Sheet) -> bool
 }
 
 /// Whether some task of the set has.
-pub(crate) fn has_interrupts(set: &TaskSet) -> bool
+pub(crate) fn has_interrupts(set: &Tabled<'_>) -> bool
     ensures { OnFalse result (IsUninterrupted set.now) }
 {
     for sheet in set.sheets() {
@@ -43,7 +44,7 @@ fn interrupts_of(sheet: &Sheet, time: u64) -> u64
 }
 
 /// What those of all tasks of the set take of a window.
-pub(crate) fn interrupts_within(set: &TaskSet, time: u64) -> u64
+pub(crate) fn interrupts_within(set: &Tabled<'_>, time: u64) -> u64
     requires time { time ≤ WINDOW_LIMIT }
     ensures is { result ≡ interrupts_within set.now time }
     ensures fits { result ≤ 19 * TASK_LIMIT * WINDOW_LIMIT }

@@ -10,7 +10,6 @@ ghost use Rattle.response_time.specs.declared.workload.TheConstants.{WINDOW_LIMI
 ghost use Rattle.task_sheet.specs.Indexes.{indexes_of};
 ghost use Rattle.task_sheet.specs.Responses.{IsTrail};
 ghost use Rattle.task_sheet.specs.Demand.{interrupts_within, IsUninterrupted, demand_of, limit_of, IsResponseOf, Passes, evaluation_bound};
-ghost use Rattle.ceilings.specs.IsTableOf.{IsTableOf};
 ghost use Rattle.response_time.specs.Answers.{IsAnswer};
 ghost use Rattle.response_time.specs.Workload.{work_within};
 
@@ -20,9 +19,9 @@ mod workload;
 
 use crate::interrupts::{has_interrupts, interrupts_within};
 use crate::workload::Workload;
-use ceilings::LockTable;
+use ceilings::Tabled;
 use std::alloc::{AllocError, Global};
-use task_sheet::{Members, TaskSet};
+use task_sheet::Members;
 
 /// Whether a task passes.
 #[derive(Drop)]
@@ -42,7 +41,7 @@ pub struct Response {
 }
 
 // The longest window that serves a task, in microseconds: what its jitter leaves of its deadline.
-fn limit_of(set: &TaskSet, task: usize) -> u64
+fn limit_of(set: &Tabled<'_>, task: usize) -> u64
     requires { task < length set.now }
     ensures is { result ≡ limit_of (task_at set.now task) }
     ensures some { 0 < result }
@@ -53,7 +52,7 @@ fn limit_of(set: &TaskSet, task: usize) -> u64
 }
 
 // How long after its arrival a job of the task is released at most, in microseconds.
-fn jitter_of(set: &TaskSet, task: usize) -> u64
+fn jitter_of(set: &Tabled<'_>, task: usize) -> u64
     requires { task < length set.now }
     ensures is { result ≡ (task_at set.now task).jitter }
     ensures short { result ≤ WINDOW_LIMIT }
@@ -63,20 +62,19 @@ fn jitter_of(set: &TaskSet, task: usize) -> u64
 
 /// The demand of a task in a window of `time` microseconds, with these above it: its cost, its blocking, the cost of each
 /// job of these that is released within the window (Audsley et al. 1993), and what the timers and the interrupts of all
-/// tasks take of it (Burns, Wellings). The table is that of the set.
-pub fn demand(set: &TaskSet, table: &LockTable, task: usize, above: Members, time: u64) -> u64
-    requires table { IsTableOf set.now table.now }
+/// tasks take of it (Burns, Wellings).
+pub fn demand(set: &Tabled<'_>, task: usize, above: Members, time: u64) -> u64
     requires task { task < length set.now }
     requires time { time ≤ WINDOW_LIMIT }
     ensures { result ≡ demand_of set.now task (indexes_of above) time }
 {
-    let work = Workload::new(set, table, task, above, time, time).advance(time);
+    let work = Workload::new(set, task, above, time, time).advance(time);
     work + interrupts_within(set, time)
 }
 
 // The demand in a window that is no shorter than the last one: the work, and what timers and interrupts take where the
 // set has some.
-fn next_demand(set: &TaskSet, work: &mut Workload, has_some: bool, time: u64) -> u64
+fn next_demand(set: &Tabled<'_>, work: &mut Workload, has_some: bool, time: u64) -> u64
     requires time { time ≤ WINDOW_LIMIT }
     requires longer { work.old.time ≤ time }
     requires some { OnFalse has_some (IsUninterrupted set.now) }
@@ -92,7 +90,7 @@ fn next_demand(set: &TaskSet, work: &mut Workload, has_some: bool, time: u64) ->
 }
 
 // What a task and those above it execute once, in microseconds. Each window has at least this demand.
-fn least_demand(set: &TaskSet, task: usize, above: Members) -> u64
+fn least_demand(set: &Tabled<'_>, task: usize, above: Members) -> u64
     requires { task < length set.now }
     ensures { (time : ℕ) → 1 ≤ time → result ≤ demand_of set.now task (indexes_of above) time }
 {
@@ -109,14 +107,7 @@ fn least_demand(set: &TaskSet, task: usize, above: Members) -> u64
 /// The response of a task with these above it, in microseconds from the arrival; none where it does not pass
 /// (Audsley et al. 1993). It is that of `respond`, with no chain: the iteration starts at a window below which none
 /// covers the demand, in place of 1.
-/// The table is that of the set.
-pub fn response_in_time(
-    set: &TaskSet,
-    table: &LockTable,
-    task: usize,
-    above: Members,
-) -> Option<u64>
-    requires table { IsTableOf set.now table.now }
+pub fn response_in_time(set: &Tabled<'_>, task: usize, above: Members) -> Option<u64>
     requires task { task < length set.now }
     ensures some { IfSome result (λ response. IsResponseOf set.now task (indexes_of above) response
         × (response ≤ (task_at set.now task).deadline)) }
@@ -128,7 +119,7 @@ pub fn response_in_time(
         return None;
     }
     let has_some = has_interrupts(set);
-    let mut work = Workload::new(set, table, task, above, 1, limit);
+    let mut work = Workload::new(set, task, above, 1, limit);
     let mut window = work.first_window(limit);
     while window <= limit {
         let next = next_demand(set, &mut work, has_some, window);
@@ -142,25 +133,21 @@ pub fn response_in_time(
 
 /// Whether a task passes with these above it: some window within what its jitter leaves of its deadline covers its
 /// demand (Audsley et al. 1993).
-/// The table is that of the set.
-pub fn passes(set: &TaskSet, table: &LockTable, task: usize, above: Members) -> bool
-    requires table { IsTableOf set.now table.now }
+pub fn passes(set: &Tabled<'_>, task: usize, above: Members) -> bool
     requires task { task < length set.now }
     ensures { IsTrue result ↔ Passes set.now task (indexes_of above) }
 {
-    response_in_time(set, table, task, above).is_some()
+    response_in_time(set, task, above).is_some()
 }
 
 /// The response of a task with these above it, or the chain that shows that it has none in time (Audsley et al. 1993).
-/// The table is that of the set. The error is out of memory for the numbers.
+/// The error is out of memory for the numbers.
 pub fn respond(
     alloc: Global,
-    set: &TaskSet,
-    table: &LockTable,
+    set: &Tabled<'_>,
     task: usize,
     above: Members,
 ) -> Result<Response, AllocError>
-    requires table { IsTableOf set.now table.now }
     requires task { task < length set.now }
     ensures answer { IfOk result (λ r.
         IsAnswer set.now task (indexes_of above) r.answer) }
@@ -174,7 +161,7 @@ pub fn respond(
 {
     let limit = limit_of(set, task);
     let has_some = has_interrupts(set);
-    let mut work = Workload::new(set, table, task, above, 1, limit);
+    let mut work = Workload::new(set, task, above, 1, limit);
     let mut numbers = Vec::new(alloc);
     let mut time = 1;
     while time <= limit {

@@ -4,14 +4,13 @@ ghost use Rattle.task_sheet.specs.Sheet.{IsValidSheet};
 ghost use Rattle.task_sheet.specs.declared.set.TheConstants.{TASK_LIMIT};
 ghost use Rattle.task_sheet.specs.Indexes.{indexes_of};
 ghost use Rattle.task_sheet.specs.Demand.{interference_of};
-ghost use Rattle.ceilings.specs.IsTableOf.{IsTableOf};
 ghost use Rattle.response_time.specs.declared.workload.TheConstants.{WHOLE, WINDOW_LIMIT};
 ghost use Rattle.response_time.specs.Workload.{share_within, work_within, work_of, further_work, counted_to, IsCountedTo, ShareData, IsShare, WorkloadData, IsCarried};
 
 use blocking::blocking;
-use ceilings::LockTable;
+use ceilings::Tabled;
 use std::marker::Model;
-use task_sheet::{Members, Sheet, TASK_LIMIT, TaskSet};
+use task_sheet::{Members, Sheet, TASK_LIMIT};
 
 // How often a task above comes, how late at most, what it takes each time, and the longest window within which no job is
 // released but those that are counted, in microseconds.
@@ -165,17 +164,14 @@ impl Model for Workload {
 }
 
 impl Workload {
-    /// The work of a task with these above it, in windows from the first one up to a limit. The table is that of the
-    /// set.
+    /// The work of a task with these above it, in windows from the first one up to a limit.
     pub(crate) fn new(
-        set: &TaskSet,
-        table: &LockTable,
+        set: &Tabled<'_>,
         task: usize,
         above: Members,
         first: u64,
         limit: u64,
     ) -> Workload
-        requires table { IsTableOf set.now table.now }
         requires task { task < length set.now }
         requires first { first ≤ WINDOW_LIMIT }
         ensures is { (time : ℕ) → first ≤ time → time ≤ limit →
@@ -183,7 +179,7 @@ impl Workload {
         ensures start { result.time ≡ first }
     {
         let sheets = set.sheets();
-        let always = sheets[task].cost() + blocking(set, table, task, above);
+        let always = sheets[task].cost() + blocking(set, task, above);
         let mut work = Workload::of(always, first);
         for (index, sheet) in sheets.iter().enumerate() {
             if above.has(index) {

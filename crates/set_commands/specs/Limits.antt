@@ -10,7 +10,6 @@ use Rattle.assignment.specs.Placings.{IsPlacingOf, places_of}
 use Rattle.assignment.specs.Verdict.{verdict_set, verdict_of}
 use Rattle.assignment.specs.declared.verdict.Verdict.{Verdict}
 use Rattle.assignment.specs.declared.verdict.Verdict.TheVariants.{Admitted, Infeasible}
-use Rattle.ceilings.specs.IsTableOf.{IsTableOf}
 use Rattle.limit_lines.specs.Lines.{IsLast, order_in}
 use Rattle.set_commands.specs.Admit.{Admits, verdict_status}
 use Rattle.answering.specs.Lines.{infeasible_line}
@@ -46,10 +45,9 @@ Lists U places done text s =
     × (text ≡ front ++ refusal_line refusal.OutOfMemory)
     × (s ≡ status.OutOfMemory))
 
--- lines are made of the table of their set's locks, of its placing, and of the order of that
+-- lines are made of their set's placing, and of the order of that
 pub record IsListing (listing : Listing) : Type 0 where
-  pub table : IsTableOf listing.set.now listing.table
-  pub placing : IsPlacingOf listing.set.now listing.placing.now
+  pub placing : IsPlacingOf listing.set listing.placing.now
   pub order : listing.order.items ≡ order_in listing.placing.now
 
 -- the places of a verdict's order; none after a no

@@ -5,7 +5,7 @@ ghost use Rattle.answering.specs.Outcomes.{IsRead, failed_read};
 
 use answering::{Audience, CommandRefusal, Status, read_one, read_owned};
 use assignment::{Placing, Verdict, assign, place_all};
-use ceilings::LockTable;
+use ceilings::{LockTable, Tabled};
 use owners::Owner;
 use preferences::Preference;
 use std::alloc::{AllocError, Global};
@@ -44,7 +44,7 @@ pub fn place<R: Read + Drop, P: Audience>(
 {
     let (tasks, owners) = read_owned(alloc, preference, set, people)?;
     let table = LockTable::new(alloc, &tasks)?;
-    let placing = place_all(alloc, &tasks, &table)?;
+    let placing = place_all(alloc, &Tabled::of(&tasks, &table))?;
     people.read(&tasks);
     people.placed(&tasks, &placing);
     Ok((tasks, owners, placing))

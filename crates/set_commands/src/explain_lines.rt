@@ -1,6 +1,5 @@
 //! `desk explain`.
 ghost use Rattle.std.specs.Prelude.{◌≡◌, ◌++◌, ℕ, List, None, IfOk, string_bytes};
-ghost use Rattle.ceilings.specs.IsTableOf.{IsTableOf};
 ghost use Rattle.assignment.specs.Placings.{IsPlacingOf};
 ghost use Rattle.explain.specs.Explanations.{Explains};
 ghost use Rattle.explain.specs.declared.explanation.Explanation.{Explanation};
@@ -9,7 +8,7 @@ ghost use Rattle.answering.specs.OrderParts.{placing_first};
 
 use answering::{OrderPart, joined, placing_text};
 use assignment::Placing;
-use ceilings::LockTable;
+use ceilings::{LockTable, Tabled};
 use explain::{explain, explanation_text};
 use judge::{Parted, levels_text};
 use owners::{Naming, Owner, named_text};
@@ -20,19 +19,17 @@ use worst_lines::judge_deciding;
 // The lines of an order that decides, or those of one task in it, where no order passes; else nothing.
 pub(crate) fn decided_text(
     alloc: Global,
-    set: &TaskSet,
-    table: &LockTable,
+    set: &Tabled<'_>,
     placing: &Placing,
     asked: Option<usize>,
 ) -> Result<String, AllocError>
-    requires { IsTableOf set.now table.now }
     ensures { IfOk result (λ text. AreDecided set.now asked placing.now (string_bytes text)) }
 {
     match placing {
         Placing::Best(_) => Ok(String::new(alloc)),
         Placing::Stuck(_) => {
-            let judged = judge_deciding(alloc, set, table)?;
-            levels_text(alloc, set, table, Parted::Missed, asked, &judged)
+            let judged = judge_deciding(alloc, set)?;
+            levels_text(alloc, set, Parted::Missed, asked, &judged)
         }
     }
 }
@@ -50,8 +47,9 @@ fn why_text(
         × (text.items ≡ reasons_said owners.now set.now explanation decided)) }
 {
     let table = LockTable::new(alloc, set)?;
-    let explanation = explain(alloc, set, &table, placing)?;
-    let decided = decided_text(alloc, set, &table, placing, None)?;
+    let tabled = Tabled::of(set, &table);
+    let explanation = explain(alloc, &tabled, placing)?;
+    let decided = decided_text(alloc, &tabled, placing, None)?;
     let mut text = explanation_text(alloc, set, &explanation)?;
     text.push_str(decided.as_str())?;
     let named = named_text(alloc, Naming::Reasons, owners, text.as_bytes())?;

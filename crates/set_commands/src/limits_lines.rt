@@ -2,7 +2,6 @@
 ghost use Rattle.std.specs.Prelude.{◌≡◌, ◌≢◌, ℕ, ◌<◌, ◌==◌, ◌&&◌, List, ◌++◌, length, Err, true, IfOk, OnOk, string_bytes};
 ghost use Rattle.std.specs.Io.KnownBytes.{Appends};
 ghost use Rattle.task_sheet.specs.TaskSet.{IsTaskSet};
-ghost use Rattle.ceilings.specs.IsTableOf.{IsTableOf};
 ghost use Rattle.assignment.specs.Placings.{IsPlacingOf};
 ghost use Rattle.limit_lines.specs.Lines.{AreTaskLines, IsLast, order_in, places_in};
 ghost use Rattle.set_commands.specs.Limits.{IsListing, ListsAll, ListsSome, SaysPlaced, alone_line};
@@ -12,7 +11,7 @@ ghost use Rattle.answering.specs.Outcomes.{IsSaidOn};
 
 use answering::{CommandRefusal, OrderPart, Status, placing_status, placing_text, refuse};
 use assignment::{Placing, tasks_of_places};
-use ceilings::LockTable;
+use ceilings::{LockTable, Tabled};
 use limit_lines::{last_text, task_text};
 use std::alloc::{AllocError, Global};
 use std::io::Write;
@@ -22,9 +21,7 @@ use task_sheet::TaskSet;
 // What the lines of a placed set are made of, made before the first is printed.
 #[derive(Drop)]
 struct Listing<'a> {
-    set: &'a TaskSet,
-    // Of the set's locks.
-    table: LockTable,
+    set: Tabled<'a>,
     placing: &'a Placing,
     // That of the placing, the lowest level first; nothing after a no.
     order: Vec<usize>,
@@ -54,18 +51,11 @@ pub(crate) fn order_of(alloc: Global, placing: &Placing) -> Result<Vec<usize>, A
 // The lines of the task at an index.
 fn lines_of_task(alloc: Global, listing: &Listing<'_>, task: usize) -> Result<String, AllocError>
     requires listing { IsListing listing.now }
-    requires task { task < length listing.now.set.now }
-    ensures { IfOk result (λ text. AreTaskLines listing.now.set.now
+    requires task { task < length listing.now.set }
+    ensures { IfOk result (λ text. AreTaskLines listing.now.set
         (places_in listing.now.placing.now) task (string_bytes text)) }
 {
-    task_text(
-        alloc,
-        listing.set,
-        &listing.table,
-        listing.placing,
-        &listing.order,
-        task,
-    )
+    task_text(alloc, &listing.set, listing.placing, &listing.order, task)
 }
 
 // Whether no task had a line, with one more text.
@@ -79,10 +69,10 @@ fn is_still_silent(is_silent: bool, text: &str) -> bool
 fn end_text(alloc: Global, listing: &Listing<'_>, is_silent: bool) -> Result<String, AllocError>
     requires { IsListing listing.now }
     ensures { let places = places_in listing.now.placing.now in
-        IfOk result (λ text. (last : List ℕ) × IsLast listing.now.set.now places last
+        IfOk result (λ text. (last : List ℕ) × IsLast listing.now.set places last
         × (string_bytes text ≡ alone_line is_silent places ++ last)) }
 {
-    let last = last_text(alloc, listing.set, listing.placing, &listing.order)?;
+    let last = last_text(alloc, listing.set.tasks(), listing.placing, &listing.order)?;
     match listing.placing {
         Placing::Best(_) => Ok(last),
         Placing::Stuck(_) => {
@@ -106,11 +96,11 @@ fn put_lines<W: Write + Drop>(
 ) -> Result<(), ListFault>
     requires { IsListing listing.now }
     ensures all { OnOk result ((text : List ℕ)
-        × ListsAll listing.now.set.now (places_in listing.now.placing.now) text
+        × ListsAll listing.now.set (places_in listing.now.placing.now) text
         × Sends (W.contents output.old.inner) held.old (W.contents output.new.inner) held.new
         (string_bytes listing.now.first ++ text)) }
     ensures some { result ≡ Err ListFault.OutOfMemory
-        → (text : List ℕ) × ListsSome listing.now.set.now (places_in listing.now.placing.now) text
+        → (text : List ℕ) × ListsSome listing.now.set (places_in listing.now.placing.now) text
         × Sends (W.contents output.old.inner) held.old (W.contents output.new.inner) held.new
         (string_bytes listing.now.first ++ text) }
     ensures ok { result ≢ Err ListFault.WriteFailed
@@ -148,11 +138,11 @@ fn print_lines<W: Write + Drop>(
 ) -> Result<(), ListFault>
     requires { IsListing listing.now }
     ensures all { OnOk result ((text : List ℕ)
-        × ListsAll listing.now.set.now (places_in listing.now.placing.now) text
+        × ListsAll listing.now.set (places_in listing.now.placing.now) text
         × Appends (W.contents output.old.inner) (W.contents output.new.inner)
         (string_bytes listing.now.first ++ text)) }
     ensures some { result ≡ Err ListFault.OutOfMemory
-        → (text : List ℕ) × ListsSome listing.now.set.now (places_in listing.now.placing.now) text
+        → (text : List ℕ) × ListsSome listing.now.set (places_in listing.now.placing.now) text
         × Appends (W.contents output.old.inner) (W.contents output.new.inner)
         (string_bytes listing.now.first ++ text) }
     ensures ok { result ≢ Err ListFault.WriteFailed
@@ -173,23 +163,20 @@ fn print_lines<W: Write + Drop>(
 // What the lines of a placed set are made of.
 fn make_ready<'a>(
     alloc: Global,
-    set: &'a TaskSet,
+    set: Tabled<'a>,
     placing: &'a Placing,
 ) -> Result<Listing<'a>, AllocError>
-    requires { IsPlacingOf set.now placing.now }
-    ensures set { IfOk result (λ listing. listing.set.now ≡ set.now) }
-    ensures table { IfOk result (λ listing. IsTableOf listing.set.now listing.table) }
+    requires { IsPlacingOf set placing.now }
+    ensures set { IfOk result (λ listing. listing.set ≡ set) }
     ensures placing { IfOk result (λ listing. listing.placing.now ≡ placing.now) }
     ensures order { IfOk result (λ listing. listing.order.items ≡ order_in placing.now) }
     ensures first { IfOk result (λ listing. string_bytes listing.first
-        ≡ placing_first set.now placing.now) }
+        ≡ placing_first set placing.now) }
 {
-    let table = LockTable::new(alloc, set)?;
     let order = order_of(alloc, placing)?;
-    let first = placing_text(alloc, OrderPart::Count, set, placing)?;
+    let first = placing_text(alloc, OrderPart::Count, set.tasks(), placing)?;
     Ok(Listing {
         set,
-        table,
         placing,
         order,
         first,
@@ -207,7 +194,10 @@ pub(crate) fn print_placing<W: Write + Drop>(
     requires placing { IsPlacingOf set.now placing.now }
     ensures { IsSaidOn (SaysPlaced set.now) W.contents output.old output.new result }
 {
-    let Ok(listing) = make_ready(alloc, set, placing) else {
+    let Ok(table) = LockTable::new(alloc, set) else {
+        return refuse(CommandRefusal::OutOfMemory, output);
+    };
+    let Ok(listing) = make_ready(alloc, Tabled::of(set, &table), placing) else {
         return refuse(CommandRefusal::OutOfMemory, output);
     };
     match print_lines(alloc, &listing, output) {

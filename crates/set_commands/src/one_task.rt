@@ -17,7 +17,7 @@ use answering::{
     print_made, refuse,
 };
 use assignment::Placing;
-use ceilings::LockTable;
+use ceilings::{LockTable, Tabled};
 use explain::explain;
 use owners::{Naming, Owner, named_text};
 use std::alloc::{AllocError, Global};
@@ -52,7 +52,7 @@ fn limits_text(
 {
     let table = LockTable::new(alloc, set)?;
     let order = order_of(alloc, placing)?;
-    let text = limit_lines::task_text(alloc, set, &table, placing, &order, task)?;
+    let text = limit_lines::task_text(alloc, &Tabled::of(set, &table), placing, &order, task)?;
     let mut lines = Vec::new(alloc);
     lines.extend_from_slice(text.as_bytes())?;
     Ok(lines)
@@ -74,8 +74,9 @@ fn reasons_text(
         × (text.items ≡ task_reasons owners.now set.now task explanation decided)) }
 {
     let table = LockTable::new(alloc, set)?;
-    let explanation = explain(alloc, set, &table, placing)?;
-    let decided = decided_text(alloc, set, &table, placing, Some(task))?;
+    let tabled = Tabled::of(set, &table);
+    let explanation = explain(alloc, &tabled, placing)?;
+    let decided = decided_text(alloc, &tabled, placing, Some(task))?;
     let mut text = explain::task_text(alloc, set, &explanation, task)?;
     text.push_str(decided.as_str())?;
     let named = named_text(alloc, Naming::Reasons, owners, text.as_bytes())?;

@@ -1,15 +1,14 @@
 //! The lines of an order's settings.
 ghost use Rattle.std.specs.Prelude.{◌≡◌, ◌++◌, ◌<◌, ◌≤◌, ℕ, List, length, slice_get, Some, All, OnOk, IfOk, option_map, string_bytes};
-ghost use Rattle.task_sheet.specs.Sheet.{Task};
 ghost use Rattle.task_sheet.specs.declared.set.TheConstants.{TASK_LIMIT};
 ghost use Rattle.task_sheet.specs.Locks.{ceiling_of};
 ghost use Rattle.task_sheet.specs.Orders.{IsOrder};
-ghost use Rattle.ceilings.specs.IsTableOf.{IsTableOf, locks_of};
+ghost use Rattle.ceilings.specs.IsTableOf.{locks_of};
 ghost use Rattle.assignment.specs.Placings.{tasks_of_places};
 ghost use Rattle.settings.specs.Settings.{mutex_line, mutex_lines_from, priority_of, settings_from, thread_line, thread_lines};
 
 use assignment::{Place, tasks_of_places};
-use ceilings::LockTable;
+use ceilings::{LockTable, Tabled};
 use lines::push_name;
 use std::alloc::{AllocError, Global};
 use task_sheet::TaskSet;
@@ -49,22 +48,21 @@ fn push_threads(
 // The line of the mutex of the lock at a place, with the priority of its ceiling in an order.
 fn push_lock(
     text: &mut String,
-    table: &LockTable,
+    set: &Tabled<'_>,
     place: usize,
     base: u32,
     order: &[usize],
 ) -> Result<(), AllocError>
     requires within { All (λ index. index < TASK_LIMIT) order.now }
     requires few { length order.now ≤ TASK_LIMIT }
-    ensures { OnOk result ((U : List Task) → IsTableOf U table.now
-        → (lock : List ℕ) → slice_get (locks_of U) place ≡ Some lock
+    ensures { OnOk result ((lock : List ℕ) → slice_get (locks_of set.now) place ≡ Some lock
         → string_bytes text.new ≡ string_bytes text.old
-        ++ mutex_line lock (option_map (priority_of base) (ceiling_of U order.now lock))) }
+        ++ mutex_line lock (option_map (priority_of base) (ceiling_of set.now order.now lock))) }
 {
-    let Some(lock) = table.lock_at(place) else {
+    let Some(lock) = set.lock_at(place) else {
         return Ok(());
     };
-    match table.ceiling(lock, order) {
+    match set.ceiling(lock, order) {
         Some(level) => {
             let priority = (u64::from(base) + u64::from(level)).saturating_sub(1);
             writeln!(text, "mutex {lock} {priority}")
@@ -73,21 +71,20 @@ fn push_lock(
     }
 }
 
-// A line for each lock of the table, with the priority of its ceiling in an order.
+// A line for each lock of the set, with the priority of its ceiling in an order.
 fn push_mutexes(
     text: &mut String,
-    table: &LockTable,
+    set: &Tabled<'_>,
     base: u32,
     order: &[usize],
 ) -> Result<(), AllocError>
     requires within { All (λ index. index < TASK_LIMIT) order.now }
     requires few { length order.now ≤ TASK_LIMIT }
-    ensures { OnOk result ((U : List Task) → IsTableOf U table.now
-        → string_bytes text.new ≡ string_bytes text.old
-        ++ mutex_lines_from U base order.now (locks_of U)) }
+    ensures { OnOk result (string_bytes text.new ≡ string_bytes text.old
+        ++ mutex_lines_from set.now base order.now (locks_of set.now)) }
 {
-    for place in 0..table.count() {
-        push_lock(text, table, place, base, order)?;
+    for place in 0..set.lock_count() {
+        push_lock(text, set, place, base, order)?;
     }
     Ok(())
 }
@@ -109,6 +106,6 @@ pub fn settings_text(
     let table = LockTable::new(alloc, set)?;
     let mut text = String::new(alloc);
     push_threads(&mut text, set, base, &order)?;
-    push_mutexes(&mut text, &table, base, &order)?;
+    push_mutexes(&mut text, &Tabled::of(set, &table), base, &order)?;
     Ok(text)
 }

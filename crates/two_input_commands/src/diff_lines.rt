@@ -6,7 +6,7 @@ ghost use Rattle.teams.specs.ReadsText.{ReadsText};
 
 use answering::{CommandRefusal, OrderPart, joined, placing_text};
 use assignment::{Placing, place_all};
-use ceilings::LockTable;
+use ceilings::{LockTable, Tabled};
 use diff::{Side, change_text};
 use owners::{Naming, Owner, named_text, read_owners};
 use preferences::{Preference, read_preferred};
@@ -34,7 +34,7 @@ fn place_set(alloc: Global, set: &TaskSet) -> Result<Placing, AllocError>
     ensures { IfOk result (λ placing. IsPlacingOf set.now placing) }
 {
     let table = LockTable::new(alloc, set)?;
-    place_all(alloc, set, &table)
+    place_all(alloc, &Tabled::of(set, &table))
 }
 
 // Whether weights are the sheets' own.

@@ -5,7 +5,7 @@ ghost use Rattle.two_input_commands.specs.ExplainAt.{ExplainsText, explained_at_
 
 use crate::in_order::{InOrder, judge_asked};
 use answering::{CommandRefusal, joined};
-use ceilings::LockTable;
+use ceilings::{LockTable, Tabled};
 use judge::{explained_text, first_text};
 use owners::{Naming, Owner, named_text};
 use std::alloc::{AllocError, Global};
@@ -23,7 +23,7 @@ pub fn explain_at(
 {
     let (node, asked) = judge_asked(alloc, word, tasks, text)?;
     let table = LockTable::new(alloc, tasks)?;
-    let text = explained_text(alloc, tasks, &table, &node.judged, asked)?;
+    let text = explained_text(alloc, &Tabled::of(tasks, &table), &node.judged, asked)?;
     Ok(InOrder { node, text })
 }
 

@@ -3,7 +3,7 @@ ghost use Rattle.std.specs.Prelude.{◌≡◌, IfOk, string_bytes};
 ghost use Rattle.two_input_commands.specs.Keep.{IsKeptIn, KeepsText, keeping_lines, keeping_status, parted_line};
 
 use answering::{CommandRefusal, Status, infeasible_text};
-use ceilings::LockTable;
+use ceilings::{LockTable, Tabled};
 use judge::read_kept;
 use kept_order::{Keeping, keep_order};
 use lines::push_name;
@@ -21,7 +21,7 @@ pub fn keep_text(alloc: Global, tasks: &TaskSet, text: &[u8]) -> Result<Keeping,
         Err(fault) => return Err(CommandRefusal::Settings(fault)),
     };
     let table = LockTable::new(alloc, tasks)?;
-    let keeping = keep_order(alloc, tasks, &table, &kept)?;
+    let keeping = keep_order(alloc, &Tabled::of(tasks, &table), &kept)?;
     Ok(keeping)
 }
 

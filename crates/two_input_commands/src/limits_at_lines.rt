@@ -2,7 +2,6 @@
 ghost use Rattle.std.specs.Prelude.{◌≡◌, ◌<◌, length, All, IfOk, IfSome, None, option_map, string_bytes};
 ghost use Rattle.task_sheet.specs.declared.set.TheConstants.{TASK_LIMIT};
 ghost use Rattle.task_sheet.specs.Orders.{IsOrder, IsPassingOrder};
-ghost use Rattle.ceilings.specs.IsTableOf.{IsTableOf};
 ghost use Rattle.assignment.specs.Placings.{tasks_of_places};
 ghost use Rattle.judge.specs.Judgements.{AllJudged, judged_of, order_judged};
 ghost use Rattle.judge.specs.Lines.{judged_lines};
@@ -13,7 +12,7 @@ ghost use Rattle.two_input_commands.specs.LimitsAt.{AreLimitsIn, AreLimitsOf, Is
 use crate::in_order::{InOrder, judge_asked};
 use answering::CommandRefusal;
 use assignment::{Place, Placing, tasks_of_places};
-use ceilings::LockTable;
+use ceilings::{LockTable, Tabled};
 use judge::{JudgedNode, first_text, judged_text, places_of};
 use limit_lines::{last_text, task_text};
 use std::alloc::{AllocError, Global};
@@ -22,12 +21,10 @@ use task_sheet::TaskSet;
 // The lines of each task of a set, by rank.
 fn each_text(
     alloc: Global,
-    set: &TaskSet,
-    table: &LockTable,
+    set: &Tabled<'_>,
     placing: &Placing,
     order: &[usize],
 ) -> Result<String, AllocError>
-    requires table { IsTableOf set.now table.now }
     requires placing { HasPassing set.now placing.now }
     requires order { order.now ≡ order_in placing.now }
     ensures { IfOk result (λ text. AreLines set.now (places_in placing.now) (length set.now)
@@ -35,7 +32,7 @@ fn each_text(
 {
     let mut text = String::new(alloc);
     for task in 0..set.len() {
-        let lines = task_text(alloc, set, table, placing, order, task)?;
+        let lines = task_text(alloc, set, placing, order, task)?;
         text.push_str(lines.as_str())?;
     }
     Ok(text)
@@ -44,19 +41,17 @@ fn each_text(
 // How far the numbers of each task may go, and all execution at once.
 fn whole_text(
     alloc: Global,
-    set: &TaskSet,
-    table: &LockTable,
+    set: &Tabled<'_>,
     placing: &Placing,
     order: &[usize],
 ) -> Result<String, AllocError>
-    requires table { IsTableOf set.now table.now }
     requires placing { HasPassing set.now placing.now }
     requires order { order.now ≡ order_in placing.now }
     ensures { IfOk result (λ text. AreLimitsOf set.now (places_in placing.now) None
         (string_bytes text)) }
 {
-    let mut text = each_text(alloc, set, table, placing, order)?;
-    let last = last_text(alloc, set, placing, order)?;
+    let mut text = each_text(alloc, set, placing, order)?;
+    let last = last_text(alloc, set.tasks(), placing, order)?;
     text.push_str(last.as_str())?;
     Ok(text)
 }
@@ -76,9 +71,10 @@ fn asked_text(
         (string_bytes text)) }
 {
     let table = LockTable::new(alloc, set)?;
+    let tabled = Tabled::of(set, &table);
     match asked {
-        Some(task) => task_text(alloc, set, &table, placing, order, task),
-        None => whole_text(alloc, set, &table, placing, order),
+        Some(task) => task_text(alloc, &tabled, placing, order, task),
+        None => whole_text(alloc, &tabled, placing, order),
     }
 }
 

@@ -7,7 +7,7 @@ ghost use Rattle.two_input_commands.specs.Observe.{IsObservationOf, ObservesRead
 
 use crate::judge_lines::judged_status;
 use answering::{CommandRefusal, Status, print_made, print_stuck};
-use ceilings::LockTable;
+use ceilings::{LockTable, Tabled};
 use command_line::Options;
 use judge::{JudgedNode, SettingRow, judge_rows, judged_text, places_of, read_front};
 use lines::TextPlace;
@@ -53,14 +53,15 @@ fn observe_order(
         Err(fault) => return Err(CommandRefusal::Trace(fault)),
     };
     let table = LockTable::new(alloc, tasks)?;
-    let node = match judge_rows(alloc, tasks, &table, false, rows) {
+    let tabled = Tabled::of(tasks, &table);
+    let node = match judge_rows(alloc, &tabled, false, rows) {
         Ok(node) => node,
         Err(fault) => return Err(CommandRefusal::Settings(fault)),
     };
     let Some(places) = places_of(alloc, &node.judged)? else {
         return Ok(Observation::Missed(node));
     };
-    match observe_places(alloc, tasks, &table, &places, &trace) {
+    match observe_places(alloc, &tabled, &places, &trace) {
         Ok(observed) => Ok(Observation::Ordered(observed)),
         Err(fault) => Err(CommandRefusal::Trace(fault)),
     }

@@ -2,7 +2,6 @@
 ghost use Rattle.std.specs.Prelude.{◌≡◌, ◌<◌, length, Ok, [], IfOk, string_bytes};
 ghost use Rattle.task_sheet.specs.Orders.{IsBest, IsOrder};
 ghost use Rattle.assignment.specs.Placings.{tasks_of_places};
-ghost use Rattle.ceilings.specs.IsTableOf.{IsTableOf};
 ghost use Rattle.judge.specs.Judgements.{order_judged};
 ghost use Rattle.run_lines.specs.Lines.{task_lines};
 ghost use Rattle.run_lines.specs.TaskBounds.{bounds_of, tasks_of_bounds};
@@ -14,7 +13,7 @@ ghost use Rattle.two_input_commands.specs.Simulate.{IsInOrder, RunsOrder, Simula
 use answering::{CommandRefusal, Status, print_made, print_stuck, read_releases};
 use assignment::{Place, Placing, place_all, tasks_of_places};
 use ceiling_kernel::{Kernel, KernelFault, Release, Trace};
-use ceilings::LockTable;
+use ceilings::{LockTable, Tabled};
 use judge::{Front, JudgedTask, Judgement, SettingRow, judge_order, order_of_rows, read_front};
 use lines::TextPlace;
 use printed_runs::trace_text;
@@ -107,7 +106,7 @@ fn simulate_best(
     // The set is valid: the proof has it from its sheets.
     let _ = tasks.sheets();
     let table = LockTable::new(alloc, tasks)?;
-    match place_all(alloc, tasks, &table)? {
+    match place_all(alloc, &Tabled::of(tasks, &table))? {
         Placing::Stuck(members) => Ok(Simulated::Infeasible(members)),
         Placing::Best(places) => {
             let trace = run_best(alloc, tasks, &places, until, &releases)?;
@@ -124,20 +123,18 @@ fn simulate_best(
 // What a set and a release list come to in an order of the set.
 fn simulate_in(
     alloc: Global,
-    tasks: &TaskSet,
-    table: &LockTable,
+    tasks: &Tabled<'_>,
     order: &[usize],
     until: u64,
     releases: Vec<Release>,
 ) -> Result<Simulated, CommandRefusal>
-    requires table { IsTableOf tasks.now table.now }
     requires order { IsOrder tasks.now order.now }
     ensures { SimulatesIn tasks.now order.now until releases.items result }
 {
     // The set is valid: the proof has it from its sheets.
     let _ = tasks.sheets();
-    let judged = judge_order(alloc, tasks, table, order)?;
-    let trace = run_order(alloc, tasks, order, until, &releases)?;
+    let judged = judge_order(alloc, tasks, order)?;
+    let trace = run_order(alloc, tasks.tasks(), order, until, &releases)?;
     Ok(Simulated::Ordered(OrderedRun {
         judged,
         until,
@@ -158,11 +155,12 @@ fn simulate_order(
     ensures { SimulatesRead tasks.now (Ok rows.now) (Ok (until, releases.items)) result }
 {
     let table = LockTable::new(alloc, tasks)?;
-    let order = match order_of_rows(alloc, tasks, &table, false, rows) {
+    let tabled = Tabled::of(tasks, &table);
+    let order = match order_of_rows(alloc, &tabled, false, rows) {
         Ok(order) => order,
         Err(fault) => return Err(CommandRefusal::Settings(fault)),
     };
-    simulate_in(alloc, tasks, &table, &order, until, releases)
+    simulate_in(alloc, &tabled, &order, until, releases)
 }
 
 // What a set and a release list come to behind settings, of which there may be none.

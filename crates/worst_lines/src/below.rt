@@ -2,12 +2,11 @@
 ghost use Rattle.std.specs.Prelude.{◌≡◌, IfOk, IsTrue, length};
 ghost use Rattle.task_sheet.specs.Indexes.{indexes_of, listed_below, IsPart};
 ghost use Rattle.task_sheet.specs.Orders.{all_of};
-ghost use Rattle.ceilings.specs.IsTableOf.{IsTableOf};
 ghost use Rattle.explain.specs.Conflict.{IsLeastConflict};
 ghost use Rattle.worst_lines.specs.Below.{IsOrderBelow, others_of};
 
 use assignment::standing;
-use ceilings::LockTable;
+use ceilings::Tabled;
 use std::alloc::{AllocError, Global};
 use task_sheet::{Members, TaskSet};
 
@@ -27,23 +26,21 @@ fn others(alloc: Global, set: &TaskSet, conflict: Members) -> Result<Vec<usize>,
 }
 
 /// The order in which a task of a minimal conflict stands just below the others of it, which pass there, and above all other
-/// tasks, these by rank. The error is out of memory; the table is that of the set.
+/// tasks, these by rank. The error is out of memory.
 pub(crate) fn order_below(
     alloc: Global,
-    set: &TaskSet,
-    table: &LockTable,
+    set: &Tabled<'_>,
     conflict: Members,
     task: usize,
 ) -> Result<Vec<usize>, AllocError>
-    requires table { IsTableOf set.now table.now }
     requires conflict { IsLeastConflict set.now (indexes_of conflict) }
     requires member { IsTrue (indexes_of conflict task) }
     ensures { IfOk result (λ order. IsOrderBelow set.now (indexes_of conflict) task order.items) }
 {
-    let mut order = others(alloc, set, conflict)?;
+    let mut order = others(alloc, set.tasks(), conflict)?;
     order.push(task)?;
     let mut left = conflict.without(task);
-    while let Some(next) = standing(set, table, left) {
+    while let Some(next) = standing(set, left) {
         left = left.without(next);
         order.push(next)?;
     }

@@ -4,24 +4,22 @@ ghost use Rattle.task_sheet.specs.TaskSet.{IsTaskSet};
 ghost use Rattle.task_sheet.specs.Indexes.{indexes_of, IsPart};
 ghost use Rattle.task_sheet.specs.Orders.{all_of};
 ghost use Rattle.latest_first.specs.LatestFirst.{IsFree, IsLatest};
-ghost use Rattle.ceilings.specs.IsTableOf.{IsTableOf};
 ghost use Rattle.assignment.specs.Longer.{is_longer};
 ghost use Rattle.judge.specs.Judgements.{AllJudged, order_judged};
 ghost use Rattle.worst_lines.specs.Deciding.{IsDeciding, IsNext};
 
 use assignment::least_over;
-use ceilings::LockTable;
+use ceilings::Tabled;
 use judge::{JudgedTask, judge_order};
 use std::alloc::{AllocError, Global};
 use task_sheet::{Members, TaskSet};
 
 // Whether a task is left, and need not stand above another one that is.
-fn is_free(set: &TaskSet, table: &LockTable, left: Members, task: usize) -> bool
-    requires table { IsTableOf set.now table.now }
+fn is_free(set: &Tabled<'_>, left: Members, task: usize) -> bool
     requires task { task < length set.now }
     ensures { IsTrue result ↔ IsFree set.now (indexes_of left) task }
 {
-    left.has(task) && least_over(set, table, task, left.without(task)).is_none()
+    left.has(task) && least_over(set, task, left.without(task)).is_none()
 }
 
 // Whether a task has a longer limit than the one that was found, or is the first.
@@ -38,15 +36,14 @@ fn is_longer(set: &TaskSet, found: Option<usize>, task: usize) -> bool
 }
 
 // Of the tasks that are left and need not stand above another of them the first with the longest limit.
-fn latest(set: &TaskSet, table: &LockTable, left: Members) -> Option<usize>
-    requires table { IsTableOf set.now table.now }
+fn latest(set: &Tabled<'_>, left: Members) -> Option<usize>
     requires part { IsPart (indexes_of left) (all_of set.now) }
     ensures some { IfSome result (IsLatest set.now (indexes_of left)) }
     ensures none { IfNone result ((j : ℕ) → ¬ IsFree set.now (indexes_of left) j) }
 {
     let mut found = None;
     for task in 0..set.sheets().len() {
-        if is_free(set, table, left, task) && is_longer(set, found, task) {
+        if is_free(set, left, task) && is_longer(set.tasks(), found, task) {
             found = Some(task);
         }
     }
@@ -68,48 +65,36 @@ fn first_left(set: &TaskSet, left: Members) -> Option<usize>
 }
 
 // Of the tasks that are left one that may be the lowest; none where none is left.
-fn next(set: &TaskSet, table: &LockTable, left: Members) -> Option<usize>
-    requires table { IsTableOf set.now table.now }
+fn next(set: &Tabled<'_>, left: Members) -> Option<usize>
     requires part { IsPart (indexes_of left) (all_of set.now) }
     ensures some { IfSome result (IsNext set.now (indexes_of left)) }
     ensures none { IfNone result ((j : ℕ) → IsFalse (indexes_of left j)) }
 {
-    match latest(set, table, left) {
+    match latest(set, left) {
         Some(task) => Some(task),
-        None => first_left(set, left),
+        None => first_left(set.tasks(), left),
     }
 }
 
-/// An order of a set that decides, the lowest task first. The error is out of memory; the table is that of the set.
-pub(crate) fn deciding_order(
-    alloc: Global,
-    set: &TaskSet,
-    table: &LockTable,
-) -> Result<Vec<usize>, AllocError>
-    requires { IsTableOf set.now table.now }
+/// An order of a set that decides, the lowest task first. The error is out of memory.
+pub(crate) fn deciding_order(alloc: Global, set: &Tabled<'_>) -> Result<Vec<usize>, AllocError>
     ensures { IfOk result (λ order. IsDeciding set.now order.items) }
 {
     let mut left = Members::all(set.sheets().len());
     let mut order = Vec::with_capacity(alloc, left.len())?;
-    while let Some(task) = next(set, table, left) {
+    while let Some(task) = next(set, left) {
         left = left.without(task);
         order.push(task)?;
     }
     Ok(order)
 }
 
-/// What becomes of each task of a set in an order that decides, the lowest task first. The error is out of memory; the table
-/// is that of the set.
-pub fn judge_deciding(
-    alloc: Global,
-    set: &TaskSet,
-    table: &LockTable,
-) -> Result<Vec<JudgedTask>, AllocError>
-    requires { IsTableOf set.now table.now }
+/// What becomes of each task of a set in an order that decides, the lowest task first. The error is out of memory.
+pub fn judge_deciding(alloc: Global, set: &Tabled<'_>) -> Result<Vec<JudgedTask>, AllocError>
     ensures decides { IfOk result (λ judged. IsDeciding set.now (order_judged judged.items)) }
     ensures each { IfOk result (λ judged. AllJudged set.now judged.items) }
 {
-    let order = deciding_order(alloc, set, table)?;
-    let judged = judge_order(alloc, set, table, &order)?;
+    let order = deciding_order(alloc, set)?;
+    let judged = judge_order(alloc, set, &order)?;
     Ok(judged)
 }

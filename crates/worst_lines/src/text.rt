@@ -4,7 +4,6 @@ ghost use Rattle.std.specs.Fmt.{decimal};
 ghost use Rattle.task_sheet.specs.Sheet.{task_at};
 ghost use Rattle.task_sheet.specs.Indexes.{indexes_of};
 ghost use Rattle.task_sheet.specs.Orders.{IsOrder};
-ghost use Rattle.ceilings.specs.IsTableOf.{IsTableOf};
 ghost use Rattle.assignment.specs.Placings.{IsPlacingOf, tasks_of_places};
 ghost use Rattle.ceiling_kernel.specs.Releases.{release_at};
 ghost use Rattle.release_list.specs.Text.{list_lines};
@@ -20,7 +19,7 @@ use crate::deciding::deciding_order;
 use crate::worst::{Worst, worst_of};
 use assignment::{Place, Placing, tasks_of_places};
 use ceiling_kernel::Release;
-use ceilings::LockTable;
+use ceilings::{LockTable, Tabled};
 use explain::least_conflict;
 use judge::{JudgedTask, judge_order};
 use lines::push_name;
@@ -260,12 +259,10 @@ fn front_text(
 // The order in which a refused set is looked at for a task, by its minimal conflict.
 fn order_for(
     alloc: Global,
-    set: &TaskSet,
-    table: &LockTable,
+    set: &Tabled<'_>,
     conflict: Members,
     asked: Option<usize>,
 ) -> Result<Vec<usize>, AllocError>
-    requires table { IsTableOf set.now table.now }
     requires conflict { IsLeastConflict set.now (indexes_of conflict) }
     ensures looked { IfOk result (λ order. IsOrderFor set.now (indexes_of conflict) asked order.items) }
     ensures order { IfOk result (λ order. IsOrder set.now order.items) }
@@ -273,24 +270,22 @@ fn order_for(
     match asked {
         Some(task) => {
             if task < set.sheets().len() && conflict.has(task) {
-                order_below(alloc, set, table, conflict, task)
+                order_below(alloc, set, conflict, task)
             } else {
-                deciding_order(alloc, set, table)
+                deciding_order(alloc, set)
             }
         }
-        None => deciding_order(alloc, set, table),
+        None => deciding_order(alloc, set),
     }
 }
 
 // The order in which a set is looked at.
 fn order_of(
     alloc: Global,
-    set: &TaskSet,
-    table: &LockTable,
+    set: &Tabled<'_>,
     placing: &Placing,
     asked: Option<usize>,
 ) -> Result<Vec<usize>, AllocError>
-    requires table { IsTableOf set.now table.now }
     requires placing { IsPlacingOf set.now placing.now }
     ensures looked { IfOk result (λ order. IsLookedAtIn set.now placing.now asked order.items) }
     ensures order { IfOk result (λ order. IsOrder set.now order.items) }
@@ -298,8 +293,8 @@ fn order_of(
     match placing {
         Placing::Best(places) => tasks_of_places(alloc, places),
         Placing::Stuck(greatest) => {
-            let conflict = least_conflict(set, table, *greatest);
-            order_for(alloc, set, table, conflict, asked)
+            let conflict = least_conflict(set, *greatest);
+            order_for(alloc, set, conflict, asked)
         }
     }
 }
@@ -339,8 +334,9 @@ pub fn worst_text(
     ensures { IfOk result (λ text. AreWorstLines set.now placing.now asked (string_bytes text)) }
 {
     let table = LockTable::new(alloc, set)?;
-    let order = order_of(alloc, set, &table, placing, asked)?;
-    let judged = judge_order(alloc, set, &table, &order)?;
+    let tabled = Tabled::of(set, &table);
+    let order = order_of(alloc, &tabled, placing, asked)?;
+    let judged = judge_order(alloc, &tabled, &order)?;
     let chosen = chosen(set, placing, asked, &judged);
     let front = front_text(alloc, set, placing, &order)?;
     chosen_text(alloc, set, front.as_str(), &order, chosen)

@@ -1,7 +1,7 @@
 //! What is printed of the worst cases of a document's tasks.
 use crate::found::REFUSED_BY_A_TICK;
 use assignment::place_all;
-use ceilings::LockTable;
+use ceilings::{LockTable, Tabled};
 use example_sets::{again, match_rows, set_of, set_on_node};
 use std::alloc::{AllocError, Global};
 use std::test::Fail;
@@ -68,7 +68,7 @@ const SHOWN_ON_NODE: [(Case<'static>, &str); 3] = [
 // The lines of a set.
 fn lines_of(alloc: Global, set: &TaskSet, asked: Option<usize>) -> Result<String, Fail> {
     let table = again!(LockTable::new(alloc, set))?;
-    let placing = again!(place_all(alloc, set, &table))?;
+    let placing = again!(place_all(alloc, &Tabled::of(set, &table)))?;
     let text = again!(worst_text(alloc, set, &placing, asked))?;
     Ok(text)
 }

@@ -5,12 +5,12 @@ use Rattle.explain.proofs.NeedLaws.{All-reversed}
 use Rattle.explain.proofs.accounts.response_account.Goals as goal
 
 pub members_of-requires : goal.members_of-requires
-members_of-requires c = places-within (length c.args.tabled.set.now) 32 c.args.above.now
+members_of-requires c = places-within (length c.args.set.now) 32 c.args.above.now
     c.args.tabled.tabled.few c.requires.others
 
 pub parts_of-requires-clause-within : goal.parts_of-requires-clause-within
 parts_of-requires-clause-within c =
-    subst (λ (ns : List ℕ). All (λ k. k < length c.args.tabled.set.now) ns)
+    subst (λ (ns : List ℕ). All (λ k. k < length c.args.set.now) ns)
     (sym (c.deref.ensures.value ∙ c.in_ok-order.ensures))
-    (All-reversed (λ k. k < length c.args.tabled.set.now) (tasks_of_places c.args.above.now)
+    (All-reversed (λ k. k < length c.args.set.now) (tasks_of_places c.args.above.now)
     c.requires.others)

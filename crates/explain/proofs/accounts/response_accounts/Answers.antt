@@ -13,6 +13,6 @@ none-left U (p ∷ places) none = absurd (omega (arith, none))
 pub returns : goal.returns
 returns c =
     let whole = c.loop-place.invariant.whole []
-    (none-left c.args.tabled.set.now c.loop-place.rest.now c.in_default.ensures.cases) in
-    subst (λ (some : List Account). AreResponseAccounts c.args.tabled.set.now c.args.places.now
+    (none-left c.args.set.now c.loop-place.rest.now c.in_default.ensures.cases) in
+    subst (λ (some : List Account). AreResponseAccounts c.args.set.now c.args.places.now
     some) (append-nil c.loop-place.accounts.items) whole

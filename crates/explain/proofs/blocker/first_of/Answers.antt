@@ -9,7 +9,7 @@ use Rattle.explain.proofs.blocker.first_of.Goals.{then-section-len+in_default, e
 
 pub loop-place-preserved : goal.loop-place-preserved
 loop-place-preserved c =
-    let U = c.args.tabled.set.now in
+    let U = c.args.set.now in
     let X = indexes_of c.args.members in
     let task = c.args.task in
     let place = c.loop-place.place in

@@ -13,20 +13,20 @@ returns-in-Some c =
     let rest = ap indexes_of c.without-above.ensures
     ∙ indexes_of-remove c.args.conflict c.args.task in (
       refl,
-      subst (λ (X : Indexes). IsLeastOver c.args.tabled.set.now c.args.task X c.in-Some.other)
+      subst (λ (X : Indexes). IsLeastOver c.args.set.now c.args.task X c.in-Some.other)
           rest c.in-Some.ensures.some,
     )
 
 pub needs_account-requires-clause-within : goal.needs_account-requires-clause-within
 needs_account-requires-clause-within c =
-    let n = length c.args.tabled.set.now in
+    let n = length c.args.set.now in
     subst (λ (ns : List ℕ). All (λ k. k < n) ns)
     (sym (c.deref.ensures.value ∙ c.in_ok-order.ensures))
     (falling-within n (indexes_of c.without-above.result))
 
 pub needs_account-requires-clause-fails : goal.needs_account-requires-clause-fails
 needs_account-requires-clause-fails c = λ passes.
-    let U = c.args.tabled.set.now in
+    let U = c.args.set.now in
     let i = c.args.task in
     let rest = ap indexes_of c.without-above.ensures ∙ indexes_of-remove c.args.conflict i in
     c.requires.obstruction.stuck i c.requires.member
@@ -34,7 +34,7 @@ needs_account-requires-clause-fails c = λ passes.
 
 pub returns : goal.returns
 returns c =
-    let U = c.args.tabled.set.now in
+    let U = c.args.set.now in
     let i = c.args.task in
     let rest = ap indexes_of c.without-above.ensures ∙ indexes_of-remove c.args.conflict i in
     let account = subst (λ (order : List ℕ). IsNeedsAccount U i (indexes_of c.without-above.result)

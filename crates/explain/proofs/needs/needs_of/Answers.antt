@@ -6,7 +6,7 @@ use Rattle.explain.proofs.needs.needs_of.Goals.{then-has+in_ok-need_of+in_ok-pus
 
 pub loop-task-preserved : goal.loop-task-preserved
 loop-task-preserved c =
-    let U = c.args.tabled.set.now in
+    let U = c.args.set.now in
     let C = indexes_of c.args.conflict in
     let n = c.loop-task.task in
     elim c.if-has.branch [

@@ -3,4 +3,4 @@ use Rattle.set_commands.proofs.limits_lines.lines_of_task.Goals as goal
 
 pub task_text-requires-clause-placing : goal.task_text-requires-clause-placing
 task_text-requires-clause-placing c =
-    best_passes c.args.listing.now.set.now c.args.listing.now.placing.now c.requires.listing.placing
+    best_passes c.args.listing.now.set c.args.listing.now.placing.now c.requires.listing.placing

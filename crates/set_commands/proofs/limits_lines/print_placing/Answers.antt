@@ -37,7 +37,7 @@ returns-in-Ok-print_lines g c =
     let made = c.in-Ok.ensures in
     let said = c.in-Ok-print_lines.ensures.all in
     let lists = subst (λ (U : List Task). ListsAll U (places_in c.args.placing.now) said.0) made.set
-    (subst (λ (p : Placing). ListsAll c.in-Ok.listing.set.now (places_in p) said.0) made.placing
+    (subst (λ (p : Placing). ListsAll c.in-Ok.listing.set (places_in p) said.0) made.placing
     said.1) in
     said_sound (c.in-Ok-print_lines.ensures.ok never_err)
     (λ is. placing_ends c.args.placing.now (sym c.placing_status.ensures ∙ is))
@@ -51,7 +51,7 @@ returns-in-Err-OutOfMemory g c =
     let said =
     printed.some (c.in-Err-OutOfMemory.is ∙ ap (λ f. Err f) c.in-Err-OutOfMemory.field-0-is) in
     let lists = subst (λ (U : List Task). ListsSome U (places_in c.args.placing.now) said.0)
-    made.set (subst (λ (p : Placing). ListsSome c.in-Ok.listing.set.now (places_in p) said.0)
+    made.set (subst (λ (p : Placing). ListsSome c.in-Ok.listing.set (places_in p) said.0)
     made.placing said.1) in
     let before = g.W.Write.contents c.args.output.now.inner in
     let after = g.W.Write.contents c.refuse-in-Err-OutOfMemory.new.output.inner in

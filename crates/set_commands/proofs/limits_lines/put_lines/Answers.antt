@@ -47,7 +47,7 @@ loop-task-preserved g c =
         silent_more c.loop-task.is_silent _ said.0 line said.1
             (subst (λ (bs : List ℕ). c.is_still_silent-is_silent.result ≡ (c.loop-task.is_silent
             && (length bs == 0))) c.as_str.ensures.value c.is_still_silent-is_silent.ensures),
-        lines_more c.args.listing.now.set.now (places_in c.args.listing.now.placing.now)
+        lines_more c.args.listing.now.set (places_in c.args.listing.now.placing.now)
             c.loop-task.task said.0 line said.2 c.in-Ok.ensures,
         subst (λ bs. Appends before after bs)
             (append_assoc (string_bytes c.args.listing.now.first) said.0 line) (Appends-trans before
@@ -60,7 +60,7 @@ loop-task-preserved g c =
 
 pub returns-in-Ok-put-clause-all : goal.returns-in-Ok-put-clause-all
 returns-in-Ok-put-clause-all g c =
-    let U = c.args.listing.now.set.now in
+    let U = c.args.listing.now.set in
     let order = places_in c.args.listing.now.placing.now in
     let said = c.loop-task.invariant.said in
     let end = c.in-Ok-end_text.ensures in
