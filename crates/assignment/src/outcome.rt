@@ -50,6 +50,8 @@ pub(crate) fn is_bound(set: &Tabled<'_>, task: usize, above: Members) -> bool
     requires part { IsPart (indexes_of above) (all_of set.now) }
     ensures { result ≡ is_bound set.now task (indexes_of above) }
 {
+    // The set is valid: the proof has it from its sheets.
+    let _ = set.sheets();
     set.outranked(task).meets(above)
 }
 

@@ -49,6 +49,20 @@ none_of : (x b : Bool) → b ≡ false → (x && b) ≡ false
 none_of true b e = e
 none_of false b e = refl
 
+-- some of these members is among the users of a lock
+pub meet_users : (U : List Task) (users members : set.FinSet nat_cmp) (lock : List ℕ)
+    → ((k : ℕ) → indexes_of users k ≡ uses (task_at U k) lock) → length U ≤ 32
+    → meet (indexes_of users) (indexes_of members)
+    ≡ some_below (length U) (λ k. indexes_of members k && uses (task_at U k) lock)
+unfolding meet
+meet_users U users members lock are few =
+    let one : ℕ → Bool = λ k. indexes_of members k && uses (task_at U k) lock in
+    some_below-congr 32 (λ k. indexes_of users k && indexes_of members k) one
+    (λ k lt. ap (λ b. b && indexes_of members k) (are k)
+    ∙ and_comm (uses (task_at U k) lock) (indexes_of members k))
+    ∙ some_below-further (length U) 32 one few
+    (λ k le. none_of (indexes_of members k) (uses (task_at U k) lock) (past_none U k lock le))
+
 module _ (U : List Task) (table : Table) (is_table : AreUsersOf U table)
     (members : set.FinSet nat_cmp) where
   abbrev uses_one : List (List ℕ) → ℕ → Bool
@@ -57,16 +71,10 @@ module _ (U : List Task) (table : Table) (is_table : AreUsersOf U table)
   abbrev member_uses : List ℕ → ℕ → Bool
   member_uses lock k = indexes_of members k && uses (task_at U k) lock
 
-  pub meet_is : (lock : List ℕ) → meet (indexes_of (users_in table lock)) (indexes_of members)
+  meet_is : (lock : List ℕ) → meet (indexes_of (users_in table lock)) (indexes_of members)
       ≡ some_below (length U) (member_uses lock)
-  unfolding meet
-  meet_is lock =
-      some_below-congr 32 (λ k. indexes_of (users_in table lock) k && indexes_of members k)
-      (member_uses lock)
-      (λ k lt. ap (λ b. b && indexes_of members k) (is_table.users lock k)
-      ∙ and_comm (uses (task_at U k) lock) (indexes_of members k))
-      ∙ some_below-further (length U) 32 (member_uses lock) is_table.few
-      (λ k le. none_of (indexes_of members k) (uses (task_at U k) lock) (past_none U k lock le))
+  meet_is lock = meet_users U (users_in table lock) members lock (is_table.users lock)
+      is_table.few
 
   some_uses-is : (locks : List (List ℕ))
       → some_uses table members locks ≡ some_below (length U) (uses_one locks)

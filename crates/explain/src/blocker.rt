@@ -30,6 +30,8 @@ impl Model for Blocker {
 fn has_user(set: &Tabled<'_>, lock: Name, members: Members) -> bool
     ensures { result ≡ has_user set.now (indexes_of members) lock }
 {
+    // The set is valid: the proof has it from its sheets.
+    let _ = set.sheets();
     set.users(lock).meets(members)
 }
 

@@ -53,10 +53,10 @@ fn account_of(
     ensures { IfOk result (IsResponseAccount set.now (order_judged above.now)
         (record { task = task; response = response })) }
 {
+    let sheet = &set.sheets()[task];
     let mut order = order_of(alloc, above)?;
     let members = members_of(&order);
     order.reverse();
-    let sheet = &set.sheets()[task];
     let window = response - sheet.jitter();
     let parts = parts_of(alloc, set, task, members, &order, window)?;
     Ok(Account {

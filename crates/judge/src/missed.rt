@@ -29,6 +29,8 @@ pub(crate) fn missed_account(
     ensures { IfOk result (λ account.
         IsMissedBelow set.now (order_judged above.now) task account) }
 {
+    // The set is valid: the proof has it from its sheets.
+    let _ = set.sheets();
     let mut order = order_of(alloc, above)?;
     let members = members_of(&order);
     order.reverse();

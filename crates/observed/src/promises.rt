@@ -60,8 +60,8 @@ fn promise_of(set: &Tabled<'_>, place: &Place, above: &[Place]) -> Promise
     promised(sheet, time, place.response)
 }
 
-/// What a set promises of the tasks of an order, the lowest level first. The error is want
-/// of memory.
+/// What a set promises of the tasks of an order, the lowest level first. The error is out of
+/// memory.
 pub fn promises_of(
     alloc: Global,
     set: &Tabled<'_>,

@@ -10,7 +10,7 @@ is : (c : goal.After-longest_outside)
     → c.longest_outside.result ≡ blocking_of c.args.set.now c.args.task (indexes_of c.args.above)
 unfolding blocking_of
 is c =
-    c.longest_outside.ensures c.args.set.now c.requires.table
+    c.longest_outside.ensures
     ∙ ap (longest_outside c.args.set.now)
     (ap indexes_of c.with.ensures ∙ indexes_of-insert c.args.above c.args.task)
 

@@ -6,6 +6,6 @@ use Rattle.assignment.proofs.outcome.is_bound.Goals as goal
 pub returns : goal.returns
 returns c =
     let U = c.args.set.now in
-    let row = c.outranked.ensures U c.requires.table c.requires.task in
+    let row = c.outranked.ensures in
     c.meets.ensures ∙ meet-bound U c.args.task (indexes_of c.outranked.result)
-    (indexes_of c.args.above) row c.requires.table.few c.requires.part
+    (indexes_of c.args.above) row c.sheets.ensures.kept.few c.requires.part

@@ -6,7 +6,7 @@ use Rattle.assignment.proofs.outcome.least_over.Goals as goal
 pub returns-clause-none : goal.returns-clause-none
 returns-clause-none c =
     let U = c.args.set.now in
-    let row = c.outranked-outranked.ensures U c.requires.table c.requires.task in
+    let row = c.outranked-outranked.ensures in
     NoneOver-all U c.args.task (indexes_of c.outranked-outranked.result)
     (indexes_of c.args.above) row
     (λ j lt. let before : j < c.loop-other.other = omega (

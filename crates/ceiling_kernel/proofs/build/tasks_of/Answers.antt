@@ -39,6 +39,6 @@ loop-index-preserved c =
             sections = subst (λ (xs : List CriticalSection). AreSectionsOf
                 (node_in c.args.set.now c.args.order.now) xs c.in_ok-sections_of.field-0.items)
                 sections
-                (c.in_ok-sections_of.ensures c.args.set.now c.requires.table);
+                c.in_ok-sections_of.ensures;
           });
     }

@@ -6,7 +6,7 @@ use Rattle.explain.proofs.accounts.response_account.Goals as goal
 
 pub members_of-requires : goal.members_of-requires
 members_of-requires c = places-within (length c.args.set.now) 32 c.args.above.now
-    c.args.tabled.tabled.few c.requires.others
+    c.sheets.ensures.kept.few c.requires.others
 
 pub parts_of-requires-clause-within : goal.parts_of-requires-clause-within
 parts_of-requires-clause-within c =

@@ -6,9 +6,9 @@ use Rattle.explain.proofs.accounts.response_accounts.Given as goal
 -- with the accounts of the rest, those so far are the accounts of all
 abbrev pub invariant-loop-place : goal.invariant-loop-place
 invariant-loop-place l = record {
-  in_time : AreInTime l.set.now l.rest;
-  whole : (accounts : List Account) → AreResponseAccounts l.set.now l.rest accounts
-      → AreResponseAccounts l.set.now l.places (l.accounts.items ++ accounts);
+  in_time : AreInTime l.set l.rest;
+  whole : (accounts : List Account) → AreResponseAccounts l.set l.rest accounts
+      → AreResponseAccounts l.set l.places (l.accounts.items ++ accounts);
 }
 
 abbrev pub decreases-loop-place : goal.decreases-loop-place

@@ -3,4 +3,4 @@ use Rattle.explain.specs.Blocking.{HasNoneBefore}
 use Rattle.explain.proofs.blocker.first_of.Given as goal
 
 abbrev pub invariant-loop-place : goal.invariant-loop-place
-invariant-loop-place l = HasNoneBefore l.set.now (indexes_of l.members) l.task l.len l.place
+invariant-loop-place l = HasNoneBefore l.set (indexes_of l.members) l.task l.len l.place

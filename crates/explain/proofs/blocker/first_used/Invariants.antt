@@ -6,5 +6,5 @@ use Rattle.explain.proofs.blocker.first_used.Given as goal
 
 abbrev pub invariant-loop-lock : goal.invariant-loop-lock
 invariant-loop-lock l =
-    find (has_user l.set.now (indexes_of l.members)) (drop l.lock-index l.locks)
-    ≡ find (has_user l.set.now (indexes_of l.members)) l.fn.locks
+    find (has_user l.set (indexes_of l.members)) (drop l.lock-index l.locks)
+    ≡ find (has_user l.set (indexes_of l.members)) l.fn.locks

@@ -3,5 +3,5 @@ use Rattle.explain.specs.Needs.{AreNeedsOf}
 use Rattle.explain.proofs.needs.needs_of.Given as goal
 
 abbrev pub invariant-loop-task : goal.invariant-loop-task
-invariant-loop-task l = AreNeedsOf l.set.now (indexes_of l.conflict)
+invariant-loop-task l = AreNeedsOf l.set (indexes_of l.conflict)
     (listed_below l.task (indexes_of l.conflict)) l.needs.items

@@ -37,7 +37,7 @@ without-above-requires c =
     let inv = c.loop-low.invariant in
     let inside = low-inside c.args.set.now c.args.order.now c.loop-low.low-index c.loop-low.above
     inv.part inv.rest c.loop-low-test.true in
-    omega (arith, inside, c.requires.table.few)
+    omega (arith, inside, c.sheets.ensures.kept.few)
 
 pub response_in_time-requires-clause-task : goal.response_in_time-requires-clause-task
 response_in_time-requires-clause-task c =

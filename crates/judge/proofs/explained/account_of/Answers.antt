@@ -8,7 +8,7 @@ pub members_of-members-requires : goal.members_of-members-requires
 members_of-members-requires c =
     subst (λ (order : List ℕ). All (λ k. k < 32) order)
     (sym (c.deref.ensures.value ∙ c.in_ok-order.ensures))
-    (order_within (length c.args.set.now) 32 c.args.above.now c.requires.table.few c.requires.above)
+    (order_within (length c.args.set.now) 32 c.args.above.now c.sheets.ensures.kept.few c.requires.above)
 
 pub parts_of-requires-clause-within : goal.parts_of-requires-clause-within
 parts_of-requires-clause-within c =

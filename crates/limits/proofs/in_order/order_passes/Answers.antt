@@ -25,7 +25,8 @@ without-above-requires c =
       arith,
       low-inside c.args.set.now c.args.order.now c.loop-low.low-index c.loop-low.above
           inv.part inv.rest c.loop-low-test.true,
-      c.requires.table.few,
+      c.len.ensures.count,
+      c.len.ensures.limit,
     )
 
 pub least_over-requires-clause-task : goal.least_over-requires-clause-task

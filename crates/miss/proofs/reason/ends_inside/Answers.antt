@@ -13,7 +13,7 @@ returns-then-is_raised c =
     c.sections-section-items.ensures
     (omega (arith, c.cost.ensures, c.saturating_sub-last.ensures))
     c.loop-section.section-index c.section-item.result c.loop-section-test.true c.section-item.is
-    (sym (c.is_raised.ensures c.args.set.now c.requires.table) ∙ c.if-is_raised.true)
+    (sym c.is_raised.ensures ∙ c.if-is_raised.true)
 
 pub loop-section-preserved : goal.loop-section-preserved
 loop-section-preserved c =
@@ -25,7 +25,7 @@ loop-section-preserved c =
     (omega (arith, c.cost.ensures, c.saturating_sub-last.ensures))
     c.loop-section.section-index c.section-item.result c.loop-section-test.true c.section-item.is
     c.loop-section.invariant
-    (sym (c.is_raised.ensures c.args.set.now c.requires.table) ∙ c.if-is_raised.false)
+    (sym c.is_raised.ensures ∙ c.if-is_raised.false)
 
 pub returns : goal.returns
 returns c =

@@ -10,7 +10,7 @@ use Rattle.observed.proofs.promises.promise_of.Goals as goal
 
 pub members_of-requires : goal.members_of-requires
 members_of-requires c =
-    places-within (length c.args.set.now) 32 c.args.above.now c.requires.table.few c.requires.others
+    places-within (length c.args.set.now) 32 c.args.above.now c.sheets.ensures.kept.few c.requires.others
 
 pub returns : goal.returns
 returns c =

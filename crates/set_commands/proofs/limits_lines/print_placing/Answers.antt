@@ -27,7 +27,6 @@ pub print_lines-requires : goal.print_lines-requires
 print_lines-requires g c =
     let made = c.in-Ok.ensures in
     record {
-      table = made.table;
       placing = rw (made.set, made.placing) c.requires.placing;
       order = made.order ∙ ap order_in (sym made.placing);
     }
