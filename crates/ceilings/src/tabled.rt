@@ -76,42 +76,48 @@ impl<'a> Tabled<'a> {
     pub fn users(&self, lock: Name) -> Members
         ensures { (k : ℕ) → indexes_of result k ≡ uses (task_at self.now k) lock }
     {
-        self.table.users.users(lock)
+        let table = self.table;
+        table.users.users(lock)
     }
 
     /// How many locks the set has.
     pub fn lock_count(&self) -> usize
         ensures { result ≡ length (locks_of self.now) }
     {
-        self.table.users.count()
+        let table = self.table;
+        table.users.count()
     }
 
     /// The place of a lock in the order of first sight, from 0; none for a lock that nobody names.
     pub fn lock_index(&self, lock: Name) -> Option<usize>
         ensures { result ≡ position (same_bytes lock) (locks_of self.now) }
     {
-        self.table.users.index_of(lock)
+        let table = self.table;
+        table.users.index_of(lock)
     }
 
     /// The lock at a place in the order of first sight, from 0; none past the last.
     pub fn lock_at(&self, place: usize) -> Option<Name>
         ensures { result ≡ slice_get (locks_of self.now) place }
     {
-        self.table.users.lock_at(place)
+        let table = self.table;
+        table.users.lock_at(place)
     }
 
     /// Whether some member uses one of the section's locks.
     pub fn reaches(&self, section: &Section, members: Members) -> bool
         ensures { result ≡ reaches self.now (indexes_of members) section.now }
     {
-        self.table.users.reaches(section, members)
+        let table = self.table;
+        table.users.reaches(section, members)
     }
 
     /// The length of the longest section, of a task that is no member, that the members reach; 0 if there is none.
     pub fn longest_outside(&self, members: Members) -> u64
         ensures { result ≡ longest_outside self.now (indexes_of members) }
     {
-        longest_held(&self.table.holds, members)
+        let table = self.table;
+        longest_held(&table.holds, members)
     }
 
     /// The tasks of the set above which the task at an index must stand.
@@ -119,7 +125,8 @@ impl<'a> Tabled<'a> {
         requires { task < length self.now }
         ensures { (k : ℕ) → k < length self.now → indexes_of result k ≡ must_outrank self.now task k }
     {
-        self.table.outranked[task]
+        let table = self.table;
+        table.outranked[task]
     }
 
     /// The ceiling of a lock where the tasks stand in this order, lowest first: the level, from 1, of its highest user;
@@ -129,6 +136,7 @@ impl<'a> Tabled<'a> {
         requires few { length order.now ≤ TASK_LIMIT }
         ensures { result ≡ ceiling_of self.now order.now lock }
     {
-        self.table.users.ceiling(lock, order)
+        let table = self.table;
+        table.users.ceiling(lock, order)
     }
 }
