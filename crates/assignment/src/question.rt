@@ -146,12 +146,8 @@ fn answer_to(alloc: Global, question: &Question, table: &LockTable) -> Result<Ou
             reason: Reason::Over(other),
         });
     }
-    let response = respond(
-        alloc,
-        &Tabled::of(&question.set, table),
-        question.task,
-        question.above,
-    )?;
+    let set = Tabled::of(&question.set, table);
+    let response = respond(alloc, &set, question.task, question.above)?;
     Ok(unbound_outcome(response.answer))
 }
 

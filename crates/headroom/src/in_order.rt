@@ -90,7 +90,8 @@ fn room_at(
         (¬ IsPassingOrder (costed set.now task cost) order.now)) }
 {
     let other = costed(alloc, set.tasks(), task, cost)?;
-    Ok(room_in(&Tabled::of(&other, set.table()), order, task))
+    let tabled = Tabled::of(&other, set.table());
+    Ok(room_in(&tabled, order, task))
 }
 
 /// The greatest cost that a task may have, in microseconds, with which an order of the set that passes still passes as

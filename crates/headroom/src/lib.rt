@@ -37,9 +37,9 @@ fn further(
     ensures none { IfOk result (λ found. IfNone found (¬ IsFeasible (costed set.now task cost))) }
 {
     let other = costed(alloc, set.tasks(), task, cost)?;
-    let other = Tabled::of(&other, set.table());
-    match some_order(alloc, &other)? {
-        Some(order) => Ok(Some(headroom_in_order(alloc, &other, &order, task)?)),
+    let tabled = Tabled::of(&other, set.table());
+    match some_order(alloc, &tabled)? {
+        Some(order) => Ok(Some(headroom_in_order(alloc, &tabled, &order, task)?)),
         None => Ok(None),
     }
 }

@@ -51,10 +51,11 @@ fn order_passes_with(
 {
     let other = numbered(alloc, set.tasks(), task, number, value)?;
     if keeps_sections(number) {
-        return Ok(order_passes(&Tabled::of(&other, set.table()), order));
+        let same = Tabled::of(&other, set.table());
+        return Ok(order_passes(&same, order));
     }
-    let own = LockTable::new(alloc, &other)?;
-    Ok(order_passes(&Tabled::of(&other, &own), order))
+    let table = LockTable::new(alloc, &other)?;
+    Ok(order_passes(&Tabled::of(&other, &table), order))
 }
 
 /// The furthest value that a number of a task may have with which an order of the set that passes still passes as it

@@ -39,10 +39,11 @@ fn passes_with(
 {
     let other = numbered(alloc, set.tasks(), task, number, value)?;
     if keeps_sections(number) {
-        return Ok(is_feasible(&Tabled::of(&other, set.table())));
+        let same = Tabled::of(&other, set.table());
+        return Ok(is_feasible(&same));
     }
-    let own = LockTable::new(alloc, &other)?;
-    Ok(is_feasible(&Tabled::of(&other, &own)))
+    let table = LockTable::new(alloc, &other)?;
+    Ok(is_feasible(&Tabled::of(&other, &table)))
 }
 
 // The furthest value of a number with which some order passes, from one so far from the easiest on, with which one does.

@@ -7,15 +7,11 @@ use Rattle.headroom.proofs.SetCostLaws.{IsTableOf-costed}
 use Rattle.headroom.proofs.OrderLaws.{costed-again}
 use Rattle.headroom.proofs.further.Goals as goal
 
-pub some_order-requires : goal.some_order-requires
-some_order-requires c =
-    subst (λ (V : List Task). IsTableOf V c.args.table.now) (sym c.in_ok-other.ensures)
-    (IsTableOf-costed c.args.set.now c.args.task c.args.cost c.args.table.now c.requires.table)
-
-pub headroom_in_order-requires-clause-table : goal.headroom_in_order-requires-clause-table
-headroom_in_order-requires-clause-table c =
-    subst (λ (V : List Task). IsTableOf V c.args.table.now) (sym c.in_ok-other.ensures)
-    (IsTableOf-costed c.args.set.now c.args.task c.args.cost c.args.table.now c.requires.table)
+pub of-tabled-requires : goal.of-tabled-requires
+of-tabled-requires c =
+    subst (λ (V : List Task). IsTableOf V c.table.result.now)
+    (sym (c.in_ok-other.ensures ∙ ap (λ (U : List Task). costed U c.args.task c.args.cost) c.tasks.ensures))
+    (IsTableOf-costed c.args.set.now c.args.task c.args.cost c.table.result.now c.table.ensures)
 
 pub returns-in-Some-clause-feasible : goal.returns-in-Some-clause-feasible
 returns-in-Some-clause-feasible c =

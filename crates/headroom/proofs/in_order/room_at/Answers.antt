@@ -9,10 +9,11 @@ use Rattle.headroom.proofs.SetCostLaws.{IsTableOf-costed, costed-own}
 use Rattle.headroom.proofs.OrderLaws.{costed-again}
 use Rattle.headroom.proofs.in_order.room_at.Goals as goal
 
-pub room_in-requires-clause-table : goal.room_in-requires-clause-table
-room_in-requires-clause-table c =
-    subst (λ (V : List Task). IsTableOf V c.args.table.now) (sym c.in_ok-other.ensures)
-    (IsTableOf-costed c.args.set.now c.args.task c.args.cost c.args.table.now c.requires.table)
+pub of-tabled-requires : goal.of-tabled-requires
+of-tabled-requires c =
+    subst (λ (V : List Task). IsTableOf V c.table.result.now)
+    (sym (c.in_ok-other.ensures ∙ ap (λ (U : List Task). costed U c.args.task c.args.cost) c.tasks.ensures))
+    (IsTableOf-costed c.args.set.now c.args.task c.args.cost c.table.result.now c.table.ensures)
 
 pub room_in-requires-clause-some : goal.room_in-requires-clause-some
 room_in-requires-clause-some c =

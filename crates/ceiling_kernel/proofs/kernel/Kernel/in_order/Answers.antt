@@ -1,6 +1,7 @@
 use Rattle.std.proofs.Common.{◌≡◌, subst, sym, arith, length}
 use Rattle.task_sheet.specs.Indexes.{below}
 use Rattle.task_sheet.specs.Orders.{IsOrderOf}
+use Rattle.task_sheet.specs.TaskSet.{IsTaskSet}
 use Rattle.ceiling_kernel.specs.Tick.{node_in}
 use Rattle.ceiling_kernel.specs.NodeTasks.{KeepsTasks}
 use Rattle.ceiling_kernel.proofs.OrderLaws.{order_iff, order_length}
@@ -29,10 +30,12 @@ invariant_of-result c =
     c.in_ok-order.ensures.items_if_clones_equal (λ y z h. h) in
     record {
       node = record {
-        tasks = c.tasks_of.ensures.set;
+        tasks = subst IsTaskSet c.of.ensures c.tasks_of.ensures.set;
         order =
             subst (λ xs. IsOrderOf (below (length c.args.set.now)) xs) (sym order) c.requires.order;
       };
       tasks = subst (λ xs. KeepsTasks (node_in c.args.set.now xs) c.in_ok-tasks.tasks.items)
-          (sym order) c.in_ok-tasks.ensures.tasks;
+          (sym order)
+          (subst (λ U. KeepsTasks (node_in U c.args.order.now) c.in_ok-tasks.tasks.items)
+          c.of.ensures c.in_ok-tasks.ensures.tasks);
     }
