@@ -19,4 +19,5 @@ pub use level::{Closed, Level, NotAll, TakeFault};
 pub use outcome::{Outcome, Reason, least_over};
 pub use placing::{Place, Placing, place_all, tasks_of_places};
 pub use question::{AnswerFault, Finding, Question};
+pub use tried::latest;
 pub use verdict::{Assignment, Failure, LevelRecord, Obstruction, Verdict};

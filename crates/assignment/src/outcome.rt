@@ -57,7 +57,7 @@ pub(crate) fn is_bound(set: &Tabled<'_>, task: usize, above: Members) -> bool
 
 /// Of these that a task must stand above, the one of least rank.
 pub fn least_over(set: &Tabled<'_>, task: usize, above: Members) -> Option<usize>
-    requires task { task < length set.now }
+    requires { task < length set.now }
     ensures none { IfNone result (IsFalse (is_bound set.now task (indexes_of above))) }
     ensures some { IfSome result (λ other. IsLeastOver set.now task (indexes_of above) other) }
 {

@@ -68,7 +68,7 @@ fn response_below(set: &Tabled<'_>, task: usize, above: Members) -> Option<u64>
 
 // Of the tasks that are left, the one of least rank that may stand below the others; none where none may.
 fn lowest(set: &Tabled<'_>, left: Members) -> Option<Place>
-    requires part { IsPart (indexes_of left) (all_of set.now) }
+    requires { IsPart (indexes_of left) (all_of set.now) }
     ensures chosen { IfSome result (λ place. IsChosen set.now (indexes_of left) place.task) }
     ensures response { IfSome result (λ place.
         IsResponseOf set.now place.task (without_index (indexes_of left) place.task)

@@ -16,6 +16,8 @@ fn is_free(set: &Tabled<'_>, left: Members, task: usize) -> bool
     requires part { IsPart (indexes_of left) (all_of set.now) }
     ensures { IsTrue result ↔ IsFree set.now (indexes_of left) task }
 {
+    // The set is valid: the proof has it from its sheets.
+    let _ = set.sheets();
     left.has(task) && !is_bound(set, task, left.without(task))
 }
 
@@ -32,9 +34,10 @@ fn is_longer(set: &TaskSet, found: Option<usize>, task: usize) -> bool
     }
 }
 
-// Of the tasks that are left and need not stand above another of them the first with the longest limit.
-pub(crate) fn latest(set: &Tabled<'_>, left: Members) -> Option<usize>
-    requires part { IsPart (indexes_of left) (all_of set.now) }
+/// Of the tasks that are left and need not stand above another of them the first with the longest limit: where it does
+/// not pass below the others, none does (Leung, Whitehead 1982; Zuhily, Burns 2007).
+pub fn latest(set: &Tabled<'_>, left: Members) -> Option<usize>
+    requires { IsPart (indexes_of left) (all_of set.now) }
     ensures some { IfSome result (IsLatest set.now (indexes_of left)) }
     ensures none { IfNone result ((j : ℕ) → ¬ IsFree set.now (indexes_of left) j) }
     ensures kept { IsTaskSet set.now }

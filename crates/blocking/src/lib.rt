@@ -13,7 +13,7 @@ use task_sheet::Members;
 /// The blocking of a task with these above it, in microseconds: the length of the longest section, of a task that is
 /// neither among these nor `task`, that these or `task` reach; 0 if there is none (Sha, Rajkumar, Lehoczky 1990).
 pub fn blocking(set: &Tabled<'_>, task: usize, above: Members) -> u64
-    requires task { task < length set.now }
+    requires { task < length set.now }
     ensures is { result ≡ blocking_of set.now task (indexes_of above) }
     ensures short { result ≤ PERIOD_TO }
 {

@@ -81,7 +81,7 @@ fn first_of(set: &Tabled<'_>, task: usize, members: Members, len: u64) -> Option
 /// Of the sections that block a task longest with these above it the first, by the rank of its task and its place;
 /// none where nothing blocks (Sha, Rajkumar, Lehoczky 1990).
 pub fn first_blocker(set: &Tabled<'_>, task: usize, above: Members) -> Option<Blocker>
-    requires task { task < length set.now }
+    requires { task < length set.now }
     ensures { IsBlockerOf set.now task (indexes_of above) result }
 {
     let longest = blocking(set, task, above);

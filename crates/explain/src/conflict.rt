@@ -12,7 +12,7 @@ use task_sheet::Members;
 
 /// The greatest obstruction within some tasks of a set; none where they hold none.
 pub fn greatest_within(set: &Tabled<'_>, tasks: Members) -> Option<Members>
-    requires part { IsPart (indexes_of tasks) (all_of set.now) }
+    requires { IsPart (indexes_of tasks) (all_of set.now) }
     ensures some { IfSome result (λ found. IsGreatestWithin set.now (indexes_of tasks)
         (indexes_of found)) }
     ensures none { IfNone result (¬ HoldsObstruction set.now (indexes_of tasks)) }
@@ -44,7 +44,7 @@ fn gone_through(set: &Tabled<'_>, task: usize, tasks: Members) -> Members
 /// A least conflict within an obstruction: its members are gone through by rank, and where what is left without one
 /// still holds an obstruction, the greatest of these takes its place.
 pub fn least_conflict(set: &Tabled<'_>, obstruction: Members) -> Members
-    requires obstruction { IsObstruction set.now (indexes_of obstruction) }
+    requires { IsObstruction set.now (indexes_of obstruction) }
     ensures least { IsLeastConflict set.now (indexes_of result) }
     ensures part { IsPart (indexes_of result) (indexes_of obstruction) }
     ensures way { IsLeftOf set.now (indexes_of obstruction) (length set.now) (indexes_of result) }

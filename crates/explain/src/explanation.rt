@@ -27,7 +27,7 @@ pub fn explain(
     set: &Tabled<'_>,
     placing: &Placing,
 ) -> Result<Explanation, AllocError>
-    requires placing { IsPlacingOf set.now placing.now }
+    requires { IsPlacingOf set.now placing.now }
     ensures { IfOk result (λ explanation. Explains set.now placing.now explanation) }
 {
     // The set is valid: the proof has it from its sheets.

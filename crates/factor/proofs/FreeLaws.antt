@@ -8,10 +8,9 @@ use Rattle.task_sheet.specs.Orders.{all_of}
 use Rattle.task_sheet.specs.Levels.{IsObstruction}
 use Rattle.task_sheet.proofs.IndexLaws.{IsOrderOf-among}
 use Rattle.task_sheet.proofs.TaskLaws.{AllTasks-from_set}
-use Rattle.latest_first.specs.LatestFirst.{AreAlike}
+use Rattle.latest_first.specs.LatestFirst.{AreAlike, IsFree}
 use Rattle.latest_first.proofs.OneOrder.{AllPrompt-valid, is_bound-alike, lowest}
 use Rattle.factor.specs.Factors.{scaled, Scales}
-use Rattle.factor.specs.Failing.{IsFree}
 use Rattle.factor.proofs.ScaledSets.{count-scaled, set-scaled, keeps-scaled}
 
 module _ (U : List Task) (set : IsTaskSet U) (f g : ℕ) where

@@ -76,7 +76,7 @@ fn headroom_from(
 /// none where no cost that its sheet may have helps. A sheet may have each cost from 1, or the end of its last section,
 /// to its period. The error is out of memory.
 pub fn headroom(alloc: Global, set: &Tabled<'_>, task: usize) -> Result<Option<u64>, AllocError>
-    requires task { task < length set.now }
+    requires { task < length set.now }
     ensures { IfOk result (λ answer. AnswersHeadroom set.now task answer) }
 {
     let sheet = &set.sheets()[task];

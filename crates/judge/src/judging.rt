@@ -42,7 +42,7 @@ pub(crate) fn members_of(order: &[usize]) -> Members
 
 // What becomes of a task with these above it.
 fn judge_task(set: &Tabled<'_>, task: usize, above: Members) -> Judgement
-    requires task { task < length set.now }
+    requires { task < length set.now }
     ensures { IsJudgementOf set.now task (indexes_of above) result }
 {
     match least_over(set, task, above) {
@@ -75,7 +75,7 @@ pub fn judge_order(
     set: &Tabled<'_>,
     order: &[usize],
 ) -> Result<Vec<JudgedTask>, AllocError>
-    requires within { All (λ index. index < length set.now) order.now }
+    requires { All (λ index. index < length set.now) order.now }
     ensures order { IfOk result (λ judged. order_judged judged.items ≡ order.now) }
     ensures judged { IfOk result (λ judged. AllJudged set.now judged.items) }
 {

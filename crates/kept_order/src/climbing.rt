@@ -44,7 +44,7 @@ fn is_held(kept: &[usize], others: Members, task: usize) -> bool
 
 // The response of a task with these above it, where it may stand there.
 fn response_below(set: &Tabled<'_>, task: usize, above: Members) -> Option<u64>
-    requires task { task < length set.now }
+    requires { task < length set.now }
     ensures some { IfSome result
         (λ response. IsResponseOf set.now task (indexes_of above) response) }
     ensures stands { IfSome result (λ _. Stands set.now task (indexes_of above)) }
@@ -100,7 +100,7 @@ pub(crate) fn climb(
     set: &Tabled<'_>,
     kept: &[usize],
 ) -> Result<Option<Vec<Place>>, AllocError>
-    requires within { All (λ index. index < TASK_LIMIT) kept.now }
+    requires { All (λ index. index < TASK_LIMIT) kept.now }
     ensures some { IfOk result (λ found. IfSome found
         (λ places. IsKeptPlacing set.now kept.now places.items)) }
     ensures none { IfOk result (λ found. IfNone found

@@ -59,7 +59,7 @@ fn first_parted(alloc: Global, set: &Tabled<'_>, kept: &[usize]) -> Result<Keepi
 /// The best of the orders of a set that pass and keep another order, which need not have all tasks of the set: no two of
 /// its tasks stand the other way round. Else the first pair that has to change, or what is in the way of all orders. The error is out of memory.
 pub fn keep_order(alloc: Global, set: &Tabled<'_>, kept: &[usize]) -> Result<Keeping, AllocError>
-    requires within { All (λ index. index < TASK_LIMIT) kept.now }
+    requires { All (λ index. index < TASK_LIMIT) kept.now }
     ensures { IfOk result (IsKeepingOf set.now kept.now) }
 {
     if let Some(places) = climb(alloc, set, kept)? {

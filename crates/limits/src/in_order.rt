@@ -16,7 +16,7 @@ use task_sheet::Members;
 
 /// Whether an order of the set passes as it stands.
 pub fn order_passes(set: &Tabled<'_>, order: &[usize]) -> bool
-    requires each { IsOrder set.now order.now }
+    requires { IsOrder set.now order.now }
     ensures { IsTrue result ↔ IsPassingOrder set.now order.now }
 {
     let mut above = Members::all(set.len());

@@ -32,7 +32,7 @@ fn is_raised(set: &Tabled<'_>, section: &Section, executed: u64, above: Members)
 
 // A job of a task that executes its cost executes the last tick inside a section that one of these reaches.
 fn ends_inside(set: &Tabled<'_>, task: usize, above: Members) -> bool
-    requires task { task < length set.now }
+    requires { task < length set.now }
     ensures { result ≡ ends_inside set.now task (indexes_of above) }
 {
     let sheet = &set.sheets()[task];

@@ -30,7 +30,7 @@ fn interference_within(set: &TaskSet, above: Members, time: u64) -> u64
 
 /// Whether a task would pass with these above it if no timer and no interrupt took anything.
 pub(crate) fn passes_uninterrupted(set: &Tabled<'_>, task: usize, above: Members) -> bool
-    requires task { task < length set.now }
+    requires { task < length set.now }
     ensures { IsTrue result ↔ Covers (work_of set.now task (indexes_of above))
         (limit_of (task_at set.now task)) }
 {

@@ -67,7 +67,7 @@ pub fn promises_of(
     set: &Tabled<'_>,
     places: &[Place],
 ) -> Result<Vec<Promise>, AllocError>
-    requires tasks { All (λ p. p.task < length set.now) places.now }
+    requires { All (λ p. p.task < length set.now) places.now }
     ensures { IfOk result (λ promises. promises.items ≡ promises_of set.now places.now) }
 {
     let mut promises = Vec::with_capacity(alloc, places.len())?;

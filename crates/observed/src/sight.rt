@@ -41,7 +41,7 @@ pub fn observe_places(
     places: &[Place],
     trace: &TraceLines,
 ) -> Result<Observed, TraceFault>
-    requires tasks { All (λ p. p.task < length set.now) places.now }
+    requires { All (λ p. p.task < length set.now) places.now }
     ensures { MatchResult result
         (λ observed. IsShownAt set.now places.now trace.now observed)
         (λ fault. IsTraceFault fault

@@ -108,7 +108,7 @@ fn least_demand(set: &Tabled<'_>, task: usize, above: Members) -> u64
 /// (Audsley et al. 1993). It is that of `respond`, with no chain: the iteration starts at a window below which none
 /// covers the demand, in place of 1.
 pub fn response_in_time(set: &Tabled<'_>, task: usize, above: Members) -> Option<u64>
-    requires task { task < length set.now }
+    requires { task < length set.now }
     ensures some { IfSome result (λ response. IsResponseOf set.now task (indexes_of above) response
         × (response ≤ (task_at set.now task).deadline)) }
     ensures passes { IfSome result (λ _. Passes set.now task (indexes_of above)) }
@@ -134,7 +134,7 @@ pub fn response_in_time(set: &Tabled<'_>, task: usize, above: Members) -> Option
 /// Whether a task passes with these above it: some window within what its jitter leaves of its deadline covers its
 /// demand (Audsley et al. 1993).
 pub fn passes(set: &Tabled<'_>, task: usize, above: Members) -> bool
-    requires task { task < length set.now }
+    requires { task < length set.now }
     ensures { IsTrue result ↔ Passes set.now task (indexes_of above) }
 {
     response_in_time(set, task, above).is_some()
@@ -148,7 +148,7 @@ pub fn respond(
     task: usize,
     above: Members,
 ) -> Result<Response, AllocError>
-    requires task { task < length set.now }
+    requires { task < length set.now }
     ensures answer { IfOk result (λ r.
         IsAnswer set.now task (indexes_of above) r.answer) }
     ensures evaluations { IfOk result (λ r. (trail : List ℕ)

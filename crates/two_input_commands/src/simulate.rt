@@ -128,7 +128,7 @@ fn simulate_in(
     until: u64,
     releases: Vec<Release>,
 ) -> Result<Simulated, CommandRefusal>
-    requires order { IsOrder tasks.now order.now }
+    requires { IsOrder tasks.now order.now }
     ensures { SimulatesIn tasks.now order.now until releases.items result }
 {
     // The set is valid: the proof has it from its sheets.

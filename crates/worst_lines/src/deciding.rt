@@ -3,52 +3,14 @@ ghost use Rattle.std.specs.Prelude.{◌≡◌, ◌↔◌, ◌<◌, ℕ, length, 
 ghost use Rattle.task_sheet.specs.TaskSet.{IsTaskSet};
 ghost use Rattle.task_sheet.specs.Indexes.{indexes_of, IsPart};
 ghost use Rattle.task_sheet.specs.Orders.{all_of};
-ghost use Rattle.latest_first.specs.LatestFirst.{IsFree, IsLatest};
-ghost use Rattle.assignment.specs.Longer.{is_longer};
 ghost use Rattle.judge.specs.Judgements.{AllJudged, order_judged};
 ghost use Rattle.worst_lines.specs.Deciding.{IsDeciding, IsNext};
 
-use assignment::least_over;
+use assignment::latest;
 use ceilings::Tabled;
 use judge::{JudgedTask, judge_order};
 use std::alloc::{AllocError, Global};
 use task_sheet::{Members, TaskSet};
-
-// Whether a task is left, and need not stand above another one that is.
-fn is_free(set: &Tabled<'_>, left: Members, task: usize) -> bool
-    requires task { task < length set.now }
-    ensures { IsTrue result ↔ IsFree set.now (indexes_of left) task }
-{
-    left.has(task) && least_over(set, task, left.without(task)).is_none()
-}
-
-// Whether a task has a longer limit than the one that was found, or is the first.
-fn is_longer(set: &TaskSet, found: Option<usize>, task: usize) -> bool
-    requires task { task < length set.now }
-    requires found { IfSome found (λ other. other < length set.now) }
-    ensures { result ≡ is_longer set.now found task }
-{
-    let sheets = set.sheets();
-    match found {
-        Some(other) => sheets[other].limit() < sheets[task].limit(),
-        None => true,
-    }
-}
-
-// Of the tasks that are left and need not stand above another of them the first with the longest limit.
-fn latest(set: &Tabled<'_>, left: Members) -> Option<usize>
-    requires part { IsPart (indexes_of left) (all_of set.now) }
-    ensures some { IfSome result (IsLatest set.now (indexes_of left)) }
-    ensures none { IfNone result ((j : ℕ) → ¬ IsFree set.now (indexes_of left) j) }
-{
-    let mut found = None;
-    for task in 0..set.sheets().len() {
-        if is_free(set, left, task) && is_longer(set.tasks(), found, task) {
-            found = Some(task);
-        }
-    }
-    found
-}
 
 // The first task that is left.
 fn first_left(set: &TaskSet, left: Members) -> Option<usize>
@@ -66,7 +28,7 @@ fn first_left(set: &TaskSet, left: Members) -> Option<usize>
 
 // Of the tasks that are left one that may be the lowest; none where none is left.
 fn next(set: &Tabled<'_>, left: Members) -> Option<usize>
-    requires part { IsPart (indexes_of left) (all_of set.now) }
+    requires { IsPart (indexes_of left) (all_of set.now) }
     ensures some { IfSome result (IsNext set.now (indexes_of left)) }
     ensures none { IfNone result ((j : ℕ) → IsFalse (indexes_of left j)) }
 {

@@ -263,7 +263,7 @@ fn order_for(
     conflict: Members,
     asked: Option<usize>,
 ) -> Result<Vec<usize>, AllocError>
-    requires conflict { IsLeastConflict set.now (indexes_of conflict) }
+    requires { IsLeastConflict set.now (indexes_of conflict) }
     ensures looked { IfOk result (λ order. IsOrderFor set.now (indexes_of conflict) asked order.items) }
     ensures order { IfOk result (λ order. IsOrder set.now order.items) }
 {
@@ -286,7 +286,7 @@ fn order_of(
     placing: &Placing,
     asked: Option<usize>,
 ) -> Result<Vec<usize>, AllocError>
-    requires placing { IsPlacingOf set.now placing.now }
+    requires { IsPlacingOf set.now placing.now }
     ensures looked { IfOk result (λ order. IsLookedAtIn set.now placing.now asked order.items) }
     ensures order { IfOk result (λ order. IsOrder set.now order.items) }
 {

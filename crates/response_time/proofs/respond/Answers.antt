@@ -18,7 +18,7 @@ returns-then-next-time-clause-evaluations c =
     _ c.next_demand-next.ensures.is
     (inv.demand c.loop-time.time inv.positive c.loop-time-test.true)) ∙ c.if-next-time.true in
     let pass = walk_passes c.args.set.now c.args.task (indexes_of c.args.above)
-    (AllTasks-from_set _ c.limit_of-limit.ensures.kept) c.requires.task _ _ _ inv.climb
+    (AllTasks-from_set _ c.limit_of-limit.ensures.kept) c.requires _ _ _ inv.climb
     inv.within fixed (omega (arith, c.limit_of-limit.ensures.is, c.loop-time-test.true)) in (
       c.loop-time.numbers.items ++ c.loop-time.time ∷ [],
       pass.0,
@@ -33,7 +33,7 @@ returns-then-next-time-clause-bound c =
     _ c.next_demand-next.ensures.is
     (inv.demand c.loop-time.time inv.positive c.loop-time-test.true)) ∙ c.if-next-time.true in
     let pass = walk_passes c.args.set.now c.args.task (indexes_of c.args.above)
-    (AllTasks-from_set _ c.limit_of-limit.ensures.kept) c.requires.task _ _ _ inv.climb
+    (AllTasks-from_set _ c.limit_of-limit.ensures.kept) c.requires _ _ _ inv.climb
     inv.within fixed (omega (arith, c.limit_of-limit.ensures.is, c.loop-time-test.true)) in
     omega (arith, pass.1, c.len.ensures, c.push.new.self.ok.0, ap length c.in_ok-push.ensures.items)
 
@@ -61,7 +61,7 @@ pub loop-time-smaller : goal.loop-time-smaller
 loop-time-smaller c =
     let inv = c.loop-time.invariant in
     let more = walk_climbs c.args.set.now c.args.task (indexes_of c.args.above) (AllTasks-from_set _
-    c.limit_of-limit.ensures.kept) c.requires.task _ _ _ inv.climb inv.within in
+    c.limit_of-limit.ensures.kept) c.requires _ _ _ inv.climb inv.within in
     let next = next-is c.args.set.now c.args.task (indexes_of c.args.above) c.loop-time.time _ _
     c.next_demand-next.ensures.is
     (inv.demand c.loop-time.time inv.positive c.loop-time-test.true) in
@@ -76,10 +76,10 @@ loop-time-preserved c =
     let inv = c.loop-time.invariant in
     let next = next-is U i H c.loop-time.time _ _ c.next_demand-next.ensures.is
     (inv.demand c.loop-time.time inv.positive c.loop-time-test.true) in
-    let more = walk_climbs U i H valid c.requires.task _ _ _ inv.climb inv.within in
+    let more = walk_climbs U i H valid c.requires _ _ _ inv.climb inv.within in
     let rises : c.loop-time.time < c.next_demand-next.result =
     omega (arith, more, next, c.if-next-time.false) in
-    let on = walk_goes_on U i H valid c.requires.task _ _ _ inv.climb inv.within
+    let on = walk_goes_on U i H valid c.requires _ _ _ inv.climb inv.within
     c.next_demand-next.result next rises
     (omega (arith, c.limit_of-limit.ensures.is, c.loop-time-test.true)) in
     let pushed = c.in_ok-push.ensures.items in
@@ -104,7 +104,7 @@ returns-clause-answer c =
     let inv = c.loop-time.invariant in
     let limit = c.limit_of-limit.ensures in
     let fail = walk_fails c.args.set.now c.args.task (indexes_of c.args.above)
-    (AllTasks-from_set _ limit.kept) c.requires.task _ _ _ inv.climb inv.within
+    (AllTasks-from_set _ limit.kept) c.requires _ _ _ inv.climb inv.within
     (omega (arith, limit.is, limit.some)) (omega (arith, limit.is, c.loop-time-test.false)) in
     subst (λ ns. IsFullChain (demand_of c.args.set.now c.args.task (indexes_of c.args.above))
     (limit_of (task_at c.args.set.now c.args.task)) ns)
@@ -115,7 +115,7 @@ returns-clause-evaluations c =
     let inv = c.loop-time.invariant in
     let limit = c.limit_of-limit.ensures in
     let fail = walk_fails c.args.set.now c.args.task (indexes_of c.args.above)
-    (AllTasks-from_set _ limit.kept) c.requires.task _ _ _ inv.climb inv.within
+    (AllTasks-from_set _ limit.kept) c.requires _ _ _ inv.climb inv.within
     (omega (arith, limit.is, limit.some)) (omega (arith, limit.is, c.loop-time-test.false)) in
     (c.loop-time.numbers.items, fail.1.0, c.len-evaluations.ensures ∙ c.loop-time.numbers.ok.0)
 
@@ -124,6 +124,6 @@ returns-clause-bound c =
     let inv = c.loop-time.invariant in
     let limit = c.limit_of-limit.ensures in
     let fail = walk_fails c.args.set.now c.args.task (indexes_of c.args.above)
-    (AllTasks-from_set _ limit.kept) c.requires.task _ _ _ inv.climb inv.within
+    (AllTasks-from_set _ limit.kept) c.requires _ _ _ inv.climb inv.within
     (omega (arith, limit.is, limit.some)) (omega (arith, limit.is, c.loop-time-test.false)) in
     omega (arith, fail.1.1, c.len-evaluations.ensures, c.loop-time.numbers.ok.0)

@@ -31,7 +31,7 @@ returns-then-next-window c =
     let i = c.args.task in
     let H = indexes_of c.args.above in
     let steady = demand_does_not_fall U (AllTasks-from_set U c.limit_of-limit.ensures.kept) i H
-    c.requires.task in
+    c.requires in
     let inv = c.loop-window.invariant in
     let t = c.loop-window.window in
     let next = next-is U i H t _ _ c.next_demand-next.ensures.is

@@ -26,6 +26,6 @@ returns-else-passes-clause-none c =
     let i = c.in_ok-task.task in
     let rest = ap indexes_of c.without.ensures ∙ indexes_of-remove c.args.left i in
     NoneStands-latest U (AllPrompt-valid U c.in_ok-task.ensures.kept) (indexes_of c.args.left) i
-    c.requires.part c.in_ok-task.ensures.some
+    c.requires c.in_ok-task.ensures.some
     (λ passes. both_ways c.passes.result c.if-passes.false
     (c.passes.ensures.1 (subst (λ (X : Indexes). Passes U i X) (sym rest) passes)))

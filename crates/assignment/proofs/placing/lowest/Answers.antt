@@ -11,7 +11,7 @@ use Rattle.assignment.proofs.placing.lowest.Goals.{then-has+in_default, else-has
 
 pub response_below-requires-clause-part : goal.response_below-requires-clause-part
 response_below-requires-clause-part c =
-    rw c.without.ensures (remove-part c.args.set.now c.args.left c.loop-task.task c.requires.part)
+    rw c.without.ensures (remove-part c.args.set.now c.args.left c.loop-task.task c.requires)
 
 pub returns-in-Some-clause-chosen : goal.returns-in-Some-clause-chosen
 returns-in-Some-clause-chosen c =

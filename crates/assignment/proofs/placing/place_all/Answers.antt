@@ -15,8 +15,8 @@ loop-left-init c =
     IsPlaced-start c.args.set.now c.all-left.result _ c.in_ok-places.places.items c.all-left.ensures
     (ap (λ (U : List Task). length U) c.sheets.ensures.same) c.in_ok-places.ensures.items
 
-pub lowest-requires-clause-part : goal.lowest-requires-clause-part
-lowest-requires-clause-part c = IsPlaced-part c.args.set.now (indexes_of c.loop-left.left)
+pub lowest-requires : goal.lowest-requires
+lowest-requires c = IsPlaced-part c.args.set.now (indexes_of c.loop-left.left)
     c.loop-left.places.items c.loop-left.invariant
 
 pub loop-left-smaller : goal.loop-left-smaller

@@ -5,8 +5,8 @@ use Rattle.task_sheet.proofs.MembersIndexes.{indexes_of-remove}
 use Rattle.explain.specs.Conflict.{HoldsObstruction, IsGreatestWithin}
 use Rattle.explain.proofs.conflict.gone_through.Goals as goal
 
-pub greatest_within-requires-clause-part : goal.greatest_within-requires-clause-part
-greatest_within-requires-clause-part c = λ k h.
+pub greatest_within-requires : goal.greatest_within-requires
+greatest_within-requires c = λ k h.
     let less = ap indexes_of c.without.ensures ∙ indexes_of-remove c.args.tasks c.args.task in
     c.requires.part k (without-parts (indexes_of c.args.tasks) c.args.task k
     (ap (λ (X : Indexes). X k) (sym less) ∙ h)).0

@@ -10,8 +10,8 @@ use Rattle.explain.proofs.conflict.greatest_within.Goals as goal
 pub loop-task-init : goal.loop-task-init
 loop-task-init c = IsPeeled-start c.args.set.now (indexes_of c.args.tasks)
 
-pub standing-requires-clause-part : goal.standing-requires-clause-part
-standing-requires-clause-part c = λ k h. c.requires.part k (c.loop-task.invariant.part k h)
+pub standing-requires : goal.standing-requires
+standing-requires c = λ k h. c.requires k (c.loop-task.invariant.part k h)
 
 pub loop-task-smaller : goal.loop-task-smaller
 loop-task-smaller c = rw c.without-left.ensures
@@ -31,7 +31,7 @@ returns-then-is_empty-clause-none c =
 
 pub returns-else-is_empty-clause-some : goal.returns-else-is_empty-clause-some
 returns-else-is_empty-clause-some c =
-    IsPeeled-some c.args.set.now (indexes_of c.args.tasks) c.loop-task.left c.requires.part
+    IsPeeled-some c.args.set.now (indexes_of c.args.tasks) c.loop-task.left c.requires
     c.loop-task.invariant
     (λ none. both_ways c.is_empty.result c.if-is_empty.false (c.is_empty.ensures.1 none))
     c.in_default.ensures.none

@@ -11,7 +11,7 @@ loop-task-init c = refl
 pub gone_through-conflict-requires-clause-part : goal.gone_through-conflict-requires-clause-part
 gone_through-conflict-requires-clause-part c =
     (IsThin-left c.args.set.now (indexes_of c.args.obstruction) c.loop-task.task (indexes_of
-    c.loop-task.conflict) c.requires.obstruction c.loop-task.invariant).obstruction.within
+    c.loop-task.conflict) c.requires c.loop-task.invariant).obstruction.within
 
 pub loop-task-preserved : goal.loop-task-preserved
 loop-task-preserved c =
@@ -28,14 +28,14 @@ pub returns-clause-least : goal.returns-clause-least
 returns-clause-least c =
     let S = indexes_of c.args.obstruction in
     let C = indexes_of c.loop-task.conflict in
-    (left-least c.args.set.now S C c.requires.obstruction (at_end c.args.set.now S C
+    (left-least c.args.set.now S C c.requires (at_end c.args.set.now S C
     c.loop-task.task (omega (arith, c.len-task-end.ensures.count)) c.loop-task.invariant)).0
 
 pub returns-clause-part : goal.returns-clause-part
 returns-clause-part c =
     let S = indexes_of c.args.obstruction in
     let C = indexes_of c.loop-task.conflict in
-    (left-least c.args.set.now S C c.requires.obstruction (at_end c.args.set.now S C
+    (left-least c.args.set.now S C c.requires (at_end c.args.set.now S C
     c.loop-task.task (omega (arith, c.len-task-end.ensures.count)) c.loop-task.invariant)).1
 
 pub returns-clause-way : goal.returns-clause-way

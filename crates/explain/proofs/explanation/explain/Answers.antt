@@ -11,7 +11,7 @@ use Rattle.explain.proofs.explanation.explain.Goals as goal
 pub response_accounts-requires : goal.response_accounts-requires
 response_accounts-requires c =
     let U = c.args.set.now in
-    let best = subst (λ (p : Placing). IsPlacingOf U p) c.in-Best.is c.requires.placing in
+    let best = subst (λ (p : Placing). IsPlacingOf U p) c.in-Best.is c.requires in
     subst (λ (places : List PlaceData). AreInTime U places) (sym c.deref.ensures.value)
     (best-in_time U c.in-Best.places.items c.sheets-sheets.ensures.kept best)
 

@@ -6,7 +6,7 @@ use Rattle.task_sheet.specs.Levels.{IsObstruction, IsGreatestObstruction}
 use Rattle.assignment.specs.Placings.{IsPlacingOf}
 use Rattle.assignment.specs.declared.placing.Placing.{Placing}
 use Rattle.assignment.specs.declared.placing.Placing.TheVariants.{Stuck}
-use Rattle.factor.specs.Failing.{IsFree, IsLongestFree}
+use Rattle.latest_first.specs.LatestFirst.{IsFree, IsLatest}
 use Rattle.factor.proofs.ScaledSets.{few-factor}
 use Rattle.factor.proofs.FreeLaws.{some-free}
 use Rattle.factor.proofs.failing.first_to_fail.Goals as goal
@@ -42,8 +42,8 @@ unreachable-requires c =
     c.requires.factor.greatest (c.args.factor + 1) (omega arith) c.in-None.ensures.none feasible
 
 -- some task in the way need not stand above another of them, since with the factor some order passes
-pub unreachable-requires-in-None-longest_free : goal.unreachable-requires-in-None-longest_free
-unreachable-requires-in-None-longest_free c =
+pub unreachable-requires-in-None-latest : goal.unreachable-requires-in-None-latest
+unreachable-requires-in-None-latest c =
     let U = c.args.set.now in
     let V = c.in_ok-other.other in
     let S = indexes_of c.in-Stuck.tasks in
@@ -54,7 +54,7 @@ unreachable-requires-in-None-longest_free c =
     record { may = c.requires.factor.may; feasible = c.requires.factor.feasible }
     S (subst (λ (W : List Task). IsObstruction W S) same stuck.obstruction)
     (subst (λ (W : List Task). (j : ℕ) → ¬ IsFree W S j) same
-    c.in-None-longest_free.ensures.none)
+    c.in-None-latest.ensures.none)
 
 pub returns : goal.returns
 returns c =
@@ -68,7 +68,7 @@ returns c =
       (
         S,
         subst (λ (W : List Task). IsGreatestObstruction W S) same stuck,
-        subst (λ (W : List Task). IsLongestFree W S c.in-Some-longest_free.task) same
-            c.in-Some-longest_free.ensures.some,
+        subst (λ (W : List Task). IsLatest W S c.in-Some-latest.task) same
+            c.in-Some-latest.ensures.some,
       ),
     )

@@ -4,8 +4,8 @@ use Rattle.task_sheet.specs.Orders.{IsOrder, IsPassingOrder}
 use Rattle.factor.proofs.ScaledSets.{IsOrder-scaled}
 use Rattle.factor.proofs.in_order.order_passes_at.Goals as goal
 
-pub order_passes-requires-clause-each : goal.order_passes-requires-clause-each
-order_passes-requires-clause-each c =
+pub order_passes-requires : goal.order_passes-requires
+order_passes-requires c =
     let order = c.args.order.now in
     subst (λ (V : List Task). IsOrder V order) (sym c.in_ok-other.ensures.other)
     (IsOrder-scaled c.args.set.now c.args.factor order c.requires.each)

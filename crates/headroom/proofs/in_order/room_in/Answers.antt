@@ -39,8 +39,8 @@ without-above-requires c =
     inv.part inv.rest c.loop-low-test.true in
     omega (arith, inside, c.sheets.ensures.kept.few)
 
-pub response_in_time-requires-clause-task : goal.response_in_time-requires-clause-task
-response_in_time-requires-clause-task c =
+pub response_in_time-requires : goal.response_in_time-requires
+response_in_time-requires c =
     let inv = c.loop-low.invariant in
     low-inside c.args.set.now c.args.order.now c.loop-low.low-index c.loop-low.above inv.part
     inv.rest c.loop-low-test.true

@@ -13,8 +13,8 @@ use Rattle.judge.proofs.node.judge_rows.Goals as goal
 in_set : (U : List Task) (order : List ℕ) → IsOrder U order → All (λ i. i < length U) order
 in_set U order each = ((order_iff (length U) order).1 each).0
 
-pub judge_order-requires-clause-within : goal.judge_order-requires-clause-within
-judge_order-requires-clause-within c =
+pub judge_order-requires : goal.judge_order-requires
+judge_order-requires c =
     subst (λ (order : List ℕ). All (λ i. i < length c.args.set.now) order)
     (sym c.deref.ensures.value)
     (in_set c.args.set.now c.in_ok-order.order.items c.in_ok-order.ensures.by_numbers.each_once)

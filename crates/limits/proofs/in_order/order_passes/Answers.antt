@@ -14,7 +14,7 @@ loop-low-init c =
     ∙ indexes_of-all_below c.len.result ∙ ap (λ m. below m) c.len.ensures.count in
     record {
       part = subst (λ X. IsPart X (all_of U)) (sym all) (λ k h. h);
-      rest = subst (λ X. IsOrderOf X c.args.order.now) (sym all) c.requires.each;
+      rest = subst (λ X. IsOrderOf X c.args.order.now) (sym all) c.requires;
       stood = λ all. all;
     }
 
@@ -29,14 +29,14 @@ without-above-requires c =
       c.len.ensures.limit,
     )
 
-pub least_over-requires-clause-task : goal.least_over-requires-clause-task
-least_over-requires-clause-task c =
+pub least_over-requires : goal.least_over-requires
+least_over-requires c =
     let inv = c.loop-low.invariant in
     low-inside c.args.set.now c.args.order.now c.loop-low.low-index c.loop-low.above inv.part
     inv.rest c.loop-low-test.true
 
-pub passes-requires-clause-task : goal.passes-requires-clause-task
-passes-requires-clause-task c =
+pub passes-requires : goal.passes-requires
+passes-requires c =
     let inv = c.loop-low.invariant in
     low-inside c.args.set.now c.args.order.now c.loop-low.low-index c.loop-low.above inv.part
     inv.rest c.loop-low-test.true

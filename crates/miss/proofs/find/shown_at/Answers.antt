@@ -12,8 +12,8 @@ use Rattle.miss.proofs.PlaceLaws.{need_not_there, run_is}
 use Rattle.miss.proofs.NoneLaws.{case_there, none_there}
 use Rattle.miss.proofs.find.shown_at.Goals as goal
 
-pub passes-requires-clause-task : goal.passes-requires-clause-task
-passes-requires-clause-task c =
+pub passes-requires : goal.passes-requires
+passes-requires c =
     place_known c.args.set.now c.args.order.now c.requires.order c.args.place c.requires.place
 
 pub returns-in-Some-clause-shown : goal.returns-in-Some-clause-shown

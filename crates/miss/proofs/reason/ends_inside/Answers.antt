@@ -7,7 +7,7 @@ use Rattle.miss.proofs.reason.ends_inside.Goals as goal
 pub returns-then-is_raised : goal.returns-then-is_raised
 returns-then-is_raised c =
     let read = task_read c.args.set.now c.sheets.result.now c.args.task c.index-sheets-task.result
-    c.sheets.ensures.same c.requires.task c.index-sheets-task.is in
+    c.sheets.ensures.same c.requires c.index-sheets-task.is in
     found_inside c.args.set.now c.args.task (indexes_of c.args.above) c.index-sheets-task.result
     c.sections-section-items.result.now c.saturating_sub-last.result read
     c.sections-section-items.ensures
@@ -18,7 +18,7 @@ returns-then-is_raised c =
 pub loop-section-preserved : goal.loop-section-preserved
 loop-section-preserved c =
     let read = task_read c.args.set.now c.sheets.result.now c.args.task c.index-sheets-task.result
-    c.sheets.ensures.same c.requires.task c.index-sheets-task.is in
+    c.sheets.ensures.same c.requires c.index-sheets-task.is in
     more_inside c.args.set.now c.args.task (indexes_of c.args.above) c.index-sheets-task.result
     c.sections-section-items.result.now c.saturating_sub-last.result read
     c.sections-section-items.ensures
@@ -30,7 +30,7 @@ loop-section-preserved c =
 pub returns : goal.returns
 returns c =
     let read = task_read c.args.set.now c.sheets.result.now c.args.task c.index-sheets-task.result
-    c.sheets.ensures.same c.requires.task c.index-sheets-task.is in
+    c.sheets.ensures.same c.requires c.index-sheets-task.is in
     none_inside c.args.set.now c.args.task (indexes_of c.args.above) c.index-sheets-task.result
     c.sections-section-items.result.now c.saturating_sub-last.result read
     c.sections-section-items.ensures

@@ -8,8 +8,8 @@ use Rattle.miss.proofs.ShownLaws.{fails_above_at, all_above}
 use Rattle.miss.proofs.PlaceLaws.{passes_there, fails_there}
 use Rattle.miss.proofs.reason.fails_above.Goals as goal
 
-pub passes-holds-requires-clause-task : goal.passes-holds-requires-clause-task
-passes-holds-requires-clause-task c = place_known c.args.set.now c.args.order.now c.requires.order
+pub passes-holds-requires : goal.passes-holds-requires
+passes-holds-requires c = place_known c.args.set.now c.args.order.now c.requires.order
     c.loop-higher.higher c.loop-higher-test.true
 
 pub returns-then-not-holds-clause-some : goal.returns-then-not-holds-clause-some

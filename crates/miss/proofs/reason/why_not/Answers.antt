@@ -11,8 +11,8 @@ use Rattle.miss.proofs.PlaceLaws.{raised_there, low_there, uninterrupted_there, 
 use Rattle.miss.proofs.NoneLaws.{done_there}
 use Rattle.miss.proofs.reason.why_not.Goals as goal
 
-pub ends_inside-requires-clause-task : goal.ends_inside-requires-clause-task
-ends_inside-requires-clause-task c =
+pub ends_inside-requires : goal.ends_inside-requires
+ends_inside-requires c =
     place_known c.args.set.now c.args.order.now c.requires.order c.args.place c.requires.place
 
 pub returns-then-ends_inside : goal.returns-then-ends_inside
@@ -31,8 +31,8 @@ returns-then-ends_inside c =
           c.if-ends_inside.true,
     )
 
-pub passes_uninterrupted-requires-clause-task : goal.passes_uninterrupted-requires-clause-task
-passes_uninterrupted-requires-clause-task c =
+pub passes_uninterrupted-requires : goal.passes_uninterrupted-requires
+passes_uninterrupted-requires c =
     place_known c.args.set.now c.args.order.now c.requires.order c.args.place c.requires.place
 
 pub returns-then-passes_uninterrupted : goal.returns-then-passes_uninterrupted

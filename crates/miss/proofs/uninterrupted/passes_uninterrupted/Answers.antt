@@ -14,7 +14,7 @@ loop-time-preserved c =
     let inv = c.loop-time.invariant in
     let next = work-is U c.sheets.result.now c.args.task H c.loop-time.time c.cost.result
     c.blocking.result c.interference_within.result c.index-sheets-task.result
-    c.sheets.ensures.same c.requires.task c.index-sheets-task.is c.cost.ensures
+    c.sheets.ensures.same c.requires c.index-sheets-task.is c.cost.ensures
     c.blocking.ensures.is c.interference_within.ensures.is in
     record {
       positive = omega (arith, inv.positive, c.if-next-time.false);
@@ -29,11 +29,11 @@ returns-then-next-time c =
     let U = c.args.set.now in
     let next = work-is U c.sheets.result.now c.args.task (indexes_of c.args.above) c.loop-time.time
     c.cost.result c.blocking.result c.interference_within.result c.index-sheets-task.result
-    c.sheets.ensures.same c.requires.task c.index-sheets-task.is c.cost.ensures
+    c.sheets.ensures.same c.requires c.index-sheets-task.is c.cost.ensures
     c.blocking.ensures.is c.interference_within.ensures.is in
     let limit : c.limit-limit.result ≡ limit_of (task_at U c.args.task) = c.limit-limit.ensures.same
     ∙ ap (λ t. limit_of t) (task_read U c.sheets.result.now c.args.task
-    c.index-sheets-task.result c.sheets.ensures.same c.requires.task c.index-sheets-task.is) in (
+    c.index-sheets-task.result c.sheets.ensures.same c.requires c.index-sheets-task.is) in (
       λ _. (
         c.loop-time.time,
         c.loop-time.invariant.positive,
@@ -48,7 +48,7 @@ returns c =
     let U = c.args.set.now in
     let limit : c.limit-limit.result ≡ limit_of (task_at U c.args.task) = c.limit-limit.ensures.same
     ∙ ap (λ t. limit_of t) (task_read U c.sheets.result.now c.args.task
-    c.index-sheets-task.result c.sheets.ensures.same c.requires.task c.index-sheets-task.is) in (
+    c.index-sheets-task.result c.sheets.ensures.same c.requires c.index-sheets-task.is) in (
       λ yes. absurd (true≢false (sym yes)),
       λ covers. absurd (omega (
         arith,

@@ -12,8 +12,8 @@ use Rattle.observed.proofs.PlaceLaws.{best-within}
 use Rattle.observed.proofs.SightLaws.{fault-shown}
 use Rattle.observed.proofs.sight.observe_at.Goals as goal
 
-pub observe_places-requires-clause-tasks : goal.observe_places-requires-clause-tasks
-observe_places-requires-clause-tasks c =
+pub observe_places-requires : goal.observe_places-requires
+observe_places-requires c =
     let U = c.args.set.now in
     let placing : IsBestPlacing U c.in-Best.places.items =
     subst (IsPlacingOf U) c.in-Best.is c.in_ok-members.ensures in

@@ -21,8 +21,8 @@ returns-in_default-clause-answer c =
       c.in-Ok.ensures.sound,
     )
 
-pub observe_places-requires-clause-tasks : goal.observe_places-requires-clause-tasks
-observe_places-requires-clause-tasks c =
+pub observe_places-requires : goal.observe_places-requires
+observe_places-requires c =
     let U = c.args.tasks.now in
     let judged = c.in-Ok-judge_rows.node.judged.items in
     let places = c.in-Some.places.items in

@@ -5,9 +5,9 @@ use Rattle.two_input_commands.specs.Simulate.{RunsOrder}
 use Rattle.two_input_commands.proofs.Ordered.{order_within, ordered_run}
 use Rattle.two_input_commands.proofs.simulate.simulate_in.Goals as goal
 
-pub judge_order-requires-clause-within : goal.judge_order-requires-clause-within
-judge_order-requires-clause-within c =
-    order_within c.args.tasks.now c.args.order.now c.requires.order
+pub judge_order-requires : goal.judge_order-requires
+judge_order-requires c =
+    order_within c.args.tasks.now c.args.order.now c.requires
 
 pub returns : goal.returns
 returns c =
@@ -23,5 +23,5 @@ returns c =
       refl,
       refl,
       ordered_run U c.in_ok-judged.judged.items c.args.order.now rs c.args.until trace set
-          c.requires.order c.in_ok-judged.ensures.order c.in_ok-judged.ensures.judged runs,
+          c.requires c.in_ok-judged.ensures.order c.in_ok-judged.ensures.judged runs,
     )

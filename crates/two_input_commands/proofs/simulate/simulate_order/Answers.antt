@@ -4,8 +4,8 @@ use Rattle.two_input_commands.specs.Simulate.{SimulatesIn}
 use Rattle.two_input_commands.proofs.Ordered.{in_order, no_order}
 use Rattle.two_input_commands.proofs.simulate.simulate_order.Goals as goal
 
-pub simulate_in-requires-clause-order : goal.simulate_in-requires-clause-order
-simulate_in-requires-clause-order c =
+pub simulate_in-requires : goal.simulate_in-requires
+simulate_in-requires c =
     subst (λ (order : List ℕ). IsOrder c.args.tasks.now order) (sym c.deref.ensures.value)
     c.in-Ok.ensures.by_numbers.each_once
 

@@ -9,8 +9,8 @@ loop-next-init c =
     c.in_ok-order.order.items c.push.new.self.items c.without-left.ensures c.in_ok-order.ensures
     c.in_ok-push.ensures.items
 
-pub standing-requires-clause-part : goal.standing-requires-clause-part
-standing-requires-clause-part c =
+pub standing-requires : goal.standing-requires
+standing-requires c =
     below_part c.args.set.now (indexes_of c.args.conflict) (indexes_of c.loop-next.left) c.args.task
     c.loop-next.order.items c.requires.conflict.obstruction.within c.loop-next.invariant
 

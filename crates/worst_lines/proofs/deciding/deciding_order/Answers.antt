@@ -11,8 +11,8 @@ loop-task-init c =
     sofar_start c.args.set.now c.all-left.result _ c.in_ok-order.order.items c.all-left.ensures
     (ap (λ (U : List Task). length U) c.sheets.ensures.same) c.in_ok-order.ensures.items
 
-pub next-requires-clause-part : goal.next-requires-clause-part
-next-requires-clause-part c = sofar_part c.args.set.now (indexes_of c.loop-task.left)
+pub next-requires : goal.next-requires
+next-requires c = sofar_part c.args.set.now (indexes_of c.loop-task.left)
     c.loop-task.order.items c.loop-task.invariant
 
 pub without-left-requires : goal.without-left-requires

@@ -3,8 +3,8 @@ use Rattle.worst_lines.specs.Deciding.{IsDeciding}
 use Rattle.judge.proofs.TaskLaws.{in_set}
 use Rattle.worst_lines.proofs.deciding.judge_deciding.Goals as goal
 
-pub judge_order-requires-clause-within : goal.judge_order-requires-clause-within
-judge_order-requires-clause-within c =
+pub judge_order-requires : goal.judge_order-requires
+judge_order-requires c =
     subst (λ (order : List ℕ). All (λ i. i < length c.args.set.now) order)
     (sym c.deref.ensures.value)
     (in_set c.args.set.now c.in_ok-order.order.items c.in_ok-order.ensures.each_once)

@@ -12,5 +12,5 @@ returns-then-has-clause-order c =
     let C = indexes_of c.args.conflict in
     IfOk-weaker c.order_below.result (λ order. IsOrderBelow U C c.in-Some.task order.items)
     (λ order. IsOrder U order.items)
-    (λ order is. below-order U C c.in-Some.task order.items c.requires.conflict.obstruction.within
+    (λ order is. below-order U C c.in-Some.task order.items c.requires.obstruction.within
     (sym c.has.ensures ∙ c.if-has.true) is) c.order_below.ensures

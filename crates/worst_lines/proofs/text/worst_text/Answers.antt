@@ -4,8 +4,8 @@ use Rattle.judge.specs.declared.judging.JudgedTask.{JudgedTask}
 use Rattle.judge.proofs.TaskLaws.{in_set, judged_in_set}
 use Rattle.worst_lines.proofs.text.worst_text.Goals as goal
 
-pub judge_order-requires-clause-within : goal.judge_order-requires-clause-within
-judge_order-requires-clause-within c =
+pub judge_order-requires : goal.judge_order-requires
+judge_order-requires c =
     subst (λ (order : List ℕ). All (λ i. i < length c.args.set.now) order)
     (sym c.deref.ensures.value)
     (in_set c.args.set.now c.in_ok-order.order.items c.in_ok-order.ensures.order)
