@@ -10,3 +10,4 @@ pub mod CandidateLaws
 pub mod FeasibilityLaws
 pub mod PlacingLaws
 pub mod VerdictPlacings
+pub mod MemberLaws

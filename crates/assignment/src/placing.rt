@@ -1,6 +1,5 @@
 //! The best order of a set with its responses, with nothing kept that shows it best (Audsley 1991).
-ghost use Rattle.std.specs.Prelude.{◌≡◌, ◌<◌, ◌≤◌, length, IsTrue, IfOk, IfSome, IfNone};
-ghost use Rattle.task_sheet.specs.Sheet.{task_at};
+ghost use Rattle.std.specs.Prelude.{◌≡◌, ◌<◌, length, IfOk, IfSome, IfNone};
 ghost use Rattle.task_sheet.specs.Indexes.{indexes_of, without_index, IsPart};
 ghost use Rattle.task_sheet.specs.Demand.{IsResponseOf};
 ghost use Rattle.task_sheet.specs.Orders.{all_of, Stands};

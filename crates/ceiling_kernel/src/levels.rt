@@ -1,6 +1,5 @@
 //! Orders, and the levels and ceilings that they give.
-ghost use Rattle.std.specs.Prelude.{◌≡◌, ◌<◌, ◌≤◌, ℕ, List, length, count_by, ◌==◌, IsTrue, ◌↔◌, All};
-ghost use Rattle.task_sheet.specs.Sheet.{Task};
+ghost use Rattle.std.specs.Prelude.{◌≡◌, ◌<◌, ◌≤◌, ℕ, length, count_by, ◌==◌, IsTrue, ◌↔◌, All};
 ghost use Rattle.task_sheet.specs.declared.set.TheConstants.{TASK_LIMIT};
 ghost use Rattle.task_sheet.specs.Orders.{IsOrderOf};
 ghost use Rattle.task_sheet.specs.Indexes.{below};

@@ -1,13 +1,13 @@
 -- The responses of an order, each with its parts.
-use Rattle.std.proofs.Common.{◌≡◌, ℕ, ◌+◌, ◌<◌, ◌≤◌, Bool, true, false, ◌==◌, ◌||◌, inl, inr, List}
-use Rattle.std.proofs.Common.{[], ◌∷◌, ◌++◌, length, get_or, drop, All, append_assoc, refl, sym}
+use Rattle.std.proofs.Common.{◌≡◌, ℕ, ◌+◌, ◌<◌, ◌≤◌, List}
+use Rattle.std.proofs.Common.{[], ◌∷◌, ◌++◌, length, get_or, All, append_assoc, sym}
 use Rattle.std.proofs.Common.{◌∙◌, ap, subst, arith}
-use Rattle.std.proofs.lemmas.Bool.{cases_eq, eq-eqb, ne_eqb, ltb-true}
-use Rattle.std.proofs.lemmas.List.{drop_more, get_or-map, length-map}
+use Rattle.std.proofs.lemmas.Bool.{ltb-true}
+use Rattle.std.proofs.lemmas.List.{get_or-map, length-map}
 use Rattle.std.proofs.lemmas.List.Elements.{All-from_recursion}
 use Rattle.task_sheet.specs.Sheet.{Task, AllTasks}
 use Rattle.task_sheet.specs.TaskSet.{IsTaskSet}
-use Rattle.task_sheet.specs.Indexes.{Indexes, IsPart, with_index, without_index, among}
+use Rattle.task_sheet.specs.Indexes.{Indexes, IsPart, without_index, among}
 use Rattle.task_sheet.specs.Demand.{IsResponseOf}
 use Rattle.task_sheet.specs.Orders.{all_of, IsOrderOf, AllStand}
 use Rattle.task_sheet.proofs.IndexLaws.{without-part_of, IsOrderOf-among, IsOrderOf-head}
@@ -56,44 +56,6 @@ pub best-in_time : (U : List Task) (places : List PlaceData) → IsTaskSet U →
 best-in_time U places set best =
     in-time U (AllTasks-from_set U set) (all_of U) places best.best.passing.each_once (λ k h. h)
     best.each best.best.passing.each_stands
-
--- ---- which tasks
-flip : (i k : ℕ) → (k == i) ≡ (i == k)
-flip i k = elim (cases_eq k i) [
-  | inl e ↦ eq-eqb k i e ∙ sym (eq-eqb i k (sym e))
-  | inr ne ↦ ne_eqb k i ne ∙ sym (ne_eqb i k (λ e. ne (sym e)))
-]
-
-moved : (a b c : Bool) → ((a || b) || c) ≡ (b || (a || c))
-moved true true c = refl
-moved true false c = refl
-moved false b c = refl
-
-pub among-more : (members : Indexes) (i : ℕ) (names all : List ℕ)
-    → ((k : ℕ) → (members k || among (i ∷ names) k) ≡ among all k) → (k : ℕ)
-    → (with_index members i k || among names k) ≡ among all k
-among-more members i names all before k =
-    ap (λ b. (b || members k) || among names k) (flip i k)
-    ∙ moved (i == k) (members k) (among names k) ∙ before k
-
--- a place further
-pub among-next : (before after : Indexes) (places : List PlaceData) (idx : ℕ) (p : PlaceData)
-    (i : ℕ) → idx < length places → p ≡ get_or places idx p → p.task ≡ i
-    → after ≡ with_index before i
-    → ((k : ℕ) → (before k || among (tasks_of_places (drop idx places)) k)
-    ≡ among (tasks_of_places places) k)
-    → (k : ℕ) → (after k || among (tasks_of_places (drop (idx + 1) places)) k)
-    ≡ among (tasks_of_places places) k
-among-next before after places idx p i lt is same more so k =
-    let rest = drop (idx + 1) places in
-    let here : drop idx places ≡ p ∷ rest = drop_more places idx p lt
-    ∙ ap (λ (q : PlaceData). q ∷ rest) (sym is) in
-    let names : tasks_of_places (drop idx places) ≡ i ∷ tasks_of_places rest =
-    ap (λ (ps : List PlaceData). tasks_of_places ps) here
-    ∙ ap (λ n. n ∷ tasks_of_places rest) same in
-    ap (λ (X : Indexes). X k || among (tasks_of_places rest) k) more
-    ∙ among-more before i (tasks_of_places rest) (tasks_of_places places)
-    (λ j. ap (λ ns. before j || among ns j) (sym names) ∙ so j) k
 
 pub places-within : (n m : ℕ) (places : List PlaceData) → n ≤ m
     → All (λ k. k < n) (tasks_of_places places) → All (λ (p : PlaceData). p.task < m) places

@@ -1,15 +1,12 @@
 //! Times of tasks, each with what it is made of.
-ghost use Rattle.std.specs.Prelude.{◌≡◌, ◌<◌, length, reverse, All, IfOk};
-ghost use Rattle.task_sheet.specs.declared.set.TheConstants.{TASK_LIMIT};
-ghost use Rattle.task_sheet.specs.Indexes.{indexes_of, among};
+ghost use Rattle.std.specs.Prelude.{◌≡◌, ◌<◌, reverse, IfOk};
 ghost use Rattle.assignment.specs.Placings.{tasks_of_places};
 ghost use Rattle.explain.specs.Accounts.{AreInTime, AreResponseAccounts, IsInTime, IsResponseAccount};
 
 use crate::parts::{Parts, parts_of};
-use assignment::Place;
+use assignment::{Place, members_at};
 use ceilings::Tabled;
 use std::alloc::{AllocError, Global};
-use task_sheet::Members;
 
 /// A time of a task, by its index, in microseconds from its arrival, the task's deadline, and the parts of the time.
 #[derive(Drop)]
@@ -18,18 +15,6 @@ pub struct Account {
     pub time: u64,
     pub deadline: u64,
     pub parts: Parts,
-}
-
-// The tasks of some places.
-fn members_of(places: &[Place]) -> Members
-    requires { All (λ p. p.task < TASK_LIMIT) places.now }
-    ensures { indexes_of result ≡ among (tasks_of_places places.now) }
-{
-    let mut members = Members::empty();
-    for place in places {
-        members = members.with(place.task);
-    }
-    members
 }
 
 // The tasks of some places, the last first.
@@ -58,7 +43,7 @@ fn response_account(
     let order = falling_tasks(alloc, above)?;
     let sheet = &set.sheets()[place.task];
     let window = place.response - sheet.jitter();
-    let parts = parts_of(alloc, set, place.task, members_of(above), &order, window)?;
+    let parts = parts_of(alloc, set, place.task, members_at(above), &order, window)?;
     Ok(Account {
         task: place.task,
         time: place.response,

@@ -1,5 +1,5 @@
 //! A least conflict of a set (Audsley 1991).
-ghost use Rattle.std.specs.Prelude.{◌≡◌, ◌<◌, length, IsTrue, IsFalse, IfSome, IfNone};
+ghost use Rattle.std.specs.Prelude.{◌<◌, length, IfSome, IfNone};
 ghost use Rattle.task_sheet.specs.declared.set.TheConstants.{TASK_LIMIT};
 ghost use Rattle.task_sheet.specs.Indexes.{indexes_of, IsPart};
 ghost use Rattle.task_sheet.specs.Orders.{all_of};

@@ -1,7 +1,7 @@
 //! What the tasks of a conflict need.
 ghost use Rattle.std.specs.Prelude.{◌≡◌, ◌<◌, ◌≤◌, length, reverse, All, IfOk, IsTrue};
 ghost use Rattle.task_sheet.specs.Sheet.{task_at};
-ghost use Rattle.task_sheet.specs.Indexes.{indexes_of, listed_below, IsPart};
+ghost use Rattle.task_sheet.specs.Indexes.{indexes_of, listed_below};
 ghost use Rattle.task_sheet.specs.Responses.{IsFullChain};
 ghost use Rattle.task_sheet.specs.Demand.{Passes, demand_of, limit_of};
 ghost use Rattle.task_sheet.specs.Levels.{IsObstruction};

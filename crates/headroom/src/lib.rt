@@ -2,9 +2,8 @@
 //! Times are whole microseconds.
 #![tactic(auto)]
 
-ghost use Rattle.std.specs.Prelude.{◌≡◌, ◌↔◌, ◌<◌, ◌≤◌, length, IsTrue, IfOk, IfSome, IfNone};
-ghost use Rattle.task_sheet.specs.Sheet.{task_at};
-ghost use Rattle.task_sheet.specs.Orders.{IsPassingOrder, IsFeasible};
+ghost use Rattle.std.specs.Prelude.{◌<◌, ◌≤◌, length, IfOk, IfSome, IfNone};
+ghost use Rattle.task_sheet.specs.Orders.{IsFeasible};
 ghost use Rattle.headroom.specs.Costs.{costed, MayCost, AnswersHeadroom, IsHeadroom};
 
 mod costs;

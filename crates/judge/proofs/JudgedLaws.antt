@@ -1,43 +1,14 @@
 -- The tasks of an order, judged one after the other.
-use Rattle.std.proofs.Common.{◌≡◌, ◌∙◌, ℕ, ◌+◌, ◌<◌, ◌≤◌, inl, inr, Bool, true, false, ◌||◌, ◌==◌}
-use Rattle.std.proofs.Common.{List, [], ◌∷◌, ◌++◌, length, get_or, take, drop, append-nil, refl}
+use Rattle.std.proofs.Common.{◌≡◌, ◌∙◌, ℕ, ◌+◌, ◌<◌, ◌≤◌}
+use Rattle.std.proofs.Common.{List, [], ◌∷◌, ◌++◌, length, get_or, take, drop, append-nil}
 use Rattle.std.proofs.Common.{sym, ap, subst, append_assoc}
-use Rattle.std.proofs.Math.Path.{fun_ext}
-use Rattle.std.specs.Ordering.{nat_cmp}
 use Rattle.std.specs.FinSet as set
-use Rattle.std.proofs.lemmas.Bool.{cases_eq, eq-eqb, ne_eqb}
 use Rattle.std.proofs.lemmas.List.{drop_more, take_more, take_all, map_push}
 use Rattle.std.proofs.Math.ListN.{drop_of_length-le}
-use Rattle.std.proofs.lemmas.List.Folds.{list_any-append}
 use Rattle.task_sheet.specs.Sheet.{Task}
-use Rattle.task_sheet.specs.Indexes.{among, indexes_of, with_index}
-use Rattle.task_sheet.proofs.MembersIndexes.{indexes_of-insert}
+use Rattle.task_sheet.specs.Indexes.{among}
 use Rattle.judge.specs.Judgements.{AllJudged, IsJudgementOf, order_judged}
 use Rattle.judge.specs.declared.judging.JudgedTask.{JudgedTask}
-
-or_turned : (b c : Bool) → (b || (c || false)) ≡ (c || b)
-or_turned true true = refl
-or_turned true false = refl
-or_turned false true = refl
-or_turned false false = refl
-
-pub turned : (i k : ℕ) → (i == k) ≡ (k == i)
-turned i k = elim (cases_eq i k) [
-  | inl e ↦ eq-eqb i k e ∙ sym (eq-eqb k i (sym e))
-  | inr ne ↦ ne_eqb i k ne ∙ sym (ne_eqb k i (λ e. ne (sym e)))
-]
-
-among-push : (xs : List ℕ) (i : ℕ) → among (xs ++ i ∷ []) ≡ with_index (among xs) i
-among-push xs i = fun_ext (λ k. list_any-append (λ x. x == k) xs (i ∷ [])
-    ∙ or_turned (among xs k) (i == k) ∙ ap (λ b. b || among xs k) (turned i k))
-
--- one more member
-pub members_step : (m n : set.FinSet nat_cmp) (xs : List ℕ) (k : ℕ) → k < length xs → indexes_of m
-    ≡ among (take k xs) → n ≡ set.insert m (get_or xs k 0) → indexes_of n ≡ among (take (k + 1) xs)
-members_step m n xs k lt so is =
-    ap indexes_of is ∙ indexes_of-insert m (get_or xs k 0)
-    ∙ ap (λ H. with_index H (get_or xs k 0)) so
-    ∙ sym (among-push (take k xs) (get_or xs k 0)) ∙ ap among (sym (take_more xs k 0 lt))
 
 -- those that are judged so far, in front of the rest of the order
 pub record IsJudgedTo (U : List Task) (order : List ℕ) (place : ℕ)

@@ -16,7 +16,7 @@ use Rattle.judge.specs.Judgements.{does_meet}
 use Rattle.judge.specs.Lines.{missed_of}
 use Rattle.judge.specs.declared.judging.JudgedTask.{JudgedTask}
 use Rattle.judge.specs.declared.judging.Judgement.TheVariants.{Meets}
-use Rattle.judge.proofs.JudgedLaws.{turned}
+use Rattle.assignment.proofs.MemberLaws.{turned}
 
 -- stands past the end of a list
 abbrev pub no_judged : JudgedTask

@@ -9,9 +9,10 @@ ghost use Rattle.explain.specs.Lines.{level_account_lines};
 ghost use Rattle.judge.specs.Explained.{AreAskedLines, AreExplained, AreLevelLines, AreLevels, AreMetLines, is_asked, judged_line, load_asked};
 ghost use Rattle.judge.specs.Judgements.{AllJudged, IsJudgementOf, order_judged};
 
-use crate::judging::{JudgedTask, Judgement, members_of};
+use crate::judging::{JudgedTask, Judgement};
 use crate::missed::{missed_account, missed_text};
 use crate::text::push_judged;
+use assignment::members_of;
 use ceilings::Tabled;
 use explain::{Account, load, parts_of, parts_text};
 use lines::push_name;

@@ -1,10 +1,9 @@
 //! Whether each task of an order meets its deadline (Audsley et al. 1993).
 ghost use Rattle.std.specs.Prelude.{◌≡◌, ◌<◌, ◌+◌, length, slice_index, drop, All, IfOk};
-ghost use Rattle.task_sheet.specs.declared.set.TheConstants.{TASK_LIMIT};
 ghost use Rattle.task_sheet.specs.Indexes.{among, indexes_of};
 ghost use Rattle.judge.specs.Judgements.{AllJudged, IsJudgementOf, all_meet, does_meet, order_judged};
 
-use assignment::least_over;
+use assignment::{least_over, members_of};
 use ceilings::Tabled;
 use response_time::response_in_time;
 use std::alloc::{AllocError, Global};
@@ -26,18 +25,6 @@ pub enum Judgement {
 pub struct JudgedTask {
     pub task: usize,
     pub judgement: Judgement,
-}
-
-// The tasks of a list.
-pub(crate) fn members_of(order: &[usize]) -> Members
-    requires { All (λ index. index < TASK_LIMIT) order.now }
-    ensures { indexes_of result ≡ among order.now }
-{
-    let mut members = Members::empty();
-    for task in order {
-        members = members.with(*task);
-    }
-    members
 }
 
 // What becomes of a task with these above it.

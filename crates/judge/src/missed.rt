@@ -1,15 +1,13 @@
 //! What a task needs that misses its deadline in an order.
-ghost use Rattle.std.specs.Prelude.{◌≡◌, ◌++◌, ◌<◌, length, codes, All, IfOk, string_bytes};
-ghost use Rattle.std.specs.Fmt.{decimal};
+ghost use Rattle.std.specs.Prelude.{◌≡◌, ◌<◌, length, All, IfOk, string_bytes};
 ghost use Rattle.task_sheet.specs.Indexes.{among};
 ghost use Rattle.task_sheet.specs.Demand.{Passes};
-ghost use Rattle.lines.specs.Naming.{name_at};
-ghost use Rattle.explain.specs.Lines.{parts_lines};
 ghost use Rattle.judge.specs.Judgements.{order_judged};
 ghost use Rattle.judge.specs.Missed.{IsMissedBelow, missed_lines};
 
 use crate::explained::order_of;
-use crate::judging::{JudgedTask, members_of};
+use crate::judging::JudgedTask;
+use assignment::members_of;
 use ceilings::Tabled;
 use explain::{Account, needs_account, parts_text};
 use lines::push_name;

@@ -1,5 +1,5 @@
 //! What becomes of the tasks of a node.
-ghost use Rattle.std.specs.Prelude.{◌≡◌, ◌<◌, All, MatchResult, Ok, IfOk};
+ghost use Rattle.std.specs.Prelude.{◌<◌, All, MatchResult, Ok, IfOk};
 ghost use Rattle.task_sheet.specs.declared.set.TheConstants.{TASK_LIMIT};
 ghost use Rattle.judge.specs.Faults.{IsSettingsFault, rows_fault, settings_fault_by};
 ghost use Rattle.judge.specs.Judgements.{AllJudged, order_judged};

@@ -1,5 +1,5 @@
 //! Reading settings.
-ghost use Rattle.std.specs.Prelude.{◌≡◌, Ok, MatchResult};
+ghost use Rattle.std.specs.Prelude.{Ok, MatchResult};
 ghost use Rattle.judge.specs.Faults.{IsSettingsFault, rows_fault, settings_fault, settings_fault_by};
 ghost use Rattle.judge.specs.Node.{IsNodeOrder, IsNodeOrderBy, IsOrderOfRows};
 

@@ -1,7 +1,7 @@
 //! The first reason why threads and mutexes are no settings of a set.
 ghost use Rattle.std.specs.Prelude.{◌≡◌, ℕ, Bool, not, ◌==◌, List, [], find};
 ghost use Rattle.std.specs.List.{list_any};
-ghost use Rattle.ceilings.specs.IsTableOf.{IsTableOf, locks_of};
+ghost use Rattle.ceilings.specs.IsTableOf.{locks_of};
 ghost use Rattle.judge.specs.Faults.{ceiling_fault, is_no_lock, is_no_task, is_set, line_again, line_where, mutexless, setting_number, setting_fault, share, threadless, top_number, wrong_lock};
 
 use crate::fault::SettingsFault;

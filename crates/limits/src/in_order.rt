@@ -1,5 +1,5 @@
 //! Numbers with which a given order of the set passes.
-ghost use Rattle.std.specs.Prelude.{◌≡◌, ◌↔◌, ◌<◌, length, IsTrue, IfOk};
+ghost use Rattle.std.specs.Prelude.{◌↔◌, ◌<◌, length, IsTrue, IfOk};
 ghost use Rattle.task_sheet.specs.Sheet.{task_at};
 ghost use Rattle.task_sheet.specs.Orders.{IsOrder, IsPassingOrder};
 ghost use Rattle.limits.specs.Numbers.{HasNumber, MayHave, numbered};

@@ -1,50 +1,20 @@
 -- Members by their indexes, and how late tasks may be.
-use Rattle.std.proofs.Common.{◌≡◌, ◌∙◌, ℕ, zero, suc, ◌+◌, ◌<◌, ◌≤◌, inl, inr, Option, Some, None}
-use Rattle.std.proofs.Common.{Bool, true, false, ◌||◌, ◌==◌, List, [], ◌∷◌, ◌++◌, length, map}
-use Rattle.std.proofs.Common.{get_or, take, drop, refl, sym, ap, subst, max, arith}
-use Rattle.std.proofs.Math.Path.{fun_ext}
-use Rattle.std.proofs.lemmas.List.Folds.{list_any-append}
+use Rattle.std.proofs.Common.{◌≡◌, ◌∙◌, ℕ, zero, suc, ◌+◌, ◌<◌, ◌≤◌, Option, Some, None}
+use Rattle.std.proofs.Common.{List, [], ◌∷◌, ◌++◌, length, map}
+use Rattle.std.proofs.Common.{get_or, take, drop, sym, ap, subst, max, arith}
 use Rattle.std.specs.FinSet as set
-use Rattle.std.specs.Ordering.{nat_cmp}
-use Rattle.std.proofs.lemmas.Bool.{cases_eq, eq-eqb, ne_eqb}
 use Rattle.std.proofs.lemmas.List.{take_more, drop_more, get_or_default, map-append}
 use Rattle.task_sheet.specs.Sheet.{Task, CriticalSection, IsSection, AreSections, IsValidSheet}
 use Rattle.task_sheet.specs.Sheet.{no_task, task_at}
 use Rattle.task_sheet.specs.TaskSet.{IsTaskSet}
 use Rattle.task_sheet.specs.Demand.{greatest_of, limit_of}
-use Rattle.task_sheet.specs.Indexes.{Indexes, indexes_of, with_index, among}
-use Rattle.task_sheet.proofs.MembersIndexes.{indexes_of-insert}
+use Rattle.task_sheet.specs.Indexes.{Indexes}
 use Rattle.ceiling_kernel.specs.Waits.{lateness_of}
 use Rattle.std.proofs.lemmas.Option.{slice_get_within}
 use Rattle.explain.specs.Blocking.{BlockerData, BlocksAt, IsFirstBlocker, IsBlockerOf}
 use Rattle.release_list.specs.Densest.{stream_of}
 use Rattle.release_list.specs.declared.stream.Stream.{Stream}
 use Rattle.miss.specs.Misses.{IsInSet, member_stream}
-
-or_turned : (b c : Bool) → (b || (c || false)) ≡ (c || b)
-or_turned true true = refl
-or_turned true false = refl
-or_turned false true = refl
-or_turned false false = refl
-
-pub turned : (i k : ℕ) → (i == k) ≡ (k == i)
-turned i k = elim (cases_eq i k) [
-  | inl e ↦ eq-eqb i k e ∙ sym (eq-eqb k i (sym e))
-  | inr ne ↦ ne_eqb i k ne ∙ sym (ne_eqb k i (λ e. ne (sym e)))
-]
-
-among-push : (xs : List ℕ) (i : ℕ) → among (xs ++ i ∷ []) ≡ with_index (among xs) i
-among-push xs i = fun_ext (λ k. list_any-append (λ x. x == k) xs (i ∷ [])
-    ∙ or_turned (among xs k) (i == k) ∙ ap (λ b. b || among xs k) (turned i k))
-
--- one more member
-
-pub members_step : (m n : set.FinSet nat_cmp) (xs : List ℕ) (k : ℕ) → k < length xs → indexes_of m
-    ≡ among (take k xs) → n ≡ set.insert m (get_or xs k 0) → indexes_of n ≡ among (take (k + 1) xs)
-members_step m n xs k lt so is =
-    ap indexes_of is ∙ indexes_of-insert m (get_or xs k 0)
-    ∙ ap (λ H. with_index H (get_or xs k 0)) so
-    ∙ sym (among-push (take k xs) (get_or xs k 0)) ∙ ap among (sym (take_more xs k 0 lt))
 
 pub late_most : (U : List Task) → IsTaskSet U → (k : ℕ) → k < length U
     → lateness_of (task_at U k) ≤ 10000000

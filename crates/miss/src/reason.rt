@@ -1,6 +1,5 @@
 //! Why a task that doesn't pass has no run.
-ghost use Rattle.std.specs.Prelude.{◌≡◌, ◌<◌, ℕ, ◌&&◌, true, List, length, slice_index_or, IfSome, IfNone};
-ghost use Rattle.task_sheet.specs.Sheet.{Task};
+ghost use Rattle.std.specs.Prelude.{◌≡◌, ◌<◌, ◌&&◌, true, length, slice_index_or, IfSome, IfNone};
 ghost use Rattle.task_sheet.specs.Indexes.{indexes_of};
 ghost use Rattle.task_sheet.specs.Locks.{reaches};
 ghost use Rattle.task_sheet.specs.Orders.{IsOrder};
@@ -11,7 +10,7 @@ ghost use Rattle.miss.specs.Shown.{PassesThere, ends_inside, IsLowestFailing, Ab
 
 use crate::shown::NoRun;
 use crate::uninterrupted::passes_uninterrupted;
-use crate::worst::members_of;
+use assignment::members_of;
 use ceilings::Tabled;
 use response_time::passes;
 use task_sheet::{Members, Section, TaskSet};

@@ -2,38 +2,25 @@
 ghost use Rattle.std.specs.Prelude.{◌≡◌, ◌∷◌, [], ◌++◌, ◌<◌, ◌≤◌, max, length, map, All, IfOk, IfSome, IfNone};
 ghost use Rattle.task_sheet.specs.declared.sheet.TheConstants.{PERIOD_TO};
 ghost use Rattle.ceiling_kernel.specs.declared.accept.TheConstants.{HORIZON, RELEASE_LIMIT};
-ghost use Rattle.task_sheet.specs.declared.set.TheConstants.{TASK_LIMIT};
-ghost use Rattle.task_sheet.specs.Indexes.{indexes_of, among};
 ghost use Rattle.task_sheet.specs.Demand.{greatest_of};
 ghost use Rattle.miss.specs.Shown.{IsTooLong};
 ghost use Rattle.miss.specs.Misses.{IsInSet, lead_of, member_stream, blocker_streams, IsWorstCase};
 ghost use Rattle.ceiling_kernel.specs.Waits.{lateness_of};
 ghost use Rattle.task_sheet.specs.Sheet.{task_at};
 
+use assignment::members_of;
 use ceiling_kernel::{Release, RunFault};
 use ceilings::Tabled;
 use explain::{Blocker, first_blocker};
 use release_list::{Stream, list_of, stream_of};
 use std::alloc::{AllocError, Global};
-use task_sheet::{Members, TaskSet};
+use task_sheet::TaskSet;
 
 /// A release list, and until when it runs, in microseconds.
 #[derive(Drop)]
 pub struct Run {
     pub releases: Vec<Release>,
     pub until: u64,
-}
-
-/// The indexes of some tasks.
-pub(crate) fn members_of(tasks: &[usize]) -> Members
-    requires { All (λ task. task < TASK_LIMIT) tasks.now }
-    ensures { indexes_of result ≡ among tasks.now }
-{
-    let mut members = Members::empty();
-    for task in tasks {
-        members = members.with(*task);
-    }
-    members
 }
 
 // How long a blocker executes up to the end of the first tick of its section; 0 without one.

@@ -1,15 +1,12 @@
 //! What a set promises of its tasks in an order.
 ghost use Rattle.std.specs.Prelude.{◌≡◌, ◌<◌, length, All, IfOk};
-ghost use Rattle.task_sheet.specs.declared.set.TheConstants.{TASK_LIMIT};
-ghost use Rattle.task_sheet.specs.Indexes.{among, indexes_of};
-ghost use Rattle.assignment.specs.Placings.{tasks_of_places};
 ghost use Rattle.observed.specs.Promises.{promise_of, promised, promises_of};
 
-use assignment::Place;
+use assignment::{Place, members_at};
 use blocking::blocking;
 use ceilings::Tabled;
 use std::alloc::{AllocError, Global};
-use task_sheet::{Members, Name, Sheet};
+use task_sheet::{Name, Sheet};
 
 /// What a set promises of a task at a level of an order: the numbers of its sheet, its blocking there, and the bound of its
 /// response from the arrival; in microseconds.
@@ -21,18 +18,6 @@ pub struct Promise {
     pub jitter: u64,
     pub blocking: u64,
     pub bound: u64,
-}
-
-// The tasks of some places.
-fn members_of(places: &[Place]) -> Members
-    requires { All (λ p. p.task < TASK_LIMIT) places.now }
-    ensures { indexes_of result ≡ among (tasks_of_places places.now) }
-{
-    let mut members = Members::empty();
-    for place in places {
-        members = members.with(place.task);
-    }
-    members
 }
 
 // What is promised of the task of a sheet, with its blocking and its bound.
@@ -56,7 +41,7 @@ fn promise_of(set: &Tabled<'_>, place: &Place, above: &[Place]) -> Promise
     ensures { result ≡ promise_of set.now place.now above.now }
 {
     let sheet = &set.sheets()[place.task];
-    let time = blocking(set, place.task, members_of(above));
+    let time = blocking(set, place.task, members_at(above));
     promised(sheet, time, place.response)
 }
 

@@ -1,6 +1,5 @@
 //! What a trace shows of a set's tasks at the levels of an order, and a text at those of their best one.
-ghost use Rattle.std.specs.Prelude.{◌≡◌, ◌<◌, length, All, MatchResult};
-ghost use Rattle.task_sheet.specs.Indexes.{indexes_of};
+ghost use Rattle.std.specs.Prelude.{◌<◌, length, All, MatchResult};
 ghost use Rattle.trace_text.specs.Faults.{IsTraceFault};
 ghost use Rattle.trace_text.specs.Rows.{rows_at};
 ghost use Rattle.observed.specs.Observed.{observed_fault};

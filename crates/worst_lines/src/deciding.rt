@@ -1,6 +1,5 @@
 //! The order in which a refused set is looked at, and what becomes of its tasks there.
-ghost use Rattle.std.specs.Prelude.{◌≡◌, ◌↔◌, ◌<◌, ℕ, length, IfOk, IfSome, IfNone, IsTrue, IsFalse};
-ghost use Rattle.task_sheet.specs.TaskSet.{IsTaskSet};
+ghost use Rattle.std.specs.Prelude.{◌<◌, ℕ, IfOk, IfSome, IfNone, IsTrue, IsFalse};
 ghost use Rattle.task_sheet.specs.Indexes.{indexes_of, IsPart};
 ghost use Rattle.task_sheet.specs.Orders.{all_of};
 ghost use Rattle.judge.specs.Judgements.{AllJudged, order_judged};

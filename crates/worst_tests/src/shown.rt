@@ -3,7 +3,7 @@ use crate::found::REFUSED_BY_A_TICK;
 use assignment::place_all;
 use ceilings::{LockTable, Tabled};
 use example_sets::{again, match_rows, set_of, set_on_node};
-use std::alloc::{AllocError, Global};
+use std::alloc::Global;
 use std::test::Fail;
 use task_sheet::TaskSet;
 use worst_lines::worst_text;

@@ -4,8 +4,8 @@ use Rattle.explain.proofs.AccountLaws.{places-within}
 use Rattle.explain.proofs.NeedLaws.{All-reversed}
 use Rattle.explain.proofs.accounts.response_account.Goals as goal
 
-pub members_of-requires : goal.members_of-requires
-members_of-requires c = places-within (length c.args.set.now) 32 c.args.above.now
+pub members_at-requires : goal.members_at-requires
+members_at-requires c = places-within (length c.args.set.now) 32 c.args.above.now
     c.sheets.ensures.kept.few c.requires.others
 
 pub parts_of-requires-clause-within : goal.parts_of-requires-clause-within

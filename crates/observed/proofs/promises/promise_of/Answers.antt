@@ -8,8 +8,8 @@ use Rattle.observed.specs.Promises.{promised}
 use Rattle.observed.proofs.PlaceLaws.{places-within, sheet-at}
 use Rattle.observed.proofs.promises.promise_of.Goals as goal
 
-pub members_of-requires : goal.members_of-requires
-members_of-requires c =
+pub members_at-requires : goal.members_at-requires
+members_at-requires c =
     places-within (length c.args.set.now) 32 c.args.above.now c.sheets.ensures.kept.few c.requires.others
 
 pub returns : goal.returns
@@ -24,7 +24,7 @@ returns c =
     r c.sheets.ensures.same task c.requires.task c.index-sheets-place.is in
     let time : c.blocking-time.result ≡ blocking_of U own.task
     (among (tasks_of_places c.args.above.now)) = c.blocking-time.ensures.is
-    ∙ ap₂ (λ (n : ℕ) (X : Indexes). blocking_of U n X) task c.members_of.ensures in
+    ∙ ap₂ (λ (n : ℕ) (X : Indexes). blocking_of U n X) task c.members_at.ensures in
     c.promised.ensures
     ∙ ap (λ (t : Task). promised t c.blocking-time.result c.place.inside.response) sheet
     ∙ ap₂ (λ (b n : ℕ). promised (task_at U own.task) b n) time response
