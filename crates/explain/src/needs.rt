@@ -13,7 +13,7 @@ use assignment::least_over;
 use ceilings::Tabled;
 use response_time::{Answer, respond};
 use std::alloc::{AllocError, Global};
-use task_sheet::{Members, TaskSet};
+use task_sheet::Members;
 
 /// Why a task of a conflict may not stand below the others of it.
 #[derive(Drop)]
@@ -34,7 +34,7 @@ fn last_two(chain: &[u64]) -> (u64, u64)
 }
 
 // Some tasks of a set by rank, the last first.
-fn falling(alloc: Global, set: &TaskSet, tasks: Members) -> Result<Vec<usize>, AllocError>
+fn falling(alloc: Global, set: &Tabled<'_>, tasks: Members) -> Result<Vec<usize>, AllocError>
     ensures { IfOk result (λ order. order.items
         ≡ reverse (listed_below (length set.now) (indexes_of tasks))) }
 {
@@ -113,7 +113,7 @@ fn need_of(
     if let Some(other) = least_over(set, task, above) {
         return Ok(Need::MustBeAbove { task, other });
     }
-    let order = falling(alloc, set.tasks(), above)?;
+    let order = falling(alloc, set, above)?;
     let account = needs_account(alloc, set, task, above, &order)?;
     Ok(Need::Needs(account))
 }

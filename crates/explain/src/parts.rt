@@ -9,7 +9,7 @@ use crate::blocker::{Blocker, first_blocker};
 use ceilings::Tabled;
 use std::alloc::{AllocError, Global};
 use std::marker::Model;
-use task_sheet::{Interrupt, Members, Sheet, TaskSet};
+use task_sheet::{Interrupt, Members, Sheet};
 
 /// The jobs of a task above, by its index, and what they execute in microseconds.
 #[derive(Clone, Copy)]
@@ -53,7 +53,7 @@ impl Model for Parts {
 }
 
 // The part of the task at an index, in a window.
-fn above_at(set: &TaskSet, task: usize, time: u64) -> Above
+fn above_at(set: &Tabled<'_>, task: usize, time: u64) -> Above
     requires task { task < length set.now }
     requires time { time ≤ PERIOD_TO }
     ensures { result ≡ above_at set.now time task }
@@ -70,7 +70,7 @@ fn above_at(set: &TaskSet, task: usize, time: u64) -> Above
 // The parts of the tasks above, in their order, in a window of `time` microseconds. The error is out of memory.
 fn above_parts(
     alloc: Global,
-    set: &TaskSet,
+    set: &Tabled<'_>,
     order: &[usize],
     time: u64,
 ) -> Result<Vec<Above>, AllocError>
@@ -98,7 +98,7 @@ fn timer_within(sheet: &Sheet, time: u64) -> u64
 }
 
 // What the timers of all tasks take in a window.
-fn timers_within(set: &TaskSet, time: u64) -> u64
+fn timers_within(set: &Tabled<'_>, time: u64) -> u64
     requires { time ≤ PERIOD_TO }
     ensures { result ≡ timers_within set.now time }
 {
@@ -139,7 +139,11 @@ fn push_interruptions(
 }
 
 // The parts of the interrupts of a set, by the rank of their tasks, in a window. The error is out of memory.
-fn interrupt_parts(alloc: Global, set: &TaskSet, time: u64) -> Result<Vec<Interruption>, AllocError>
+fn interrupt_parts(
+    alloc: Global,
+    set: &Tabled<'_>,
+    time: u64,
+) -> Result<Vec<Interruption>, AllocError>
     requires { time ≤ PERIOD_TO }
     ensures { IfOk result (λ parts. parts.items
         ≡ map (interruption_at time) (all_interrupts set.now)) }
@@ -167,15 +171,15 @@ pub fn parts_of(
     ensures { IfOk result (λ parts. IsPartsOf set.now task
         (indexes_of above) order.now time parts) }
 {
-    let above_it = above_parts(alloc, set.tasks(), order, time)?;
-    let interrupts = interrupt_parts(alloc, set.tasks(), time)?;
+    let above_it = above_parts(alloc, set, order, time)?;
+    let interrupts = interrupt_parts(alloc, set, time)?;
     let sheet = &set.sheets()[task];
     Ok(Parts {
         cost: sheet.cost(),
         jitter: sheet.jitter(),
         blocker: first_blocker(set, task, above),
         above: above_it,
-        timers: timers_within(set.tasks(), time),
+        timers: timers_within(set, time),
         interrupts,
     })
 }

@@ -25,7 +25,7 @@ fn left_of(set: &TaskSet, task: usize, response: u64) -> u64
 
 // By how much the cost of a task may grow at most with one that has this response still passing: what is left of its
 // deadline, shared by the jobs of the task that the response has.
-fn room_of(set: &TaskSet, task: usize, low: usize, above: Members, response: u64) -> u64
+fn room_of(set: &Tabled<'_>, task: usize, low: usize, above: Members, response: u64) -> u64
     requires task { task < length set.now }
     requires low { low < length set.now }
     requires has { (low ≡ task) ⊎ IsTrue (indexes_of above task) }
@@ -61,7 +61,7 @@ fn room_in(set: &Tabled<'_>, order: &[usize], task: usize) -> Option<u64>
     for low in order {
         above = above.without(*low);
         let response = response_in_time(set, *low, above)?;
-        room = room.min(room_of(set.tasks(), task, *low, above, response));
+        room = room.min(room_of(set, task, *low, above, response));
         if *low == task {
             return Some(room);
         }
@@ -89,7 +89,7 @@ fn room_at(
     ensures none { IfOk result (λ found. IfNone found
         (¬ IsPassingOrder (costed set.now task cost) order.now)) }
 {
-    let other = costed(alloc, set.tasks(), task, cost)?;
+    let other = costed(alloc, set, task, cost)?;
     let tabled = Tabled::of(&other, set.table());
     Ok(room_in(&tabled, order, task))
 }

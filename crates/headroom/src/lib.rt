@@ -35,7 +35,7 @@ fn further(
         (λ more. IsFeasible (costed set.now task more))) }
     ensures none { IfOk result (λ found. IfNone found (¬ IsFeasible (costed set.now task cost))) }
 {
-    let other = costed(alloc, set.tasks(), task, cost)?;
+    let other = costed(alloc, set, task, cost)?;
     let tabled = Tabled::of(&other, set.table());
     match some_order(alloc, &tabled)? {
         Some(order) => Ok(Some(headroom_in_order(alloc, &tabled, &order, task)?)),

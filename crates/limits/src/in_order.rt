@@ -49,7 +49,7 @@ fn order_passes_with(
     ensures { IfOk result (λ passes. IsTrue passes
         ↔ IsPassingOrder (numbered set.now task number value) order.now) }
 {
-    let other = numbered(alloc, set.tasks(), task, number, value)?;
+    let other = numbered(alloc, set, task, number, value)?;
     if keeps_sections(number) {
         let same = Tabled::of(&other, set.table());
         return Ok(order_passes(&same, order));
@@ -72,7 +72,7 @@ pub fn furthest_in_order(
     requires has { HasNumber (task_at set.now task) number }
     ensures { IfOk result (IsFurthestIn set.now order.now task number) }
 {
-    let span = span_in(set.tasks(), task, number);
+    let span = span_in(set, task, number);
     let own = value_of(&set.sheets()[task], number);
     let mut passing = distance(number, span.easiest, own);
     let mut failing = span.length + 1;

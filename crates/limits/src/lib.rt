@@ -37,7 +37,7 @@ fn passes_with(
     ensures { IfOk result (λ passes. IsTrue passes
         ↔ IsFeasible (numbered set.now task number value)) }
 {
-    let other = numbered(alloc, set.tasks(), task, number, value)?;
+    let other = numbered(alloc, set, task, number, value)?;
     if keeps_sections(number) {
         let same = Tabled::of(&other, set.table());
         return Ok(is_feasible(&same));
@@ -95,7 +95,7 @@ pub fn furthest(
     requires has { HasNumber (task_at set.now task) number }
     ensures { IfOk result (λ answer. AnswersFurthest set.now task number answer) }
 {
-    let span = span_in(set.tasks(), task, number);
+    let span = span_in(set, task, number);
     if !passes_with(alloc, set, task, number, span.easiest)? {
         return Ok(None);
     }
@@ -117,7 +117,7 @@ pub fn furthest_from(
     requires passes { IsFeasible (numbered set.now task number known) }
     ensures { IfOk result (IsFurthest set.now task number) }
 {
-    let span = span_in(set.tasks(), task, number);
+    let span = span_in(set, task, number);
     let far = distance(number, span.easiest, known);
     furthest_beyond(alloc, set, task, number, span, far)
 }

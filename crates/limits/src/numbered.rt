@@ -4,6 +4,7 @@ ghost use Rattle.task_sheet.specs.Sheet.{IsValidSheet, task_at};
 ghost use Rattle.limits.specs.Numbers.{KeepsSections, HasNumber, with_len, with_number, numbered, MayHave};
 
 use crate::number::Number;
+use ceilings::Tabled;
 use headroom::{copy_sections, remade, times_of};
 use std::alloc::{AllocError, Global};
 use task_sheet::{Section, SetCause, Sheet, TaskSet, copy_sheets};
@@ -60,7 +61,7 @@ fn with_number(
 /// The set with another value of a number of one task. The error is out of memory.
 pub(crate) fn numbered(
     alloc: Global,
-    set: &TaskSet,
+    set: &Tabled<'_>,
     task: usize,
     number: Number,
     value: u64,

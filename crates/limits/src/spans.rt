@@ -2,12 +2,13 @@
 ghost use Rattle.std.specs.Prelude.{◌≡◌, ◌+◌, ◌-◌, ◌<◌, ◌≤◌, length};
 ghost use Rattle.task_sheet.specs.Sheet.{IsValidSheet, task_at};
 ghost use Rattle.task_sheet.specs.TaskSet.{IsTaskSet};
-ghost use Rattle.limits.specs.Numbers.{HasNumber, IsSpan, at_distance, distance, section_at, value_of};
+ghost use Rattle.limits.specs.Numbers.{HasNumber, IsSpan, at_distance, distance, value_of};
 ghost use Rattle.limits.specs.Rooms.{room_end};
 
 use crate::number::Number;
+use ceilings::Tabled;
 use headroom::last_end;
-use task_sheet::{Section, Sheet, TaskSet};
+use task_sheet::{Section, Sheet};
 
 /// The values from the easiest on.
 #[derive(Clone, Copy)]
@@ -110,7 +111,7 @@ fn span_of(sheet: &Sheet, number: Number) -> Span
 }
 
 /// Which values a number of a task of a set may have.
-pub(crate) fn span_in(set: &TaskSet, task: usize, number: Number) -> Span
+pub(crate) fn span_in(set: &Tabled<'_>, task: usize, number: Number) -> Span
     requires task { task < length set.now }
     requires has { HasNumber (task_at set.now task) number }
     ensures span { IsSpan (task_at set.now task) number result.easiest result.length }

@@ -104,7 +104,7 @@ fn shown_at(
     // The set is valid: the proof has it from its sheets.
     let _ = set.sheets();
     let task = order[place];
-    let members = members_above(set.tasks(), order, place);
+    let members = members_above(set, order, place);
     if passes(set, task, members) {
         return match least_over(set, task, members) {
             Some(other) => Ok(Shown::NoRun(NoRun::MustOutrank { other })),

@@ -13,7 +13,7 @@ use crate::uninterrupted::passes_uninterrupted;
 use assignment::members_of;
 use ceilings::Tabled;
 use response_time::passes;
-use task_sheet::{Members, Section, TaskSet};
+use task_sheet::{Members, Section};
 
 // A job that has executed so long is inside the section, and one of these tasks reaches that.
 fn is_raised(set: &Tabled<'_>, section: &Section, executed: u64, above: Members) -> bool
@@ -45,7 +45,7 @@ fn ends_inside(set: &Tabled<'_>, task: usize, above: Members) -> bool
 }
 
 /// The tasks above the one at a place of an order.
-pub(crate) fn members_above(set: &TaskSet, order: &[usize], place: usize) -> Members
+pub(crate) fn members_above(set: &Tabled<'_>, order: &[usize], place: usize) -> Members
     requires order { IsOrder set.now order.now }
     requires place { place < length order.now }
     ensures { indexes_of result ≡ above_of (node_in set.now order.now)
@@ -69,7 +69,7 @@ fn fails_above(set: &Tabled<'_>, order: &[usize], place: usize) -> Option<usize>
     let _ = set.sheets();
     for higher in place + 1..order.len() {
         let task = order[higher];
-        let above = members_above(set.tasks(), order, higher);
+        let above = members_above(set, order, higher);
         let holds = passes(set, task, above);
         if !holds {
             return Some(task);
@@ -92,7 +92,7 @@ pub(crate) fn why_not(set: &Tabled<'_>, order: &[usize], place: usize) -> NoRun
     if let Some(above) = fails_above(set, order, place) {
         return NoRun::Below { above };
     }
-    let above = members_above(set.tasks(), order, place);
+    let above = members_above(set, order, place);
     if ends_inside(set, order[place], above) {
         return NoRun::EndsInside;
     }

@@ -10,10 +10,10 @@ ghost use Rattle.response_time.specs.Workload.{work_of};
 
 use blocking::blocking;
 use ceilings::Tabled;
-use task_sheet::{Members, TaskSet};
+use task_sheet::Members;
 
 // What the jobs of those above execute in a window, in microseconds.
-fn interference_within(set: &TaskSet, above: Members, time: u64) -> u64
+fn interference_within(set: &Tabled<'_>, above: Members, time: u64) -> u64
     requires time { time ≤ PERIOD_TO }
     ensures is { result ≡ interference_within set.now (indexes_of above) time }
     ensures fits { result ≤ 3 * TASK_LIMIT * PERIOD_TO }
@@ -39,7 +39,7 @@ pub(crate) fn passes_uninterrupted(set: &Tabled<'_>, task: usize, above: Members
     let always = sheet.cost() + blocking(set, task, above);
     let mut time = 1;
     while time <= limit {
-        let next = always + interference_within(set.tasks(), above, time);
+        let next = always + interference_within(set, above, time);
         if next <= time {
             return true;
         }

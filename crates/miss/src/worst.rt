@@ -14,7 +14,6 @@ use ceilings::Tabled;
 use explain::{Blocker, first_blocker};
 use release_list::{Stream, list_of, stream_of};
 use std::alloc::{AllocError, Global};
-use task_sheet::TaskSet;
 
 /// A release list, and until when it runs, in microseconds.
 #[derive(Drop)]
@@ -24,7 +23,7 @@ pub struct Run {
 }
 
 // How long a blocker executes up to the end of the first tick of its section; 0 without one.
-fn lead_of(set: &TaskSet, blocker: &Option<Blocker>) -> u64
+fn lead_of(set: &Tabled<'_>, blocker: &Option<Blocker>) -> u64
     requires { IsInSet set.now blocker.now }
     ensures is { result ≡ lead_of set.now blocker.now }
     ensures small { result ≤ PERIOD_TO }
@@ -40,7 +39,7 @@ fn lead_of(set: &TaskSet, blocker: &Option<Blocker>) -> u64
 }
 
 // The instant at which a task and those above it become ready together, no earlier than another time.
-fn instant_of(set: &TaskSet, task: usize, above: &[usize], lead: u64) -> u64
+fn instant_of(set: &Tabled<'_>, task: usize, above: &[usize], lead: u64) -> u64
     requires task { task < length set.now }
     requires above { All (λ k. k < length set.now) above.now }
     requires lead { lead ≤ PERIOD_TO }
@@ -58,7 +57,7 @@ fn instant_of(set: &TaskSet, task: usize, above: &[usize], lead: u64) -> u64
 
 // The job of a blocker.
 fn blocker_stream(
-    set: &TaskSet,
+    set: &Tabled<'_>,
     blocker: &Option<Blocker>,
     instant: u64,
     until: u64,
@@ -84,7 +83,7 @@ fn blocker_stream(
 // The jobs of a task, of those above it, and of a blocker.
 fn streams_of(
     alloc: Global,
-    set: &TaskSet,
+    set: &Tabled<'_>,
     task: usize,
     above: &[usize],
     blocker: &Option<Blocker>,
@@ -126,10 +125,10 @@ pub fn worst_case(
     ensures none { IfOk result (λ run. IfNone run (IsTooLong set.now task above.now)) }
 {
     let blocker = first_blocker(set, task, members_of(above));
-    let lead = lead_of(set.tasks(), &blocker);
-    let instant = instant_of(set.tasks(), task, above, lead);
+    let lead = lead_of(set, &blocker);
+    let instant = instant_of(set, task, above, lead);
     let until = instant + set.sheets()[task].limit();
-    let streams = streams_of(alloc, set.tasks(), task, above, &blocker, instant, until)?;
+    let streams = streams_of(alloc, set, task, above, &blocker, instant, until)?;
     match list_of(alloc, &streams, until) {
         Ok(releases) => Ok(Some(Run { releases, until })),
         Err(RunFault::TooMany) => Ok(None),

@@ -8,10 +8,10 @@ ghost use Rattle.worst_lines.specs.Below.{IsOrderBelow, others_of};
 use assignment::standing;
 use ceilings::Tabled;
 use std::alloc::{AllocError, Global};
-use task_sheet::{Members, TaskSet};
+use task_sheet::Members;
 
 // The tasks that aren't of a conflict, by rank.
-fn others(alloc: Global, set: &TaskSet, conflict: Members) -> Result<Vec<usize>, AllocError>
+fn others(alloc: Global, set: &Tabled<'_>, conflict: Members) -> Result<Vec<usize>, AllocError>
     requires { IsPart (indexes_of conflict) (all_of set.now) }
     ensures { IfOk result (λ others. others.items
         ≡ listed_below (length set.now) (others_of set.now (indexes_of conflict))) }
@@ -37,7 +37,7 @@ pub(crate) fn order_below(
     requires member { IsTrue (indexes_of conflict task) }
     ensures { IfOk result (λ order. IsOrderBelow set.now (indexes_of conflict) task order.items) }
 {
-    let mut order = others(alloc, set.tasks(), conflict)?;
+    let mut order = others(alloc, set, conflict)?;
     order.push(task)?;
     let mut left = conflict.without(task);
     while let Some(next) = standing(set, left) {

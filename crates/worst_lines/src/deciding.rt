@@ -9,10 +9,10 @@ use assignment::latest;
 use ceilings::Tabled;
 use judge::{JudgedTask, judge_order};
 use std::alloc::{AllocError, Global};
-use task_sheet::{Members, TaskSet};
+use task_sheet::Members;
 
 // The first task that is left.
-fn first_left(set: &TaskSet, left: Members) -> Option<usize>
+fn first_left(set: &Tabled<'_>, left: Members) -> Option<usize>
     requires part { IsPart (indexes_of left) (all_of set.now) }
     ensures some { IfSome result (λ task. IsTrue (indexes_of left task)) }
     ensures none { IfNone result ((j : ℕ) → IsFalse (indexes_of left j)) }
@@ -33,7 +33,7 @@ fn next(set: &Tabled<'_>, left: Members) -> Option<usize>
 {
     match latest(set, left) {
         Some(task) => Some(task),
-        None => first_left(set.tasks(), left),
+        None => first_left(set, left),
     }
 }
 

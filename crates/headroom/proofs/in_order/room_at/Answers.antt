@@ -12,7 +12,7 @@ use Rattle.headroom.proofs.in_order.room_at.Goals as goal
 pub of-tabled-requires : goal.of-tabled-requires
 of-tabled-requires c =
     subst (λ (V : List Task). IsTableOf V c.table.result.now)
-    (sym (c.in_ok-other.ensures ∙ ap (λ (U : List Task). costed U c.args.task c.args.cost) c.tasks.ensures))
+    (sym c.in_ok-other.ensures)
     (IsTableOf-costed c.args.set.now c.args.task c.args.cost c.table.result.now c.table.ensures)
 
 pub room_in-requires-clause-some : goal.room_in-requires-clause-some
@@ -20,7 +20,8 @@ room_in-requires-clause-some c =
     let U = c.args.set.now in
     let i = c.args.task in
     let own = costed-again U i c.args.cost (task_at U i).cost ∙ costed-own U i in
-    subst (λ (V : List Task). PassesWithSome V c.args.order.now i) (sym c.in_ok-other.ensures) (
+    subst (λ (V : List Task). PassesWithSome V c.args.order.now i)
+    (sym (c.of-tabled.ensures ∙ c.in_ok-other.ensures)) (
       (task_at U i).cost,
       subst (λ (V : List Task). IsPassingOrder V c.args.order.now) (sym own)
           c.requires.passing,
@@ -51,4 +52,4 @@ returns-clause-room c =
     let i = c.args.task in
     room-of U c.args.order.now i c.args.cost c.requires.task c.room_in.result
     (subst (λ (V : List Task). IfSome c.room_in.result (IsRoomIn V c.args.order.now i))
-    c.in_ok-other.ensures c.room_in.ensures.room)
+    (c.of-tabled.ensures ∙ c.in_ok-other.ensures) c.room_in.ensures.room)
