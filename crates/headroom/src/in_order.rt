@@ -11,10 +11,10 @@ use crate::costs::costed;
 use ceilings::Tabled;
 use response_time::response_in_time;
 use std::alloc::{AllocError, Global};
-use task_sheet::{Members, TaskSet};
+use task_sheet::Members;
 
 // What a response of a task leaves of its deadline, in microseconds.
-fn left_of(set: &TaskSet, task: usize, response: u64) -> u64
+fn left_of(set: &Tabled<'_>, task: usize, response: u64) -> u64
     requires task { task < length set.now }
     requires within { response ≤ (task_at set.now task).deadline }
     ensures is { result ≡ (task_at set.now task).deadline - response }
