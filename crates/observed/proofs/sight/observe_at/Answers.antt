@@ -14,7 +14,7 @@ use Rattle.observed.proofs.sight.observe_at.Goals as goal
 
 pub observe_places-requires : goal.observe_places-requires
 observe_places-requires c =
-    let U = c.args.set.now in
+    let U = c.of-tabled.result in
     let placing : IsBestPlacing U c.in-Best.places.items =
     subst (IsPlacingOf U) c.in-Best.is c.in_ok-members.ensures in
     subst (λ (ps : List PlaceData). All (λ (p : PlaceData). p.task < length U) ps)
@@ -22,7 +22,7 @@ observe_places-requires c =
 
 pub returns-in_err-observed-in-Best : goal.returns-in_err-observed-in-Best
 returns-in_err-observed-in-Best c =
-    let U = c.args.set.now in
+    let U = c.of-tabled.result in
     let places = c.in-Best.places.items in
     let lines = c.in_ok-trace.trace in
     let found : Result (List TraceRow) ℕ = rows_at c.args.at.line c.args.at.rest.now in
@@ -36,11 +36,11 @@ returns-in_err-observed-in-Best c =
     (record { best = placing; read = c.in_ok-trace.ensures }) why in
     let p = err_from_is_err_and c.from_residual-in_err-observed-in-Best.result
     c.from_residual-in_err-observed-in-Best.ensures.1 in
-    rw (p.1, p.2) shown
+    rw (sym c.of-tabled.ensures, p.1, p.2) shown
 
 pub returns : goal.returns
 returns c =
-    let U = c.args.set.now in
+    let U = c.of-tabled.result in
     let places = c.in-Best.places.items in
     let lines = c.in_ok-trace.trace in
     let placing : IsBestPlacing U places =
@@ -48,7 +48,7 @@ returns c =
     let shown : IsShownAt U places lines c.in_ok-observed-in-Best.observed =
     subst (λ (ps : List PlaceData). IsShownAt U ps lines c.in_ok-observed-in-Best.observed)
     c.deref.ensures.value c.in_ok-observed-in-Best.ensures in
-    record {
+    rw (sym c.of-tabled.ensures) record {
       places = places;
       lines = lines;
       inputs = record { best = placing; read = c.in_ok-trace.ensures };
