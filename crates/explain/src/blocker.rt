@@ -84,6 +84,8 @@ pub fn first_blocker(set: &Tabled<'_>, task: usize, above: Members) -> Option<Bl
     requires { task < length set.now }
     ensures { IsBlockerOf set.now task (indexes_of above) result }
 {
+    // The set is valid: the proof has it from its sheets.
+    let _ = set.sheets();
     let longest = blocking(set, task, above);
     if longest == 0 {
         return None;

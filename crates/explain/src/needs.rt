@@ -109,6 +109,8 @@ fn need_of(
     ensures { IfOk result (λ need.
         IsNeedOf set.now (indexes_of conflict) task need) }
 {
+    // The set is valid: the proof has it from its sheets.
+    let _ = set.sheets();
     let above = conflict.without(task);
     if let Some(other) = least_over(set, task, above) {
         return Ok(Need::MustBeAbove { task, other });

@@ -1,11 +1,11 @@
-use Rattle.std.proofs.Common.{sym, subst, List}
+use Rattle.std.proofs.Common.{◌∙◌, sym, subst, List}
 use Rattle.task_sheet.specs.Sheet.{Task}
 use Rattle.task_sheet.specs.Orders.{IsFeasible}
 use Rattle.factor.proofs.passes_at.Goals as goal
 
 pub returns-clause-answer : goal.returns-clause-answer
 returns-clause-answer c =
-    let same = c.in_ok-other.ensures.other in (
+    let same = c.of.ensures ∙ c.in_ok-other.ensures.other in (
       λ passes. record {
         may = c.in-None.ensures.none;
         feasible =

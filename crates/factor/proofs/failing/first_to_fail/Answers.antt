@@ -1,4 +1,4 @@
-use Rattle.std.proofs.Common.{◌+◌, ℕ, List, inr, subst, arith}
+use Rattle.std.proofs.Common.{◌+◌, ◌∙◌, ℕ, List, inr, subst, arith}
 use Rattle.task_sheet.specs.Sheet.{Task}
 use Rattle.task_sheet.specs.Orders.{IsFeasible}
 use Rattle.task_sheet.specs.Indexes.{indexes_of}
@@ -35,19 +35,19 @@ scaled-requires-clause-short c = omega (
 -- with the next factor no order passes
 pub unreachable-requires : goal.unreachable-requires
 unreachable-requires c =
-    let best = subst (λ (p : Placing). IsPlacingOf c.in_ok-other.other p) c.in_default.is
+    let best = subst (λ (p : Placing). IsPlacingOf c.of-tabled.result p) c.in_default.is
     c.in_ok-tasks.ensures in
-    let feasible = subst (λ (V : List Task). IsFeasible V) c.in_ok-other.ensures.other
-    (_, best.best.passing) in
+    let feasible = subst (λ (V : List Task). IsFeasible V)
+    (c.of-tabled.ensures ∙ c.in_ok-other.ensures.other) (_, best.best.passing) in
     c.requires.factor.greatest (c.args.factor + 1) (omega arith) c.in-None.ensures.none feasible
 
 -- some task in the way need not stand above another of them, since with the factor some order passes
 pub unreachable-requires-in-None-latest : goal.unreachable-requires-in-None-latest
 unreachable-requires-in-None-latest c =
     let U = c.args.set.now in
-    let V = c.in_ok-other.other in
+    let V = c.of-tabled.result in
     let S = indexes_of c.in-Stuck.tasks in
-    let same = c.in_ok-other.ensures.other in
+    let same = c.of-tabled.ensures ∙ c.in_ok-other.ensures.other in
     let stuck : IsPlacingOf V (Stuck c.in-Stuck.tasks) =
     subst (λ (p : Placing). IsPlacingOf V p) c.in-Stuck.is c.in_ok-tasks.ensures in
     some-free U c.requires.kept c.args.factor (c.args.factor + 1)
@@ -58,9 +58,9 @@ unreachable-requires-in-None-latest c =
 
 pub returns : goal.returns
 returns c =
-    let V = c.in_ok-other.other in
+    let V = c.of-tabled.result in
     let S = indexes_of c.in-Stuck.tasks in
-    let same = c.in_ok-other.ensures.other in
+    let same = c.of-tabled.ensures ∙ c.in_ok-other.ensures.other in
     let stuck : IsPlacingOf V (Stuck c.in-Stuck.tasks) =
     subst (λ (p : Placing). IsPlacingOf V p) c.in-Stuck.is c.in_ok-tasks.ensures in
     inr (

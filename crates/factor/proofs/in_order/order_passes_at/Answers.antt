@@ -1,4 +1,4 @@
-use Rattle.std.proofs.Common.{sym, subst, List}
+use Rattle.std.proofs.Common.{◌∙◌, sym, subst, List}
 use Rattle.task_sheet.specs.Sheet.{Task}
 use Rattle.task_sheet.specs.Orders.{IsOrder, IsPassingOrder}
 use Rattle.factor.proofs.ScaledSets.{IsOrder-scaled}
@@ -7,13 +7,14 @@ use Rattle.factor.proofs.in_order.order_passes_at.Goals as goal
 pub order_passes-requires : goal.order_passes-requires
 order_passes-requires c =
     let order = c.args.order.now in
-    subst (λ (V : List Task). IsOrder V order) (sym c.in_ok-other.ensures.other)
+    subst (λ (V : List Task). IsOrder V order)
+    (sym (c.of.ensures ∙ c.in_ok-other.ensures.other))
     (IsOrder-scaled c.args.set.now c.args.factor order c.requires.each)
 
 pub returns-clause-answer : goal.returns-clause-answer
 returns-clause-answer c =
     let order = c.args.order.now in
-    let same = c.in_ok-other.ensures.other in (
+    let same = c.of.ensures ∙ c.in_ok-other.ensures.other in (
       λ passes. record {
         may = c.in-None.ensures.none;
         passes = subst (λ (V : List Task).
