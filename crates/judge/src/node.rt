@@ -41,7 +41,7 @@ pub fn judge_rows(
 {
     let order = order_of_rows(alloc, set, lower_is_higher, rows)?;
     let judged = judge_order(alloc, set, &order)?;
-    let numbers = numbers_of(alloc, set.tasks(), rows, &order)?;
+    let numbers = numbers_of(alloc, set, rows, &order)?;
     Ok(JudgedNode { judged, numbers })
 }
 

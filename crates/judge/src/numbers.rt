@@ -4,8 +4,9 @@ ghost use Rattle.judge.specs.Faults.{setting_number, thread_number};
 ghost use Rattle.judge.specs.Rows.{threads_of};
 
 use crate::rows::SettingRow;
+use ceilings::Tabled;
 use std::alloc::{AllocError, Global};
-use task_sheet::{Name, TaskSet};
+use task_sheet::Name;
 
 // The number of the first thread of this name, and 0 of none.
 fn number_in(rows: &[SettingRow], name: Name) -> u64
@@ -22,7 +23,7 @@ fn number_in(rows: &[SettingRow], name: Name) -> u64
 }
 
 // The number of the thread of a task.
-fn number_at(set: &TaskSet, rows: &[SettingRow], task: usize) -> u64
+fn number_at(set: &Tabled<'_>, rows: &[SettingRow], task: usize) -> u64
     requires { task < length set.now }
     ensures { result ≡ thread_number set.now (threads_of rows.now) task }
 {
@@ -32,7 +33,7 @@ fn number_at(set: &TaskSet, rows: &[SettingRow], task: usize) -> u64
 /// The numbers of the threads of an order's tasks.
 pub(crate) fn numbers_of(
     alloc: Global,
-    set: &TaskSet,
+    set: &Tabled<'_>,
     rows: &[SettingRow],
     order: &[usize],
 ) -> Result<Vec<u64>, AllocError>

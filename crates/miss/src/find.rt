@@ -24,7 +24,7 @@ use std::alloc::Global;
 use task_sheet::TaskSet;
 
 // A job of the task isn't done by its deadline, which is the end of the run.
-fn is_missed(set: &TaskSet, task: usize, release: Release, job: &JobRecord, until: u64) -> bool
+fn is_missed(set: &Tabled<'_>, task: usize, release: Release, job: &JobRecord, until: u64) -> bool
     requires { task < length set.now }
     ensures yes { OnTrue result (IsMissed set.now task until release job.now) }
     ensures no { OnFalse result (¬ IsMissed set.now task until release job.now) }
@@ -38,7 +38,7 @@ fn is_missed(set: &TaskSet, task: usize, release: Release, job: &JobRecord, unti
 
 // The place of the first such job.
 fn first_missed(
-    set: &TaskSet,
+    set: &Tabled<'_>,
     task: usize,
     releases: &[Release],
     jobs: &[JobRecord],
@@ -63,7 +63,7 @@ fn first_missed(
 fn missed_in(
     alloc: Global,
     kernel: &Kernel,
-    set: &TaskSet,
+    set: &Tabled<'_>,
     task: usize,
     run: &Run,
 ) -> Result<Option<usize>, MissFault>
@@ -114,7 +114,7 @@ fn shown_at(
     let Some(run) = worst_case(alloc, set, task, &order[place + 1..])? else {
         return Ok(Shown::NoRun(NoRun::TooMany));
     };
-    if let Some(job) = missed_in(alloc, kernel, set.tasks(), task, &run)? {
+    if let Some(job) = missed_in(alloc, kernel, set, task, &run)? {
         return Ok(Shown::Misses(Miss {
             task,
             job,

@@ -38,7 +38,7 @@ pub enum Reached {
 }
 
 /// The release is one of the task's.
-pub(crate) fn is_of(set: &TaskSet, task: usize, release: Release) -> bool
+pub(crate) fn is_of(set: &Tabled<'_>, task: usize, release: Release) -> bool
     requires { task < length set.now }
     ensures yes { OnTrue result (task_number set.now release ≡ task) }
     ensures no { OnFalse result (¬ (task_number set.now release ≡ task)) }
@@ -50,7 +50,7 @@ pub(crate) fn is_of(set: &TaskSet, task: usize, release: Release) -> bool
 }
 
 // The place of the first release of a task.
-fn first_of(set: &TaskSet, task: usize, releases: &[Release]) -> Option<usize>
+fn first_of(set: &Tabled<'_>, task: usize, releases: &[Release]) -> Option<usize>
     requires { task < length set.now }
     ensures some { IfSome result (λ j. (j < length releases.now)
         × (task_number set.now (release_at releases.now j) ≡ task)) }
@@ -73,7 +73,12 @@ pub(crate) struct Finish {
 }
 
 // That of the releases of a trace.
-fn finish_of(set: &TaskSet, task: usize, releases: &[Release], jobs: &[JobRecord]) -> Option<Finish>
+fn finish_of(
+    set: &Tabled<'_>,
+    task: usize,
+    releases: &[Release],
+    jobs: &[JobRecord],
+) -> Option<Finish>
     requires task { task < length set.now }
     requires jobs { length jobs.now ≡ length releases.now }
     ensures some { IfSome result (λ f. IsReadOf set.now task releases.now jobs.now f.job f.time) }
@@ -90,7 +95,7 @@ fn finish_of(set: &TaskSet, task: usize, releases: &[Release], jobs: &[JobRecord
 fn finish_in(
     alloc: Global,
     kernel: &Kernel,
-    set: &TaskSet,
+    set: &Tabled<'_>,
     task: usize,
     run: &Run,
 ) -> Result<Option<Finish>, MissFault>
@@ -134,7 +139,7 @@ fn reach_at(
     let Some(run) = worst_case(alloc, set, task, &order[place + 1..])? else {
         return Ok(Reached::TooMany);
     };
-    match finish_in(alloc, kernel, set.tasks(), task, &run)? {
+    match finish_in(alloc, kernel, set, task, &run)? {
         Some(found) => Ok(Reached::Ran(WorstRun {
             job: found.job,
             finish: found.time,

@@ -123,18 +123,18 @@ fn simulate_best(
 // What a set and a release list come to in an order of the set.
 fn simulate_in(
     alloc: Global,
-    tasks: &Tabled<'_>,
+    set: &Tabled<'_>,
     order: &[usize],
     until: u64,
     releases: Vec<Release>,
 ) -> Result<Simulated, CommandRefusal>
-    requires { IsOrder tasks.now order.now }
-    ensures { SimulatesIn tasks.now order.now until releases.items result }
+    requires { IsOrder set.now order.now }
+    ensures { SimulatesIn set.now order.now until releases.items result }
 {
     // The set is valid: the proof has it from its sheets.
-    let _ = tasks.sheets();
-    let judged = judge_order(alloc, tasks, order)?;
-    let trace = run_order(alloc, tasks.tasks(), order, until, &releases)?;
+    let _ = set.sheets();
+    let judged = judge_order(alloc, set, order)?;
+    let trace = run_order(alloc, set.tasks(), order, until, &releases)?;
     Ok(Simulated::Ordered(OrderedRun {
         judged,
         until,

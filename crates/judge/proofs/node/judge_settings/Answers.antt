@@ -33,12 +33,12 @@ module _ (U : List Task) (text : List ℕ) (rows : List SettingRow)
 
 pub returns-clause-judged : goal.returns-clause-judged
 returns-clause-judged c =
-    let is = rw c.deref.ensures.value at c.judge_rows.ensures.judged in
+    let is = rw (c.of.ensures, c.deref.ensures.value) at c.judge_rows.ensures.judged in
     judged_of_text c.args.set.now c.args.text.now c.in_ok-rows.rows.items c.in_ok-rows.ensures
     c.args.lower_is_higher c.judge_rows.result is
 
 pub returns-clause-numbers : goal.returns-clause-numbers
 returns-clause-numbers c =
-    let is = rw c.deref.ensures.value at c.judge_rows.ensures.numbers in
+    let is = rw (c.of.ensures, c.deref.ensures.value) at c.judge_rows.ensures.numbers in
     numbers_of_text c.args.set.now c.args.text.now c.in_ok-rows.rows.items c.in_ok-rows.ensures
     c.judge_rows.result is

@@ -16,7 +16,8 @@ loop-place-preserved c =
     next_there c.args.set.now c.args.order.now c.in_ok-kernel.ensures.order c.sheets.ensures.kept
     c.loop-place.place c.loop-place.is_long c.is_too_long-is_long.result c.loop-place.invariant
     c.loop-place-test.true
-    c.in_ok-shown.shown c.is_too_long-is_long.ensures c.in_ok-shown.ensures.shown
+    c.in_ok-shown.shown c.is_too_long-is_long.ensures
+    (rw c.of-tabled.ensures at c.in_ok-shown.ensures.shown)
     c.in_default.not-Misses
 
 pub returns-in-Misses-clause-highest : goal.returns-in-Misses-clause-highest
@@ -24,7 +25,7 @@ returns-in-Misses-clause-highest c =
     let i : ℕ = get_or c.args.order.now (c.loop-place.place - 1) 0 in
     let shows : IsWorstMiss (node_in c.args.set.now c.args.order.now) i c.in-Misses.miss =
     subst (λ (s : Shown). IsShown (node_in c.args.set.now c.args.order.now) i s) c.in-Misses.is
-    c.in_ok-shown.ensures.shown in
+    (rw c.of-tabled.ensures at c.in_ok-shown.ensures.shown) in
     subst (λ (k : ℕ). NoneAboveMisses (node_in c.args.set.now c.args.order.now) k) (sym shows.task)
     (none_above c.args.set.now c.args.order.now c.in_ok-kernel.ensures.order c.sheets.ensures.kept
     c.loop-place.place c.loop-place.is_long c.loop-place.invariant c.loop-place-test.true)

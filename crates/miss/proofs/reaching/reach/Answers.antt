@@ -12,4 +12,4 @@ place_of-requires c =
 pub returns-clause-reached : goal.returns-clause-reached
 returns-clause-reached c =
     subst (λ k. IfOk c.reach_at.result (IsReachedOf (node_in c.args.set.now c.args.order.now) k))
-    c.place_of.ensures.is c.reach_at.ensures.reached
+    c.place_of.ensures.is (rw c.of.ensures at c.reach_at.ensures.reached)

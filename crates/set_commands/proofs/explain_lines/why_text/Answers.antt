@@ -13,8 +13,8 @@ returns c =
     c.in_ok-text.ensures ∙ ap (λ (t : List ℕ). reasons ++ t) c.as_str.ensures.value in (
       c.in_ok-explanation.explanation,
       decided,
-      c.in_ok-explanation.ensures,
-      c.in_ok-decided.ensures,
+      rw c.of-tabled.ensures at c.in_ok-explanation.ensures,
+      rw c.of-tabled.ensures at c.in_ok-decided.ensures,
       c.in_ok-named.ensures ∙ ap (λ (t : List ℕ). named_lines Reasons c.args.owners.now t)
           (c.as_bytes.ensures.value ∙ said),
     )

@@ -18,8 +18,9 @@ returns-clause-answer c = (
   c.in-Ok.kept.items,
   c.in-Ok.ensures.kept,
   subst (λ (order : List ℕ). IsKeepingOf c.args.tasks.now order c.in_ok-keeping.keeping)
-      c.deref.ensures.value c.in_ok-keeping.ensures,
+      c.deref.ensures.value (rw c.of.ensures at c.in_ok-keeping.ensures),
 )
 
 pub returns-clause-order : goal.returns-clause-order
-returns-clause-order c = kept_in c.args.tasks.now _ c.in_ok-keeping.keeping c.in_ok-keeping.ensures
+returns-clause-order c = kept_in c.args.tasks.now _ c.in_ok-keeping.keeping
+    (rw c.of.ensures at c.in_ok-keeping.ensures)

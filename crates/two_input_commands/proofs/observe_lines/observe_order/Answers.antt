@@ -15,15 +15,16 @@ returns-in_default-clause-answer c =
     let node = c.in-Ok-judge_rows.node in
     let missed : all_meet node.judged.items ≡ false = subst (λ (js : List JudgedTask). all_meet js
     ≡ false) c.deref.ensures.value (c.in_ok-places.ensures.miss (search rules)) in (
-      node_of c.args.tasks.now c.args.rows.now node c.requires c.in-Ok-judge_rows.ensures.judged
-          c.in-Ok-judge_rows.ensures.numbers,
+      node_of c.args.tasks.now c.args.rows.now node c.requires
+          (rw c.of-tabled.ensures at c.in-Ok-judge_rows.ensures.judged)
+          (rw c.of-tabled.ensures at c.in-Ok-judge_rows.ensures.numbers),
       missed,
       c.in-Ok.ensures.sound,
     )
 
 pub observe_places-requires : goal.observe_places-requires
 observe_places-requires c =
-    let U = c.args.tasks.now in
+    let U = c.of-tabled.result in
     let judged = c.in-Ok-judge_rows.node.judged.items in
     let places = c.in-Some.places.items in
     let same : judged ≡ judged_of places = sym c.deref.ensures.value
@@ -42,9 +43,10 @@ returns-in-Ok-observe_places-clause-answer c =
       places,
       c.in-Ok.trace,
       given U c.args.rows.now (rows_at c.args.at.line c.args.at.rest.now) c.in-Ok.trace judged
-          places c.requires c.in-Ok.ensures c.in-Ok-judge_rows.ensures.judged same,
+          places c.requires c.in-Ok.ensures (rw c.of-tabled.ensures at c.in-Ok-judge_rows.ensures.judged) same,
       subst (λ (ps : List PlaceData). IsShownAt U ps c.in-Ok.trace c.in-Ok-observe_places.observed)
-          c.deref-2.ensures.value c.in-Ok-observe_places.ensures,
+          c.deref-2.ensures.value
+          (rw c.of-tabled.ensures at c.in-Ok-observe_places.ensures),
     )
 
 pub returns-clause-answer : goal.returns-clause-answer
@@ -58,8 +60,8 @@ returns-clause-answer c =
       places,
       c.in-Ok.trace,
       given U c.args.rows.now (rows_at c.args.at.line c.args.at.rest.now) c.in-Ok.trace judged
-          places c.requires c.in-Ok.ensures c.in-Ok-judge_rows.ensures.judged same,
+          places c.requires c.in-Ok.ensures (rw c.of-tabled.ensures at c.in-Ok-judge_rows.ensures.judged) same,
       subst (λ (ps : List PlaceData). IsTraceFault c.in-Err-observe_places.fault
           (observed_fault (promises_of U ps) c.in-Ok.trace)) c.deref-2.ensures.value
-          c.in-Err-observe_places.ensures,
+          (rw c.of-tabled.ensures at c.in-Err-observe_places.ensures),
     ))

@@ -15,7 +15,7 @@ returns-in_ok-trace-in-Best c =
     let trace = c.in_ok-trace-in-Best.trace in
     let rs = c.args.releases.items in
     let placing : IsBestPlacing U places =
-    subst (IsPlacingOf U) c.in-Best.is c.in_ok-members.ensures in
+    subst (IsPlacingOf U) c.in-Best.is (rw c.of.ensures at c.in_ok-members.ensures) in
     let both : RunsOrder U (tasks_of_places places) rs until (Ok trace) =
     subst (λ (rs : List Release). RunsOrder U (tasks_of_places places) rs until (Ok trace))
     c.deref-in-Best.ensures.value

@@ -7,16 +7,16 @@ use Rattle.two_input_commands.proofs.simulate.simulate_in.Goals as goal
 
 pub judge_order-requires : goal.judge_order-requires
 judge_order-requires c =
-    order_within c.args.tasks.now c.args.order.now c.requires
+    order_within c.args.set.now c.args.order.now c.requires
 
 pub returns : goal.returns
 returns c =
-    let U = c.args.tasks.now in
+    let U = c.args.set.now in
     let rs = c.args.releases.items in
     let trace = c.in_ok-trace.trace in
     let runs : RunsOrder U c.args.order.now rs c.args.until (Ok trace) =
     subst (λ (rs : List Release). RunsOrder U c.args.order.now rs c.args.until (Ok trace))
-    c.deref.ensures.value c.in_ok-trace.ensures in
+    c.deref.ensures.value (rw c.tasks.ensures at c.in_ok-trace.ensures) in
     let set : IsTaskSet U = search rules in (
       c.in_ok-judged.ensures.order,
       c.in_ok-judged.ensures.judged,

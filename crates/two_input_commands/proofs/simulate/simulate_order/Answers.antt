@@ -6,15 +6,16 @@ use Rattle.two_input_commands.proofs.simulate.simulate_order.Goals as goal
 
 pub simulate_in-requires : goal.simulate_in-requires
 simulate_in-requires c =
-    subst (λ (order : List ℕ). IsOrder c.args.tasks.now order) (sym c.deref.ensures.value)
+    subst (λ (order : List ℕ). IsOrder c.of-tabled.result order) (sym c.deref.ensures.value)
     c.in-Ok.ensures.by_numbers.each_once
 
 pub returns : goal.returns
 returns c =
     in_order c.args.tasks.now c.in-Ok.order.items c.args.rows.now c.args.until c.args.releases.items
-    c.simulate_in.result c.requires c.in-Ok.ensures
+    c.simulate_in.result c.requires (rw c.of-tabled.ensures at c.in-Ok.ensures)
     (subst (λ (order : List ℕ). SimulatesIn c.args.tasks.now order c.args.until
-    c.args.releases.items c.simulate_in.result) c.deref.ensures.value c.simulate_in.ensures)
+    c.args.releases.items c.simulate_in.result) c.deref.ensures.value
+    (rw c.of-tabled.ensures at c.simulate_in.ensures))
 
 pub returns-in-Err : goal.returns-in-Err
 returns-in-Err c = inr (
@@ -22,5 +23,6 @@ returns-in-Err c = inr (
   c.args.releases.items,
   refl,
   no_order c.args.tasks.now
-      c.in-Err.fault c.args.rows.now c.requires c.in-Err.ensures,
+      c.in-Err.fault c.args.rows.now c.requires
+      (rw c.of-tabled.ensures at c.in-Err.ensures),
 )
