@@ -43,7 +43,7 @@ pub(crate) fn is_of(set: &Tabled<'_>, task: usize, release: Release) -> bool
     ensures yes { OnTrue result (task_number set.now release ≡ task) }
     ensures no { OnFalse result (¬ (task_number set.now release ≡ task)) }
 {
-    let Some(found) = set.find(release.name) else {
+    let Some(found) = set.tasks().find(release.name) else {
         return false;
     };
     found == task
