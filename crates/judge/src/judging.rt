@@ -49,6 +49,8 @@ fn judge_place(set: &Tabled<'_>, order: &[usize], place: usize) -> JudgedTask
     ensures judged { IsJudgementOf set.now (slice_index order.now place)
         (among (drop (place + 1) order.now)) result.judgement }
 {
+    // The set is valid: the proof has it from its sheets.
+    let _ = set.sheets();
     let task = order[place];
     let above = members_of(&order[place + 1..]);
     let judgement = judge_task(set, task, above);

@@ -39,6 +39,8 @@ pub fn judge_rows(
         (order_judged node.judged.items) node.numbers.items) }
     ensures within { IfOk result (λ node. All (λ j. j.task < TASK_LIMIT) node.judged.items) }
 {
+    // The set is valid: the proof has it from its sheets.
+    let _ = set.sheets();
     let order = order_of_rows(alloc, set, lower_is_higher, rows)?;
     let judged = judge_order(alloc, set, &order)?;
     let numbers = numbers_of(alloc, set, rows, &order)?;

@@ -124,10 +124,11 @@ pub fn worst_case(
         run.releases.items run.until × (length run.releases.items ≤ RELEASE_LIMIT))) }
     ensures none { IfOk result (λ run. IfNone run (IsTooLong set.now task above.now)) }
 {
+    let sheets = set.sheets();
     let blocker = first_blocker(set, task, members_of(above));
     let lead = lead_of(set, &blocker);
     let instant = instant_of(set, task, above, lead);
-    let until = instant + set.sheets()[task].limit();
+    let until = instant + sheets[task].limit();
     let streams = streams_of(alloc, set, task, above, &blocker, instant, until)?;
     match list_of(alloc, &streams, until) {
         Ok(releases) => Ok(Some(Run { releases, until })),

@@ -52,5 +52,5 @@ returns-clause-within c = λ k d lt.
           (omega (arith, lt, length-map judged (λ (j : JudgedTask). j.task))),
       get_or-map
           (λ (j : JudgedTask). j.task) judged k d 0 lt,
-      c.requires.few,
+      c.sheets.ensures.kept.few,
     )

@@ -21,7 +21,7 @@ loop-task-preserved c =
     let sheet = task_read U c.sheets-sheet-items.result.now k c.sheet-item.result
     c.sheets-sheet-items.ensures.same within c.sheet-item.is in
     let used : c.has.result ≡ uses (task_at U k) c.args.lock = c.has.ensures
-    ∙ c.users-users.ensures.uses U c.requires k in
+    ∙ c.users-users.ensures k in
     let next : c.if-has.top ≡ cond c.has.result (max c.loop-task.top (thread_number U threads k))
     c.loop-task.top = elim c.if-has.branch [
       | then-has w ↦

@@ -9,6 +9,14 @@ use Rattle.miss.proofs.IndexLaws.{blocker_in, limit_small}
 use Rattle.miss.proofs.StreamLaws.{all_streams, too_long_case}
 use Rattle.miss.proofs.worst.worst_case.Goals as goal
 
+pub lead_of-lead-requires : goal.lead_of-lead-requires
+lead_of-lead-requires c = blocker_in c.args.set.now c.args.task _ c.first_blocker-blocker.result
+    c.first_blocker-blocker.ensures
+
+pub streams_of-requires-clause-blocker : goal.streams_of-requires-clause-blocker
+streams_of-requires-clause-blocker c = blocker_in c.args.set.now c.args.task _
+    c.first_blocker-blocker.result c.first_blocker-blocker.ensures
+
 pub list_of-requires-clause-streams : goal.list_of-requires-clause-streams
 list_of-requires-clause-streams c =
     let short : limit_of c.index-sheets-task.result ≤ 10000000 =
