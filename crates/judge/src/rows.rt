@@ -89,8 +89,9 @@ pub(crate) fn read_rows(alloc: Global, text: &[u8]) -> Result<Vec<SettingRow>, S
     ensures { MatchResult result
         (λ rows. rows_in text.now ≡ Ok rows.items) (λ fault. IsRowsFault fault (rows_in text.now)) }
 {
-    read_lines::<SettingRow>(alloc, TextPlace::start(text))?
-        .map_err(|line| SettingsFault::BadLine { line })
+    read_lines::<SettingRow>(alloc, TextPlace::start(text))?.map_err(|line| SettingsFault::BadLine {
+        line,
+    })
 }
 
 // What rows set of threads and of mutexes.
