@@ -22,7 +22,7 @@ use Rattle.answering.specs.Printed.{IsPrinted}
 use Rattle.answering.specs.Refusals.{refusal_line, status_of}
 use Rattle.answering.specs.declared.refusal.CommandRefusal.{CommandRefusal}
 use Rattle.answering.specs.declared.refusal.CommandRefusal.TheVariants as refusal
-use Rattle.answering.specs.declared.release_text.TextFault.TheVariants as text_fault
+use Rattle.release_list.specs.declared.reading.TextFault.TheVariants as text_fault
 use Rattle.answering.specs.declared.status.Status.{Status}
 use Rattle.answering.specs.declared.status.Status.TheVariants.{Done, InputOrOutputFailed}
 use Rattle.answering.specs.declared.status.Status.TheVariants.{OutOfMemory}

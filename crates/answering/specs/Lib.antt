@@ -7,8 +7,6 @@ pub mod Outcomes
 pub mod Owning
 pub mod Printed
 pub mod Refusals
-pub mod ReleasesText
 pub mod Sets
 pub mod Statuses
-pub mod TextFaults
 pub mod WordsFaults

@@ -23,8 +23,8 @@ use Rattle.cert_checker.specs.declared.fault.CheckFault.{CheckFault}
 use Rattle.cert_checker.specs.declared.fault.CheckFault.TheVariants as check
 use Rattle.ceiling_kernel.specs.declared.trace.RunFault.{RunFault}
 use Rattle.ceiling_kernel.specs.declared.trace.RunFault.TheVariants as run
-use Rattle.answering.specs.declared.release_text.TextFault.{TextFault}
-use Rattle.answering.specs.declared.release_text.TextFault.TheVariants as line
+use Rattle.release_list.specs.declared.reading.TextFault.{TextFault}
+use Rattle.release_list.specs.declared.reading.TextFault.TheVariants as line
 use Rattle.scripts.specs.declared.line.ScriptFault.{ScriptFault}
 use Rattle.scripts.specs.declared.line.ScriptFault.TheVariants as script
 use Rattle.judge.specs.declared.fault.SettingsFault.{SettingsFault}

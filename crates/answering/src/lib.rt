@@ -6,7 +6,6 @@ mod asked;
 mod audience;
 mod output;
 mod refusal;
-mod release_text;
 mod sets;
 mod status;
 
@@ -15,7 +14,7 @@ pub use asked::{find_task, no_such_task};
 pub use audience::{Audience, Nobody, Which};
 pub use output::{print, print_bytes, print_made, refuse, refuse_words};
 pub use refusal::CommandRefusal;
-pub use release_text::{TextFault, read_releases};
+pub use release_list::TextFault;
 pub use rushes::RushFault;
 pub use sets::{base_of, preference_of, read_one, read_owned, read_told, read_two, tell};
 pub use status::{Status, placing_status};

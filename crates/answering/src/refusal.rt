@@ -4,13 +4,13 @@ ghost use Rattle.std.specs.Fmt.{DisplaysOnOk};
 ghost use Rattle.answering.specs.declared.refusal.CommandRefusal.TheVariants.{OutOfMemory};
 ghost use Rattle.answering.specs.Refusals.{cause_words, certificate_words, check_words, fault_words, lone_cause_words, node_words, outranks_words, padding_words, refusal_line, run_words, rush_words, script_words, settings_words, status_of, teams_words, text_words, trace_words, words_of};
 
-use crate::release_text::TextFault;
 use crate::status::Status;
 use ceiling_kernel::RunFault;
 use cert_checker::CheckFault;
 use certificate::CertFault;
 use judge::SettingsFault;
 use overheads::PadFault;
+use release_list::TextFault;
 use rushes::RushFault;
 use scripts::ScriptFault;
 use std::alloc::AllocError;

@@ -1,14 +1,12 @@
 -- A line with a failure: what is read is spelled so, and what is spelled so is read.
-use Rattle.std.proofs.Common.{◌≡◌, ℕ, ◌^◌, ◌<◌, ◌==◌, Bool, true, false, ◌&&◌, List, [], ◌∷◌, ◌++◌}
+use Rattle.std.proofs.Common.{◌≡◌, ℕ, ◌<◌, ◌==◌, Bool, true, false, ◌&&◌, List, [], ◌∷◌, ◌++◌}
 use Rattle.std.proofs.Common.{length, map, All, Option, Some, None, option_map, refl, sym, ap, ◌∙◌}
 use Rattle.std.proofs.Common.{subst, arith}
 use Rattle.std.specs.Prelude.{bytes_eq, codes}
 use Rattle.std.specs.Option.{option_or}
-use Rattle.std.specs.List.{list_all, AllByRecursion, join_with_byte}
+use Rattle.std.specs.List.{AllByRecursion, join_with_byte}
 use Rattle.std.specs.Fmt.{decimal}
-use Rattle.std.specs.Char.{is_ascii_digit}
 use Rattle.std.proofs.lemmas.Bool.{and_parts}
-use Rattle.std.proofs.lemmas.Bool.Decides.{nat_tests}
 use Rattle.std.proofs.lemmas.List.{append-nil, length-map}
 use Rattle.std.proofs.lemmas.Option.{same_Some, cond_some}
 use Rattle.std.proofs.lemmas.Slice.Eq.{bytes_eq-Decides}
@@ -16,14 +14,13 @@ use Rattle.std.proofs.lemmas.List.Concat.{flat_map-cons}
 use Rattle.std.proofs.lemmas.List.Elements.{All-from_recursion}
 use Rattle.std.proofs.lemmas.List.Splits.{slice_split_at, slice_split_none}
 use Rattle.std.proofs.lemmas.List.Splits.{join_with_byte-slice_split}
-use Rattle.std.proofs.lemmas.Fmt.{digits_decimal}
-use Rattle.task_sheet.specs.Name.{is_name, is_name_byte, IsName}
+use Rattle.task_sheet.specs.Name.{is_name, IsName}
 use Rattle.certificate.specs.Body.{CertReasonData, Chain, Over, Fail, IsShort, IsReasonText}
 use Rattle.certificate.specs.Body.{IsFailText}
 use Rattle.certificate.specs.Spelling.{numbers_text, reason_text}
 use Rattle.lines.specs.Words.{words}
 use Rattle.certificate.specs.Words.{◌>>=◌, numbers_in, over_in, later_in, reason_in, fail_in}
-use Rattle.lines.proofs.Digits.{own}
+use Rattle.lines.proofs.Lacks.{decimal_lacks, name_lacks}
 use Rattle.certificate.specs.declared.version.CertVersion.{CertVersion}
 use Rattle.certificate.specs.declared.version.CertVersion.TheVariants.{First, Second, Third}
 use Rattle.certificate.proofs.FailCases.{fail_at}
@@ -32,34 +29,6 @@ use Rattle.certificate.proofs.WordLaws.{bind_some, cond_given, numbers_take, num
 -- a line without its end
 abbrev pub fail_text : List ℕ → Fail → List ℕ
 fail_text word f = word ++ 32 ∷ (f.name ++ reason_text f.reason)
-
--- ---- bytes that do not stand in a text
-lacks_rec : (b : ℕ) (p : ℕ → Bool) → ((x : ℕ) → p x ≡ true → (x == b) ≡ false) → (xs : List ℕ)
-    → list_all p xs ≡ true → AllByRecursion (λ x. (x == b) ≡ false) xs
-lacks_rec b p apart [] h = tt
-lacks_rec b p apart (x ∷ xs) h =
-    let parts = and_parts (p x) (list_all p xs) h in
-    (apart x parts.0, lacks_rec b p apart xs parts.1)
-
-pub lacks : (b : ℕ) (p : ℕ → Bool) → ((x : ℕ) → p x ≡ true → (x == b) ≡ false) → (xs : List ℕ)
-    → list_all p xs ≡ true → All (λ x. (x == b) ≡ false) xs
-lacks b p apart xs h = All-from_recursion (λ x. (x == b) ≡ false) xs (lacks_rec b p apart xs h)
-
-digit_apart : (b : ℕ) → b < 48 → (x : ℕ) → is_ascii_digit x ≡ true → (x == b) ≡ false
-digit_apart b small x h = grind (arith, nat_tests)
-
-name_apart : (b : ℕ) → b < 45 → (x : ℕ) → is_name_byte x ≡ true → (x == b) ≡ false
-name_apart b small x h = grind (arith, nat_tests)
-
-pub decimal_lacks : (b n : ℕ) → b < 48 → n < 2 ^ 64 → All (λ x. (x == b) ≡ false) (decimal n)
-decimal_lacks b n small h =
-    lacks b is_ascii_digit (digit_apart b small) (decimal n) (digits_decimal own n h)
-
-name_bytes : (text : List ℕ) → is_name text ≡ true → list_all is_name_byte text ≡ true
-name_bytes text h = grind (arith, nat_tests)
-
-pub name_lacks : (b : ℕ) (text : List ℕ) → b < 45 → IsName text → All (λ x. (x == b) ≡ false) text
-name_lacks b text small h = lacks b is_name_byte (name_apart b small) text (name_bytes text h)
 
 -- ---- numbers behind spaces
 

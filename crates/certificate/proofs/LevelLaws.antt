@@ -26,8 +26,8 @@ use Rattle.lines.proofs.NumberLaws.{number_takes, number_again}
 use Rattle.certificate.proofs.WordLaws.{cond_given}
 use Rattle.lines.proofs.Parts.{parts_some}
 use Rattle.certificate.proofs.LevelLoops.{fails_line}
-use Rattle.certificate.proofs.FailLaws.{fail_text, fail_takes, fail_again, decimal_lacks}
-use Rattle.certificate.proofs.FailLaws.{name_lacks}
+use Rattle.certificate.proofs.FailLaws.{fail_text, fail_takes, fail_again}
+use Rattle.lines.proofs.Lacks.{decimal_lacks, name_lacks}
 use Rattle.certificate.proofs.LineLaws.{left, bind_ok, ok_is, wanted_ok, items_take, line_takes}
 use Rattle.certificate.proofs.LineLaws.{line_end, line_again}
 use Rattle.certificate.proofs.MemberLaws.{fail_lacks}

@@ -25,7 +25,8 @@ use Rattle.lines.proofs.NumberLaws.{number_takes, number_again}
 use Rattle.certificate.proofs.WordLaws.{cond_given}
 use Rattle.lines.proofs.Parts.{parts_some}
 use Rattle.certificate.proofs.ItemLoops.{line_is, over_is}
-use Rattle.certificate.proofs.FailLaws.{fail_text, decimal_lacks}
+use Rattle.certificate.proofs.FailLaws.{fail_text}
+use Rattle.lines.proofs.Lacks.{decimal_lacks}
 
 -- the bytes that are left
 abbrev pub left : At → List ℕ

@@ -16,7 +16,8 @@ use Rattle.certificate.specs.Words.{fail_in}
 use Rattle.lines.specs.Steps.{◌>>=◌}
 use Rattle.certificate.specs.Lines.{At, line_from, wanted, items_at, member_at, members_at}
 use Rattle.certificate.proofs.FailLaws.{over_named, numbers_text-cons, fail_text, fail_takes}
-use Rattle.certificate.proofs.FailLaws.{fail_again, decimal_lacks, name_lacks}
+use Rattle.certificate.proofs.FailLaws.{fail_again}
+use Rattle.lines.proofs.Lacks.{decimal_lacks, name_lacks}
 use Rattle.certificate.proofs.LineLaws.{left, bind_ok, ok_is, wanted_ok, items_take, line_takes}
 use Rattle.certificate.proofs.LineLaws.{line_end, line_again}
 use Rattle.certificate.specs.declared.version.CertVersion.{CertVersion}

@@ -26,7 +26,7 @@ use Rattle.certificate.specs.Lines.{At, line_from, certificate_in, count_in, end
 use Rattle.certificate.specs.Lines.{levels_at, body_case, body_at, version_in, versioned, Gives}
 use Rattle.certificate.specs.declared.fault.CertFault.{CertFault}
 use Rattle.certificate.specs.declared.fault.CertFault.TheVariants.{Trailing}
-use Rattle.certificate.proofs.FailLaws.{decimal_lacks}
+use Rattle.lines.proofs.Lacks.{decimal_lacks}
 use Rattle.certificate.proofs.LineLaws.{left, bind_ok, ok_is, line_takes, line_again, count_takes}
 use Rattle.certificate.proofs.LineLaws.{count_again, end_takes, end_again, closed, closed_bind}
 use Rattle.certificate.proofs.MemberLaws.{members_take, members_again}

@@ -1,19 +1,16 @@
 -- Lines of settings that are spelled, and what is read of them.
-use Rattle.std.proofs.Common.{◌≡◌, ◌∙◌, ℕ, ◌+◌, ◌^◌, ◌<◌, ◌≤◌, ◌==◌, Bool, true, false, cond, List}
+use Rattle.std.proofs.Common.{◌≡◌, ◌∙◌, ℕ, ◌+◌, ◌<◌, ◌≤◌, ◌==◌, Bool, true, false, cond, List}
 use Rattle.std.proofs.Common.{[], ◌∷◌, ◌++◌, All, Some, None, Ok, refl, ap, arith}
 use Rattle.std.specs.Prelude.{codes}
-use Rattle.std.specs.List.{list_all, AllByRecursion}
+use Rattle.std.specs.List.{AllByRecursion}
 use Rattle.std.specs.Fmt.{decimal}
-use Rattle.std.specs.Char.{is_ascii_digit}
-use Rattle.std.proofs.lemmas.Bool.{and_parts, le-leb}
-use Rattle.std.proofs.lemmas.Bool.Decides.{nat_tests}
-use Rattle.std.proofs.lemmas.Fmt.{digits_decimal}
-use Rattle.std.proofs.lemmas.List.Elements.{All-from_recursion, All-append, All-cons}
+use Rattle.std.proofs.lemmas.Bool.{le-leb}
+use Rattle.std.proofs.lemmas.List.Elements.{All-append, All-cons}
 use Rattle.std.proofs.lemmas.List.Splits.{slice_split_at, slice_split_none}
-use Rattle.task_sheet.specs.Name.{is_name, is_name_byte, IsName}
+use Rattle.task_sheet.specs.Name.{IsName}
 use Rattle.lines.specs.Lines.{kept_from, lines_of, is_skipped}
 use Rattle.lines.specs.Words.{words, name_in}
-use Rattle.lines.proofs.Digits.{own}
+use Rattle.lines.proofs.Lacks.{decimal_lacks, name_lacks}
 use Rattle.lines.proofs.NumberLaws.{number_again}
 use Rattle.lines.proofs.Parts.{line_cut}
 use Rattle.judge.specs.Rows.{in_range, number_in_range, setting_row_in, setting_row, rows_from}
@@ -21,34 +18,6 @@ use Rattle.judge.specs.declared.rows.SettingRow.{SettingRow}
 use Rattle.judge.specs.declared.rows.SettingRow.TheVariants.{Thread, Mutex}
 use Rattle.judge.specs.declared.rows.TheConstants.{NUMBER_LIMIT}
 use Rattle.judge.specs.declared.rows.Setting.{Setting}
-
--- ---- bytes that do not stand in a text
-lacks_each : (b : ℕ) (p : ℕ → Bool) → ((x : ℕ) → p x ≡ true → (x == b) ≡ false) → (xs : List ℕ)
-    → list_all p xs ≡ true → AllByRecursion (λ x. (x == b) ≡ false) xs
-lacks_each b p apart [] h = tt
-lacks_each b p apart (x ∷ xs) h =
-    let parts = and_parts (p x) (list_all p xs) h in
-    (apart x parts.0, lacks_each b p apart xs parts.1)
-
-lacks : (b : ℕ) (p : ℕ → Bool) → ((x : ℕ) → p x ≡ true → (x == b) ≡ false) → (xs : List ℕ)
-    → list_all p xs ≡ true → All (λ x. (x == b) ≡ false) xs
-lacks b p apart xs h = All-from_recursion (λ x. (x == b) ≡ false) xs (lacks_each b p apart xs h)
-
-digit_apart : (b : ℕ) → b < 48 → (x : ℕ) → is_ascii_digit x ≡ true → (x == b) ≡ false
-digit_apart b small x h = grind (arith, nat_tests)
-
-name_apart : (b : ℕ) → b < 45 → (x : ℕ) → is_name_byte x ≡ true → (x == b) ≡ false
-name_apart b small x h = grind (arith, nat_tests)
-
-decimal_lacks : (b n : ℕ) → b < 48 → n < 2 ^ 64 → All (λ x. (x == b) ≡ false) (decimal n)
-decimal_lacks b n small h =
-    lacks b is_ascii_digit (digit_apart b small) (decimal n) (digits_decimal own n h)
-
-name_bytes : (text : List ℕ) → is_name text ≡ true → list_all is_name_byte text ≡ true
-name_bytes text h = grind (arith, nat_tests)
-
-name_lacks : (b : ℕ) (text : List ℕ) → b < 45 → IsName text → All (λ x. (x == b) ≡ false) text
-name_lacks b text small h = lacks b is_name_byte (name_apart b small) text (name_bytes text h)
 
 -- ---- a line
 -- what a line sets

@@ -1,6 +1,9 @@
 -- Settings in front of another text.
-use Rattle.std.specs.Prelude.{ℕ, Bool, false, ◌||◌, List, [], ◌∷◌, bytes_eq, codes, if◌then◌else◌}
+use Rattle.std.specs.Prelude.{ℕ, Bool, false, ◌||◌, List, [], ◌∷◌, Result, bytes_eq, codes, if◌then◌else◌}
+use Rattle.lines.specs.Lines.{kept_lines}
 use Rattle.lines.specs.Words.{words}
+use Rattle.judge.specs.Rows.{rows_from}
+use Rattle.judge.specs.declared.rows.SettingRow.{SettingRow}
 
 -- the first of these words says that a line sets a thread or a mutex
 abbrev pub is_setting : List (List ℕ) → Bool
@@ -16,3 +19,7 @@ front_of (l ∷ ls) = if is_setting (words l.1) then l ∷ front_of ls else []
 abbrev pub behind_front : List (ℕ × List ℕ) → List (ℕ × List ℕ)
 behind_front [] = []
 behind_front (l ∷ ls) = if is_setting (words l.1) then behind_front ls else l ∷ ls
+
+-- what the settings in front of a text say, or the number of their first faulty line
+abbrev pub settings_in : List ℕ → Result (List SettingRow) ℕ
+settings_in text = rows_from (front_of (kept_lines text))

@@ -62,6 +62,8 @@ fn row_of(word: &[u8], setting: Setting) -> Option<SettingRow>
 }
 
 impl LineRow for SettingRow {
+    type Row = SettingRow;
+
     ghost use Rattle.judge.specs.Rows.{setting_row_in};
 
     ghost row_in = { setting_row_in };
@@ -87,7 +89,9 @@ pub(crate) fn read_rows(alloc: Global, text: &[u8]) -> Result<Vec<SettingRow>, S
     ensures { MatchResult result
         (λ rows. rows_in text.now ≡ Ok rows.items) (λ fault. IsRowsFault fault (rows_in text.now)) }
 {
-    read_lines(alloc, TextPlace::start(text))?.map_err(|line| SettingsFault::BadLine { line })
+    read_lines::<SettingRow>(alloc, TextPlace::start(text))?.map_err(|line| SettingsFault::BadLine {
+        line,
+    })
 }
 
 // What rows set of threads and of mutexes.

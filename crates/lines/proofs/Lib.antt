@@ -1,4 +1,5 @@
 pub mod Cuts
 pub mod Digits
+pub mod Lacks
 pub mod NumberLaws
 pub mod Parts

@@ -49,29 +49,32 @@ pub fn next_kept<'a>(at: TextPlace<'a>) -> Result<(KeptLine<'a>, TextPlace<'a>),
     Err(at.line)
 }
 
-/// What a line says by itself.
-pub trait LineRow: Drop + Sized {
-    ghost row_in: { ℕ → List (List ℕ) → Option Self };
+/// A kind of line, which says something by itself.
+pub trait LineRow {
+    /// What a line says.
+    type Row: Drop;
+
+    ghost row_in: { ℕ → List (List ℕ) → Option Self.Row };
 
     /// What a line with this number says; `None` of a faulty line.
-    fn read(number: u64, line: &[u8]) -> Option<Self>
+    fn read(number: u64, line: &[u8]) -> Option<Self::Row>
         ensures { result ≡ row_in number (words line.now) };
 }
 
 /// What each line says from a place on, or the number of the first faulty one. Empty lines and lines that begin with `#`
 /// are skipped and counted; the last line may lack its LF. The error is out of memory.
-pub fn read_lines<R: LineRow>(
+pub fn read_lines<L: LineRow>(
     alloc: Global,
     at: TextPlace<'_>,
-) -> Result<Result<Vec<R>, u64>, AllocError>
+) -> Result<Result<Vec<L::Row>, u64>, AllocError>
     ensures { IfOk result (λ found.
-        let read = rows_by R.row_in (kept_from at.entry.line (lines_of at.entry.rest.now)) in
+        let read = rows_by L.row_in (kept_from at.entry.line (lines_of at.entry.rest.now)) in
         MatchResult found (λ rows. read ≡ Ok rows.items) (λ line. read ≡ Err line)) }
 {
     let mut at = at;
     let mut rows = Vec::new(alloc);
     while let Ok((line, after)) = next_kept(at) {
-        let Some(row) = R::read(line.number, line.text) else {
+        let Some(row) = L::read(line.number, line.text) else {
             return Ok(Err(line.number));
         };
         rows.push(row)?;

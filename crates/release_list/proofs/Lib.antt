@@ -10,3 +10,4 @@ pub mod OrderLaws
 pub mod RandomLaws
 pub mod RandomAccepted
 pub mod RandomLists
+pub mod ReadBackLaws

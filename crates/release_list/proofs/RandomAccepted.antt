@@ -20,6 +20,17 @@ use Rattle.release_list.proofs.OrderLaws.{InTime, in_time}
 use Rattle.release_list.proofs.RandomLaws.{drawn_below, in_within, within_spaced, rank_start}
 use Rattle.release_list.proofs.RandomLaws.{rank_step, IsDrawn, in_rank}
 
+-- for how long a job executes
+pub runs_within : (t : Task) (x : ℕ) → 0 < t.cost → (0 < unwrap_or (runs_after t x) t.cost)
+    × (unwrap_or (runs_after t x) t.cost ≤ t.cost)
+runs_within t x some = elim (cases_Bool (drawn (word_after (word_after x)) 4 == 0)) [
+  | inl all ↦ rw all (some, omega arith)
+  | inr part ↦
+      let small : drawn (word_after (word_after (word_after x))) t.cost < t.cost =
+      drawn_below (word_after (word_after x)) t.cost some in
+      rw part (omega arith, omega arith)
+]
+
 module _ (U : List Task) (until seed : ℕ) (set : IsTaskSet U) where
   abbrev pub rs : List Release
   rs = random_of U until seed
@@ -90,17 +101,6 @@ module _ (U : List Task) (until seed : ℕ) (set : IsTaskSet U) where
       ap (λ y. lateness_of (task_at U (task_number U y))) b.3.is
       ∙ ap (λ i. lateness_of (task_at U i)) (number_is b.0 (word_before seed b.0) b.2 b.1) in
       le-ltb (lateness_of (task_at U (task_number U r))) r.late (omega arith)
-
-  -- for how long it executes
-  runs_within : (t : Task) (x : ℕ) → 0 < t.cost → (0 < unwrap_or (runs_after t x) t.cost)
-      × (unwrap_or (runs_after t x) t.cost ≤ t.cost)
-  runs_within t x some = elim (cases_Bool (drawn (word_after (word_after x)) 4 == 0)) [
-    | inl all ↦ rw all (some, omega arith)
-    | inr part ↦
-        let small : drawn (word_after (word_after (word_after x))) t.cost < t.cost =
-        drawn_below (word_after (word_after x)) t.cost some in
-        rw part (omega arith, omega arith)
-  ]
 
   none_outside : (k : ℕ) → k < length rs → is_outside_cost U rs k ≡ false
   none_outside k lt =

@@ -1,4 +1,5 @@
 pub mod Streams
 pub mod Densest
 pub mod Text
+pub mod Reading
 pub mod Random

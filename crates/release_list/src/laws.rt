@@ -1,9 +1,12 @@
-//! Laws of the densest list. Each is the contract of a function that does nothing.
-ghost use Rattle.std.specs.Prelude.{◌≡◌, ℕ, List, None};
+//! Laws of the densest list, and of lists that are written and read. Each is the contract of a function that does nothing.
+ghost use Rattle.std.specs.Prelude.{◌≡◌, ◌<◌, ◌^◌, ℕ, List, All, None};
 ghost use Rattle.task_sheet.specs.Sheet.{Task};
 ghost use Rattle.task_sheet.specs.TaskSet.{IsTaskSet};
 ghost use Rattle.ceiling_kernel.specs.Releases.{refusal_of};
+ghost use Rattle.ceiling_kernel.specs.declared.trace.Release.{Release};
 ghost use Rattle.release_list.specs.Densest.{densest_of, list_refusal, IsDensest};
+ghost use Rattle.release_list.specs.Random.{random_of, random_refusal};
+ghost use Rattle.release_list.specs.Reading.{IsWritable, ReadsBack};
 
 /// The list holds the jobs that are ready before the end and no others, by time, and those of one time by rank.
 pub fn lists_are_densest()
@@ -14,4 +17,14 @@ pub fn lists_are_densest()
 pub fn kernels_refuse_none()
     ensures { (U : List Task) (until : ℕ) → IsTaskSet U → list_refusal U until ≡ None
         → refusal_of U (densest_of U until) until ≡ None }
+{}
+
+/// The lines of a release list are read as that list: so are those of the densest list and of random ones.
+pub fn lists_are_read_back()
+    ensures any { (until : ℕ) (rs : List Release) → until < 10 ^ 10 → All IsWritable rs
+        → ReadsBack until rs }
+    ensures densest { (U : List Task) (until : ℕ) → IsTaskSet U → list_refusal U until ≡ None
+        → ReadsBack until (densest_of U until) }
+    ensures random { (U : List Task) (until seed : ℕ) → IsTaskSet U
+        → random_refusal U until seed ≡ None → ReadsBack until (random_of U until seed) }
 {}

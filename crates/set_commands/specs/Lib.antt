@@ -3,7 +3,6 @@ pub mod Certify
 pub mod Explain
 pub mod Limits
 pub mod OneTask
-pub mod ReadBack
 pub mod Releases
 pub mod Script
 pub mod Settings

@@ -4,7 +4,6 @@
 mod admit;
 mod certify;
 mod explain_lines;
-pub mod laws;
 mod limits_lines;
 mod one_task;
 mod releases;

@@ -99,6 +99,8 @@ fn job_words(line: u64, word: &[u8], name: &[u8], arrival: &[u8], finish: &[u8])
 }
 
 impl LineRow for TraceRow {
+    type Row = TraceRow;
+
     ghost use Rattle.trace_text.specs.Rows.{trace_row_in};
 
     ghost row_in = { trace_row_in };
@@ -125,7 +127,7 @@ pub(crate) fn read_rows<'a>(alloc: Global, at: TextPlace<'a>) -> Result<Vec<Trac
         (λ rows. rows_at at.entry.line at.entry.rest.now ≡ Ok rows.items)
         (λ fault. IsRowsFault fault (rows_at at.entry.line at.entry.rest.now)) }
 {
-    read_lines(alloc, at)?.map_err(|line| TraceFault::BadLine { line })
+    read_lines::<TraceRow>(alloc, at)?.map_err(|line| TraceFault::BadLine { line })
 }
 
 // The slices of rows, in their order.

@@ -8,7 +8,7 @@ use Rattle.lines.specs.Lines.{kept_lines}
 use Rattle.command_line.specs.declared.calls.Options.{Options}
 use Rattle.assignment.specs.Places.{PlaceData}
 use Rattle.judge.specs.Faults.{IsRowsFault, IsSettingsFault}
-use Rattle.judge.specs.Front.{behind_front}
+use Rattle.judge.specs.Front.{behind_front, settings_in}
 use Rattle.judge.specs.Judgements.{AllJudged, all_meet, judged_of, order_judged}
 use Rattle.judge.specs.Lines.{judged_lines}
 use Rattle.judge.specs.Node.{AreNumbersOf}
@@ -31,7 +31,6 @@ use Rattle.observed_lines.specs.Lines.{observed_lines}
 use Rattle.two_input_commands.specs.Judge.{judged_status}
 use Rattle.answering.specs.Lines.{infeasible_line}
 use Rattle.answering.specs.Printed.{Prints}
-use Rattle.answering.specs.ReleasesText.{settings_in}
 use Rattle.answering.specs.Sets.{HaveBoth, OnBoth}
 use Rattle.two_input_commands.specs.Simulate.{IsListedOrder, order_fault}
 use Rattle.two_input_commands.specs.declared.observe_lines.Observation.{Observation}

@@ -1,5 +1,5 @@
 -- What `desk simulate` answers and prints.
-use Rattle.std.specs.Prelude.{◌≡◌, ◌⊎◌, ℕ, Bool, true, false, List, [], ◌∷◌, length, map, Option, Some, None, Result, Ok, Err}
+use Rattle.std.specs.Prelude.{◌≡◌, ◌⊎◌, ℕ, ◌+◌, Bool, true, false, List, [], ◌∷◌, length, map, Option, Some, None, Result, Ok, Err}
 use Rattle.task_sheet.specs.declared.prefer.Preference.{Preference}
 use Rattle.task_sheet.specs.Sheet.{Task}
 use Rattle.task_sheet.specs.Indexes.{indexes_of, listed_below}
@@ -12,7 +12,10 @@ use Rattle.ceiling_kernel.specs.Runs.{IsNoOverrun, MeetsTighterBounds, Runs}
 use Rattle.ceiling_kernel.specs.declared.trace.Release.{Release}
 use Rattle.ceiling_kernel.specs.declared.trace.RunFault.{RunFault}
 use Rattle.ceiling_kernel.specs.declared.trace.Trace.{Trace}
+use Rattle.lines.specs.Lines.{kept_lines, lines_of}
+use Rattle.release_list.specs.Reading.{IsTextFault, list_from}
 use Rattle.judge.specs.Faults.{IsRowsFault, IsSettingsFault, rows_fault}
+use Rattle.judge.specs.Front.{behind_front, settings_in}
 use Rattle.judge.specs.Node.{IsOrderOfRows}
 use Rattle.judge.specs.Judgements.{AllJudged, order_judged}
 use Rattle.judge.specs.declared.judging.JudgedTask.{JudgedTask}
@@ -27,15 +30,18 @@ use Rattle.run_lines.specs.declared.bounds.TaskBound.{TaskBound}
 use Rattle.printed_runs.specs.TraceLines.{trace_lines}
 use Rattle.answering.specs.Lines.{infeasible_line}
 use Rattle.answering.specs.Printed.{Prints}
-use Rattle.answering.specs.ReleasesText.{list_in, settings_in}
 use Rattle.answering.specs.Sets.{HaveBoth, OnBoth}
-use Rattle.answering.specs.TextFaults.{IsTextFault}
 use Rattle.answering.specs.declared.refusal.CommandRefusal.{CommandRefusal}
 use Rattle.answering.specs.declared.refusal.CommandRefusal.TheVariants as refusal
 use Rattle.two_input_commands.specs.declared.simulate.Simulated.{Simulated}
 use Rattle.two_input_commands.specs.declared.simulate.Simulated.TheVariants.{Infeasible, Ordered, Ran}
 use Rattle.answering.specs.declared.status.Status.{Status}
 use Rattle.answering.specs.declared.status.Status.TheVariants as status
+
+-- what the text of a release list says behind its settings: its end and its releases, or the number of its first faulty line
+-- there; where the end is missing, one past the last
+abbrev pub list_in : List ℕ → Result (ℕ × List Release) ℕ
+list_in text = list_from (1 + length (lines_of text)) (behind_front (kept_lines text))
 
 -- the kernel's answer on the tasks in an order: each job of which the analysis bounds the response is done by then, a tick of
 -- what blocks it sooner; and none overruns where the order passes

@@ -8,6 +8,7 @@ mod explain_at_lines;
 mod in_order;
 mod judge_lines;
 mod keep_lines;
+pub mod laws;
 mod limits_at_lines;
 mod observe_lines;
 mod simulate;

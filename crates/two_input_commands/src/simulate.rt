@@ -2,21 +2,22 @@
 ghost use Rattle.std.specs.Prelude.{◌≡◌, ◌<◌, length, Ok, [], IfOk, string_bytes};
 ghost use Rattle.task_sheet.specs.Orders.{IsBest, IsOrder};
 ghost use Rattle.assignment.specs.Placings.{tasks_of_places};
+ghost use Rattle.release_list.specs.Reading.{list_at};
 ghost use Rattle.judge.specs.Judgements.{order_judged};
 ghost use Rattle.run_lines.specs.Lines.{task_lines};
 ghost use Rattle.run_lines.specs.TaskBounds.{bounds_of, tasks_of_bounds};
-ghost use Rattle.answering.specs.ReleasesText.{list_at};
 ghost use Rattle.answering.specs.Outcomes.{IsSaidOn};
 ghost use Rattle.answering.specs.Printed.{IsPrinted};
 ghost use Rattle.two_input_commands.specs.Simulate.{IsInOrder, RunsOrder, SimulatesIn, SimulatesRead, SimulatesText, bound_judged, bounds_judged, reached_said, simulation_said, simulation_status};
 
-use answering::{CommandRefusal, Status, print_made, print_stuck, read_releases};
+use answering::{CommandRefusal, Status, print_made, print_stuck};
 use assignment::{Place, Placing, place_all, tasks_of_places};
 use ceiling_kernel::{Kernel, KernelFault, Release, Trace};
 use ceilings::{LockTable, Tabled};
 use judge::{Front, JudgedTask, Judgement, SettingRow, judge_order, order_of_rows, read_front};
 use lines::TextPlace;
 use printed_runs::trace_text;
+use release_list::read_releases;
 use run_lines::{TaskBound, bounds_of, tasks_text};
 use std::alloc::{AllocError, Global};
 use std::io::Write;

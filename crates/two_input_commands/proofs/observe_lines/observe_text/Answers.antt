@@ -1,13 +1,12 @@
 use Rattle.std.proofs.Common.{◌≡◌, ◌∙◌, ℕ, List, Result, Ok, ap, ap₂, inl, subst}
 use Rattle.lines.specs.Lines.{kept_from, lines_of}
-use Rattle.judge.specs.Front.{behind_front, front_of}
+use Rattle.judge.specs.Front.{behind_front, front_of, settings_in}
 use Rattle.judge.specs.Rows.{rows_from}
 use Rattle.judge.specs.Faults.{IsRowsFault}
 use Rattle.judge.specs.declared.rows.SettingRow.{SettingRow}
 use Rattle.trace_text.specs.Rows.{rows_at, rows_from as trace_rows_from}
 use Rattle.trace_text.specs.declared.rows.TraceRow.{TraceRow}
 use Rattle.two_input_commands.specs.Observe.{ObservesRead, rows_behind}
-use Rattle.answering.specs.ReleasesText.{settings_in}
 use Rattle.two_input_commands.proofs.observe_lines.observe_text.Goals as goal
 
 -- the lines that a reader has at the head of a text

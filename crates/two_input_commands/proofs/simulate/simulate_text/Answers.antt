@@ -1,11 +1,11 @@
 use Rattle.std.proofs.Common.{◌≡◌, ◌∙◌, ◌+◌, ℕ, List, length, Result, Ok, ap, ap₂, inl, subst}
 use Rattle.lines.specs.Lines.{kept_from, lines_of}
 use Rattle.ceiling_kernel.specs.declared.trace.Release.{Release}
-use Rattle.judge.specs.Front.{behind_front, front_of}
+use Rattle.release_list.specs.Reading.{list_at, list_from}
+use Rattle.judge.specs.Front.{behind_front, front_of, settings_in}
 use Rattle.judge.specs.Rows.{rows_from}
 use Rattle.judge.specs.Faults.{IsRowsFault}
-use Rattle.answering.specs.ReleasesText.{list_at, list_from, list_in, settings_in}
-use Rattle.two_input_commands.specs.Simulate.{SimulatesRead}
+use Rattle.two_input_commands.specs.Simulate.{SimulatesRead, list_in}
 use Rattle.two_input_commands.proofs.Ordered.{in_order_ok}
 use Rattle.two_input_commands.proofs.simulate.simulate_text.Goals as goal
 

@@ -1,5 +1,5 @@
-use Rattle.set_commands.proofs.ReadBackLaws.{list_again, densest_again, random_again}
-use Rattle.set_commands.proofs.laws.lists_are_read_back.Goals as goal
+use Rattle.release_list.proofs.ReadBackLaws.{list_again, densest_again, random_again}
+use Rattle.release_list.proofs.laws.lists_are_read_back.Goals as goal
 
 pub returns-clause-any : goal.returns-clause-any
 returns-clause-any c = λ until rs short all. list_again until rs short all

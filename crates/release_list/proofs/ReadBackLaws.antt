@@ -2,7 +2,7 @@
 use Rattle.std.proofs.Common.{◌≡◌, ℕ, ◌+◌, ◌^◌, ◌<◌, ◌≤◌, ◌==◌, nat_lt, inl, inr, true, false, List}
 use Rattle.std.proofs.Common.{[], ◌∷◌, ◌++◌, length, map, All, Option, Some, None, Ok, refl, sym}
 use Rattle.std.proofs.Common.{ap, ◌∙◌, subst, append_assoc, arith}
-use Rattle.std.specs.Prelude.{codes, IfSome}
+use Rattle.std.specs.Prelude.{codes, IfSome, unwrap_or}
 use Rattle.std.specs.List.{AllByRecursion}
 use Rattle.std.specs.Fmt.{decimal}
 use Rattle.std.proofs.lemmas.Bool.{cases_Bool, cases_eq, cases_lt, lt-ltb, ne_eqb}
@@ -17,20 +17,18 @@ use Rattle.lines.specs.Lines.{lines_of, is_skipped, kept_from}
 use Rattle.lines.specs.Words.{number_in, name_in, words}
 use Rattle.lines.proofs.NumberLaws.{number_again}
 use Rattle.lines.proofs.Parts.{line_cut}
-use Rattle.certificate.proofs.FailLaws.{decimal_lacks, name_lacks}
+use Rattle.lines.proofs.Lacks.{decimal_lacks, name_lacks}
 use Rattle.ceiling_kernel.specs.declared.trace.Release.{Release}
 use Rattle.ceiling_kernel.specs.declared.trace.RunFault.TheVariants as fault
 use Rattle.ceiling_kernel.specs.Releases.{release_at, no_release}
 use Rattle.release_list.specs.Densest.{densest_of, list_refusal, IsJob, IsDensest}
-use Rattle.release_list.specs.Random.{random_of, random_refusal, drawn, word_after, word_before}
+use Rattle.release_list.specs.Random.{random_of, random_refusal, word_before}
 use Rattle.release_list.specs.Random.{word_of, runs_after, IsRandomJob, IsRandomList}
 use Rattle.release_list.proofs.DensestLaws.{densest-is, horizon_from}
-use Rattle.release_list.proofs.RandomLaws.{drawn_below}
+use Rattle.release_list.proofs.RandomAccepted.{runs_within}
 use Rattle.release_list.proofs.RandomLists.{random_is_list}
 use Rattle.release_list.specs.Text.{late_words, runs_words, release_line, release_lines, list_lines}
-use Rattle.judge.specs.Front.{is_setting}
-use Rattle.answering.specs.ReleasesText.{until_in, release_in, releases_from}
-use Rattle.set_commands.specs.ReadBack.{IsWritable, ReadsBack}
+use Rattle.release_list.specs.Reading.{until_in, release_in, releases_from, IsWritable, ReadsBack}
 
 -- ---- the lines without their ends
 -- the line of a release
@@ -226,10 +224,6 @@ head_words until short =
 until_again : (until : ℕ) → until < 10 ^ 10 → until_in (words (head until)) ≡ Some until
 until_again until short = ap until_in (head_words until short) ∙ number_again until short
 
--- the line of the end sets nothing
-head_sets : (until : ℕ) → until < 10 ^ 10 → is_setting (words (head until)) ≡ false
-head_sets until short = ap is_setting (head_words until short)
-
 -- ---- the list
 releases_again : (n : ℕ) (rs : List Release) → AllByRecursion IsWritable rs
     → releases_from (kept_from n (map row rs)) ≡ Ok rs
@@ -243,7 +237,7 @@ pub list_again : (until : ℕ) (rs : List Release) → until < 10 ^ 10 → All I
 list_again until rs short all =
     let each : AllByRecursion IsWritable rs = recursion_from_All IsWritable rs all in
     rw (all_lines until rs short each)
-    (rw (head_sets until short) (rw (until_again until short, releases_again 2 rs each) refl))
+    (rw (until_again until short, releases_again 2 rs each) refl)
 
 -- each release of a densest list can be read back
 densest_writable : (U : List Task) (until : ℕ) → IsTaskSet U → list_refusal U until ≡ None
@@ -279,16 +273,6 @@ random_horizon U until seed none = elim (cases_lt 60000000 until) [
   | inr within ↦ within
 ]
 
--- a job of it executes no more than its task's cost
-runs_most : (t : Task) (x : ℕ) → 0 < t.cost → IfSome (runs_after t x) (λ n. n ≤ t.cost)
-runs_most t x some = elim (cases_Bool (drawn (word_after (word_after x)) 4 == 0)) [
-  | inl all ↦ rw all tt
-  | inr part ↦
-      let small : drawn (word_after (word_after (word_after x))) t.cost < t.cost =
-      drawn_below (word_after (word_after x)) t.cost some in
-      rw part (omega arith)
-]
-
 -- so each release of it can be read back
 random_writable : (U : List Task) (until seed : ℕ) → IsTaskSet U
     → random_refusal U until seed ≡ None → All IsWritable (random_of U until seed)
@@ -303,8 +287,8 @@ random_writable U until seed set none = λ k d lt.
     let x : ℕ = word_of (word_before seed s.0) s.1 in
     let runs : (release_at rs k).runs ≡ runs_after (task_at U s.0) x = ap (λ r. r.runs) job.is in
     let most : IfSome (runs_after (task_at U s.0) x) (λ n. n < 10 ^ 10) =
-    few_some (runs_after (task_at U s.0) x) (task_at U s.0).cost (runs_most (task_at U s.0) x
-    (omega (arith, v.cost_from))) (omega (arith, v.cost_to, v.period_to)) in
+    few_some (runs_after (task_at U s.0) x) (task_at U s.0).cost (runs_within (task_at U s.0) x
+    (omega (arith, v.cost_from))).1 (omega (arith, v.cost_to, v.period_to)) in
     subst IsWritable (get_or_default rs k no_release d lt) (record {
       time = omega (arith, job.before, small);
       named = subst IsName (sym own) v.named;
@@ -312,7 +296,7 @@ random_writable U until seed set none = λ k d lt.
       runs = subst (λ o. IfSome o (λ n. n < 10 ^ 10)) (sym runs) most;
     })
   where
-    few_some : (o : Option ℕ) (most : ℕ) → IfSome o (λ n. n ≤ most) → most < 10 ^ 10
+    few_some : (o : Option ℕ) (most : ℕ) → unwrap_or o most ≤ most → most < 10 ^ 10
         → IfSome o (λ n. n < 10 ^ 10)
     few_some None most le small = tt
     few_some (Some n) most le small = omega arith
