@@ -3,17 +3,10 @@ use Rattle.std.proofs.Math.Bool.{and_assoc, and-true}
 use Rattle.std.proofs.Common.{◌≡◌, ◌∙◌, ℕ, Bool, ◌&&◌, nat_le, List, [], ◌∷◌, ◌++◌, map, sym, ap}
 use Rattle.std.proofs.Common.{subst}
 use Rattle.std.proofs.lemmas.List.{map_push}
-use Rattle.book_lock.specs.Own.{own_changes}
 use Rattle.drafts.specs.Machine.{Entry}
 use Rattle.book_lock.specs.declared.pass.Receipt.{Receipt}
-use Rattle.book_lock.specs.TeamPass.{Known, own_after, receiving, is_up_to, admitted_version}
+use Rattle.book_lock.specs.TeamPass.{is_up_to, admitted_version}
 use Rattle.book_lock.specs.PassFields.{receipt_of, IsLatest}
-
-pub received : (old new : Known) (place : ℕ) (l : Entry) → new.team ≡ old.team → new.parts
-    ≡ old.parts → new.tasks ≡ own_after l.decision (own_changes l.changes old.tasks) old.tasks
-    → new.receipts ≡ old.receipts ++ (place, l) ∷ [] → new ≡ receiving old place l
-received old new place l team parts tasks receipts = λ i. let k : Known =
-    record { team = team i; parts = parts i; tasks = tasks i; receipts = receipts i } in k
 
 -- ---- the latest version
 is_up_to-push : (version : ℕ) (rs : List (ℕ × Entry)) (r : ℕ × Entry) → is_up_to version

@@ -1,5 +1,4 @@
 pub mod Own
-pub mod Foreign
 pub mod TeamPass
 pub mod PassFields
 pub mod Reached

@@ -1,45 +1,22 @@
--- A team's own tasks, and what its changes make of them.
-use Rattle.std.specs.Prelude.{◌≡◌, ◌≢◌, ℕ, ◌==◌, true, List, [], ◌∷◌, filter, find, map, Option, if◌then◌else◌}
-use Rattle.std.specs.List.Sorted.{IsStrictlySortedBy}
+-- A team's own tasks, and what a decision makes of them.
+use Rattle.std.specs.Prelude.{◌≡◌, ◌≢◌, ℕ, ◌==◌, true, List, filter, Result}
 use Rattle.std.specs.Ordering.{nat_cmp, is_lt}
 use Rattle.std.specs.Cmp.Lexicographic.{slice_cmp}
-use Rattle.task_sheet.specs.Sheet.{Task, same_bytes}
-use Rattle.task_sheet.specs.Rank.{rank_cmp}
-use Rattle.task_sheet.specs.TaskSet.{same_name, others_of, AreDistinct}
 use Rattle.drafts.specs.declared.roster.Owned.{Owned}
-use Rattle.drafts.specs.declared.change.Change.{Change}
-use Rattle.drafts.specs.declared.change.Change.TheVariants.{Put, Remove}
+use Rattle.drafts.specs.declared.change.Refusal.{Refusal}
+use Rattle.drafts.specs.Applied.{held}
+use Rattle.drafts.specs.Machine.{Ruling, moved}
 
--- the sheets that a team holds, by rank
-abbrev pub own_of : ℕ → List Owned → List Task
-own_of team tasks = map (λ o. o.sheet) (filter (λ o. o.team == team) tasks)
+-- the tasks that a team holds, by rank
+abbrev pub own_of : ℕ → List Owned → List Owned
+own_of team tasks = filter (λ o. o.team == team) tasks
 
--- sheets by rank, of which no two have one name
-pub record IsRanked (tasks : List Task) : Type 0 where
-  pub ranked : IsStrictlySortedBy rank_cmp tasks
-  pub distinct : AreDistinct same_name tasks
-
--- the sheet stands before the first that isn't of lesser rank
-abbrev pub ranked_in : Task → List Task → List Task
-ranked_in x [] = x ∷ []
-ranked_in x (y ∷ ys) = if is_lt (rank_cmp y x) then y ∷ ranked_in x ys else x ∷ y ∷ ys
-
--- a team's own tasks after one of its changes
-abbrev pub own_change : List ℕ → Change → List Task → List Task
-own_change name (Put sheet) own = ranked_in sheet (others_of own sheet.name)
-own_change name Remove own = others_of own name
-
--- after all of them
-abbrev pub own_changes : List (List ℕ × Change) → List Task → List Task
-own_changes [] own = own
-own_changes (c ∷ changes) own = own_changes changes (own_change c.0 c.1 own)
-
--- the sheet of that name
-abbrev pub sheet_named : List ℕ → List Task → Option Task
-sheet_named name tasks = find (λ x. same_bytes x.name name) tasks
+-- a team's own tasks after a decision on changes that come to this on them: as on a desk that has no others
+abbrev pub own_after : Ruling → Result (List Owned) Refusal → List Owned → List Owned
+own_after decision outcome own = (moved (record { version = 0; tasks = own }) decision outcome).tasks
 
 -- the first name by bytes on which the two differ
-pub record IsForeignName (book pass : List Task) (name : List ℕ) : Type 0 where
-  pub differs : sheet_named name book ≢ sheet_named name pass
+pub record IsForeignName (book pass : List Owned) (name : List ℕ) : Type 0 where
+  pub differs : held name book ≢ held name pass
   pub first : (other : List ℕ) → is_lt (slice_cmp nat_cmp other name) ≡ true
-      → sheet_named other book ≡ sheet_named other pass
+      → held other book ≡ held other pass

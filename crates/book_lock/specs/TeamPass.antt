@@ -1,30 +1,25 @@
 -- What a team's side, its pass, knows without the lock: its number, its own tasks, and for each of its commits that was
 -- decided the log entry and its place. `close` compares this with the log.
 use Rattle.std.specs.Prelude.{◌≡◌, ℕ, ◌+◌, ◌-◌, ◌==◌, List, [], ◌∷◌, ◌++◌, length, Bool, true, false, ◌||◌, ◌&&◌, nat_le, zero, suc, if◌then◌else◌}
-use Rattle.task_sheet.specs.Sheet.{Task}
-use Rattle.book_lock.specs.Own.{own_changes}
+use Rattle.drafts.specs.declared.roster.Owned.{Owned}
 use Rattle.drafts.specs.declared.team.TheConstants.{TEAM_LIMIT}
+use Rattle.drafts.specs.Applied.{all_changes}
 use Rattle.drafts.specs.Machine.{Ruling, Admitted, Refused, Infeasible, Entry}
+use Rattle.book_lock.specs.Own.{own_after}
 
 -- its team, its parts of the ledger of decisions, the team's tasks by rank, and each decision with its place
 pub record Known : Type 0 where
   pub team : ℕ
   pub parts : ℕ
-  pub tasks : List Task
+  pub tasks : List Owned
   pub receipts : List (ℕ × Entry)
-
--- a team's own tasks after a decision: these where it is admitted, and else those as they were
-abbrev pub own_after : Ruling → List Task → List Task → List Task
-own_after (Admitted version) changed own = changed
-own_after (Refused refusal) changed own = own
-own_after (Infeasible obstruction) changed own = own
 
 -- the pass after the decision at that place
 abbrev pub receiving : Known → ℕ → Entry → Known
 receiving p place l = record {
   team = p.team;
   parts = p.parts;
-  tasks = own_after l.decision (own_changes l.changes p.tasks) p.tasks;
+  tasks = own_after l.decision (all_changes p.team p.tasks l.changes) p.tasks;
   receipts = p.receipts ++ (place, l) ∷ [];
 }
 

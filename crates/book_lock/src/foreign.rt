@@ -1,69 +1,53 @@
 //! Whether the book's tasks of a team are those that its pass knows.
 
-ghost use Rattle.std.specs.Prelude.{◌≡◌, IfOk, MatchOption, option_map};
-ghost use Rattle.book_lock.specs.Own.{own_of, sheet_named, IsRanked, IsForeignName};
-ghost use Rattle.book_lock.specs.Foreign.{differ_on, first_name, first_told};
+ghost use Rattle.std.specs.Prelude.{◌≡◌, ◌↔◌, true, IsTrue, IfOk, IfSome, MatchOption};
+ghost use Rattle.std.specs.Ordering.{nat_cmp, is_lt};
+ghost use Rattle.std.specs.Cmp.Lexicographic.{slice_cmp};
+ghost use Rattle.drafts.specs.Applied.{held};
+ghost use Rattle.drafts.specs.Rosters.{IsRoster};
+ghost use Rattle.book_lock.specs.Own.{own_of, IsForeignName};
 
 use crate::own::OwnTasks;
-use drafts::{NodeState, Team};
+use drafts::{NodeState, Owned, Team, find_task};
 use std::alloc::{AllocError, Global};
-use task_sheet::{Name, Sheet};
+use task_sheet::Name;
 
-// The sheet of a name.
-fn sheet_in(name: Name, tasks: &[Sheet]) -> Option<&Sheet>
-    ensures { option_map (λ s. s.now) result ≡ sheet_named name tasks.now }
+// Whether the two hold the same under a name.
+fn agree(book: &[Owned], pass: &[Owned], name: Name) -> bool
+    ensures { IsTrue result ↔ (held name book.now ≡ held name pass.now) }
 {
-    for sheet in tasks {
-        if sheet.name() == name {
-            return Some(sheet);
-        }
-    }
-    None
-}
-
-// Whether the two have another sheet of a name.
-fn differ_on(book: &[Sheet], pass: &[Sheet], name: Name) -> bool
-    ensures { result ≡ differ_on book.now pass.now name }
-{
-    match (sheet_in(name, book), sheet_in(name, pass)) {
-        (Some(theirs), Some(own)) => theirs != own,
-        (None, None) => false,
-        _ => true,
+    match (find_task(book, name), find_task(pass, name)) {
+        (Some(theirs), Some(own)) => theirs.is_same(own),
+        (None, None) => true,
+        _ => false,
     }
 }
 
-// The first by bytes of a name and of the name that was found so far.
-fn first_name(first: Option<Name>, name: Name) -> Name
-    ensures { result ≡ first_name first name }
+// Whether a name is before the one that was found so far, if one was.
+fn is_before(name: Name, first: Option<Name>) -> bool
+    ensures { IsTrue result ↔ IfSome first (λ f. is_lt (slice_cmp nat_cmp name f) ≡ true) }
 {
     match first {
-        Some(first) => { if name < first { name } else { first } }
-        None => name,
+        Some(first) => name < first,
+        None => true,
     }
-}
-
-// The first by bytes of a name and of those names of some sheets on which the two differ.
-fn first_told(sheets: &[Sheet], book: &[Sheet], pass: &[Sheet], first: Option<Name>) -> Option<Name>
-    ensures { result ≡ first_told (differ_on book.now pass.now) sheets.now first }
-{
-    let mut first = first;
-    for sheet in sheets {
-        if differ_on(book, pass, sheet.name()) {
-            first = Some(first_name(first, sheet.name()));
-        }
-    }
-    first
 }
 
 // The first name by bytes on which the two differ.
-fn foreign_name(book: &[Sheet], pass: &[Sheet]) -> Option<Name>
-    requires book { IsRanked book.now }
-    requires pass { IsRanked pass.now }
+fn foreign_name(book: &[Owned], pass: &[Owned]) -> Option<Name>
+    requires book { IsRoster book.now }
+    requires pass { IsRoster pass.now }
     ensures { MatchOption result (book.now ≡ pass.now)
         (λ name. IsForeignName book.now pass.now name) }
 {
-    let first = first_told(book, book, pass, None);
-    first_told(pass, book, pass, first)
+    let mut first = None;
+    for task in book.iter().chain(pass) {
+        let name = task.sheet.name();
+        if is_before(name, first) && !agree(book, pass, name) {
+            first = Some(name);
+        }
+    }
+    first
 }
 
 /// The first name by bytes on which a state's tasks of a team and those that its pass knows differ.
@@ -78,5 +62,5 @@ pub(crate) fn foreign(
         (λ name. IsForeignName (own_of team state.now.tasks) own.now name)) }
 {
     let book = OwnTasks::of(alloc, state, team)?;
-    Ok(foreign_name(book.sheets(), own.sheets()))
+    Ok(foreign_name(book.tasks(), own.tasks()))
 }

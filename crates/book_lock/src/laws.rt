@@ -3,12 +3,12 @@
 ghost use Rattle.std.specs.Prelude.{◌≡◌, ℕ, List, Ok};
 ghost use Rattle.drafts.specs.declared.roster.Owned.{Owned};
 ghost use Rattle.drafts.specs.declared.change.Change.{Change};
-ghost use Rattle.drafts.specs.Applied.{applied};
+ghost use Rattle.drafts.specs.Applied.{all_changes, applied};
 ghost use Rattle.drafts.specs.Books.{Book, IsLegalBook};
 ghost use Rattle.drafts.specs.Edits.{Draft};
 ghost use Rattle.drafts.specs.Proposals.{ProposalData};
 ghost use Rattle.book_lock.specs.declared.answer.Settlement.TheVariants.{Decided};
-ghost use Rattle.book_lock.specs.Own.{own_of, own_changes};
+ghost use Rattle.book_lock.specs.Own.{own_of};
 ghost use Rattle.book_lock.specs.Opening.{IsOwn};
 ghost use Rattle.book_lock.specs.TeamPass.{Known};
 ghost use Rattle.book_lock.specs.Settles.{IsEntered, Settles};
@@ -19,7 +19,7 @@ pub fn own_tasks_are_known()
     ensures changes { (b : Book) (team : ℕ) (changes : List (List ℕ × Change)) (tasks : List Owned)
         → IsLegalBook b
         → applied team b.desk.tasks changes ≡ Ok tasks
-        → own_of team tasks ≡ own_changes changes (own_of team b.desk.tasks) }
+        → all_changes team (own_of team b.desk.tasks) changes ≡ Ok (own_of team tasks) }
     ensures entered { (b : Book) (d : Draft) (old new : Known) (place : ℕ) (next : Book)
         → IsLegalBook b
         → d.team ≡ old.team → IsOwn b.desk old → IsEntered b d old place next new

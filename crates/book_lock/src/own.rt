@@ -1,99 +1,42 @@
 //! A team's own tasks, and what its changes make of them.
 
-ghost use Rattle.std.specs.Prelude.{◌≡◌, ◌≤◌, [], ◌∷◌, ◌++◌, length, if◌then◌else◌, IfOk, List};
-ghost use Rattle.std.specs.List.{insert};
-ghost use Rattle.std.specs.Ordering.{is_lt};
-ghost use Rattle.task_sheet.specs.Rank.{rank_cmp};
-ghost use Rattle.task_sheet.specs.Sheet.{Task};
+ghost use Rattle.std.specs.Prelude.{◌≡◌, [], IfOk};
+ghost use Rattle.drafts.specs.Applied.{all_changes};
+ghost use Rattle.drafts.specs.Rosters.{IsRoster};
 ghost use Rattle.drafts.specs.Rulings.{ruling_of};
-ghost use Rattle.book_lock.specs.TeamPass.{own_after};
-ghost use Rattle.book_lock.specs.Own.{own_of, IsRanked, ranked_in, own_change, own_changes};
+ghost use Rattle.book_lock.specs.Own.{own_of, own_after};
 
-use drafts::{Change, Decision, Draft, NodeState, Team};
+use drafts::{Decision, Draft, NodeState, Owned, Refusal, Team, make_changes};
 use std::alloc::{AllocError, Global};
 use std::marker::Model;
-use task_sheet::{Name, Sheet, copy_others, copy_sheets};
 
 /// A team's own tasks, by rank.
 #[derive(Drop)]
 pub(crate) struct OwnTasks {
-    sheets: Vec<Sheet>,
+    tasks: Vec<Owned>,
 }
 
 impl Model for OwnTasks {
-    ghost Value = { List Task };
+    ghost use Rattle.std.specs.Prelude.{List};
+    ghost use Rattle.drafts.specs.declared.roster.Owned.{Owned};
+    ghost use Rattle.drafts.specs.Rosters.{IsRoster};
 
-    ghost view = { λ o. o.sheets.items };
+    ghost Value = { List Owned };
 
-    ghost invariant = { λ o. IsRanked o.sheets.items };
+    ghost view = { λ o. o.tasks.items };
+
+    ghost invariant = { λ o. IsRoster o.tasks.items };
 }
 
-// Whether a sheet is of lesser rank than another: by weight, then by the bytes of the name.
-fn is_below(sheet: &Sheet, other: &Sheet) -> bool
-    ensures { result ≡ is_lt (rank_cmp sheet.now other.now) }
+// The same tasks again.
+fn copy_tasks(alloc: Global, tasks: &[Owned]) -> Result<Vec<Owned>, AllocError>
+    ensures { IfOk result (λ v. v.items ≡ tasks.now) }
 {
-    let weights = sheet.weight().cmp(&other.weight());
-    weights.then(sheet.name().cmp(&other.name())).is_lt()
-}
-
-// The place of a sheet among those by rank.
-fn place_of(own: &[Sheet], sheet: &Sheet) -> usize
-    ensures within { result ≤ length own.now }
-    ensures ranked { ranked_in sheet.now own.now ≡ insert own.now result sheet.now }
-{
-    for (i, other) in own.iter().enumerate() {
-        if !is_below(other, sheet) {
-            return i;
-        }
+    let mut copies = Vec::new(alloc);
+    for task in tasks {
+        copies.push(task.copy(alloc)?)?;
     }
-    own.len()
-}
-
-// Adds a sheet that says the same, where it is wanted.
-fn add_if(
-    alloc: Global,
-    sheets: &mut Vec<Sheet>,
-    sheet: &Sheet,
-    wanted: bool,
-) -> Result<(), AllocError>
-    ensures { IfOk result (λ _. sheets.new.items ≡ (if wanted
-        then sheets.old.items ++ sheet.now ∷ []
-        else sheets.old.items)) }
-{
-    if wanted {
-        sheets.push(sheet.copy(alloc)?)?;
-    }
-    Ok(())
-}
-
-// Puts a sheet in by its rank.
-fn put_in(own: &mut Vec<Sheet>, sheet: Sheet) -> Result<(), AllocError>
-    ensures { IfOk result (λ _. own.new.items ≡ ranked_in sheet own.old.items) }
-{
-    let place = place_of(own, &sheet);
-    match own.insert(place, sheet) {
-        Ok(()) => Ok(()),
-        Err(_) => Err(AllocError),
-    }
-}
-
-// The tasks after one change.
-fn change_one(
-    alloc: Global,
-    own: &[Sheet],
-    name: Name,
-    change: &Change,
-) -> Result<Vec<Sheet>, AllocError>
-    ensures { IfOk result (λ v. v.items ≡ own_change name change.now own.now) }
-{
-    match change {
-        Change::Put(sheet) => {
-            let mut tasks = copy_others(alloc, own, sheet.name())?;
-            put_in(&mut tasks, sheet.copy(alloc)?)?;
-            Ok(tasks)
-        }
-        Change::Remove => copy_others(alloc, own, name),
-    }
+    Ok(copies)
 }
 
 impl OwnTasks {
@@ -102,7 +45,7 @@ impl OwnTasks {
         ensures { result ≡ [] }
     {
         OwnTasks {
-            sheets: Vec::new(alloc),
+            tasks: Vec::new(alloc),
         }
     }
 
@@ -110,39 +53,44 @@ impl OwnTasks {
     pub(crate) fn of(alloc: Global, state: &NodeState, team: Team) -> Result<OwnTasks, AllocError>
         ensures { IfOk result (λ own. own ≡ own_of team state.now.tasks) }
     {
-        let mine = state.tasks_of(team);
-        let mut sheets = Vec::new(alloc);
-        for (i, sheet) in state.set().sheets().iter().enumerate() {
-            add_if(alloc, &mut sheets, sheet, mine.has(i))?;
-        }
-        Ok(OwnTasks { sheets })
+        let mut tasks = state.roster(alloc)?;
+        tasks.retain(|task| task.team.number() == team.number());
+        Ok(OwnTasks { tasks })
     }
 
-    /// The sheets by rank.
-    pub(crate) fn sheets(&self) -> &[Sheet]
+    /// The tasks by rank.
+    pub(crate) fn tasks(&self) -> &[Owned]
         ensures same { result.now ≡ self.now }
-        ensures ranked { IsRanked self.now }
+        ensures roster { IsRoster self.now }
     {
-        &self.sheets
+        &self.tasks
     }
 
-    // Those after a draft's changes.
-    pub(crate) fn changed(&self, alloc: Global, draft: &Draft) -> Result<OwnTasks, AllocError>
-        ensures { IfOk result (λ own. own ≡ own_changes draft.now.changes self.now) }
+    // Those after a draft's changes, or why these are refused.
+    pub(crate) fn changed(
+        &self,
+        alloc: Global,
+        draft: &Draft,
+    ) -> Result<Result<OwnTasks, Refusal>, AllocError>
+        ensures { IfOk result (λ r. r ≡ all_changes draft.now.team self.now draft.now.changes) }
     {
-        let mut sheets = copy_sheets(alloc, &self.sheets)?;
-        for (name, change) in draft.changes().iter() {
-            sheets = change_one(alloc, &sheets, *name, change)?;
+        let mut tasks = copy_tasks(alloc, &self.tasks)?;
+        match make_changes(alloc, draft.team(), &mut tasks, draft.changes())? {
+            Some(refusal) => Ok(Err(refusal)),
+            None => Ok(Ok(OwnTasks { tasks })),
         }
-        Ok(OwnTasks { sheets })
     }
 
     // Takes those that a decision's changes lead to, where it admits them.
-    pub(crate) fn keep(&mut self, decision: &Decision, changed: OwnTasks)
+    pub(crate) fn keep(&mut self, decision: &Decision, changed: Result<OwnTasks, Refusal>)
         ensures { self.new ≡ own_after (ruling_of decision.now) changed self.old }
     {
         match decision {
-            Decision::Admitted { version: _ } => *self = changed,
+            Decision::Admitted { version: _ } => {
+                if let Ok(tasks) = changed {
+                    *self = tasks;
+                }
+            }
             Decision::Refused { refusal: _ } => {}
             Decision::Infeasible { obstruction: _ } => {}
         }

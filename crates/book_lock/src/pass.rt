@@ -6,12 +6,11 @@ ghost use Rattle.book_lock.specs.TeamPass.{newcomer, is_up_to, admitted_version}
 ghost use Rattle.book_lock.specs.PassFields.{receipt_of};
 
 use crate::own::OwnTasks;
-use drafts::{Decision, Entry, Team};
+use drafts::{Decision, Entry, Owned, Team};
 use std::alloc::Global;
 use std::marker::Model;
 use std::sync::Arc;
 use std::sync::ledger::{Ledger, Share};
-use task_sheet::Sheet;
 
 /// A decision on the team's changes, and its place in the log.
 #[derive(Drop)]
@@ -100,11 +99,11 @@ impl<L: Ledger> Pass<L> {
         self.receipts.len()
     }
 
-    /// The team's sheets by rank.
-    pub fn tasks(&self) -> &[Sheet]
+    /// The team's tasks by rank.
+    pub fn tasks(&self) -> &[Owned]
         ensures { result.now ≡ self.now.tasks }
     {
-        self.tasks.sheets()
+        self.tasks.tasks()
     }
 
     /// The decisions with their places, in their order.

@@ -89,7 +89,7 @@ module _ (team : ℕ) where
       last is in
       all made.0 last changes m made.2 ∙ one tasks made.0 c.0 c.1 m made.1
 
-  few : (tasks last : List Owned) → if_few tasks ≡ Ok last → tasks ≡ last
+  pub few : (tasks last : List Owned) → if_few tasks ≡ Ok last → tasks ≡ last
   few tasks last is = elim (cases_Bool (nat_le (length tasks) 32)) [
     | inl fits ↦ let e : Ok tasks ≡ Ok last = (rw fits at is) in cc
     | inr many ↦ let e : Err Refusal.TooManyTasks ≡ Ok last = (rw many at is) in absurd (cc)

@@ -4,20 +4,19 @@ use Rattle.std.proofs.Common.{refl, sym, ◌∙◌, ap, subst}
 use Rattle.std.specs.List.{AllByRecursion}
 use Rattle.std.proofs.lemmas.Bool.{cases_Bool}
 use Rattle.std.proofs.lemmas.List.Elements.{All-from_recursion}
-use Rattle.task_sheet.specs.Sheet.{IsTask, same_bytes}
+use Rattle.task_sheet.specs.Sheet.{IsTask}
 use Rattle.task_sheet.specs.Verdicts as verdict
-use Rattle.task_sheet.proofs.SetLaws.{passing}
 use Rattle.task_sheet.proofs.VerdictLaws.{IsVerdictOf-one}
 use Rattle.drafts.specs.declared.roster.Owned.{Owned}
 use Rattle.drafts.specs.declared.change.Change.{Change}
 use Rattle.drafts.specs.declared.change.Change.TheVariants.{Put, Remove}
 use Rattle.drafts.specs.declared.change.Refusal.{Refusal}
-use Rattle.drafts.specs.Applied.{set_of, held, is_foreign, is_there, without_name, after_change}
-use Rattle.drafts.specs.Applied.{then_on, if_few, all_changes, applied}
+use Rattle.drafts.specs.Applied.{set_of, bears_name, held, is_foreign, is_there, without_name}
+use Rattle.drafts.specs.Applied.{after_change, then_on, if_few, all_changes, applied}
 use Rattle.drafts.specs.Machine.{MachineState, Ruling, Admitted, Refused, Infeasible, Entry}
 use Rattle.drafts.specs.Machine.{IsRuling, moved, after_entry, IsLegal}
 use Rattle.drafts.specs.Commits.{commit_of, commits_of, IsTaskChange, PutTasks}
-use Rattle.drafts.proofs.RosterLaws.{all-placed, set_of-without}
+use Rattle.drafts.proofs.RosterLaws.{all-placed, all-kept}
 
 -- ---- tasks stay tasks
 abbrev AreTasks : List Owned → Type 0
@@ -28,8 +27,7 @@ ComeToTasks (Ok ts) = AreTasks ts
 ComeToTasks (Err refusal) = Unit {0}
 
 tasks-without : (name : List ℕ) (ts : List Owned) → AreTasks ts → AreTasks (without_name name ts)
-tasks-without name ts all = subst (AllByRecursion IsTask) (sym (set_of-without name ts))
-    (passing IsTask (λ x. not (same_bytes x.name name)) (set_of ts) all)
+tasks-without name ts all = all-kept (λ o. not (bears_name name o)) IsTask ts all
 
 tasks-changed : (team : ℕ) (ts : List Owned) (name : List ℕ) (change : Change) → AreTasks ts
     → IsTaskChange change → ComeToTasks (after_change team ts name change)

@@ -3,7 +3,7 @@ use Rattle.std.proofs.Common.{◌≡◌, ℕ, zero, suc, ◌+◌, ◌≤◌, inl
 use Rattle.std.proofs.Common.{nat_le, List, [], ◌∷◌, ◌++◌, length, insert, position, drop}
 use Rattle.std.proofs.Common.{slice_get, Some, None, Ok, Err, Ordering, Less, Equal, Greater, refl}
 use Rattle.std.proofs.Common.{sym, ◌∙◌, ap, subst, add-one, arith}
-use Rattle.std.specs.List.{AllByRecursion, list_any, position_or_len}
+use Rattle.std.specs.List.{filter, AllByRecursion, list_any, position_or_len}
 use Rattle.std.specs.List.Sorted.{IsStrictlySortedBy}
 use Rattle.std.specs.Ordering.{is_lt}
 use Rattle.std.proofs.lemmas.Bool.{cases_Bool, both_ways}
@@ -13,18 +13,17 @@ use Rattle.std.proofs.lemmas.List.Sums.{prefix_len-le-length}
 use Rattle.std.proofs.lemmas.List.Folds.{list_any-append}
 use Rattle.std.proofs.lemmas.List.Elements.{recursion_from_All}
 use Rattle.std.proofs.lemmas.List.Sorted.{IsPermutation-sym}
-use Rattle.std.proofs.lemmas.List.Kept.{IsStrictlySortedBy-filter}
 use Rattle.task_sheet.specs.Sheet.{Task, IsValidSheet, same_bytes}
 use Rattle.task_sheet.specs.Rank.{rank_cmp, IsByRank}
-use Rattle.task_sheet.specs.TaskSet.{same_name, others_of, first_repeat, AreDistinct, IsTaskSet}
+use Rattle.task_sheet.specs.TaskSet.{same_name, first_repeat, AreDistinct, IsTaskSet}
 use Rattle.task_sheet.specs.SheetsFault.{sheets_fault}
-use Rattle.task_sheet.proofs.SetLaws.{rank_total, same_turned, below, passing, distinct_less}
+use Rattle.task_sheet.proofs.SetLaws.{rank_total, same_turned, below}
 use Rattle.task_sheet.proofs.Unique.{sorted_unique}
 use Rattle.drafts.specs.declared.roster.Owned.{Owned}
 use Rattle.drafts.specs.declared.change.Change.{Change}
 use Rattle.drafts.specs.declared.change.Refusal.{Refusal}
-use Rattle.drafts.specs.Applied.{set_of, teams_of, owned_of, without_name, placed, with_task}
-use Rattle.drafts.specs.Applied.{after_change, then_on, all_changes, if_few}
+use Rattle.drafts.specs.Applied.{set_of, teams_of, owned_of, bears_name, without_name, placed}
+use Rattle.drafts.specs.Applied.{with_task, after_change, then_on, all_changes, if_few}
 use Rattle.drafts.specs.Rosters.{IsRoster}
 use Rattle.drafts.proofs.OwnedFinds.{position-some, position-none}
 
@@ -48,7 +47,7 @@ pub beyond : (x y : Task) (zs : List Task) → rank_cmp x y ≡ Less
 beyond x y [] e all = tt
 beyond x y (z ∷ zs) e all = (rank_total.trans x y z e all.0, beyond x y zs e all.1)
 
-ranked-placed : (o : Owned) (ts : List Owned) → IsStrictlySortedBy rank_cmp (set_of ts)
+pub ranked-placed : (o : Owned) (ts : List Owned) → IsStrictlySortedBy rank_cmp (set_of ts)
     → AllByRecursion (λ y. same_name o.sheet y ≡ false) (set_of ts)
     → IsStrictlySortedBy rank_cmp (set_of (placed o ts))
 unfolding IsStrictlySortedBy
@@ -75,36 +74,54 @@ distinct-placed o (x ∷ ts) names apart = elim (cases_Bool (is_lt (rank_cmp x.s
   | inr ge ↦ rw ge (apart, names)
 ]
 
--- ---- tasks without a name
+-- ---- fewer tasks
 
-pub set_of-without : (name : List ℕ) (ts : List Owned)
-    → set_of (without_name name ts) ≡ others_of (set_of ts) name
-set_of-without name [] = refl
-set_of-without name (x ∷ ts) = elim (cases_Bool (same_bytes x.sheet.name name)) [
-  | inl here ↦ rw here (set_of-without name ts)
-  | inr away ↦ rw away (ap (λ ss. x.sheet ∷ ss) (set_of-without name ts))
-]
+module _ (p : Owned → Bool) where
+  pub all-kept : (P : Task → Type 0) (ts : List Owned) → AllByRecursion P (set_of ts)
+      → AllByRecursion P (set_of (filter p ts))
+  all-kept P [] all = tt
+  all-kept P (x ∷ ts) all = elim (cases_Bool (p x)) [
+    | inl stays ↦ rw stays (all.0, all-kept P ts all.1)
+    | inr goes ↦ rw goes (all-kept P ts all.1)
+  ]
 
-apart-without : (s : Task) (ts : List Owned)
+  pub ranked-kept : (ts : List Owned) → IsStrictlySortedBy rank_cmp (set_of ts)
+      → IsStrictlySortedBy rank_cmp (set_of (filter p ts))
+  unfolding IsStrictlySortedBy
+  ranked-kept [] up = tt
+  ranked-kept (x ∷ ts) up = elim (cases_Bool (p x)) [
+    | inl stays ↦ rw stays
+        (all-kept (λ y. rank_cmp x.sheet y ≡ Less) ts up.0, ranked-kept ts up.1)
+    | inr goes ↦ rw goes (ranked-kept ts up.1)
+  ]
+
+  distinct-kept : (ts : List Owned) → AreDistinct same_name (set_of ts)
+      → AreDistinct same_name (set_of (filter p ts))
+  distinct-kept [] names = tt
+  distinct-kept (x ∷ ts) names = elim (cases_Bool (p x)) [
+    | inl stays ↦ rw stays
+        (all-kept (λ y. same_name x.sheet y ≡ false) ts names.0, distinct-kept ts names.1)
+    | inr goes ↦ rw goes (distinct-kept ts names.1)
+  ]
+
+  pub roster-kept : (ts : List Owned) → IsRoster ts → IsRoster (filter p ts)
+  roster-kept ts roster = record {
+    valid = all-kept IsValidSheet ts roster.valid;
+    ranked = ranked-kept ts roster.ranked;
+    distinct = distinct-kept ts roster.distinct;
+  }
+
+pub roster-without : (name : List ℕ) (ts : List Owned) → IsRoster ts
+    → IsRoster (without_name name ts)
+roster-without name ts roster = roster-kept (λ o. not (bears_name name o)) ts roster
+
+pub apart-without : (s : Task) (ts : List Owned)
     → AllByRecursion (λ y. same_name s y ≡ false) (set_of (without_name s.name ts))
 apart-without s [] = tt
 apart-without s (x ∷ ts) = elim (cases_Bool (same_bytes x.sheet.name s.name)) [
   | inl here ↦ rw here (apart-without s ts)
   | inr away ↦ rw away (same_turned s x.sheet ∙ away, apart-without s ts)
 ]
-
-pub roster-without : (name : List ℕ) (ts : List Owned) → IsRoster ts
-    → IsRoster (without_name name ts)
-roster-without name ts roster =
-    let p : Task → Bool = λ x. not (same_bytes x.name name) in
-    let e = sym (set_of-without name ts) in
-    record {
-      valid =
-          subst (AllByRecursion IsValidSheet) e (passing IsValidSheet p (set_of ts) roster.valid);
-      ranked = subst (IsStrictlySortedBy rank_cmp) e
-          (IsStrictlySortedBy-filter rank_cmp p (set_of ts) roster.ranked);
-      distinct = subst (AreDistinct same_name) e (distinct_less p (set_of ts) roster.distinct);
-    }
 
 pub roster-with : (o : Owned) (ts : List Owned) → IsValidSheet o.sheet → IsRoster ts
     → IsRoster (with_task o.sheet.name o ts)

@@ -85,8 +85,8 @@ fn make_change(
     }
 }
 
-// Makes a team's changes in their order, or answers why the first that is refused is.
-fn make_changes(
+/// Makes a team's changes in their order, or answers why the first that is refused is.
+pub fn make_changes(
     alloc: Global,
     team: Team,
     tasks: &mut Vec<Owned>,

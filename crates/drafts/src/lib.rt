@@ -14,14 +14,14 @@ mod settling;
 mod state;
 mod team;
 
-pub use applying::{Applied, apply};
+pub use applying::{Applied, apply, make_changes};
 pub use book::{Book, Decided};
 pub use change::{Change, Refusal};
 pub use draft::{CHANGE_LIMIT, Draft, EditCause, EditRefusal, PutFault};
 pub use entry::{Decision, Entry};
 pub use judging::{Judged, judge, share};
 pub use proposal::{Proposal, ProposeFault, VerdictFault, propose, propose_with};
-pub use roster::Owned;
+pub use roster::{Owned, find_task};
 pub use settling::{HeldFault, SettleFault, Settled};
 pub use state::NodeState;
 pub use team::{TEAM_LIMIT, Team};

@@ -1,6 +1,6 @@
 //! Rosters: the tasks on the node with their teams, by rank, while changes are made.
 
-ghost use Rattle.std.specs.Prelude.{◌≡◌, ◌≤◌, ◌<◌, length, take, insert, position, not, option_copied, IfOk, OnOk, OnErr};
+ghost use Rattle.std.specs.Prelude.{◌≡◌, ◌↔◌, ◌≤◌, ◌<◌, length, take, insert, position, not, option_copied, IsTrue, IfOk, OnOk, OnErr};
 ghost use Rattle.std.specs.Ordering.{is_lt};
 ghost use Rattle.task_sheet.specs.Rank.{rank_cmp};
 ghost use Rattle.drafts.specs.Applied.{owned_of, set_of, held, is_foreign, is_there, without_name, placed};
@@ -14,6 +14,25 @@ use task_sheet::{Name, Sheet};
 pub struct Owned {
     pub sheet: Sheet,
     pub team: Team,
+}
+
+impl Owned {
+    /// The same task again.
+    pub fn copy(&self, alloc: Global) -> Result<Owned, AllocError>
+        ensures { IfOk result (λ task. task ≡ self.now) }
+    {
+        Ok(Owned {
+            sheet: self.sheet.copy(alloc)?,
+            team: self.team,
+        })
+    }
+
+    /// Whether two tasks are the same.
+    pub fn is_same(&self, other: &Owned) -> bool
+        ensures { IsTrue result ↔ (self.now ≡ other.now) }
+    {
+        self.sheet == other.sheet && self.team.number() == other.team.number()
+    }
 }
 
 // Copies of sheets, each with its team.
@@ -45,8 +64,8 @@ pub(crate) fn sheets_of(alloc: Global, tasks: Vec<Owned>) -> Result<Vec<Sheet>, 
     Ok(sheets)
 }
 
-// The task of a name.
-fn find(tasks: &[Owned], name: Name) -> Option<&Owned>
+/// The task of a name.
+pub fn find_task(tasks: &[Owned], name: Name) -> Option<&Owned>
     ensures { option_copied result ≡ held name tasks.now }
 {
     tasks.iter().find(|task| task.sheet.name() == name)
@@ -56,7 +75,7 @@ fn find(tasks: &[Owned], name: Name) -> Option<&Owned>
 pub(crate) fn is_foreign(tasks: &[Owned], team: Team, name: Name) -> bool
     ensures { result ≡ is_foreign team (held name tasks.now) }
 {
-    match find(tasks, name) {
+    match find_task(tasks, name) {
         Some(task) => task.team.number() != team.number(),
         None => false,
     }
@@ -66,7 +85,7 @@ pub(crate) fn is_foreign(tasks: &[Owned], team: Team, name: Name) -> bool
 pub(crate) fn is_there(tasks: &[Owned], name: Name) -> bool
     ensures { result ≡ is_there (held name tasks.now) }
 {
-    find(tasks, name).is_some()
+    find_task(tasks, name).is_some()
 }
 
 // Takes the task of a name out.

@@ -193,8 +193,8 @@ impl NodeState {
         Ok(teams)
     }
 
-    // The tasks with their teams, copied.
-    pub(crate) fn roster(&self, alloc: Global) -> Result<Vec<Owned>, AllocError>
+    /// The tasks with their teams, copied.
+    pub fn roster(&self, alloc: Global) -> Result<Vec<Owned>, AllocError>
         ensures same { IfOk result (λ tasks. tasks.items ≡ self.now.tasks) }
         ensures roster { IfOk result (λ tasks. IsRoster tasks.items) }
     {

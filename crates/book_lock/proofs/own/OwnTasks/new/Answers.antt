@@ -1,9 +1,9 @@
-use Rattle.std.proofs.Common.{List, sym, subst}
-use Rattle.task_sheet.specs.Sheet.{Task}
-use Rattle.book_lock.specs.Own.{IsRanked}
-use Rattle.book_lock.proofs.RankLaws.{IsRanked-none}
+use Rattle.std.proofs.Common.{sym, subst}
+use Rattle.std.specs.List.Sorted.{IsStrictlySortedBy}
+use Rattle.drafts.specs.Rosters.{IsRoster}
 use Rattle.book_lock.proofs.own.OwnTasks.new.Goals as goal
 
 pub invariant_of-result : goal.invariant_of-result
+unfolding IsStrictlySortedBy
 invariant_of-result c =
-    subst (λ (xs : List Task). IsRanked xs) (sym c.new.ensures.items) IsRanked-none
+    subst IsRoster (sym c.new.ensures.items) (record { valid = tt; ranked = tt; distinct = tt })
