@@ -1,3 +1,2 @@
 pub mod ListedLimits
-pub mod Placed
 pub mod ReadBackLaws

@@ -6,5 +6,4 @@ pub mod OneTask
 pub mod ReadBack
 pub mod Releases
 pub mod Script
-pub mod Settings
 pub mod Worst
