@@ -8,16 +8,16 @@ pub returns-in-Limits : goal.returns-in-Limits
 returns-in-Limits g c =
     rw c.in-Limits.is (said_as c.print_placing.ensures (λ told. λ preference known has. elim told [
       | inl listed ↦ (
-          Ok (record {
-            set = c.args.set.now;
-            placing = c.args.placing.now;
-            lines = listed.0;
-            status = c.print_placing.result;
-          }),
-          (((has.0, has.1, has.2.set), c.requires), listed.1),
-          listed.2,
-          refl,
-        )
+        Ok (record {
+          set = c.args.set.now;
+          placing = c.args.placing.now;
+          lines = listed.0;
+          status = c.print_placing.result;
+        }),
+        (((has.0, has.1, has.2.set), c.requires), listed.1),
+        listed.2,
+        refl,
+      )
       | inr want ↦ (Err refusal.OutOfMemory, tt, want.0, want.1)
     ]))
 
