@@ -34,8 +34,7 @@ module _ (before after : Option (List ℕ)) (s : Status) (r : CommandRefusal)
   part_refused : (p : TaskPart) (asked : Option (List ℕ)) (preference : Option Preference)
       (known : Option (List ℕ)) → HasNoSet known r
       → SaysPart p asked preference known before after s
-  part_refused part.Limits None preference known why =
-      (Err r, refusal_line r, why, (refl, is), wrote)
+  part_refused part.Limits None preference known why = (Err r, why, wrote, is)
   part_refused part.Reasons None preference known why = (Err r, why, wrote, is)
   part_refused part.Worst None preference known why = (Err r, why, wrote, is)
   part_refused p (Some word) preference known why =

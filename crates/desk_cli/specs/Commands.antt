@@ -5,8 +5,8 @@ use Rattle.command_line.specs.declared.calls.OfOne.{OfOne}
 use Rattle.command_line.specs.declared.calls.OfOne.TheVariants.{Admit, Certify, Limits, Settings, Explain, Worst, Play}
 use Rattle.command_line.specs.declared.calls.OfTwo.{OfTwo}
 use Rattle.command_line.specs.declared.calls.OfTwo.TheVariants.{Check, Judge, Diff, Simulate, Draw, Observe, Keep, WorstAt, ExplainAt, LimitsAt}
-use Rattle.set_commands.specs.Admit.{Says, admit_lines}
-use Rattle.set_commands.specs.Certify.{certificate_lines}
+use Rattle.set_commands.specs.Admit.{SaysPlacing}
+use Rattle.set_commands.specs.Certify.{SaysCertified}
 use Rattle.two_input_commands.specs.Check.{SaysChecked}
 use Rattle.two_input_commands.specs.Diff.{SaysCompared}
 use Rattle.two_input_commands.specs.Draw.{SaysDrawn}
@@ -17,10 +17,10 @@ use Rattle.two_input_commands.specs.Observe.{SaysObserved, tolerance_of}
 use Rattle.two_input_commands.specs.Keep.{SaysKeeping}
 use Rattle.set_commands.specs.OneTask.{SaysPart}
 use Rattle.script_commands.specs.Play.{SaysPlayed}
-use Rattle.set_commands.specs.Settings.{settings_of}
 use Rattle.two_input_commands.specs.Simulate.{SaysSimulation}
 use Rattle.two_input_commands.specs.WorstAt.{SaysWorstAt}
 use Rattle.set_commands.specs.declared.one_task.TaskPart.TheVariants as part
+use Rattle.answering.specs.declared.answer.OrderPart.TheVariants as order
 use Rattle.answering.specs.declared.status.Status.{Status}
 use Rattle.answering.specs.Chosen.{base_of, preference_of, task_of}
 
@@ -29,13 +29,13 @@ use Rattle.answering.specs.Chosen.{base_of, preference_of, task_of}
 abbrev pub OneSays : OfOne → Options → Option (List ℕ) → (before after : Option (List ℕ))
     → Status → Type 0
 OneSays Admit options known before after s =
-    Says admit_lines (preference_of options) known before after s
+    SaysPlacing order.Levels (preference_of options) known before after s
 OneSays Certify options known before after s =
-    Says certificate_lines (preference_of options) known before after s
+    SaysCertified (preference_of options) known before after s
 OneSays Limits options known before after s =
     SaysPart part.Limits (task_of options) (preference_of options) known before after s
 OneSays Settings options known before after s =
-    Says (settings_of (base_of options)) (preference_of options) known before after s
+    SaysPlacing (order.Settings (base_of options)) (preference_of options) known before after s
 OneSays Explain options known before after s =
     SaysPart part.Reasons (task_of options) (preference_of options) known before after s
 OneSays Worst options known before after s =

@@ -1,5 +1,4 @@
 //! The commands of one input.
-ghost use Rattle.task_sheet.specs.TaskSet.{IsTaskSet};
 ghost use Rattle.assignment.specs.Placings.{IsPlacingOf};
 ghost use Rattle.desk_cli.specs.Commands.{OneSays};
 ghost use Rattle.desk_cli.specs.Saying.{IsOfPlacing, SaysOfSet};
@@ -30,7 +29,6 @@ fn say_placing<W: Write + Drop>(
     output: &mut Watched<W>,
 ) -> Status
     requires command { IsOfPlacing command }
-    requires kept { IsTaskSet set.now }
     requires placing { IsPlacingOf set.now placing.now }
     ensures { IsSaidOn (SaysOfSet command options.entry owners.now set.now)
         W.contents output.old output.new result }

@@ -1,7 +1,7 @@
 //! The functions that a program in C calls: a command each, and what a person is told.
 ghost use Rattle.std.specs.Prelude.{◌≡◌, length, IfSome, None, Some, false};
-ghost use Rattle.set_commands.specs.Admit.{Says, admit_lines};
-ghost use Rattle.set_commands.specs.Certify.{certificate_lines};
+ghost use Rattle.set_commands.specs.Admit.{SaysPlacing};
+ghost use Rattle.set_commands.specs.Certify.{SaysCertified};
 ghost use Rattle.two_input_commands.specs.Check.{SaysChecked};
 ghost use Rattle.two_input_commands.specs.Diff.{SaysCompared};
 ghost use Rattle.command_line.specs.Calls.{no_options};
@@ -12,9 +12,9 @@ ghost use Rattle.two_input_commands.specs.Judge.{SaysJudged};
 ghost use Rattle.two_input_commands.specs.Observe.{SaysObserved};
 ghost use Rattle.script_commands.specs.Play.{SaysPlayed};
 ghost use Rattle.set_commands.specs.Releases.{SaysList};
-ghost use Rattle.set_commands.specs.Settings.{settings_of};
 ghost use Rattle.two_input_commands.specs.Simulate.{SaysSimulated};
 ghost use Rattle.answering.specs.Statuses.{code_of};
+ghost use Rattle.answering.specs.declared.answer.OrderPart.TheVariants.{Levels, Settings};
 ghost use Rattle.libdesk.specs.Answers.{AnswersCall, TellsCall};
 ghost use Rattle.libdesk.specs.Asked.{AskedSays, SaysWorstAsked};
 ghost use Rattle.libdesk.specs.Numbers.{command_of};
@@ -29,7 +29,7 @@ use std::alloc::Global;
 #[unsafe(no_mangle)]
 pub extern "C" fn desk_admit(alloc: Global, set: &[u8], room: &mut [u8], status: &mut u8) -> usize
     ensures room { length room.new ≡ length room.old }
-    ensures answer { AnswersCall (Says admit_lines None
+    ensures answer { AnswersCall (SaysPlacing Levels None
         (Some set.now)) room.old room.new result status.new }
 {
     answer(alloc, Asked::One(OfOne::Admit, set), room, status)
@@ -39,7 +39,7 @@ pub extern "C" fn desk_admit(alloc: Global, set: &[u8], room: &mut [u8], status:
 #[unsafe(no_mangle)]
 pub extern "C" fn desk_certify(alloc: Global, set: &[u8], room: &mut [u8], status: &mut u8) -> usize
     ensures room { length room.new ≡ length room.old }
-    ensures answer { AnswersCall (Says certificate_lines None
+    ensures answer { AnswersCall (SaysCertified None
         (Some set.now)) room.old room.new result status.new }
 {
     answer(alloc, Asked::One(OfOne::Certify, set), room, status)
@@ -64,7 +64,7 @@ pub extern "C" fn desk_settings(
     status: &mut u8,
 ) -> usize
     ensures room { length room.new ≡ length room.old }
-    ensures answer { AnswersCall (Says (settings_of 1) None
+    ensures answer { AnswersCall (SaysPlacing (Settings 1) None
         (Some set.now)) room.old room.new result status.new }
 {
     answer(alloc, Asked::One(OfOne::Settings, set), room, status)

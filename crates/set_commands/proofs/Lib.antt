@@ -1,2 +1,1 @@
 pub mod ListedLimits
-pub mod Placed

@@ -5,5 +5,4 @@ pub mod Limits
 pub mod OneTask
 pub mod Releases
 pub mod Script
-pub mod Settings
 pub mod Worst

@@ -1,17 +1,45 @@
 //! `desk certify`.
+ghost use Rattle.std.specs.Prelude.{◌≡◌};
 ghost use Rattle.certificate.specs.Spelling.{spelling};
-ghost use Rattle.set_commands.specs.Admit.{verdict_status};
-ghost use Rattle.set_commands.specs.Certify.{certificate_lines};
-ghost use Rattle.answering.specs.Outcomes.{IsPrintedOn, IsSaidOn};
+ghost use Rattle.set_commands.specs.Certify.{Admits, certificate_lines, verdict_status};
+ghost use Rattle.answering.specs.Outcomes.{IsPrintedOn, IsRead, IsSaidOn, failed_read};
 ghost use Rattle.answering.specs.Printed.{IsPrinted};
 
-use crate::admit::status_of;
-use answering::{CommandRefusal, Status, refuse};
-use assignment::Verdict;
+use answering::{Audience, CommandRefusal, Status, read_one, refuse};
+use assignment::{Verdict, assign};
 use certificate::Certificate;
-use std::alloc::Global;
-use std::io::Write;
+use preferences::Preference;
+use std::alloc::{AllocError, Global};
+use std::io::{Read, Write};
+use std::sync::Arc;
 use streams::Watched;
+
+/// The verdict of the set that the reader has, or why there is none.
+pub fn decide<R: Read + Drop, P: Audience>(
+    alloc: Global,
+    preference: Option<Preference>,
+    set: &mut Watched<R>,
+    people: &mut P,
+) -> Result<Verdict, CommandRefusal>
+    ensures answer { Admits preference (R.remaining set.old.inner) result }
+    ensures read { IsRead failed_read set.old set.new result }
+{
+    let tasks = read_one(alloc, preference, set, people)?;
+    let shared = Arc::new(alloc, tasks).map_err(AllocError::from)?;
+    let verdict = assign(alloc, shared)?;
+    people.read(verdict.set());
+    Ok(verdict)
+}
+
+// The exit status of a verdict.
+fn status_of(verdict: &Verdict) -> Status
+    ensures { result ≡ verdict_status verdict.now }
+{
+    match verdict {
+        Verdict::Admitted(_) => Status::Done,
+        Verdict::Infeasible(_) => Status::Infeasible,
+    }
+}
 
 // Prints the certificate, and gives the status that belongs to it; where the writer fails, the status of that.
 fn print_certificate<W: Write + Drop>(

@@ -9,8 +9,8 @@ mod one_task;
 mod releases;
 mod script;
 
-pub use admit::{decide, place};
-pub use certify::print_verdict;
+pub use admit::place;
+pub use certify::{decide, print_verdict};
 pub use one_task::{TaskPart, say_part};
 pub use releases::run_releases;
 pub use script::run_script;

@@ -1,10 +1,9 @@
 //! `desk limits`.
 ghost use Rattle.std.specs.Prelude.{◌≡◌, ◌≢◌, ℕ, ◌<◌, ◌==◌, ◌&&◌, List, ◌++◌, length, Err, true, IfOk, OnOk, string_bytes};
 ghost use Rattle.std.specs.Io.KnownBytes.{Appends};
-ghost use Rattle.task_sheet.specs.TaskSet.{IsTaskSet};
 ghost use Rattle.assignment.specs.Placings.{IsPlacingOf};
 ghost use Rattle.limit_lines.specs.Lines.{AreTaskLines, IsLast, order_in, places_in};
-ghost use Rattle.set_commands.specs.Limits.{IsListing, ListsAll, ListsSome, SaysPlaced, alone_line};
+ghost use Rattle.set_commands.specs.Limits.{IsListing, ListsAll, ListsSome, SaysLimitsOf, alone_line};
 ghost use Rattle.answering.specs.OrderParts.{placing_first};
 ghost use Rattle.streams.specs.Sending.{Sends};
 ghost use Rattle.answering.specs.Outcomes.{IsSaidOn};
@@ -68,9 +67,9 @@ fn is_still_silent(is_silent: bool, text: &str) -> bool
 // The line of the factors, behind that which says that no single change mends the set where no task has a line.
 fn end_text(alloc: Global, listing: &Listing<'_>, is_silent: bool) -> Result<String, AllocError>
     requires { IsListing listing.now }
-    ensures { let places = places_in listing.now.placing.now in
-        IfOk result (λ text. (last : List ℕ) × IsLast listing.now.set places last
-        × (string_bytes text ≡ alone_line is_silent places ++ last)) }
+    ensures { let placing = listing.now.placing.now in
+        IfOk result (λ text. (last : List ℕ) × IsLast listing.now.set (places_in placing) last
+        × (string_bytes text ≡ alone_line is_silent placing ++ last)) }
 {
     let last = last_text(alloc, listing.set.tasks(), listing.placing, &listing.order)?;
     match listing.placing {
@@ -96,11 +95,11 @@ fn put_lines<W: Write + Drop>(
 ) -> Result<(), ListFault>
     requires { IsListing listing.now }
     ensures all { OnOk result ((text : List ℕ)
-        × ListsAll listing.now.set (places_in listing.now.placing.now) text
+        × ListsAll listing.now.set listing.now.placing.now text
         × Sends (W.contents output.old.inner) held.old (W.contents output.new.inner) held.new
         (string_bytes listing.now.first ++ text)) }
     ensures some { result ≡ Err ListFault.OutOfMemory
-        → (text : List ℕ) × ListsSome listing.now.set (places_in listing.now.placing.now) text
+        → (text : List ℕ) × ListsSome listing.now.set listing.now.placing.now text
         × Sends (W.contents output.old.inner) held.old (W.contents output.new.inner) held.new
         (string_bytes listing.now.first ++ text) }
     ensures ok { result ≢ Err ListFault.WriteFailed
@@ -138,11 +137,11 @@ fn print_lines<W: Write + Drop>(
 ) -> Result<(), ListFault>
     requires { IsListing listing.now }
     ensures all { OnOk result ((text : List ℕ)
-        × ListsAll listing.now.set (places_in listing.now.placing.now) text
+        × ListsAll listing.now.set listing.now.placing.now text
         × Appends (W.contents output.old.inner) (W.contents output.new.inner)
         (string_bytes listing.now.first ++ text)) }
     ensures some { result ≡ Err ListFault.OutOfMemory
-        → (text : List ℕ) × ListsSome listing.now.set (places_in listing.now.placing.now) text
+        → (text : List ℕ) × ListsSome listing.now.set listing.now.placing.now text
         × Appends (W.contents output.old.inner) (W.contents output.new.inner)
         (string_bytes listing.now.first ++ text) }
     ensures ok { result ≢ Err ListFault.WriteFailed
@@ -190,9 +189,9 @@ pub(crate) fn print_placing<W: Write + Drop>(
     placing: &Placing,
     output: &mut Watched<W>,
 ) -> Status
-    requires kept { IsTaskSet set.now }
-    requires placing { IsPlacingOf set.now placing.now }
-    ensures { IsSaidOn (SaysPlaced set.now) W.contents output.old output.new result }
+    requires { IsPlacingOf set.now placing.now }
+    ensures { IsSaidOn (SaysLimitsOf set.now placing.now)
+        W.contents output.old output.new result }
 {
     let Ok(table) = LockTable::new(alloc, set) else {
         return refuse(CommandRefusal::OutOfMemory, output);

@@ -1,6 +1,5 @@
 //! What is said of one task of a set, where the words ask about it.
 ghost use Rattle.std.specs.Prelude.{◌≡◌, ◌++◌, ◌<◌, ℕ, List, length, IfOk, option_map, Some, string_bytes};
-ghost use Rattle.task_sheet.specs.TaskSet.{IsTaskSet};
 ghost use Rattle.assignment.specs.Placings.{IsPlacingOf};
 ghost use Rattle.explain.specs.Explanations.{Explains};
 ghost use Rattle.explain.specs.declared.explanation.Explanation.{Explanation};
@@ -194,8 +193,7 @@ fn say_all<W: Write + Drop>(
     placing: &Placing,
     output: &mut Watched<W>,
 ) -> Status
-    requires kept { IsTaskSet set.now }
-    requires placing { IsPlacingOf set.now placing.now }
+    requires { IsPlacingOf set.now placing.now }
     ensures { IsSaidOn (OfPlaced (SaysAll part) owners.now set.now)
         W.contents output.old output.new result }
 {
@@ -219,8 +217,7 @@ pub fn say_part<W: Write + Drop>(
     placing: &Placing,
     output: &mut Watched<W>,
 ) -> Status
-    requires kept { IsTaskSet set.now }
-    requires placing { IsPlacingOf set.now placing.now }
+    requires { IsPlacingOf set.now placing.now }
     ensures { IsSaidOn (OfPlaced (SaysPart part (option_map (λ w. w.now) word.entry))
         owners.now set.now) W.contents output.old output.new result }
 {

@@ -1,39 +1,41 @@
-use Rattle.std.proofs.Common.{◌∙◌, ℕ, List, Option, ap, sym, string_bytes}
-use Rattle.task_sheet.specs.Sheet.{Task}
-use Rattle.task_sheet.specs.declared.prefer.Preference.{Preference}
-use Rattle.owners.specs.declared.owner.Owner.{Owner}
-use Rattle.set_commands.specs.Admit.{admit_lines}
-use Rattle.answering.specs.Chosen.{base_of, preference_of}
-use Rattle.answering.specs.Owning.{HasOwned}
-use Rattle.answering.specs.Sets.{HasSet}
-use Rattle.set_commands.specs.Settings.{settings_of}
-use Rattle.answering.proofs.CarriedOut.{made_printed, said_as}
-use Rattle.set_commands.proofs.Placed.{printed_says}
+use Rattle.std.proofs.Common.{◌∙◌, ◌≡◌, ℕ, List, Ok, Err, ap, subst, string_bytes}
+use Rattle.std.specs.Io.KnownBytes.{Appends}
+use Rattle.answering.specs.OrderParts.{placing_said}
+use Rattle.answering.specs.declared.answer.OrderPart.TheVariants.{Settings}
+use Rattle.answering.specs.declared.refusal.CommandRefusal.TheVariants as refusal
+use Rattle.answering.proofs.CarriedOut.{made_said, said_as}
 use Rattle.desk_cli.proofs.of_one.say_placing.Goals as goal
 
--- a reader has the set, whosever its tasks are
-has_set : {preference : Option Preference} {known : Option (List ℕ)} {U : List Task}
-    {owners : List Owner} → HasOwned preference known U owners → HasSet preference known U
-has_set has = (has.0, has.1, has.2.set)
-
--- what is printed is what the set's verdict says; out of memory for the lines is an answer of its own
+-- out of memory for the lines is an answer of its own
 pub returns-in-Admit : goal.returns-in-Admit
 returns-in-Admit g c =
-    rw c.in-Admit.is (said_as (made_printed c.placing_text-text.result (λ t. string_bytes t) _ _
-    c.placing_text-text.ensures c.print_made.ensures) (λ told. λ known has.
-    printed_says admit_lines (preference_of c.args.options) known _ _ c.args.set.now
-    c.args.placing.now _ _ _ c.requires.kept (has_set has, c.requires.placing)
-    (λ v says. says.lines) c.placing_status-status.ensures told))
+    let before = g.W.Write.contents c.args.output.now.inner in
+    let after = g.W.Write.contents c.print_made.new.output.inner in
+    rw c.in-Admit.is (made_said c.placing_text-text.result (λ t. string_bytes t) _
+    c.placing_text-text.ensures c.print_made.ensures
+    (λ text same wrote is. λ known has. (
+      Ok (c.args.set.now, c.args.placing.now),
+      ((has.0, has.1, has.2.set), c.requires.placing),
+      subst (λ (t : List ℕ). Appends before after t) same wrote,
+      is ∙ c.placing_status-status.ensures,
+    ))
+    (λ wrote is. λ known has. (Err refusal.OutOfMemory, tt, wrote, is)))
 
 pub returns-in-Settings : goal.returns-in-Settings
 returns-in-Settings g c =
-    rw c.in-Settings.is (said_as (made_printed c.placing_text-text-in-Settings.result
-    (λ t. string_bytes t) _ _ c.placing_text-text-in-Settings.ensures
-    c.print_made-in-Settings.ensures) (λ told. λ known has.
-    printed_says (settings_of (base_of c.args.options)) (preference_of c.args.options) known _ _
-    c.args.set.now c.args.placing.now _ _ _ c.requires.kept (has_set has, c.requires.placing)
-    (λ v says. ap (λ (base : ℕ). settings_of base v) (sym c.base_of.ensures)
-    ∙ says.settings c.base_of.result) c.placing_status-status.ensures told))
+    let before = g.W.Write.contents c.args.output.now.inner in
+    let after = g.W.Write.contents c.print_made-in-Settings.new.output.inner in
+    let based = ap (λ (base : ℕ). placing_said (Settings base) c.args.set.now c.args.placing.now)
+    c.base_of.ensures in
+    rw c.in-Settings.is (made_said c.placing_text-text-in-Settings.result (λ t. string_bytes t) _
+    c.placing_text-text-in-Settings.ensures c.print_made-in-Settings.ensures
+    (λ text same wrote is. λ known has. (
+      Ok (c.args.set.now, c.args.placing.now),
+      ((has.0, has.1, has.2.set), c.requires.placing),
+      subst (λ (t : List ℕ). Appends before after t) (same ∙ based) wrote,
+      is ∙ c.placing_status-status.ensures,
+    ))
+    (λ wrote is. λ known has. (Err refusal.OutOfMemory, tt, wrote, is)))
 
 pub returns-in-Explain : goal.returns-in-Explain
 returns-in-Explain g c = rw c.in-Explain.is

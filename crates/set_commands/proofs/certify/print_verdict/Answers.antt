@@ -5,7 +5,7 @@ use Rattle.answering.proofs.CarriedOut.{shown, wanting}
 use Rattle.set_commands.proofs.certify.print_verdict.Goals as goal
 use Rattle.assignment.specs.declared.verdict.Verdict.{Verdict}
 use Rattle.assignment.specs.declared.verdict.Verdict.TheVariants as verdict
-use Rattle.set_commands.specs.Admit.{verdict_status}
+use Rattle.set_commands.specs.Certify.{verdict_status}
 use Rattle.answering.specs.declared.status.Status.TheVariants.{InputOrOutputFailed}
 
 -- no verdict has the status of a failed input or output

@@ -4,14 +4,13 @@ use Rattle.std.specs.Prelude.{⊤, Result}
 use Rattle.std.specs.Io.KnownBytes.{Appends}
 use Rattle.task_sheet.specs.Sheet.{Task}
 use Rattle.assignment.specs.declared.placing.Placing.{Placing}
-use Rattle.limit_lines.specs.Lines.{order_in, places_in}
+use Rattle.limit_lines.specs.Lines.{order_in}
 use Rattle.set_commands.specs.Limits.{ListsAll, ListsSome}
 use Rattle.answering.specs.Refusals.{refusal_line}
 use Rattle.set_commands.specs.declared.limits_lines.ListFault.{ListFault}
 use Rattle.set_commands.specs.declared.limits_lines.ListFault.TheVariants as list
 use Rattle.answering.specs.declared.refusal.CommandRefusal.TheVariants as refusal
 use Rattle.answering.proofs.CarriedOut.{never_err, placing_ends, said_sound, wanting, wanting_after}
-use Rattle.set_commands.proofs.ListedLimits.{placed_said}
 use Rattle.set_commands.proofs.limits_lines.print_placing.Goals as goal
 
 -- out of memory is no failed write
@@ -20,14 +19,13 @@ apart : (f : ListFault) (r : Result ⊤ ListFault) → r ≡ Err f → f ≡ lis
 apart f r is memory same = cc
 
 pub returns-in_default : goal.returns-in_default
-returns-in_default g c = wanting c.refuse.ensures
-    (λ wrote is. (Err refusal.OutOfMemory, refusal_line refusal.OutOfMemory, tt, (refl, is), wrote))
+returns-in_default g c = wanting c.refuse.ensures (λ wrote is. inr (wrote, is))
 
 pub print_lines-requires : goal.print_lines-requires
 print_lines-requires g c =
     let made = c.in-Ok.ensures in
     record {
-      placing = rw (made.set, made.placing) c.requires.placing;
+      placing = rw (made.set, made.placing) c.requires;
       order = made.order ∙ ap order_in (sym made.placing);
     }
 
@@ -35,13 +33,16 @@ pub returns-in-Ok-print_lines : goal.returns-in-Ok-print_lines
 returns-in-Ok-print_lines g c =
     let made = c.in-Ok.ensures in
     let said = c.in-Ok-print_lines.ensures.all in
-    let lists = subst (λ (U : List Task). ListsAll U (places_in c.args.placing.now) said.0) made.set
-    (subst (λ (p : Placing). ListsAll c.in-Ok.listing.set (places_in p) said.0) made.placing
-    said.1) in
+    let lists = subst (λ (U : List Task). ListsAll U c.args.placing.now said.0) made.set
+    (subst (λ (p : Placing). ListsAll c.in-Ok.listing.set p said.0) made.placing said.1) in
+    let before = g.W.Write.contents c.args.output.now.inner in
+    let after = g.W.Write.contents c.print_lines.new.output.inner in
     said_sound (c.in-Ok-print_lines.ensures.ok never_err)
-    (λ is. placing_ends c.args.placing.now (sym c.placing_status.ensures ∙ is))
-    (placed_said c.args.set.now c.requires.kept c.args.placing.now c.requires.placing _ made.first _
-    _ _ said.0 (inl (lists, c.placing_status.ensures)) said.2)
+    (λ is. placing_ends c.args.placing.now (sym c.placing_status.ensures ∙ is)) (inl (
+      said.0,
+      inl (lists, c.placing_status.ensures),
+      subst (λ (first : List ℕ). Appends before after (first ++ said.0)) made.first said.2,
+    ))
 
 pub returns-in-Err-OutOfMemory : goal.returns-in-Err-OutOfMemory
 returns-in-Err-OutOfMemory g c =
@@ -49,16 +50,17 @@ returns-in-Err-OutOfMemory g c =
     let printed = c.print_lines.ensures in
     let said =
     printed.some (c.in-Err-OutOfMemory.is ∙ ap (λ f. Err f) c.in-Err-OutOfMemory.field-0-is) in
-    let lists = subst (λ (U : List Task). ListsSome U (places_in c.args.placing.now) said.0)
-    made.set (subst (λ (p : Placing). ListsSome c.in-Ok.listing.set (places_in p) said.0)
-    made.placing said.1) in
+    let lists = subst (λ (U : List Task). ListsSome U c.args.placing.now said.0) made.set
+    (subst (λ (p : Placing). ListsSome c.in-Ok.listing.set p said.0) made.placing said.1) in
     let before = g.W.Write.contents c.args.output.now.inner in
     let after = g.W.Write.contents c.refuse-in-Err-OutOfMemory.new.output.inner in
     let first : List ℕ = string_bytes c.in-Ok.listing.first in
     let none = refusal_line refusal.OutOfMemory in
     wanting_after (first ++ said.0)
     (printed.ok (apart _ _ c.in-Err-OutOfMemory.is c.in-Err-OutOfMemory.field-0-is)) said.2
-    c.refuse-in-Err-OutOfMemory.ensures (λ all is.
-    placed_said c.args.set.now c.requires.kept c.args.placing.now c.requires.placing _ made.first _
-    _ _ (said.0 ++ none) (inr (said.0, lists, refl, is))
-    (subst (λ (text : List ℕ). Appends before after text) (append_assoc first said.0 none) all))
+    c.refuse-in-Err-OutOfMemory.ensures (λ all is. inl (
+      said.0 ++ none,
+      inr (said.0, lists, refl, is),
+      subst (λ (text : List ℕ). Appends before after text)
+          (append_assoc first said.0 none ∙ ap (λ (t : List ℕ). t ++ (said.0 ++ none)) made.first) all,
+    ))

@@ -61,7 +61,7 @@ loop-task-preserved g c =
 pub returns-in-Ok-put-clause-all : goal.returns-in-Ok-put-clause-all
 returns-in-Ok-put-clause-all g c =
     let U = c.args.listing.now.set in
-    let order = places_in c.args.listing.now.placing.now in
+    let placing = c.args.listing.now.placing.now in
     let said = c.loop-task.invariant.said in
     let end = c.in-Ok-end_text.ensures in
     let ends : List ℕ = string_bytes c.in-Ok-end_text.text in
@@ -80,10 +80,10 @@ returns-in-Ok-put-clause-all g c =
       (
         said.0,
         end.0,
-        subst (λ n. AreLines U order n said.0) count said.2,
+        subst (λ n. AreLines U (places_in placing) n said.0) count said.2,
         end.1,
-        ap (λ (bs : List ℕ). said.0 ++ bs) (end.2 ∙ ap (λ (b : Bool). alone_line b order ++ end.0)
-            said.1) ∙ sym (append_assoc said.0 (alone_line (length said.0 == 0) order) end.0),
+        ap (λ (bs : List ℕ). said.0 ++ bs) (end.2 ∙ ap (λ (b : Bool). alone_line b placing ++ end.0)
+            said.1) ∙ sym (append_assoc said.0 (alone_line (length said.0 == 0) placing) end.0),
       ),
       subst (λ bs. Appends before after bs)
           (append_assoc (string_bytes c.args.listing.now.first) said.0 ends) (Appends-trans before

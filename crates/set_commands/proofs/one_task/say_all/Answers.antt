@@ -1,20 +1,25 @@
-use Rattle.std.proofs.Common.{◌∙◌, ℕ, List, Ok, Err, subst, string_bytes}
+use Rattle.std.proofs.Common.{◌∙◌, ℕ, List, Ok, Err, inl, inr, refl, subst, string_bytes}
 use Rattle.std.specs.Io.KnownBytes.{Appends}
 use Rattle.answering.specs.declared.refusal.CommandRefusal.TheVariants as refusal
 use Rattle.answering.proofs.CarriedOut.{made_said, said_as}
-use Rattle.set_commands.proofs.ListedLimits.{admits_placed}
 use Rattle.set_commands.proofs.one_task.say_all.Goals as goal
 
 pub returns-in-Limits : goal.returns-in-Limits
 returns-in-Limits g c =
-    rw c.in-Limits.is (said_as c.print_placing.ensures (λ told. λ preference known has. (
-      told.0,
-      told.1,
-      admits_placed preference known c.args.set.now c.args.placing.now
-          ((has.0, has.1, has.2.set), c.requires.placing) told.0 told.2,
-      told.3,
-      told.4,
-    )))
+    rw c.in-Limits.is (said_as c.print_placing.ensures (λ told. λ preference known has. elim told [
+      | inl listed ↦ (
+        Ok (record {
+          set = c.args.set.now;
+          placing = c.args.placing.now;
+          lines = listed.0;
+          status = c.print_placing.result;
+        }),
+        (((has.0, has.1, has.2.set), c.requires), listed.1),
+        listed.2,
+        refl,
+      )
+      | inr want ↦ (Err refusal.OutOfMemory, tt, want.0, want.1)
+    ]))
 
 -- out of memory for the lines is an answer of its own
 pub returns-in-Reasons : goal.returns-in-Reasons
@@ -33,7 +38,7 @@ returns-in-Reasons g c =
         decided =
             found.1;
       }),
-      (has, c.requires.placing, found.2, found.3),
+      (has, c.requires, found.2, found.3),
       subst (λ (t : List ℕ). Appends
           before after t) found.4 wrote,
       is ∙ c.placing_status-status.ensures,
@@ -46,7 +51,7 @@ returns-in-Worst g c =
     c.print_made.ensures
     (λ text lines wrote is. λ preference known has. (
       Ok (record { set = c.args.set.now; placing = c.args.placing.now; lines = string_bytes text }),
-      (((has.0, has.1, has.2.set), c.requires.placing), lines),
+      (((has.0, has.1, has.2.set), c.requires), lines),
       wrote,
       is ∙ c.placing_status-status.ensures,
     ))

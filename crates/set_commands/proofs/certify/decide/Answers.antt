@@ -3,7 +3,7 @@ use Rattle.task_sheet.specs.Sheet.{Task}
 use Rattle.task_sheet.specs.Verdicts.{IsVerdictOf}
 use Rattle.assignment.specs.Verdict.{verdict_set, verdict_of}
 use Rattle.answering.specs.Sets.{HasSet}
-use Rattle.set_commands.proofs.admit.decide.Goals as goal
+use Rattle.set_commands.proofs.certify.decide.Goals as goal
 
 pub returns-clause-answer : goal.returns-clause-answer
 returns-clause-answer g c =
