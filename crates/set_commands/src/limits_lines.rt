@@ -166,11 +166,11 @@ fn make_ready<'a>(
     placing: &'a Placing,
 ) -> Result<Listing<'a>, AllocError>
     requires { IsPlacingOf set placing.now }
-    ensures set { IfOk result (λ listing. listing.set ≡ set) }
+    ensures set { IfOk result (λ listing. listing.set ≡ set.entry) }
     ensures placing { IfOk result (λ listing. listing.placing.now ≡ placing.now) }
     ensures order { IfOk result (λ listing. listing.order.items ≡ order_in placing.now) }
     ensures first { IfOk result (λ listing. string_bytes listing.first
-        ≡ placing_first set placing.now) }
+        ≡ placing_first set.entry placing.now) }
 {
     let order = order_of(alloc, placing)?;
     let first = placing_text(alloc, OrderPart::Count, set.tasks(), placing)?;

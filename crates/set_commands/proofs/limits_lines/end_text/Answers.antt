@@ -3,4 +3,5 @@ use Rattle.set_commands.proofs.limits_lines.end_text.Goals as goal
 
 pub last_text-requires-clause-placing : goal.last_text-requires-clause-placing
 last_text-requires-clause-placing c =
-    best_passes c.args.listing.now.set c.args.listing.now.placing.now c.requires.placing
+    rw c.tasks.ensures
+    (best_passes c.args.listing.now.set c.args.listing.now.placing.now c.requires.placing)
