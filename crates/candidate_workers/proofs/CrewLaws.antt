@@ -4,11 +4,9 @@ use Rattle.std.proofs.Common.{◌∷◌, ◌++◌, map, Option, Some, Result, Ok
 use Rattle.std.proofs.Common.{subst, ⊎_elim, arith, eq-eqb, ne_eqb}
 use Rattle.std.proofs.lemmas.Bool.{cases_lt, cases_eq}
 use Rattle.std.specs.Prelude.{IfErr}
-use Rattle.std.specs.List.{AllByRecursion, Contains}
+use Rattle.std.specs.List.{Contains}
 use Rattle.std.specs.Global.{Vec}
-use Rattle.std.specs.Ordering.{nat_cmp}
-use Rattle.std.specs.FinSet as members
-use Rattle.std.proofs.lemmas.List.{map-append, append-nil, append_assoc}
+use Rattle.std.proofs.lemmas.List.{map-append, append_assoc}
 use Rattle.std.proofs.lemmas.List.Elements.{All-nil, All-cons, All-append, Contains-append_left}
 use Rattle.std.proofs.lemmas.List.Elements.{Contains-append_right, Contains-append_cases}
 use Rattle.task_sheet.specs.Sheet.{Task}
@@ -27,20 +25,19 @@ use Rattle.candidate_workers.specs.declared.gathering.Crew.{Crew}
 use Rattle.candidate_workers.specs.Claims.{count_of, candidate_at, joined}
 use Rattle.candidate_workers.specs.Counting.{times}
 use Rattle.candidate_workers.specs.Seats.{seat_view, table_level, finding_task, AreSeatTasks}
-use Rattle.candidate_workers.specs.Faults.{IsHanded, NoVerdict, MayFail, fault_of, is_shut}
-use Rattle.candidate_workers.specs.Crews.{tasks_handed, work_faults, faults_of, rank_of}
+use Rattle.candidate_workers.specs.Faults.{NoVerdict, MayFail, fault_of, is_shut}
+use Rattle.candidate_workers.specs.Crews.{AreHanded, tasks_handed, work_faults, faults_of, rank_of}
 use Rattle.candidate_workers.specs.Crews.{IsFirstFault, whole_view, AreClaims}
 use Rattle.candidate_workers.proofs.Lists.{times-append, once_yes}
 
 -- ---- lists of what was handed on
-pub tasks_handed-push : (hs : List (Result (Vec FindingData) WorkFault))
-    (findings : Vec FindingData)
-    → tasks_handed (hs ++ Ok findings ∷ []) ≡ tasks_handed hs ++ map finding_task findings.items
-tasks_handed-push [] findings = append-nil (map finding_task findings.items)
-tasks_handed-push (Ok first ∷ hs) findings = ap (λ ks. map finding_task first.items ++ ks)
-    (tasks_handed-push hs findings) ∙ sym (append_assoc (map finding_task first.items)
-    (tasks_handed hs) (map finding_task findings.items))
-tasks_handed-push (Err fault ∷ hs) findings = tasks_handed-push hs findings
+pub tasks_handed-append : (hs more : List (Result (Vec FindingData) WorkFault))
+    → tasks_handed (hs ++ more) ≡ tasks_handed hs ++ tasks_handed more
+tasks_handed-append [] more = refl
+tasks_handed-append (Ok findings ∷ hs) more = ap (λ ks. map finding_task findings.items ++ ks)
+    (tasks_handed-append hs more)
+    ∙ sym (append_assoc (map finding_task findings.items) (tasks_handed hs) (tasks_handed more))
+tasks_handed-append (Err fault ∷ hs) more = tasks_handed-append hs more
 
 pub work_faults-append : (hs more : List (Result (Vec FindingData) WorkFault))
     → work_faults (hs ++ more) ≡ work_faults hs ++ work_faults more
@@ -48,19 +45,6 @@ work_faults-append [] more = refl
 work_faults-append (Ok findings ∷ hs) more = work_faults-append hs more
 work_faults-append (Err fault ∷ hs) more =
     ap (λ fs. fault_of fault ∷ fs) (work_faults-append hs more)
-
--- where there is no fault, there was none before
-pub none_before : (hs : List (Result (Vec FindingData) WorkFault))
-    (h : Result (Vec FindingData) WorkFault) → work_faults (hs ++ h ∷ []) ≡ [] → work_faults hs ≡ []
-none_before [] h none = refl
-none_before (Ok findings ∷ hs) h none = none_before hs h none
-none_before (Err fault ∷ hs) h none = absurd (cc)
-
-pub fault_counts : (hs : List (Result (Vec FindingData) WorkFault)) (fault : WorkFault)
-    → work_faults (hs ++ Err fault ∷ []) ≡ [] → ⊥
-fault_counts [] fault none = cc
-fault_counts (Ok findings ∷ hs) fault none = fault_counts hs fault none
-fault_counts (Err first ∷ hs) fault none = cc
 
 -- ---- the first of the faults
 pub first_of_none : (other : AssayFault) (faults : List AssayFault) → faults ≡ []
@@ -106,18 +90,18 @@ worker_named : (may : QuestionData → Type 0) (U : List Task) (workers : ℕ) (
 worker_named may U workers (work.GateShut task) is = is
 worker_named may U workers work.OutOfMemory is = tt
 
-work_named : (shut may : QuestionData → Type 0) (U : List Task) (left : members.FinSet nat_cmp)
-    (workers : ℕ) (hs : List (Result (Vec FindingData) WorkFault)) (fault : AssayFault)
-    → AllByRecursion (λ h. IsHanded shut may U left h) hs → Contains (work_faults hs) fault
-    → NoVerdict may U workers fault
-work_named shut may U left workers [] fault all at = absurd (omega (arith, at.1))
-work_named shut may U left workers (Ok findings ∷ hs) fault all at =
-    work_named shut may U left workers hs fault all.1 at
-work_named shut may U left workers (Err first ∷ hs) fault all (zero, lt, here) =
-    subst (λ (f : AssayFault). NoVerdict may U workers f) here
-    (worker_named may U workers first all.0)
-work_named shut may U left workers (Err first ∷ hs) fault all (suc k, lt, there) =
-    work_named shut may U left workers hs fault all.1 (k, omega arith, there)
+work_named : (shut may : QuestionData → Type 0) (l : LevelState) (workers : ℕ)
+    (hs : List (Result (Vec FindingData) WorkFault)) (fault : AssayFault)
+    → AreHanded shut may l hs → Contains (work_faults hs) fault
+    → NoVerdict may l.set workers fault
+work_named shut may l workers [] fault all at = absurd (omega (arith, at.1))
+work_named shut may l workers (Ok findings ∷ hs) fault all at =
+    work_named shut may l workers hs fault all.1 at
+work_named shut may l workers (Err first ∷ hs) fault all (zero, lt, here) =
+    subst (λ (f : AssayFault). NoVerdict may l.set workers f) here
+    (worker_named may l.set workers first all.0)
+work_named shut may l workers (Err first ∷ hs) fault all (suc k, lt, there) =
+    work_named shut may l workers hs fault all.1 (k, omega arith, there)
 
 refused_named : (may : QuestionData → Type 0) (U : List Task) (workers : ℕ) (refused : Bool)
     (fault : AssayFault) → Contains (cond refused (ThreadRefused ∷ []) []) fault
@@ -127,20 +111,13 @@ refused_named may U workers true fault (zero, lt, here) =
 refused_named may U workers true fault (suc k, lt, there) = absurd (omega arith)
 refused_named may U workers false fault at = absurd (omega (arith, at.1))
 
-pub crew_named : (shut may : QuestionData → Type 0) (U : List Task) (left : members.FinSet nat_cmp)
-    (workers : ℕ) (crew : Crew) (fault : AssayFault)
-    → AllByRecursion (λ h. IsHanded shut may U left h) crew.handed.items
-    → IsFirstFault (faults_of crew) (Some fault) → NoVerdict may U workers fault
-crew_named shut may U left workers crew fault all first =
-    ⊎_elim (λ at. refused_named may U workers crew.refused fault at)
-    (λ at. work_named shut may U left workers crew.handed.items fault all at) (Contains-append_cases
+pub crew_named : (shut may : QuestionData → Type 0) (l : LevelState) (workers : ℕ) (crew : Crew)
+    (fault : AssayFault) → AreHanded shut may l crew.handed.items
+    → IsFirstFault (faults_of crew) (Some fault) → NoVerdict may l.set workers fault
+crew_named shut may l workers crew fault all first =
+    ⊎_elim (λ at. refused_named may l.set workers crew.refused fault at)
+    (λ at. work_named shut may l workers crew.handed.items fault all at) (Contains-append_cases
     (cond crew.refused (ThreadRefused ∷ []) []) (work_faults crew.handed.items) fault first.0)
-
--- a crew without faults was refused no thread, and none of its workers has one
-pub no_fault : (refused : Bool) (faults : List AssayFault)
-    → cond refused (ThreadRefused ∷ []) [] ++ faults ≡ [] → (refused ≡ false) × (faults ≡ [])
-no_fault true faults none = absurd (cc)
-no_fault false faults none = (refl, none)
 
 -- ---- the tasks of the findings, by the places of a view
 times-map : (c : ℕ → ℕ) (j : ℕ) (a b : List ℕ)

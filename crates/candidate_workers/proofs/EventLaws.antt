@@ -1,5 +1,5 @@
 -- How often tasks are released, and interrupts come, within a time.
-use Rattle.std.proofs.Common.{◌≡◌, ℕ, ◌+◌, ◌-◌, ◌*◌, ◌<◌, ◌≤◌, Bool, true, false, cond, List, []}
+use Rattle.std.proofs.Common.{ℕ, ◌+◌, ◌*◌, ◌<◌, ◌≤◌, Bool, true, false, cond, List, []}
 use Rattle.std.proofs.Common.{◌∷◌, sum_by, arith}
 use Rattle.std.specs.Int.{div_ceil}
 use Rattle.std.proofs.lemmas.Grind.{div_ceil_times}
@@ -9,10 +9,6 @@ use Rattle.task_sheet.specs.declared.node.Interrupt.{Interrupt}
 use Rattle.task_sheet.specs.Sheet.{Task, IsInterrupt, IsValidSheet}
 use Rattle.task_sheet.specs.Demand.{releases_within, later_releases, later_interrupts}
 use Rattle.candidate_workers.specs.Threads.{comes_within, events_within}
-
--- stands past the end of a task's interrupts
-abbrev pub no_interrupt : Interrupt
-no_interrupt = record { period = 0; cost = 0 }
 
 pub comes-few : (time : ℕ) (x : Interrupt) → IsInterrupt x → time ≤ 10000000
     → comes_within time x ≤ 200000

@@ -1,27 +1,42 @@
 -- What came of the workers of a level, all together.
-use Rattle.std.specs.Prelude.{◌≡◌, ℕ, ◌+◌, ◌<◌, ◌≤◌, true, false, if◌then◌else◌, List, [], ◌∷◌, ◌++◌, map, Option, None, Some, Result, Ok, Err, All, IsFalse}
+use Rattle.std.specs.Prelude.{◌≡◌, ℕ, ◌+◌, ◌<◌, ◌≤◌, Bool, true, false, if◌then◌else◌, List, [], ◌∷◌, ◌++◌, map, Option, None, Some, Result, Ok, Err, All, IsFalse, IfSome, IsSome}
 use Rattle.std.specs.List.{Contains}
 use Rattle.std.specs.Global.{Vec}
 use Rattle.std.specs.FinSet.{contains}
-use Rattle.assignment.specs.Questions.{FindingData}
+use Rattle.assignment.specs.Questions.{QuestionData, FindingData}
 use Rattle.assignment.specs.Levels.{LevelState}
 use Rattle.candidate_workers.specs.declared.assaying.TheConstants.{WORKER_LIMIT}
 use Rattle.candidate_workers.specs.declared.asking.WorkFault.{WorkFault}
 use Rattle.candidate_workers.specs.declared.assaying.AssayFault.{AssayFault}
 use Rattle.candidate_workers.specs.declared.assaying.AssayFault.TheVariants.{BadWorkers, ThreadRefused, GateShut, OutOfMemory}
+use Rattle.candidate_workers.specs.declared.claims.ClaimTable.{ClaimTable}
+use Rattle.candidate_workers.specs.declared.claims.ClaimSeat.{ClaimSeat}
 use Rattle.candidate_workers.specs.declared.gathering.Claimed.{Claimed}
 use Rattle.candidate_workers.specs.declared.gathering.Crew.{Crew}
 use Rattle.candidate_workers.specs.declared.view.View.{View}
 use Rattle.candidate_workers.specs.Claims.{count_of, candidate_at, passes_at, settled, IsLeastPassing}
 use Rattle.candidate_workers.specs.Counting.{times, once_below}
-use Rattle.candidate_workers.specs.Seats.{seat_view, finding_task}
-use Rattle.candidate_workers.specs.Faults.{fault_of}
+use Rattle.candidate_workers.specs.Passing.{ArePassed}
+use Rattle.candidate_workers.specs.Seats.{seat_view, table_level, finding_task}
+use Rattle.candidate_workers.specs.Seats.{IsSeatEnded, AreSeatTasks}
+use Rattle.candidate_workers.specs.Faults.{MayFail, fault_of}
 
 -- the tasks of the findings that the workers handed on, worker by worker
 abbrev pub tasks_handed : List (Result (Vec FindingData) WorkFault) → List ℕ
 tasks_handed [] = []
 tasks_handed (Ok findings ∷ rest) = map finding_task findings.items ++ tasks_handed rest
 tasks_handed (Err fault ∷ rest) = tasks_handed rest
+
+-- what workers hand on: findings on questions of the level that are none of those shut out, or why
+-- there are none
+abbrev pub AreHanded : (QuestionData → Type 0) → (QuestionData → Type 0) → LevelState
+    → List (Result (Vec FindingData) WorkFault)
+    → Type 0
+AreHanded shut may level [] = Unit {0}
+AreHanded shut may level (Ok findings ∷ rest) =
+    ArePassed shut level.set level.left findings.items × AreHanded shut may level rest
+AreHanded shut may level (Err fault ∷ rest) =
+    MayFail may level.set fault × AreHanded shut may level rest
 
 -- each of these tasks has a finding
 abbrev pub AreFound : LevelState → List ℕ → Type 0
@@ -32,6 +47,22 @@ abbrev pub work_faults : List (Result (Vec FindingData) WorkFault) → List Assa
 work_faults [] = []
 work_faults (Ok findings ∷ rest) = work_faults rest
 work_faults (Err fault ∷ rest) = fault_of fault ∷ work_faults rest
+
+-- what a worker of a table gives back, or several: what each hands on, and, where no thread was
+-- refused and none has a fault, their seats in one, ended, with so many spares and a finding for
+-- each place that failed or passed
+pub record AreReturned
+    (shut may : QuestionData → Type 0)
+    (table : ClaimTable)
+    (spare : ℕ)
+    (refused : Bool)
+    (handed : List (Result (Vec FindingData) WorkFault))
+    (seat : Option ClaimSeat) : Type 0 where
+  pub passed : AreHanded shut may (table_level table) handed
+  pub ended :
+      IfSome seat
+      (λ s. IsSeatEnded table s spare × AreSeatTasks table s (tasks_handed handed))
+  pub some : refused ≡ false → work_faults handed ≡ [] → IsSome seat
 
 -- the faults of a crew: a thread that was refused, and the faults of its workers
 abbrev pub faults_of : Crew → List AssayFault

@@ -3,7 +3,8 @@ use Rattle.std.specs.Int.{div_ceil}
 use Rattle.std.proofs.lemmas.List.Sums.{sum_by_more}
 use Rattle.task_sheet.specs.Sheet.{IsInterrupt}
 use Rattle.candidate_workers.specs.Threads.{comes_within}
-use Rattle.candidate_workers.proofs.EventLaws.{no_interrupt, comes-few}
+use Rattle.response_time.proofs.InterruptSums.{no_interrupt}
+use Rattle.candidate_workers.proofs.EventLaws.{comes-few}
 use Rattle.candidate_workers.proofs.threads.events_within.Goals as goal
 
 pub loop-interrupt-preserved : goal.loop-interrupt-preserved
