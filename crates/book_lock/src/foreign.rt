@@ -34,7 +34,7 @@ fn is_before(name: Name, first: Option<Name>) -> bool
 }
 
 // The first name by bytes on which the two differ.
-fn foreign_name(book: &[Owned], pass: &[Owned]) -> Option<Name>
+fn foreign_name<'a>(book: &'a [Owned], pass: &'a [Owned]) -> Option<Name>
     requires book { IsRoster book.now }
     requires pass { IsRoster pass.now }
     ensures { MatchOption result (book.now ≡ pass.now)
@@ -43,7 +43,10 @@ fn foreign_name(book: &[Owned], pass: &[Owned]) -> Option<Name>
     let mut first = None;
     for task in book.iter().chain(pass) {
         let name = task.sheet.name();
-        if is_before(name, first) && !agree(book, pass, name) {
+        if !is_before(name, first) {
+            continue;
+        }
+        if !agree(book, pass, name) {
             first = Some(name);
         }
     }
