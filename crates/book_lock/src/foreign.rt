@@ -24,11 +24,11 @@ fn agree(book: &[Owned], pass: &[Owned], name: Name) -> bool
 }
 
 // Whether a name is before the one that was found so far, if one was.
-fn is_before(name: Name, first: Option<Name>) -> bool
-    ensures { IsTrue result ↔ IfSome first (λ f. is_lt (slice_cmp nat_cmp name f) ≡ true) }
+fn is_before(name: Name, first: &Option<Name>) -> bool
+    ensures { IsTrue result ↔ IfSome first.now (λ f. is_lt (slice_cmp nat_cmp name f) ≡ true) }
 {
     match first {
-        Some(first) => name < first,
+        Some(first) => name < *first,
         None => true,
     }
 }
@@ -43,7 +43,7 @@ fn foreign_name<'a>(book: &'a [Owned], pass: &'a [Owned]) -> Option<Name>
     let mut first = None;
     for task in book.iter().chain(pass) {
         let name = task.sheet.name();
-        if !is_before(name, first) {
+        if !is_before(name, &first) {
             continue;
         }
         if !agree(book, pass, name) {

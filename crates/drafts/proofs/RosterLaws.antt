@@ -2,7 +2,7 @@
 use Rattle.std.proofs.Common.{◌≡◌, ℕ, zero, suc, ◌+◌, ◌≤◌, inl, inr, Bool, true, false, not, nat_lt}
 use Rattle.std.proofs.Common.{nat_le, List, [], ◌∷◌, ◌++◌, length, insert, position, drop}
 use Rattle.std.proofs.Common.{slice_get, Some, None, Ok, Err, Ordering, Less, Equal, Greater, refl}
-use Rattle.std.proofs.Common.{sym, ◌∙◌, ap, subst, add-one, arith}
+use Rattle.std.proofs.Common.{sym, ◌∙◌, ap, add-one, arith}
 use Rattle.std.specs.List.{filter, AllByRecursion, list_any, position_or_len}
 use Rattle.std.specs.List.Sorted.{IsStrictlySortedBy}
 use Rattle.std.specs.Ordering.{is_lt}
