@@ -1,6 +1,6 @@
 -- The lines of a set's limits, one after the other.
-use Rattle.std.proofs.Common.{◌≡◌, ◌∙◌, ℕ, ◌++◌, ◌==◌, ◌&&◌, Bool, List, [], ◌∷◌, length, ap, Option}
-use Rattle.std.proofs.Common.{Result, Ok, Err, false, refl, sym, subst}
+use Rattle.std.proofs.Common.{◌≡◌, ◌∙◌, ℕ, ◌++◌, ◌==◌, ◌&&◌, Bool, List, [], ◌∷◌, length, ap}
+use Rattle.std.proofs.Common.{Option, Result, Ok, Err, false, refl, sym, subst}
 use Rattle.std.specs.Prelude.{OnOk}
 use Rattle.std.specs.Io.KnownBytes.{Appends}
 use Rattle.std.specs.Result.{is_err}

@@ -1,41 +1,51 @@
-use Rattle.std.proofs.Common.{◌∙◌, ◌≡◌, ℕ, List, Ok, Err, ap, subst, string_bytes}
+use Rattle.std.proofs.Common.{◌≡◌, ◌∙◌, ℕ, List, Option, Ok, Err, inl, inr, ap, refl, subst}
+use Rattle.std.proofs.Common.{string_bytes}
 use Rattle.std.specs.Io.KnownBytes.{Appends}
+use Rattle.task_sheet.specs.Sheet.{Task}
+use Rattle.task_sheet.specs.declared.prefer.Preference.{Preference}
+use Rattle.assignment.specs.declared.placing.Placing.{Placing}
+use Rattle.set_commands.specs.Admit.{Places, SaysPlacing}
+use Rattle.answering.specs.Chosen.{base_of}
 use Rattle.answering.specs.OrderParts.{placing_said}
-use Rattle.answering.specs.declared.answer.OrderPart.TheVariants.{Settings}
+use Rattle.answering.specs.Printed.{IsPrinted}
+use Rattle.answering.specs.Statuses.{placing_status}
+use Rattle.answering.specs.declared.answer.OrderPart.{OrderPart}
+use Rattle.answering.specs.declared.answer.OrderPart.TheVariants.{Levels, Settings}
 use Rattle.answering.specs.declared.refusal.CommandRefusal.TheVariants as refusal
-use Rattle.answering.proofs.CarriedOut.{made_said, said_as}
+use Rattle.answering.specs.declared.status.Status.{Status}
+use Rattle.answering.proofs.CarriedOut.{made_printed, said_as}
 use Rattle.desk_cli.proofs.of_one.say_placing.Goals as goal
 
--- out of memory for the lines is an answer of its own
+-- what is printed of a placing is the answer on what a reader has; out of memory for it is an answer of its own
+printed_says : {preference : Option Preference} {known before after : Option (List ℕ)}
+    {text : List ℕ} {due s : Status} (part : OrderPart) (U : List Task) (p : Placing)
+    → Places preference known (Ok (U, p)) → text ≡ placing_said part U p → due ≡ placing_status p
+    → IsPrinted before after text due s
+    → SaysPlacing part preference known before after s
+printed_says {before = before} {after = after} part U p placed same status (inl wrote) = (
+  Ok (U, p),
+  placed,
+  subst (λ (t : List ℕ). Appends before after t) same wrote.0,
+  wrote.1 ∙ status,
+)
+printed_says part U p placed same status (inr want) = (Err refusal.OutOfMemory, tt, want.0, want.1)
+
 pub returns-in-Admit : goal.returns-in-Admit
 returns-in-Admit g c =
-    let before = g.W.Write.contents c.args.output.now.inner in
-    let after = g.W.Write.contents c.print_made.new.output.inner in
-    rw c.in-Admit.is (made_said c.placing_text-text.result (λ t. string_bytes t) _
-    c.placing_text-text.ensures c.print_made.ensures
-    (λ text same wrote is. λ known has. (
-      Ok (c.args.set.now, c.args.placing.now),
-      ((has.0, has.1, has.2.set), c.requires.placing),
-      subst (λ (t : List ℕ). Appends before after t) same wrote,
-      is ∙ c.placing_status-status.ensures,
-    ))
-    (λ wrote is. λ known has. (Err refusal.OutOfMemory, tt, wrote, is)))
+    rw c.in-Admit.is (said_as (made_printed c.placing_text-text.result (λ t. string_bytes t) _ _
+    c.placing_text-text.ensures c.print_made.ensures) (λ told. λ known has.
+    printed_says Levels c.args.set.now c.args.placing.now
+    ((has.0, has.1, has.2.set), c.requires.placing) refl c.placing_status-status.ensures told))
 
 pub returns-in-Settings : goal.returns-in-Settings
 returns-in-Settings g c =
-    let before = g.W.Write.contents c.args.output.now.inner in
-    let after = g.W.Write.contents c.print_made-in-Settings.new.output.inner in
-    let based = ap (λ (base : ℕ). placing_said (Settings base) c.args.set.now c.args.placing.now)
-    c.base_of.ensures in
-    rw c.in-Settings.is (made_said c.placing_text-text-in-Settings.result (λ t. string_bytes t) _
-    c.placing_text-text-in-Settings.ensures c.print_made-in-Settings.ensures
-    (λ text same wrote is. λ known has. (
-      Ok (c.args.set.now, c.args.placing.now),
-      ((has.0, has.1, has.2.set), c.requires.placing),
-      subst (λ (t : List ℕ). Appends before after t) (same ∙ based) wrote,
-      is ∙ c.placing_status-status.ensures,
-    ))
-    (λ wrote is. λ known has. (Err refusal.OutOfMemory, tt, wrote, is)))
+    rw c.in-Settings.is (said_as (made_printed c.placing_text-text-in-Settings.result
+    (λ t. string_bytes t) _ _ c.placing_text-text-in-Settings.ensures
+    c.print_made-in-Settings.ensures) (λ told. λ known has.
+    printed_says (Settings (base_of c.args.options)) c.args.set.now c.args.placing.now
+    ((has.0, has.1, has.2.set), c.requires.placing)
+    (ap (λ (base : ℕ). placing_said (Settings base) c.args.set.now c.args.placing.now)
+    c.base_of.ensures) c.placing_status-status.ensures told))
 
 pub returns-in-Explain : goal.returns-in-Explain
 returns-in-Explain g c = rw c.in-Explain.is

@@ -35,10 +35,12 @@ returns-in-Ok-print_lines g c =
     let made = c.in-Ok-make_ready.ensures in
     let said = c.in-Ok-print_lines.ensures.all in
     let lists = subst (λ (U : List Task). ListsAll U c.args.placing.now said.0)
-    (made.set ∙ c.of.ensures) (subst (λ (p : Placing). ListsAll c.in-Ok-make_ready.listing.set p said.0) made.placing said.1) in
+    (made.set ∙ c.of.ensures) (subst (λ (p : Placing). ListsAll c.in-Ok-make_ready.listing.set p
+    said.0) made.placing said.1) in
     let before = g.W.Write.contents c.args.output.now.inner in
     let after = g.W.Write.contents c.print_lines.new.output.inner in
-    let begins = made.first ∙ ap (λ (U : List Task). placing_first U c.args.placing.now) c.of.ensures in
+    let begins =
+    made.first ∙ ap (λ (U : List Task). placing_first U c.args.placing.now) c.of.ensures in
     said_sound (c.in-Ok-print_lines.ensures.ok never_err)
     (λ is. placing_ends c.args.placing.now (sym c.placing_status.ensures ∙ is)) (inl (
       said.0,
@@ -53,12 +55,14 @@ returns-in-Err-OutOfMemory g c =
     let said =
     printed.some (c.in-Err-OutOfMemory.is ∙ ap (λ f. Err f) c.in-Err-OutOfMemory.field-0-is) in
     let lists = subst (λ (U : List Task). ListsSome U c.args.placing.now said.0)
-    (made.set ∙ c.of.ensures) (subst (λ (p : Placing). ListsSome c.in-Ok-make_ready.listing.set p said.0) made.placing said.1) in
+    (made.set ∙ c.of.ensures) (subst (λ (p : Placing). ListsSome c.in-Ok-make_ready.listing.set p
+    said.0) made.placing said.1) in
     let before = g.W.Write.contents c.args.output.now.inner in
     let after = g.W.Write.contents c.refuse-in-Err-OutOfMemory.new.output.inner in
     let first : List ℕ = string_bytes c.in-Ok-make_ready.listing.first in
     let none = refusal_line refusal.OutOfMemory in
-    let begins = made.first ∙ ap (λ (U : List Task). placing_first U c.args.placing.now) c.of.ensures in
+    let begins =
+    made.first ∙ ap (λ (U : List Task). placing_first U c.args.placing.now) c.of.ensures in
     wanting_after (first ++ said.0)
     (printed.ok (apart _ _ c.in-Err-OutOfMemory.is c.in-Err-OutOfMemory.field-0-is)) said.2
     c.refuse-in-Err-OutOfMemory.ensures (λ all is. inl (
