@@ -37,6 +37,8 @@ pub(crate) fn order_below(
     requires member { IsTrue (indexes_of conflict task) }
     ensures { IfOk result (λ order. IsOrderBelow set.now (indexes_of conflict) task order.items) }
 {
+    // The set is valid: the proof has it from its sheets.
+    let _ = set.sheets();
     let mut order = others(alloc, set, conflict)?;
     order.push(task)?;
     let mut left = conflict.without(task);
