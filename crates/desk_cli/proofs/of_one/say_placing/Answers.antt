@@ -5,7 +5,7 @@ use Rattle.task_sheet.specs.Sheet.{Task}
 use Rattle.task_sheet.specs.declared.prefer.Preference.{Preference}
 use Rattle.assignment.specs.declared.placing.Placing.{Placing}
 use Rattle.set_commands.specs.Admit.{Places, SaysPlacing}
-use Rattle.answering.specs.Chosen.{base_of}
+use Rattle.answering.specs.Chosen.{base_of, preference_of}
 use Rattle.answering.specs.OrderParts.{placing_said}
 use Rattle.answering.specs.Printed.{IsPrinted}
 use Rattle.answering.specs.Statuses.{placing_status}
@@ -17,24 +17,26 @@ use Rattle.answering.proofs.CarriedOut.{made_printed, said_as}
 use Rattle.desk_cli.proofs.of_one.say_placing.Goals as goal
 
 -- what is printed of a placing is the answer on what a reader has; out of memory for it is an answer of its own
-printed_says : {preference : Option Preference} {known before after : Option (List ℕ)}
-    {text : List ℕ} {due s : Status} (part : OrderPart) (U : List Task) (p : Placing)
-    → Places preference known (Ok (U, p)) → text ≡ placing_said part U p → due ≡ placing_status p
-    → IsPrinted before after text due s
+printed_says : (part : OrderPart) (preference : Option Preference)
+    (known before after : Option (List ℕ)) (U : List Task) (p : Placing) (text : List ℕ)
+    (due s : Status) → Places preference known (Ok (U, p)) → text ≡ placing_said part U p
+    → due ≡ placing_status p → IsPrinted before after text due s
     → SaysPlacing part preference known before after s
-printed_says {before = before} {after = after} part U p placed same status (inl wrote) = (
+printed_says part preference known before after U p text due s placed same status (inl wrote) = (
   Ok (U, p),
   placed,
   subst (λ (t : List ℕ). Appends before after t) same wrote.0,
   wrote.1 ∙ status,
 )
-printed_says part U p placed same status (inr want) = (Err refusal.OutOfMemory, tt, want.0, want.1)
+printed_says part preference known before after U p text due s placed same status (inr want) =
+    (Err refusal.OutOfMemory, tt, want.0, want.1)
 
 pub returns-in-Admit : goal.returns-in-Admit
 returns-in-Admit g c =
     rw c.in-Admit.is (said_as (made_printed c.placing_text-text.result (λ t. string_bytes t) _ _
     c.placing_text-text.ensures c.print_made.ensures) (λ told. λ known has.
-    printed_says Levels c.args.set.now c.args.placing.now
+    printed_says Levels (preference_of c.args.options) known _ _ c.args.set.now
+    c.args.placing.now _ _ _
     ((has.0, has.1, has.2.set), c.requires.placing) refl c.placing_status-status.ensures told))
 
 pub returns-in-Settings : goal.returns-in-Settings
@@ -42,7 +44,8 @@ returns-in-Settings g c =
     rw c.in-Settings.is (said_as (made_printed c.placing_text-text-in-Settings.result
     (λ t. string_bytes t) _ _ c.placing_text-text-in-Settings.ensures
     c.print_made-in-Settings.ensures) (λ told. λ known has.
-    printed_says (Settings (base_of c.args.options)) c.args.set.now c.args.placing.now
+    printed_says (Settings (base_of c.args.options)) (preference_of c.args.options) known _ _
+    c.args.set.now c.args.placing.now _ _ _
     ((has.0, has.1, has.2.set), c.requires.placing)
     (ap (λ (base : ℕ). placing_said (Settings base) c.args.set.now c.args.placing.now)
     c.base_of.ensures) c.placing_status-status.ensures told))
