@@ -7,6 +7,7 @@ import base64
 import hashlib
 import os
 import re
+import sys
 import sysconfig
 import zipfile
 from pathlib import Path
@@ -25,8 +26,11 @@ def build_wheel(folder, config_settings=None, metadata_directory=None):
     version, needs = (re.search(rf'^{key} = "(.*)"', said, re.M)[1] for key in keys)
     named = os.environ.get("DESK_LIBRARY")
     library = Path(named or HERE / "libdesk.so")
-    if named and not (library.is_absolute() and library.is_file()):
-        raise FileNotFoundError(f"DESK_LIBRARY has no whole path of a file: {named}")
+    if named and not library.is_absolute():
+        sys.exit(f"DESK_LIBRARY has to be a whole path: {named}")
+    if named and not library.is_file():
+        made = "./install makes it, ./install --unproved doesn't"
+        sys.exit(f"DESK_LIBRARY: there is no file {named}; {made}")
     files = {"desk.py": (HERE / "desk.py").read_bytes()}
     tag = "py3-none-any"
     if library.is_file():

@@ -1,7 +1,7 @@
 #!/usr/bin/env python3
 """Says whether a certificate shows the best order of a task set, or that no order passes.
 
-usage: python/check_certificate.py SET CERT
+usage: python/check_certificate.py SET CERT     of one document, with its own `prefer`
 
 It prints what `desk check SET CERT` prints, with its status, and shares nothing with it: Python's
 standard library (from 3.11 on), docs/FORMATS.md and docs/DEFINITIONS.md are all that it rests on. It
@@ -259,9 +259,23 @@ def said(set_text, certificate_text):
         return f"refused: {fault}", 5
 
 
+def bytes_of(path):
+    """What a file has; where it can't be read, one line on standard error and status 7."""
+    try:
+        return Path(path).read_bytes()
+    except (OSError, ValueError) as error:
+        said_of = getattr(error, "strerror", None) or error
+        print(f"{path}: can't be opened or read: {said_of}", file=sys.stderr)
+        sys.exit(7)
+
+
 if __name__ == "__main__":
+    if sys.argv[1:] in (["--help"], ["-h"]):
+        print(__doc__, end="")
+        sys.exit(0)
     if len(sys.argv) != 3:
-        sys.exit(__doc__.split("\n\n")[1])
-    LINE, STATUS = said(*(Path(it).read_bytes() for it in sys.argv[1:]))
+        print(__doc__.split("\n\n")[1], file=sys.stderr)
+        sys.exit(2)
+    LINE, STATUS = said(*map(bytes_of, sys.argv[1:]))
     print(LINE)
     sys.exit(STATUS)

@@ -32,6 +32,10 @@ Inputs
   $ said admit teams
   teams: can't be opened or read: no name of a team: cam.team.toml
   [7]
+  $ mkdir none && : > none/node.toml && : > none/.cam.toml
+  $ said admit none
+  none: can't be opened or read: no file TEAM.toml in this folder
+  [7]
   $ said check examples/three-tasks.toml nosuch.cert
   nosuch.cert: can't be opened or read: No such file or directory
   [7]
@@ -97,6 +101,12 @@ Keys
 
   $ document 'tasks = []'
   standard input: unknown key tasks; a set has tasks, each headed by [[task]], and may have prefer in front of them, [node] and [[interrupt]]
+  [4]
+  $ document '[[section]]\nlocks = ["m"]\nlen = 10\n'
+  standard input: unknown key section; a section is headed [[task.section]]
+  [4]
+  $ more 'prefer = "deadline"'
+  standard input: task 1 (a): unknown key prefer; prefer stands in front of the first [[task]]
   [4]
   $ more 'deadlin = 3'
   standard input: task 1 (a): unknown key deadlin; a task has name, weight, period, deadline, cost, section, jitter, outranks
@@ -280,10 +290,16 @@ Certificates
   standard input: its levels don't name each task of the set once, or a member is no task or named twice
   [5]
   $ sed 's/^fails a .*/fails c 1 11000/' examples/three-tasks.cert | said check examples/three-tasks.toml -
-  standard input: level 1: its lines fails have to name tasks that are left and of smaller rank, by rank
+  standard input: level 1: its lines fails have to name tasks that are left and of smaller rank, by rank (a certificate made with --prefer is checked with it)
+  [5]
+  $ sed '/^fails b/d' examples/three-tasks.cert | said check --prefer weight examples/three-tasks.toml -
+  standard input: level 1: b is left and of smaller rank than the level's task, but no line fails says why it can't have the level
   [5]
   $ sed 's/c 20000/c 20001/' examples/three-tasks.cert | said check examples/three-tasks.toml -
-  standard input: level 1: its number is past the deadline less the jitter, or below what the task may need; or its task has to outrank one above it
+  standard input: level 1: its number, 20001, is past the deadline less the jitter, 20000
+  [5]
+  $ sed 's/c 20000/c 5/' examples/three-tasks.cert | said check examples/three-tasks.toml -
+  standard input: level 1: its number, 5, is below what the task may need, or its task has to outrank one above it
   [5]
   $ sed 's/^fails b 1/fails b 2/' examples/three-tasks.cert | said check examples/three-tasks.toml -
   standard input: level 1, fails b: its numbers have to begin with 1, to rise by no more than the task's demand, and to end with the first past the deadline less the jitter; after over stands a task above it that it has to outrank
@@ -292,7 +308,7 @@ Certificates
   standard input: member a: its numbers have to begin with 1, to rise by no more than the task's demand, and to end with the first past the deadline less the jitter; after over stands a task above it that it has to outrank
   [5]
   $ sed '/^fails b/d' examples/three-tasks.cert | said check examples/three-tasks.toml -
-  standard input: level 1: b is left and of smaller rank than the level's task, but no line fails says why it can't have the level
+  standard input: level 1: b is left and of smaller rank than the level's task, but no line fails says why it can't have the level (a certificate made with --prefer is checked with it)
   [5]
 
 Release lists
@@ -303,10 +319,31 @@ Release lists
   standard input: there is no line until N
   [4]
   $ releases '# a list\n0 a\n'
-  standard input: line 2, "0 a" has to be until N, with a time of 1 to 10 digits
+  standard input: line 2, "0 a" has to be until N, in whole microseconds
   [4]
   $ releases 'until 100\n0  a\n'
-  standard input: line 2, "0  a" has to be TIME NAME or TIME NAME LATE, with times of 1 to 10 digits; one space stands between words, none before or after them
+  standard input: line 2, "0  a" has to be TIME NAME [LATE] [runs N], in whole microseconds; one space stands between words, none before or after them
+  [4]
+  $ releases 'until 0100\n'
+  standard input: line 1, "until 0100" has to be until N, in whole microseconds; a number has no leading zero
+  [4]
+  $ releases 'until 100\n00 a\n'
+  standard input: line 2, "00 a" has to be TIME NAME [LATE] [runs N], in whole microseconds; a number has no leading zero
+  [4]
+  $ releases 'until 12345678901\n'
+  standard input: line 1, "until 12345678901" has to be until N, in whole microseconds; a number has 10 digits at most
+  [4]
+  $ releases 'until 100\n0 a 5 # late\n'
+  standard input: line 2, "0 a 5 # late" has to be TIME NAME [LATE] [runs N], in whole microseconds; a comment has to be a line of its own, which begins with #
+  [4]
+  $ releases 'until 100\n  # late\n'
+  standard input: line 2, "  # late" has to be TIME NAME [LATE] [runs N], in whole microseconds; a comment has to be a line of its own, which begins with #
+  [4]
+  $ releases 'until 100\n0\ta\n'
+  standard input: line 2, "0?a" has to be TIME NAME [LATE] [runs N], in whole microseconds; a tab stands in it, where one space stands between words
+  [4]
+  $ releases 'until 100\n0 a ran 5\n'
+  standard input: line 2, "0 a ran 5" has to be TIME NAME [LATE] [runs N], in whole microseconds
   [4]
   $ releases 'until 100\n\n10 a\n9 b\n'
   standard input: line 4, "9 b" arrives before the one above it
@@ -315,10 +352,19 @@ Release lists
   standard input: line 4, "1 d": the set has no task of that name
   [4]
   $ releases 'until 20000\n0 a\n6999 a\n'
-  standard input: line 3, "6999 a" arrives less than the task's period after the one before it
+  standard input: line 3, "6999 a" arrives less than the task's period after the one before it: at 6999, that one at 0, period 7000
+  [4]
+  $ releases 'until 20000\n0 a\n7000 a\n7000 c\n8000 b\n13999 a\n'
+  standard input: line 6, "13999 a" arrives less than the task's period after the one before it: at 13999, that one at 7000, period 7000
   [4]
   $ releases 'until 20000\n0 a 1001\n'
-  standard input: line 2, "0 a 1001" is later than the task's jitter allows
+  standard input: line 2, "0 a 1001" is later than the task's jitter allows: late 1001, jitter 1000
+  [4]
+  $ releases 'until 20000\n0 a runs 0\n'
+  standard input: line 2, "0 a runs 0" runs for nothing: runs 0, cost 3000
+  [4]
+  $ releases 'until 20000\n0 a 10 runs 3001\n'
+  standard input: line 2, "0 a 10 runs 3001" runs for more than the task's cost: runs 3001, cost 3000
   [4]
   $ releases 'until 60000001\n'
   standard input: until 60000001 is above 60000000 microseconds
@@ -354,10 +400,10 @@ Release lists
 A byte order mark, and CR in front of LF:
 
   $ releases '\357\273\277until 100\n'
-  standard input: line 1, "?until 100" has to be until N, with a time of 1 to 10 digits; it begins with a byte order mark, which only a set may have
+  standard input: line 1, "?until 100" has to be until N, in whole microseconds; it begins with a byte order mark, which only a set may have
   [4]
   $ releases 'until 100\r\n'
-  standard input: line 1, "until 100?" has to be until N, with a time of 1 to 10 digits; it ends with CR and LF, where LF alone is wanted
+  standard input: line 1, "until 100?" has to be until N, in whole microseconds; it ends with CR and LF, where LF alone is wanted
   [4]
   $ certificate '\357\273\277desk-certificate 1\r\nbest 0\r\n'
   standard input: line 1 has to be desk-certificate 1, 2 or 3; it is "?desk-certificate 1?"; it begins with a byte order mark, which only a set may have; it ends with CR and LF, where LF alone is wanted
@@ -381,6 +427,9 @@ Settings
   $ settings() { printf "$1" | said judge examples/shared-lock.toml -; }
   $ settings 'thread lo 1\nthreat mid 2\n'
   standard input: line 2, "threat mid 2" has to be thread NAME NUMBER or mutex NAME NUMBER, with a number from 1 to 1000000
+  [4]
+  $ settings 'thread lo 01\n'
+  standard input: line 1, "thread lo 01" has to be thread NAME NUMBER or mutex NAME NUMBER, with a number from 1 to 1000000; a number has no leading zero
   [4]
   $ settings 'thread low 1\n'
   standard input: line 1, "thread low 1": the set has no task of that name
@@ -485,7 +534,7 @@ Tasks and times that are asked for
   standard input: its run ends at 100000: nothing of it lies from 200000 on
   [4]
   $ view --from 5000 --to 4000
-  standard input: its run ends at 100000: nothing of it lies from 5000 to 4000
+  standard input: its run ends at 100000: nothing of it lies from 5000 to 4000; --to has to be after --from
   [4]
 
 Notes

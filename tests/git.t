@@ -24,7 +24,7 @@ each number that mends it alone; he takes the one that is his:
   2 arm misses 5000 needs 5500 team arm
     cost 1500
     blocked 4000 by pan section 1 lock bus team cam
-  one of these changes mends it, all else as it is (the number, its value, the nearest that does):
+  one of these changes mends it, all else as it is, but for a period below its deadline (the number, its value, the nearest that does):
   arm cost 1500 - 1000
   arm deadline 5000 - 5500
   pan section 1 len 4000 - 3500

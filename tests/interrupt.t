@@ -328,7 +328,13 @@ Sentences:
   $ refused 'interrupt = [{ period = 100, cost = 1 }, { period = 99, cost = 1 }]\n' > /dev/null || cat said
   wrong.toml: interrupt 2: period has to be from 100 to 10000000, and cost at most period; period is 99, cost is 1
   $ refused '[[interrupt]]\nperiod = 100\ncost = 1.0\n' > /dev/null || cat said
-  wrong.toml: interrupt 1: period has to be from 100 to 10000000, and cost at most period; period is 100, cost is no number
+  wrong.toml: interrupt 1: cost has to be a whole number of microseconds from 0, without quotes; it is a number with a fraction
+  $ refused '[[interrupt]]\nperiod = "4ms"\ncost = 1\n' > /dev/null || cat said
+  wrong.toml: interrupt 1: period has to be a whole number of microseconds from 0, without quotes; it is the string "4ms"
+  $ refused '[[interrupt]]\nperiod = 100\ncost = -1\n' > /dev/null || cat said
+  wrong.toml: interrupt 1: cost has to be a whole number of microseconds from 0, without quotes; it is -1
+  $ refused '[[interrupt]]\nperiod = 100\n' > /dev/null || cat said
+  wrong.toml: interrupt 1: no key cost; an interrupt needs period, cost
   $ refused '[[interrupt]]\nperiod = 100\nof = 1\n' > /dev/null || cat said
   wrong.toml: interrupt 1: unknown key of; an interrupt has period, cost
   $ refused "interrupt = [$eight, { period = 100, cost = 1 }]\n" > /dev/null || cat said

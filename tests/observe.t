@@ -231,5 +231,11 @@ of a run of examples/posix/measure.c, with a thread `foreign` above all) and in 
   434 1034 hi
   job hi 0 1034
   job hi 10000 -
+  $ examples/trace/from_ftrace.py ctl=hi cntl=lo 89=mid 72=x < report > made
+  (on standard error) note: the record has no thread cntl, 72; it has ctl, kworker/3:1, vi
+  $ examples/trace/from_ftrace.py cntl=hi < report
+  (on standard error) note: the record has no thread cntl; it has ctl, kworker/3:1, vi
+  (on standard error) no thread of a task executed
+  [1]
   $ examples/trace/from_ftrace.py 71=hi < report | desk observe examples/shared-lock.toml - --tolerance 5 | grep -v task
   foreign hi 0 30 by kworker_3_1

@@ -51,15 +51,15 @@ An infeasible set prints as in `admit`, and so does a refused one:
   thread mid 81
   thread hi 82
   mutex m 82
-  $ printf 'thread b 10\nthread a 20\n' | desk settings examples/three-tasks.toml --keep - --base 1000000
-  thread c 1000000
-  thread b 1000001
-  thread a 1000002
+  $ printf 'thread b 10\nthread a 20\n' | desk settings examples/three-tasks.toml --keep - --base 999969
+  thread c 999969
+  thread b 999970
+  thread a 999971
   $ desk settings examples/watchdog.toml > levels
   $ desk settings --base=1 examples/watchdog.toml | cmp - levels
   $ desk settings examples/watchdog.toml --base 40 | desk judge examples/watchdog.toml - > judged
   $ desk judge examples/watchdog.toml levels | awk 'NR > 1 { $NF += 39 } 1' | cmp - judged
-  $ for base in 0 1000001 -1 x ''; do desk settings examples/shared-lock.toml --base "$base" 2> /dev/null || echo $?; done
+  $ for base in 0 999970 -1 x ''; do desk settings examples/shared-lock.toml --base "$base" 2> /dev/null || echo $?; done
   2
   2
   2

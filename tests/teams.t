@@ -80,11 +80,18 @@ A file of a folder whose name is no team's is refused, not left out:
   refused: ReadFailed
   [7]
 
-An empty folder is the empty set:
+One whose name begins with a dot, as an editor's, is left alone:
 
-  $ mkdir none
+  $ rm many/0.toml && : > many/.a.toml
+  $ desk admit many 2> said | head -n 1
+  refused: TooManyTasks
+
+A folder without a document of a team is no set:
+
+  $ mkdir none && : > none/node.toml
   $ desk admit none
-  admitted 0
+  refused: ReadFailed
+  [7]
 
 A document that prefers otherwise than one before it, whether they have tasks or none:
 

@@ -246,6 +246,9 @@ static int read_line(char *line)
 {
     char name[25];
     long number;
+    /* A row of `admit` there would be taken as a release. */
+    if (until != 0 && strchr("0123456789#\n", line[0]) == NULL)
+        fail(2, "line", line, "has to stand in front of the line until");
     if (strncmp(line, "put ", 4) == 0)
         return read_put(line);
     if (sscanf(line, "thread %24s %ld", name, &number) == 2) {

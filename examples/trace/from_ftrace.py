@@ -5,8 +5,9 @@ usage: from_ftrace.py [--cpu N] THREAD=TASK.. < REPORT > TRACE
 
 REPORT is the text of `trace-cmd report` or `perf sched script`, with the events sched_switch and sched_waking in either of
 their two spellings. THREAD is a thread's name in the kernel (15 bytes at most) or its number, TASK the name of its task in
-the set. All other threads are of the node's own, and keep their names, spelled as a name of the desk. N is the processor;
-without it that on which the threads executed, which has to be one.
+the set; where the record has no such thread, a note names those that it has. All other threads are of the node's own, and
+keep their names, spelled as a name of the desk. N is the processor; without it that on which the threads executed, which
+has to be one.
 
     trace-cmd record -e sched_switch -e sched_waking -M 2 sleep 10
     trace-cmd report | from_ftrace.py ctl=control log=logger | desk observe set.toml - --tolerance 20
@@ -74,6 +75,15 @@ class Threads:
         if name[:NAME_MOST] in self.tasks.values():
             name = f"x_{name}"
         return name[:NAME_MOST]
+
+
+def note_missing(events, threads):
+    """Says which threads the record doesn't have, and those that it has; that of number 0 is none."""
+    seen = {thread[:2] for _, _, before, after in events for thread in (before, after) if thread and thread[1] != "0"}
+    missing = [it for it in threads.tasks if not any(it in thread for thread in seen)]
+    if missing:
+        names = ", ".join(sorted({comm for comm, _ in seen})) or "none"
+        print(f"note: the record has no thread {', '.join(missing)}; it has {names}", file=sys.stderr)
 
 
 def the_cpu(events, threads):
@@ -146,6 +156,7 @@ def main():
     if not all(re.fullmatch(r"[^=]+=[A-Za-z][A-Za-z0-9_-]{0,23}", word) for word in words.threads):
         parser.error("each THREAD=TASK has a thread, = and the name of a task")
     threads, events = Threads(words.threads), sorted(events_of(sys.stdin), key=lambda event: event[0])
+    note_missing(events, threads)
     cpu = the_cpu(events, threads) if words.cpu is None else words.cpu
     events = [event for event in events if event[1] == cpu]
     if not events:

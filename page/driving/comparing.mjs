@@ -156,6 +156,7 @@ const WORST = [
   [/^# (\S+) too-many-releases$/, it => ` ${it[1]} has more than 10000 jobs`],
   [/^# (\S+) ends-inside-a-section$/, it => `^${it[1]} doesn't pass, .* inside a section`],
   [/^# (\S+) within-a-tick$/, it => `^${it[1]} doesn't pass, .* the first µs `],
+  [/^# (\S+) within-interrupts$/, it => `^${it[1]} doesn't pass, .* timers and interrupts `],
 ];
 export function compare_worst(what, { text }, shown) {
   const line = text.split('\n')[0], said = digits(shown);

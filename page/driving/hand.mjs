@@ -87,13 +87,17 @@ export class Hand extends Browser {
   // A finger, from one part of an element's width to another, or down to another element.
   async touch(selector, from = .5, to = from, other = selector) {
     const [x, y] = await this.place(selector, from), [across, down] = await this.end_of(other, to);
-    const by = [across - x, other === selector ? 0 : down - y];
+    const by = [across - x, other === selector ? 0 : down - y], is_tap = !by[0] && !by[1];
+    if (is_tap) await this.evaluate(`addEventListener('click', () => { desk.was_tapped = true; },
+      { capture: true, once: true }) ?? (desk.was_tapped = false)`);
     await this.finger('down', [x, y]);
     for (let step = 1; step <= 8 && (by[0] || by[1]); step++) {
       await this.finger('drag', [x + by[0] * step / 8, y + by[1] * step / 8]);
       await soon(20);
     }
     await this.finger('up', [x + by[0], y + by[1]]);
+    // (the click of a tap comes behind it)
+    if (is_tap) await this.comes('desk.was_tapped');
     await this.settled();
   }
   // A file, by the input that takes one: the page empties that again.

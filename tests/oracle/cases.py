@@ -89,7 +89,7 @@ def of_set(rng, subject):
         if rng.random() < 0.8:
             inputs[1] = make_lines.turned(inputs[1])
     if subject == "settings" and rng.random() < 0.3:
-        options.append(("base", rng.choice(["1", "2", "80", "+007", "999999", "1000000", "1000001", "0"])))
+        options.append(("base", rng.choice(["1", "2", "80", "+007", "999968", "999969", "999970", "0"])))
     if subject == "settings" and rng.random() < 0.5:
         others = make_sets.changed(rng, sheets) if rng.random() < 0.7 else sheets
         inputs.append(make_lines.settings_of(rng, sets.by_rank(others)))

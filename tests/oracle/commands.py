@@ -369,7 +369,7 @@ COMMANDS = {
     "check": on_set(check, certificate.read),
     "explain": on_set(explain, options=AT, by_file=("at", EXPLAIN_AT)),
     "limits": on_set(limits_of, options=AT, by_file=("at", LIMITS_AT)),
-    "settings": on_set(settings_of, options={**PREFERS, "keep": calls.any_word, "base": calls.number_within(1, settings.NUMBER_MOST)}, by_file=("keep", KEEP)),
+    "settings": on_set(settings_of, options={**PREFERS, "keep": calls.any_word, "base": calls.number_within(1, settings.BASE_MOST)}, by_file=("keep", KEEP)),
     "judge": on_set(judge, settings.read_settings, options={**PREFERS, "lower-is-higher": calls.FLAG}),
     "diff": on_set(diff, read_change),
     "simulate": on_set(simulate, kernel.read_releases, options={**PREFERS, "tasks": calls.FLAG}),

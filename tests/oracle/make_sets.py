@@ -271,7 +271,7 @@ def folder(rng, parts, node=None):
     if node is not None:
         files["node.toml"] = node
     if rng.random() < 0.2:
-        files[rng.choice(["README", "a.tom", "toml", ".toml", "1.toml", "a.b.toml", "b.TOML", "sub/c.toml", "d.toml/x", "e.toml/"])] = b"x"
+        files[rng.choice(["README", "a.tom", "toml", ".toml", ".a.toml", "1.toml", "a.b.toml", "b.TOML", "sub/c.toml", "d.toml/x", "e.toml/"])] = b"x"
     return files or {"": b""}
 
 

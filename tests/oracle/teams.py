@@ -134,7 +134,7 @@ def next_document(data, part):
 def text_of(path, files):
     """What a path has, where `files` are the bytes of each by its path: a file's, or a folder's documents; or None.
 
-    A path that ends with `/` is that of an empty folder.
+    A path that ends with `/` is that of an empty folder. A folder without a document of a team has nothing.
     """
     inside = {file.removeprefix(path + "/"): data for file, data in files.items() if file.startswith(path + "/")}
     if path in files or not inside:
@@ -142,11 +142,13 @@ def text_of(path, files):
     documents, node = {}, b""
     for name, data in inside.items():
         name, *below = name.split("/")
-        if name.endswith(ENDING):
+        if name.endswith(ENDING) and not name.startswith("."):
             if below or not is_name(name.removesuffix(ENDING)):
                 return None
             if name == NODE + ENDING:
                 node = b"#%% %d\n%s" % (len(data), data)
             else:
                 documents[name.removesuffix(ENDING).encode()] = data
+    if not documents:
+        return None
     return node + b"".join(b"#%% %s %d\n%s" % (team, len(data), data) for team, data in sorted(documents.items()))

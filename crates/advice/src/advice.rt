@@ -29,6 +29,8 @@ pub struct Advice<'a, W: Write + Drop> {
     greatest_until: Option<u64>,
     // That the set has no task of a name that the call's words say.
     no_task: Option<String>,
+    // The set of a call that runs a list or checks a certificate, for what these break.
+    set: Option<TaskSet>,
     errors: Watched<W>,
 }
 
@@ -60,6 +62,19 @@ fn is_run(call: Call<'_>) -> bool {
         Call::Two { command, .. } => match command {
             OfTwo::Simulate | OfTwo::Draw => true,
             OfTwo::Check | OfTwo::Diff | OfTwo::Judge | OfTwo::Observe => false,
+            OfTwo::Keep | OfTwo::WorstAt | OfTwo::ExplainAt | OfTwo::LimitsAt => false,
+        },
+        _ => false,
+    }
+}
+
+// Whether a call checks a certificate.
+fn is_check(call: Call<'_>) -> bool {
+    match call {
+        Call::Two { command, .. } => match command {
+            OfTwo::Check => true,
+            OfTwo::Simulate | OfTwo::Draw => false,
+            OfTwo::Diff | OfTwo::Judge | OfTwo::Observe => false,
             OfTwo::Keep | OfTwo::WorstAt | OfTwo::ExplainAt | OfTwo::LimitsAt => false,
         },
         _ => false,
@@ -163,6 +178,7 @@ impl<'a, W: Write + Drop> Advice<'a, W> {
             last,
             greatest_until: None,
             no_task: None,
+            set: None,
             errors,
         }
     }
@@ -240,6 +256,9 @@ impl<'a, W: Write + Drop> Audience for Advice<'a, W> {
         if asks_densest(self.call) {
             self.greatest_until = Some(greatest_until(set));
         }
+        if is_run(self.call) || is_check(self.call) {
+            self.set = set.copy(self.alloc).ok();
+        }
         match (choice.call, choice.own) {
             (Some(call), Some(own)) if call != own => {
                 let _ = put_override(call, own, &mut self.errors);
@@ -260,6 +279,7 @@ impl<'a, W: Write + Drop> Audience for Advice<'a, W> {
             last: self.last,
             options: options_of(self.call),
             greatest_until: self.greatest_until,
+            set: self.set.as_ref(),
         };
         if let Some(sentence) = sentence_of(self.alloc, known, bytes, refusal) {
             self.put_line(which, sentence.as_str());

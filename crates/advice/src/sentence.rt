@@ -10,6 +10,7 @@ use sentences::{
 };
 use std::alloc::{AllocError, Global};
 use streams::InputFault;
+use task_sheet::TaskSet;
 
 /// What is known beside the bytes of an input.
 #[derive(Clone, Copy)]
@@ -20,6 +21,8 @@ pub(crate) struct Known<'a> {
     pub(crate) options: Options<'a>,
     /// Up to when the densest list of the set is short enough, where the call asks for that list.
     pub(crate) greatest_until: Option<u64>,
+    /// The set of a call that runs a list or checks a certificate.
+    pub(crate) set: Option<&'a TaskSet>,
 }
 
 // That an input could not be opened or read, and why.
@@ -45,15 +48,10 @@ fn of_input(alloc: Global, last: &LastError, fault: InputFault) -> Option<String
 }
 
 // Why a list of releases was not made or run.
-fn of_list(
-    alloc: Global,
-    greatest_until: Option<u64>,
-    bytes: &[u8],
-    fault: RunFault,
-) -> Option<String> {
-    match (fault, greatest_until) {
+fn of_list(alloc: Global, known: Known<'_>, bytes: &[u8], fault: RunFault) -> Option<String> {
+    match (fault, known.greatest_until) {
         (RunFault::TooMany, Some(until)) => of_density(alloc, until),
-        _ => of_run(alloc, bytes, fault),
+        _ => of_run(alloc, bytes, known.set, fault),
     }
 }
 
@@ -74,9 +72,15 @@ pub(crate) fn sentence_of(
         CommandRefusal::Input(fault) => of_input(alloc, known.last, fault),
         CommandRefusal::Set(fault) | CommandRefusal::New(fault) => of_set_text(alloc, bytes, fault),
         CommandRefusal::Certificate(fault) => of_certificate(alloc, bytes, fault),
-        CommandRefusal::Check(fault) => of_check(alloc, fault),
+        CommandRefusal::Check(fault) => of_check(
+            alloc,
+            bytes,
+            known.set,
+            known.options.prefer.is_some(),
+            fault,
+        ),
         CommandRefusal::Text(TextFault::BadLine { line }) => of_release_line(alloc, bytes, line),
-        CommandRefusal::Run(fault) => of_list(alloc, known.greatest_until, bytes, fault),
+        CommandRefusal::Run(fault) => of_list(alloc, known, bytes, fault),
         CommandRefusal::Settings(fault) => of_settings(alloc, bytes, fault),
         CommandRefusal::Trace(fault) => of_trace(alloc, bytes, fault),
         CommandRefusal::Script(fault) => of_script(alloc, bytes, fault),

@@ -63,7 +63,7 @@ pub struct Unfinished {
 }
 
 impl Climb {
-    /// A climb with all tasks of the set left. The error is out of memory; nothing else of the climb takes memory.
+    /// A climb with all tasks of the set left. The error is out of memory. Closing levels needs no premise on memory.
     pub fn start(alloc: Global, set: Arc<TaskSet>) -> Result<Climb, AllocError>
         ensures { IfOk result (λ climb. climb
             ≡ record {

@@ -185,7 +185,7 @@ impl Level {
         None
     }
 
-    /// The question on a candidate, with the others that are left above it. The error is out of memory.
+    /// The question on a candidate, with the others that are left above it. The error is that the set has too many owners.
     pub fn question(&self, task: usize) -> Result<Question, AllocError>
         requires { IsTrue (contains self.now.left task) }
         ensures asked { IfOk result (λ question. IsAsked self.now question) }

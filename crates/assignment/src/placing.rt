@@ -85,7 +85,7 @@ fn lowest(set: &Tabled<'_>, left: Members) -> Option<Place>
 }
 
 /// The best order of a set with its responses, or its greatest obstruction: what `assign` says, without what shows it.
-/// It takes no memory but for its levels; the error is want of it.
+/// It takes no memory but for its levels; the error is out of memory.
 pub fn place_all(alloc: Global, set: &Tabled<'_>) -> Result<Placing, AllocError>
     ensures { IfOk result (λ placing. IsPlacingOf set.now placing) }
 {

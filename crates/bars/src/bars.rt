@@ -1,14 +1,13 @@
 //! Slices, as bars.
 ghost use Rattle.std.specs.Prelude.{◌≡◌, length, slice_index};
-ghost use Rattle.streams.specs.Puts.{Puts};
+ghost use Rattle.frames.specs.Page.{Adds};
+ghost use Rattle.frames.specs.Rows.{on_spot};
 ghost use Rattle.bars.specs.Bars.{bar_text, seen_slice, slice_by, slice_text, slices_text};
 ghost use Rattle.bars.specs.Sections.{AreUncounted, counted};
 
 use crate::parts::put_dark;
-use ceiling_kernel::Slice;
-use frames::{Chart, Lane, bar_of, executed_after, sees, tone_of, x_of};
-use std::io::Write;
-use streams::{Outlet, WriteFailed};
+use ceiling_kernel::{JobRecord, Slice};
+use frames::{Chart, Lane, Page, bar_of, executed_after, sees, tone_of, x_of};
 
 // Counts the ticks of a slice, and says how many its job executed before; none where there is no such job.
 fn count_slice(executed: &mut [u64], slice: Slice) -> u64
@@ -24,13 +23,8 @@ fn count_slice(executed: &mut [u64], slice: Slice) -> u64
 }
 
 // A slice.
-fn put_bar<W: Write + Drop>(
-    slice: Slice,
-    lane: &Lane<'_>,
-    out: &mut Outlet<'_, W>,
-) -> Result<(), WriteFailed>
-    ensures { Puts W.contents out.old out.new result
-        (bar_text lane.now.frame slice lane.now.spot lane.now.row.now) }
+fn put_bar(slice: Slice, lane: &Lane<'_>, page: &mut Page)
+    ensures { Adds page.old page.new (bar_text lane.now.frame slice lane.now.spot lane.now.row.now) }
 {
     let start = x_of(lane.frame, slice.start);
     let stop = x_of(lane.frame, slice.stop);
@@ -40,82 +34,67 @@ fn put_bar<W: Write + Drop>(
     let start = slice.start;
     let stop = slice.stop;
     write!(
-        out,
+        page,
         "<path class=\"e f{tone}\" d=\"{bar}\"><title>{name} {start} to {stop} us</title></path>\n"
     )
 }
 
 // A slice and its darker parts.
-fn put_whole<W: Write + Drop>(
-    executed: u64,
-    slice: Slice,
-    lane: &Lane<'_>,
-    out: &mut Outlet<'_, W>,
-) -> Result<(), WriteFailed>
-    ensures { Puts W.contents out.old out.new result
-        (seen_slice lane.now.frame lane.now.locks.now executed slice lane.now.spot
+fn put_whole(executed: u64, slice: Slice, lane: &Lane<'_>, page: &mut Page)
+    ensures { Adds page.old page.new (seen_slice lane.now.frame lane.now.locks.now executed slice
+        lane.now.spot
         lane.now.row.now) }
 {
-    put_bar(slice, lane, out)?;
+    put_bar(slice, lane, page);
     for section in lane.row.sheet.sections() {
-        put_dark(executed, slice, lane, section, out)?;
+        put_dark(executed, slice, lane, section, page);
     }
-    Ok(())
 }
 
 // The same, where it is in the window.
-fn put_slice_in<W: Write + Drop>(
-    executed: u64,
-    slice: Slice,
-    lane: &Lane<'_>,
-    out: &mut Outlet<'_, W>,
-) -> Result<(), WriteFailed>
-    ensures { Puts W.contents out.old out.new result
-        (slice_text lane.now.frame lane.now.locks.now executed slice lane.now.spot
+fn put_slice_in(executed: u64, slice: Slice, lane: &Lane<'_>, page: &mut Page)
+    ensures { Adds page.old page.new (slice_text lane.now.frame lane.now.locks.now executed slice
+        lane.now.spot
         lane.now.row.now) }
 {
     if sees(lane.frame, slice.start, slice.stop) {
-        put_whole(executed, slice, lane, out)
-    } else {
-        Ok(())
+        put_whole(executed, slice, lane, page)
+    }
+}
+
+// A slice of a job that has executed so long before it, in the row of its task, if that is shown.
+fn put_slice_of(chart: &Chart<'_>, executed: u64, slice: Slice, job: &JobRecord, page: &mut Page)
+    ensures { Adds page.old page.new (on_spot chart.now.rows.now chart.now.shown.now job.now.name
+        (slice_text chart.now.frame chart.now.locks.now executed slice)) }
+{
+    match chart.spot_of(job.name) {
+        None => {}
+        Some(spot) => put_slice_in(executed, slice, &chart.lane(spot), page),
     }
 }
 
 // A slice in the row of the task of its job; its ticks are counted.
-fn put_slice<W: Write + Drop>(
-    chart: &Chart<'_>,
-    executed: &mut [u64],
-    slice: Slice,
-    out: &mut Outlet<'_, W>,
-) -> Result<(), WriteFailed>
-    ensures put { Puts W.contents out.old out.new result
-        (slice_by chart.now.frame chart.now.locks.now chart.now.rows.now chart.now.shown.now
-        chart.now.jobs.now (slice_index executed.old slice.job) slice) }
+fn put_slice(chart: &Chart<'_>, executed: &mut [u64], slice: Slice, page: &mut Page)
+    ensures put { Adds page.old page.new (slice_by chart.now.frame chart.now.locks.now
+        chart.now.rows.now chart.now.shown.now chart.now.jobs.now
+        (slice_index executed.old slice.job) slice) }
     ensures counted { executed.new ≡ counted executed.old slice }
 {
     let before = count_slice(executed, slice);
-    match chart.jobs.get(slice.job) {
-        None => Ok(()),
-        Some(job) => match chart.spot_of(job.name) {
-            None => Ok(()),
-            Some(spot) => put_slice_in(before, slice, &chart.lane(spot), out),
-        },
+    match chart.job_of(slice) {
+        None => {}
+        Some(job) => put_slice_of(chart, before, slice, &job, page),
     }
 }
 
 /// Puts each slice into its row, by time. The ticks that each job has executed are counted; none were before.
-pub fn put_slices<W: Write + Drop>(
-    chart: &Chart<'_>,
-    executed: &mut [u64],
-    out: &mut Outlet<'_, W>,
-) -> Result<(), WriteFailed>
+pub fn put_slices(chart: &Chart<'_>, executed: &mut [u64], page: &mut Page)
     requires { AreUncounted executed.old (length chart.now.jobs.now) }
-    ensures { Puts W.contents out.old out.new result
-        (slices_text chart.now.frame chart.now.locks.now chart.now.rows.now chart.now.shown.now
+    ensures { Adds page.old page.new (slices_text chart.now.frame chart.now.locks.now
+        chart.now.rows.now chart.now.shown.now
         chart.now.jobs.now chart.now.slices.now) }
 {
     for slice in chart.slices {
-        put_slice(chart, executed, *slice, out)?;
+        put_slice(chart, executed, *slice, page);
     }
-    Ok(())
 }

@@ -1,18 +1,16 @@
 //! The lane of the processor.
 ghost use Rattle.std.specs.Fmt.{decimal};
 ghost use Rattle.std.specs.Prelude.{◌*◌, ◌+◌, ◌≡◌, ◌≤◌};
-ghost use Rattle.streams.specs.Puts.{Puts};
+ghost use Rattle.frames.specs.Page.{Adds};
 ghost use Rattle.bars.specs.Lane.{busy_from, busy_of, busy_with, edge_class, lane_bar, lane_by, lane_head, lane_label, lane_line, lane_right, lane_text, lane_word, lanes_text, level_room, seen_lane};
 ghost use Rattle.frames.specs.Rows.{on_row};
 ghost use Rattle.frames.specs.declared.frame.TheConstants.{RIGHTMOST};
 
 use ceiling_kernel::{JobRecord, Slice};
 use frames::{
-    Bar, Chart, Frame, Lane, Spot, TaskRow, end_of, find_row, has_room, level_of, sees, start_of,
-    tone_of, x_of,
+    Bar, Chart, Frame, Lane, Page, Spot, TaskRow, end_of, find_row, has_room, level_of, sees,
+    start_of, tone_of, x_of,
 };
-use std::io::Write;
-use streams::{Outlet, WriteFailed};
 
 // For how long a slice executes in the window, and what was before.
 fn busy_with(frame: Frame, before: u64, slice: Slice) -> u64
@@ -65,41 +63,30 @@ fn level_room(level: u64) -> u64
 }
 
 /// Puts the name of the processor's lane, and how busy it is.
-pub fn put_lane_head<W: Write + Drop>(
-    chart: &Chart<'_>,
-    out: &mut Outlet<'_, W>,
-) -> Result<(), WriteFailed>
-    ensures { Puts W.contents out.old out.new result
-        (lane_head chart.now.frame chart.now.slices.now) }
+pub fn put_lane_head(chart: &Chart<'_>, page: &mut Page)
+    ensures { Adds page.old page.new (lane_head chart.now.frame chart.now.slices.now) }
 {
     let busy = busy_of(chart.frame, chart.slices);
     let (whole, tenths) = (busy / 10, busy % 10);
     write!(
-        out,
+        page,
         "<text class=\"n\" x=\"500\" y=\"1460\">processor</text><text x=\"500\" y=\"1580\">busy {whole}.{tenths} %</text>\n"
     )
 }
 
 /// Puts its line.
-pub fn put_lane_line<W: Write + Drop>(
-    frame: Frame,
-    out: &mut Outlet<'_, W>,
-) -> Result<(), WriteFailed>
-    ensures { Puts W.contents out.old out.new result (lane_line frame) }
+pub fn put_lane_line(frame: Frame, page: &mut Page)
+    ensures { Adds page.old page.new (lane_line frame) }
 {
     let left = start_of(frame);
     let end = end_of(frame);
-    write!(out, "<path class=\"l\" d=\"M{left} 1570H{end}\"/>\n")
+    write!(page, "<path class=\"l\" d=\"M{left} 1570H{end}\"/>\n")
 }
 
 // The bar of a slice.
-fn put_lane_bar<W: Write + Drop>(
-    slice: Slice,
-    lane: &Lane<'_>,
-    out: &mut Outlet<'_, W>,
-) -> Result<(), WriteFailed>
-    ensures { Puts W.contents out.old out.new result
-        (lane_bar lane.now.frame slice lane.now.spot.rank lane.now.row.now) }
+fn put_lane_bar(slice: Slice, lane: &Lane<'_>, page: &mut Page)
+    ensures { Adds page.old page.new (lane_bar lane.now.frame slice lane.now.spot.rank
+        lane.now.row.now) }
 {
     let x = x_of(lane.frame, slice.start);
     let right = lane_right(lane.frame, slice);
@@ -115,79 +102,55 @@ fn put_lane_bar<W: Write + Drop>(
     let start = slice.start;
     let stop = slice.stop;
     write!(
-        out,
+        page,
         "<path class=\"f{tone}{edge}\" d=\"{bar}\"><title>{name} executes {start} to {stop} us</title></path>\n"
     )
 }
 
 // A task's name in the middle of a bar.
-fn put_lane_name<W: Write + Drop>(
-    x: u64,
-    right: u64,
-    row: &TaskRow,
-    out: &mut Outlet<'_, W>,
-) -> Result<(), WriteFailed>
+fn put_lane_name(x: u64, right: u64, row: &TaskRow, page: &mut Page)
     requires { x + right ≤ 2 * RIGHTMOST + 1 }
-    ensures { Puts W.contents out.old out.new result
-        (lane_word x right row.now.sheet.name) }
+    ensures { Adds page.old page.new (lane_word x right row.now.sheet.name) }
 {
     let middle = (x + right) / 2;
     let name = row.sheet.name();
     write!(
-        out,
+        page,
         "<text class=\"u\" x=\"{middle}\" y=\"1498\">{name}</text>\n"
     )
 }
 
 // A level in the middle of a bar.
-fn put_lane_level<W: Write + Drop>(
-    x: u64,
-    right: u64,
-    level: u64,
-    out: &mut Outlet<'_, W>,
-) -> Result<(), WriteFailed>
+fn put_lane_level(x: u64, right: u64, level: u64, page: &mut Page)
     requires { x + right ≤ 2 * RIGHTMOST + 1 }
-    ensures { Puts W.contents out.old out.new result
-        (lane_word x right (decimal level)) }
+    ensures { Adds page.old page.new (lane_word x right (decimal level)) }
 {
     let middle = (x + right) / 2;
     write!(
-        out,
+        page,
         "<text class=\"u\" x=\"{middle}\" y=\"1498\">{level}</text>\n"
     )
 }
 
 // The task's name where a bar has room for it, else its level, else nothing.
-fn put_lane_label<W: Write + Drop>(
-    x: u64,
-    right: u64,
-    level: u64,
-    row: &TaskRow,
-    out: &mut Outlet<'_, W>,
-) -> Result<(), WriteFailed>
+fn put_lane_label(x: u64, right: u64, level: u64, row: &TaskRow, page: &mut Page)
     requires { x + right ≤ 2 * RIGHTMOST + 1 }
-    ensures { Puts W.contents out.old out.new result (lane_label x right level row.now) }
+    ensures { Adds page.old page.new (lane_label x right level row.now) }
 {
     let wide = right.saturating_sub(x);
     if has_room(row.sheet.name(), wide) {
-        put_lane_name(x, right, row, out)
+        put_lane_name(x, right, row, page)
     } else if wide >= level_room(level) {
-        put_lane_level(x, right, level, out)
-    } else {
-        Ok(())
+        put_lane_level(x, right, level, page)
     }
 }
 
 // A slice of a row's task, in the window.
-fn put_seen_lane<W: Write + Drop>(
-    slice: Slice,
-    lane: &Lane<'_>,
-    out: &mut Outlet<'_, W>,
-) -> Result<(), WriteFailed>
-    ensures { Puts W.contents out.old out.new result
-        (seen_lane lane.now.frame slice lane.now.spot.rank lane.now.row.now) }
+fn put_seen_lane(slice: Slice, lane: &Lane<'_>, page: &mut Page)
+    ensures { Adds page.old page.new (seen_lane lane.now.frame slice lane.now.spot.rank
+        lane.now.row.now) }
 {
-    put_lane_bar(slice, lane, out)?;
+    put_lane_bar(slice, lane, page);
     let x = x_of(lane.frame, slice.start);
     let right = lane_right(lane.frame, slice);
     put_lane_label(
@@ -195,68 +158,49 @@ fn put_seen_lane<W: Write + Drop>(
         right,
         level_of(lane.frame, lane.spot.rank),
         lane.row,
-        out,
+        page,
     )
 }
 
 // The same of any slice.
-fn put_lane_slice<W: Write + Drop>(
-    slice: Slice,
-    lane: &Lane<'_>,
-    out: &mut Outlet<'_, W>,
-) -> Result<(), WriteFailed>
-    ensures { Puts W.contents out.old out.new result
-        (lane_text lane.now.frame slice lane.now.spot.rank lane.now.row.now) }
+fn put_lane_slice(slice: Slice, lane: &Lane<'_>, page: &mut Page)
+    ensures { Adds page.old page.new (lane_text lane.now.frame slice lane.now.spot.rank
+        lane.now.row.now) }
 {
     if sees(lane.frame, slice.start, slice.stop) {
-        put_seen_lane(slice, lane, out)
-    } else {
-        Ok(())
+        put_seen_lane(slice, lane, page)
     }
 }
 
 // A slice of a job, in the tone of the row of its task.
-fn put_lane_job<W: Write + Drop>(
-    chart: &Chart<'_>,
-    slice: Slice,
-    job: &JobRecord,
-    out: &mut Outlet<'_, W>,
-) -> Result<(), WriteFailed>
-    ensures { Puts W.contents out.old out.new result
-        (on_row chart.now.rows.now job.now.name (lane_text chart.now.frame slice)) }
+fn put_lane_job(chart: &Chart<'_>, slice: Slice, job: &JobRecord, page: &mut Page)
+    ensures { Adds page.old page.new (on_row chart.now.rows.now job.now.name (lane_text
+        chart.now.frame slice)) }
 {
     match find_row(chart.rows, job.name) {
-        None => Ok(()),
-        Some(rank) => put_lane_slice(slice, &chart.lane(Spot { rank, k: rank }), out),
+        None => {}
+        Some(rank) => put_lane_slice(slice, &chart.lane(Spot { rank, k: rank }), page),
     }
 }
 
 // A slice of a job, if there is one.
-fn put_lane_by<W: Write + Drop>(
-    chart: &Chart<'_>,
-    slice: Slice,
-    out: &mut Outlet<'_, W>,
-) -> Result<(), WriteFailed>
-    ensures { Puts W.contents out.old out.new result
-        (lane_by chart.now.frame chart.now.rows.now chart.now.jobs.now slice) }
+fn put_lane_by(chart: &Chart<'_>, slice: Slice, page: &mut Page)
+    ensures { Adds page.old page.new (lane_by chart.now.frame chart.now.rows.now chart.now.jobs.now
+        slice) }
 {
-    match chart.jobs.get(slice.job) {
-        None => Ok(()),
-        Some(job) => put_lane_job(chart, slice, job, out),
+    match chart.job_of(slice) {
+        None => {}
+        Some(job) => put_lane_job(chart, slice, &job, page),
     }
 }
 
 /// Puts each slice into it, by time.
-pub fn put_lanes<W: Write + Drop>(
-    chart: &Chart<'_>,
-    out: &mut Outlet<'_, W>,
-) -> Result<(), WriteFailed>
-    ensures { Puts W.contents out.old out.new result
-        (lanes_text chart.now.frame chart.now.rows.now chart.now.jobs.now
+pub fn put_lanes(chart: &Chart<'_>, page: &mut Page)
+    ensures { Adds page.old page.new (lanes_text chart.now.frame chart.now.rows.now
+        chart.now.jobs.now
         chart.now.slices.now) }
 {
     for slice in chart.slices {
-        put_lane_by(chart, *slice, out)?;
+        put_lane_by(chart, *slice, page);
     }
-    Ok(())
 }

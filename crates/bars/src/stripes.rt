@@ -1,14 +1,12 @@
 //! Stripes of locks over bars, and what tells of them.
 ghost use Rattle.std.specs.Prelude.{◌*◌, ◌<◌, ◌≡◌, ◌≤◌, length};
-ghost use Rattle.streams.specs.Puts.{Puts};
+ghost use Rattle.frames.specs.Page.{Adds};
 ghost use Rattle.task_sheet.specs.declared.set.TheConstants.{TASK_LIMIT};
 ghost use Rattle.bars.specs.Stripes.{lock_left, lock_text, lock_texts, lock_upper, locks_group, locks_head, locks_high, per_line, stripe_text, stripe_top, stripes_text};
 ghost use Rattle.frames.specs.declared.frame.TheConstants.{RIGHTMOST};
 ghost use Rattle.frames.specs.declared.locks.TheConstants.{LOCKS_LIMIT};
 
-use frames::{Bar, Chart, Frame, end_of, lock_tone, top_of};
-use std::io::Write;
-use streams::{Outlet, WriteFailed};
+use frames::{Bar, Chart, Frame, Page, end_of, lock_tone, top_of};
 use task_sheet::Name;
 
 // Where stripe i of n begins, in a bar.
@@ -59,7 +57,7 @@ fn lock_upper(frame: Frame, bottom: u64, i: usize) -> u64
 }
 
 // The stripe of a lock, number i of n, over a part of a bar.
-fn put_stripe<W: Write + Drop>(
+fn put_stripe(
     locks: &[Name],
     x: u64,
     right: u64,
@@ -67,12 +65,11 @@ fn put_stripe<W: Write + Drop>(
     n: usize,
     i: usize,
     name: Name,
-    out: &mut Outlet<'_, W>,
-) -> Result<(), WriteFailed>
+    page: &mut Page,
+)
     requires row { k ≤ TASK_LIMIT }
     requires place { i < n }
-    ensures { Puts W.contents out.old out.new result
-        (stripe_text locks.now x right k n i name) }
+    ensures { Adds page.old page.new (stripe_text locks.now x right k n i name) }
 {
     let tone = lock_tone(locks, name);
     let start = stripe_top(n, i);
@@ -82,39 +79,31 @@ fn put_stripe<W: Write + Drop>(
         y: top_of(k) + 165 + start,
         high: stripe_top(n, i + 1).saturating_sub(start),
     };
-    write!(out, "<path class=\"k{tone}\" d=\"{stripe}\"/>\n")
+    write!(page, "<path class=\"k{tone}\" d=\"{stripe}\"/>\n")
 }
 
 // The stripes of some locks.
-pub(crate) fn put_stripes<W: Write + Drop>(
+pub(crate) fn put_stripes(
     locks: &[Name],
     x: u64,
     right: u64,
     k: usize,
     names: &[Name],
-    out: &mut Outlet<'_, W>,
-) -> Result<(), WriteFailed>
+    page: &mut Page,
+)
     requires { k ≤ TASK_LIMIT }
-    ensures { Puts W.contents out.old out.new result
-        (stripes_text locks.now x right k names.now) }
+    ensures { Adds page.old page.new (stripes_text locks.now x right k names.now) }
 {
     for i in 0..names.len() {
-        put_stripe(locks, x, right, k, names.len(), i, names[i], out)?;
+        put_stripe(locks, x, right, k, names.len(), i, names[i], page);
     }
-    Ok(())
 }
 
 // Lock i in the legend.
-fn put_lock<W: Write + Drop>(
-    frame: Frame,
-    bottom: u64,
-    i: usize,
-    name: Name,
-    out: &mut Outlet<'_, W>,
-) -> Result<(), WriteFailed>
+fn put_lock(frame: Frame, bottom: u64, i: usize, name: Name, page: &mut Page)
     requires place { i ≤ LOCKS_LIMIT }
     requires row { bottom ≤ 2 * RIGHTMOST }
-    ensures { Puts W.contents out.old out.new result (lock_text frame bottom i name) }
+    ensures { Adds page.old page.new (lock_text frame bottom i name) }
 {
     let tone = i % 6;
     let x = lock_left(frame, i);
@@ -127,55 +116,42 @@ fn put_lock<W: Write + Drop>(
     };
     let (left, base) = (x + 250, y + 128);
     write!(
-        out,
+        page,
         "<path class=\"k{tone}\" d=\"{lock}\"/><text class=\"c\" x=\"{left}\" y=\"{base}\">{name}</text>\n"
     )
 }
 
 // The locks, each once.
-fn put_lock_texts<W: Write + Drop>(
-    frame: Frame,
-    bottom: u64,
-    locks: &[Name],
-    out: &mut Outlet<'_, W>,
-) -> Result<(), WriteFailed>
+fn put_lock_texts(frame: Frame, bottom: u64, locks: &[Name], page: &mut Page)
     requires few { length locks.now ≤ LOCKS_LIMIT }
     requires row { bottom ≤ 2 * RIGHTMOST }
-    ensures { Puts W.contents out.old out.new result (lock_texts frame bottom locks.now) }
+    ensures { Adds page.old page.new (lock_texts frame bottom locks.now) }
 {
     for i in 0..locks.len() {
-        put_lock(frame, bottom, i, locks[i], out)?;
+        put_lock(frame, bottom, i, locks[i], page);
     }
-    Ok(())
 }
 
 // What stands before them, where there are some.
-fn put_locks_head<W: Write + Drop>(
-    bottom: u64,
-    n: usize,
-    out: &mut Outlet<'_, W>,
-) -> Result<(), WriteFailed>
+fn put_locks_head(bottom: u64, n: usize, page: &mut Page)
     requires { bottom ≤ 2 * RIGHTMOST }
-    ensures { Puts W.contents out.old out.new result (locks_head bottom n) }
+    ensures { Adds page.old page.new (locks_head bottom n) }
 {
     if n == 0 {
-        return Ok(());
+        return;
     }
     let y = bottom + 128;
-    write!(out, "<text x=\"100\" y=\"{y}\">holds a lock:</text>\n")
+    write!(page, "<text x=\"100\" y=\"{y}\">holds a lock:</text>\n")
 }
 
 /// Puts the legend of the locks, as a group.
-pub fn put_locks_group<W: Write + Drop>(
-    chart: &Chart<'_>,
-    out: &mut Outlet<'_, W>,
-) -> Result<(), WriteFailed>
-    ensures { Puts W.contents out.old out.new result
-        (locks_group chart.now.frame (length chart.now.shown.now) chart.now.locks.now) }
+pub fn put_locks_group(chart: &Chart<'_>, page: &mut Page)
+    ensures { Adds page.old page.new (locks_group chart.now.frame (length chart.now.shown.now)
+        chart.now.locks.now) }
 {
     let bottom = top_of(chart.shown.len()) + 120;
-    out.put(b"<g id=\"k\">\n")?;
-    put_locks_head(bottom, chart.locks.len(), out)?;
-    put_lock_texts(chart.frame, bottom, chart.locks, out)?;
-    out.put(b"</g>\n")
+    page.put(b"<g id=\"k\">\n");
+    put_locks_head(bottom, chart.locks.len(), page);
+    put_lock_texts(chart.frame, bottom, chart.locks, page);
+    page.put(b"</g>\n")
 }

@@ -4,6 +4,8 @@ use Rattle.std.specs.Prelude.{Result, Ok, Err}
 use Rattle.assignment.specs.Questions.{QuestionData}
 use Rattle.candidate_workers.specs.Faults.{IsBadCount}
 use Rattle.drafts.specs.declared.change.Change.{Change}
+use Rattle.drafts.specs.declared.change.Refusal.{Refusal}
+use Rattle.drafts.specs.declared.roster.Owned.{Owned}
 use Rattle.drafts.specs.Applied.{applied}
 use Rattle.drafts.specs.Machine.{MachineState, IsDecision}
 use Rattle.drafts.specs.Books.{Book}
@@ -87,11 +89,19 @@ later_fault may d e base kept old p new f g same from pass k h back unchanged ca
   unchanged ∙ pass,
 )
 
+-- a cause that no test has
+untested_never : (may : QuestionData → Type 0) (outcome : Result (List Owned) Refusal)
+    → (IsUntested may outcome OtherTeam → ⊥) × (IsUntested may outcome BadWorkers → ⊥)
+untested_never may (Ok tasks) = ((λ h. h), λ h. h)
+untested_never may (Err refusal) = ((λ h. cc), λ h. cc)
+
 pub undecided : (may : QuestionData → Type 0) (workers : ℕ) (d : Draft) (p : Known)
     (cause : CommitCause) → d.team ≡ p.team → ¬ IsBadCount workers → IsUntestedOn may d cause
     → IsUndecided may workers d p cause
-undecided may workers d p OtherTeam team good h = absurd h.2
-undecided may workers d p BadWorkers team good h = absurd h.2
+undecided may workers d p OtherTeam team good h =
+    absurd ((untested_never may (applied d.team h.0.tasks d.changes)).0 h.2)
+undecided may workers d p BadWorkers team good h =
+    absurd ((untested_never may (applied d.team h.0.tasks d.changes)).1 h.2)
 undecided may workers d p ThreadRefused team good h = (team, good, h)
 undecided may workers d p (GateShut name) team good h = (team, good, h)
 undecided may workers d p OutOfMemory team good h = (team, good, h)

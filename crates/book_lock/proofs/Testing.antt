@@ -19,11 +19,9 @@ use Rattle.drafts.specs.declared.applying.Applied.TheVariants.{Tasks, Refused}
 use Rattle.drafts.specs.declared.judging.Judged.{Judged}
 use Rattle.drafts.specs.Applied.{set_of}
 use Rattle.drafts.specs.Outcomes.{IsApplied}
-use Rattle.book_lock.specs.Asking.{NoneShutOf, NoneShutApplied, MayShutName, IsUntestedSet}
+use Rattle.book_lock.specs.Asking.{NoneShutOf, NoneShutApplied, IsUntestedSet}
 use Rattle.book_lock.specs.Asking.{IsUntested, IsOnTask, IsCauseOf}
 use Rattle.book_lock.specs.declared.commit.CommitCause.{CommitCause}
-use Rattle.book_lock.specs.declared.commit.CommitCause.TheVariants.{OtherTeam, BadWorkers}
-use Rattle.book_lock.specs.declared.commit.CommitCause.TheVariants.{ThreadRefused, GateShut}
 use Rattle.book_lock.specs.declared.commit.CommitCause.TheVariants.{OutOfMemory}
 
 -- ---- faults of the test
@@ -65,16 +63,6 @@ none_shut shut U own v same valid right none = λ verdict is q of shuts.
     (subst (λ (w : VerdictData). IsOfVerdict U w q) one of)) shuts
 
 -- ---- from a set to what changes come to
-untested_cause : (may : QuestionData → Type 0) (tasks : List Owned) (U : List Task)
-    (cause : CommitCause) → U ≡ set_of tasks → IsUntestedSet may U cause
-    → IsUntested may (Ok tasks) cause
-untested_cause may tasks U OtherTeam e h = h
-untested_cause may tasks U BadWorkers e h = h
-untested_cause may tasks U ThreadRefused e h = h
-untested_cause may tasks U (GateShut name) e h =
-    subst (λ (V : List Task). MayShutName may V name) e h
-untested_cause may tasks U OutOfMemory e h = h
-
 abbrev pub IsSetOf : Result (List Owned) Refusal → List Task → Type 0
 IsSetOf (Ok tasks) U = U ≡ set_of tasks
 IsSetOf (Err refusal) U = ⊥
@@ -83,8 +71,15 @@ pub untested_from : (may : QuestionData → Type 0) (outcome : Result (List Owne
     (U : List Task) (r : Result Judged CommitCause) → IsSetOf outcome U
     → IfErr r (λ cause. IsUntestedSet may U cause) → IfErr r (λ cause. IsUntested may outcome cause)
 untested_from may (Ok tasks) U (Ok judged) is h = h
-untested_from may (Ok tasks) U (Err cause) is h = untested_cause may tasks U cause is h
+untested_from may (Ok tasks) U (Err cause) is h =
+    subst (λ (V : List Task). IsUntestedSet may V cause) is h
 untested_from may (Err refusal) U r is h = absurd is
+
+-- out of memory, whatever the changes come to
+pub untested_memory : (may : QuestionData → Type 0) (outcome : Result (List Owned) Refusal)
+    → IsUntested may outcome OutOfMemory
+untested_memory may (Ok tasks) = tt
+untested_memory may (Err refusal) = refl
 
 pub none_shut_from : (shut : QuestionData → Type 0) (outcome : Result (List Owned) Refusal)
     (U : List Task) (r : Result Judged CommitCause) → IsSetOf outcome U → OnOk r (NoneShutOf shut U)

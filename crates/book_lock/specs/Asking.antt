@@ -1,7 +1,7 @@
 -- The questions of a draft's test, and what a gate may do to them.
 use Rattle.std.specs.Prelude.{◌≡◌, ℕ, ◌<◌, List, length, Result, Ok, Err}
 use Rattle.task_sheet.specs.Sheet.{Task, task_at}
-use Rattle.task_sheet.specs.Verdicts.{VerdictData, Admitted, Infeasible, IsVerdictOf}
+use Rattle.task_sheet.specs.Verdicts.{VerdictData, IsVerdictOf}
 use Rattle.assignment.specs.Questions.{QuestionData}
 use Rattle.candidate_workers.specs.Asked.{IsOfVerdict}
 use Rattle.candidate_workers.specs.Faults.{MayBeShut}
@@ -9,8 +9,6 @@ use Rattle.candidate_workers.specs.declared.assaying.AssayFault.{AssayFault}
 use Rattle.candidate_workers.specs.declared.assaying.AssayFault.TheVariants as assay
 use Rattle.drafts.specs.declared.roster.Owned.{Owned}
 use Rattle.drafts.specs.declared.change.Refusal.{Refusal}
-use Rattle.drafts.specs.declared.judging.Judged.{Judged}
-use Rattle.drafts.specs.declared.judging.Judged.TheVariants as judged
 use Rattle.drafts.specs.Applied.{set_of}
 use Rattle.book_lock.specs.declared.commit.CommitCause.{CommitCause}
 use Rattle.book_lock.specs.declared.commit.CommitCause.TheVariants.{OtherTeam, BadWorkers, ThreadRefused, GateShut, OutOfMemory}
@@ -26,12 +24,6 @@ abbrev pub NoneShutApplied : (QuestionData → Type 0) → Result (List Owned) R
 NoneShutApplied shut (Err refusal) = Unit {0}
 NoneShutApplied shut (Ok tasks) = NoneShutOf shut (set_of tasks)
 
--- the verdict on a set
-abbrev pub IsJudgedSet : List Task → Judged → Type 0
-IsJudgedSet U (judged.Refused refusal) = ⊥
-IsJudgedSet U (judged.Best a) = (a.value.set ≡ U) × IsVerdictOf U (Admitted a.value.levels)
-IsJudgedSet U (judged.Stuck o) = (o.value.set ≡ U) × IsVerdictOf U (Infeasible o.value.members)
-
 -- a task of that name is on a question on this set that may be shut out
 pub record MayShutName (may : QuestionData → Type 0) (U : List Task) (name : List ℕ) : Type 0 where
   pub task : ℕ
@@ -46,14 +38,10 @@ IsUntestedSet may U ThreadRefused = Unit {0}
 IsUntestedSet may U (GateShut name) = MayShutName may U name
 IsUntestedSet may U OutOfMemory = Unit {0}
 
--- why changes that come to this weren't tested
+-- why changes that come to this weren't tested; where they are refused, no worker is started and no gate asked
 abbrev pub IsUntested : (QuestionData → Type 0) → Result (List Owned) Refusal → CommitCause → Type 0
-IsUntested may outcome OtherTeam = ⊥
-IsUntested may outcome BadWorkers = ⊥
-IsUntested may outcome ThreadRefused = Unit {0}
-IsUntested may (Ok tasks) (GateShut name) = MayShutName may (set_of tasks) name
-IsUntested may (Err refusal) (GateShut name) = ⊥
-IsUntested may outcome OutOfMemory = Unit {0}
+IsUntested may (Ok tasks) cause = IsUntestedSet may (set_of tasks) cause
+IsUntested may (Err refusal) cause = cause ≡ OutOfMemory
 
 -- the fault, if it names a task, names one of the set
 abbrev pub IsOnTask : List Task → AssayFault → Type 0

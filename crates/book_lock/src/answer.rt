@@ -23,7 +23,8 @@ pub enum Settlement {
 pub enum DeskFault {
     /// It isn't the pass's team's.
     OtherTeam { proposal: Proposal },
-    /// Its base is no state of this book.
+    /// Its base is of a version above the present one; or of the present one, but on the present state its changes don't
+    /// come to what was judged.
     Stranger { proposal: Proposal },
     OutOfMemory { proposal: Proposal },
 }

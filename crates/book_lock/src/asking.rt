@@ -3,8 +3,8 @@
 ghost use Rattle.std.specs.Prelude.{◌≡◌, ◌<◌, length, IfOk, IfErr, OnOk};
 ghost use Rattle.candidate_workers.specs.Faults.{IsBadCount};
 ghost use Rattle.drafts.specs.Edits.{on_base};
-ghost use Rattle.drafts.specs.Outcomes.{IsJudged};
-ghost use Rattle.book_lock.specs.Asking.{NoneShutOf, NoneShutApplied, IsJudgedSet, IsUntestedSet, IsUntested, IsOnTask, IsCauseOf};
+ghost use Rattle.drafts.specs.Outcomes.{IsJudged, IsJudgedSet};
+ghost use Rattle.book_lock.specs.Asking.{NoneShutOf, NoneShutApplied, IsUntestedSet, IsUntested, IsOnTask, IsCauseOf};
 
 use crate::commit::{CommitCause, CommitFault};
 use candidate_workers::{AssayFault, Gate, assay, threads_worth};

@@ -13,8 +13,8 @@ pub const MOST_TEAM: usize = 8;
 /// The latest end of a run, in microseconds.
 pub const LATEST_END: usize = 60_000_000;
 
-/// The greatest number of a priority.
-pub const MOST_PRIORITY: usize = 1_000_000;
+/// The greatest priority of level 1: that of the 32nd level is 1,000,000, the greatest that a reader of settings takes.
+pub const MOST_PRIORITY: usize = 999_969;
 
 /// The greatest tolerance of a trace, in microseconds.
 pub const MOST_TOLERANCE: usize = 60_000_000;
@@ -371,7 +371,7 @@ impl Choice {
         match self {
             Choice::Prefer => "What decides among the orders that pass: weight or deadline",
             Choice::Task => "The task that is asked about, alone",
-            Choice::Base => "The priority of level 1, from 1 to 1000000",
+            Choice::Base => "The priority of level 1, from 1 to 999969",
             Choice::LowerIsHigher => "The smaller number is the higher priority",
             Choice::Seed => "A random list in place of the densest, the same for the same seed",
             Choice::Tasks => "What each task came to, in place of who executes when",

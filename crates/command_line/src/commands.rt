@@ -59,7 +59,7 @@ const COMMANDS: [Listed; 16] = [
         about: "Prints what each response is made of, or a minimal set of tasks that collide and how one order fails",
         example: example!(
             "explain examples/shared-lock.toml",
-            "0 admitted, 3 infeasible, 4 the set is refused"
+            "0 admitted, or with --at all meet, 3 infeasible, or some miss, 4 an input or NAME is refused"
         ),
     },
     Listed {
@@ -69,7 +69,7 @@ const COMMANDS: [Listed; 16] = [
         about: "Prints how far each number of a set may go with some order passing, all else equal",
         example: example!(
             "limits examples/robot.toml",
-            "0 admitted, 3 infeasible, 4 the set is refused"
+            "0 admitted, or with --at all meet, 3 infeasible, or some miss, 4 an input or NAME is refused"
         ),
     },
     Listed {
@@ -79,7 +79,7 @@ const COMMANDS: [Listed; 16] = [
         about: "Prints the level of each thread and the ceiling of each mutex in the best order",
         example: example!(
             "settings examples/shared-lock.toml",
-            "0 admitted, 3 infeasible, 4 the set is refused"
+            "0 an order is printed, 3 infeasible, or a pair has to change, 4 an input is refused"
         ),
     },
     Listed {
@@ -139,7 +139,7 @@ const COMMANDS: [Listed; 16] = [
         about: "Prints the release list of a task's worst case: its latest response, or a missed deadline",
         example: example!(
             "worst examples/shared-lock.toml --task lo",
-            "0 admitted, 3 infeasible, 4 the set is refused"
+            "0 admitted, or with --at all meet, 3 infeasible, or some miss, 4 an input or NAME is refused"
         ),
     },
     Listed {

@@ -19,6 +19,11 @@ impl Read for Documents {
 // More bytes than an input may have: no more of them are read.
 const ENOUGH: usize = 16_777_217;
 
+// That no team has a document.
+fn teamless() -> Error {
+    Error::new(ErrorKind::NotFound, "no file TEAM.toml in this folder")
+}
+
 // That a file `.toml` has no name of a team.
 fn nameless(rt: &HostRuntime, stem: &str) -> Error {
     match format!(in rt.alloc(); "no name of a team: {stem}.toml") {
@@ -57,7 +62,17 @@ impl Listed {
     }
 }
 
-// The documents that a folder has.
+// What stands in front of `.toml` in a file's name; none where there is something else, or where the name begins with a
+// dot: such a file is an editor's, say.
+fn stem_of(name: &str) -> Option<&str> {
+    if name.starts_with('.') {
+        None
+    } else {
+        name.strip_suffix(".toml")
+    }
+}
+
+// The documents that a folder has, of one team at least.
 fn documents_in(rt: &HostRuntime, folder: &str) -> io::Result<Listed> {
     let mut listed = Listed {
         teams: Vec::new(rt.alloc()),
@@ -65,9 +80,12 @@ fn documents_in(rt: &HostRuntime, folder: &str) -> io::Result<Listed> {
     };
     for entry in fs::read_dir(rt, folder)? {
         let entry = entry?;
-        if let Some(stem) = entry.file_name().strip_suffix(".toml") {
+        if let Some(stem) = stem_of(entry.file_name()) {
             listed.take(rt, stem)?;
         }
+    }
+    if listed.teams.is_empty() {
+        return Err(teamless());
     }
     listed.teams.sort_unstable();
     Ok(listed)
@@ -126,8 +144,8 @@ fn text_of(rt: &HostRuntime, folder: &str) -> io::Result<Vec<u8>> {
     Ok(text)
 }
 
-/// The documents of a folder: the node's, `node.toml`, where there is one, behind a line `#% COUNT`, and those of the
-/// teams, each behind a line `#% TEAM COUNT`, by their names.
+/// The documents of a folder that has one of a team: the node's, `node.toml`, where there is one, behind a line `#% COUNT`,
+/// and those of the teams, each behind a line `#% TEAM COUNT`, by their names.
 pub(crate) fn open_folder(rt: &HostRuntime, folder: &str) -> io::Result<Documents> {
     let text = text_of(rt, folder)?;
     Ok(Documents {

@@ -5,7 +5,7 @@ ghost use Rattle.desk_core.specs.declared.events.Event.TheVariants.{Open, Put, R
 ghost use Rattle.desk_core.specs.World.{live_at, start, Happens, IsRun};
 ghost use Rattle.desk_core.specs.Advances.{IsAdvanced};
 ghost use Rattle.desk_core.specs.Standings.{IsQuestionOf, IsStanding};
-ghost use Rattle.drafts.specs.Machine.{empty_desk, IsLegal, replay, admissions};
+ghost use Rattle.drafts.specs.Books.{IsLegalBook};
 
 use crate::events::{Event, Reply, Standing};
 use crate::slot::Slot;
@@ -252,9 +252,7 @@ impl Core {
 /// Answers events in their order, from an empty book on.
 pub fn run(alloc: Global, events: Vec<Event>) -> Result<(Core, Vec<Reply>), AllocError>
     ensures run { IfOk result (λ r. IsRun start events.items r.1.items r.0) }
-    ensures legal { IfOk result (λ r. IsLegal empty_desk r.0.book.log) }
-    ensures replay { IfOk result (λ r. replay empty_desk r.0.book.log ≡ r.0.book.desk) }
-    ensures version { IfOk result (λ r. r.0.book.desk.version ≡ admissions r.0.book.log) }
+    ensures legal { IfOk result (λ r. IsLegalBook r.0.book) }
 {
     let mut core = Core::new(alloc)?;
     let mut replies = Vec::new(alloc);

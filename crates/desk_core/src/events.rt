@@ -13,12 +13,19 @@ use task_sheet::{Name, Sheet};
 /// Why an event is refused.
 #[derive(Clone, Copy)]
 pub enum Cause {
+    /// No draft has the number, or it has ended.
     NoSuchDraft,
+    /// Another team holds the name.
     NotYours,
+    /// No task has the name that is to be removed.
     NoSuchTask,
+    /// The draft has `CHANGE_LIMIT` changes, none of them on the name.
     DraftFull,
+    /// The draft's changes are refused on its base.
     Untestable,
+    /// The finding is on no candidate of the present level. Where the verdict is complete, there is no such level.
     Stranger,
+    /// The candidate has a finding.
     Twice,
 }
 
@@ -38,38 +45,53 @@ impl Cause {
 /// What an actor asks of the core.
 #[derive(Drop)]
 pub enum Event {
+    /// A draft on the present state.
     Open { team: Team },
+    /// A sheet for a draft.
     Put { draft: usize, sheet: Sheet },
+    /// The task of a name is removed in a draft.
     Remove { draft: usize, name: Name },
+    /// A finding for the test of a draft.
     Found { draft: usize, finding: Finding },
+    /// A decision on a draft.
     Commit { draft: usize },
+    /// A draft ends without a decision.
     Abandon { draft: usize },
 }
 
 /// What the core answers.
 #[derive(Drop)]
 pub enum Reply {
+    /// The draft's number, from 1, and the version of its base.
     Opened {
         draft: usize,
         version: u64,
     },
+    /// The change is made, or the draft has ended.
     Done,
+    /// The finding is taken; it doesn't decide the present level.
     Taken,
+    /// The finding decides a level, counted from 1: this task has it, and this response in microseconds.
     LevelDone {
         level: usize,
         name: Name,
         response: u64,
     },
+    /// The finding completes the verdict. The names of the obstruction by rank; none where some order passes.
     Tested {
         infeasible: Vec<Name>,
     },
+    /// The draft was tested on a state before the present one. It is now on the present one, of this version, without
+    /// findings.
     Stale {
         version: u64,
     },
+    /// The entry is logged at this place, counted from 1, and the draft has ended.
     Decided {
         place: usize,
         entry: Arc<Entry>,
     },
+    /// Nothing changes.
     Refused {
         cause: Cause,
     },

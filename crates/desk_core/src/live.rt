@@ -21,7 +21,6 @@ use assignment::{Finding, Question};
 use drafts::{Book, Decided, Draft, EditCause, NodeState, PutFault, Team};
 use std::alloc::{AllocError, Global};
 use std::marker::Model;
-use std::mem;
 use std::sync::Arc;
 use task_sheet::{Name, Sheet};
 
@@ -221,16 +220,12 @@ impl Live {
         }
     }
 
-    /// Puts the draft on another state, without findings. Another draft stands in its place while it moves.
-    pub fn rebase(&mut self, alloc: Global, fresh: Arc<NodeState>) -> Result<(), AllocError>
-        ensures ok { OnOk result (self.new ≡ rebased self.old fresh.value) }
-        ensures err { OnErr result (self.new ≡ self.old) }
+    /// Puts the draft on another state, without findings.
+    pub fn rebase(&mut self, fresh: Arc<NodeState>)
+        ensures { self.new ≡ rebased self.old fresh.value }
     {
-        let spare = Draft::new(alloc, self.draft.team(), fresh.clone()?);
-        let draft = mem::replace(&mut self.draft, spare);
-        self.draft = draft.rebase(fresh);
+        self.draft.move_to(fresh);
         self.stage = Stage::Fresh;
-        Ok(())
     }
 
     /// Brings a finding. Where memory runs out, it is handed back.

@@ -201,7 +201,7 @@ impl Slot {
         let decided = if live.is_tested(alloc)? {
             let version = book.state().version();
             if live.draft().base_version() < version {
-                live.rebase(alloc, book.snapshot()?)?;
+                live.rebase(book.snapshot()?);
                 return Ok(Reply::Stale { version });
             }
             live.enter(alloc, book)?

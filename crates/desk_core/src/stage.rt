@@ -46,11 +46,11 @@ pub enum Kept {
     Own { verdict: Verdict },
     /// It may be entered in a book: a commit was tried.
     Shared { judged: Judged },
-    /// It has more than `KEPT_TO` numbers, and a commit makes it again: so that many drafts fit into memory.
+    /// A large one is dropped, so that many drafts fit into memory: a commit makes it again.
     Dropped,
 }
 
-// How many numbers the chains of a verdict have at most that is kept.
+// A verdict is kept with at most so many numbers: one for each failure, and those of its chain.
 const KEPT_TO: usize = 8192;
 
 // A trial of what a draft's changes come to on its base, where they apply.
@@ -92,25 +92,12 @@ pub fn put_away(stage: &mut Stage)
     ensures found { found_of stage.new ≡ found_of stage.old }
 {
     match mem::replace(stage, Stage::Fresh) {
-        Stage::Fresh => {}
         Stage::Trying { trial } => *stage = rest_of(trial),
-        Stage::Tested {
-            set,
-            members,
-            kept,
-            found,
-        } => {
-            *stage = Stage::Tested {
-                set,
-                members,
-                kept,
-                found,
-            }
-        }
+        other => *stage = other,
     }
 }
 
-// How many numbers show the failures, or `KEPT_TO` and more.
+// `before`, one for each failure, and the numbers of its chain.
 fn count(fails: &[Failure], before: usize) -> usize {
     let mut count = before;
     for failure in fails {
@@ -167,19 +154,22 @@ fn rest_of(trial: Box<Trial>) -> Stage
 }
 
 // Shares the verdict of a complete test; where memory runs out, it stays as it was.
-fn share_kept(alloc: Global, kept: Kept) -> Result<Kept, Kept>
-    ensures ok { IfOk result (λ shared. (outcome : Result (List Owned) Refusal)
-        → IsKeptOn outcome kept → IsKeptOn outcome shared) }
-    ensures back { IfErr result (λ back. back ≡ kept) }
+fn share_kept(alloc: Global, kept: &mut Kept) -> Result<(), AllocError>
+    ensures right { (outcome : Result (List Owned) Refusal) → IsKeptOn outcome kept.old
+        → IsKeptOn outcome kept.new }
+    ensures err { OnErr result (kept.new ≡ kept.old) }
 {
-    match kept {
-        Kept::Dropped => Ok(Kept::Dropped),
-        Kept::Shared { judged } => Ok(Kept::Shared { judged }),
+    match mem::replace(kept, Kept::Dropped) {
         Kept::Own { verdict } => match share(alloc, verdict) {
-            Ok(judged) => Ok(Kept::Shared { judged }),
-            Err(verdict) => Err(Kept::Own { verdict }),
+            Ok(judged) => *kept = Kept::Shared { judged },
+            Err(verdict) => {
+                *kept = Kept::Own { verdict };
+                return Err(AllocError);
+            }
         },
+        other => *kept = other,
     }
+    Ok(())
 }
 
 // Shares the verdict of a test, where it is complete.
@@ -188,37 +178,9 @@ fn share_verdict(alloc: Global, stage: &mut Stage) -> Result<(), AllocError>
         → IsStage outcome stage.new }
     ensures found { found_of stage.new ≡ found_of stage.old }
 {
-    match mem::replace(stage, Stage::Fresh) {
-        Stage::Fresh => Ok(()),
-        Stage::Trying { trial } => {
-            *stage = Stage::Trying { trial };
-            Ok(())
-        }
-        Stage::Tested {
-            set,
-            members,
-            kept,
-            found,
-        } => match share_kept(alloc, kept) {
-            Ok(kept) => {
-                *stage = Stage::Tested {
-                    set,
-                    members,
-                    kept,
-                    found,
-                };
-                Ok(())
-            }
-            Err(kept) => {
-                *stage = Stage::Tested {
-                    set,
-                    members,
-                    kept,
-                    found,
-                };
-                Err(AllocError)
-            }
-        },
+    match stage {
+        Stage::Tested { kept, .. } => share_kept(alloc, kept),
+        _ => Ok(()),
     }
 }
 

@@ -55,19 +55,13 @@ impl Model for Trial {
 }
 
 // Starts the present level where it is not kept yet.
-fn start_level(
-    alloc: Global,
-    set: &Arc<TaskSet>,
-    climb: &Climb,
-    level: &mut Option<Level>,
-) -> Result<(), AllocError>
-    requires same { climb.now.set ≡ set.now.value }
-    requires going { IsUnfinished climb.now }
+fn start_level(alloc: Global, climb: &Climb, level: &mut Option<Level>) -> Result<(), AllocError>
+    requires { IsUnfinished climb.now }
     ensures ok { OnOk result (level.new ≡ Some (present_of climb.now level.old)) }
     ensures err { OnErr result (level.new ≡ level.old) }
 {
     if level.is_none() {
-        *level = Some(Level::start(alloc, set.clone()?, climb.left())?);
+        *level = Some(climb.start_level(alloc)?);
     }
     Ok(())
 }
@@ -262,8 +256,7 @@ impl Trial {
         Ok(Some(question))
     }
 
-    /// The answer to a question, by the table of the trial where the question is on its set. The fault is want of
-    /// memory.
+    /// The answer to a question, by the table of the trial where the question is on its set. The fault is out of memory.
     pub fn answer(&self, alloc: Global, question: Question) -> Result<Finding, AnswerFault>
         ensures ok { IfOk result (λ finding. finding.question ≡ question) }
         ensures err { IfErr result (λ fault. fault.question ≡ question) }
@@ -339,7 +332,7 @@ impl Trial {
         if !self.climb.is_unfinished() {
             return Ok(Told::Stranger);
         }
-        if start_level(alloc, &self.set, &self.climb, &mut self.level).is_err() {
+        if start_level(alloc, &self.climb, &mut self.level).is_err() {
             return Err(finding);
         }
         let Some(level) = self.level.take() else {
@@ -362,7 +355,7 @@ impl Trial {
         if !self.climb.is_unfinished() {
             return Ok(None);
         }
-        start_level(alloc, &self.set, &self.climb, &mut self.level)?;
+        start_level(alloc, &self.climb, &mut self.level)?;
         let Some(level) = &self.level else {
             unreachable!();
         };

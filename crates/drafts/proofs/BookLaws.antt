@@ -15,7 +15,7 @@ use Rattle.drafts.specs.Applied.{set_of, applied}
 use Rattle.drafts.specs.Machine.{MachineState, empty_desk, Ruling, Admitted, Refused, Infeasible}
 use Rattle.drafts.specs.Machine.{Entry, IsRuling, IsDecision, moved, after_entry, IsLegal, replay}
 use Rattle.drafts.specs.Machine.{one_if_admitted, admissions}
-use Rattle.drafts.specs.Books.{Book, logged, IsNextEntry}
+use Rattle.drafts.specs.Books.{Book, logged, IsLegalBook, IsNextEntry}
 use Rattle.drafts.specs.BookFields.{book_of, IsBookKept}
 use Rattle.drafts.specs.declared.book.Book.TheInside.{Inside}
 use Rattle.drafts.specs.Edits.{Draft}
@@ -150,6 +150,13 @@ version-counts b legal same = let e = ap (λ (d : MachineState). d.version) same
     omega (arith, replay-version empty_desk b.log legal)
 
 -- ---- a book by its fields
+pub book-legal : (a : Inside) → IsBookKept a → IsLegalBook (book_of a)
+book-legal a kept = record {
+  legal = kept.legal;
+  replay = kept.same;
+  version = version-counts (book_of a) kept.legal kept.same;
+}
+
 pub version-fits : (a : Inside) → IsBookKept a → a.state.value.version + 1 < 2 ^ 64
 version-fits a kept =
     let few : length (book_of a).log < 2 ^ 63 =

@@ -1,5 +1,6 @@
 -- What the code's answers say of what changes come to.
 use Rattle.std.specs.Prelude.{◌≡◌, ℕ, ◌+◌, List, Option, None, Some, Result, Ok, Err}
+use Rattle.task_sheet.specs.Sheet.{Task}
 use Rattle.task_sheet.specs.TaskSet.{IsTaskSet}
 use Rattle.task_sheet.specs.Verdicts.{IsVerdictOf, Admitted, Infeasible}
 use Rattle.assignment.specs.declared.verdict.Verdict.{Verdict}
@@ -22,16 +23,18 @@ IsApplied (Ok tasks) (Tasks set) = set.value ≡ set_of tasks
 IsApplied (Err refusal) (Tasks set) = ⊥
 IsApplied (Ok tasks) (Refused told) = ⊥
 
+-- the verdict on a set
+abbrev pub IsJudgedSet : List Task → Judged → Type 0
+IsJudgedSet U (judged.Refused refusal) = ⊥
+IsJudgedSet U (judged.Best a) = (a.value.set ≡ U) × IsVerdictOf U (Admitted a.value.levels)
+IsJudgedSet U (judged.Stuck o) = (o.value.set ≡ U) × IsVerdictOf U (Infeasible o.value.members)
+
 -- the refusal, or the verdict on the set that the changes come to
 abbrev pub IsJudged : Result (List Owned) Refusal → Judged → Type 0
+IsJudged (Ok tasks) j = IsJudgedSet (set_of tasks) j
 IsJudged (Err refusal) (judged.Refused told) = told ≡ refusal
-IsJudged (Ok tasks) (judged.Best a) =
-    (a.value.set ≡ set_of tasks) × IsVerdictOf (set_of tasks) (Admitted a.value.levels)
-IsJudged (Ok tasks) (judged.Stuck o) =
-    (o.value.set ≡ set_of tasks) × IsVerdictOf (set_of tasks) (Infeasible o.value.members)
 IsJudged (Err refusal) (judged.Best a) = ⊥
 IsJudged (Err refusal) (judged.Stuck o) = ⊥
-IsJudged (Ok tasks) (judged.Refused told) = ⊥
 
 -- the decision says what was judged, of a set that is valid
 abbrev pub IsSaid : ℕ → Judged → Ruling → Type 0

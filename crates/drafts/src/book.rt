@@ -3,10 +3,10 @@
 ghost use Rattle.std.specs.Prelude.{◌≡◌, ◌<◌, ◌+◌, ◌^◌, [], ◌∷◌, IfOk, IfSome, IfNone, OnOk, OnErr, length, map, option_map};
 ghost use Rattle.drafts.specs.Applied.{applied};
 ghost use Rattle.drafts.specs.Edits.{on_base};
-ghost use Rattle.drafts.specs.Machine.{Entry, IsDecision, IsLegal, replay, empty_desk, admissions};
+ghost use Rattle.drafts.specs.Machine.{Entry, IsDecision};
 ghost use Rattle.drafts.specs.Outcomes.{IsJudged, IsSaid, IsNextState, IsEntryOf, after_next};
 ghost use Rattle.drafts.specs.Rulings.{ruling_of};
-ghost use Rattle.drafts.specs.Books.{empty_book, logged, IsNextEntry};
+ghost use Rattle.drafts.specs.Books.{empty_book, logged, IsLegalBook, IsNextEntry};
 
 use crate::change::Change;
 use crate::draft::Draft;
@@ -124,9 +124,7 @@ impl Book {
     /// The present state.
     pub fn state(&self) -> &NodeState
         ensures now { result.now ≡ self.now.desk }
-        ensures legal { IsLegal empty_desk self.now.log }
-        ensures replay { replay empty_desk self.now.log ≡ self.now.desk }
-        ensures version { self.now.desk.version ≡ admissions self.now.log }
+        ensures legal { IsLegalBook self.now }
     {
         &self.state
     }
@@ -149,9 +147,7 @@ impl Book {
     pub fn into_parts(self) -> (Arc<NodeState>, Vec<Arc<Entry>>)
         ensures state { result.0.value ≡ self.desk }
         ensures log { map (λ e. e.value) result.1.items ≡ self.log }
-        ensures legal { IsLegal empty_desk self.log }
-        ensures replay { replay empty_desk self.log ≡ self.desk }
-        ensures version { self.desk.version ≡ admissions self.log }
+        ensures legal { IsLegalBook self }
     {
         (self.state, self.log)
     }

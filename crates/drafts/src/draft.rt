@@ -174,34 +174,6 @@ impl Draft {
         &self.changes
     }
 
-    // The team and the changes, out of the draft.
-    pub(crate) fn into_parts(self) -> (Team, Arc<NodeState>, IndexMap<Name, Change>)
-        ensures team { result.0 ≡ self.team }
-        ensures base { result.1.value ≡ self.base }
-        ensures changes { result.2.entries ≡ self.changes }
-        ensures few { length result.2.entries ≤ CHANGE_LIMIT }
-        ensures named { AreNamed result.2.entries }
-    {
-        (self.team, self.base, self.changes)
-    }
-
-    // The draft of these parts.
-    pub(crate) fn of_parts(
-        team: Team,
-        base: Arc<NodeState>,
-        changes: IndexMap<Name, Change>,
-    ) -> Draft
-        requires few { length changes.entries ≤ CHANGE_LIMIT }
-        requires named { AreNamed changes.entries }
-        ensures { result ≡ record { team = team; base = base.value; changes = changes.entries } }
-    {
-        Draft {
-            team,
-            base,
-            changes,
-        }
-    }
-
     /// The same draft again.
     pub fn copy(&self, alloc: Global) -> Result<Draft, AllocError>
         ensures { IfOk result (λ draft. draft ≡ self.now) }
@@ -259,14 +231,34 @@ impl Draft {
         }
     }
 
+    /// Goes with its changes to another state.
+    pub fn move_to(&mut self, fresh: Arc<NodeState>)
+        ensures { self.new ≡ record {
+          team = self.old.team;
+          base = fresh.value;
+          changes = self.old.changes;
+        } }
+    {
+        self.base = fresh;
+    }
+
     /// The same changes on another state, and the state that they were on.
     pub fn exchange(self, fresh: Arc<NodeState>) -> (Draft, Arc<NodeState>)
         ensures draft { result.0
             ≡ record { team = self.team; base = fresh.value; changes = self.changes } }
         ensures base { result.1.value ≡ self.base }
     {
-        let (team, base, changes) = self.into_parts();
-        (Draft::of_parts(team, fresh, changes), base)
+        let Draft {
+            team,
+            base,
+            changes,
+        } = self;
+        let draft = Draft {
+            team,
+            base: fresh,
+            changes,
+        };
+        (draft, base)
     }
 
     /// What the changes come to on the base.

@@ -33,7 +33,8 @@ pub enum Settled {
 /// Why a proposal was not settled; it is handed back.
 #[derive(Drop)]
 pub enum SettleFault {
-    /// Its base is no state of this book.
+    /// Its base is of a version above the present one; or of the present one, but on the present state its changes don't
+    /// come to what was judged.
     Stranger { proposal: Proposal },
     OutOfMemory { proposal: Proposal },
 }

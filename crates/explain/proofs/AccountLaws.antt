@@ -1,9 +1,8 @@
 -- The responses of an order, each with its parts.
-use Rattle.std.proofs.Common.{◌≡◌, ℕ, ◌+◌, ◌<◌, ◌≤◌, List}
-use Rattle.std.proofs.Common.{[], ◌∷◌, ◌++◌, length, get_or, All, append_assoc, sym}
+use Rattle.std.proofs.Common.{◌≡◌, ℕ, ◌<◌, ◌≤◌, List}
+use Rattle.std.proofs.Common.{[], ◌∷◌, ◌++◌, length, All, append_assoc, sym}
 use Rattle.std.proofs.Common.{◌∙◌, ap, subst, arith}
 use Rattle.std.proofs.lemmas.Bool.{ltb-true}
-use Rattle.std.proofs.lemmas.List.{get_or-map, length-map}
 use Rattle.std.proofs.lemmas.List.Elements.{All-from_recursion}
 use Rattle.task_sheet.specs.Sheet.{Task, AllTasks}
 use Rattle.task_sheet.specs.TaskSet.{IsTaskSet}
@@ -57,17 +56,9 @@ best-in_time U places set best =
     in-time U (AllTasks-from_set U set) (all_of U) places best.best.passing.each_once (λ k h. h)
     best.each best.best.passing.each_stands
 
-pub places-within : (n m : ℕ) (places : List PlaceData) → n ≤ m
-    → All (λ k. k < n) (tasks_of_places places) → All (λ (p : PlaceData). p.task < m) places
-places-within n m places le all k d lt =
-    let same : get_or (tasks_of_places places) k d.task ≡ (get_or places k d).task =
-    get_or-map (λ (p : PlaceData). p.task) places k d d.task lt in
-    omega (
-      arith,
-      all k d.task
-          (omega (arith, lt, length-map places (λ (p : PlaceData). p.task))),
-      same,
-    )
+pub tasks-within : (n m : ℕ) (tasks : List ℕ) → n ≤ m → All (λ k. k < n) tasks
+    → All (λ k. k < m) tasks
+tasks-within n m tasks le all k d lt = omega (arith, le, all k d lt)
 
 -- ---- one account after the other
 pub AreResponseAccounts-next : (U : List Task) (places rest after : List PlaceData) (p : PlaceData)

@@ -1,10 +1,10 @@
 //! Times of tasks, each with what it is made of.
-ghost use Rattle.std.specs.Prelude.{◌≡◌, ◌<◌, reverse, IfOk};
+ghost use Rattle.std.specs.Prelude.{IfOk};
 ghost use Rattle.assignment.specs.Placings.{tasks_of_places};
 ghost use Rattle.explain.specs.Accounts.{AreInTime, AreResponseAccounts, IsInTime, IsResponseAccount};
 
 use crate::parts::{Parts, parts_of};
-use assignment::{Place, members_at};
+use assignment::{Place, members_of, tasks_of_places};
 use ceilings::Tabled;
 use std::alloc::{AllocError, Global};
 
@@ -17,20 +17,33 @@ pub struct Account {
     pub parts: Parts,
 }
 
-// The tasks of some places, the last first.
-fn falling_tasks(alloc: Global, places: &[Place]) -> Result<Vec<usize>, AllocError>
-    ensures { IfOk result (λ tasks. tasks.items ≡ reverse (tasks_of_places places.now)) }
+/// The account of a response of a task below these, the lowest first. The error is out of memory.
+pub fn response_account(
+    alloc: Global,
+    set: &Tabled<'_>,
+    task: usize,
+    response: u64,
+    mut above: Vec<usize>,
+) -> Result<Account, AllocError>
+    requires { IsInTime set.now above.items (record { task = task; response = response }) }
+    ensures { IfOk result (IsResponseAccount set.now above.items
+        (record { task = task; response = response })) }
 {
-    let mut tasks = Vec::with_capacity(alloc, places.len())?;
-    for place in places {
-        tasks.push(place.task)?;
-    }
-    tasks.reverse();
-    Ok(tasks)
+    let sheet = &set.sheets()[task];
+    let members = members_of(&above);
+    above.reverse();
+    let window = response - sheet.jitter();
+    let parts = parts_of(alloc, set, task, members, &above, window)?;
+    Ok(Account {
+        task,
+        time: response,
+        deadline: sheet.deadline(),
+        parts,
+    })
 }
 
-// The account of a response, below these places.
-fn response_account(
+// That of a place, below these.
+fn place_account(
     alloc: Global,
     set: &Tabled<'_>,
     place: &Place,
@@ -40,16 +53,8 @@ fn response_account(
     ensures { IfOk result (λ account. IsResponseAccount set.now
         (tasks_of_places above.now) place.now account) }
 {
-    let order = falling_tasks(alloc, above)?;
-    let sheet = &set.sheets()[place.task];
-    let window = place.response - sheet.jitter();
-    let parts = parts_of(alloc, set, place.task, members_at(above), &order, window)?;
-    Ok(Account {
-        task: place.task,
-        time: place.response,
-        deadline: sheet.deadline(),
-        parts,
-    })
+    let order = tasks_of_places(alloc, above)?;
+    response_account(alloc, set, place.task, place.response, order)
 }
 
 /// The account of each response of an order of a set, the lowest level first. The error is out of memory.
@@ -65,7 +70,7 @@ pub(crate) fn response_accounts(
     let mut accounts = Vec::with_capacity(alloc, places.len())?;
     let mut rest = places;
     while let Some((place, above)) = rest.split_first() {
-        accounts.push(response_account(alloc, set, place, above)?)?;
+        accounts.push(place_account(alloc, set, place, above)?)?;
         rest = above;
     }
     Ok(accounts)

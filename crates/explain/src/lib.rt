@@ -12,12 +12,12 @@ mod parts;
 mod shares;
 mod text;
 
-pub use crate::accounts::Account;
+pub use crate::accounts::{Account, response_account};
 pub use crate::blocker::{Blocker, first_blocker};
 pub use crate::conflict::{greatest_within, least_conflict};
 pub use crate::explanation::{Explanation, explain};
 pub use crate::needs::{Need, needs_account};
 pub use crate::one_task::task_text;
 pub use crate::parts::{Above, Interruption, Parts, parts_of};
-pub use crate::shares::load;
-pub use crate::text::{explanation_text, parts_text};
+pub use crate::shares::{load, share};
+pub use crate::text::{explanation_text, parts_text, push_account, push_load, sheet_uses};

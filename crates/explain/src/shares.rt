@@ -4,8 +4,8 @@ ghost use Rattle.explain.specs.Load.{load_of, share_of};
 
 use task_sheet::{Sheet, TaskSet};
 
-// What a task takes of the processor, in millionths, rounded up.
-fn share(sheet: &Sheet) -> u64
+/// What a task takes of the processor, in millionths, rounded up.
+pub fn share(sheet: &Sheet) -> u64
     ensures is { result ≡ share_of sheet.now }
     ensures short { result ≤ 10000000000000 }
 {

@@ -54,8 +54,8 @@ fn names(section: &Section, lock: Name) -> bool
     section.locks.iter().any(|name| *name == lock)
 }
 
-// Whether some section of a sheet names a lock.
-fn sheet_uses(sheet: &Sheet, lock: Name) -> bool
+/// Whether some section of a sheet names a lock.
+pub fn sheet_uses(sheet: &Sheet, lock: Name) -> bool
     ensures { result ≡ uses sheet.now lock }
 {
     sheet.sections().iter().any(|section| names(section, lock))
@@ -238,12 +238,8 @@ pub fn parts_text(alloc: Global, set: &TaskSet, account: &Account) -> Result<Str
     Ok(text)
 }
 
-// The lines of a task's time.
-pub(crate) fn push_account(
-    text: &mut String,
-    set: &TaskSet,
-    account: &Account,
-) -> Result<(), AllocError>
+/// Adds the lines of a time of a task, with its parts. The error is out of memory.
+pub fn push_account(text: &mut String, set: &TaskSet, account: &Account) -> Result<(), AllocError>
     ensures { OnOk result (string_bytes text.new ≡ string_bytes text.old
         ++ account_lines set.now account.now) }
 {
@@ -309,8 +305,8 @@ pub(crate) fn push_conflict(
     text.push_str("\n")
 }
 
-// The line of a set's load.
-fn push_load(text: &mut String, set: &TaskSet) -> Result<(), AllocError>
+/// Adds the line of a set's load. The error is out of memory.
+pub fn push_load(text: &mut String, set: &TaskSet) -> Result<(), AllocError>
     ensures { OnOk result (string_bytes text.new ≡ string_bytes text.old ++ load_line set.now) }
 {
     let load = load(set);

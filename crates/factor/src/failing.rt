@@ -1,6 +1,5 @@
 //! The task that fails first past a factor.
 ghost use Rattle.std.specs.Prelude.{◌+◌, ◌<◌, length, IfOk};
-ghost use Rattle.task_sheet.specs.TaskSet.{IsTaskSet};
 ghost use Rattle.factor.specs.Factors.{IsFactor};
 ghost use Rattle.factor.specs.Failing.{FailsFirst};
 
@@ -15,15 +14,14 @@ use task_sheet::TaskSet;
 /// tasks that are then in the way of every order, the one with the longest limit of those that need not stand above another.
 /// The set has a task. The error is out of memory.
 pub fn first_to_fail(alloc: Global, set: &TaskSet, factor: u64) -> Result<usize, AllocError>
-    requires kept { IsTaskSet set.now }
     requires some { 0 < length set.now }
     requires factor { IsFactor set.now factor }
     ensures { IfOk result (FailsFirst set.now (factor + 1)) }
 {
+    let _ = set.sheets();
     let more = factor + 1;
-    match first_past(set, more) {
-        Some(task) => return Ok(task),
-        None => {}
+    if let Some(task) = first_past(set, more) {
+        return Ok(task);
     }
     let other = scaled(alloc, set, more)?;
     let table = LockTable::new(alloc, &other)?;

@@ -24,9 +24,8 @@ fn order_passes_at(
     ensures answer { IfOk result (λ passes. IsTrue passes ↔ ScalesIn set.now order.now factor) }
     ensures kept { IsTaskSet set.now }
 {
-    match first_past(set, factor) {
-        Some(_) => return Ok(false),
-        None => {}
+    if first_past(set, factor).is_some() {
+        return Ok(false);
     }
     let other = scaled(alloc, set, factor)?;
     let table = LockTable::new(alloc, &other)?;
@@ -36,11 +35,11 @@ fn order_passes_at(
 /// The greatest factor, in thousandths, with which an order of the set that passes still passes as it stands. It is 1000 at
 /// least. The set has a task. The error is out of memory.
 pub fn factor_in_order(alloc: Global, set: &TaskSet, order: &[usize]) -> Result<u64, AllocError>
-    requires kept { IsTaskSet set.now }
     requires some { 0 < length set.now }
     requires passing { IsPassingOrder set.now order.now }
     ensures { IfOk result (IsFactorIn set.now order.now) }
 {
+    let _ = set.sheets();
     let mut failing = FACTOR_END;
     let mut passing = 1000;
     while failing - passing > 1 {

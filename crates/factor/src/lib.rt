@@ -27,9 +27,8 @@ fn passes_at(alloc: Global, set: &TaskSet, factor: u64) -> Result<bool, AllocErr
     ensures answer { IfOk result (λ passes. IsTrue passes ↔ Scales set.now factor) }
     ensures kept { IsTaskSet set.now }
 {
-    match first_past(set, factor) {
-        Some(_) => return Ok(false),
-        None => {}
+    if first_past(set, factor).is_some() {
+        return Ok(false);
     }
     let other = scaled(alloc, set, factor)?;
     let table = LockTable::new(alloc, &other)?;

@@ -2,6 +2,7 @@
 ghost use Rattle.std.specs.Prelude.{◌≡◌, ◌↔◌, ◌≤◌, All, map, IfOk, IfSome, IfNone, IsTrue};
 ghost use Rattle.task_sheet.specs.Sheet.{AreInterrupts, AreOverheads, IsValidSheet};
 ghost use Rattle.task_sheet.specs.TaskSet.{IsTaskSet};
+ghost use Rattle.task_sheet.specs.declared.sheet.TheConstants.{PERIOD_TO};
 ghost use Rattle.factor.specs.declared.scaling.TheConstants.{FACTOR_END};
 ghost use Rattle.factor.specs.Failing.{IsFirstPast};
 ghost use Rattle.factor.specs.Factors.{thousandths, scaled_sections, scaled_end, scaled_cost, scaled_node, scaled_interrupt, scaled_task, scaled, IsWithin, MayScale};
@@ -16,7 +17,7 @@ pub(crate) const FACTOR_END: u64 = 10_000_000_001;
 // So many thousandths of a time, rounded up.
 fn thousandths(factor: u64, time: u64) -> u64
     requires short { factor ≤ FACTOR_END }
-    requires time { time ≤ 10000000 }
+    requires time { time ≤ PERIOD_TO }
     ensures is { result ≡ thousandths factor time }
     ensures short { result ≤ 200000000000000 }
 {

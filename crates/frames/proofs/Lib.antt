@@ -1,4 +1,4 @@
-pub mod Puts
+pub mod Adds
 pub mod Lanes
 pub mod Executed
 mod Shown

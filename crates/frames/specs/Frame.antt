@@ -2,7 +2,8 @@
 use Rattle.std.specs.Prelude.{ℕ, ◌+◌, ◌-◌, ◌*◌, ◌/◌, ◌%◌, ◌<◌, ◌≤◌, min, max, Bool, ◌&&◌, nat_le, nat_lt, ◌==◌, if◌then◌else◌, Option, Some, None, List, [], ◌∷◌, length, codes}
 use Rattle.ceiling_kernel.specs.declared.accept.TheConstants.{HORIZON}
 use Rattle.task_sheet.specs.declared.set.TheConstants.{TASK_LIMIT}
-use Rattle.frames.specs.declared.frame.TheConstants.{LONGEST_PERIOD, NARROWEST, WIDEST, RIGHTMOST, WIDEST_MARGIN, WIDEST_DECADE}
+use Rattle.task_sheet.specs.declared.sheet.TheConstants.{PERIOD_TO}
+use Rattle.frames.specs.declared.frame.TheConstants.{NARROWEST, WIDEST, RIGHTMOST, WIDEST_MARGIN, WIDEST_DECADE}
 use Rattle.frames.specs.declared.rows.TaskRow.{TaskRow}
 use Rattle.frames.specs.declared.view.View.{View}
 use Rattle.frames.specs.View.{end_of_run, window_end}
@@ -72,7 +73,7 @@ frame_from v until = min v.from (frame_to v until - 1)
 abbrev pub frame_of : List TaskRow → View → (until : ℕ) → Frame
 frame_of rows v until =
     frame_in v.width (length rows) (left_of (longest_name 0 rows))
-    (max (least_period LONGEST_PERIOD rows) 1) (end_of_run until) (frame_from v until)
+    (max (least_period PERIOD_TO rows) 1) (end_of_run until) (frame_from v until)
     (frame_to v until)
 
 -- where a time lies; those before the window lie at its beginning, and those behind it at its end

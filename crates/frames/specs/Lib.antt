@@ -4,4 +4,5 @@ pub mod Rows
 pub mod Slices
 pub mod Numbers
 pub mod Boxes
+pub mod Page
 pub mod Locks

@@ -43,7 +43,7 @@ pub struct Lane<'a> {
 }
 
 impl Chart<'_> {
-    ghost use Rattle.std.specs.Prelude.{IfSome};
+    ghost use Rattle.std.specs.Prelude.{IfSome, slice_get};
     ghost use Rattle.frames.specs.Rows.{row_at, spot_in, spot_named};
 
     /// The row at a spot.
@@ -71,6 +71,13 @@ impl Chart<'_> {
         ensures place { result.k ≤ TASK_LIMIT }
     {
         spot_in(self.shown, k)
+    }
+
+    /// The job of a slice, if there is one.
+    pub fn job_of(&self, slice: Slice) -> Option<JobRecord>
+        ensures { result ≡ slice_get self.now.jobs.now slice.job }
+    {
+        self.jobs.get(slice.job).copied()
     }
 
     /// The spot of the task with a name, if it is shown.

@@ -2,16 +2,15 @@
 ghost use Rattle.std.specs.Prelude.{◌+◌, ◌<◌, ◌≡◌, ◌≤◌, length, nat_le, nat_lt};
 ghost use Rattle.ceiling_kernel.specs.declared.accept.TheConstants.{HORIZON};
 ghost use Rattle.task_sheet.specs.declared.set.TheConstants.{TASK_LIMIT};
+ghost use Rattle.task_sheet.specs.declared.sheet.TheConstants.{PERIOD_TO};
 ghost use Rattle.frames.specs.Frame.{Frame, IsFrame, decade_of, ended, frame_end, frame_of, is_in, is_wide, least_period, left_of, level_of, longest_name, sees, span_of, step_in, step_of, steps_before, tone_of, top_of, unit_name, unit_of, x_of};
-ghost use Rattle.frames.specs.declared.frame.TheConstants.{LONGEST_PERIOD, LOWEST_TOP, NARROWEST, RIGHTMOST, WIDEST_DECADE, WIDEST_MARGIN, WIDEST_STEP};
+ghost use Rattle.frames.specs.declared.frame.TheConstants.{LOWEST_TOP, NARROWEST, RIGHTMOST, WIDEST_DECADE, WIDEST_MARGIN, WIDEST_STEP};
 
 use crate::rows::TaskRow;
 use crate::view::{View, end_of_run, frame_from, frame_to};
 use ceiling_kernel::JobRecord;
 use std::marker::Model;
-
-// The longest period that a sheet may have, in microseconds.
-const LONGEST_PERIOD: u64 = 10_000_000;
+use task_sheet::PERIOD_TO;
 
 // How far to the right time ends at least.
 const NARROWEST: u64 = 9_400;
@@ -58,9 +57,9 @@ impl Model for Frame {
 
 // The shortest period of the rows.
 fn least_period(rows: &[TaskRow]) -> u64
-    ensures { result ≡ least_period LONGEST_PERIOD rows.now }
+    ensures { result ≡ least_period PERIOD_TO rows.now }
 {
-    let mut least = LONGEST_PERIOD;
+    let mut least = PERIOD_TO;
     for row in rows {
         least = row.sheet.period().min(least);
     }

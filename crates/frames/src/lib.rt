@@ -6,6 +6,7 @@ mod chart;
 mod frame;
 mod locks;
 mod numbers;
+mod page;
 mod rows;
 mod slices;
 mod view;
@@ -19,6 +20,7 @@ pub use frame::{
 };
 pub use locks::{LOCKS_LIMIT, lock_tone, locks_of};
 pub use numbers::{Known, Millis};
+pub use page::Page;
 pub use rows::{Spot, TaskRow, find_row, job_at, name_in, name_of, place_in};
 pub use slices::{executed_after, executed_with, slice_at, starts_rise, ticks_of};
 pub use view::{View, shown_of};

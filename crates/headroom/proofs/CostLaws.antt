@@ -48,7 +48,7 @@ unfolding blocking_of
 blocking-longest U i H = refl
 
 -- and the same blocking
-pub blocking-same : (V U : List Task) (i : ℕ) (H : Indexes) → length V ≡ length U
+blocking-same : (V U : List Task) (i : ℕ) (H : Indexes) → length V ≡ length U
     → ((k : ℕ) → (task_at V k).sections ≡ (task_at U k).sections)
     → blocking_of V i H ≡ blocking_of U i H
 blocking-same V U i H count same =
@@ -70,14 +70,14 @@ module _ (V U : List Task) (light : AreLighter V U) where
       → interference_of (task_at V k) t ≤ interference_of (task_at U k) t
   interference-lighter k t = mul-le-mul (releases-lighter k t) (light.each k).cost
 
-  pub term-lighter : (H : Indexes) (t k : ℕ) → cond (H k) (interference_of (task_at V k) t) 0
+  term-lighter : (H : Indexes) (t k : ℕ) → cond (H k) (interference_of (task_at V k) t) 0
       ≤ cond (H k) (interference_of (task_at U k) t) 0
   term-lighter H t k = elim (cases_Bool (H k)) [
     | inl so ↦ rw so (interference-lighter k t)
     | inr so ↦ rw so (omega arith)
   ]
 
-  pub interrupts-lighter : (t : ℕ) → interrupts_within V t ≤ interrupts_within U t
+  interrupts-lighter : (t : ℕ) → interrupts_within V t ≤ interrupts_within U t
   interrupts-lighter t =
       interrupts-less V U t light.count (λ k _.
       let node = ap (λ (x : Task). x.node.release) (light.each k).same in
@@ -250,13 +250,6 @@ may_cost t cost valid from to end = record {
   overheads = valid.overheads;
   interrupts = valid.interrupts;
 }
-
--- and each cost between one that it may have and its period
-pub may_cost-more : (t : Task) (low cost : ℕ) → IsValidSheet t → IsValidSheet (with_cost t low)
-    → low ≤ cost → cost ≤ t.period → IsValidSheet (with_cost t cost)
-may_cost-more t low cost valid may le to =
-    may_cost t cost valid (omega (arith, may.cost_from)) to
-    (omega (arith, last_end-within (with_cost t low) may))
 
 -- less cost of one task keeps an order
 pub IsFeasible-less : (U : List Task) (i low high : ℕ) → low ≤ high → IsFeasible (costed U i high)

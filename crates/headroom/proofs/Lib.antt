@@ -1,8 +1,4 @@
 pub mod InterruptSets
 pub mod CostLaws
-pub mod SearchLaws
-pub mod SetCostLaws
-pub mod RoomLaws
 pub mod OrderLaws
-pub mod SomeOrderLaws
 pub mod PlacedLaws

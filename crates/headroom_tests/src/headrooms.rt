@@ -4,7 +4,7 @@ ghost use Rattle.task_sheet.specs.Orders.{IsPassingOrder};
 use assignment::{Placing, place_all, tasks_of_places};
 use ceilings::{LockTable, Tabled};
 use example_sets::{again, match_both, padded_set_of};
-use headroom::{headroom, headroom_in_order};
+use limits::{Number, furthest, furthest_in_order};
 use std::alloc::{AllocError, Global};
 use std::test::Fail;
 
@@ -45,7 +45,7 @@ fn line_of(alloc: Global, document: &str) -> Result<String, Fail> {
     let table = again!(LockTable::new(alloc, &set))?;
     let mut text = String::new(alloc);
     for task in 0..set.len() {
-        match again!(headroom(alloc, &Tabled::of(&set, &table), task))? {
+        match again!(furthest(alloc, &Tabled::of(&set, &table), task, Number::Cost))? {
             Some(cost) => write!(text, "{cost};")?,
             None => write!(text, "-;")?,
         }
@@ -59,7 +59,7 @@ fn line_in(alloc: Global, set: &Tabled<'_>, order: &[usize]) -> Result<String, A
 {
     let mut text = String::new(alloc);
     for task in 0..set.len() {
-        let cost = again!(headroom_in_order(alloc, set, order, task))?;
+        let cost = again!(furthest_in_order(alloc, set, order, task, Number::Cost))?;
         write!(text, "{cost};")?;
     }
     Ok(text)

@@ -1,7 +1,7 @@
 //! The marks of releases.
 ghost use Rattle.std.specs.Prelude.{◌+◌, ◌<◌, ◌≡◌, length};
 ghost use Rattle.ceiling_kernel.specs.Releases.{release_at};
-ghost use Rattle.streams.specs.Puts.{Puts};
+ghost use Rattle.frames.specs.Page.{Adds};
 ghost use Rattle.frames.specs.Frame.{is_in};
 ghost use Rattle.frames.specs.Rows.{on_spot};
 ghost use Rattle.job_boxes.specs.Marks.{all_marks, arrival_text, bound_text, later_text, mark_alone, mark_head, mark_text, marks_text, ready_text};
@@ -9,11 +9,9 @@ ghost use Rattle.job_boxes.specs.Marks.{all_marks, arrival_text, bound_text, lat
 use crate::band::gap_of;
 use ceiling_kernel::Release;
 use frames::{
-    Chart, Frame, Lane, is_by_end, is_from_start, is_in, sees_from, top_of, x_after, x_of,
+    Chart, Frame, Lane, Page, is_by_end, is_from_start, is_in, sees_from, top_of, x_after, x_of,
 };
 use pieces::is_banded;
-use std::io::Write;
-use streams::{Outlet, WriteFailed};
 
 // The kinds of marks.
 #[derive(Clone, Copy, Debug, PartialEq, Eq)]
@@ -44,173 +42,126 @@ fn release_at(releases: &[Release], i: usize) -> Release
 }
 
 // An arrow up at the arrival, where that is in the picture.
-fn put_arrival<W: Write + Drop>(
-    frame: Frame,
-    release: Release,
-    y: u64,
-    out: &mut Outlet<'_, W>,
-) -> Result<(), WriteFailed>
-    ensures { Puts W.contents out.old out.new result (arrival_text frame release y) }
+fn put_arrival(frame: Frame, release: Release, y: u64, page: &mut Page)
+    ensures { Adds page.old page.new (arrival_text frame release y) }
 {
     if !is_in(frame, release.time) {
-        return Ok(());
+        return;
     }
     let x = x_of(frame, release.time);
-    write!(out, "M{x} {y}v-100m-35 50l35-50 35 50\n")
+    write!(page, "M{x} {y}v-100m-35 50l35-50 35 50\n")
 }
 
 // A line to when the job becomes ready, where that is later.
-fn put_ready<W: Write + Drop>(
-    frame: Frame,
-    release: Release,
-    y: u64,
-    out: &mut Outlet<'_, W>,
-) -> Result<(), WriteFailed>
-    ensures { Puts W.contents out.old out.new result (ready_text frame release y) }
+fn put_ready(frame: Frame, release: Release, y: u64, page: &mut Page)
+    ensures { Adds page.old page.new (ready_text frame release y) }
 {
     if release.late == 0 || !sees_from(frame, release.time, release.late) {
-        return Ok(());
+        return;
     }
     let x = x_of(frame, release.time);
     let ready = x_after(frame, release.time, release.late);
-    write!(out, "M{x} {y}H{ready}\n")
+    write!(page, "M{x} {y}H{ready}\n")
 }
 
 // A mark so long after the arrival, where that is in the picture.
-fn put_later<W: Write + Drop>(
-    frame: Frame,
-    release: Release,
-    len: u64,
-    y: u64,
-    shape: &str,
-    out: &mut Outlet<'_, W>,
-) -> Result<(), WriteFailed>
-    ensures { Puts W.contents out.old out.new result
-        (later_text frame release len y shape.now) }
+fn put_later(frame: Frame, release: Release, len: u64, y: u64, shape: &str, page: &mut Page)
+    ensures { Adds page.old page.new (later_text frame release len y shape.now) }
 {
     if !is_shown(frame, release.time, len) {
-        return Ok(());
+        return;
     }
     let x = x_after(frame, release.time, len);
-    write!(out, "M{x} {y}{shape}")
+    write!(page, "M{x} {y}{shape}")
 }
 
 // A bracket at the bound, where there is one.
-fn put_bound<W: Write + Drop>(
-    frame: Frame,
-    release: Release,
-    y: u64,
-    bound: Option<u64>,
-    out: &mut Outlet<'_, W>,
-) -> Result<(), WriteFailed>
-    ensures { Puts W.contents out.old out.new result (bound_text frame release y bound) }
+fn put_bound(frame: Frame, release: Release, y: u64, bound: Option<u64>, page: &mut Page)
+    ensures { Adds page.old page.new (bound_text frame release y bound) }
 {
     match bound {
-        None => Ok(()),
-        Some(len) => put_later(frame, release, len, y, "h-35m35 0v40m0 120v40h-35\n", out),
+        None => {}
+        Some(len) => put_later(frame, release, len, y, "h-35m35 0v40m0 120v40h-35\n", page),
     }
 }
 
 // The mark of a release in a row.
-fn put_mark_in<W: Write + Drop>(
-    mark: Mark,
-    release: Release,
-    lane: &Lane<'_>,
-    out: &mut Outlet<'_, W>,
-) -> Result<(), WriteFailed>
-    ensures { Puts W.contents out.old out.new result
-        (mark_text lane.now.frame mark release lane.now.spot.k lane.now.row.now) }
+fn put_mark_in(mark: Mark, release: Release, lane: &Lane<'_>, page: &mut Page)
+    ensures { Adds page.old page.new (mark_text lane.now.frame mark release lane.now.spot.k
+        lane.now.row.now) }
 {
     let frame = lane.frame;
     let row = lane.row;
     let top = top_of(lane.spot.k);
     match mark {
-        Mark::Arrival => put_arrival(frame, release, top + 450, out),
-        Mark::Ready => put_ready(frame, release, top + 255, out),
-        Mark::Bound => put_bound(frame, release, top + 155, row.bound, out),
+        Mark::Arrival => put_arrival(frame, release, top + 450, page),
+        Mark::Ready => put_ready(frame, release, top + 255, page),
+        Mark::Bound => put_bound(frame, release, top + 155, row.bound, page),
         Mark::Deadline => {
             let shape = "v100m0 0l-35-50h70z\n";
             let len = row.sheet.deadline();
-            put_later(frame, release, len, top + 60, shape, out)
+            put_later(frame, release, len, top + 60, shape, page)
         }
     }
 }
 
 // The mark of a release.
-fn put_mark<W: Write + Drop>(
-    chart: &Chart<'_>,
-    mark: Mark,
-    release: Release,
-    out: &mut Outlet<'_, W>,
-) -> Result<(), WriteFailed>
-    ensures { Puts W.contents out.old out.new result
-        (on_spot chart.now.rows.now chart.now.shown.now release.name
+fn put_mark(chart: &Chart<'_>, mark: Mark, release: Release, page: &mut Page)
+    ensures { Adds page.old page.new (on_spot chart.now.rows.now chart.now.shown.now release.name
         (λ s row. mark_text chart.now.frame mark release s.k row)) }
 {
     match chart.spot_of(release.name) {
-        None => Ok(()),
-        Some(spot) => put_mark_in(mark, release, &chart.lane(spot), out),
+        None => {}
+        Some(spot) => put_mark_in(mark, release, &chart.lane(spot), page),
     }
 }
 
 // What opens the marks of a kind.
-fn put_mark_head<W: Write + Drop>(mark: Mark, out: &mut Outlet<'_, W>) -> Result<(), WriteFailed>
-    ensures { Puts W.contents out.old out.new result (mark_head mark) }
+fn put_mark_head(mark: Mark, page: &mut Page)
+    ensures { Adds page.old page.new (mark_head mark) }
 {
     match mark {
-        Mark::Arrival => out.put(b"<path class=\"a\" d=\"\n"),
-        Mark::Ready => out.put(b"<path class=\"r\" d=\"\n"),
-        Mark::Bound => out.put(b"<path class=\"b\" d=\"\n"),
-        Mark::Deadline => out.put(b"<path class=\"d\" d=\"\n"),
+        Mark::Arrival => page.put(b"<path class=\"a\" d=\"\n"),
+        Mark::Ready => page.put(b"<path class=\"r\" d=\"\n"),
+        Mark::Bound => page.put(b"<path class=\"b\" d=\"\n"),
+        Mark::Deadline => page.put(b"<path class=\"d\" d=\"\n"),
     }
 }
 
 // The mark of release i, whose job stands alone.
-fn put_mark_alone<W: Write + Drop>(
-    chart: &Chart<'_>,
-    mark: Mark,
-    i: usize,
-    out: &mut Outlet<'_, W>,
-) -> Result<(), WriteFailed>
+fn put_mark_alone(chart: &Chart<'_>, mark: Mark, i: usize, page: &mut Page)
     requires { i < length chart.now.releases.now }
-    ensures { Puts W.contents out.old out.new result
-        (mark_alone chart.now.frame chart.now.rows.now chart.now.shown.now chart.now.jobs.now mark i
+    ensures { Adds page.old page.new (mark_alone chart.now.frame chart.now.rows.now
+        chart.now.shown.now chart.now.jobs.now mark i
         (release_at chart.now.releases.now i)) }
 {
     if is_banded(gap_of(chart.frame), chart.jobs, i) {
-        return Ok(());
+        return;
     }
-    put_mark(chart, mark, release_at(chart.releases, i), out)
+    put_mark(chart, mark, release_at(chart.releases, i), page)
 }
 
 // The marks of a kind, as one path.
-fn put_marks<W: Write + Drop>(
-    chart: &Chart<'_>,
-    mark: Mark,
-    out: &mut Outlet<'_, W>,
-) -> Result<(), WriteFailed>
-    ensures { Puts W.contents out.old out.new result
-        (marks_text chart.now.frame chart.now.rows.now chart.now.shown.now chart.now.jobs.now mark
+fn put_marks(chart: &Chart<'_>, mark: Mark, page: &mut Page)
+    ensures { Adds page.old page.new (marks_text chart.now.frame chart.now.rows.now
+        chart.now.shown.now chart.now.jobs.now mark
         chart.now.releases.now) }
 {
-    put_mark_head(mark, out)?;
+    put_mark_head(mark, page);
     for i in 0..chart.releases.len() {
-        put_mark_alone(chart, mark, i, out)?;
+        put_mark_alone(chart, mark, i, page);
     }
-    out.put(b"\"/>\n")
+    page.put(b"\"/>\n")
 }
 
 /// Puts the marks of all kinds.
-pub fn put_all_marks<W: Write + Drop>(
-    chart: &Chart<'_>,
-    out: &mut Outlet<'_, W>,
-) -> Result<(), WriteFailed>
-    ensures { Puts W.contents out.old out.new result
-        (all_marks chart.now.frame chart.now.rows.now chart.now.shown.now chart.now.jobs.now
+pub fn put_all_marks(chart: &Chart<'_>, page: &mut Page)
+    ensures { Adds page.old page.new (all_marks chart.now.frame chart.now.rows.now
+        chart.now.shown.now chart.now.jobs.now
         chart.now.releases.now) }
 {
-    put_marks(chart, Mark::Ready, out)?;
-    put_marks(chart, Mark::Arrival, out)?;
-    put_marks(chart, Mark::Bound, out)?;
-    put_marks(chart, Mark::Deadline, out)
+    put_marks(chart, Mark::Ready, page);
+    put_marks(chart, Mark::Arrival, page);
+    put_marks(chart, Mark::Bound, page);
+    put_marks(chart, Mark::Deadline, page)
 }

@@ -1,17 +1,15 @@
 //! Jobs that miss their deadlines.
 ghost use Rattle.std.specs.Prelude.{◌+◌, ◌≡◌, nat_le};
-ghost use Rattle.streams.specs.Puts.{Puts};
+ghost use Rattle.frames.specs.Page.{Adds};
 ghost use Rattle.frames.specs.Frame.{top_of, x_of};
 ghost use Rattle.job_boxes.specs.Misses.{all_missed, badge_after, badge_text, due_badge, due_words, has_badge, hatch_text, is_clear, is_late, is_seen_late, is_seen_miss, late_signs, miss_text, missed_in, missed_text, misses, misses_in, misses_text, row_misses};
 
 use crate::jobs::{limit_of, put_arrival_words, put_back, put_finish_words, put_on};
 use ceiling_kernel::JobRecord;
 use frames::{
-    Bar, Chart, Frame, Lane, TaskRow, ended, find_row, is_by_end, is_from_start, job_at, sees_from,
-    top_of, x_after, x_of,
+    Bar, Chart, Frame, Lane, Page, TaskRow, ended, find_row, is_by_end, is_from_start, job_at,
+    sees_from, top_of, x_after, x_of,
 };
-use std::io::Write;
-use streams::{Outlet, WriteFailed};
 
 // Whether a job of a row's task misses its deadline.
 fn is_late(frame: Frame, row: &TaskRow, job: &JobRecord) -> bool
@@ -120,27 +118,19 @@ fn badge_after(frame: Frame, row: &TaskRow, last: Option<u64>, job: &JobRecord) 
 }
 
 /// Puts a disc with a cross.
-pub fn put_badge<W: Write + Drop>(
-    x: u64,
-    y: u64,
-    out: &mut Outlet<'_, W>,
-) -> Result<(), WriteFailed>
-    ensures { Puts W.contents out.old out.new result (badge_text x y) }
+pub fn put_badge(x: u64, y: u64, page: &mut Page)
+    ensures { Adds page.old page.new (badge_text x y) }
 {
     write!(
-        out,
+        page,
         "<path class=\"x\" d=\"M{x} {y}h1\"/><path class=\"y\" d=\"M{x} {y}m-38-38l76 76m0-76l-76 76\"/>\n"
     )
 }
 
 // From the deadline up to the finish, or to the end.
-fn put_hatch<W: Write + Drop>(
-    lane: &Lane<'_>,
-    job: &JobRecord,
-    out: &mut Outlet<'_, W>,
-) -> Result<(), WriteFailed>
-    ensures { Puts W.contents out.old out.new result
-        (hatch_text lane.now.frame lane.now.spot.k lane.now.row.now job.now) }
+fn put_hatch(lane: &Lane<'_>, job: &JobRecord, page: &mut Page)
+    ensures { Adds page.old page.new (hatch_text lane.now.frame lane.now.spot.k lane.now.row.now
+        job.now) }
 {
     let x = x_after(lane.frame, job.release, lane.row.sheet.deadline());
     let hatch = Bar {
@@ -149,129 +139,92 @@ fn put_hatch<W: Write + Drop>(
         y: top_of(lane.spot.k) + 145,
         high: 220,
     };
-    write!(out, "<path class=\"z\" d=\"{hatch}\"><title>")
+    write!(page, "<path class=\"z\" d=\"{hatch}\"><title>")
 }
 
 // The deadline, behind when the job arrives and is done.
-fn put_due_words<W: Write + Drop>(row: &TaskRow, out: &mut Outlet<'_, W>) -> Result<(), WriteFailed>
-    ensures { Puts W.contents out.old out.new result (due_words row.now) }
+fn put_due_words(row: &TaskRow, page: &mut Page)
+    ensures { Adds page.old page.new (due_words row.now) }
 {
     let deadline = row.sheet.deadline();
-    write!(out, "deadline {deadline} us missed</title></path>\n")
+    write!(page, "deadline {deadline} us missed</title></path>\n")
 }
 
 // A badge at the deadline.
-fn put_badge_at<W: Write + Drop>(
-    lane: &Lane<'_>,
-    job: &JobRecord,
-    out: &mut Outlet<'_, W>,
-) -> Result<(), WriteFailed>
-    ensures { Puts W.contents out.old out.new result
-        (badge_text (x_of lane.now.frame (job.now.release + lane.now.row.now.sheet.deadline))
+fn put_badge_at(lane: &Lane<'_>, job: &JobRecord, page: &mut Page)
+    ensures { Adds page.old page.new (badge_text (x_of lane.now.frame (job.now.release +
+        lane.now.row.now.sheet.deadline))
         (top_of lane.now.spot.k + 85)) }
 {
     let x = x_after(lane.frame, job.release, lane.row.sheet.deadline());
-    put_badge(x, top_of(lane.spot.k) + 85, out)
+    put_badge(x, top_of(lane.spot.k) + 85, page)
 }
 
 // The same, where that has a badge.
-fn put_due_badge<W: Write + Drop>(
-    lane: &Lane<'_>,
-    last: Option<u64>,
-    job: &JobRecord,
-    out: &mut Outlet<'_, W>,
-) -> Result<(), WriteFailed>
-    ensures { Puts W.contents out.old out.new result
-        (due_badge lane.now.frame lane.now.spot.k last
+fn put_due_badge(lane: &Lane<'_>, last: Option<u64>, job: &JobRecord, page: &mut Page)
+    ensures { Adds page.old page.new (due_badge lane.now.frame lane.now.spot.k last
         (job.now.release + lane.now.row.now.sheet.deadline)) }
 {
     if has_badge(lane.frame, lane.row, last, job) {
-        put_badge_at(lane, job, out)
-    } else {
-        Ok(())
+        put_badge_at(lane, job, page)
     }
 }
 
 // Signs where a job goes on before and behind the window, whose box isn't in it.
-fn put_late_signs<W: Write + Drop>(
-    lane: &Lane<'_>,
-    job: &JobRecord,
-    out: &mut Outlet<'_, W>,
-) -> Result<(), WriteFailed>
-    ensures { Puts W.contents out.old out.new result
-        (late_signs lane.now.frame lane.now.spot.k lane.now.row.now job.now) }
+fn put_late_signs(lane: &Lane<'_>, job: &JobRecord, page: &mut Page)
+    ensures { Adds page.old page.new (late_signs lane.now.frame lane.now.spot.k lane.now.row.now
+        job.now) }
 {
     if sees_from(lane.frame, job.release, limit_of(lane.row)) {
-        return Ok(());
+        return;
     }
-    put_back(lane, job, out)?;
-    put_on(lane, job, out)
+    put_back(lane, job, page);
+    put_on(lane, job, page)
 }
 
 // That, with what is told of it, a badge at the deadline, and those signs.
-fn put_missed<W: Write + Drop>(
-    lane: &Lane<'_>,
-    last: Option<u64>,
-    job: &JobRecord,
-    out: &mut Outlet<'_, W>,
-) -> Result<(), WriteFailed>
-    ensures { Puts W.contents out.old out.new result
-        (missed_text lane.now.frame lane.now.spot.k lane.now.row.now last job.now) }
+fn put_missed(lane: &Lane<'_>, last: Option<u64>, job: &JobRecord, page: &mut Page)
+    ensures { Adds page.old page.new (missed_text lane.now.frame lane.now.spot.k lane.now.row.now
+        last job.now) }
 {
-    put_hatch(lane, job, out)?;
-    put_arrival_words(job, out)?;
-    put_finish_words(job, out)?;
-    put_due_words(lane.row, out)?;
-    put_due_badge(lane, last, job, out)?;
-    put_late_signs(lane, job, out)
+    put_hatch(lane, job, page);
+    put_arrival_words(job, page);
+    put_finish_words(job, page);
+    put_due_words(lane.row, page);
+    put_due_badge(lane, last, job, page);
+    put_late_signs(lane, job, page)
 }
 
 // A job in a row, if it misses its deadline in the window.
-fn put_miss<W: Write + Drop>(
-    lane: &Lane<'_>,
-    last: Option<u64>,
-    job: &JobRecord,
-    out: &mut Outlet<'_, W>,
-) -> Result<(), WriteFailed>
-    ensures { Puts W.contents out.old out.new result
-        (miss_text lane.now.frame lane.now.spot.k lane.now.row.now last job.now) }
+fn put_miss(lane: &Lane<'_>, last: Option<u64>, job: &JobRecord, page: &mut Page)
+    ensures { Adds page.old page.new (miss_text lane.now.frame lane.now.spot.k lane.now.row.now
+        last job.now) }
 {
     if is_seen_miss(lane.frame, lane.row, job) {
-        put_missed(lane, last, job, out)
-    } else {
-        Ok(())
+        put_missed(lane, last, job, page)
     }
 }
 
 // Those of a row.
-fn put_row_misses<W: Write + Drop>(
-    lane: &Lane<'_>,
-    jobs: &[JobRecord],
-    out: &mut Outlet<'_, W>,
-) -> Result<(), WriteFailed>
-    ensures { Puts W.contents out.old out.new result
-        (row_misses lane.now.frame jobs.now lane.now.spot.k lane.now.row.now) }
+fn put_row_misses(lane: &Lane<'_>, jobs: &[JobRecord], page: &mut Page)
+    ensures { Adds page.old page.new (row_misses lane.now.frame jobs.now lane.now.spot.k
+        lane.now.row.now) }
 {
     let mut last = None;
     for i in 0..jobs.len() {
         let job = job_at(jobs, i);
-        put_miss(lane, last, &job, out)?;
+        put_miss(lane, last, &job, page);
         last = badge_after(lane.frame, lane.row, last, &job);
     }
-    Ok(())
 }
 
 /// Puts what is missed in each row.
-pub fn put_misses<W: Write + Drop>(
-    chart: &Chart<'_>,
-    out: &mut Outlet<'_, W>,
-) -> Result<(), WriteFailed>
-    ensures { Puts W.contents out.old out.new result
-        (misses_text chart.now.frame chart.now.rows.now chart.now.shown.now
+pub fn put_misses(chart: &Chart<'_>, page: &mut Page)
+    ensures { Adds page.old page.new (misses_text chart.now.frame chart.now.rows.now
+        chart.now.shown.now
         chart.now.jobs.now) }
 {
     for k in 0..chart.shown.len() {
-        put_row_misses(&chart.lane(chart.spot(k)), chart.jobs, out)?;
+        put_row_misses(&chart.lane(chart.spot(k)), chart.jobs, page);
     }
-    Ok(())
 }

@@ -2,7 +2,6 @@
 use Rattle.std.proofs.Common.{◌≡◌, ◌∙◌, ℕ, ◌+◌, ◌<◌, ◌≤◌}
 use Rattle.std.proofs.Common.{List, [], ◌∷◌, ◌++◌, length, get_or, take, drop, append-nil}
 use Rattle.std.proofs.Common.{sym, ap, subst, append_assoc}
-use Rattle.std.specs.FinSet as set
 use Rattle.std.proofs.lemmas.List.{drop_more, take_more, take_all, map_push}
 use Rattle.std.proofs.Math.ListN.{drop_of_length-le}
 use Rattle.task_sheet.specs.Sheet.{Task}

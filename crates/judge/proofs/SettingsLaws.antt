@@ -19,17 +19,17 @@ use Rattle.task_sheet.specs.Sheet.{no_task, AreSections}
 use Rattle.task_sheet.specs.Name.{IsName}
 use Rattle.task_sheet.specs.TaskSet.{IsTaskSet, AreDistinct}
 use Rattle.task_sheet.specs.Indexes.{Indexes, IsPart, among, without_index, greatest_below}
-use Rattle.task_sheet.specs.Locks.{uses, ceiling_of}
+use Rattle.task_sheet.specs.Locks.{IsHighestUser, ceiling_of, uses}
 use Rattle.task_sheet.specs.Orders.{all_of, IsOrder, IsOrderOf}
 use Rattle.task_sheet.proofs.NameLaws.{same_own, same_is}
 use Rattle.task_sheet.proofs.TaskLaws.{valid_at}
 use Rattle.task_sheet.proofs.Below.{greatest_below-le, le-greatest_below}
 use Rattle.task_sheet.proofs.CeilingLaws.{ceiling-highest}
 use Rattle.task_sheet.proofs.IndexLaws.{without-parts, without-part_of, IsOrderOf-among}
-use Rattle.task_sheet.proofs.IndexLaws.{IsOrderOf-head, IsOrderOf-rest, order-below, order-few}
+use Rattle.task_sheet.proofs.IndexLaws.{IsOrderOf-head, IsOrderOf-rest, order-below}
 use Rattle.ceilings.specs.IsTableOf.{with_name, names_in, locks_of}
-use Rattle.settings.specs.Settings.{mutex_line, mutex_lines, settings_lines, thread_line}
-use Rattle.settings.specs.Settings.{thread_lines}
+use Rattle.settings.specs.Settings.{mutex_line, mutex_lines_from, priority_of, settings_from}
+use Rattle.settings.specs.Settings.{thread_line, thread_lines}
 use Rattle.settings.proofs.LockLaws.{has_ceiling}
 use Rattle.judge.specs.Rows.{mutexes_of, rows_in, threads_of}
 use Rattle.judge.specs.Faults.{is_no_lock, is_no_task, is_set, line_again, line_fault, mutexless}
@@ -39,6 +39,7 @@ use Rattle.judge.specs.Faults.{wrong_lock}
 use Rattle.std.specs.Option.{option_map}
 use Rattle.judge.specs.Node.{IsNodeOrder, IsOrderBy}
 use Rattle.judge.specs.declared.rows.Setting.{Setting}
+use Rattle.judge.specs.declared.rows.TheConstants.{NUMBER_LIMIT}
 use Rattle.judge.proofs.NumberLaws.{among_at, distinct_at}
 use Rattle.judge.proofs.SpelledLaws.{Entry, IsEntry, entries_read, rows_of, text_of}
 
@@ -132,19 +133,19 @@ threads_in U level (i ∷ order) = record {
       level;
 } ∷ threads_in U (level + 1) order
 
--- the ceiling of a lock
-abbrev level_of : List Task → List ℕ → List ℕ → ℕ
-level_of U order lock = unwrap_or (ceiling_of U order lock) 0
+-- the priority of a lock's ceiling
+abbrev ceiling_at : List Task → ℕ → List ℕ → List ℕ → ℕ
+ceiling_at U base order lock = priority_of base (unwrap_or (ceiling_of U order lock) 0)
 
 -- the mutexes of some locks
-abbrev mutexes_in : List Task → List ℕ → List (List ℕ) → List Entry
-mutexes_in U order [] = []
-mutexes_in U order (lock ∷ locks) = record {
+abbrev mutexes_in : List Task → ℕ → List ℕ → List (List ℕ) → List Entry
+mutexes_in U base order [] = []
+mutexes_in U base order (lock ∷ locks) = record {
   is_thread = false;
   name = lock;
   number =
-      level_of U order lock;
-} ∷ mutexes_in U order locks
+      ceiling_at U base order lock;
+} ∷ mutexes_in U base order locks
 
 -- what they set, where the first stands in a line
 abbrev set_in : ℕ → List Entry → List Setting
@@ -152,32 +153,40 @@ set_in line [] = []
 set_in line (e ∷ es) =
     record { line = line; name = e.name; number = e.number } ∷ set_in (line + 1) es
 
-no_threads : (U : List Task) (order : List ℕ) (locks : List (List ℕ)) (line : ℕ)
-    → threads_of (rows_of line (mutexes_in U order locks)) ≡ []
-no_threads U order [] line = refl
-no_threads U order (lock ∷ locks) line = no_threads U order locks (line + 1)
+no_threads : (U : List Task) (base : ℕ) (order : List ℕ) (locks : List (List ℕ)) (line : ℕ)
+    → threads_of (rows_of line (mutexes_in U base order locks)) ≡ []
+no_threads U base order [] line = refl
+no_threads U base order (lock ∷ locks) line = no_threads U base order locks (line + 1)
 
-threads_rows : (U : List Task) (order whole : List ℕ) (locks : List (List ℕ)) (line level : ℕ)
-    → threads_of (rows_of line (threads_in U level order ++ mutexes_in U whole locks))
+threads_rows : (U : List Task) (base : ℕ) (order whole : List ℕ) (locks : List (List ℕ))
+    (line level : ℕ)
+    → threads_of (rows_of line (threads_in U level order ++ mutexes_in U base whole locks))
     ≡ set_in line (threads_in U level order)
-threads_rows U [] whole locks line level = no_threads U whole locks line
-threads_rows U (i ∷ order) whole locks line level =
+threads_rows U base [] whole locks line level = no_threads U base whole locks line
+threads_rows U base (i ∷ order) whole locks line level =
     ap (λ (ss : List Setting). record { line = line; name = (task_at U i).name; number = level }
-    ∷ ss) (threads_rows U order whole locks (line + 1) (level + 1))
+    ∷ ss) (threads_rows U base order whole locks (line + 1) (level + 1))
 
-all_mutexes : (U : List Task) (order : List ℕ) (locks : List (List ℕ)) (line : ℕ)
-    → mutexes_of (rows_of line (mutexes_in U order locks)) ≡ set_in line (mutexes_in U order locks)
-all_mutexes U order [] line = refl
-all_mutexes U order (lock ∷ locks) line =
-    ap (λ (ss : List Setting). record { line = line; name = lock; number = level_of U order lock }
-    ∷ ss) (all_mutexes U order locks (line + 1))
+all_mutexes : (U : List Task) (base : ℕ) (order : List ℕ) (locks : List (List ℕ)) (line : ℕ)
+    → mutexes_of (rows_of line (mutexes_in U base order locks))
+    ≡ set_in line (mutexes_in U base order locks)
+all_mutexes U base order [] line = refl
+all_mutexes U base order (lock ∷ locks) line =
+    ap (λ (ss : List Setting). record {
+      line = line;
+      name = lock;
+      number =
+          ceiling_at U base order lock;
+    } ∷ ss) (all_mutexes U base order locks (line + 1))
 
-mutexes_rows : (U : List Task) (order whole : List ℕ) (locks : List (List ℕ)) (line level : ℕ)
-    → (n : ℕ) × (mutexes_of (rows_of line (threads_in U level order ++ mutexes_in U whole locks))
-    ≡ set_in n (mutexes_in U whole locks))
-mutexes_rows U [] whole locks line level = (line, all_mutexes U whole locks line)
-mutexes_rows U (i ∷ order) whole locks line level =
-    mutexes_rows U order whole locks (line + 1) (level + 1)
+mutexes_rows : (U : List Task) (base : ℕ) (order whole : List ℕ) (locks : List (List ℕ))
+    (line level : ℕ)
+    → (n : ℕ)
+    × (mutexes_of (rows_of line (threads_in U level order ++ mutexes_in U base whole locks))
+    ≡ set_in n (mutexes_in U base whole locks))
+mutexes_rows U base [] whole locks line level = (line, all_mutexes U base whole locks line)
+mutexes_rows U base (i ∷ order) whole locks line level =
+    mutexes_rows U base order whole locks (line + 1) (level + 1)
 
 -- ---- the text
 parts_of : (front name space digits end rest : List ℕ) → (front ++ name ++ space ++ digits ++ end)
@@ -206,23 +215,25 @@ threads_text U (i ∷ order) level rest =
 abbrev HasCeiling : List Task → List ℕ → List ℕ → Type 0
 HasCeiling U order lock = (level : ℕ) × (ceiling_of U order lock ≡ Some level)
 
-mutex_text : (lock rest : List ℕ) (o : Option ℕ) (level : ℕ) → o ≡ Some level
-    → mutex_line lock o ++ rest ≡ (codes "mutex" ++ 32 ∷ (lock ++ 32 ∷ decimal (unwrap_or o 0)))
-    ++ 10 ∷ rest
-mutex_text lock rest o level e =
-    subst (λ (p : Option ℕ). mutex_line lock p ++ rest
-    ≡ (codes "mutex" ++ 32 ∷ (lock ++ 32 ∷ decimal (unwrap_or p 0))) ++ 10 ∷ rest) (sym e)
-    (parts_of (codes "mutex ") lock (codes " ") (decimal level) (codes "\n") rest
-    ∙ sym (whole_of (codes "mutex") lock (decimal level) rest))
+mutex_text : (base : ℕ) (lock rest : List ℕ) (o : Option ℕ) (level : ℕ) → o ≡ Some level
+    → mutex_line lock (option_map (priority_of base) o) ++ rest ≡ (codes "mutex" ++ 32 ∷ (lock
+    ++ 32 ∷ decimal (priority_of base (unwrap_or o 0)))) ++ 10 ∷ rest
+mutex_text base lock rest o level e =
+    subst (λ (p : Option ℕ). mutex_line lock (option_map (priority_of base) p) ++ rest
+    ≡ (codes "mutex" ++ 32 ∷ (lock ++ 32 ∷ decimal (priority_of base (unwrap_or p 0)))) ++ 10
+    ∷ rest) (sym e)
+    (parts_of (codes "mutex ") lock (codes " ") (decimal (priority_of base level)) (codes "\n") rest
+    ∙ sym (whole_of (codes "mutex") lock (decimal (priority_of base level)) rest))
 
-mutexes_text : (U : List Task) (order : List ℕ) (locks : List (List ℕ)) → AllByRecursion
-    (HasCeiling U order) locks → mutex_lines U order locks ≡ text_of (mutexes_in U order locks)
-mutexes_text U order [] each = refl
-mutexes_text U order (lock ∷ locks) each =
-    ap (λ (t : List ℕ). mutex_line lock (ceiling_of U order lock) ++ t)
-    (mutexes_text U order locks each.1)
-    ∙ mutex_text lock (text_of (mutexes_in U order locks)) (ceiling_of U order lock) each.0.0
-    each.0.1
+mutexes_text : (U : List Task) (base : ℕ) (order : List ℕ) (locks : List (List ℕ))
+    → AllByRecursion (HasCeiling U order) locks
+    → mutex_lines_from U base order locks ≡ text_of (mutexes_in U base order locks)
+mutexes_text U base order [] each = refl
+mutexes_text U base order (lock ∷ locks) each =
+    ap (λ (t : List ℕ). mutex_line lock (option_map (priority_of base) (ceiling_of U order lock))
+    ++ t) (mutexes_text U base order locks each.1)
+    ∙ mutex_text base lock (text_of (mutexes_in U base order locks)) (ceiling_of U order lock)
+    each.0.0 each.0.1
 
 -- ---- the locks of a set
 sections_named : (from cost : ℕ) (ss : List CriticalSection) → AreSections from cost ss
@@ -267,43 +278,48 @@ seen_apart (q ∷ names) seen h =
     by false e = apart_push seen q h (none_each (same_bytes q) seen e)
 
 -- ---- mutexes
-mutexes_apart : (U : List Task) (order : List ℕ) (locks : List (List ℕ)) (line : ℕ) → Apart locks
-    → AreDistinct same_setting_name (set_in line (mutexes_in U order locks))
-mutexes_apart U order [] line apart = tt
-mutexes_apart U order (lock ∷ locks) line apart =
-    (go locks (line + 1) apart.0, mutexes_apart U order locks (line + 1) apart.1)
+mutexes_apart : (U : List Task) (base : ℕ) (order : List ℕ) (locks : List (List ℕ)) (line : ℕ)
+    → Apart locks → AreDistinct same_setting_name (set_in line (mutexes_in U base order locks))
+mutexes_apart U base order [] line apart = tt
+mutexes_apart U base order (lock ∷ locks) line apart =
+    (go locks (line + 1) apart.0, mutexes_apart U base order locks (line + 1) apart.1)
   where
     go : (qs : List (List ℕ)) (n : ℕ) → AllByRecursion (λ q. same_bytes lock q ≡ false) qs
-        → AllByRecursion (λ s. same_bytes lock s.name ≡ false) (set_in n (mutexes_in U order qs))
+        → AllByRecursion (λ s. same_bytes lock s.name ≡ false)
+        (set_in n (mutexes_in U base order qs))
     go [] n h = tt
     go (q ∷ qs) n h = (h.0, go qs (n + 1) h.1)
 
-known_locks : (U : List Task) (order : List ℕ) (locks : List (List ℕ)) (line : ℕ)
+known_locks : (U : List Task) (base : ℕ) (order : List ℕ) (locks : List (List ℕ)) (line : ℕ)
     → AllByRecursion (λ lock. list_any (same_bytes lock) (locks_of U) ≡ true) locks
-    → AllByRecursion (λ s. is_no_lock U s ≡ false) (set_in line (mutexes_in U order locks))
-known_locks U order [] line h = tt
-known_locks U order (lock ∷ locks) line h =
-    (position_some (same_bytes lock) (locks_of U) h.0, known_locks U order locks (line + 1) h.1)
+    → AllByRecursion (λ s. is_no_lock U s ≡ false) (set_in line (mutexes_in U base order locks))
+known_locks U base order [] line h = tt
+known_locks U base order (lock ∷ locks) line h = (
+  position_some (same_bytes lock) (locks_of U) h.0,
+  known_locks U base order locks (line + 1) h.1,
+)
 
-set_lock : (U : List Task) (order : List ℕ) (locks : List (List ℕ)) (line : ℕ) (lock : List ℕ)
+set_lock : (U : List Task) (base : ℕ) (order : List ℕ) (locks : List (List ℕ)) (line : ℕ)
+    (lock : List ℕ)
     → list_any (same_bytes lock) locks ≡ true
-    → is_set (set_in line (mutexes_in U order locks)) lock ≡ true
-set_lock U order [] line lock h = absurd (true≢false (sym h))
-set_lock U order (q ∷ locks) line lock h =
+    → is_set (set_in line (mutexes_in U base order locks)) lock ≡ true
+set_lock U base order [] line lock h = absurd (true≢false (sym h))
+set_lock U base order (q ∷ locks) line lock h =
     elim (or_cases (same_bytes lock q) (list_any (same_bytes lock) locks) h) [
       | inl here ↦ or_left _ _ (turned q lock ∙ here)
-      | inr later ↦ or_right _ _ (set_lock U order locks (line + 1) lock later)
+      | inr later ↦ or_right _ _ (set_lock U base order locks (line + 1) lock later)
     ]
 
-pub number_lock : (U : List Task) (order : List ℕ) (locks : List (List ℕ)) (line : ℕ)
+pub number_lock : (U : List Task) (base : ℕ) (order : List ℕ) (locks : List (List ℕ)) (line : ℕ)
     (lock : List ℕ) → list_any (same_bytes lock) locks ≡ true
-    → setting_number (set_in line (mutexes_in U order locks)) lock ≡ level_of U order lock
-number_lock U order [] line lock h = absurd (true≢false (sym h))
-number_lock U order (q ∷ locks) line lock h = elim (cases_Bool (same_bytes q lock)) [
+    → setting_number (set_in line (mutexes_in U base order locks)) lock
+    ≡ ceiling_at U base order lock
+number_lock U base order [] line lock h = absurd (true≢false (sym h))
+number_lock U base order (q ∷ locks) line lock h = elim (cases_Bool (same_bytes q lock)) [
   | inl here ↦
-      ap (λ b. cond b (level_of U order q)
-      (setting_number (set_in (line + 1) (mutexes_in U order locks)) lock)) here
-      ∙ ap (λ name. level_of U order name) (same_is q lock here)
+      ap (λ b. cond b (ceiling_at U base order q)
+      (setting_number (set_in (line + 1) (mutexes_in U base order locks)) lock)) here
+      ∙ ap (λ name. ceiling_at U base order name) (same_is q lock here)
   | inr other ↦
       let later : list_any (same_bytes lock) locks ≡ true =
       elim (or_cases (same_bytes lock q) (list_any (same_bytes lock) locks) h) [
@@ -311,9 +327,9 @@ number_lock U order (q ∷ locks) line lock h = elim (cases_Bool (same_bytes q l
             absurd (both_ways (same_bytes q lock) other (turned q lock ∙ same))
         | inr more ↦ more
       ] in
-      ap (λ b. cond b (level_of U order q)
-      (setting_number (set_in (line + 1) (mutexes_in U order locks)) lock)) other
-      ∙ number_lock U order locks (line + 1) lock later
+      ap (λ b. cond b (ceiling_at U base order q)
+      (setting_number (set_in (line + 1) (mutexes_in U base order locks)) lock)) other
+      ∙ number_lock U base order locks (line + 1) lock later
 ]
 
 -- where each lock has a mutex, none lacks one
@@ -454,32 +470,31 @@ module _ (U : List Task) (kept : IsTaskSet U) where
       ∙ number_place (without_index L i) above (line + 1) (level + 1) p
       (without-part_of (length U) L i part) rest (omega arith) ∙ omega arith
 
-  entries_named : (order : List ℕ) (level : ℕ) → AllByRecursion (λ i. i < length U) order → 1
-      ≤ level → level + length order ≤ 1000001 → AllByRecursion IsEntry (threads_in U level order)
+  entries_named : (order : List ℕ) (level : ℕ) → AllByRecursion (λ i. i < length U) order
+      → 1 ≤ level → level + length order ≤ NUMBER_LIMIT + 1
+      → AllByRecursion IsEntry (threads_in U level order)
   entries_named [] level each some few = tt
   entries_named (i ∷ order) level each some few = (
     record { named = (valid_at U i kept each.0).named; some = some; within = omega arith },
     entries_named order (level + 1) each.1 (omega arith) (omega arith),
   )
 
-  module _ (order : List ℕ) (each : IsOrder U order) where
-    few_levels : length order ≤ 32
-    few_levels = omega (arith, order-few (length U) (all_of U) order each (λ k h. h), kept.few)
-
+  module _ (base : ℕ) (order : List ℕ) (each : IsOrder U order) (some : 1 ≤ base)
+      (few : base + length order ≤ NUMBER_LIMIT + 1) where
     -- a task of the set stands at a place
     place_in : (k : ℕ) → k < length U → (j : ℕ) × (j < length order) × (get_or order j 0 ≡ k)
     place_in k lt = place_of order k
         (ap (λ X. X k) (IsOrderOf-among (all_of U) order each) ∙ lt-ltb k (length U) lt)
 
     number_in_order : (line p : ℕ) → p < length order
-        → thread_number U (set_in line (threads_in U 1 order)) (get_or order p 0) ≡ 1 + p
-    number_in_order line p lt = number_place (all_of U) order line 1 p (λ k h. h) each lt
+        → thread_number U (set_in line (threads_in U base order)) (get_or order p 0) ≡ base + p
+    number_in_order line p lt = number_place (all_of U) order line base p (λ k h. h) each lt
 
-    rising : (line : ℕ) → IsOrderBy U (set_in line (threads_in U 1 order)) order
+    rising : (line : ℕ) → IsOrderBy U (set_in line (threads_in U base order)) order
     rising line = record {
       each_once = each;
       rises = λ k lt.
-          let f : ℕ → ℕ = thread_number U (set_in line (threads_in U 1 order)) in
+          let f : ℕ → ℕ = thread_number U (set_in line (threads_in U base order)) in
           let next : k + 1 < length order = omega (arith, lt, length-map order f) in
           let here : k < length order = omega arith in
           rw (get_or-map f order k 0 0 here, get_or-map f order (k + 1) 0 0 next)
@@ -492,56 +507,61 @@ module _ (U : List Task) (kept : IsTaskSet U) where
     ceilings_of [] h = tt
     ceilings_of (lock ∷ locks) h = (has_ceiling lock U order each h.0, ceilings_of locks h.1)
 
-    level_within : (lock : List ℕ) → HasCeiling U order lock → (1 ≤ level_of U order lock)
-        × (level_of U order lock ≤ 32)
-    level_within lock has =
+    -- it is the number of the thread of the lock's highest user
+    ceiling_is : (lock : List ℕ) → HasCeiling U order lock → (place : ℕ)
+        × IsHighestUser U order lock place × (ceiling_at U base order lock ≡ base + place)
+    ceiling_is lock has =
         let high = (ceiling-highest U lock order has.0).0 has.1 in
-        let is : level_of U order lock ≡ has.0 = ap (λ o. unwrap_or o 0) has.1 in
-        (omega (arith, is, high.1), omega (arith, is, high.1, high.2.in_order, few_levels))
+        let is : ceiling_at U base order lock ≡ priority_of base has.0 =
+        ap (λ o. priority_of base (unwrap_or o 0)) has.1 in
+        (high.0, high.2, is ∙ omega (arith, high.1))
 
     mutexes_named : (locks : List (List ℕ)) → AllByRecursion IsName locks → AllByRecursion
-        (HasCeiling U order) locks → AllByRecursion IsEntry (mutexes_in U order locks)
+        (HasCeiling U order) locks → AllByRecursion IsEntry (mutexes_in U base order locks)
     mutexes_named [] h g = tt
     mutexes_named (lock ∷ locks) h g =
-        let within = level_within lock g.0 in (
-          record { named = h.0; some = within.0; within = omega (arith, within.1) },
-          mutexes_named
-              locks h.1 g.1,
+        let high = ceiling_is lock g.0 in (
+          record {
+            named = h.0;
+            some = omega (arith, high.2);
+            within = omega (arith, high.1.in_order, high.2);
+          },
+          mutexes_named locks h.1 g.1,
         )
 
     -- the number of a lock's highest user is its ceiling
     top_is : (line : ℕ) (lock : List ℕ) → HasCeiling U order lock
-        → top_number U (set_in line (threads_in U 1 order)) lock ≡ level_of U order lock
+        → top_number U (set_in line (threads_in U base order)) lock ≡ ceiling_at U base order lock
     top_is line lock has =
-        let threads = set_in line (threads_in U 1 order) in
+        let threads = set_in line (threads_in U base order) in
         let f : ℕ → ℕ = λ k. cond (uses (task_at U k) lock) (thread_number U threads k) 0 in
-        let high = (ceiling-highest U lock order has.0).0 has.1 in
-        let is : level_of U order lock ≡ has.0 = ap (λ o. unwrap_or o 0) has.1 in
+        let high = ceiling_is lock has in
+        let level : ℕ = ceiling_at U base order lock in
         let i : ℕ = get_or order high.0 0 in
         let lt : i < length U =
         ltb-true i (length U) (ap (λ X. X i) (sym (IsOrderOf-among (all_of U) order each))
-        ∙ among_at order high.0 high.2.in_order) in
-        let value : f i ≡ 1 + high.0 = ap (λ b. cond b (thread_number U threads i) 0) high.2.user
-        ∙ number_in_order line high.0 high.2.in_order in
-        let above : has.0 ≤ greatest_below (length U) f =
-        omega (arith, le-greatest_below (length U) f i lt, value, high.1) in
-        let below : greatest_below (length U) f ≤ has.0 = greatest_below-le (length U) f has.0
+        ∙ among_at order high.0 high.1.in_order) in
+        let value : f i ≡ base + high.0 = ap (λ b. cond b (thread_number U threads i) 0) high.1.user
+        ∙ number_in_order line high.0 high.1.in_order in
+        let above : level ≤ greatest_below (length U) f =
+        omega (arith, le-greatest_below (length U) f i lt, value, high.2) in
+        let below : greatest_below (length U) f ≤ level = greatest_below-le (length U) f level
         (λ k within. elim (cases_Bool (uses (task_at U k) lock)) [
           | inl user ↦
               let place = place_in k within in
-              let number : thread_number U threads k ≡ 1 + place.0 = ap (thread_number U threads)
+              let number : thread_number U threads k ≡ base + place.0 = ap (thread_number U threads)
               (sym place.2) ∙ number_in_order line place.0 place.1 in
               let here : f k ≡ thread_number U threads k =
               ap (λ b. cond b (thread_number U threads k) 0) user in
               elim (cases_lt high.0 place.0) [
                 | inl past ↦ absurd (both_ways (uses (task_at U k) lock) (subst (λ j. uses (task_at
-                    U j) lock ≡ false) place.2 (high.2.none_above place.0 past place.1)) user)
-                | inr le ↦ omega (arith, here, number, high.1, le)
+                    U j) lock ≡ false) place.2 (high.1.none_above place.0 past place.1)) user)
+                | inr le ↦ omega (arith, here, number, high.2, le)
               ]
           | inr other ↦ let here : f k ≡ 0 = ap (λ b. cond b (thread_number U threads k) 0) other in
               omega (arith, here)
         ]) in
-        omega (arith, above, below, is)
+        omega (arith, above, below)
 
     -- ---- the settings of the order
     abbrev locks : List (List ℕ)
@@ -552,47 +572,47 @@ module _ (U : List Task) (kept : IsTaskSet U) where
     IsLock lock = list_any (same_bytes lock) (locks_of U) ≡ true
 
     abbrev entries : List Entry
-    entries = threads_in U 1 order ++ mutexes_in U order (locks_of U)
+    entries = threads_in U base order ++ mutexes_in U base order (locks_of U)
 
     each_lock : AllByRecursion IsLock (locks_of U)
     each_lock = self_in [] (locks_of U)
 
-    text_is : settings_lines U order ≡ text_of entries
+    text_is : settings_from U base order ≡ text_of entries
     text_is =
-        ap (λ (t : List ℕ). thread_lines U 1 order ++ t)
-        (mutexes_text U order (locks_of U) (ceilings_of (locks_of U) each_lock))
-        ∙ threads_text U order 1 (mutexes_in U order (locks_of U))
+        ap (λ (t : List ℕ). thread_lines U base order ++ t)
+        (mutexes_text U base order (locks_of U) (ceilings_of (locks_of U) each_lock))
+        ∙ threads_text U order base (mutexes_in U base order (locks_of U))
 
     are_entries : AllByRecursion IsEntry entries
     are_entries =
-        each_append IsEntry (threads_in U 1 order) (mutexes_in U order (locks_of U))
-        (entries_named order 1 (order-below (length U) (all_of U) order each (λ k h. h))
-        (omega arith) (omega (arith, few_levels)))
+        each_append IsEntry (threads_in U base order) (mutexes_in U base order (locks_of U))
+        (entries_named order base (order-below (length U) (all_of U) order each (λ k h. h)) some
+        few)
         (mutexes_named (locks_of U) (seen_named (names_in U) [] (names_named U (recursion_from_All
         IsValidSheet U kept.valid)) tt) (ceilings_of (locks_of U) each_lock))
 
-    read : rows_in (settings_lines U order) ≡ Ok (rows_of 1 entries)
+    read : rows_in (settings_from U base order) ≡ Ok (rows_of 1 entries)
     read = ap rows_in text_is ∙ entries_read 1 entries are_entries
 
     module _ (n : ℕ) where
       abbrev threads : List Setting
-      threads = set_in 1 (threads_in U 1 order)
+      threads = set_in 1 (threads_in U base order)
 
       abbrev mutexes : List Setting
-      mutexes = set_in n (mutexes_in U order (locks_of U))
+      mutexes = set_in n (mutexes_in U base order (locks_of U))
 
       no_line : line_fault U threads mutexes ≡ None
       no_line =
           let tasks = ap (option_map (λ (s : Setting). s.line)) (find_none (is_no_task U) threads
-          (known_threads (all_of U) order 1 1 (λ k h. h) each)) in
+          (known_threads (all_of U) order 1 base (λ k h. h) each)) in
           let held = ap (option_map (λ (s : Setting). s.line))
-          (find_none (is_no_lock U) mutexes (known_locks U order (locks_of U) n each_lock)) in
+          (find_none (is_no_lock U) mutexes (known_locks U base order (locks_of U) n each_lock)) in
           let names = again_none same_setting_name [] threads (unseen same_setting_name threads)
-          (threads_apart (all_of U) order 1 1 (λ k h. h) each) in
+          (threads_apart (all_of U) order 1 base (λ k h. h) each) in
           let lock_names = again_none same_setting_name [] mutexes (unseen same_setting_name
-          mutexes) (mutexes_apart U order (locks_of U) n (seen_apart (names_in U) [] tt)) in
+          mutexes) (mutexes_apart U base order (locks_of U) n (seen_apart (names_in U) [] tt)) in
           let numbers = again_none same_number [] threads (unseen same_number threads)
-          (numbers_apart U order 1 1) in
+          (numbers_apart U order 1 base) in
           rw (tasks, held, names, lock_names, numbers) refl
 
       has_thread : (k : ℕ) (d : Task) → k < length U
@@ -602,13 +622,13 @@ module _ (U : List Task) (kept : IsTaskSet U) where
           let member : among order k ≡ true = ap (λ j. among order j) (sym place.2)
           ∙ among_at order place.0 place.1 in
           ap (λ (t : Task). not (is_set threads t.name)) (get_or_default U k d no_task lt)
-          ∙ ap not (set_thread U order 1 1 k member)
+          ∙ ap not (set_thread U order 1 base k member)
 
       right_number : (lock : List ℕ) → IsLock lock
           → not (setting_number mutexes lock == top_number U threads lock) ≡ false
       right_number lock is =
           ap not (eq-eqb (setting_number mutexes lock) (top_number U threads lock)
-          (number_lock U order (locks_of U) n lock is
+          (number_lock U base order (locks_of U) n lock is
           ∙ sym (top_is 1 lock (has_ceiling lock U order each is))))
 
       no_name : name_fault false U threads mutexes ≡ None
@@ -619,23 +639,23 @@ module _ (U : List Task) (kept : IsTaskSet U) where
           let held =
           mutexless_none (locks_of U) mutexes (find_none (λ lock. not (is_set mutexes lock))
           (locks_of U) (each_to IsLock (λ lock. not (is_set mutexes lock) ≡ false) (locks_of U)
-          (λ lock is. ap not (set_lock U order (locks_of U) n lock is)) each_lock)) in
+          (λ lock is. ap not (set_lock U base order (locks_of U) n lock is)) each_lock)) in
           let right = wrong_none U (locks_of U) threads mutexes
           (find_none (λ lock. not (setting_number mutexes lock == top_number U threads lock))
           (locks_of U) (each_to IsLock (λ lock. not (setting_number mutexes lock
           == top_number U threads lock) ≡ false) (locks_of U) right_number each_lock)) in
           rw (tasks, held, right) refl
 
-    pub comes_back : IsNodeOrder U (settings_lines U order) order
+    pub comes_back : IsNodeOrder U (settings_from U base order) order
     comes_back =
-        let lines = threads_rows U order order (locks_of U) 1 1 in
-        let more = mutexes_rows U order order (locks_of U) 1 1 in
+        let lines = threads_rows U base order order (locks_of U) 1 base in
+        let more = mutexes_rows U base order order (locks_of U) 1 base in
         record {
           sound = ap (rows_fault false U) read
               ∙ ap (λ (ts : List Setting). setting_fault false U ts
               (mutexes_of (rows_of 1 entries))) lines
-              ∙ ap (λ (ms : List Setting). setting_fault false U (set_in 1 (threads_in U 1 order))
-              ms) more.1
+              ∙ ap (λ (ms : List Setting). setting_fault false U
+              (set_in 1 (threads_in U base order)) ms) more.1
               ∙ rw (no_line more.0) (no_name more.0);
           rows = rows_of 1 entries;
           read = read;

@@ -1,5 +1,5 @@
 -- The lines of settings: what a node's threads and mutexes are set to (POSIX.1-2017, SCHED_FIFO and
--- PTHREAD_PRIO_PROTECT). A greater number is a higher priority.
+-- PTHREAD_PRIO_PROTECT).
 use Rattle.std.specs.Prelude.{ℕ, ◌+◌, ◌-◌, Bool, true, false, ◌&&◌, nat_le, List, [], ◌∷◌, Option, Some, None, Result, bytes_eq, codes, map, if◌then◌else◌}
 use Rattle.lines.specs.Lines.{kept_lines, rows_by}
 use Rattle.lines.specs.Words.{name_in, number_in}

@@ -12,10 +12,8 @@ ghost use Rattle.judge.specs.Judgements.{AllJudged, IsJudgementOf, order_judged}
 use crate::judging::{JudgedTask, Judgement};
 use crate::missed::{missed_account, missed_text};
 use crate::text::push_judged;
-use assignment::members_of;
 use ceilings::Tabled;
-use explain::{Account, load, parts_of, parts_text};
-use lines::push_name;
+use explain::{Account, push_account, push_load, response_account};
 use std::alloc::{AllocError, Global};
 use task_sheet::TaskSet;
 
@@ -54,18 +52,8 @@ fn account_of(
     ensures { IfOk result (IsResponseAccount set.now (order_judged above.now)
         (record { task = task; response = response })) }
 {
-    let sheet = &set.sheets()[task];
-    let mut order = order_of(alloc, above)?;
-    let members = members_of(&order);
-    order.reverse();
-    let window = response - sheet.jitter();
-    let parts = parts_of(alloc, set, task, members, &order, window)?;
-    Ok(Account {
-        task,
-        time: response,
-        deadline: sheet.deadline(),
-        parts,
-    })
+    let order = order_of(alloc, above)?;
+    response_account(alloc, set, task, response, order)
 }
 
 // The lines of a response at a level, which has a number.
@@ -78,14 +66,8 @@ fn account_text(
     ensures { IfOk result (λ text. string_bytes text
         ≡ level_account_lines set.now number account) }
 {
-    let task = account.task;
-    let time = account.time;
-    let deadline = account.deadline;
-    let parts = parts_text(alloc, set, &account)?;
     let mut text = format!(in alloc; "{number} ")?;
-    push_name(&mut text, set, task)?;
-    writeln!(text, " {time} of {deadline}")?;
-    text.push_str(parts.as_str())?;
+    push_account(&mut text, set, &account)?;
     Ok(text)
 }
 
@@ -219,16 +201,13 @@ pub fn levels_text(
 }
 
 // The load of a set, where no task is named.
-fn push_load(text: &mut String, set: &TaskSet, asked: Option<usize>) -> Result<(), AllocError>
+fn push_load_asked(text: &mut String, set: &TaskSet, asked: Option<usize>) -> Result<(), AllocError>
     ensures { OnOk result (string_bytes text.new ≡ string_bytes text.old
         ++ load_asked set.now asked) }
 {
     match asked {
         Some(_) => Ok(()),
-        None => {
-            let load = load(set);
-            writeln!(text, "load {load}")
-        }
+        None => push_load(text, set),
     }
 }
 
@@ -245,6 +224,6 @@ pub fn explained_text(
     ensures { IfOk result (λ text. AreExplained set.now asked judged.now (string_bytes text)) }
 {
     let mut text = levels_text(alloc, set, Parted::Each, asked, judged)?;
-    push_load(&mut text, set.tasks(), asked)?;
+    push_load_asked(&mut text, set.tasks(), asked)?;
     Ok(text)
 }

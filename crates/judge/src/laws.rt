@@ -1,14 +1,15 @@
 //! Laws of orders that a node has. Each is the contract of a function that does nothing.
-ghost use Rattle.std.specs.Prelude.{◌≡◌, ◌↔◌, ℕ, Bool, List, IsTrue};
+ghost use Rattle.std.specs.Prelude.{◌≡◌, ◌↔◌, ◌+◌, ◌≤◌, ℕ, Bool, List, length, IsTrue};
 ghost use Rattle.task_sheet.specs.Sheet.{Task, AllTasks};
 ghost use Rattle.task_sheet.specs.TaskSet.{IsTaskSet};
 ghost use Rattle.task_sheet.specs.Orders.{AllStand, IsOrder};
 ghost use Rattle.assignment.specs.Places.{PlaceData};
 ghost use Rattle.assignment.specs.Placings.{IsBestPlacing, tasks_of_places};
-ghost use Rattle.settings.specs.Settings.{settings_lines};
+ghost use Rattle.settings.specs.Settings.{settings_from};
 ghost use Rattle.judge.specs.Judgements.{AllJudged, all_meet, judged_of, order_judged};
 ghost use Rattle.judge.specs.Node.{IsNodeOrder, IsNodeOrderBy};
 ghost use Rattle.judge.specs.declared.judging.JudgedTask.{JudgedTask};
+ghost use Rattle.judge.specs.declared.rows.TheConstants.{NUMBER_LIMIT};
 
 /// An order is judged in one way at most.
 pub fn judged_is_one()
@@ -37,17 +38,19 @@ pub fn node_order_is_one()
         → IsNodeOrderBy lower U text first → IsNodeOrderBy lower U text second → first ≡ second }
 {}
 
-/// What the settings of an order print gives the order back, for each order of a set, passing or not.
+/// What the settings of an order print gives the order back, for each order of a set, passing or not, and from each
+/// base at which no priority is above the limit.
 pub fn settings_are_read()
-    ensures { (U : List Task) (order : List ℕ) → IsTaskSet U → IsOrder U order
-        → IsNodeOrder U (settings_lines U order) order }
+    ensures { (U : List Task) (base : ℕ) (order : List ℕ) → IsTaskSet U → IsOrder U order
+        → 1 ≤ base → base + length order ≤ NUMBER_LIMIT + 1
+        → IsNodeOrder U (settings_from U base order) order }
 {}
 
 /// What the settings of the best order print is judged to meet all deadlines, with the responses that its placing has;
-/// and in no other way.
+/// and in no other way. So from each base at which no priority is above the limit.
 pub fn best_settings_meet()
-    ensures { (U : List Task) (places : List PlaceData) (judged : List JudgedTask) → IsTaskSet U
-        → IsBestPlacing U places
-        → IsNodeOrder U (settings_lines U (tasks_of_places places)) (order_judged judged)
+    ensures { (U : List Task) (base : ℕ) (places : List PlaceData) (judged : List JudgedTask) → IsTaskSet U
+        → IsBestPlacing U places → 1 ≤ base → base + length places ≤ NUMBER_LIMIT + 1
+        → IsNodeOrder U (settings_from U base (tasks_of_places places)) (order_judged judged)
         → AllJudged U judged → judged ≡ judged_of places }
 {}

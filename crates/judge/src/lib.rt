@@ -25,6 +25,6 @@ pub use crate::judging::{JudgedTask, Judgement, all_meet, judge_order};
 pub use crate::kept::read_kept;
 pub use crate::node::{JudgedNode, judge_rows, judge_settings};
 pub use crate::places::places_of;
-pub use crate::reading::{order_of_rows, read_settings, read_settings_by};
+pub use crate::reading::order_of_rows;
 pub use crate::rows::{NUMBER_LIMIT, Setting, SettingRow};
 pub use crate::text::{first_text, judged_text};

@@ -1,43 +1,14 @@
-//! Reading settings.
+//! The order that settings give.
 ghost use Rattle.std.specs.Prelude.{Ok, MatchResult};
-ghost use Rattle.judge.specs.Faults.{IsSettingsFault, rows_fault, settings_fault, settings_fault_by};
-ghost use Rattle.judge.specs.Node.{IsNodeOrder, IsNodeOrderBy, IsOrderOfRows};
+ghost use Rattle.judge.specs.Faults.{IsSettingsFault, rows_fault};
+ghost use Rattle.judge.specs.Node.{IsOrderOfRows};
 
 use crate::fault::SettingsFault;
 use crate::order::order_by;
-use crate::rows::{SettingRow, by_height, read_rows, sort_rows};
+use crate::rows::{SettingRow, by_height, sort_rows};
 use crate::settings_fault::setting_fault;
 use ceilings::Tabled;
 use std::alloc::Global;
-
-/// Reads what a node is set to: the order that the numbers of its threads give, as indexes, the lowest first. Refused in
-/// the order of `SettingsFault`.
-pub fn read_settings(
-    alloc: Global,
-    set: &Tabled<'_>,
-    text: &[u8],
-) -> Result<Vec<usize>, SettingsFault>
-    ensures { MatchResult result
-        (λ order. IsNodeOrder set.now text.now order.items)
-        (λ fault. IsSettingsFault fault (settings_fault set.now text.now)) }
-{
-    read_settings_by(alloc, set, false, text)
-}
-
-/// The same, where a smaller number may be the higher one.
-pub fn read_settings_by(
-    alloc: Global,
-    set: &Tabled<'_>,
-    lower_is_higher: bool,
-    text: &[u8],
-) -> Result<Vec<usize>, SettingsFault>
-    ensures { MatchResult result
-        (λ order. IsNodeOrderBy lower_is_higher set.now text.now order.items)
-        (λ fault. IsSettingsFault fault (settings_fault_by lower_is_higher set.now text.now)) }
-{
-    let rows = read_rows(alloc, text)?;
-    order_of_rows(alloc, set, lower_is_higher, &rows)
-}
 
 /// The order that rows of settings give, as indexes, the lowest first; a smaller number may be the higher one. Refused in
 /// the order of `SettingsFault`, but for `BadLine`.

@@ -18,7 +18,7 @@ pub struct Setting {
     pub line: u64,
     /// That of the thread's task, or of the mutex's lock.
     pub name: Name,
-    /// From 1 to `NUMBER_LIMIT`; a greater one is higher.
+    /// From 1 to `NUMBER_LIMIT`, as the line has it; which way it counts the reader says.
     pub number: u64,
 }
 

@@ -301,7 +301,6 @@ fn factor_in(
     placing: &Placing,
     order: &[usize],
 ) -> Result<Option<u64>, AllocError>
-    requires kept { IsTaskSet set.now }
     requires some { 0 < length set.now }
     requires placing { HasPassing set.now placing.now }
     requires order { order.now ≡ order_in placing.now }
@@ -324,7 +323,6 @@ fn factor_text(
     own: Option<u64>,
     most: Option<u64>,
 ) -> Result<String, AllocError>
-    requires kept { IsTaskSet set.now }
     requires some { 0 < length set.now }
     requires most { AnswersFactor set.now most }
     ensures { IfOk result (λ text. IsFactorLine set.now own most (string_bytes text)) }

@@ -4,4 +4,5 @@ pub mod NumberLaws
 pub mod SpanLaws
 pub mod TableLaws
 pub mod Steps
+pub mod Answered
 pub mod NodeLaws

@@ -14,6 +14,7 @@ use Rattle.limits.specs.declared.number.Number.TheVariants.{Cost, Period, Deadli
 use Rattle.limits.specs.Easier.{AreShorter, IsEasier, AreEasier}
 use Rattle.limits.specs.Numbers.{no_section, with_len, value_of, with_number, IsNoFurther, numbered}
 use Rattle.limits.specs.Numbers.{MayHave, IsFurthest, NoneHelps}
+use Rattle.limits.specs.InOrder.{IsFurthestIn}
 use Rattle.limits.proofs.EasierLaws.{AreCheaper-refl, IsPassingOrder-easier, IsFeasible-easier}
 use Rattle.limits.proofs.NearLaws.{AreShorter-refl}
 use Rattle.headroom.proofs.PlacedLaws.{IsNamesake, AllTasks-placed}
@@ -213,3 +214,34 @@ pub IsOrder-numbered : (U : List Task) (i : ℕ) (number : Number) (value : ℕ)
     → IsOrder U order → IsOrder (numbered U i number value) order
 IsOrder-numbered U i number value order each k = each k
     ∙ ap (λ n. cond (below n k) 1 0) (sym (length-set U i (with_number number (task_at U i) value)))
+
+-- ---- what the furthest in an order says
+pub in_order-each : (U : List Task) (order : List ℕ) (i : ℕ) (number : Number) (most value : ℕ)
+    → IsTaskSet U → i < length U → IsFurthestIn U order i number most → MayHave U i number value
+    → IsPassingOrder (numbered U i number value) order ↔ IsNoFurther number value most
+in_order-each U order i number most value set inside is may = (
+  is.furthest value may,
+  λ le. IsPassingOrder-nearer U i number value most order set inside is.may le
+      is.passes,
+)
+
+pub in_order-own : (U : List Task) (order : List ℕ) (i : ℕ) (number : Number) (most : ℕ)
+    → IsTaskSet U → i < length U → IsFurthestIn U order i number most
+    → IsPassingOrder U order ↔ IsNoFurther number (value_of number (task_at U i)) most
+in_order-own U order i number most set inside is =
+    subst (λ (V : List Task). IsPassingOrder V order
+    ↔ IsNoFurther number (value_of number (task_at U i)) most) (numbered-own U i number set inside)
+    (in_order-each U order i number most (value_of number (task_at U i)) set inside is
+    (may-own U i number set inside))
+
+pub in_order-one : (U : List Task) (order : List ℕ) (i : ℕ) (number : Number) (first second : ℕ)
+    → IsFurthestIn U order i number first → IsFurthestIn U order i number second
+    → first ≡ second
+in_order-one U order i number first second f s = same-far number first second
+    (s.furthest first f.may f.passes) (f.furthest second s.may s.passes)
+
+pub in_order-within : (U : List Task) (order : List ℕ) (i : ℕ) (number : Number) (most any : ℕ)
+    → IsFurthestIn U order i number most → IsFurthest U i number any
+    → IsNoFurther number most any
+in_order-within U order i number most any is other =
+    other.furthest most is.may (order, is.passes)

@@ -22,11 +22,7 @@ pub fn order_passes(set: &Tabled<'_>, order: &[usize]) -> bool
     let mut above = Members::all(set.len());
     for low in order {
         above = above.without(*low);
-        match least_over(set, *low, above) {
-            Some(_) => return false,
-            None => {}
-        }
-        if !passes(set, *low, above) {
+        if least_over(set, *low, above).is_some() || !passes(set, *low, above) {
             return false;
         }
     }

@@ -11,6 +11,7 @@ ghost use Rattle.overheads.specs.Padding.{IsLighter, IsUnpadded, padded, padding
 ghost use Rattle.limits.specs.Easier.{AreEasier};
 ghost use Rattle.limits.specs.declared.number.Number.{Number};
 ghost use Rattle.limits.specs.Numbers.{HasNumber, value_of, numbered, MayHave, IsNoFurther, IsFurthest, NoneHelps};
+ghost use Rattle.limits.specs.InOrder.{IsFurthestIn};
 
 /// To ask less takes no order away: with no cost, no jitter and no section longer, no timer or interrupt that takes
 /// more, no period shorter and no deadline earlier, no blocking and no demand is greater, no limit is less, and an order
@@ -61,4 +62,23 @@ pub fn furthest_decides()
         → IsFurthest U i number first → IsFurthest U i number second → first ≡ second }
     ensures none { (U : List Task) (i : ℕ) (number : Number) → IsTaskSet U → i < length U
         → HasNumber (task_at U i) number → NoneHelps U i number → ¬ IsFeasible U }
+{}
+
+/// The same of a given order: with a value that its sheet may have it passes exactly where that is no further than the
+/// furthest in it, and so with its own. There is one at most, and it is no further than that with any order.
+pub fn furthest_in_order_decides()
+    ensures each { (U : List Task) (order : List ℕ) (i : ℕ) (number : Number) (most value : ℕ)
+        → IsTaskSet U → i < length U
+        → IsFurthestIn U order i number most → MayHave U i number value
+        → IsPassingOrder (numbered U i number value) order ↔ IsNoFurther number value most }
+    ensures own { (U : List Task) (order : List ℕ) (i : ℕ) (number : Number) (most : ℕ) → IsTaskSet U
+        → i < length U
+        → HasNumber (task_at U i) number → IsFurthestIn U order i number most
+        → IsPassingOrder U order ↔ IsNoFurther number (value_of number (task_at U i)) most }
+    ensures one { (U : List Task) (order : List ℕ) (i : ℕ) (number : Number) (first second : ℕ)
+        → IsFurthestIn U order i number first → IsFurthestIn U order i number second
+        → first ≡ second }
+    ensures within { (U : List Task) (order : List ℕ) (i : ℕ) (number : Number) (most any : ℕ)
+        → IsFurthestIn U order i number most → IsFurthest U i number any
+        → IsNoFurther number most any }
 {}

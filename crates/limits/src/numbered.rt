@@ -1,5 +1,5 @@
 //! Sets with another value of one number of a task.
-ghost use Rattle.std.specs.Prelude.{◌≡◌, ◌<◌, length, IfOk, IsTrue};
+ghost use Rattle.std.specs.Prelude.{◌≡◌, ◌↔◌, ◌<◌, length, IfOk, IsTrue};
 ghost use Rattle.task_sheet.specs.Sheet.{IsValidSheet, task_at};
 ghost use Rattle.limits.specs.Numbers.{KeepsSections, HasNumber, with_len, with_number, numbered, MayHave};
 
@@ -84,7 +84,7 @@ pub(crate) fn numbered(
 
 /// Whether another value of the number leaves the sections as they are.
 pub(crate) fn keeps_sections(number: Number) -> bool
-    ensures { IsTrue result → KeepsSections number }
+    ensures { IsTrue result ↔ KeepsSections number }
 {
     match number {
         Number::Cost => true,

@@ -8,7 +8,7 @@ ghost use Rattle.limits.specs.Rooms.{room_end};
 use crate::number::Number;
 use ceilings::Tabled;
 use headroom::last_end;
-use task_sheet::{Section, Sheet};
+use task_sheet::{PERIOD_FROM, PERIOD_TO, Section, Sheet};
 
 /// The values from the easiest on.
 #[derive(Clone, Copy)]
@@ -86,15 +86,15 @@ fn span_of(sheet: &Sheet, number: Number) -> Span
             }
         }
         Number::Period => {
-            let least = sheet.cost().max(sheet.jitter() + 1).max(1000);
+            let least = sheet.cost().max(sheet.jitter() + 1).max(PERIOD_FROM);
             Span {
-                easiest: 10_000_000,
-                length: 10_000_000 - least,
+                easiest: PERIOD_TO,
+                length: PERIOD_TO - least,
             }
         }
         Number::Deadline => Span {
-            easiest: 10_000_000,
-            length: 10_000_000 - (sheet.jitter() + 1),
+            easiest: PERIOD_TO,
+            length: PERIOD_TO - (sheet.jitter() + 1),
         },
         Number::Jitter => Span {
             easiest: 0,

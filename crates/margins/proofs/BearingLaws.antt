@@ -3,14 +3,17 @@ use Rattle.std.proofs.Common.{◌≡◌, ◌↔◌, ℕ, zero, suc, ◌<◌, ◌
 use Rattle.std.proofs.Common.{get_or, refl, sym, ◌∙◌, ap, subst, arith}
 use Rattle.std.proofs.lemmas.Bool.{cases_eq}
 use Rattle.std.proofs.lemmas.List.{length-set, get_or_default}
-use Rattle.task_sheet.specs.Sheet.{Task, IsTask, IsValidSheet, AllTasks, no_task, task_at}
+use Rattle.task_sheet.specs.Sheet.{Task, IsValidSheet, AllTasks, no_task, task_at}
 use Rattle.task_sheet.specs.TaskSet.{IsTaskSet}
 use Rattle.task_sheet.specs.Demand.{limit_of}
 use Rattle.task_sheet.specs.Orders.{IsPassingOrder, IsFeasible, IsBest}
 use Rattle.task_sheet.proofs.TaskLaws.{valid_at, IsTask-from_valid}
-use Rattle.headroom.specs.Costs.{with_cost, costed, MayCost, IsHeadroom, IsHeadroomIn}
+use Rattle.headroom.specs.Costs.{with_cost}
 use Rattle.headroom.proofs.CostLaws.{placed-other, placed-same}
-use Rattle.headroom.proofs.OrderLaws.{in_order-within, in_order-each}
+use Rattle.limits.specs.declared.number.Number.TheVariants.{Cost}
+use Rattle.limits.specs.Numbers.{numbered, MayHave, IsFurthest}
+use Rattle.limits.specs.InOrder.{IsFurthestIn}
+use Rattle.limits.proofs.NumberLaws.{in_order-within}
 use Rattle.factor.specs.Factors.{scaled, MayScale, IsFactor}
 use Rattle.factor.proofs.ScaledSets.{count-scaled, scaled-at, valid-at, keeps-scaled}
 use Rattle.preferences.specs.Preferences.{IsPreferred}
@@ -76,15 +79,15 @@ passes-factor U V order most preferred set best is =
 
 -- ---- one cost
 keeps-costed : {R : Type 0} (of : Task → R) → ((t : Task) (cost : ℕ) → of (with_cost t cost) ≡ of t)
-    → (V : List Task) (i cost k : ℕ) → of (task_at (costed V i cost) k) ≡ of (task_at V k)
+    → (V : List Task) (i cost k : ℕ) → of (task_at (numbered V i Cost cost) k) ≡ of (task_at V k)
 keeps-costed of kept [] i cost k = refl
 keeps-costed of kept (t ∷ ts) zero cost zero = kept t cost
 keeps-costed of kept (t ∷ ts) zero cost (suc k) = refl
 keeps-costed of kept (t ∷ ts) (suc i) cost zero = refl
 keeps-costed of kept (t ∷ ts) (suc i) cost (suc k) = keeps-costed of kept ts i cost k
 
-AreRecosted-costed : (V : List Task) (i cost : ℕ) → IsTaskSet V → i < length V → MayCost V i cost
-    → AreRecosted V (costed V i cost)
+AreRecosted-costed : (V : List Task) (i cost : ℕ) → IsTaskSet V → i < length V
+    → MayHave V i Cost cost → AreRecosted V (numbered V i Cost cost)
 AreRecosted-costed V i cost set inside may = record {
   alike = record {
     count = length-set V i (with_cost (task_at V i) cost);
@@ -93,7 +96,7 @@ AreRecosted-costed V i cost set inside may = record {
     outranks = keeps-costed (λ (t : Task). t.outranks) (λ t n. refl) V i cost;
   };
   valid = λ k lt. elim (cases_eq k i) [
-    | inl e ↦ subst IsValidSheet (sym (ap (λ j. task_at (costed V i cost) j) e
+    | inl e ↦ subst IsValidSheet (sym (ap (λ j. task_at (numbered V i Cost cost) j) e
         ∙ placed-same V i (with_cost (task_at V i) cost) inside)) may
     | inr ne ↦ subst IsValidSheet (sym (placed-other V i (with_cost (task_at V i) cost) k ne))
         (valid_at V k set lt)
@@ -101,18 +104,18 @@ AreRecosted-costed V i cost set inside may = record {
 }
 
 pub passes-costed : (U V : List Task) (order : List ℕ) (i cost : ℕ) → IsPreferred Deadline U V
-    → IsTaskSet V → IsBest V order → i < length V → MayCost V i cost
-    → IsPassingOrder (costed V i cost) order ↔ IsFeasible (costed V i cost)
+    → IsTaskSet V → IsBest V order → i < length V → MayHave V i Cost cost
+    → IsPassingOrder (numbered V i Cost cost) order ↔ IsFeasible (numbered V i Cost cost)
 passes-costed U V order i cost preferred set best inside may =
-    passes-recosted V (costed V i cost) (AreRecosted-costed V i cost set inside may) U order
+    passes-recosted V (numbered V i Cost cost) (AreRecosted-costed V i cost set inside may) U order
     preferred set best
 
 pub headroom-same : (U V : List Task) (order : List ℕ) (i within any : ℕ) → IsPreferred Deadline U V
-    → IsTaskSet V → IsBest V order → i < length V → IsHeadroomIn V order i within
-    → IsHeadroom V i any → within ≡ any
+    → IsTaskSet V → IsBest V order → i < length V → IsFurthestIn V order i Cost within
+    → IsFurthest V i Cost any → within ≡ any
 headroom-same U V order i within any preferred set best inside is other =
-    let up : within ≤ any = in_order-within V order i within any is other in
+    let up : within ≤ any = in_order-within V order i Cost within any is other in
     let passes =
     (passes-costed U V order i any preferred set best inside other.may).1 other.feasible in
-    let down : any ≤ within = (in_order-each V order i within any is other.may).0 passes in
+    let down : any ≤ within = is.furthest any other.may passes in
     omega (arith, up, down)

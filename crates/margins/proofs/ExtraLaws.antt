@@ -1,6 +1,6 @@
 -- An order with the longest limits lowest bears each further demand that some order bears.
-use Rattle.std.proofs.Common.{◌≡◌, ℕ, ◌+◌, ◌<◌, ◌≤◌, false, true, ◌==◌, inl, inr, List, [], ◌∷◌}
-use Rattle.std.proofs.Common.{length, refl, sym, ◌∙◌, subst, arith}
+use Rattle.std.proofs.Common.{◌≡◌, ℕ, ◌<◌, ◌≤◌, false, true, ◌==◌, inl, inr, List, [], ◌∷◌}
+use Rattle.std.proofs.Common.{length, refl, sym, subst, arith}
 use Rattle.std.proofs.lemmas.Bool.{cases_Bool, both_ways, or_cases, eqb-true, ltb-true}
 use Rattle.task_sheet.specs.Sheet.{Task, AllTasks, no_task, task_at}
 use Rattle.task_sheet.specs.Indexes.{Indexes, IsPart, without_index, among}

@@ -4,7 +4,9 @@ ghost use Rattle.std.specs.Prelude.{◌≡◌, ◌≤◌, ◌<◌, ◌↔◌, �
 ghost use Rattle.task_sheet.specs.Sheet.{Task, AllTasks};
 ghost use Rattle.task_sheet.specs.TaskSet.{IsTaskSet};
 ghost use Rattle.task_sheet.specs.Orders.{IsOrder, IsPassingOrder, IsFeasible, IsBest};
-ghost use Rattle.headroom.specs.Costs.{costed, MayCost, IsHeadroom, IsHeadroomIn};
+ghost use Rattle.limits.specs.declared.number.Number.TheVariants.{Cost};
+ghost use Rattle.limits.specs.Numbers.{numbered, MayHave, IsFurthest};
+ghost use Rattle.limits.specs.InOrder.{IsFurthestIn};
 ghost use Rattle.factor.specs.Factors.{scaled, MayScale, IsFactor};
 ghost use Rattle.margins.specs.Bearing.{Bears};
 ghost use Rattle.latest_first.specs.LatestFirst.{AllPrompt, IsLatestFirst};
@@ -23,11 +25,12 @@ pub fn preferred_is_greatest()
         → IsBest V order → IsFactor V most → IsPassingOrder (scaled most V) order }
     ensures costed { (U V : List Task) (order : List ℕ) (i cost : ℕ) → IsPreferred Deadline U V
         → IsTaskSet V
-        → IsBest V order → i < length V → MayCost V i cost
-        → IsPassingOrder (costed V i cost) order ↔ IsFeasible (costed V i cost) }
+        → IsBest V order → i < length V → MayHave V i Cost cost
+        → IsPassingOrder (numbered V i Cost cost) order ↔ IsFeasible (numbered V i Cost cost) }
     ensures headroom { (U V : List Task) (order : List ℕ) (i inside any : ℕ)
         → IsPreferred Deadline U V → IsTaskSet V
-        → IsBest V order → i < length V → IsHeadroomIn V order i inside → IsHeadroom V i any
+        → IsBest V order → i < length V → IsFurthestIn V order i Cost inside
+        → IsFurthest V i Cost any
         → inside ≡ any }
 {}
 

@@ -2,7 +2,6 @@
 use Rattle.std.proofs.Common.{◌≡◌, ◌∙◌, ℕ, zero, suc, ◌+◌, ◌<◌, ◌≤◌, Option, Some, None}
 use Rattle.std.proofs.Common.{List, [], ◌∷◌, ◌++◌, length, map}
 use Rattle.std.proofs.Common.{get_or, take, drop, sym, ap, subst, max, arith}
-use Rattle.std.specs.FinSet as set
 use Rattle.std.proofs.lemmas.List.{take_more, drop_more, get_or_default, map-append}
 use Rattle.task_sheet.specs.Sheet.{Task, CriticalSection, IsSection, AreSections, IsValidSheet}
 use Rattle.task_sheet.specs.Sheet.{no_task, task_at}

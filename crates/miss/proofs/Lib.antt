@@ -17,4 +17,3 @@ pub mod NoLaws
 pub mod ConflictOrders
 pub mod ReachedLaws
 pub mod NoneLaws
-pub mod UninterruptedLaws

@@ -1,5 +1,5 @@
 -- What is shown of the task at a place of an order.
-use Rattle.std.proofs.Common.{◌≡◌, ℕ, suc, ◌-◌, ◌<◌, ◌≤◌, Bool, true, false, ◌||◌, Option, Some}
+use Rattle.std.proofs.Common.{◌≡◌, ℕ, suc, ◌-◌, ◌<◌, ◌≤◌, Bool, true, false, Option, Some}
 use Rattle.std.proofs.Common.{List, length, get_or, take, drop, sym, ◌∙◌, ap, subst, IsFalse}
 use Rattle.std.specs.Prelude.{IfSome}
 use Rattle.task_sheet.specs.Sheet.{Task, task_at}
@@ -15,17 +15,13 @@ use Rattle.ceiling_kernel.specs.Waits.{IsNode}
 use Rattle.ceiling_kernel.specs.Bounds.{above_of, after_of}
 use Rattle.response_time.specs.Workload.{work_of}
 use Rattle.miss.specs.declared.worst.Run.{Run}
-use Rattle.miss.specs.declared.shown.Miss.{Miss}
-use Rattle.miss.specs.declared.shown.Shown.{Shown}
-use Rattle.miss.specs.declared.shown.Shown.TheVariants as shown
 use Rattle.miss.specs.Exact.{EndsLow}
 use Rattle.miss.specs.Misses.{HasMiss, IsWorstCase, MustMiss}
-use Rattle.miss.specs.Shown.{PassesThere, PassesUninterrupted, ends_inside, IsTooLong, IsShown}
-use Rattle.miss.specs.Shown.{is_too_long}
+use Rattle.miss.specs.Shown.{PassesThere, PassesUninterrupted, ends_inside, IsTooLong}
 use Rattle.miss.proofs.OrderLaws.{place_known, above_is}
 use Rattle.miss.proofs.ReachLaws.{ends_low, ends_raised}
 use Rattle.miss.proofs.FoundLaws.{need_not}
-use Rattle.miss.proofs.ShownLaws.{part_case, IsSofar, sofar_step}
+use Rattle.miss.proofs.ShownLaws.{part_case}
 
 module _ (U : List Task) (order : List ℕ) (is : IsOrder U order) (tasks : IsTaskSet U) (p : ℕ) (lt :
     p < length order) (H : Indexes) (eh : H ≡ above_of (node_in U order) (get_or order p 0)) where
@@ -94,15 +90,6 @@ module _ (U : List Task) (order : List ℕ) (is : IsOrder U order) (tasks : IsTa
       (part_case U order is tasks m p em lt ∙ above_is U order is p lt) case in
       need_not U order tasks is p lt rs until few at
       (subst (λ x. HasMiss x rs until (get_or order p 0) → ⊥) same none) must
-
--- a place less to go through
-pub next_there : (U : List Task) (order : List ℕ) → IsOrder U order → IsTaskSet U → (place : ℕ)
-    (long here : Bool) → IsSofar U order place long → 0 < place → (s : Shown) → here ≡ is_too_long s
-    → IsShown (node_in U order) (get_or order (place - 1) 0) s
-    → ((m : Miss) → s ≡ shown.Misses m → ⊥) → IsSofar U order (place - 1) (long || here)
-next_there U order is tasks place long here so some s tested shows none =
-    subst (λ b. IsSofar U order (place - 1) (long || b)) (sym tested)
-    (sofar_step U order is tasks place long so some s shows none)
 
 -- what is known of a run that was found
 pub run_is : (U : List Task) (i : ℕ) (above : List ℕ) (o : Option Run) (run : Run) → o ≡ Some run

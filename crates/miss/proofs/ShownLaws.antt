@@ -1,8 +1,8 @@
--- Why a task that doesn't pass has no run, and what is left open then.
-use Rattle.std.proofs.Common.{◌≡◌, ℕ, suc, ◌+◌, ◌-◌, ◌<◌, ◌≤◌, inl, inr, Bool, true, false, ◌||◌}
+-- What is shown of a task that must miss its deadline, and of one that doesn't pass and need not.
+use Rattle.std.proofs.Common.{◌≡◌, ℕ, suc, ◌+◌, ◌-◌, ◌<◌, ◌⊎◌, inl, inr, true}
 use Rattle.std.proofs.Common.{List, length, get_or, take, drop, All, refl, sym, ◌∙◌, ap, subst}
 use Rattle.std.proofs.Common.{arith}
-use Rattle.std.proofs.lemmas.Bool.{cases_lt, cases_eq, cases_Bool, or_cases, true≢false, or_parts}
+use Rattle.std.proofs.lemmas.Bool.{cases_lt, cases_eq}
 use Rattle.std.proofs.lemmas.Bool.{ltb-true}
 use Rattle.std.proofs.lemmas.List.{get_or-drop, length-drop}
 use Rattle.task_sheet.specs.Sheet.{Task, task_at}
@@ -22,8 +22,8 @@ use Rattle.miss.specs.declared.shown.Shown.TheVariants as shown
 use Rattle.miss.specs.declared.shown.NoRun.TheVariants as why
 use Rattle.miss.specs.Exact.{EndsLow}
 use Rattle.miss.specs.Misses.{MustMiss}
-use Rattle.miss.specs.Shown.{PassesThere, PassesUninterrupted, IsTooLong, IsLowestFailing}
-use Rattle.miss.specs.Shown.{AboveAllPass, IsShown, NoneAboveMisses, is_too_long, IsLeftOpen}
+use Rattle.miss.specs.Shown.{PassesThere, PassesUninterrupted, IsLowestFailing}
+use Rattle.miss.specs.Shown.{AboveAllPass, IsShown}
 use Rattle.miss.proofs.MemberLaws.{among_at, among_place}
 use Rattle.miss.proofs.OrderLaws.{place_known, rest_known, place_of, rest_is, above_is}
 
@@ -48,29 +48,18 @@ module _ (node : Node) (i : ℕ) where
     enough = omega (arith, passes.3);
   }) must
 
-  -- what is shown without a run, but where the list is too long, need not miss
-  pub need_not_miss : (s : Shown) → IsShown node i s → ((m : Miss) → s ≡ shown.Misses m → ⊥)
-      → is_too_long s ≡ false → MustMiss node i → ⊥
-  need_not_miss shown.Stands is none short must = passes_not is.0 must
-  need_not_miss (shown.Misses m) is none short must = none m refl
-  need_not_miss (shown.NoRun (why.MustOutrank other)) is none short must = passes_not is.0 must
-  need_not_miss (shown.NoRun why.TooMany) is none short must = true≢false short
-  need_not_miss (shown.NoRun (why.Below above)) is none short must = (let f : IsLowestFailing node i
-      above = is.2 in f.fails (must.above_pass above f.in_set f.above))
-  need_not_miss (shown.NoRun why.EndsInside) is none short must = is.3 must.ends_low
-  need_not_miss (shown.NoRun why.WithinTick) is none short must = covered_not is.5.0 is.5.1 must
-  need_not_miss (shown.NoRun why.WithinInterrupts) is none short must = whole_not is.4 must
-
-  pub too_long : (s : Shown) → IsShown node i s → is_too_long s ≡ true → (PassesThere node i → ⊥)
-      × IsTooLong node.tasks i (after_of node.order i)
-  too_long shown.Stands is long = absurd (true≢false (sym long))
-  too_long (shown.Misses m) is long = absurd (true≢false (sym long))
-  too_long (shown.NoRun (why.MustOutrank other)) is long = absurd (true≢false (sym long))
-  too_long (shown.NoRun why.TooMany) is long = is
-  too_long (shown.NoRun (why.Below above)) is long = absurd (true≢false (sym long))
-  too_long (shown.NoRun why.EndsInside) is long = absurd (true≢false (sym long))
-  too_long (shown.NoRun why.WithinTick) is long = absurd (true≢false (sym long))
-  too_long (shown.NoRun why.WithinInterrupts) is long = absurd (true≢false (sym long))
+  pub shown_law : (s : Shown) → IsShown node i s → MustMiss node i
+      → ((m : Miss) × (s ≡ shown.Misses m)) ⊎ (s ≡ shown.NoRun why.TooMany)
+  shown_law shown.Stands is must = absurd (passes_not is.0 must)
+  shown_law (shown.Misses m) is must = inl (m, refl)
+  shown_law (shown.NoRun (why.MustOutrank other)) is must = absurd (passes_not is.0 must)
+  shown_law (shown.NoRun why.TooMany) is must = inr refl
+  shown_law (shown.NoRun (why.Below above)) is must =
+      (let f : IsLowestFailing node i above = is.2 in
+      absurd (f.fails (must.above_pass above f.in_set f.above)))
+  shown_law (shown.NoRun why.EndsInside) is must = absurd (is.3 must.ends_low)
+  shown_law (shown.NoRun why.WithinTick) is must = absurd (covered_not is.5.0 is.5.1 must)
+  shown_law (shown.NoRun why.WithinInterrupts) is must = absurd (whole_not is.4 must)
 
   -- a time covers the work of a task that need not miss, though it ends low and those above pass
   pub within_tick : EndsLow node i → AboveAllPass node i → (MustMiss node i → ⊥) → (t : ℕ)
@@ -92,17 +81,6 @@ module _ (node : Node) (i : ℕ) where
           above_pass = above;
         }))
       ]
-
--- ---- what is known after the places from one on
-pub record IsSofar (U : List Task) (order : List ℕ) (place : ℕ) (long : Bool) : Type 0 where
-  pub within : place ≤ length order
-  pub needs : (p : ℕ) → place ≤ p → p < length order → MustMiss (node_in U order) (get_or order p 0)
-      → IsTooLong U (get_or order p 0) (after_of order (get_or order p 0))
-  pub short : long ≡ false → (p : ℕ) → place ≤ p → p < length order
-      → MustMiss (node_in U order) (get_or order p 0) → ⊥
-  pub open_ : long ≡ true → (p : ℕ) × (p < length order)
-      × (PassesThere (node_in U order) (get_or order p 0) → ⊥)
-      × IsTooLong U (get_or order p 0) (after_of order (get_or order p 0))
 
 -- ---- places of an order
 module _ (U : List Task) (order : List ℕ) (is : IsOrder U order) (tasks : IsTaskSet U) where
@@ -201,78 +179,3 @@ module _ (U : List Task) (order : List ℕ) (is : IsOrder U order) (tasks : IsTa
       let at : get_or order (suc p + w.0) 0 ≡ h = sym (get_or-drop (suc p) order w.0 0) ∙ w.2 in
       subst (λ k. PassesThere node k) at
       (each (suc p + w.0) (omega arith) (omega (arith, w.1, length-drop (suc p) order)))
-
-  pub sofar_start : IsSofar U order (length order) false
-  sofar_start = record {
-    within = omega arith;
-    needs = λ p from lt must. absurd (omega (arith, from, lt));
-    short = λ off p from lt must. absurd (omega (arith, from, lt));
-    open_ = λ on. absurd (true≢false (sym on));
-  }
-
-  pub sofar_step : (place : ℕ) (long : Bool) → IsSofar U order place long → 0 < place → (s : Shown)
-      → IsShown node (get_or order (place - 1) 0) s → ((m : Miss) → s ≡ shown.Misses m → ⊥)
-      → IsSofar U order (place - 1) (long || is_too_long s)
-  sofar_step place long so some s shows none =
-      let i : ℕ = get_or order (place - 1) 0 in
-      record {
-        within = omega (arith, so.within);
-        needs = λ p from lt must. elim (cases_eq p (place - 1)) [
-          | inl at ↦ elim (cases_Bool (is_too_long s)) [
-            | inl t ↦
-                subst (λ k. IsTooLong U (get_or order k 0) (after_of order (get_or order k 0)))
-                (sym at) (too_long (node_in U order) (get_or order (place - 1) 0) s shows t).1
-            | inr f ↦ absurd (need_not_miss (node_in U order) (get_or order (place - 1) 0) s shows
-                none f (subst (λ k. MustMiss (node_in U order) (get_or order k 0)) at must))
-          ]
-          | inr other ↦ so.needs p (omega (arith, from)) lt must
-        ];
-        short = λ off p from lt must. elim (cases_eq p (place - 1)) [
-          | inl at ↦ need_not_miss (node_in U order) (get_or order (place - 1) 0) s shows none
-              (or_parts long (is_too_long s) off).1
-              (subst (λ k. MustMiss (node_in U order) (get_or order k 0)) at must)
-          | inr other ↦ so.short (or_parts long (is_too_long s) off).0 p
-              (omega (arith, from)) lt must
-        ];
-        open_ = λ on. elim (or_cases long (is_too_long s) on) [
-          | inl before ↦ so.open_ before
-          | inr here ↦ (let t = too_long (node_in U order) (get_or order (place - 1) 0) s shows
-              here in (place - 1, omega (arith, so.within), t.0, t.1))
-        ];
-      }
-
-  -- of those above the task at the next place
-  pub none_above : (place : ℕ) (long : Bool) → IsSofar U order place long → 0 < place
-      → NoneAboveMisses node (get_or order (place - 1) 0)
-  none_above place long so some h small on must =
-      let w : (r : ℕ) × (r < length order) × (get_or order r 0 ≡ h) = place_of U order is h small in
-      let on' : above_of node (get_or order (place - 1) 0) (get_or order w.0 0) ≡ true =
-      subst (λ x. above_of node (get_or order (place - 1) 0) x ≡ true) (sym w.2) on in
-      let later : place - 1 < w.0 =
-      later_place (place - 1) w.0 (omega (arith, so.within, some)) w.1 on' in
-      subst (λ x. IsTooLong U x (after_of order x)) w.2 (so.needs w.0 (omega (arith, later)) w.1
-      (subst (λ x. MustMiss (node_in U order) x) (sym w.2) must))
-
-  pub left_open : (place : ℕ) (long : Bool) → IsSofar U order place long → place ≡ 0 → long ≡ true
-      → IsLeftOpen node
-  left_open place long so end on =
-      let w : (p : ℕ) × (p < length order) × (PassesThere node (get_or order p 0) → ⊥)
-      × IsTooLong U (get_or order p 0) (after_of order (get_or order p 0)) = so.open_ on in
-      record {
-        task = get_or order w.0 0;
-        in_set = place_known U order is w.0 w.1;
-        fails = w.2;
-        long = w.3;
-        others = λ i lt must.
-            let at : (p : ℕ) × (p < length order) × (get_or order p 0 ≡ i) =
-            place_of U order is i lt in
-            subst (λ k. IsTooLong U k (after_of order k)) at.2 (so.needs at.0 (omega arith) at.1
-            (subst (λ k. MustMiss (node_in U order) k) (sym at.2) must));
-      }
-
-  pub none_must : (place : ℕ) (long : Bool) → IsSofar U order place long → place ≡ 0 → long ≡ false
-      → (i : ℕ) → i < length U → MustMiss node i → ⊥
-  none_must place long so end off i lt must =
-      let at : (p : ℕ) × (p < length order) × (get_or order p 0 ≡ i) = place_of U order is i lt in
-      so.short off at.0 (omega arith) at.1
-      (subst (λ k. MustMiss (node_in U order) k) (sym at.2) must)

@@ -1,5 +1,6 @@
--- What is shown of a task at its place in an order: a run in which it misses its deadline, or why there is none.
-use Rattle.std.specs.Prelude.{◌≡◌, ℕ, ◌+◌, ◌-◌, ◌<◌, ◌≤◌, ◌⊎◌, true, false, Bool, ◌&&◌, List, length}
+-- What is shown of a task at its place in an order: its worst case, as a run in which it misses its deadline, or why it is
+-- none.
+use Rattle.std.specs.Prelude.{◌≡◌, ℕ, ◌+◌, ◌-◌, ◌<◌, ◌≤◌, ◌⊎◌, true, Bool, ◌&&◌, List, length}
 use Rattle.std.specs.List.{list_any}
 use Rattle.task_sheet.specs.Sheet.{Task, task_at}
 use Rattle.task_sheet.specs.Indexes.{Indexes}
@@ -85,7 +86,7 @@ pub record IsDoneInTime (node : Node) (i : ℕ) : Type 0 where
 abbrev pub ShowsNone : Node → ℕ → Type 0
 ShowsNone node i = IsStopped node i ⊎ IsDoneInTime node i
 
--- why there is no run: the first reason of these
+-- why the worst case of task i is no run in which it misses its deadline: the first reason of these
 abbrev pub IsNoRun : Node → ℕ → NoRun → Type 0
 IsNoRun node i (why.MustOutrank other) =
     PassesThere node i × IsLeastOver node.tasks i (above_of node i) other
@@ -108,28 +109,15 @@ pub record IsWorstMiss (node : Node) (i : ℕ) (m : Miss) : Type 0 where
   pub case : IsWorstCase node.tasks i (after_of node.order i) m.releases.items m.until
   pub miss : IsMiss node m
 
--- none above task i must miss its deadline, but where its worst case is too long
-abbrev pub NoneAboveMisses : Node → ℕ → Type 0
-NoneAboveMisses node i =
-    (h : ℕ) → h < length node.tasks → above_of node i h ≡ true → MustMiss node h
-    → IsTooLong node.tasks h (after_of node.order h)
-
--- it may stand there, or it misses its deadline in its worst case, or there is no run
+-- it may be placed there, or it misses its deadline in its worst case, or why that is no run in which it does
 abbrev pub IsShown : Node → ℕ → Shown → Type 0
 IsShown node i shown.Stands = Stands node.tasks i (above_of node i)
 IsShown node i (shown.Misses m) = IsWorstMiss node i m
 IsShown node i (shown.NoRun reason) = IsNoRun node i reason
 
--- its worst case is too long
-abbrev pub is_too_long : Shown → Bool
-is_too_long (shown.NoRun why.TooMany) = true
-is_too_long s = false
-
--- the worst case of some task that doesn't pass is too long, and so is that of each task that must miss its deadline
-pub record IsLeftOpen (node : Node) : Type 0 where
-  pub task : ℕ
-  pub in_set : task < length node.tasks
-  pub fails : ¬ PassesThere node task
-  pub long : IsTooLong node.tasks task (after_of node.order task)
-  pub others : (i : ℕ) → i < length node.tasks → MustMiss node i
-      → IsTooLong node.tasks i (after_of node.order i)
+-- A MISS IS SHOWN: what is shown of a task that must miss its deadline is a run in which it does, or that its worst case is
+-- too long
+abbrev pub MissesAreShown : Node → Type 0
+MissesAreShown node =
+    (i : ℕ) (s : Shown) → IsShown node i s → MustMiss node i
+    → ((m : Miss) × (s ≡ shown.Misses m)) ⊎ (s ≡ shown.NoRun why.TooMany)

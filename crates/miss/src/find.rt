@@ -1,16 +1,13 @@
-//! A run that shows that an order doesn't pass.
-ghost use Rattle.std.specs.Prelude.{◌≡◌, ◌<◌, ℕ, length, slice_index_or, IfOk, IfErr, IfSome, IfNone, ◌≢◌};
+//! What is shown of a task at its place in an order: whether it misses its deadline in its worst case.
+ghost use Rattle.std.specs.Prelude.{◌≡◌, ◌<◌, ℕ, length, slice_index_or, IfOk, IfSome, IfNone};
 ghost use Rattle.std.specs.Bool.{OnTrue, OnFalse};
 ghost use Rattle.ceiling_kernel.specs.Tick.{node_in};
 ghost use Rattle.ceiling_kernel.specs.Releases.{release_at};
-ghost use Rattle.miss.specs.declared.fault.MissFault.TheVariants.{WrongOrder, TooMany, OutOfMemory};
-ghost use Rattle.task_sheet.specs.Demand.{IsUninterrupted};
 ghost use Rattle.task_sheet.specs.Orders.{IsOrder};
-ghost use Rattle.miss.specs.Misses.{IsMissOf, HasMiss, MustMiss, IsLockFree, AllPass};
+ghost use Rattle.miss.specs.Misses.{IsMissOf, HasMiss};
 ghost use Rattle.miss.specs.Found.{IsMissed, record_at};
-ghost use Rattle.miss.specs.Shown.{IsShown, IsWorstMiss, NoneAboveMisses, is_too_long, IsLeftOpen};
+ghost use Rattle.miss.specs.Shown.{IsShown};
 
-use crate::fault::MissFault;
 use crate::orders::{kernel_of, place_of};
 use crate::reaching::is_of;
 use crate::reason::{members_above, why_not};
@@ -20,7 +17,7 @@ use assignment::least_over;
 use ceiling_kernel::{JobRecord, Kernel, Release, RunFault};
 use ceilings::{LockTable, Tabled};
 use response_time::passes;
-use std::alloc::Global;
+use std::alloc::{AllocError, Global};
 use task_sheet::TaskSet;
 
 // A job of the task isn't done by its deadline, which is the end of the run.
@@ -66,21 +63,20 @@ fn missed_in(
     set: &Tabled<'_>,
     task: usize,
     run: &Run,
-) -> Result<Option<usize>, MissFault>
+) -> Result<Option<usize>, AllocError>
     requires set { kernel.now.tasks ≡ set.now }
     requires task { task < length set.now }
     ensures some { IfOk result (λ found. IfSome found
         (IsMissOf kernel.now run.now.releases.items run.now.until task)) }
     ensures none { IfOk result (λ found. IfNone found
         (¬ HasMiss kernel.now run.now.releases.items run.now.until task)) }
-    ensures err { IfErr result (λ fault. fault ≡ OutOfMemory) }
 {
     // The set is valid: the proof has it from its sheets.
     let _ = set.sheets();
     match kernel.run(alloc, &run.releases, run.until) {
         Ok(trace) => Ok(first_missed(set, task, &run.releases, &trace.jobs, run.until)),
         Err(fault) => match fault {
-            RunFault::OutOfMemory => Err(MissFault::OutOfMemory),
+            RunFault::OutOfMemory => Err(AllocError),
             _ => Ok(None),
         },
     }
@@ -93,13 +89,11 @@ fn shown_at(
     set: &Tabled<'_>,
     order: &[usize],
     place: usize,
-) -> Result<Shown, MissFault>
+) -> Result<Shown, AllocError>
     requires kernel { kernel.now ≡ node_in set.now order.now }
     requires order { IsOrder set.now order.now }
     requires place { place < length order.now }
-    ensures shown { IfOk result (IsShown (node_in set.now order.now)
-        (slice_index_or order.now place 0)) }
-    ensures err { IfErr result (λ fault. fault ≡ OutOfMemory) }
+    ensures { IfOk result (IsShown (node_in set.now order.now) (slice_index_or order.now place 0)) }
 {
     // The set is valid: the proof has it from its sheets.
     let _ = set.sheets();
@@ -125,18 +119,17 @@ fn shown_at(
     Ok(Shown::NoRun(why_not(set, order, place)))
 }
 
-/// What is shown of a task of the set at its place in an order, lowest first: it may stand there, or it misses its
-/// deadline in its worst case, or why that is no run in which it does.
+/// What is shown of a task of the set at its place in an order, lowest first: it may be placed there, or it
+/// misses its deadline in its worst case, or why that is no run in which it does. The error is out of memory.
 pub fn show_miss(
     alloc: Global,
     set: &TaskSet,
     order: &[usize],
     task: usize,
-) -> Result<Shown, MissFault>
-    requires { task < length set.now }
-    ensures shown { IfOk result (IsShown (node_in set.now order.now) task) }
-    ensures order { IfErr result (λ fault. fault ≡ WrongOrder → ¬ IsOrder set.now order.now) }
-    ensures many { IfErr result (λ fault. fault ≢ TooMany) }
+) -> Result<Shown, AllocError>
+    requires task { task < length set.now }
+    requires order { IsOrder set.now order.now }
+    ensures { IfOk result (IsShown (node_in set.now order.now) task) }
 {
     let kernel = kernel_of(alloc, set, order)?;
     // The set is valid: the proof has it from its sheets.
@@ -149,52 +142,4 @@ pub fn show_miss(
         order,
         place_of(order, task),
     )
-}
-
-// The worst case has more releases than a run takes.
-fn is_too_long(shown: &Shown) -> bool
-    ensures { result ≡ is_too_long shown.now }
-{
-    match shown {
-        Shown::NoRun(NoRun::TooMany) => true,
-        _ => false,
-    }
-}
-
-/// A run in which a task of the set misses its deadline at the levels of an order, lowest first: the worst case of the
-/// highest task that misses it there. None only where no task must miss its deadline; so, without locks, timers and
-/// interrupts, where each passes.
-/// `TooMany` only where none is found, and the worst case of a task that doesn't pass has more than 10,000 releases.
-pub fn find_miss(alloc: Global, set: &TaskSet, order: &[usize]) -> Result<Option<Miss>, MissFault>
-    ensures found { IfOk result (λ found. IfSome found (λ miss.
-        IsWorstMiss (node_in set.now order.now) miss.task miss)) }
-    ensures highest { IfOk result (λ found. IfSome found (λ miss.
-        NoneAboveMisses (node_in set.now order.now) miss.task)) }
-    ensures none { IfOk result (λ found. IfNone found ((i : ℕ) → i < length set.now
-        → ¬ MustMiss (node_in set.now order.now) i)) }
-    ensures lock_free { IfOk result (λ found. IfNone found (IsLockFree set.now
-        → IsUninterrupted set.now → AllPass (node_in set.now order.now))) }
-    ensures order { IfErr result (λ fault. fault ≡ WrongOrder → ¬ IsOrder set.now order.now) }
-    ensures many { IfErr result (λ fault. fault ≡ TooMany
-        → IsLeftOpen (node_in set.now order.now)) }
-{
-    let kernel = kernel_of(alloc, set, order)?;
-    // The set is valid: the proof has it from its sheets.
-    let _ = set.sheets();
-    let table = LockTable::new(alloc, set)?;
-    let tabled = Tabled::of(set, &table);
-    let mut is_long = false;
-    let mut place = order.len();
-    while place > 0 {
-        place -= 1;
-        let shown = shown_at(alloc, &kernel, &tabled, order, place)?;
-        is_long = is_long | is_too_long(&shown);
-        if let Shown::Misses(miss) = shown {
-            return Ok(Some(miss));
-        }
-    }
-    if is_long {
-        return Err(MissFault::TooMany);
-    }
-    Ok(None)
 }

@@ -8,6 +8,7 @@ ghost use Rattle.ceiling_kernel.specs.Bounds.{TighterBoundHolds};
 ghost use Rattle.miss.specs.Exact.{WorstComes, WorstMisses, WorstIsExact};
 ghost use Rattle.miss.specs.Misses.{WorstCaseMisses, NoIsShown, MissesAreRefused, ConflictHasOrders};
 ghost use Rattle.miss.specs.Reached.{WorstCaseReaches};
+ghost use Rattle.miss.specs.Shown.{MissesAreShown};
 
 /// In the worst case a job isn't done before a time covers what the analysis counts, but for the first tick of the
 /// section that blocks; so where no time up to the limit does, it misses its deadline.
@@ -43,6 +44,12 @@ pub fn is_met_exactly()
 /// Without locks, timers and interrupts a no is shown by a run: where no task must miss its deadline, each passes.
 pub fn no_is_shown()
     ensures { (node : Node) → IsNode node → NoIsShown node }
+{}
+
+/// What is shown of a task that must miss its deadline is a run in which it does, or that its worst case has more than
+/// 10,000 releases.
+pub fn misses_are_shown()
+    ensures { (node : Node) → MissesAreShown node }
 {}
 
 /// A task that misses its deadline in some run doesn't pass.

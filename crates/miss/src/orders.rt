@@ -1,29 +1,25 @@
 //! An order that is given: its kernel, and the place of a task in it.
-ghost use Rattle.std.specs.Prelude.{◌≡◌, ◌≢◌, ◌<◌, ℕ, length, slice_index_or, IfOk, IfErr};
+ghost use Rattle.std.specs.Prelude.{◌≡◌, ◌<◌, ℕ, length, slice_index_or, IfOk};
 ghost use Rattle.ceiling_kernel.specs.Tick.{node_in};
 ghost use Rattle.task_sheet.specs.Orders.{IsOrder};
-ghost use Rattle.miss.specs.declared.fault.MissFault.TheVariants.{WrongOrder, TooMany};
 
-use crate::fault::MissFault;
 use ceiling_kernel::{Kernel, KernelFault};
-use std::alloc::Global;
+use std::alloc::{AllocError, Global};
 use task_sheet::TaskSet;
 
-/// The kernel of a set in an order, lowest first. Never refused as `TooMany`.
+/// The kernel of a set in an order, lowest first. The error is out of memory.
 pub(crate) fn kernel_of<'a>(
     alloc: Global,
     set: &'a TaskSet,
     order: &[usize],
-) -> Result<Kernel<'a>, MissFault>
-    ensures kernel { IfOk result (λ kernel. kernel ≡ node_in set.now order.now) }
-    ensures order { IfOk result (λ _. IsOrder set.now order.now) }
-    ensures wrong { IfErr result (λ fault. fault ≡ WrongOrder → ¬ IsOrder set.now order.now) }
-    ensures many { IfErr result (λ fault. fault ≢ TooMany) }
+) -> Result<Kernel<'a>, AllocError>
+    requires { IsOrder set.now order.now }
+    ensures { IfOk result (λ kernel. kernel ≡ node_in set.now order.now) }
 {
     match Kernel::new(alloc, set, order) {
         Ok(kernel) => Ok(kernel),
-        Err(KernelFault::WrongOrder) => Err(MissFault::WrongOrder),
-        Err(KernelFault::OutOfMemory) => Err(MissFault::OutOfMemory),
+        Err(KernelFault::WrongOrder) => unreachable!(),
+        Err(KernelFault::OutOfMemory) => Err(AllocError),
     }
 }
 

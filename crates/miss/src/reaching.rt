@@ -1,19 +1,17 @@
 //! The worst case of a task, run to its end.
-ghost use Rattle.std.specs.Prelude.{◌≡◌, ◌≢◌, ◌<◌, ℕ, length, slice_index_or, IfOk, IfErr, IfSome, IfNone};
+ghost use Rattle.std.specs.Prelude.{◌≡◌, ◌<◌, ℕ, length, slice_index_or, IfOk, IfSome, IfNone};
 ghost use Rattle.std.specs.Bool.{OnTrue, OnFalse};
 ghost use Rattle.ceiling_kernel.specs.Tick.{node_in};
 ghost use Rattle.ceiling_kernel.specs.Releases.{task_number, release_at};
 ghost use Rattle.task_sheet.specs.Orders.{IsOrder};
-ghost use Rattle.miss.specs.declared.fault.MissFault.TheVariants.{WrongOrder, TooMany, OutOfMemory};
 ghost use Rattle.miss.specs.Misses.{IsRunOf};
 ghost use Rattle.miss.specs.Reached.{IsReadOf, IsFinishIn, IsReachedOf};
 
-use crate::fault::MissFault;
 use crate::orders::{kernel_of, place_of};
 use crate::worst::{Run, worst_case};
 use ceiling_kernel::{JobRecord, Kernel, Release, RunFault};
 use ceilings::{LockTable, Tabled};
-use std::alloc::Global;
+use std::alloc::{AllocError, Global};
 use task_sheet::TaskSet;
 
 /// The worst case of a task, run by a kernel: the place of the task's first job among the releases, from 0; when that job
@@ -98,21 +96,20 @@ fn finish_in(
     set: &Tabled<'_>,
     task: usize,
     run: &Run,
-) -> Result<Option<Finish>, MissFault>
+) -> Result<Option<Finish>, AllocError>
     requires set { kernel.now.tasks ≡ set.now }
     requires task { task < length set.now }
     ensures some { IfOk result (λ found. IfSome found
         (λ f. IsFinishIn kernel.now run.now.releases.items run.now.until task f.job f.time)) }
     ensures none { IfOk result (λ found. IfNone found ((j : ℕ)
         → ¬ IsRunOf kernel.now run.now.releases.items run.now.until task j)) }
-    ensures err { IfErr result (λ fault. fault ≡ OutOfMemory) }
 {
     // The set is valid: the proof has it from its sheets.
     let _ = set.sheets();
     match kernel.run(alloc, &run.releases, run.until) {
         Ok(trace) => Ok(finish_of(set, task, &run.releases, &trace.jobs)),
         Err(fault) => match fault {
-            RunFault::OutOfMemory => Err(MissFault::OutOfMemory),
+            RunFault::OutOfMemory => Err(AllocError),
             _ => Ok(None),
         },
     }
@@ -125,13 +122,11 @@ fn reach_at(
     set: &Tabled<'_>,
     order: &[usize],
     place: usize,
-) -> Result<Reached, MissFault>
+) -> Result<Reached, AllocError>
     requires kernel { kernel.now ≡ node_in set.now order.now }
     requires order { IsOrder set.now order.now }
     requires place { place < length order.now }
-    ensures reached { IfOk result (IsReachedOf (node_in set.now order.now)
-        (slice_index_or order.now place 0)) }
-    ensures err { IfErr result (λ fault. fault ≡ OutOfMemory) }
+    ensures { IfOk result (IsReachedOf (node_in set.now order.now) (slice_index_or order.now place 0)) }
 {
     // The set is valid: the proof has it from its sheets.
     let _ = set.sheets();
@@ -151,17 +146,16 @@ fn reach_at(
 }
 
 /// What comes of the worst case of a task of the set in an order, lowest first. It is run to its end wherever the tasks
-/// above pass and it has no more than 10,000 releases.
+/// above pass and it has no more than 10,000 releases. The error is out of memory.
 pub fn reach(
     alloc: Global,
     set: &TaskSet,
     order: &[usize],
     task: usize,
-) -> Result<Reached, MissFault>
-    requires { task < length set.now }
-    ensures reached { IfOk result (IsReachedOf (node_in set.now order.now) task) }
-    ensures order { IfErr result (λ fault. fault ≡ WrongOrder → ¬ IsOrder set.now order.now) }
-    ensures many { IfErr result (λ fault. fault ≢ TooMany) }
+) -> Result<Reached, AllocError>
+    requires task { task < length set.now }
+    requires order { IsOrder set.now order.now }
+    ensures { IfOk result (IsReachedOf (node_in set.now order.now) task) }
 {
     let kernel = kernel_of(alloc, set, order)?;
     // The set is valid: the proof has it from its sheets.

@@ -1,4 +1,4 @@
-//! Why a task that doesn't pass has no run.
+//! Why the worst case of a task that doesn't pass is no run in which it misses its deadline.
 ghost use Rattle.std.specs.Prelude.{◌≡◌, ◌<◌, ◌&&◌, true, length, slice_index_or, IfSome, IfNone};
 ghost use Rattle.task_sheet.specs.Indexes.{indexes_of};
 ghost use Rattle.task_sheet.specs.Locks.{reaches};
@@ -9,10 +9,9 @@ ghost use Rattle.miss.specs.Misses.{MustMiss};
 ghost use Rattle.miss.specs.Shown.{PassesThere, ends_inside, IsLowestFailing, AboveAllPass, ShowsNone, IsNoRun};
 
 use crate::shown::NoRun;
-use crate::uninterrupted::passes_uninterrupted;
 use assignment::members_of;
 use ceilings::Tabled;
-use response_time::passes;
+use response_time::{passes, passes_uninterrupted};
 use task_sheet::{Members, Section};
 
 // A job that has executed so long is inside the section, and one of these tasks reaches that.

@@ -11,7 +11,7 @@ pub struct Miss {
     pub releases: Vec<Release>,
 }
 
-/// Why there is no run in which a task that may not stand in its place misses its deadline.
+/// Why the worst case of a task that may not be placed there isn't a run in which it misses its deadline.
 #[derive(Clone, Copy, Debug, PartialEq, Eq)]
 pub enum NoRun {
     /// It passes, but a task stands above it above which it must stand: of these the one of least rank.
@@ -23,8 +23,8 @@ pub enum NoRun {
     /// A job's last tick is inside a section that a task above reaches, so that it finishes sooner than the analysis says:
     /// in time in the worst case.
     EndsInside,
-    /// It would pass with a tick less of the section that blocks it, which has begun before; not without timers and
-    /// interrupts alone.
+    /// Without timers and interrupts it would pass with a tick less of the section that blocks it, which has begun before;
+    /// not with all of it.
     WithinTick,
     /// It would pass if no timer and no interrupt took anything, as none does in a run.
     WithinInterrupts,
@@ -33,10 +33,10 @@ pub enum NoRun {
 /// What is shown of a task at its place in an order.
 #[derive(Drop)]
 pub enum Shown {
-    /// It may stand there.
+    /// It may be placed there.
     Stands,
-    /// It misses its deadline in a run.
+    /// It misses its deadline in its worst case.
     Misses(Miss),
-    /// It may not stand there, and there is no run.
+    /// It may not be placed there, and its worst case is no run in which it misses its deadline.
     NoRun(NoRun),
 }

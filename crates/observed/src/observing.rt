@@ -39,7 +39,7 @@ fn seen_jobs(
 
 /// What a trace shows of the jobs of a set's tasks, of which these are the promises, the lowest level first: the jobs in
 /// their order, without those of threads that the set doesn't have. Refused only as `NoJob`, at the first slice of a task
-/// that lies in no job of it.
+/// that lies in no job of it, or as `OutOfMemory`.
 pub fn observe(
     alloc: Global,
     promises: &[Promise],

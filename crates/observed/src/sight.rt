@@ -32,8 +32,8 @@ pub struct Observed {
     pub seen: Vec<Seen>,
 }
 
-/// What a trace shows of a set's tasks at the levels of an order with these places. Refused
-/// only as `NoJob`.
+/// What a trace shows of a set's tasks at the levels of an order with these places. Refused only as `NoJob` or
+/// `OutOfMemory`.
 pub fn observe_places(
     alloc: Global,
     set: &Tabled<'_>,
@@ -52,7 +52,7 @@ pub fn observe_places(
 }
 
 /// What a text shows from a place on, as a trace, of a set's tasks at the levels of their best order. It is refused in the
-/// order of `TraceFault`, before the set is placed but for `NoJob`.
+/// order of `TraceFault`, before the set is placed but for `NoJob` and `OutOfMemory`.
 pub fn observe_at(alloc: Global, set: &TaskSet, at: TextPlace<'_>) -> Result<Sight, TraceFault>
     ensures { MatchResult result
         (λ sight. IsSightOf set.now (rows_at at.entry.line at.entry.rest.now) sight)

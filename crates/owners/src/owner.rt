@@ -1,11 +1,10 @@
 //! Whose each task of a set's text is.
 ghost use Rattle.std.specs.Prelude.{◌≡◌, ◌++◌, [], IfOk, OnOk, MatchOption};
 ghost use Rattle.owners.specs.Owners.{AreOwners, AreOwnersIn, IsDocumentOf, IsNoDocument, owned_by, team_of};
-ghost use Rattle.teams.specs.ReadsText.{is_gathered};
 
 use std::alloc::{AllocError, Global};
 use task_sheet::{Document, Name, SetFault, TaskSet, read_document};
-use teams::{Part, first_part, node_part};
+use teams::{Part, first_part, is_gathered, node_part};
 
 /// A task, and the team whose document has it.
 #[derive(Clone, Copy, Debug)]
@@ -70,7 +69,7 @@ fn owners_in(alloc: Global, text: &[u8]) -> Result<Vec<Owner>, AllocError>
 pub fn read_owners(alloc: Global, text: &[u8]) -> Result<Vec<Owner>, AllocError>
     ensures { IfOk result (λ owners. AreOwners text.now owners.items) }
 {
-    if !text.starts_with(b"#% ") {
+    if !is_gathered(text) {
         return Ok(Vec::new(alloc));
     }
     match node_part(text) {

@@ -9,4 +9,4 @@ mod margin;
 mod style;
 mod title;
 
-pub use document::{DrawFault, draw};
+pub use document::draw;

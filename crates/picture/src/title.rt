@@ -1,10 +1,9 @@
 //! The title, before what a picture says of its run.
 ghost use Rattle.std.specs.Prelude.{◌<◌, ◌≡◌, length, slice_index};
-ghost use Rattle.streams.specs.Puts.{Puts};
+ghost use Rattle.frames.specs.Page.{Adds};
 ghost use Rattle.picture.specs.Titles.{is_barred, is_in_barred, shown_at, shown_byte, shown_bytes, title_head};
 
-use std::io::Write;
-use streams::{Outlet, WriteFailed};
+use frames::Page;
 
 // The byte at a place, or 0 behind the last.
 fn byte_at(bytes: &[u8], i: usize) -> u8
@@ -40,60 +39,50 @@ fn is_in_barred(bytes: &[u8], i: usize) -> bool
 }
 
 // A byte as text has it.
-fn put_byte<W: Write + Drop>(byte: u8, out: &mut Outlet<'_, W>) -> Result<(), WriteFailed>
-    ensures { Puts W.contents out.old out.new result (shown_byte byte) }
+fn put_byte(byte: u8, page: &mut Page)
+    ensures { Adds page.old page.new (shown_byte byte) }
 {
     if byte == b'&' {
-        out.put(b"&amp;")
+        page.put(b"&amp;")
     } else if byte == b'<' {
-        out.put(b"&lt;")
+        page.put(b"&lt;")
     } else if byte == b'>' {
-        out.put(b"&gt;")
+        page.put(b"&gt;")
     } else if byte < 32 {
-        out.put(b" ")
+        page.put(b" ")
     } else {
-        out.put(&[byte])
+        page.put(&[byte])
     }
 }
 
 // The byte at a place.
-fn put_byte_at<W: Write + Drop>(
-    bytes: &[u8],
-    i: usize,
-    out: &mut Outlet<'_, W>,
-) -> Result<(), WriteFailed>
+fn put_byte_at(bytes: &[u8], i: usize, page: &mut Page)
     requires { i < length bytes.now }
-    ensures { Puts W.contents out.old out.new result (shown_at bytes.now i) }
+    ensures { Adds page.old page.new (shown_at bytes.now i) }
 {
     if is_barred(bytes, i) {
-        out.put(b" ")
-    } else if is_in_barred(bytes, i) {
-        Ok(())
-    } else {
-        put_byte(bytes[i], out)
+        page.put(b" ")
+    } else if !is_in_barred(bytes, i) {
+        put_byte(bytes[i], page)
     }
 }
 
 // Some bytes.
-fn put_bytes<W: Write + Drop>(bytes: &[u8], out: &mut Outlet<'_, W>) -> Result<(), WriteFailed>
-    ensures { Puts W.contents out.old out.new result (shown_bytes bytes.now) }
+fn put_bytes(bytes: &[u8], page: &mut Page)
+    ensures { Adds page.old page.new (shown_bytes bytes.now) }
 {
     for i in 0..bytes.len() {
-        put_byte_at(bytes, i, out)?;
+        put_byte_at(bytes, i, page);
     }
-    Ok(())
 }
 
 // A title, where it isn't empty.
-pub(crate) fn put_title_head<W: Write + Drop>(
-    title: &[u8],
-    out: &mut Outlet<'_, W>,
-) -> Result<(), WriteFailed>
-    ensures { Puts W.contents out.old out.new result (title_head title.now) }
+pub(crate) fn put_title_head(title: &[u8], page: &mut Page)
+    ensures { Adds page.old page.new (title_head title.now) }
 {
     if title.is_empty() {
-        return Ok(());
+        return;
     }
-    put_bytes(title, out)?;
-    out.put(b": ")
+    put_bytes(title, page);
+    page.put(b": ")
 }

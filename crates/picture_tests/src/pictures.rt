@@ -2,10 +2,9 @@
 use ceiling_kernel::{Kernel, Release, RunFault, Trace};
 use example_sets::{again, name, set_of};
 use frames::{TaskRow, View};
-use picture::{DrawFault, draw};
+use picture::draw;
 use std::alloc::{AllocError, Global};
 use std::test::Fail;
-use streams::Watched;
 use task_sheet::{TASK_LIMIT, TaskSet};
 
 // Two tasks that share a lock.
@@ -286,24 +285,11 @@ fn picture_of(
     releases: &[Release],
     trace: &Trace,
 ) -> Result<String, Fail> {
-    let mut text = Vec::with_capacity(alloc, 16384)?;
-    let mut out = Watched::new(&mut text);
-    if rows.len() <= TASK_LIMIT {
-        again!(
-            draw(
-                alloc,
-                rows,
-                &View::whole(alloc),
-                until,
-                releases,
-                trace,
-                &mut out
-            ),
-            DrawFault::OutOfMemory
-        )
-        .ok()
-        .ok_or("a write")?;
+    if rows.len() > TASK_LIMIT {
+        return Err("more rows than tasks")?;
     }
+    let view = View::whole(alloc);
+    let text = again!(draw(alloc, rows, &view, until, releases, trace))?;
     Ok(String::from_utf8(text)?)
 }
 

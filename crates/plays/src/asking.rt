@@ -22,7 +22,7 @@ fn cause_of(standing: &Standing) -> Option<Cause>
     }
 }
 
-/// The cause that is told of two drafts.
+/// The cause that is reported of two drafts.
 pub(crate) fn first_cause(first: Option<Cause>, second: Option<Cause>) -> Option<Cause>
     ensures { result ≡ first_cause first second }
 {

@@ -20,7 +20,7 @@ use task_sheet::Name;
 pub enum PlayFault {
     /// Memory ran out; what was printed before stands.
     OutOfMemory,
-    /// The writer failed; how much of the last line went out is open.
+    /// The writer failed; how much of what was printed went out is open.
     WriteFailed,
 }
 

@@ -96,7 +96,8 @@ pub(crate) fn past_before(chart: &Chart<'_>, j: usize, past: Past) -> Past
     requires ended { EndBy chart.now.slices.now past.count past.time }
     ensures within { result.count ≤ length chart.now.slices.now }
     ensures ended { EndBy chart.now.slices.now result.count result.time }
-    ensures before { result.time ≤ (stay_of chart.now.frame chart.now.releases.now chart.now.jobs.now j).from }
+    ensures before { result.time ≤ (stay_of chart.now.frame chart.now.releases.now
+        chart.now.jobs.now j).from }
 {
     let arrival = job_at(chart.jobs, j).release;
     past_by(chart.slices, past, arrival.min(stay_of(chart, j).from))
@@ -124,7 +125,8 @@ fn row_of(rows: &[TaskRow], jobs: &[JobRecord], job: usize) -> Option<usize>
 
 // From when to when a job waits in slice n, and for which row.
 pub(crate) fn wait_at(chart: &Chart<'_>, stay: Stay, n: usize) -> Option<Wait>
-    ensures wait { result ≡ wait_at chart.now.rows.now chart.now.jobs.now chart.now.slices.now stay n }
+    ensures wait { result ≡ wait_at chart.now.rows.now chart.now.jobs.now chart.now.slices.now stay
+        n }
     ensures within { IfSome result (λ w. w.row < length chart.now.rows.now) }
 {
     match chart.slices.get(n) {
@@ -162,7 +164,8 @@ fn wait_for(chart: &Chart<'_>, piece: Slice, job: usize) -> Option<Wait>
 
 // The wait in the slice before slice n.
 fn wait_before(chart: &Chart<'_>, stay: Stay, n: usize) -> Option<Wait>
-    ensures { result ≡ wait_before chart.now.rows.now chart.now.jobs.now chart.now.slices.now stay n }
+    ensures { result ≡ wait_before chart.now.rows.now chart.now.jobs.now chart.now.slices.now stay
+        n }
 {
     if n == 0 {
         return None;

@@ -1,6 +1,6 @@
 //! How the waits of jobs are drawn.
 ghost use Rattle.std.specs.Prelude.{◌*◌, ◌+◌, ◌<◌, ◌≡◌, ◌≤◌, Some, length, nat_lt};
-ghost use Rattle.streams.specs.Puts.{Puts};
+ghost use Rattle.frames.specs.Page.{Adds};
 ghost use Rattle.task_sheet.specs.declared.set.TheConstants.{TASK_LIMIT};
 ghost use Rattle.frames.specs.Rows.{place_in};
 ghost use Rattle.frames.specs.declared.frame.TheConstants.{RIGHTMOST};
@@ -10,11 +10,9 @@ ghost use Rattle.reasons.specs.Waits.{EndBy, stay_of};
 use crate::blocker::blocking_lock;
 use crate::waits::{Past, Stay, Wait, is_behind, is_gathered, past_before, stay_of, wait_at};
 use frames::{
-    Chart, Frame, Spot, TaskRow, has_room, lock_tone, name_in, name_of, place_in, sees, tone_of,
-    top_of, x_of,
+    Chart, Frame, Page, Spot, TaskRow, has_room, lock_tone, name_in, name_of, place_in, sees,
+    tone_of, top_of, x_of,
 };
-use std::io::Write;
-use streams::{Outlet, WriteFailed};
 use task_sheet::Name;
 
 // The tone of a lock, if there is one.
@@ -35,92 +33,67 @@ fn is_below(spot: Spot, wait: Wait) -> bool
 }
 
 // The ink of who executes, or the neutral one.
-fn put_ink<W: Write + Drop>(
-    gathered: bool,
-    row: usize,
-    out: &mut Outlet<'_, W>,
-) -> Result<(), WriteFailed>
-    ensures { Puts W.contents out.old out.new result (ink_text gathered row) }
+fn put_ink(gathered: bool, row: usize, page: &mut Page)
+    ensures { Adds page.old page.new (ink_text gathered row) }
 {
     if gathered {
-        return out.put(b"n");
+        page.put(b"n");
+        return;
     }
     let tone = tone_of(row);
-    write!(out, "{tone}")
+    write!(page, "{tone}")
 }
 
 // A line in the middle of the row at place k.
-fn put_wait_line<W: Write + Drop>(
-    frame: Frame,
-    k: usize,
-    wait: Wait,
-    out: &mut Outlet<'_, W>,
-) -> Result<(), WriteFailed>
+fn put_wait_line(frame: Frame, k: usize, wait: Wait, page: &mut Page)
     requires { k ≤ TASK_LIMIT }
-    ensures { Puts W.contents out.old out.new result (line_path frame k wait) }
+    ensures { Adds page.old page.new (line_path frame k wait) }
 {
     let x = x_of(frame, wait.start);
     let right = x_of(frame, wait.stop).max(x + 1);
     let y = top_of(k) + 255;
-    write!(out, "\" d=\"M{x} {y}H{right}\"><title>")
+    write!(page, "\" d=\"M{x} {y}H{right}\"><title>")
 }
 
 // Who waits for whom.
-fn put_wait_words<W: Write + Drop>(
-    rows: &[TaskRow],
-    k: usize,
-    m: usize,
-    out: &mut Outlet<'_, W>,
-) -> Result<(), WriteFailed>
+fn put_wait_words(rows: &[TaskRow], k: usize, m: usize, page: &mut Page)
     requires row { k < length rows.now }
     requires other { m < length rows.now }
-    ensures { Puts W.contents out.old out.new result (wait_words rows.now k m) }
+    ensures { Adds page.old page.new (wait_words rows.now k m) }
 {
     let name = name_in(rows, k);
     let other = name_in(rows, m);
-    write!(out, "{name} waits for {other} ")
+    write!(page, "{name} waits for {other} ")
 }
 
 // From when to when.
-fn put_wait_end<W: Write + Drop>(wait: Wait, out: &mut Outlet<'_, W>) -> Result<(), WriteFailed>
-    ensures { Puts W.contents out.old out.new result (wait_end wait) }
+fn put_wait_end(wait: Wait, page: &mut Page)
+    ensures { Adds page.old page.new (wait_end wait) }
 {
     let start = wait.start;
     let stop = wait.stop;
-    write!(out, "{start} to {stop} us</title></path>\n")
+    write!(page, "{start} to {stop} us</title></path>\n")
 }
 
 // A wait of a row for a task above.
-fn put_above<W: Write + Drop>(
-    chart: &Chart<'_>,
-    spot: Spot,
-    wait: Wait,
-    gathered: bool,
-    out: &mut Outlet<'_, W>,
-) -> Result<(), WriteFailed>
+fn put_above(chart: &Chart<'_>, spot: Spot, wait: Wait, gathered: bool, page: &mut Page)
     requires row { spot.rank < length chart.now.rows.now }
     requires place { spot.k ≤ TASK_LIMIT }
     requires other { wait.row < length chart.now.rows.now }
-    ensures { Puts W.contents out.old out.new result
-        (above_text chart.now.frame chart.now.rows.now spot wait gathered) }
+    ensures { Adds page.old page.new (above_text chart.now.frame chart.now.rows.now spot wait
+        gathered) }
 {
-    out.put(b"<path class=\"wa i")?;
-    put_ink(gathered, wait.row, out)?;
-    put_wait_line(chart.frame, spot.k, wait, out)?;
-    put_wait_words(chart.rows, spot.rank, wait.row, out)?;
-    put_wait_end(wait, out)
+    page.put(b"<path class=\"wa i");
+    put_ink(gathered, wait.row, page);
+    put_wait_line(chart.frame, spot.k, wait, page);
+    put_wait_words(chart.rows, spot.rank, wait.row, page);
+    put_wait_end(wait, page)
 }
 
 // Dots in the middle of the row at place k, in a tone.
-fn put_dots<W: Write + Drop>(
-    frame: Frame,
-    k: usize,
-    wait: Wait,
-    tone: usize,
-    out: &mut Outlet<'_, W>,
-) -> Result<(), WriteFailed>
+fn put_dots(frame: Frame, k: usize, wait: Wait, tone: usize, page: &mut Page)
     requires { k ≤ TASK_LIMIT }
-    ensures { Puts W.contents out.old out.new result (dots_path frame k wait tone) }
+    ensures { Adds page.old page.new (dots_path frame k wait tone) }
 {
     let start = x_of(frame, wait.start);
     let stop = x_of(frame, wait.stop);
@@ -128,309 +101,218 @@ fn put_dots<W: Write + Drop>(
     let right = stop.saturating_sub(16).max(start + 17);
     let y = top_of(k) + 255;
     write!(
-        out,
+        page,
         "<path class=\"wb d{tone}\" d=\"M{x} {y}H{right}\"><title>"
     )
 }
 
 // Who is blocked by whom.
-fn put_blocked_words<W: Write + Drop>(
-    rows: &[TaskRow],
-    k: usize,
-    m: usize,
-    out: &mut Outlet<'_, W>,
-) -> Result<(), WriteFailed>
+fn put_blocked_words(rows: &[TaskRow], k: usize, m: usize, page: &mut Page)
     requires row { k < length rows.now }
     requires other { m < length rows.now }
-    ensures { Puts W.contents out.old out.new result (blocked_words rows.now k m) }
+    ensures { Adds page.old page.new (blocked_words rows.now k m) }
 {
     let name = name_in(rows, k);
     let other = name_in(rows, m);
-    write!(out, "{name} is blocked by {other} ")
+    write!(page, "{name} is blocked by {other} ")
 }
 
 // By which lock.
-fn put_lock_words<W: Write + Drop>(
-    lock: &Option<Name>,
-    out: &mut Outlet<'_, W>,
-) -> Result<(), WriteFailed>
-    ensures { Puts W.contents out.old out.new result (lock_words lock.now) }
+fn put_lock_words(lock: &Option<Name>, page: &mut Page)
+    ensures { Adds page.old page.new (lock_words lock.now) }
 {
     match lock {
-        None => Ok(()),
-        Some(lock) => write!(out, "with {lock} "),
+        None => {}
+        Some(lock) => write!(page, "with {lock} "),
     }
 }
 
 // A link in a tone, from the end of a wait at place k down to a bar at place m.
-fn put_link_path<W: Write + Drop>(
-    frame: Frame,
-    k: usize,
-    wait: Wait,
-    tone: usize,
-    m: usize,
-    out: &mut Outlet<'_, W>,
-) -> Result<(), WriteFailed>
+fn put_link_path(frame: Frame, k: usize, wait: Wait, tone: usize, m: usize, page: &mut Page)
     requires place { k ≤ TASK_LIMIT }
     requires other { m ≤ TASK_LIMIT }
-    ensures { Puts W.contents out.old out.new result (link_path frame k wait tone m) }
+    ensures { Adds page.old page.new (link_path frame k wait tone m) }
 {
     let x = x_of(frame, wait.stop);
     let y = top_of(k) + 255;
     let bar = top_of(m) + 165;
-    write!(out, "<path class=\"wj d{tone}\" d=\"M{x} {y}V{bar}\"/>\n")
+    write!(page, "<path class=\"wj d{tone}\" d=\"M{x} {y}V{bar}\"/>\n")
 }
 
 // The same, if the row of the task below is shown.
-fn put_link_to<W: Write + Drop>(
-    chart: &Chart<'_>,
-    k: usize,
-    wait: Wait,
-    tone: usize,
-    out: &mut Outlet<'_, W>,
-) -> Result<(), WriteFailed>
+fn put_link_to(chart: &Chart<'_>, k: usize, wait: Wait, tone: usize, page: &mut Page)
     requires { k ≤ TASK_LIMIT }
-    ensures { Puts W.contents out.old out.new result
-        (link_to chart.now.frame k wait tone (place_in chart.now.shown.now wait.row)) }
+    ensures { Adds page.old page.new (link_to chart.now.frame k wait tone (place_in
+        chart.now.shown.now wait.row)) }
 {
     match place_in(chart.shown, wait.row) {
-        None => Ok(()),
-        Some(m) => put_link_path(chart.frame, k, wait, tone, m, out),
+        None => {}
+        Some(m) => put_link_path(chart.frame, k, wait, tone, m, page),
     }
 }
 
 // The same where the wait ends in the window and is at least 2 pixels wide.
-fn put_link<W: Write + Drop>(
-    chart: &Chart<'_>,
-    k: usize,
-    wait: Wait,
-    tone: usize,
-    out: &mut Outlet<'_, W>,
-) -> Result<(), WriteFailed>
+fn put_link(chart: &Chart<'_>, k: usize, wait: Wait, tone: usize, page: &mut Page)
     requires { k ≤ TASK_LIMIT }
-    ensures { Puts W.contents out.old out.new result
-        (link_text chart.now.frame chart.now.shown.now k wait tone) }
+    ensures { Adds page.old page.new (link_text chart.now.frame chart.now.shown.now k wait tone) }
 {
     let frame = chart.frame;
     if wait.stop <= frame.to && x_of(frame, wait.start) + 20 <= x_of(frame, wait.stop) {
-        put_link_to(chart, k, wait, tone, out)
-    } else {
-        Ok(())
+        put_link_to(chart, k, wait, tone, page)
     }
 }
 
 // A wait of a row for a task below, which blocks by a lock.
-fn put_blocked<W: Write + Drop>(
-    chart: &Chart<'_>,
-    spot: Spot,
-    wait: Wait,
-    lock: &Option<Name>,
-    out: &mut Outlet<'_, W>,
-) -> Result<(), WriteFailed>
+fn put_blocked(chart: &Chart<'_>, spot: Spot, wait: Wait, lock: &Option<Name>, page: &mut Page)
     requires row { spot.rank < length chart.now.rows.now }
     requires place { spot.k ≤ TASK_LIMIT }
     requires other { wait.row < length chart.now.rows.now }
-    ensures { Puts W.contents out.old out.new result
-        (blocked_text chart.now.frame chart.now.locks.now chart.now.rows.now chart.now.shown.now
+    ensures { Adds page.old page.new (blocked_text chart.now.frame chart.now.locks.now
+        chart.now.rows.now chart.now.shown.now
         spot wait lock.now) }
 {
     let tone = tone_of_lock(chart.locks, lock);
-    put_dots(chart.frame, spot.k, wait, tone, out)?;
-    put_blocked_words(chart.rows, spot.rank, wait.row, out)?;
-    put_lock_words(lock, out)?;
-    put_wait_end(wait, out)?;
-    put_link(chart, spot.k, wait, tone, out)
+    put_dots(chart.frame, spot.k, wait, tone, page);
+    put_blocked_words(chart.rows, spot.rank, wait.row, page);
+    put_lock_words(lock, page);
+    put_wait_end(wait, page);
+    put_link(chart, spot.k, wait, tone, page)
 }
 
 // The name of who executes, in the middle, above.
-fn put_who_word<W: Write + Drop>(
-    x: u64,
-    right: u64,
-    k: usize,
-    name: Name,
-    out: &mut Outlet<'_, W>,
-) -> Result<(), WriteFailed>
+fn put_who_word(x: u64, right: u64, k: usize, name: Name, page: &mut Page)
     requires places { x + right ≤ 2 * RIGHTMOST }
     requires row { k ≤ TASK_LIMIT }
-    ensures { Puts W.contents out.old out.new result (who_word x right k name) }
+    ensures { Adds page.old page.new (who_word x right k name) }
 {
     let middle = (x + right) / 2;
     let y = top_of(k) + 225;
     write!(
-        out,
+        page,
         "<text class=\"wl\" x=\"{middle}\" y=\"{y}\">{name}</text>\n"
     )
 }
 
 // The same where it has room.
-fn put_who_at<W: Write + Drop>(
-    x: u64,
-    right: u64,
-    k: usize,
-    name: Name,
-    out: &mut Outlet<'_, W>,
-) -> Result<(), WriteFailed>
+fn put_who_at(x: u64, right: u64, k: usize, name: Name, page: &mut Page)
     requires places { x + right ≤ 2 * RIGHTMOST }
     requires row { k ≤ TASK_LIMIT }
-    ensures { Puts W.contents out.old out.new result (who_at x right k name) }
+    ensures { Adds page.old page.new (who_at x right k name) }
 {
     if has_room(name, right.saturating_sub(x)) {
-        put_who_word(x, right, k, name, out)
-    } else {
-        Ok(())
+        put_who_word(x, right, k, name, page)
     }
 }
 
 // The same of a wait.
-fn put_who<W: Write + Drop>(
-    chart: &Chart<'_>,
-    k: usize,
-    wait: Wait,
-    out: &mut Outlet<'_, W>,
-) -> Result<(), WriteFailed>
+fn put_who(chart: &Chart<'_>, k: usize, wait: Wait, page: &mut Page)
     requires place { k ≤ TASK_LIMIT }
     requires other { wait.row < length chart.now.rows.now }
-    ensures { Puts W.contents out.old out.new result
-        (who_text chart.now.frame chart.now.rows.now k wait) }
+    ensures { Adds page.old page.new (who_text chart.now.frame chart.now.rows.now k wait) }
 {
     let x = x_of(chart.frame, wait.start);
     let right = x_of(chart.frame, wait.stop);
     let name = name_in(chart.rows, wait.row);
-    put_who_at(x, right, k, name, out)
+    put_who_at(x, right, k, name, page)
 }
 
 // Why a job in a row waits in slice n.
-fn put_why<W: Write + Drop>(
-    chart: &Chart<'_>,
-    stay: Stay,
-    spot: Spot,
-    n: usize,
-    wait: Wait,
-    out: &mut Outlet<'_, W>,
-) -> Result<(), WriteFailed>
+fn put_why(chart: &Chart<'_>, stay: Stay, spot: Spot, n: usize, wait: Wait, page: &mut Page)
     requires row { spot.rank < length chart.now.rows.now }
     requires place { spot.k ≤ TASK_LIMIT }
     requires other { wait.row < length chart.now.rows.now }
     requires slice { n < length chart.now.slices.now }
-    ensures { Puts W.contents out.old out.new result
-        (why_text chart.now.frame chart.now.locks.now chart.now.rows.now chart.now.shown.now
+    ensures { Adds page.old page.new (why_text chart.now.frame chart.now.locks.now
+        chart.now.rows.now chart.now.shown.now
         chart.now.jobs.now chart.now.slices.now stay spot n wait) }
 {
     if is_below(spot, wait) {
         let lock = blocking_lock(chart.rows, chart.slices, spot.rank, n, wait.start, wait.row);
-        put_blocked(chart, spot, wait, &lock, out)
+        put_blocked(chart, spot, wait, &lock, page)
     } else {
         let gathered = is_gathered(chart, stay, spot.rank, n);
-        put_above(chart, spot, wait, gathered, out)
+        put_above(chart, spot, wait, gathered, page)
     }
 }
 
 // That, and the name of who executes, where the wait is in the window.
-fn put_wait<W: Write + Drop>(
-    chart: &Chart<'_>,
-    stay: Stay,
-    spot: Spot,
-    n: usize,
-    wait: Wait,
-    out: &mut Outlet<'_, W>,
-) -> Result<(), WriteFailed>
+fn put_wait(chart: &Chart<'_>, stay: Stay, spot: Spot, n: usize, wait: Wait, page: &mut Page)
     requires row { spot.rank < length chart.now.rows.now }
     requires place { spot.k ≤ TASK_LIMIT }
     requires other { wait.row < length chart.now.rows.now }
     requires slice { n < length chart.now.slices.now }
-    ensures { Puts W.contents out.old out.new result
-        (wait_text chart.now.frame chart.now.locks.now chart.now.rows.now chart.now.shown.now
+    ensures { Adds page.old page.new (wait_text chart.now.frame chart.now.locks.now
+        chart.now.rows.now chart.now.shown.now
         chart.now.jobs.now chart.now.slices.now stay spot n (Some wait)) }
 {
     if !sees(chart.frame, wait.start, wait.stop) {
-        return Ok(());
+        return;
     }
-    put_why(chart, stay, spot, n, wait, out)?;
-    put_who(chart, spot.k, wait, out)
+    put_why(chart, stay, spot, n, wait, page);
+    put_who(chart, spot.k, wait, page)
 }
 
 // The wait of a job in slice n, if it waits in it.
-fn put_nth_wait<W: Write + Drop>(
-    chart: &Chart<'_>,
-    stay: Stay,
-    spot: Spot,
-    n: usize,
-    out: &mut Outlet<'_, W>,
-) -> Result<(), WriteFailed>
+fn put_nth_wait(chart: &Chart<'_>, stay: Stay, spot: Spot, n: usize, page: &mut Page)
     requires row { spot.rank < length chart.now.rows.now }
     requires place { spot.k ≤ TASK_LIMIT }
     requires slice { n < length chart.now.slices.now }
-    ensures { Puts W.contents out.old out.new result
-        (nth_wait_text chart.now.frame chart.now.locks.now chart.now.rows.now
+    ensures { Adds page.old page.new (nth_wait_text chart.now.frame chart.now.locks.now
+        chart.now.rows.now
         chart.now.shown.now chart.now.jobs.now chart.now.slices.now stay spot n) }
 {
     match wait_at(chart, stay, n) {
-        None => Ok(()),
-        Some(wait) => put_wait(chart, stay, spot, n, wait, out),
+        None => {}
+        Some(wait) => put_wait(chart, stay, spot, n, wait, page),
     }
 }
 
 // The waits of a job in a row, by time: in the slices that end by then it isn't ready.
-fn put_stay<W: Write + Drop>(
-    chart: &Chart<'_>,
-    stay: Stay,
-    spot: Spot,
-    past: Past,
-    out: &mut Outlet<'_, W>,
-) -> Result<(), WriteFailed>
+fn put_stay(chart: &Chart<'_>, stay: Stay, spot: Spot, past: Past, page: &mut Page)
     requires row { spot.rank < length chart.now.rows.now }
     requires place { spot.k ≤ TASK_LIMIT }
     requires within { past.count ≤ length chart.now.slices.now }
     requires ended { EndBy chart.now.slices.now past.count past.time }
     requires before { past.time ≤ stay.from }
-    ensures { Puts W.contents out.old out.new result
-        (stay_text chart.now.frame chart.now.locks.now chart.now.rows.now chart.now.shown.now
+    ensures { Adds page.old page.new (stay_text chart.now.frame chart.now.locks.now
+        chart.now.rows.now chart.now.shown.now
         chart.now.jobs.now chart.now.slices.now stay spot) }
 {
     for n in past.count..chart.slices.len() {
         if is_behind(chart, stay, n) {
-            return Ok(());
+            return;
         }
-        put_nth_wait(chart, stay, spot, n, out)?;
+        put_nth_wait(chart, stay, spot, n, page);
     }
-    Ok(())
 }
 
 // The waits of job j, in the row of its task.
-fn put_job_waits<W: Write + Drop>(
-    chart: &Chart<'_>,
-    j: usize,
-    past: Past,
-    out: &mut Outlet<'_, W>,
-) -> Result<(), WriteFailed>
+fn put_job_waits(chart: &Chart<'_>, j: usize, past: Past, page: &mut Page)
     requires job { j < length chart.now.jobs.now }
     requires within { past.count ≤ length chart.now.slices.now }
     requires ended { EndBy chart.now.slices.now past.count past.time }
-    requires before { past.time ≤ (stay_of chart.now.frame chart.now.releases.now chart.now.jobs.now j).from }
-    ensures { Puts W.contents out.old out.new result
-        (job_waits chart.now.frame chart.now.locks.now chart.now.rows.now chart.now.shown.now
+    requires before { past.time ≤ (stay_of chart.now.frame chart.now.releases.now
+        chart.now.jobs.now j).from }
+    ensures { Adds page.old page.new (job_waits chart.now.frame chart.now.locks.now
+        chart.now.rows.now chart.now.shown.now
         chart.now.releases.now chart.now.jobs.now chart.now.slices.now j) }
 {
     let name = name_of(chart.jobs, j);
     match chart.spot_of(name) {
-        None => Ok(()),
-        Some(spot) => put_stay(chart, stay_of(chart, j), spot, past, out),
+        None => {}
+        Some(spot) => put_stay(chart, stay_of(chart, j), spot, past, page),
     }
 }
 
 /// Puts the waits of each job into the row of its task.
-pub fn put_waits<W: Write + Drop>(
-    chart: &Chart<'_>,
-    out: &mut Outlet<'_, W>,
-) -> Result<(), WriteFailed>
-    ensures { Puts W.contents out.old out.new result
-        (waits_text chart.now.frame chart.now.locks.now chart.now.rows.now chart.now.shown.now
+pub fn put_waits(chart: &Chart<'_>, page: &mut Page)
+    ensures { Adds page.old page.new (waits_text chart.now.frame chart.now.locks.now
+        chart.now.rows.now chart.now.shown.now
         chart.now.releases.now chart.now.jobs.now chart.now.slices.now) }
 {
     let mut past = Past { count: 0, time: 0 };
     for j in 0..chart.jobs.len() {
         past = past_before(chart, j, past);
-        put_job_waits(chart, j, past, out)?;
+        put_job_waits(chart, j, past, page);
     }
-    Ok(())
 }

@@ -4,3 +4,4 @@ pub mod FirstCovers
 pub mod Walks
 pub mod AboveLaws
 pub mod InterruptSums
+pub mod UninterruptedLaws

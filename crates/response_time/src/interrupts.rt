@@ -1,9 +1,8 @@
 //! What timers and interrupts take of whoever executes.
 ghost use Rattle.std.specs.Prelude.{◌≡◌, ◌≤◌, ◌*◌};
-ghost use Rattle.std.specs.Bool.{OnFalse};
 ghost use Rattle.task_sheet.specs.Sheet.{IsValidSheet};
 ghost use Rattle.task_sheet.specs.declared.set.TheConstants.{TASK_LIMIT};
-ghost use Rattle.task_sheet.specs.Demand.{interrupts_some, interrupts_of, interrupts_within, IsUninterrupted};
+ghost use Rattle.task_sheet.specs.Demand.{interrupts_some, has_interrupts, interrupts_of, interrupts_within};
 ghost use Rattle.response_time.specs.declared.workload.TheConstants.{WINDOW_LIMIT};
 
 use ceilings::Tabled;
@@ -16,16 +15,11 @@ fn interrupts_some(sheet: &Sheet) -> bool
     sheet.node().release > 0 || !sheet.interrupts().is_empty()
 }
 
-/// Whether some task of the set has.
+/// Whether some task of the set has a timer that takes time, or an interrupt on its account.
 pub(crate) fn has_interrupts(set: &Tabled<'_>) -> bool
-    ensures { OnFalse result (IsUninterrupted set.now) }
+    ensures { result ≡ has_interrupts set.now }
 {
-    for sheet in set.sheets() {
-        if interrupts_some(sheet) {
-            return true;
-        }
-    }
-    false
+    set.sheets().iter().any(interrupts_some)
 }
 
 // What a task's timer and the interrupts on its account take of a window of some microseconds.

@@ -3,21 +3,22 @@
 #![tactic(auto)]
 
 ghost use Rattle.std.specs.Prelude.{◌≡◌, ◌+◌, ◌≤◌, ◌<◌, ◌↔◌, ℕ, List, length, IsTrue, IfOk, IfSome, IfNone};
-ghost use Rattle.std.specs.Bool.{OnFalse};
 ghost use Rattle.task_sheet.specs.Sheet.{task_at};
 ghost use Rattle.task_sheet.specs.TaskSet.{IsTaskSet};
 ghost use Rattle.response_time.specs.declared.workload.TheConstants.{WINDOW_LIMIT};
 ghost use Rattle.task_sheet.specs.Indexes.{indexes_of};
 ghost use Rattle.task_sheet.specs.Responses.{IsTrail};
-ghost use Rattle.task_sheet.specs.Demand.{interrupts_within, IsUninterrupted, demand_of, limit_of, IsResponseOf, Passes, evaluation_bound};
+ghost use Rattle.task_sheet.specs.Demand.{has_interrupts, interrupts_within, demand_of, limit_of, IsResponseOf, Passes, evaluation_bound};
 ghost use Rattle.response_time.specs.Answers.{IsAnswer};
 ghost use Rattle.response_time.specs.Workload.{work_within};
 
 mod interrupts;
 pub mod laws;
+mod uninterrupted;
 mod workload;
 
 use crate::interrupts::{has_interrupts, interrupts_within};
+pub use crate::uninterrupted::passes_uninterrupted;
 use crate::workload::Workload;
 use ceilings::Tabled;
 use std::alloc::{AllocError, Global};
@@ -77,7 +78,7 @@ pub fn demand(set: &Tabled<'_>, task: usize, above: Members, time: u64) -> u64
 fn next_demand(set: &Tabled<'_>, work: &mut Workload, has_some: bool, time: u64) -> u64
     requires time { time ≤ WINDOW_LIMIT }
     requires longer { work.old.time ≤ time }
-    requires some { OnFalse has_some (IsUninterrupted set.now) }
+    requires some { has_some ≡ has_interrupts set.now }
     ensures is { result ≡ work_within time work.old + interrupts_within set.now time }
     ensures same { (t : ℕ) → work_within t work.new ≡ work_within t work.old }
     ensures time { work.new.time ≡ time }

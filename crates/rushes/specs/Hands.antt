@@ -20,7 +20,7 @@ use Rattle.scripts.specs.declared.line.Row.{Row}
 use Rattle.scripts.specs.declared.line.Row.TheVariants.{Put, Remove, Commit, Abandon}
 
 -- a team at one of its lines: the drafts that its lines above opened and that haven't ended, by number; the team's pass;
--- and what is told of its lines above that did nothing
+-- and what is reported of its lines above that did nothing
 pub record Hand : Type 0 where
   pub drafts : List (ℕ × Draft)
   pub pass : Known
@@ -60,7 +60,7 @@ abbrev pub IsCommitted : ℕ → Draft → Known → Known → Type 0
 IsCommitted workers d old new =
     (place : ℕ) × Commits (λ question. ⊥) (λ question. ⊥) workers d old (Ok place) new
 
--- what a line makes of a draft, None where that ends it, and of the pass; and what is told of the line
+-- what a line makes of a draft, None where that ends it, and of the pass; and what is reported of the line
 abbrev pub IsStep :
     ℕ → Row → Draft → Known → Option Draft → Option Missed → Known → Type 0
 IsStep workers (Put number sheet) d old next missed new =
@@ -79,18 +79,18 @@ IsStep workers (Abandon number) d old next missed new =
     (next ≡ None) × (missed ≡ None) × (new ≡ old)
 IsStep workers row d old next missed new = (next ≡ Some d) × (missed ≡ None) × (new ≡ old)
 
--- a line on a draft: a step of it; or it has ended, and that is told
+-- a line on a draft: a step of it; or it has ended, and that is reported
 abbrev pub IsOn : ℕ → Row → ℕ → Option Draft → Known → Option Draft → Option Missed → Known → Type 0
 IsOn workers row number None old next missed new =
     (next ≡ None) × (missed ≡ Some (Ended number)) × (new ≡ old)
 IsOn workers row number (Some d) old next missed new = IsStep workers row d old next missed new
 
--- what is told of the line with this number
+-- what is reported of the line with this number
 abbrev pub noted : ℕ → Option Missed → List Note
 noted line None = []
 noted line (Some missed) = record { line = line; missed = missed } ∷ []
 
--- a line on the draft of that number, and what is told of it
+-- a line on the draft of that number, and what is reported of it
 abbrev pub IsDraftLine : ℕ → Hand → ℕ → ℕ → Row → Hand → Type 0
 IsDraftLine workers h line number row k =
     (next : Option Draft) × (missed : Option Missed)
@@ -112,7 +112,7 @@ AreDone workers h (line ∷ lines) k =
 
 -- ---- all teams
 -- these entries with their places are what a team's lines of the script came to, whatever parts of the ledger its pass
--- has, and these notes are what is told of its lines
+-- has, and these notes are what is reported of its lines
 abbrev pub IsTeamPart : ℕ → List Line → ℕ → List (ℕ × Entry) → List Note → Type 0
 IsTeamPart workers lines team entries notes =
     (parts : ℕ) × (last : Hand)

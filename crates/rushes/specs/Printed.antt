@@ -25,8 +25,8 @@ log_lines place (e ∷ log) = entry_line place e ++ log_lines (place + 1) log
 abbrev pub IsBookLog : Book → List ℕ → Type 0
 IsBookLog b text = (book : List ℕ) × IsBookText b.desk book × (text ≡ log_lines 1 b.log ++ book)
 
--- ---- what is told of lines that did nothing
--- why a line did nothing: why an edit is refused is told as `play` tells it
+-- ---- what is reported of lines that did nothing
+-- why a line did nothing: why an edit is refused is reported as `play` reports it
 abbrev pub missed_words : Missed → List ℕ
 missed_words (PutRefused name refusal) = codes "put " ++ name ++ codes ": " ++ edit_word refusal
 missed_words (RemoveRefused name refusal) =
@@ -48,7 +48,7 @@ all_note_lines [] = []
 all_note_lines (notes ∷ rest) = note_lines notes ++ all_note_lines rest
 
 -- ---- both
--- what the threads of all teams may come to is printed, and what is told of their lines, by team and then by line
+-- what the threads of all teams may come to is printed, and what is reported of their lines, by team and then by line
 abbrev pub IsRushText : ℕ → List Line → List ℕ → List ℕ → Type 0
 IsRushText workers lines text told =
     (b : Book) × (notes : List (List Note)) × IsRushed workers lines b notes × IsBookLog b text

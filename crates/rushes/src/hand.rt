@@ -22,7 +22,7 @@ use std::sync::ledger::Ledger;
 use std::thread::Threads;
 use task_sheet::{Name, Sheet};
 
-/// The drafts that the team's lines opened and that haven't ended, by number; its pass; and what is told of its lines
+/// The drafts that the team's lines opened and that haven't ended, by number; its pass; and what is reported of its lines
 /// that did nothing.
 #[derive(Drop)]
 pub(crate) struct Hand<L: Ledger> {
@@ -53,7 +53,7 @@ fn refusal_of(cause: EditCause) -> Result<EditRefusal, AllocError>
     }
 }
 
-// Puts a sheet into a draft, and gives what is told of that.
+// Puts a sheet into a draft, and gives what is reported of that.
 fn put(alloc: Global, draft: &mut Draft, sheet: &Sheet) -> Result<Option<Missed>, AllocError>
     ensures draft { OnOk result (draft.new ≡ edited draft.old (after_put draft.old sheet.now)) }
     ensures missed { IfOk result (λ missed. missed
@@ -70,7 +70,7 @@ fn put(alloc: Global, draft: &mut Draft, sheet: &Sheet) -> Result<Option<Missed>
     }
 }
 
-// Removes a task from a draft, and gives what is told of that.
+// Removes a task from a draft, and gives what is reported of that.
 fn remove(draft: &mut Draft, name: Name) -> Result<Option<Missed>, AllocError>
     ensures draft { OnOk result (draft.new ≡ edited draft.old (after_remove draft.old name)) }
     ensures missed { IfOk result (λ missed. missed
@@ -110,7 +110,7 @@ fn commit<L: Ledger, R: Threads + Wait>(
     }
 }
 
-// What a line makes of a draft, none where that ends it; and what is told of the line.
+// What a line makes of a draft, none where that ends it; and what is reported of the line.
 fn step<L: Ledger, R: Threads + Wait>(
     site: &Site<'_, L, R>,
     pass: &mut Pass<L>,
@@ -182,7 +182,7 @@ impl<L: Ledger> Hand<L> {
         Ok(())
     }
 
-    // A line on the draft of this number, and what is told of it.
+    // A line on the draft of this number, and what is reported of it.
     fn run_on<R: Threads + Wait>(
         &mut self,
         site: &Site<'_, L, R>,
@@ -215,7 +215,7 @@ impl<L: Ledger> Hand<L> {
         Ok(())
     }
 
-    // One line, and what is told of it.
+    // One line, and what is reported of it.
     fn run_line<R: Threads + Wait>(
         &mut self,
         site: &Site<'_, L, R>,
@@ -233,7 +233,7 @@ impl<L: Ledger> Hand<L> {
         Ok(())
     }
 
-    /// What is told of the team's lines that did nothing, by line.
+    /// What is reported of the team's lines that did nothing, by line.
     pub(crate) fn notes(&self) -> &[Note]
         ensures { result.now ≡ self.now.notes }
     {

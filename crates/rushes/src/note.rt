@@ -1,4 +1,4 @@
-//! What is told of lines that did nothing.
+//! What is reported of lines that did nothing.
 
 use drafts::EditRefusal;
 use task_sheet::Name;

@@ -1,4 +1,4 @@
-//! The lines of a log, and of what is told of lines that did nothing.
+//! The lines of a log, and of what is reported of lines that did nothing.
 ghost use Rattle.std.specs.Prelude.{◌≡◌, ◌≤◌, ◌++◌, OnOk, IfOk, map, string_bytes};
 ghost use Rattle.drafts.specs.declared.team.TheConstants.{TEAM_LIMIT};
 ghost use Rattle.rushes.specs.Hands.{AreOfTeams, closed_book};
@@ -83,7 +83,7 @@ fn push_notes(text: &mut String, notes: &[Note]) -> Result<(), AllocError>
     Ok(())
 }
 
-/// What is told of the lines of all teams that did nothing, by team and then by line.
+/// What is reported of the lines of all teams that did nothing, by team and then by line.
 pub(crate) fn notes_text<L: Ledger>(alloc: Global, teams: &[Hand<L>]) -> Result<String, AllocError>
     ensures { IfOk result (λ text. string_bytes text
         ≡ all_note_lines (map (λ last. last.notes) teams.now)) }

@@ -23,7 +23,7 @@ use std::thread::Threads;
 pub struct RushTexts {
     /// The lines of the log, and then those of the book.
     pub log: String,
-    /// What is told of lines that did nothing, by team and then by line.
+    /// What is reported of lines that did nothing, by team and then by line.
     pub notes: String,
 }
 
@@ -69,9 +69,9 @@ fn rush_on<L: Ledger + Send + Sync, R: Threads + Wait + Sync>(
 }
 
 /// Runs the lines of a script on an empty desk of `TEAM_LIMIT` teams, those of each team in their order on a thread of its own,
-/// with at most so many workers for each commit, and gives the lines of the log and of the book, and what is told of lines
-/// that did nothing: their edit was refused, or their draft had ended. Lines `found` and `test` do nothing on other
-/// drafts, and nothing is told of that. A fault is that of the least team that has one.
+/// with at most so many workers for each commit, and gives the lines of the log and of the book, and what is reported of
+/// lines that did nothing: their edit was refused, or their draft had ended. Lines `found` and `test` do nothing on other
+/// drafts, and nothing is reported of that. A fault is that of the least team that has one.
 pub fn rush_lines<R: Threads + Wait + Sync>(
     rt: &R,
     alloc: Global,

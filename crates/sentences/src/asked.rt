@@ -65,7 +65,14 @@ pub fn of_window(alloc: Global, bytes: &[u8], from: usize, to: Option<usize>) ->
     told.number("its run ends at ", until_of(bytes));
     told.number(": nothing of it lies from ", from as u64);
     match to {
-        Some(to) => told.number(" to ", to as u64),
+        Some(to) => {
+            told.number(" to ", to as u64);
+            told.words(if to <= from {
+                "; --to has to be after --from"
+            } else {
+                ""
+            });
+        }
         None => told.words(" on"),
     }
     told.whole()

@@ -4,9 +4,9 @@ use crate::texts::{is_line_end, is_skipped, line_at, tell_bad_line, tell_line, w
 use crate::told::Told;
 use ceiling_kernel::{HORIZON, RELEASE_LIMIT, RunFault};
 use judge::SettingsFault;
-use lines::number_of;
+use lines::{name_of, number_of};
 use std::alloc::Global;
-use task_sheet::Name;
+use task_sheet::{Name, Sheet, TaskSet};
 
 // ---- release lists
 
@@ -23,9 +23,9 @@ pub fn of_release_line(alloc: Global, bytes: &[u8], line: u64) -> Option<String>
 // What a line of a release list has to be, the first or a later one.
 fn form_of(is_first: bool) -> &'static str {
     if is_first {
-        " has to be until N, with a time of 1 to 10 digits"
+        " has to be until N, in whole microseconds"
     } else {
-        " has to be TIME NAME or TIME NAME LATE, with times of 1 to 10 digits"
+        " has to be TIME NAME [LATE] [runs N], in whole microseconds"
     }
 }
 
@@ -56,26 +56,14 @@ fn line_of_place(bytes: &[u8], place: usize) -> Option<u64> {
     None
 }
 
-// The place of the release that is at fault, and what is wrong with it; place 0 where it isn't one release.
-fn wrong_release(fault: RunFault) -> (usize, &'static str) {
-    match fault {
-        RunFault::Unsorted { place } => (place, " arrives before the one above it"),
-        RunFault::UnknownTask { place } => (place, ": the set has no task of that name"),
-        RunFault::TooSoon { place } => (
-            place,
-            " arrives less than the task's period after the one before it",
-        ),
-        RunFault::TooLate { place } => (place, " is later than the task's jitter allows"),
-        RunFault::OutsideCost { place } => (
-            place,
-            " runs for nothing, or for more than the task's cost",
-        ),
-        _ => (0, ""),
-    }
-}
-
-/// What a person is told of why a release list wasn't run; none where memory runs out.
-pub fn of_run(alloc: Global, bytes: &[u8], fault: RunFault) -> Option<String> {
+/// What a person is told of why a release list wasn't run, with the set of its tasks where that is at hand; none where
+/// memory runs out.
+pub fn of_run(
+    alloc: Global,
+    bytes: &[u8],
+    set: Option<&TaskSet>,
+    fault: RunFault,
+) -> Option<String> {
     let mut told = Told::new(alloc);
     match fault {
         RunFault::PastHorizon => tell_horizon(&mut told, bytes),
@@ -88,20 +76,115 @@ pub fn of_run(alloc: Global, bytes: &[u8], fault: RunFault) -> Option<String> {
             told.number(" becomes ready at ", time);
             told.words(", while the one before it isn't finished");
         }
+        RunFault::Unsorted { place } => {
+            tell_release(&mut told, bytes, place, " arrives before the one above it");
+        }
+        RunFault::UnknownTask { place } => {
+            tell_release(
+                &mut told,
+                bytes,
+                place,
+                ": the set has no task of that name",
+            );
+        }
+        RunFault::TooSoon { place } => tell_soon(&mut told, bytes, set, place),
+        RunFault::TooLate { place } => tell_late(&mut told, bytes, set, place),
+        RunFault::OutsideCost { place } => tell_cost(&mut told, bytes, set, place),
         RunFault::OutOfMemory => told.give_up(),
-        _ => tell_release(&mut told, bytes, wrong_release(fault)),
     }
     told.whole()
 }
 
 // A release with its line, and what is wrong with it.
-fn tell_release(told: &mut Told, bytes: &[u8], (place, wrong): (usize, &str)) {
+fn tell_release(told: &mut Told, bytes: &[u8], place: usize, wrong: &str) {
     match line_of_place(bytes, place) {
         Some(line) => tell_line(told, bytes, line, wrong),
         None => {
             told.number("release ", place as u64);
             told.words(wrong);
         }
+    }
+}
+
+// The line of a release; an empty one where there is none.
+fn release_at(bytes: &[u8], place: usize) -> &[u8] {
+    match line_of_place(bytes, place) {
+        Some(line) => line_at(bytes, line).unwrap_or(&[]),
+        None => &[],
+    }
+}
+
+// The task of a release, where the set is at hand.
+fn task_of<'a>(set: Option<&'a TaskSet>, line: &[u8]) -> Option<&'a Sheet> {
+    let set = set?;
+    let name = name_of(word_at(line, 1)?)?;
+    set.get(set.find(name)?)
+}
+
+// When the release before this place arrives that has the name of the one there.
+fn arrival_before(bytes: &[u8], place: usize) -> Option<u64> {
+    let last = line_of_place(bytes, place)?;
+    let name = word_at(line_at(bytes, last)?, 1)?;
+    let mut arrival = None;
+    let mut number = 0u64;
+    for line in bytes.split(is_line_end) {
+        number = number.saturating_add(1);
+        if number < last && is_listed(line) && has_word(line, 1, name) {
+            arrival = Some(time_at(line, 0));
+        }
+    }
+    arrival
+}
+
+// A release that arrives too soon after another one, with both times and the period.
+fn tell_soon(told: &mut Told, bytes: &[u8], set: Option<&TaskSet>, place: usize) {
+    let wrong = " arrives less than the task's period after the one before it";
+    tell_release(told, bytes, place, wrong);
+    let line = release_at(bytes, place);
+    told.number(": at ", time_at(line, 0));
+    told.value(", that one at ", arrival_before(bytes, place));
+    if let Some(task) = task_of(set, line) {
+        told.number(", period ", task.period());
+    }
+}
+
+// A release that is too late, with the jitter.
+fn tell_late(told: &mut Told, bytes: &[u8], set: Option<&TaskSet>, place: usize) {
+    tell_release(
+        told,
+        bytes,
+        place,
+        " is later than the task's jitter allows",
+    );
+    let line = release_at(bytes, place);
+    told.number(": late ", time_at(line, 2));
+    if let Some(task) = task_of(set, line) {
+        told.number(", jitter ", task.jitter());
+    }
+}
+
+// For how long the job of a release executes, where its line says so.
+fn runs_in(line: &[u8]) -> u64 {
+    if has_word(line, 2, b"runs") {
+        time_at(line, 3)
+    } else {
+        time_at(line, 4)
+    }
+}
+
+// A release whose job executes for nothing or for too long, with the cost.
+fn tell_cost(told: &mut Told, bytes: &[u8], set: Option<&TaskSet>, place: usize) {
+    let line = release_at(bytes, place);
+    let runs = runs_in(line);
+    let wrong = if runs == 0 {
+        " runs for nothing"
+    } else {
+        " runs for more than the task's cost"
+    };
+    tell_release(told, bytes, place, wrong);
+    told.number(": runs ", runs);
+    if let Some(task) = task_of(set, line) {
+        told.number(", cost ", task.cost());
     }
 }
 

@@ -1,11 +1,12 @@
 //! Why a text is no certificate, or doesn't show what it says.
 
-use crate::texts::{line_at, tell_bad_line, tell_unseen};
+use crate::texts::{is_line_end, line_at, tell_bad_line, tell_unseen, word_at};
 use crate::told::Told;
 use cert_checker::CheckFault;
 use certificate::CertFault;
+use lines::{name_of, number_of};
 use std::alloc::Global;
-use task_sheet::Name;
+use task_sheet::{Name, TaskSet};
 
 /// What a person is told of a fault of a certificate's text; none where memory runs out.
 pub fn of_certificate(alloc: Global, bytes: &[u8], fault: CertFault) -> Option<String> {
@@ -33,25 +34,78 @@ const WANTED: &str =
     ": no such line may stand here; after the head come best N, for each level from 1 \
     level K NAME NUMBER and lines fails NAME REASON, or none N and lines member NAME REASON, then end";
 
-/// What a person is told of what a certificate fails to show; none where memory runs out.
-pub fn of_check(alloc: Global, fault: CheckFault) -> Option<String> {
+/// What a person is told of what a certificate fails to show, with the set that it is of where that is at hand, and
+/// whether the call says by what the set is preferred; none where memory runs out.
+pub fn of_check(
+    alloc: Global,
+    bytes: &[u8],
+    set: Option<&TaskSet>,
+    is_preferred: bool,
+    fault: CheckFault,
+) -> Option<String> {
     let mut told = Told::new(alloc);
     match fault {
         CheckFault::WrongVersion => told.words(
             "its version is too low: a set with release of [node] or an interrupt needs 3, another one with jitter, late of [node] or outranks 2",
         ),
         CheckFault::WrongTasks { level } => tell_tasks(&mut told, level),
-        CheckFault::BadPass { level } => {
-            told.number("level ", level as u64);
-            told.words(
-                ": its number is past the deadline less the jitter, or below what the task may need; or its task has to outrank one above it",
-            );
-        }
+        CheckFault::BadPass { level } => tell_pass(&mut told, bytes, set, level),
         CheckFault::BadChain { level, name } => tell_chain(&mut told, level, name),
         CheckFault::MissingFail { level, name } => tell_missing(&mut told, level, name),
         CheckFault::EmptySet => told.words("none without members shows nothing"),
     }
+    if !is_preferred && may_be_of_other(fault) {
+        told.words(" (a certificate made with --prefer is checked with it)");
+    }
     told.whole()
+}
+
+// Whether a certificate of another preference has this fault.
+fn may_be_of_other(fault: CheckFault) -> bool {
+    match fault {
+        CheckFault::WrongTasks { level } => level > 0,
+        CheckFault::MissingFail { .. } => true,
+        _ => false,
+    }
+}
+
+// Whether a line is that of a level.
+fn is_level(line: &[u8], level: u64) -> bool {
+    word_at(line, 0).unwrap_or(&[]) == b"level".as_slice()
+        && number_of(word_at(line, 1).unwrap_or(&[])) == Some(level)
+}
+
+// The line of a level; an empty one where there is none.
+fn level_line(bytes: &[u8], level: u64) -> &[u8] {
+    for line in bytes.split(is_line_end) {
+        if is_level(line, level) {
+            return line;
+        }
+    }
+    &[]
+}
+
+// What the jitter leaves of the deadline of a level's task.
+fn limit_of(set: Option<&TaskSet>, line: &[u8]) -> Option<u64> {
+    let set = set?;
+    let name = name_of(word_at(line, 2)?)?;
+    Some(set.get(set.find(name)?)?.limit())
+}
+
+// The number of a level that its task can't have, with its limit.
+fn tell_pass(told: &mut Told, bytes: &[u8], set: Option<&TaskSet>, level: usize) {
+    let line = level_line(bytes, level as u64);
+    let number = number_of(word_at(line, 3).unwrap_or(&[])).unwrap_or(0);
+    told.number("level ", level as u64);
+    told.number(": its number, ", number);
+    match limit_of(set, line) {
+        Some(limit) if number > limit => {
+            told.number(", is past the deadline less the jitter, ", limit);
+        }
+        _ => told.words(
+            ", is below what the task may need, or its task has to outrank one above it",
+        ),
+    }
 }
 
 // Names that are not those that have to stand there; level 0 is the whole certificate.

@@ -118,10 +118,37 @@ fn tell_keys(told: &mut Told, keys: &[Key]) {
 }
 
 // The first key of a table, where there is one, that is none of these.
+fn unknown_of<'a>(keys: &[Key], table: Option<&'a Table>) -> &'a str {
+    match table {
+        Some(table) => unknown_key(Known::Keys(keys), table).unwrap_or(""),
+        None => "",
+    }
+}
+
+// The same, told.
 fn tell_unknown_key(told: &mut Told, keys: &[Key], table: Option<&Table>) {
     told.words("unknown key ");
-    if let Some(table) = table {
-        told.shown(unknown_key(Known::Keys(keys), table).unwrap_or(""));
+    told.shown(unknown_of(keys, table));
+}
+
+// What a set may have in place of an unknown key.
+fn tell_root(told: &mut Told, key: &str) {
+    if key == Key::Section.word() {
+        told.words("; a section is headed [[task.section]]");
+    } else {
+        told.words(
+            "; a set has tasks, each headed by [[task]], and may have prefer in front of them, [node] and [[interrupt]]",
+        );
+    }
+}
+
+// What a task may have in place of an unknown key.
+fn tell_task(told: &mut Told, key: &str) {
+    if key == Key::Prefer.word() {
+        told.words("; prefer stands in front of the first [[task]]");
+    } else {
+        told.words("; a task has");
+        tell_keys(told, &TASK_KEYS);
     }
 }
 
@@ -130,13 +157,10 @@ fn tell_unknown(told: &mut Told, root: &Table, task: usize, section: usize) {
     let table = table_of(root, task, section);
     if task == 0 {
         tell_unknown_key(told, &ROOT_KEYS, table);
-        told.words(
-            "; a set has tasks, each headed by [[task]], and may have prefer in front of them, [node] and [[interrupt]]",
-        );
+        tell_root(told, unknown_of(&ROOT_KEYS, table));
     } else if section == 0 {
         tell_unknown_key(told, &TASK_KEYS, table);
-        told.words("; a task has");
-        tell_keys(told, &TASK_KEYS);
+        tell_task(told, unknown_of(&TASK_KEYS, table));
     } else {
         tell_unknown_key(told, &SECTION_KEYS, table);
         told.words("; a section has");
@@ -209,23 +233,37 @@ fn tell_interrupt(told: &mut Told, root: &Table, place: usize) {
     }
 }
 
-// What the numbers of an interrupt have to be, and what its table has.
-fn tell_numbers(told: &mut Told, table: &Table) {
-    told.number("period has to be from ", INTERRUPT_FROM);
-    told.number(" to ", PERIOD_TO);
-    told.words(", and cost at most period; ");
-    tell_number(told, table, Key::Period);
-    told.words(", ");
-    tell_number(told, table, Key::Cost);
+// The first key of an interrupt that its table lacks, or whose value is no whole number from 0.
+fn key_without_number(table: &Table) -> Option<Key> {
+    for key in INTERRUPT_KEYS {
+        if number_at(key, table).is_none() {
+            return Some(key);
+        }
+    }
+    None
 }
 
-// The number at a key, or that there is none.
-fn tell_number(told: &mut Told, table: &Table, key: Key) {
-    told.words(key.word());
-    match number_at(key, table) {
-        Some(number) => told.number(" is ", number),
-        None => told.words(" is no number"),
+// What the values of an interrupt have to be, and what its table has.
+fn tell_numbers(told: &mut Told, table: &Table) {
+    match key_without_number(table) {
+        Some(key) if table.get(key.word()).is_none() => {
+            told.words("no key ");
+            told.words(key.word());
+            told.words("; an interrupt needs");
+            tell_keys(told, &INTERRUPT_KEYS);
+        }
+        Some(key) => tell_kind_in(told, Some(table), key),
+        None => tell_limits(told, table),
     }
+}
+
+// The limits of an interrupt's numbers, and those of its table.
+fn tell_limits(told: &mut Told, table: &Table) {
+    told.number("period has to be from ", INTERRUPT_FROM);
+    told.number(" to ", PERIOD_TO);
+    told.words(", and cost at most period");
+    told.value("; period is ", number_at(Key::Period, table));
+    told.value(", cost is ", number_at(Key::Cost, table));
 }
 
 // ---- kinds
@@ -317,12 +355,17 @@ fn tell_found(told: &mut Told, key: Key, value: &Value) {
     }
 }
 
-// A value of another kind.
+// A value of another kind, at the place of a fault.
 fn tell_kind(told: &mut Told, root: &Table, task: usize, section: usize, key: Key) {
+    tell_kind_in(told, table_with(root, task, section, key), key);
+}
+
+// The same, in a table.
+fn tell_kind_in(told: &mut Told, table: Option<&Table>, key: Key) {
     told.words(key.word());
     told.words(" has to be ");
     told.words(kind_of(key));
-    if let Some(table) = table_with(root, task, section, key) {
+    if let Some(table) = table {
         if let Some(value) = table.get(key.word()) {
             told.words("; it is ");
             tell_found(told, key, value);

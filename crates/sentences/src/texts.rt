@@ -62,6 +62,60 @@ fn has_empty_word(line: &[u8]) -> bool {
     false
 }
 
+// Whether a word behind the first of the line begins with `#`.
+fn has_comment(line: &[u8]) -> bool {
+    for (place, word) in line.split(is_space).enumerate() {
+        if place > 0 && word.starts_with(b"#") {
+            return true;
+        }
+    }
+    false
+}
+
+// Whether a word is of digits alone.
+fn is_digits(word: &[u8]) -> bool {
+    for byte in word {
+        if !byte.is_ascii_digit() {
+            return false;
+        }
+    }
+    true
+}
+
+// What is wrong with a word of digits that is no number.
+fn slip_in_number(word: &[u8]) -> Option<&'static str> {
+    if word.len() > 1 && word.starts_with(b"0") && is_digits(word) {
+        Some("; a number has no leading zero")
+    } else if word.len() > 10 && is_digits(word) {
+        Some("; a number has 10 digits at most")
+    } else {
+        None
+    }
+}
+
+// The same of the first such word of a line.
+fn slip_in_numbers(line: &[u8]) -> Option<&'static str> {
+    for word in line.split(is_space) {
+        if let Some(slip) = slip_in_number(word) {
+            return Some(slip);
+        }
+    }
+    None
+}
+
+// A slip in a line: a tab, a comment, a space too many, or a number that is none.
+fn slip_in(line: &[u8]) -> &'static str {
+    if line.contains(&b'\t') {
+        "; a tab stands in it, where one space stands between words"
+    } else if has_comment(line) {
+        "; a comment has to be a line of its own, which begins with #"
+    } else if has_empty_word(line) {
+        "; one space stands between words, none before or after them"
+    } else {
+        slip_in_numbers(line).unwrap_or("")
+    }
+}
+
 /// A line of a text, with its number, and what is wrong with it.
 pub(crate) fn tell_line(told: &mut Told, bytes: &[u8], number: u64, wrong: &str) {
     told.number("line ", number);
@@ -85,7 +139,7 @@ pub(crate) fn tell_unseen(told: &mut Told, bytes: &[u8], number: u64) {
     }
     if line.ends_with(b"\r") {
         told.words("; it ends with CR and LF, where LF alone is wanted");
-    } else if has_empty_word(line) {
-        told.words("; one space stands between words, none before or after them");
+    } else {
+        told.words(slip_in(line));
     }
 }

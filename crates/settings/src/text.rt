@@ -90,7 +90,7 @@ fn push_mutexes(
 }
 
 /// The lines that say what a node is set to for an order of a set, its places the lowest first: the level of each
-/// task's thread, and the ceiling of each lock's mutex, as priorities of which level 1 has the base. The error is want of
+/// task's thread, and the ceiling of each lock's mutex, as priorities of which level 1 has the base. The error is out of
 /// memory.
 pub fn settings_text(
     alloc: Global,

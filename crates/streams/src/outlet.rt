@@ -57,17 +57,6 @@ impl<'a, W: Write + Drop> Outlet<'a, W> {
         }
     }
 
-    /// Writes what is held back, where the outlet is in another value.
-    pub fn flush(&mut self) -> Result<(), WriteFailed>
-        ensures sent { OnOk result (Appends (W.contents self.old.out.now.inner)
-            (W.contents self.new.out.now.inner) self.old.held) }
-        ensures ok { OnOk result (self.new.out.now.has_failed ≡ self.old.out.now.has_failed) }
-        ensures failed { OnErr result (self.new.out.now.has_failed ≡ true) }
-        ensures same { self.new.out.ghost_name ≡ self.old.out.ghost_name }
-    {
-        self.held.send(self.out)
-    }
-
     /// Writes what is held back.
     pub fn send(self) -> Result<(), WriteFailed>
         ensures sent { OnOk result (Appends (W.contents self.entry.out.now.inner)

@@ -1,10 +1,10 @@
 -- Documents that were read one after the other, and where a name first repeats.
 use Rattle.std.proofs.Common.{◌≡◌, ◌≢◌, ◌∙◌, ◌<◌, ◌≤◌, ◌+◌, ◌-◌, ◌==◌, ℕ, count_by, codes, inl, inr}
-use Rattle.std.proofs.Common.{true, false, cond, List, [], ◌∷◌, ◌++◌, length, get_or, take, drop}
+use Rattle.std.proofs.Common.{true, false, cond, List, [], ◌∷◌, ◌++◌, length}
 use Rattle.std.proofs.Common.{Option, Some, None, Err, Ok, refl, sym, ap, subst, arith, nat_lt}
 use Rattle.std.proofs.lemmas.Bool.{cases_Bool}
 use Rattle.std.specs.List.{join_with_byte}
-use Rattle.std.proofs.lemmas.List.{length-append, take_more, take-append-drop, drop_more}
+use Rattle.std.proofs.lemmas.List.{length-append}
 use Rattle.std.proofs.lemmas.List.Splits.{join_with_byte-slice_split, length-slice_split}
 use Rattle.lines.specs.Lines.{parts}
 use Rattle.lines.specs.Words.{number_in}
@@ -17,7 +17,7 @@ use Rattle.task_sheet.specs.declared.set.SetCause.TheVariants as cause
 use Rattle.teams.specs.Gathering.{AreGathered, Begins, HasNoHead, HasNoNode, IsCutOff, IsFirstPart}
 use Rattle.teams.specs.Gathering.{IsHead, IsNodeHead, IsNotGathered}
 use Rattle.teams.specs.Owned.{TeamSetData}
-use Rattle.teams.specs.ReadsTeams.{AreRead, IsFirstRefused, ReadsPart}
+use Rattle.teams.specs.ReadsTeams.{AreRead, ReadsPart}
 use Rattle.teams.specs.Budgets.{budgets_fault}
 use Rattle.teams.specs.ReadsText.{AreJudged, HasBudgets, IsUnited, ReadsBounded}
 use Rattle.teams.specs.declared.reading.Part.{Part}
@@ -34,12 +34,6 @@ read_push [] [] p s all one = (one, tt)
 read_push (q ∷ parts) (r ∷ sets) p s all one = (all.0, read_push parts sets p s all.1 one)
 read_push [] (r ∷ sets) p s all one = absurd all
 read_push (q ∷ parts) [] p s all one = absurd all
-
-pub read_more : (parts : List Part) (k : ℕ) (sets : List TeamSetData) (p : Part) (s : TeamSetData)
-    → k < length parts → p ≡ get_or parts k p → AreRead (take k parts) sets → ReadsPart p (Ok s)
-    → AreRead (take (k + 1) parts) (sets ++ s ∷ [])
-read_more parts k sets p s lt same all one =
-    rw (take_more parts k p lt, ← same) (read_push (take k parts) sets p s all one)
 
 begins_push : (text : List ℕ) (ps : List Part) (p : Part) (rest after : List ℕ) → Begins text ps
     rest → IsFirstPart rest p.team p.text.now after → Begins text (ps ++ p ∷ []) after
@@ -58,32 +52,6 @@ gathered_more text rest after sets p s all first one = (
   begins_push text all.0 p rest after all.1 first,
   read_push all.0 sets p s all.2 one,
 )
-
--- ---- the first that is none
-pub first_refused : (parts : List Part) (k : ℕ) (sets : List TeamSetData) (p : Part)
-    (e : TeamsFault) → k < length parts → p ≡ get_or parts k p → AreRead (take k parts) sets
-    → ReadsPart p (Err e)
-    → IsFirstRefused parts e
-first_refused parts k sets p e lt same all why = by e why
-  where
-    split : parts ≡ take k parts ++ p ∷ drop (k + 1) parts
-    split = sym (take-append-drop k parts) ∙ ap (λ l. take k parts ++ l)
-        (drop_more parts k p lt ∙ ap (λ x. x ∷ drop (k + 1) parts) (sym same))
-
-    by : (e : TeamsFault) → ReadsPart p (Err e) → IsFirstRefused parts e
-    by OutOfMemory why = tt
-    by (Of team f) why = (take k parts, p, drop (k + 1) parts, sets, split, all, why)
-    by (Taken team task other) why = absurd why
-    by (OtherPreference team other) why = absurd why
-    by (OtherNode team other) why = absurd why
-    by TooManyInterrupts why = absurd why
-    by (Padded f) why = absurd why
-    by TooManyTasks why = absurd why
-    by (BadHead part) why = absurd why
-    by (Alone fault) why = absurd why
-    by (Node fault) why = absurd why
-    by (NoSuchTeam team) why = absurd why
-    by (PastBudget team quantity number limit) why = absurd why
 
 -- ---- a text of documents that is none
 stopped_by : (text rest after : List ℕ) (sets : List TeamSetData) (p : Part) (e : TeamsFault)

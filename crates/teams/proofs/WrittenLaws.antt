@@ -13,7 +13,7 @@ use Rattle.task_sheet.specs.declared.node.Node.{Node}
 use Rattle.task_sheet.specs.declared.node.Interrupt.{Interrupt}
 use Rattle.task_sheet.specs.declared.read.Document.{Document}
 use Rattle.task_sheet.proofs.WithinLimits.{says_within}
-use Rattle.teams.specs.Agreeing.{first_node, interrupts_by, node_by, node_said_by}
+use Rattle.teams.specs.Agreeing.{first_saying, interrupts_by, node_by, said_by}
 use Rattle.teams.specs.Owned.{OwnedData, TeamSetData, owned_all}
 use Rattle.teams.specs.ReadsTeams.{AreRead, UnitesAll}
 use Rattle.teams.specs.ReadsText.{ReadsEither, ReadsWritten, is_gathered}
@@ -34,8 +34,8 @@ node_within [] all = tt
 node_within (s ∷ sets) all = by s.node all.0.node (node_within sets all.1)
   where
     by : (o : Option Node) → IfSome o AreOverheads → IfSome (node_by sets) AreOverheads
-        → IfSome (option_map (λ said. said.1) (option_or (node_said_by s.team o) (first_node sets)))
-        AreOverheads
+        → IfSome (option_map (λ said. said.1) (option_or (said_by s.team o)
+        (first_saying (λ (d : TeamSetData). d.node) sets))) AreOverheads
     by None own rest = rest
     by (Some n) own rest = own
 
@@ -65,8 +65,8 @@ either_within true text d (inl bounded) =
     let judged = bounded.3 in
     united_within judged.3.0 judged.1 d judged.3.2 judged.4.0
 either_within true text d (inr gathered) =
-    let teams = gathered.1.2 in
-    united_within gathered.1.0 teams.0 d teams.1 teams.2
+    let teams = gathered.1 in
+    united_within teams.1.0 teams.0 d teams.1.2 teams.2
 
 pub written_within : (text : List ℕ) (d : Document) → ReadsWritten text (Ok d)
     → AreWithinLimits d.node d.interrupts.items
@@ -115,11 +115,8 @@ either_same true text u d same (inl bounded) =
       ),
     )
 either_same true text u d same (inr gathered) =
-    let teams = gathered.1.2 in
-    inr (
-      gathered.0,
-      (gathered.1.0, gathered.1.1, (teams.0, teams.1, united_same teams.0 u d same teams.2)),
-    )
+    let teams = gathered.1 in
+    inr (gathered.0, (teams.0, teams.1, united_same teams.0 u d same teams.2))
 
 pub written_same : (text : List ℕ) (u d : Document) → SaySame u d → ReadsWritten text (Ok u)
     → ReadsWritten text (Ok d)

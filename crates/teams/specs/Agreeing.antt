@@ -11,19 +11,39 @@ use Rattle.teams.specs.Owned.{TeamSetData}
 use Rattle.teams.specs.declared.fault.TeamsFault.{TeamsFault}
 use Rattle.teams.specs.declared.fault.TeamsFault.TheVariants.{OtherPreference, OtherNode}
 
--- a document's preference, with its team
-abbrev pub said_by : List ℕ → Option Preference → Option (List ℕ × Preference)
+-- ---- what one of them says holds for all
+
+-- what a document says, with its team
+abbrev pub said_by : {A : Type 0} → List ℕ → Option A → Option (List ℕ × A)
 said_by team None = None
-said_by team (Some preference) = Some (team, preference)
+said_by team (Some said) = Some (team, said)
 
--- the first document that says a preference
-abbrev pub first_saying : List TeamSetData → Option (List ℕ × Preference)
-first_saying [] = None
-first_saying (s ∷ sets) = option_or (said_by s.team s.prefers) (first_saying sets)
+-- the first document that says one
+abbrev pub first_saying : {A : Type 0} → (says : TeamSetData → Option A) → List TeamSetData
+    → Option (List ℕ × A)
+first_saying says [] = None
+first_saying says (s ∷ sets) = option_or (said_by s.team (says s)) (first_saying says sets)
 
--- what it prefers
+-- the team of the first that says another than this
+abbrev pub first_other : {A : Type 0} → (other : A → Option A → Bool) → (says : TeamSetData → Option A)
+    → A → List TeamSetData → Option (List ℕ)
+first_other other says said [] = None
+first_other other says said (s ∷ sets) =
+    if other said (says s) then Some s.team else first_other other says said sets
+
+-- the fault of documents of which this is the first that says one: another one says otherwise
+abbrev pub disagreement_with : {A : Type 0} → (other : A → Option A → Bool)
+    → (says : TeamSetData → Option A) → (fault : List ℕ → List ℕ → TeamsFault)
+    → Option (List ℕ × A) → List TeamSetData → Option TeamsFault
+disagreement_with other says fault None sets = None
+disagreement_with other says fault (Some said) sets =
+    option_map (λ team. fault team said.0) (first_other other says said.1 sets)
+
+-- ---- the preference
+
+-- what the documents prefer
 abbrev pub preferred_by : List TeamSetData → Option Preference
-preferred_by sets = option_map (λ said. said.1) (first_saying sets)
+preferred_by sets = option_map (λ said. said.1) (first_saying (λ s. s.prefers) sets)
 
 -- a document says another preference than this
 abbrev pub says_other : Preference → Option Preference → Bool
@@ -31,58 +51,28 @@ says_other Weights (Some Deadline) = true
 says_other Deadline (Some Weights) = true
 says_other _ _ = false
 
--- the team of the first that does
-abbrev pub first_other : Preference → List TeamSetData → Option (List ℕ)
-first_other preference [] = None
-first_other preference (s ∷ sets) =
-    if says_other preference s.prefers then Some s.team else first_other preference sets
-
--- the fault of documents of which this is the first that says a preference: another one says otherwise
-abbrev pub disagreement_with : Option (List ℕ × Preference) → List TeamSetData → Option TeamsFault
-disagreement_with None sets = None
-disagreement_with (Some said) sets =
-    option_map (λ team. OtherPreference team said.0) (first_other said.1 sets)
-
 -- the first document that prefers otherwise than one before it
 abbrev pub disagreement : List TeamSetData → Option TeamsFault
-disagreement sets = disagreement_with (first_saying sets) sets
+disagreement sets =
+    disagreement_with says_other (λ s. s.prefers) (λ team other. OtherPreference team other)
+    (first_saying (λ s. s.prefers) sets) sets
 
 -- ---- the node
 
--- a document's node, with its team
-abbrev pub node_said_by : List ℕ → Option Node → Option (List ℕ × Node)
-node_said_by team None = None
-node_said_by team (Some node) = Some (team, node)
-
--- the first document that says a node
-abbrev pub first_node : List TeamSetData → Option (List ℕ × Node)
-first_node [] = None
-first_node (s ∷ sets) = option_or (node_said_by s.team s.node) (first_node sets)
-
--- which it is
+-- which node the documents say
 abbrev pub node_by : List TeamSetData → Option Node
-node_by sets = option_map (λ said. said.1) (first_node sets)
+node_by sets = option_map (λ said. said.1) (first_saying (λ s. s.node) sets)
 
 -- a document says another node than this
 abbrev pub says_other_node : Node → Option Node → Bool
 says_other_node node None = false
 says_other_node node (Some other) = not (same_node node other)
 
--- the team of the first that does
-abbrev pub first_other_node : Node → List TeamSetData → Option (List ℕ)
-first_other_node node [] = None
-first_other_node node (s ∷ sets) =
-    if says_other_node node s.node then Some s.team else first_other_node node sets
-
--- the fault of documents of which this is the first that says a node: another one says otherwise
-abbrev pub node_disagreement_with : Option (List ℕ × Node) → List TeamSetData → Option TeamsFault
-node_disagreement_with None sets = None
-node_disagreement_with (Some said) sets =
-    option_map (λ team. OtherNode team said.0) (first_other_node said.1 sets)
-
 -- the first document that says another node than one before it
 abbrev pub node_disagreement : List TeamSetData → Option TeamsFault
-node_disagreement sets = node_disagreement_with (first_node sets) sets
+node_disagreement sets =
+    disagreement_with says_other_node (λ s. s.node) (λ team other. OtherNode team other)
+    (first_saying (λ s. s.node) sets) sets
 
 -- ---- interrupts
 

@@ -5,7 +5,7 @@ use Rattle.lines.specs.Lines.{parts}
 use Rattle.lines.specs.Words.{name_in, number_in, words}
 use Rattle.task_sheet.specs.declared.read.Document.{Document}
 use Rattle.teams.specs.Owned.{TeamSetData}
-use Rattle.teams.specs.ReadsTeams.{AreRead, ReadsPart, ReadsTeams, UnitesAll}
+use Rattle.teams.specs.ReadsTeams.{AreRead, ReadsPart, UnitesAll}
 use Rattle.teams.specs.declared.fault.TeamsFault.{TeamsFault}
 use Rattle.teams.specs.declared.fault.TeamsFault.TheVariants.{Alone, BadHead, Of, OutOfMemory}
 use Rattle.teams.specs.declared.reading.Part.{Part}
@@ -47,9 +47,9 @@ Begins text (p ∷ ps) rest =
 abbrev pub AreGathered : List ℕ → List ℕ → List TeamSetData → Type 0
 AreGathered text rest sets = (ps : List Part) × Begins text ps rest × AreRead ps sets
 
--- a text is documents of teams, and this is the set of their tasks, with what they prefer
+-- a text is documents of teams, and this is the set of their tasks, with what they say together
 abbrev pub IsGathered : List ℕ → Document → Type 0
-IsGathered text d = (ps : List Part) × Begins text ps [] × ReadsTeams ps (Ok d)
+IsGathered text d = (sets : List TeamSetData) × AreGathered text [] sets × UnitesAll sets (Ok d)
 
 -- a text begins with no document
 abbrev pub HasNoHead : List ℕ → Type 0

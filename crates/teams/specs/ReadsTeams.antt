@@ -1,5 +1,5 @@
 -- What reading the documents of teams answers.
-use Rattle.std.specs.Prelude.{◌≡◌, ◌⊎◌, ℕ, ◌+◌, ◌<◌, ◌≤◌, List, [], ◌∷◌, ◌++◌, map, length, Some, None, Result, Ok, Err}
+use Rattle.std.specs.Prelude.{◌≡◌, ℕ, ◌+◌, ◌<◌, ◌≤◌, List, [], ◌∷◌, map, length, Some, None, Result, Ok, Err}
 use Rattle.task_sheet.specs.ReadsSet.{ReadsSet, SaysDocument}
 use Rattle.task_sheet.specs.SheetsFault.{sheets_fault}
 use Rattle.task_sheet.specs.Rank.{IsByRank}
@@ -27,13 +27,6 @@ abbrev pub AreRead : List Part → List TeamSetData → Type 0
 AreRead [] [] = Unit {0}
 AreRead (p ∷ parts) (s ∷ sets) = ReadsPart p (Ok s) × AreRead parts sets
 AreRead _ _ = ⊥
-
--- the first document that is no set is refused so; or memory ran out
-abbrev pub IsFirstRefused : List Part → TeamsFault → Type 0
-IsFirstRefused parts OutOfMemory = Unit {0}
-IsFirstRefused parts e =
-    (before : List Part) × (p : Part) × (after : List Part) × (sets : List TeamSetData)
-    × (parts ≡ before ++ p ∷ after) × AreRead before sets × ReadsPart p (Err e)
 
 -- the answer on the tasks of all: the set of them; or the first that has the name of one before it, or that there are
 -- too many
@@ -69,11 +62,3 @@ UnitesAll sets (Err TooManyInterrupts) =
     (disagreement sets ≡ None) × (node_disagreement sets ≡ None)
     × (INTERRUPT_LIMIT < length (interrupts_by sets))
 UnitesAll sets (Err e) = DoAgree sets × Unites (owned_all sets) (Err e)
-
--- the answer on the documents of teams
-abbrev pub ReadsTeams : List Part → Result Document TeamsFault → Type 0
-ReadsTeams parts (Ok d) =
-    (sets : List TeamSetData) × AreRead parts sets × UnitesAll sets (Ok d)
-ReadsTeams parts (Err e) =
-    IsFirstRefused parts e
-    ⊎ ((sets : List TeamSetData) × AreRead parts sets × UnitesAll sets (Err e))

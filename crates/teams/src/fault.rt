@@ -59,7 +59,7 @@ pub enum TeamsFault {
     NoSuchTeam {
         team: Name,
     },
-    /// A team takes more than its budget has. A load is in thousandths, rounded up.
+    /// A team takes more than its budget has. A load is in thousandths, rounded up; a section is in microseconds.
     #[error("{team}: {quantity:?} {number} of {limit}")]
     PastBudget {
         team: Name,

@@ -95,7 +95,10 @@ pub(crate) fn read_documents(alloc: Global, text: &[u8]) -> Result<Vec<TeamSet>,
 }
 
 /// The documents of teams in one text as one, each behind a line `#% TEAM COUNT` with the count of its bytes: their
-/// tasks, put together, and what they prefer. Refused: part by part `BadHead`, or as the document is by itself; then as `read_teams` does.
+/// tasks, put together, what they prefer, and the node, where what one of them says holds for all; and the interrupts of
+/// all. Refused in this order: part by part `BadHead`, or as its document is by itself; the first document that prefers
+/// otherwise than one before it; the first that says another node; `TooManyInterrupts`; the first task, team by team and
+/// by rank, that has the name of one before it; `TooManyTasks`.
 pub fn read_gathered(alloc: Global, text: &[u8]) -> Result<Document, TeamsFault>
     ensures { ReadsGathered text.now result }
 {

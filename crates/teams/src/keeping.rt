@@ -1,7 +1,6 @@
 //! Whether teams keep to their budgets.
 ghost use Rattle.std.specs.Prelude.{◌≡◌, ◌≤◌, length};
-ghost use Rattle.explain.specs.Load.{share_of};
-ghost use Rattle.task_sheet.specs.Locks.{names_lock, uses, shares_lock};
+ghost use Rattle.task_sheet.specs.Locks.{shares_lock};
 ghost use Rattle.task_sheet.specs.declared.set.TheConstants.{TASK_LIMIT};
 ghost use Rattle.teams.specs.Budgets.{budget_fault, budgets_fault, has_team, is_shared, limits_fault, load_by, longest_of, longest_shared, past, taken_by};
 ghost use Rattle.teams.specs.Owned.{owned_all};
@@ -9,19 +8,10 @@ ghost use Rattle.teams.specs.Owned.{owned_all};
 use crate::fault::TeamsFault;
 use crate::node::{Budget, Quantity};
 use crate::uniting::{Owned, TeamSet};
+use explain::{share, sheet_uses};
 use task_sheet::{Name, Section, Sheet};
 
 // ---- what a team takes
-
-// What a task takes of the processor, in millionths, rounded up.
-fn share(sheet: &Sheet) -> u64
-    ensures is { result ≡ share_of sheet.now }
-    ensures short { result ≤ 10000000000000 }
-{
-    // The sheet is valid: the proof has it from its name.
-    let _ = sheet.name();
-    (sheet.cost() * 1_000_000).div_ceil(sheet.period())
-}
 
 // What the tasks of a team take of the processor, in millionths.
 fn load_by(tasks: &[Owned], team: Name) -> u64
@@ -38,25 +28,11 @@ fn load_by(tasks: &[Owned], team: Name) -> u64
     load
 }
 
-// Whether a section names a lock.
-fn names(section: &Section, lock: Name) -> bool
-    ensures { result ≡ names_lock section.now lock }
-{
-    section.locks.iter().any(|name| *name == lock)
-}
-
-// Whether some section of a task names a lock.
-fn uses(sheet: &Sheet, lock: Name) -> bool
-    ensures { result ≡ uses sheet.now lock }
-{
-    sheet.sections().iter().any(|section| names(section, lock))
-}
-
 // Whether a task uses one of the section's locks.
 fn shares(sheet: &Sheet, section: &Section) -> bool
     ensures { result ≡ shares_lock sheet.now section.now }
 {
-    section.locks.iter().any(|lock| uses(sheet, *lock))
+    section.locks.iter().any(|lock| sheet_uses(sheet, *lock))
 }
 
 // Whether a task of another team uses one of the section's locks.

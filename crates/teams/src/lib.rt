@@ -14,5 +14,5 @@ mod uniting;
 pub use crate::fault::TeamsFault;
 pub use crate::gathering::{first_part, node_part, read_gathered};
 pub use crate::node::{Budget, NodeFault, Quantity, read_budgets};
-pub use crate::reading::{Part, read_teams};
-pub use crate::text::read_text;
+pub use crate::reading::Part;
+pub use crate::text::{is_gathered, read_text};

@@ -37,7 +37,9 @@ impl Quantity {
 #[derive(Clone, Copy, Debug)]
 pub struct Budget {
     pub team: Name,
+    /// In thousandths of the processor; none where it has no limit.
     pub load: Option<u64>,
+    /// In microseconds; none where it has no limit.
     pub section: Option<u64>,
 }
 

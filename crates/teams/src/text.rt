@@ -14,8 +14,8 @@ use overheads::{PadFault, pad};
 use std::alloc::Global;
 use task_sheet::{Document, SetFault, read_document};
 
-// Whether a text is documents of teams.
-fn is_gathered(text: &[u8]) -> bool
+/// Whether a text is documents of teams: it begins with `#% `.
+pub fn is_gathered(text: &[u8]) -> bool
     ensures { result ≡ is_gathered text.now }
 {
     text.starts_with(b"#% ")

@@ -1,9 +1,8 @@
 //! Putting the sets of teams together.
 ghost use Rattle.std.specs.Prelude.{◌≡◌, ◌≢◌, ◌<◌, ◌≤◌, ◌++◌, length, map, Err, None, Some, IfOk, IfErr, OnOk};
-ghost use Rattle.task_sheet.specs.Sheet.{same_node};
 ghost use Rattle.task_sheet.specs.SheetsFault.{sheets_fault};
 ghost use Rattle.task_sheet.specs.declared.node.TheConstants.{INTERRUPT_LIMIT};
-ghost use Rattle.teams.specs.Agreeing.{disagreement, first_node, first_other, first_other_node, first_saying, interrupts_by, node_by, node_disagreement, preferred_by, says_other, says_other_node};
+ghost use Rattle.teams.specs.Agreeing.{disagreement, first_other, first_saying, interrupts_by, node_by, node_disagreement, preferred_by, says_other, says_other_node};
 ghost use Rattle.teams.specs.Owned.{holder_of, owned_all, owned_by, taken_at};
 ghost use Rattle.teams.specs.ReadsTeams.{Unites, UnitesAll};
 
@@ -156,7 +155,7 @@ fn united_set(alloc: Global, sets: &[TeamSet]) -> Result<TaskSet, TeamsFault>
 
 // The first document that says a preference, with its team.
 fn first_saying(sets: &[TeamSet]) -> Option<(Name, Preference)>
-    ensures { result ≡ first_saying sets.now }
+    ensures { result ≡ first_saying (λ s. s.prefers) sets.now }
 {
     for part in sets {
         if let Some(preference) = part.prefers {
@@ -179,7 +178,7 @@ fn says_other(preference: Preference, said: Option<Preference>) -> bool
 
 // The team of the first document that says another preference than this.
 fn first_other(sets: &[TeamSet], preference: Preference) -> Option<Name>
-    ensures { result ≡ first_other preference sets.now }
+    ensures { result ≡ first_other says_other (λ s. s.prefers) preference sets.now }
 {
     for part in sets {
         if says_other(preference, part.prefers) {
@@ -207,7 +206,7 @@ fn agreed(sets: &[TeamSet]) -> Result<Option<Preference>, TeamsFault>
 
 // The first document that says a node, with its team.
 fn first_node(sets: &[TeamSet]) -> Option<(Name, Node)>
-    ensures { result ≡ first_node sets.now }
+    ensures { result ≡ first_saying (λ s. s.node) sets.now }
 {
     for part in sets {
         if let Some(node) = part.node {
@@ -217,29 +216,19 @@ fn first_node(sets: &[TeamSet]) -> Option<(Name, Node)>
     None
 }
 
-// Whether two nodes take the same.
-fn same_node(node: Node, other: Node) -> bool
-    ensures { result ≡ same_node node other }
-{
-    node.job == other.job
-        && node.lock == other.lock
-        && node.late == other.late
-        && node.release == other.release
-}
-
 // Whether a document says another node than this.
 fn says_other_node(node: Node, said: Option<Node>) -> bool
     ensures { result ≡ says_other_node node said }
 {
     match said {
-        Some(other) => !same_node(node, other),
+        Some(other) => node != other,
         None => false,
     }
 }
 
 // The team of the first document that says another node than this.
 fn first_other_node(sets: &[TeamSet], node: Node) -> Option<Name>
-    ensures { result ≡ first_other_node node sets.now }
+    ensures { result ≡ first_other says_other_node (λ s. s.node) node sets.now }
 {
     for part in sets {
         if says_other_node(node, part.node) {

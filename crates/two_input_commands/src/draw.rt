@@ -1,22 +1,22 @@
 //! `desk draw`.
-ghost use Rattle.std.specs.Prelude.{◌≡◌, ◌<◌, ◌≤◌, List, length, IfOk, All};
+ghost use Rattle.std.specs.Prelude.{◌≡◌, ◌<◌, ◌≤◌, length, IfOk, All};
 ghost use Rattle.task_sheet.specs.Orders.{IsOrder};
 ghost use Rattle.task_sheet.specs.declared.set.TheConstants.{TASK_LIMIT};
 ghost use Rattle.answering.specs.Printed.{IsPrinted};
 ghost use Rattle.run_lines.specs.TaskBounds.{tasks_of_bounds};
-ghost use Rattle.run_lines.specs.declared.bounds.TaskBound.{TaskBound};
 ghost use Rattle.drawn_runs.specs.Rows.{drawn_row, rows_of};
-ghost use Rattle.two_input_commands.specs.Draw.{DrawsText, drawing_said, picture_of};
+ghost use Rattle.two_input_commands.specs.Draw.{DrawsText, answer_said, drawing_said, picture_of};
+ghost use Rattle.two_input_commands.specs.declared.simulate.Simulated.TheVariants.{Ordered, Ran};
 ghost use Rattle.answering.specs.Outcomes.{IsSaidOn};
 ghost use Rattle.two_input_commands.specs.Simulate.{IsInOrder, simulation_status};
 
-use crate::simulate::{Simulated, bounds_judged, simulate_text};
+use crate::simulate::{OrderedRun, Run, Simulated, bounds_judged, simulate_text};
 use crate::view::{is_unseen, view_of};
-use answering::{CommandRefusal, Status, print_stuck, refuse};
+use answering::{CommandRefusal, Status, print_bytes, print_stuck};
 use ceiling_kernel::{Release, Trace};
 use command_line::Options;
 use frames::{TaskRow, View};
-use picture::{DrawFault, draw};
+use picture::draw;
 use run_lines::{TaskBound, bounds_of};
 use std::alloc::{AllocError, Global};
 use std::io::Write;
@@ -70,8 +70,8 @@ fn rows_in(alloc: Global, set: &TaskSet, bounds: &[TaskBound]) -> Result<Vec<Tas
     rows_of(alloc, set.sheets(), bounds)
 }
 
-// Draws a run in an order of a set.
-fn draw_run<W: Write + Drop>(
+// The picture of a run in an order of a set.
+fn picture_of(
     alloc: Global,
     set: &TaskSet,
     bounds: &[TaskBound],
@@ -79,44 +79,57 @@ fn draw_run<W: Write + Drop>(
     until: u64,
     releases: &[Release],
     trace: &Trace,
-    output: &mut Watched<W>,
-) -> Status
+) -> Result<Vec<u8>, AllocError>
     requires { IsOrder set.now (tasks_of_bounds bounds.now) }
-    ensures { IsSaidOn (λ before after s. IsPrinted before after
-        (picture_of set.now bounds.now view.now until releases.now trace.now) Status.Done s)
-        W.contents output.old output.new result }
+    ensures { IfOk result (λ text. text.items
+        ≡ picture_of set.now bounds.now view.now until releases.now trace.now) }
 {
-    let Ok(rows) = rows_in(alloc, set, bounds) else {
-        return refuse(CommandRefusal::OutOfMemory, output);
-    };
-    match draw(alloc, &rows, view, until, releases, trace, output) {
-        Ok(()) => Status::Done,
-        Err(DrawFault::OutOfMemory) => refuse(CommandRefusal::OutOfMemory, output),
-        Err(DrawFault::WriteFailed) => Status::InputOrOutputFailed,
-    }
+    let rows = rows_in(alloc, set, bounds)?;
+    draw(alloc, &rows, view, until, releases, trace)
 }
 
-// Draws a run in an order of a set whose bounds were made, or says that there was no memory for them.
-fn draw_made<W: Write + Drop>(
+// The picture of a run in the best order.
+fn picture_of_run(
     alloc: Global,
     set: &TaskSet,
-    made: Result<Vec<TaskBound>, AllocError>,
     view: &View,
-    until: u64,
-    releases: &[Release],
-    trace: &Trace,
-    output: &mut Watched<W>,
-) -> Status
-    requires { IfOk made (λ bounds. IsOrder set.now (tasks_of_bounds bounds.items)) }
-    ensures { (bounds : List TaskBound) → IfOk made (λ made. made.items ≡ bounds)
-        → IsSaidOn (λ before after s. IsPrinted before after
-        (picture_of set.now bounds view.now until releases.now trace.now) Status.Done s)
-        W.contents output.old output.new result }
+    run: &Run,
+) -> Result<Vec<u8>, AllocError>
+    requires { IsInOrder set.now (Ran run.now) }
+    ensures { IfOk result (λ text. text.items ≡ answer_said set.now view.now (Ran run.now)) }
 {
-    match made {
-        Ok(bounds) => draw_run(alloc, set, &bounds, view, until, releases, trace, output),
-        Err(_) => refuse(CommandRefusal::OutOfMemory, output),
-    }
+    let bounds = bounds_of(alloc, &run.places)?;
+    picture_of(
+        alloc,
+        set,
+        &bounds,
+        view,
+        run.until,
+        &run.releases,
+        &run.trace,
+    )
+}
+
+// The picture of a run in the order that its list gives.
+fn picture_of_ordered(
+    alloc: Global,
+    set: &TaskSet,
+    view: &View,
+    run: &OrderedRun,
+) -> Result<Vec<u8>, AllocError>
+    requires { IsInOrder set.now (Ordered run.now) }
+    ensures { IfOk result (λ text. text.items ≡ answer_said set.now view.now (Ordered run.now)) }
+{
+    let bounds = bounds_judged(alloc, &run.judged)?;
+    picture_of(
+        alloc,
+        set,
+        &bounds,
+        view,
+        run.until,
+        &run.releases,
+        &run.trace,
+    )
 }
 
 /// What came of a set and the text of a release list, and what is drawn of it.
@@ -150,26 +163,20 @@ pub fn print_drawing<W: Write + Drop>(
 {
     let view = &drawing.view;
     match &drawing.answer {
-        Simulated::Ran(run) => draw_made(
-            alloc,
-            tasks,
-            bounds_of(alloc, &run.places),
-            view,
-            run.until,
-            &run.releases,
-            &run.trace,
-            output,
-        ),
-        Simulated::Ordered(run) => draw_made(
-            alloc,
-            tasks,
-            bounds_judged(alloc, &run.judged),
-            view,
-            run.until,
-            &run.releases,
-            &run.trace,
-            output,
-        ),
+        Simulated::Ran(run) => {
+            print_bytes(
+                picture_of_run(alloc, tasks, view, run),
+                Status::Done,
+                output,
+            )
+        }
+        Simulated::Ordered(run) => {
+            print_bytes(
+                picture_of_ordered(alloc, tasks, view, run),
+                Status::Done,
+                output,
+            )
+        }
         Simulated::Infeasible(members) => print_stuck(alloc, tasks, *members, output),
     }
 }

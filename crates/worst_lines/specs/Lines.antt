@@ -33,7 +33,7 @@ comes_words bound run =
     response_words (release_at run.releases.items run.job).time run.finish ++ codes " of "
     ++ decimal bound
 
--- why there is no run
+-- why it is no run in which the task misses its deadline
 abbrev pub reason_words : List Task → NoRun → List ℕ
 reason_words U (why.MustOutrank other) = codes "must-outrank " ++ name_at U other
 reason_words U why.TooMany = codes "too-many-releases"

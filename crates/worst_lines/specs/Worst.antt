@@ -1,4 +1,4 @@
--- The worst case of a task in an order: what its job came to there, or what is shown of a task that may not stand there.
+-- The worst case of a task in an order: what its job came to there, or what is shown of a task that may not be placed there.
 use Rattle.std.specs.Prelude.{◌≡◌, ◌⊎◌, ℕ, List, length, Option, Some, None, IsTrue, IsFalse, if◌then◌else◌}
 use Rattle.task_sheet.specs.Sheet.{Task}
 use Rattle.task_sheet.specs.Indexes.{Indexes, indexes_of}
@@ -46,7 +46,7 @@ chosen_in U (Some task) judged = judged_at task judged
 chosen_in U None judged = if all_meet judged then tightest U judged else highest_failing judged
 
 -- what is shown of a task's worst case in an order: of one that meets its deadline what its job came to there; of another a
--- run in which it misses it, or why there is none
+-- run in which it misses it, or why it is none
 abbrev pub IsWorstOf : List Task → List ℕ → JudgedTask → Worst → Type 0
 IsWorstOf U order j (Comes bound reached) =
     (j.judgement ≡ Meets bound) × IsReachedOf (node_in U order) j.task reached

@@ -1,5 +1,5 @@
-//! The worst case of a task as a release list: of an admitted set how long its job takes there, of a refused one the run in
-//! which it misses its deadline, or why there is none.
+//! The worst case of a task as a release list: of an admitted set how long its job takes there, of a refused one as a
+//! run in which it misses its deadline, or why it is none.
 #![tactic(auto)]
 
 mod asked;

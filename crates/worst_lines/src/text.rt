@@ -63,7 +63,7 @@ fn comes_text(alloc: Global, bound: u64, run: &WorstRun) -> Result<String, Alloc
     Ok(text)
 }
 
-// Why there is no run.
+// Why it is no run in which the task misses its deadline.
 fn reason_text(alloc: Global, set: &TaskSet, reason: NoRun) -> Result<String, AllocError>
     ensures { IfOk result (λ text. string_bytes text ≡ reason_words set.now reason) }
 {

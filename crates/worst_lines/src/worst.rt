@@ -1,13 +1,10 @@
 //! The worst case of a task in an order.
 ghost use Rattle.std.specs.Prelude.{◌<◌, length, IfOk};
 ghost use Rattle.task_sheet.specs.Orders.{IsOrder};
-ghost use Rattle.miss.specs.Reached.{IsReachedOf};
-ghost use Rattle.miss.specs.Shown.{IsShown};
-ghost use Rattle.ceiling_kernel.specs.Tick.{node_in};
 ghost use Rattle.worst_lines.specs.Worst.{IsWorstOf};
 
 use judge::{JudgedTask, Judgement};
-use miss::{MissFault, Reached, Shown, reach, show_miss};
+use miss::{Reached, Shown, reach, show_miss};
 use std::alloc::{AllocError, Global};
 use task_sheet::TaskSet;
 
@@ -17,41 +14,8 @@ pub enum Worst {
     /// The task meets its deadline: within how long of its arrival each of its jobs is done, in microseconds, and what became
     /// of its job there.
     Comes { bound: u64, reached: Reached },
-    /// It doesn't: a run in which it misses it, or why there is none.
+    /// It doesn't: its worst case as a run in which it misses it, or why that is none.
     Fails(Shown),
-}
-
-// What becomes of the worst case of a task.
-fn reached_in(
-    alloc: Global,
-    set: &TaskSet,
-    order: &[usize],
-    task: usize,
-) -> Result<Reached, AllocError>
-    requires task { task < length set.now }
-    requires order { IsOrder set.now order.now }
-    ensures { IfOk result (IsReachedOf (node_in set.now order.now) task) }
-{
-    match reach(alloc, set, order, task) {
-        Ok(reached) => Ok(reached),
-        Err(MissFault::OutOfMemory) => Err(AllocError),
-        Err(MissFault::WrongOrder) => unreachable!(),
-        Err(MissFault::TooMany) => unreachable!(),
-    }
-}
-
-// What is shown of a task that doesn't meet its deadline.
-fn shown_in(alloc: Global, set: &TaskSet, order: &[usize], task: usize) -> Result<Shown, AllocError>
-    requires task { task < length set.now }
-    requires order { IsOrder set.now order.now }
-    ensures { IfOk result (IsShown (node_in set.now order.now) task) }
-{
-    match show_miss(alloc, set, order, task) {
-        Ok(shown) => Ok(shown),
-        Err(MissFault::OutOfMemory) => Err(AllocError),
-        Err(MissFault::WrongOrder) => unreachable!(),
-        Err(MissFault::TooMany) => unreachable!(),
-    }
 }
 
 /// What is shown of the worst case of a task that was judged in an order. The error is out of memory.
@@ -67,13 +31,13 @@ pub(crate) fn worst_of(
 {
     match entry.judgement {
         Judgement::Meets { response } => {
-            let reached = reached_in(alloc, set, order, entry.task)?;
+            let reached = reach(alloc, set, order, entry.task)?;
             Ok(Worst::Comes {
                 bound: response,
                 reached,
             })
         }
-        Judgement::Misses => Ok(Worst::Fails(shown_in(alloc, set, order, entry.task)?)),
-        Judgement::Below { .. } => Ok(Worst::Fails(shown_in(alloc, set, order, entry.task)?)),
+        Judgement::Misses => Ok(Worst::Fails(show_miss(alloc, set, order, entry.task)?)),
+        Judgement::Below { .. } => Ok(Worst::Fails(show_miss(alloc, set, order, entry.task)?)),
     }
 }

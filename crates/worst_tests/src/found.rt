@@ -1,12 +1,14 @@
-//! The run in which a task misses its deadline in an order, if one does.
+//! What is shown of a task in an order: the run in which it misses its deadline, if it does.
+use ceiling_kernel::{Kernel, KernelFault};
 use example_sets::{again, match_rows, set_of};
-use miss::{Miss, MissFault, find_miss};
+use miss::{Miss, NoRun, Shown, show_miss};
 use release_list::list_text;
 use std::alloc::{AllocError, Global};
 use std::test::Fail;
+use task_sheet::TaskSet;
 
-// A document, and an order of its tasks by index, the lowest first.
-type Case<'a> = (&'a str, &'a [usize]);
+// A document, an order of its tasks by index, the lowest first, and the index of a task.
+type Case<'a> = (&'a str, &'a [usize], usize);
 
 // Above lo, whose section holds it up for 4000, hi needs 5000, a tick more than its deadline.
 pub(crate) const REFUSED_BY_A_TICK: &str = "
@@ -49,45 +51,57 @@ task = [
 ]
 ";
 
-// What is found of each: the task's index, the place of its job in the list, from 0, and the list. The indexes are by name.
-const FOUND: [(Case<'static>, &str); 14] = [
+// What is shown of each: of one that misses its deadline its index, the place of its job in the list, from 0, and the list.
+// The indexes are by name.
+const SHOWN: [(Case<'static>, &str); 16] = [
     // Each passes: c 20000 of 20000, b 6000, a 3000. Below a deadline of 19000 c has executed 4000 of 5000.
-    ((example_sets::THREE_TASKS, &[2, 1, 0]), "none"),
+    ((example_sets::THREE_TASKS, &[2, 1, 0], 2), "stands"),
+    ((example_sets::THREE_TASKS, &[2, 1, 0], 1), "stands"),
     (
-        (example_sets::THREE_TASKS_TOO_TIGHT, &[2, 1, 0]),
+        (example_sets::THREE_TASKS_TOO_TIGHT, &[2, 1, 0], 2),
         "2 0\nuntil 19000\n0 c\n0 b\n0 a\n7000 a\n12000 b\n14000 a\n",
     ),
     // a may not stand below b, but passes there: no run misses.
-    ((example_sets::A_OVER_B_OVER_A, &[2, 0, 1]), "none"),
+    (
+        (example_sets::A_OVER_B_OVER_A, &[2, 0, 1], 0),
+        "must outrank 1",
+    ),
     // hi waits from 1001 to 3500, and is done at 5500; below lo it begins at 10000.
     (
-        (example_sets::BLOCKED_OUT, &[1, 0]),
+        (example_sets::BLOCKED_OUT, &[1, 0], 0),
         "0 1\nuntil 5401\n0 lo\n1001 hi\n",
     ),
     (
-        (example_sets::BLOCKED_OUT, &[0, 1]),
+        (example_sets::BLOCKED_OUT, &[0, 1], 0),
         "0 0\nuntil 4400\n0 hi\n0 lo\n",
     ),
-    ((example_sets::BLOCKED_OUT_REPAIRED, &[1, 0]), "none"),
+    ((example_sets::BLOCKED_OUT_REPAIRED, &[1, 0], 0), "stands"),
     // x is left 400 of 600, and where both come 300 late 100.
     (
-        (example_sets::OVERRUN, &[0, 1]),
+        (example_sets::OVERRUN, &[0, 1], 0),
         "0 0\nuntil 1000\n0 x\n0 y\n",
     ),
     (
-        (example_sets::LATE_OVERRUN, &[0, 1]),
+        (example_sets::LATE_OVERRUN, &[0, 1], 0),
         "0 0\nuntil 1000\n0 x 300\n0 y 300\n",
     ),
-    // Of two the higher one.
-    ((BOTH_PAST_THE_DEADLINE, &[0, 1]), "1 0\nuntil 2500\n0 v\n"),
-    ((REFUSED_BY_A_TICK, &[1, 0]), "none"),
-    ((ENDS_INSIDE, &[1, 0]), "none"),
+    // Both miss.
     (
-        (ENDS_BEHIND, &[1, 0]),
+        (BOTH_PAST_THE_DEADLINE, &[0, 1], 1),
+        "1 0\nuntil 2500\n0 v\n",
+    ),
+    (
+        (BOTH_PAST_THE_DEADLINE, &[0, 1], 0),
+        "0 0\nuntil 2000\n0 u\n0 v\n",
+    ),
+    ((REFUSED_BY_A_TICK, &[1, 0], 0), "within a tick"),
+    ((REFUSED_BY_A_TICK, &[1, 0], 1), "stands"),
+    ((ENDS_INSIDE, &[1, 0], 1), "ends inside"),
+    (
+        (ENDS_BEHIND, &[1, 0], 1),
         "1 0\nuntil 5000\n0 lo\n0 hi\n4000 hi\n",
     ),
-    ((TOO_LONG, &[1, 0]), "too many"),
-    ((example_sets::THREE_TASKS, &[2, 1, 1]), "wrong order"),
+    ((TOO_LONG, &[1, 0], 1), "too many"),
 ];
 
 // The words of a miss.
@@ -97,22 +111,48 @@ fn miss_text(alloc: Global, miss: &Miss) -> Result<String, AllocError> {
     format!(in alloc; "{} {}\n{list}", miss.task, miss.job)
 }
 
-// What is found of a case.
-fn found_in(alloc: Global, case: Case<'_>) -> Result<String, Fail> {
-    let (document, order) = case;
-    let set = set_of(alloc, document)?;
-    let words = match again!(find_miss(alloc, &set, order), MissFault::OutOfMemory) {
-        Ok(Some(miss)) => return Ok(again!(miss_text(alloc, &miss))?),
-        Ok(None) => "none",
-        Err(MissFault::TooMany) => "too many",
-        Err(MissFault::WrongOrder) => "wrong order",
-        Err(MissFault::OutOfMemory) => "out of memory",
-    };
-    let text = again!(String::from_str(alloc, words))?;
-    Ok(text)
+// The words of a reason.
+fn reason_text(alloc: Global, reason: NoRun) -> Result<String, AllocError> {
+    match reason {
+        NoRun::MustOutrank { other } => format!(in alloc; "must outrank {other}"),
+        NoRun::TooMany => String::from_str(alloc, "too many"),
+        NoRun::Below { above } => format!(in alloc; "below {above}"),
+        NoRun::EndsInside => String::from_str(alloc, "ends inside"),
+        NoRun::WithinTick => String::from_str(alloc, "within a tick"),
+        NoRun::WithinInterrupts => String::from_str(alloc, "within interrupts"),
+    }
+}
+
+// The words of what is shown.
+fn shown_text(alloc: Global, shown: &Shown) -> Result<String, AllocError> {
+    match shown {
+        Shown::Stands => String::from_str(alloc, "stands"),
+        Shown::Misses(miss) => miss_text(alloc, miss),
+        Shown::NoRun(reason) => reason_text(alloc, *reason),
+    }
+}
+
+// What is shown of a task of a set, where it is one, and that is an order.
+fn answer_of(alloc: Global, set: &TaskSet, order: &[usize], task: usize) -> Result<String, Fail> {
+    if task >= set.len() {
+        return Ok(again!(String::from_str(alloc, "no task"))?);
+    }
+    match again!(Kernel::new(alloc, set, order), KernelFault::OutOfMemory) {
+        Ok(_) => {
+            let shown = again!(show_miss(alloc, set, order, task))?;
+            Ok(again!(shown_text(alloc, &shown))?)
+        }
+        Err(_) => Ok(again!(String::from_str(alloc, "no order"))?),
+    }
+}
+
+// The same of a case.
+fn answer_to(alloc: Global, case: Case<'_>) -> Result<String, Fail> {
+    let (document, order, task) = case;
+    answer_of(alloc, &set_of(alloc, document)?, order, task)
 }
 
 #[test]
-fn found_by_hand(rt: HostRuntime) -> Result<(), Fail> {
-    match_rows(rt.alloc(), &FOUND, |alloc, case| found_in(alloc, case))
+fn shown_by_hand(rt: HostRuntime) -> Result<(), Fail> {
+    match_rows(rt.alloc(), &SHOWN, |alloc, case| answer_to(alloc, case))
 }

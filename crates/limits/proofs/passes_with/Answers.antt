@@ -9,4 +9,4 @@ of-same-requires c =
     subst (λ (V : List Task). IsTableOf V c.table.result.now)
     (sym c.in_ok-other.ensures)
     (IsTableOf-numbered c.args.set.now c.args.task c.args.number c.args.value c.table.result.now
-    (c.keeps_sections.ensures c.if-keeps_sections.true) c.table.ensures)
+    (c.keeps_sections.ensures.0 c.if-keeps_sections.true) c.table.ensures)

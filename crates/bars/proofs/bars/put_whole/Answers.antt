@@ -2,28 +2,28 @@ use Rattle.std.proofs.Common.{◌≡◌, ◌++◌, ℕ, List, length, Ok, ap, ar
 use Rattle.task_sheet.specs.Sheet.{CriticalSection}
 use Rattle.bars.specs.Bars.{bar_text, dark_text}
 use Rattle.bars.specs.Sections.{no_section, nth_section}
-use Rattle.streams.specs.Puts.{Puts}
+use Rattle.frames.specs.Page.{Adds}
 use Rattle.frames.specs.Rows.{each}
-use Rattle.frames.proofs.Puts.{puts_head, puts_item_behind}
+use Rattle.frames.proofs.Adds.{adds_head, adds_item_behind}
 use Rattle.bars.proofs.bars.put_whole.Goals as goal
 
 pub loop-section-init : goal.loop-section-init
-loop-section-init g c = puts_head (λ i. dark_text c.args.lane.now.frame c.args.lane.now.locks.now
+loop-section-init c = adds_head (λ i. dark_text c.args.lane.now.frame c.args.lane.now.locks.now
     c.args.executed c.args.slice c.args.lane.now.spot.k c.args.lane.now.row.now
-    (nth_section c.args.lane.now.row.now.sheet.sections i)) c.in_ok-put_bar.ensures
+    (nth_section c.args.lane.now.row.now.sheet.sections i)) c.put_bar.ensures
 
 pub loop-section-preserved : goal.loop-section-preserved
-loop-section-preserved g c =
+loop-section-preserved c =
     let sections = c.sections-section-items.ensures in
-    puts_item_behind (bar_text c.args.lane.now.frame c.args.slice c.args.lane.now.spot
+    adds_item_behind (bar_text c.args.lane.now.frame c.args.slice c.args.lane.now.spot
     c.args.lane.now.row.now) (λ (i : ℕ) (x : CriticalSection). dark_text c.args.lane.now.frame
     c.args.lane.now.locks.now c.args.executed c.args.slice c.args.lane.now.spot.k
     c.args.lane.now.row.now x) c.args.lane.now.row.now.sheet.sections no_section
     c.loop-section.section-index c.section-item.result (rw sections at c.loop-section-test.true)
-    (rw sections at c.section-item.is) c.loop-section.invariant c.in_ok-put_dark.ensures
+    (rw sections at c.section-item.is) c.loop-section.invariant c.put_dark.ensures
 
 pub returns : goal.returns
-returns g c =
+returns c =
     let row = c.args.lane.now.row.now in
     let dark : ℕ → List ℕ =
     λ i. dark_text c.args.lane.now.frame c.args.lane.now.locks.now c.args.executed c.args.slice
@@ -35,6 +35,6 @@ returns g c =
       c.loop-section-test.false,
       ap (λ (xs : List CriticalSection). length xs) c.sections-section-items.ensures,
     ) in
-    subst (λ (n : ℕ). Puts g.W.Write.contents c.args.out.now c.loop-section.out (Ok tt)
+    subst (λ (n : ℕ). Adds c.args.page.now c.loop-section.page
     (bar_text c.args.lane.now.frame c.args.slice c.args.lane.now.spot row ++ each n dark)) all
     c.loop-section.invariant

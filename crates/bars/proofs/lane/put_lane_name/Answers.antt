@@ -1,4 +1,4 @@
 use Rattle.bars.proofs.lane.put_lane_name.Goals as goal
 
 pub returns : goal.returns
-returns g c = rw c.name-name.ensures.same at c.write.ensures.put
+returns c = rw c.name-name.ensures.same at c.write.ensures

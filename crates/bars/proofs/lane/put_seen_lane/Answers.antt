@@ -1,17 +1,17 @@
 use Rattle.std.proofs.Common.{ℕ}
-use Rattle.streams.proofs.Puts.{puts_both}
+use Rattle.frames.proofs.Adds.{adds_both}
 use Rattle.frames.specs.Frame.{x_of}
 use Rattle.bars.specs.Lane.{lane_right, lane_label}
-use Rattle.frames.proofs.Lanes.{puts_same}
+use Rattle.frames.proofs.Adds.{adds_same}
 use Rattle.bars.proofs.lane.put_seen_lane.Goals as goal
 
 pub returns : goal.returns
-returns g c =
+returns c =
     let row = c.args.lane.now.row.now in
     let frame = c.args.lane.now.frame in
-    let placed = puts_same (λ (x : ℕ). lane_label x c.lane_right-right.result c.level_of.result row)
+    let placed = adds_same (λ (x : ℕ). lane_label x c.lane_right-right.result c.level_of.result row)
     c.x_of-x.ensures.value c.put_lane_label.ensures in
-    let ended = puts_same (λ (right : ℕ). lane_label (x_of frame c.args.slice.start) right
+    let ended = adds_same (λ (right : ℕ). lane_label (x_of frame c.args.slice.start) right
     c.level_of.result row) c.lane_right-right.ensures.value placed in
-    puts_both c.in_ok-put_lane_bar.ensures (puts_same (λ (level : ℕ). lane_label (x_of frame
+    adds_both c.put_lane_bar.ensures (adds_same (λ (level : ℕ). lane_label (x_of frame
     c.args.slice.start) (lane_right frame c.args.slice) level row) c.level_of.ensures ended)

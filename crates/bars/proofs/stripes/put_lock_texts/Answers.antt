@@ -1,13 +1,13 @@
 use Rattle.std.proofs.Common.{ℕ, List, [], get_or}
 use Rattle.bars.specs.Stripes.{lock_text}
-use Rattle.frames.proofs.Puts.{puts_none, puts_item}
+use Rattle.frames.proofs.Adds.{adds_none, adds_item}
 use Rattle.bars.proofs.stripes.put_lock_texts.Goals as goal
 
 pub loop-i-init : goal.loop-i-init
-loop-i-init g c = puts_none g.W.Write.contents c.args.out.now (λ i. (λ (i : ℕ) (name : List ℕ).
+loop-i-init c = adds_none c.args.page.now (λ i. (λ (i : ℕ) (name : List ℕ).
     lock_text c.args.frame c.args.bottom i name) i (get_or c.args.locks.now i []))
 
 pub loop-i-preserved : goal.loop-i-preserved
-loop-i-preserved g c = puts_item (λ (i : ℕ) (name : List ℕ). lock_text c.args.frame c.args.bottom i
+loop-i-preserved c = adds_item (λ (i : ℕ) (name : List ℕ). lock_text c.args.frame c.args.bottom i
     name) c.args.locks.now [] c.loop-i.i c.index-locks-i.result c.loop-i-test.true
-    c.index-locks-i.is c.loop-i.invariant c.in_ok-put_lock.ensures
+    c.index-locks-i.is c.loop-i.invariant c.put_lock.ensures

@@ -1,15 +1,15 @@
 use Rattle.std.proofs.Common.{ℕ, List, [], length, get_or}
 use Rattle.bars.specs.Stripes.{stripe_text}
-use Rattle.frames.proofs.Puts.{puts_none, puts_item}
+use Rattle.frames.proofs.Adds.{adds_none, adds_item}
 use Rattle.bars.proofs.stripes.put_stripes.Goals as goal
 
 pub loop-i-init : goal.loop-i-init
-loop-i-init g c = puts_none g.W.Write.contents c.args.out.now
+loop-i-init c = adds_none c.args.page.now
     (λ i. (λ (i : ℕ) (name : List ℕ). stripe_text c.args.locks.now c.args.x c.args.right c.args.k
     (length c.args.names.now) i name) i (get_or c.args.names.now i []))
 
 pub loop-i-preserved : goal.loop-i-preserved
-loop-i-preserved g c =
-    puts_item (λ (i : ℕ) (name : List ℕ). stripe_text c.args.locks.now c.args.x c.args.right
+loop-i-preserved c =
+    adds_item (λ (i : ℕ) (name : List ℕ). stripe_text c.args.locks.now c.args.x c.args.right
     c.args.k (length c.args.names.now) i name) c.args.names.now [] c.loop-i.i c.index-names-i.result
-    c.loop-i-test.true c.index-names-i.is c.loop-i.invariant c.in_ok-put_stripe.ensures
+    c.loop-i-test.true c.index-names-i.is c.loop-i.invariant c.put_stripe.ensures

@@ -1,9 +1,8 @@
-use Rattle.std.proofs.Common.{◌≡◌, ◌∙◌, List, [], ◌∷◌, ◌++◌, length, sym, ap, subst, arith}
+use Rattle.std.proofs.Common.{◌∙◌, List, [], ◌∷◌, ◌++◌, length, sym, ap, subst, arith}
 use Rattle.std.proofs.Common.{append_assoc}
 use Rattle.desk_core.specs.declared.events.Event.{Event}
 use Rattle.desk_core.specs.declared.events.Reply.{Reply}
-use Rattle.drafts.specs.Books.{Book}
-use Rattle.drafts.specs.Machine.{admissions}
+use Rattle.drafts.specs.Books.{IsLegalBook}
 use Rattle.desk_core.specs.World.{start, IsRun}
 use Rattle.desk_core.proofs.RunLaws.{IsRun-push, all_done}
 use Rattle.desk_core.proofs.desk_core.run.Goals as goal
@@ -44,6 +43,5 @@ returns-clause-run c =
     subst (λ (es : List Event). IsRun start es c.loop-event.replies.items c.loop-event.core)
     all so.run
 
-pub returns-clause-version : goal.returns-clause-version
-returns-clause-version c =
-    subst (λ (b : Book). b.desk.version ≡ admissions b.log) c.book.ensures c.state.ensures.version
+pub returns-clause-legal : goal.returns-clause-legal
+returns-clause-legal c = subst IsLegalBook c.book.ensures c.state.ensures.legal

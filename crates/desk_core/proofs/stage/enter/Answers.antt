@@ -1,5 +1,4 @@
 use Rattle.drafts.specs.Edits.{on_base}
-use Rattle.desk_core.specs.declared.stage.Stage.{Stage}
 use Rattle.desk_core.proofs.StageLaws.{tested-kept}
 use Rattle.desk_core.proofs.stage.enter.Goals as goal
 

@@ -14,7 +14,7 @@ use Rattle.factor.proofs.failing.first_to_fail.Goals as goal
 pub overflow_add-more : goal.overflow_add-more
 overflow_add-more c = omega (
   arith,
-  few-factor c.args.set.now c.args.factor c.requires.kept
+  few-factor c.args.set.now c.args.factor c.sheets.ensures.kept
       c.requires.some c.requires.factor.may,
 )
 
@@ -22,39 +22,39 @@ pub first_past-requires-clause-short : goal.first_past-requires-clause-short
 first_past-requires-clause-short c = omega (
   arith,
   few-factor c.args.set.now c.args.factor
-      c.requires.kept c.requires.some c.requires.factor.may,
+      c.sheets.ensures.kept c.requires.some c.requires.factor.may,
 )
 
 pub scaled-requires-clause-short : goal.scaled-requires-clause-short
 scaled-requires-clause-short c = omega (
   arith,
   few-factor c.args.set.now c.args.factor
-      c.requires.kept c.requires.some c.requires.factor.may,
+      c.sheets.ensures.kept c.requires.some c.requires.factor.may,
 )
 
 -- with the next factor no order passes
 pub unreachable-requires : goal.unreachable-requires
 unreachable-requires c =
-    let best = subst (λ (p : Placing). IsPlacingOf c.of-tabled.result p) c.in_default.is
+    let best = subst (λ (p : Placing). IsPlacingOf c.of-tabled.result p) c.in_default-2.is
     c.in_ok-tasks.ensures in
     let feasible = subst (λ (V : List Task). IsFeasible V)
     (c.of-tabled.ensures ∙ c.in_ok-other.ensures.other) (_, best.best.passing) in
-    c.requires.factor.greatest (c.args.factor + 1) (omega arith) c.in-None.ensures.none feasible
+    c.requires.factor.greatest (c.args.factor + 1) (omega arith) c.in_default.ensures.none feasible
 
 -- some task in the way need not stand above another of them, since with the factor some order passes
-pub unreachable-requires-in-None-latest : goal.unreachable-requires-in-None-latest
-unreachable-requires-in-None-latest c =
+pub unreachable-requires-in-None : goal.unreachable-requires-in-None
+unreachable-requires-in-None c =
     let U = c.args.set.now in
     let V = c.of-tabled.result in
     let S = indexes_of c.in-Stuck.tasks in
     let same = c.of-tabled.ensures ∙ c.in_ok-other.ensures.other in
     let stuck : IsPlacingOf V (Stuck c.in-Stuck.tasks) =
     subst (λ (p : Placing). IsPlacingOf V p) c.in-Stuck.is c.in_ok-tasks.ensures in
-    some-free U c.requires.kept c.args.factor (c.args.factor + 1)
+    some-free U c.sheets.ensures.kept c.args.factor (c.args.factor + 1)
     record { may = c.requires.factor.may; feasible = c.requires.factor.feasible }
     S (subst (λ (W : List Task). IsObstruction W S) same stuck.obstruction)
     (subst (λ (W : List Task). (j : ℕ) → ¬ IsFree W S j) same
-    c.in-None-latest.ensures.none)
+    c.in-None.ensures.none)
 
 pub returns : goal.returns
 returns c =
@@ -64,7 +64,7 @@ returns c =
     let stuck : IsPlacingOf V (Stuck c.in-Stuck.tasks) =
     subst (λ (p : Placing). IsPlacingOf V p) c.in-Stuck.is c.in_ok-tasks.ensures in
     inr (
-      c.in-None.ensures.none,
+      c.in_default.ensures.none,
       (
         S,
         subst (λ (W : List Task). IsGreatestObstruction W S) same stuck,

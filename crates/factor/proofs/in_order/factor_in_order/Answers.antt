@@ -8,10 +8,14 @@ order_passes_at-requires-clause-each c = c.requires.passing.each_once
 
 pub loop-failing-init : goal.loop-failing-init
 loop-failing-init c = record {
-  scales = ScalesIn-same c.args.set.now c.args.order.now c.requires.kept c.requires.passing;
+  scales = ScalesIn-same c.args.set.now c.args.order.now c.sheets.ensures.kept c.requires.passing;
   some = omega arith;
-  fails = λ more le scales.
-      omega (arith, le, few-factor c.args.set.now more c.requires.kept c.requires.some scales.may);
+  fails = λ more le scales. omega (
+    arith,
+    le,
+    few-factor c.args.set.now more
+        c.sheets.ensures.kept c.requires.some scales.may,
+  );
   apart = omega arith;
   short = omega arith;
 }
@@ -25,7 +29,7 @@ loop-failing-preserved c =
       some = inv.some;
       fails = λ more le scales. both_ways c.in_ok-order_passes_at.field-0 c.if-branch.false
           (c.in_ok-order_passes_at.ensures.answer.1 (ScalesIn-less c.args.set.now c.args.order.now
-          middle more c.requires.kept (omega (arith, inv.some)) le scales));
+          middle more c.sheets.ensures.kept (omega (arith, inv.some)) le scales));
       apart = omega (arith, c.loop-failing-test.true);
       short = omega (arith, inv.short, c.loop-failing-test.true);
     }

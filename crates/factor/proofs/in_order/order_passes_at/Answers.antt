@@ -1,6 +1,8 @@
 use Rattle.std.proofs.Common.{◌∙◌, sym, subst, List}
 use Rattle.task_sheet.specs.Sheet.{Task}
 use Rattle.task_sheet.specs.Orders.{IsOrder, IsPassingOrder}
+use Rattle.limits.proofs.Answered.{if-none}
+use Rattle.factor.specs.Factors.{MayScale}
 use Rattle.factor.proofs.ScaledSets.{IsOrder-scaled}
 use Rattle.factor.proofs.in_order.order_passes_at.Goals as goal
 
@@ -16,7 +18,8 @@ returns-clause-answer c =
     let order = c.args.order.now in
     let same = c.of.ensures ∙ c.in_ok-other.ensures.other in (
       λ passes. record {
-        may = c.in-None.ensures.none;
+        may = if-none (MayScale c.args.set.now c.args.factor) c.first_past.result
+            (sym c.is_some.ensures ∙ c.if-is_some.false) c.first_past.ensures.none;
         passes = subst (λ (V : List Task).
             IsPassingOrder V order) same (c.order_passes.ensures.0 passes);
       },

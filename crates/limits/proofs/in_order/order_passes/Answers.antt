@@ -1,11 +1,15 @@
 use Rattle.std.proofs.Common.{◌≡◌, false, refl, sym, ◌∙◌, ap, subst, arith, get_or}
 use Rattle.std.proofs.lemmas.Bool.{both_ways}
 use Rattle.task_sheet.specs.Indexes.{indexes_of, below, IsPart}
-use Rattle.task_sheet.specs.Orders.{all_of, Stands, IsOrderOf}
+use Rattle.task_sheet.specs.Orders.{all_of, is_bound, Stands, IsOrderOf, IsPassingOrder}
 use Rattle.task_sheet.proofs.MembersIndexes.{indexes_of-all_below}
 use Rattle.task_sheet.proofs.PassingLaws.{is_bound-at}
 use Rattle.headroom.proofs.OrderLaws.{low-inside, part-next, rest-next, stands-here, all-here}
+use Rattle.task_sheet.specs.Verdicts.{IsLeastOver}
+use Rattle.limits.proofs.Answered.{if-none, if-some}
 use Rattle.limits.proofs.in_order.order_passes.Goals as goal
+use Rattle.limits.proofs.in_order.order_passes.Goals.{then-is_some-via-then-is_some}
+use Rattle.limits.proofs.in_order.order_passes.Goals.{then-is_some-via-else-is_some+then-not-passes}
 
 pub loop-low-init : goal.loop-low-init
 loop-low-init c =
@@ -41,31 +45,31 @@ passes-requires c =
     low-inside c.args.set.now c.args.order.now c.loop-low.low-index c.loop-low.above inv.part
     inv.rest c.loop-low-test.true
 
-pub returns-in-Some : goal.returns-in-Some
-returns-in-Some c =
+pub returns-then-is_some : goal.returns-then-is_some
+returns-then-is_some c =
     let inv = c.loop-low.invariant in
     let U = c.args.set.now in
-    let over = c.in-Some.ensures.some in (
-      λ no. absurd (both_ways false refl no),
-      λ passing.
-          let stands = stands-here U c.args.order.now c.loop-low.low-index c.loop-low.above inv.part
-          inv.rest c.loop-low-test.true c.without-above.result c.without-above.ensures U
-          passing.each_stands in
-          absurd (both_ways _ stands.1
-          (is_bound-at U _ _ c.in-Some.field-0 over.in_set over.above over.named)),
-    )
-
-pub returns-then-not-passes : goal.returns-then-not-passes
-returns-then-not-passes c =
-    let inv = c.loop-low.invariant in
-    let U = c.args.set.now in (
-      λ no. absurd (both_ways false refl no),
-      λ passing.
-          let stands = stands-here U c.args.order.now c.loop-low.low-index c.loop-low.above inv.part
-          inv.rest c.loop-low-test.true c.without-above.result c.without-above.ensures U
-          passing.each_stands in
-          absurd (both_ways _ c.if-not-passes.true (c.passes.ensures.1 stands.0)),
-    )
+    let order = c.args.order.now in
+    let i = get_or order c.loop-low.low-index 0 in
+    let H = indexes_of c.without-above.result in
+    let stands : IsPassingOrder U order → Stands U i H = λ passing.
+    stands-here U order c.loop-low.low-index c.loop-low.above inv.part inv.rest
+    c.loop-low-test.true c.without-above.result c.without-above.ensures U
+    passing.each_stands in
+    elim c.then-is_some.branch [
+      | then-is_some-via-then-is_some w ↦
+          let over = if-some (λ k. IsLeastOver U i H k) c.least_over.result
+          (sym c.is_some.ensures ∙ w.if-is_some.true) c.least_over.ensures.some in (
+            λ no. absurd (both_ways false refl no),
+            λ passing. absurd (both_ways _ (stands passing).1
+                (is_bound-at U _ _ over.0 over.1.in_set over.1.above over.1.named)),
+          )
+      | then-is_some-via-else-is_some+then-not-passes w ↦ (
+        λ no. absurd (both_ways false refl no),
+        λ passing. absurd (both_ways _ w.if-not-passes.true
+            (w.passes.ensures.1 (stands passing).0)),
+      )
+    ]
 
 pub loop-low-preserved : goal.loop-low-preserved
 loop-low-preserved c =
@@ -76,8 +80,11 @@ loop-low-preserved c =
     let left = c.loop-low.above in
     let left' = c.without-above.result in
     let removed = c.without-above.ensures in
-    let stands : Stands U (get_or order n 0) (indexes_of left') =
-    (c.passes.ensures.0 c.if-not-passes.false, c.in-None.ensures.none) in
+    let stands : Stands U (get_or order n 0) (indexes_of left') = (
+      c.passes.ensures.0 c.if-not-passes.false,
+      if-none (is_bound U (get_or order n 0) (indexes_of left') ≡ false) c.least_over.result
+          (sym c.is_some.ensures ∙ c.if-is_some.false) c.least_over.ensures.none,
+    ) in
     record {
       part = part-next U order n left inv.part inv.rest c.loop-low-test.true left' removed;
       rest = rest-next U order n left inv.part inv.rest c.loop-low-test.true left' removed;

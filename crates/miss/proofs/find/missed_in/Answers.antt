@@ -40,7 +40,6 @@ returns-in-Ok-clause-none c =
 pub returns-in_default : goal.returns-in_default
 returns-in_default c = record {
   some = tt;
-  err = tt;
   none = none_run c.args.kernel.now (subst (λ x. IsTaskSet x) (sym c.requires.set)
       c.sheets.ensures.kept) c.args.run.now.releases.items c.args.run.now.until c.args.task
       (subst (λ x. c.args.task < length x) (sym c.requires.set) c.requires.task)

@@ -16,8 +16,8 @@ pub passes-requires : goal.passes-requires
 passes-requires c =
     place_known c.args.set.now c.args.order.now c.requires.order c.args.place c.requires.place
 
-pub returns-in-Some-clause-shown : goal.returns-in-Some-clause-shown
-returns-in-Some-clause-shown c = (
+pub returns-in-Some : goal.returns-in-Some
+returns-in-Some c = (
   passes_there c.args.set.now c.args.order.now c.requires.order c.sheets.ensures.kept c.args.place
       c.requires.place (indexes_of c.members_above-members.result) c.members_above-members.ensures
       (c.passes.ensures.0 c.if-passes.true),
@@ -26,8 +26,8 @@ returns-in-Some-clause-shown c = (
       c.in-Some.other c.in-Some.ensures.some,
 )
 
-pub returns-in-None-clause-shown : goal.returns-in-None-clause-shown
-returns-in-None-clause-shown c =
+pub returns-in-None : goal.returns-in-None
+returns-in-None c =
     stands_there c.args.set.now c.args.order.now c.requires.order c.sheets.ensures.kept c.args.place
     c.requires.place (indexes_of c.members_above-members.result) c.members_above-members.ensures
     (c.passes.ensures.0 c.if-passes.true) c.in-None.ensures.none
@@ -40,8 +40,8 @@ pub worst_case-requires-clause-above : goal.worst_case-requires-clause-above
 worst_case-requires-clause-above c = part_in c.args.set.now c.args.order.now c.requires.order
     c.sheets.ensures.kept (c.args.place + 1)
 
-pub returns-in_default-clause-shown : goal.returns-in_default-clause-shown
-returns-in_default-clause-shown c = (
+pub returns-in_default : goal.returns-in_default
+returns-in_default c = (
   fails_there c.args.set.now c.args.order.now c.requires.order c.sheets.ensures.kept c.args.place
       c.requires.place (indexes_of c.members_above-members.result) c.members_above-members.ensures
       (λ p. both_ways _ c.if-passes.false (c.passes.ensures.1 p)),
@@ -56,8 +56,8 @@ pub missed_in-requires-clause-task : goal.missed_in-requires-clause-task
 missed_in-requires-clause-task c =
     place_known c.args.set.now c.args.order.now c.requires.order c.args.place c.requires.place
 
-pub returns-in-Some-3-clause-shown : goal.returns-in-Some-3-clause-shown
-returns-in-Some-3-clause-shown c =
+pub returns-in-Some-3 : goal.returns-in-Some-3
+returns-in-Some-3 c =
     let i : ℕ = get_or c.args.order.now c.args.place 0 in
     let case = run_is c.args.set.now i (take (length c.args.order.now - (c.args.place + 1))
     (drop (c.args.place + 1) c.args.order.now)) c.in_ok-run.field-0 c.in-Some-2.run'

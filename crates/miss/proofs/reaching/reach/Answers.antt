@@ -7,9 +7,9 @@ use Rattle.miss.proofs.reaching.reach.Goals as goal
 
 pub place_of-requires : goal.place_of-requires
 place_of-requires c =
-    place_of c.args.set.now c.args.order.now c.in_ok-kernel.ensures.order c.args.task c.requires
+    place_of c.args.set.now c.args.order.now c.requires.order c.args.task c.requires.task
 
-pub returns-clause-reached : goal.returns-clause-reached
-returns-clause-reached c =
+pub returns : goal.returns
+returns c =
     subst (λ k. IfOk c.reach_at.result (IsReachedOf (node_in c.args.set.now c.args.order.now) k))
-    c.place_of.ensures.is (rw c.of.ensures at c.reach_at.ensures.reached)
+    c.place_of.ensures.is (rw c.of.ensures at c.reach_at.ensures)

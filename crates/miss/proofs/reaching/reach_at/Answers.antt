@@ -19,8 +19,8 @@ pub worst_case-requires-clause-above : goal.worst_case-requires-clause-above
 worst_case-requires-clause-above c = part_in c.args.set.now c.args.order.now c.requires.order
     c.sheets.ensures.kept (c.args.place + 1)
 
-pub returns-in_default-clause-reached : goal.returns-in_default-clause-reached
-returns-in_default-clause-reached c =
+pub returns-in_default : goal.returns-in_default
+returns-in_default c =
     long_there c.args.set.now c.args.order.now c.requires.order c.sheets.ensures.kept c.args.place
     (c.args.place + 1) c.requires.place (omega arith)
     (subst (λ o. IfNone o (IsTooLong c.args.set.now (get_or c.args.order.now c.args.place 0) (take
@@ -31,8 +31,8 @@ pub finish_in-requires-clause-task : goal.finish_in-requires-clause-task
 finish_in-requires-clause-task c =
     place_known c.args.set.now c.args.order.now c.requires.order c.args.place c.requires.place
 
-pub returns-in-Some-2-clause-reached : goal.returns-in-Some-2-clause-reached
-returns-in-Some-2-clause-reached c =
+pub returns-in-Some-2 : goal.returns-in-Some-2
+returns-in-Some-2 c =
     let i : ℕ = get_or c.args.order.now c.args.place 0 in
     let case = run_is c.args.set.now i (take (length c.args.order.now - (c.args.place + 1))
     (drop (c.args.place + 1) c.args.order.now)) c.in_ok-run.field-0 c.in-Some.run' c.in-Some.is
@@ -55,8 +55,8 @@ returns-in-Some-2-clause-reached c =
           c.in-Some-2.found.time finish;
     }
 
-pub returns-in-None-clause-reached : goal.returns-in-None-clause-reached
-returns-in-None-clause-reached c =
+pub returns-in-None : goal.returns-in-None
+returns-in-None c =
     let i : ℕ = get_or c.args.order.now c.args.place 0 in
     let case = run_is c.args.set.now i (take (length c.args.order.now - (c.args.place + 1))
     (drop (c.args.place + 1) c.args.order.now)) c.in_ok-run.field-0 c.in-Some.run' c.in-Some.is

@@ -1,7 +1,7 @@
-use Rattle.streams.proofs.Puts.{puts_both}
+use Rattle.frames.proofs.Adds.{adds_both}
 use Rattle.picture.proofs.ground.put_head.Goals as goal
 
 pub returns : goal.returns
-returns g c =
-    puts_both (puts_both c.in_ok-put.ensures
-    (rw c.high_of-high.ensures at c.in_ok-put_measures.ensures)) c.put_title.ensures
+returns c =
+    adds_both (adds_both c.put.ensures
+    (rw c.high_of-high.ensures at c.put_measures.ensures)) c.put_title.ensures

@@ -1,5 +1,5 @@
 use Rattle.picture.proofs.ground.put_line.Goals as goal
 
 pub returns : goal.returns
-returns g c = rw (← c.top_of-top.ensures.value)
-    (rw (← c.end_of-end.ensures.value) (rw (← c.start_of-left.ensures) c.write.ensures.put))
+returns c = rw (← c.top_of-top.ensures.value)
+    (rw (← c.end_of-end.ensures.value) (rw (← c.start_of-left.ensures) c.write.ensures))

@@ -1,9 +1,8 @@
-use Rattle.std.specs.Prelude.{Ok}
 use Rattle.frames.specs.Rows.{each}
-use Rattle.streams.specs.Puts.{Puts}
+use Rattle.frames.specs.Page.{Adds}
 use Rattle.picture.specs.Scale.{line_text}
 use Rattle.picture.proofs.ground.put_lines.Given as goal
 
 abbrev pub invariant-loop-k : goal.invariant-loop-k
-invariant-loop-k g l =
-    Puts g.W.Write.contents l.fn.out l.out (Ok tt) (each l.k (line_text l.fn.chart.frame))
+invariant-loop-k l =
+    Adds l.fn.page l.page (each l.k (line_text l.fn.chart.frame))

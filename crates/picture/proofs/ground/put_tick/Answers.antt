@@ -1,5 +1,5 @@
 use Rattle.picture.proofs.ground.put_tick.Goals as goal
 
 pub returns : goal.returns
-returns g c = rw (← c.x_of-x.ensures.value)
-    (rw (← c.unit_of.ensures.value) (rw (← c.number_x-middle.ensures) c.write.ensures.put))
+returns c = rw (← c.x_of-x.ensures.value)
+    (rw (← c.unit_of.ensures.value) (rw (← c.number_x-middle.ensures) c.write.ensures))

@@ -4,26 +4,27 @@ use Rattle.frames.specs.Rows.{row_at, spot_in}
 use Rattle.frames.specs.Frame.{Frame}
 use Rattle.frames.specs.declared.rows.Spot.{Spot}
 use Rattle.frames.specs.declared.rows.TaskRow.{TaskRow}
-use Rattle.frames.proofs.Puts.{puts_none, puts_one_more}
-use Rattle.frames.proofs.Lanes.{puts_in_lane, puts_same}
+use Rattle.frames.proofs.Adds.{adds_none, adds_one_more}
+use Rattle.frames.proofs.Lanes.{adds_in_lane}
+use Rattle.frames.proofs.Adds.{adds_same}
 use Rattle.picture.proofs.margin.put_margins.Goals as goal
 
 pub loop-k-init : goal.loop-k-init
-loop-k-init g c = puts_none g.W.Write.contents c.args.out.now (λ k. margin_text
+loop-k-init c = adds_none c.args.page.now (λ k. margin_text
     c.args.chart.now.frame c.args.chart.now.jobs.now (spot_in c.args.chart.now.shown.now k)
     (row_at c.args.chart.now.rows.now (spot_in c.args.chart.now.shown.now k).rank))
 
 pub loop-k-preserved : goal.loop-k-preserved
-loop-k-preserved g c =
+loop-k-preserved c =
     let text : Frame → Spot → TaskRow → List ℕ =
     λ f s row. margin_text f c.args.chart.now.jobs.now s row in
     let rows = c.args.chart.now.rows.now in
     let frame = c.args.chart.now.frame in
     let shown = c.args.chart.now.shown.now in
     let k = c.loop-k.k in
-    let margin = puts_in_lane text rows frame c.spot.result c.lane.result.frame c.lane.result.spot
+    let margin = adds_in_lane text rows frame c.spot.result c.lane.result.frame c.lane.result.spot
     c.lane.result.row.now c.lane.ensures.frame c.lane.ensures.spot c.lane.ensures.row
-    c.in_ok-put_margin.ensures in
-    puts_one_more (λ k. text frame (spot_in shown k) (row_at rows (spot_in shown k).rank)) k
+    c.put_margin.ensures in
+    adds_one_more (λ k. text frame (spot_in shown k) (row_at rows (spot_in shown k).rank)) k
     c.loop-k.invariant
-    (puts_same (λ (s : Spot). text frame s (row_at rows s.rank)) c.spot.ensures.spot margin)
+    (adds_same (λ (s : Spot). text frame s (row_at rows s.rank)) c.spot.ensures.spot margin)

@@ -1,7 +1,7 @@
-use Rattle.streams.proofs.Puts.{puts_both}
+use Rattle.frames.proofs.Adds.{adds_both}
 use Rattle.reasons.proofs.why.put_above.Goals as goal
 
 pub returns : goal.returns
-returns g c =
-    puts_both (puts_both (puts_both (puts_both c.in_ok-put.ensures c.in_ok-put_ink.ensures)
-    c.in_ok-put_wait_line.ensures) c.in_ok-put_wait_words.ensures) c.put_wait_end.ensures
+returns c =
+    adds_both (adds_both (adds_both (adds_both c.put.ensures c.put_ink.ensures)
+    c.put_wait_line.ensures) c.put_wait_words.ensures) c.put_wait_end.ensures

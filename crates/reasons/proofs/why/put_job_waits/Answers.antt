@@ -5,11 +5,12 @@ use Rattle.reasons.specs.declared.waits.Stay.{Stay}
 use Rattle.frames.specs.Rows.{spot_named, record_at}
 use Rattle.reasons.specs.Waits.{stay_of}
 use Rattle.reasons.specs.WaitTexts.{stay_text}
-use Rattle.frames.proofs.Lanes.{puts_on_spot, puts_same}
+use Rattle.frames.proofs.Lanes.{adds_on_spot}
+use Rattle.frames.proofs.Adds.{adds_same}
 use Rattle.reasons.proofs.why.put_job_waits.Goals as goal
 
 pub returns-in-Some : goal.returns-in-Some
-returns-in-Some g c =
+returns-in-Some c =
     let chart = c.args.chart.now in
     let rows = chart.rows.now in
     let shown = chart.shown.now in
@@ -19,6 +20,6 @@ returns-in-Some g c =
     let stay = stay_of chart.frame chart.releases.now chart.jobs.now c.args.j in
     let named = c.spot_of.ensures.spot
     ∙ ap (λ (name : List ℕ). spot_named rows shown name) c.name_of-name.ensures in
-    puts_on_spot (λ (s : Spot) (row : TaskRow). text stay s) rows shown
+    adds_on_spot (λ (s : Spot) (row : TaskRow). text stay s) rows shown
     (record_at chart.jobs.now c.args.j).name c.spot_of.result spot named c.in-Some.is
-    (puts_same (λ (s : Stay). text s spot) c.stay_of.ensures c.put_stay.ensures)
+    (adds_same (λ (s : Stay). text s spot) c.stay_of.ensures c.put_stay.ensures)

@@ -1,11 +1,11 @@
 use Rattle.std.proofs.Common.{arith}
 use Rattle.reasons.specs.WaitTexts.{job_waits}
-use Rattle.frames.proofs.Puts.{puts_none, puts_one_more}
+use Rattle.frames.proofs.Adds.{adds_none, adds_one_more}
 use Rattle.reasons.proofs.why.put_waits.Goals as goal
 
 pub loop-j-init : goal.loop-j-init
-loop-j-init g c = record {
-  put = puts_none g.W.Write.contents c.args.out.now (job_waits c.args.chart.now.frame
+loop-j-init c = record {
+  put = adds_none c.args.page.now (job_waits c.args.chart.now.frame
       c.args.chart.now.locks.now c.args.chart.now.rows.now c.args.chart.now.shown.now
       c.args.chart.now.releases.now c.args.chart.now.jobs.now c.args.chart.now.slices.now);
   within = omega arith;
@@ -13,11 +13,11 @@ loop-j-init g c = record {
 }
 
 pub loop-j-preserved : goal.loop-j-preserved
-loop-j-preserved g c = record {
-  put = puts_one_more (job_waits c.args.chart.now.frame c.args.chart.now.locks.now
+loop-j-preserved c = record {
+  put = adds_one_more (job_waits c.args.chart.now.frame c.args.chart.now.locks.now
       c.args.chart.now.rows.now c.args.chart.now.shown.now c.args.chart.now.releases.now
       c.args.chart.now.jobs.now c.args.chart.now.slices.now) c.loop-j.j c.loop-j.invariant.put
-      c.in_ok-put_job_waits.ensures;
+      c.put_job_waits.ensures;
   within = c.past_before-past.ensures.within;
   ended = c.past_before-past.ensures.ended;
 }

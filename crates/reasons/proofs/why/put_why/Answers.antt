@@ -2,11 +2,11 @@ use Rattle.std.proofs.Common.{ℕ, List, Bool, Option, sym, ◌∙◌, if◌then
 use Rattle.reasons.specs.Blocking.{blocking_lock}
 use Rattle.reasons.specs.Waits.{is_gathered}
 use Rattle.reasons.specs.WaitTexts.{above_text, blocked_text}
-use Rattle.frames.proofs.Lanes.{puts_same}
+use Rattle.frames.proofs.Adds.{adds_same}
 use Rattle.reasons.proofs.why.put_why.Goals as goal
 
 pub returns-then-is_below : goal.returns-then-is_below
-returns-then-is_below g c =
+returns-then-is_below c =
     let chart = c.args.chart.now in
     let spot = c.args.spot in
     let w = c.args.wait in
@@ -15,11 +15,11 @@ returns-then-is_below g c =
     let above = above_text chart.frame chart.rows.now spot w (is_gathered chart.frame chart.rows.now
     chart.jobs.now chart.slices.now c.args.stay spot.rank c.args.n) in
     let lock = blocking_lock chart.rows.now chart.slices.now spot.rank c.args.n w.start w.row in
-    puts_same (λ (b : Bool). if b then blocked lock else above) (sym c.if-is_below.true
-    ∙ c.is_below.ensures) (puts_same blocked c.blocking_lock-lock.ensures c.put_blocked.ensures)
+    adds_same (λ (b : Bool). if b then blocked lock else above) (sym c.if-is_below.true
+    ∙ c.is_below.ensures) (adds_same blocked c.blocking_lock-lock.ensures c.put_blocked.ensures)
 
 pub returns-else-is_below : goal.returns-else-is_below
-returns-else-is_below g c =
+returns-else-is_below c =
     let chart = c.args.chart.now in
     let spot = c.args.spot in
     let w = c.args.wait in
@@ -28,5 +28,5 @@ returns-else-is_below g c =
     let above : Bool → List ℕ = λ gathered. above_text chart.frame chart.rows.now spot w gathered in
     let gathered = is_gathered chart.frame chart.rows.now chart.jobs.now chart.slices.now
     c.args.stay spot.rank c.args.n in
-    puts_same (λ (b : Bool). if b then blocked else above gathered) (sym c.if-is_below.false
-    ∙ c.is_below.ensures) (puts_same above c.is_gathered-gathered.ensures c.put_above.ensures)
+    adds_same (λ (b : Bool). if b then blocked else above gathered) (sym c.if-is_below.false
+    ∙ c.is_below.ensures) (adds_same above c.is_gathered-gathered.ensures c.put_above.ensures)

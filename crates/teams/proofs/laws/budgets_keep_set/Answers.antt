@@ -1,4 +1,4 @@
 use Rattle.teams.proofs.laws.budgets_keep_set.Goals as goal
 
 pub returns : goal.returns
-returns c = λ document text d judged. (judged.3.0, judged.3.1, (judged.1, judged.3.2, judged.4.0))
+returns c = λ document text d judged. (judged.1, judged.3, judged.4.0)

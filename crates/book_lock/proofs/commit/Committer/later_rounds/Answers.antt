@@ -4,6 +4,8 @@ use Rattle.book_lock.specs.Commits.{IsRound}
 use Rattle.book_lock.specs.declared.commit.Round.{Round}
 use Rattle.book_lock.specs.declared.commit.Round.TheVariants.{Decided}
 use Rattle.book_lock.proofs.Rounds.{received-held, received_for, on_its_base, later_fault}
+use Rattle.drafts.specs.Edits.{on_base}
+use Rattle.book_lock.proofs.Testing.{untested_memory}
 use Rattle.book_lock.proofs.commit.Committer.later_rounds.Goals as goal
 
 pub returns-in-Ok-Decided : goal.returns-in-Ok-Decided
@@ -38,7 +40,12 @@ pub returns-in-Err-settle_held : goal.returns-in-Err-settle_held
 returns-in-Err-settle_held g c =
     let inv = c.loop-round.invariant in
     let h = c.in-Err-settle_held.ensures in (
-      (c.args.draft.base, inl refl, tt),
+      (
+        c.args.draft.base,
+        inl refl,
+        untested_memory (λ (q : QuestionData). g.G.Gate.may_shut c.args.self.now.gate.now q)
+            (on_base c.args.draft),
+      ),
       c.rebase.ensures
           ∙ on_its_base c.args.draft c.loop-round.draft c.in-Err-settle_held.fault.draft
           c.args.base.value c.args.base.value h.holds.0 inv.0 refl,

@@ -1,0 +1,71 @@
+-- Texts that a page gets one after the other.
+use Rattle.std.proofs.Common.{◌≡◌, ℕ, ◌+◌, ◌<◌, List, length, get_or, [], ◌++◌, sym, ap, ◌∙◌, subst}
+use Rattle.std.proofs.Common.{refl, append-nil, append_assoc, add-one}
+use Rattle.std.proofs.lemmas.List.{get_or_read}
+use Rattle.frames.specs.Rows.{each}
+use Rattle.frames.specs.Page.{Adds}
+use Rattle.frames.specs.declared.page.Page.{Page}
+
+each_more : (text : ℕ → List ℕ) (n : ℕ) → each (n + 1) text ≡ each n text ++ text n
+unfolding each
+each_more text n = rw (add-one n) refl
+
+-- two texts
+pub adds_both : {a b c : Page} {xs ys : List ℕ}
+    → Adds a b xs → Adds b c ys → Adds a c (xs ++ ys)
+adds_both {a = a} {xs = xs} {ys = ys} one two = record {
+  was = λ whole. one.was (two.was whole);
+  adds = λ whole. two.adds whole ∙ ap (λ (l : List ℕ). l ++ ys) (one.adds (two.was whole))
+      ∙ append_assoc a.text.items xs ys;
+}
+
+-- a text for what is the same
+pub adds_same : {a b : Page} {X : Type 0} (text : X → List ℕ) {x y : X}
+    → x ≡ y → Adds a b (text x) → Adds a b (text y)
+adds_same {a = a} {b = b} {X = X} text is put = subst (λ (z : X). Adds a b (text z)) is put
+
+-- nothing was put yet
+pub adds_none : (a : Page) (text : ℕ → List ℕ) → Adds a a (each 0 text)
+unfolding each
+adds_none a text =
+    record { was = λ whole. whole; adds = λ whole. sym (append-nil a.text.items) }
+
+-- one text more
+pub adds_one_more : {a b c : Page} (text : ℕ → List ℕ) (n : ℕ)
+    → Adds a b (each n text) → Adds b c (text n) → Adds a c (each (n + 1) text)
+adds_one_more {a = a} {c = c} text n so_far next =
+    subst (Adds a c) (sym (each_more text n)) (adds_both so_far next)
+
+-- one item's text more
+pub adds_item : {a b c : Page} {X : Type 0} (text : ℕ → X → List ℕ) (items : List X) (none : X)
+    (n : ℕ) (x : X)
+    → n < length items → x ≡ get_or items n x
+    → Adds a b (each n (λ i. text i (get_or items i none))) → Adds b c (text n x)
+    → Adds a c (each (n + 1) (λ i. text i (get_or items i none)))
+adds_item {b = b} {c = c} {X = X} text items none n x lt is so_far next =
+    adds_one_more (λ i. text i (get_or items i none)) n so_far
+    (subst (λ (y : X). Adds b c (text n y)) (get_or_read items n x lt is none) next)
+
+-- nothing was put yet behind a first text
+pub adds_head : {a b : Page} {head : List ℕ} (text : ℕ → List ℕ)
+    → Adds a b head → Adds a b (head ++ each 0 text)
+unfolding each
+adds_head {a = a} {b = b} {head = head} text first = subst (Adds a b) (sym (append-nil head)) first
+
+-- one text more behind a first text
+pub adds_one_more_behind : {a b c : Page} (head : List ℕ) (text : ℕ → List ℕ) (n : ℕ)
+    → Adds a b (head ++ each n text) → Adds b c (text n)
+    → Adds a c (head ++ each (n + 1) text)
+adds_one_more_behind {a = a} {c = c} head text n so_far next =
+    subst (Adds a c) (append_assoc head (each n text) (text n)
+    ∙ ap (λ (l : List ℕ). head ++ l) (sym (each_more text n))) (adds_both so_far next)
+
+-- one item's text more behind a first text
+pub adds_item_behind : {a b c : Page} {X : Type 0} (head : List ℕ) (text : ℕ → X → List ℕ)
+    (items : List X) (none : X) (n : ℕ) (x : X)
+    → n < length items → x ≡ get_or items n x
+    → Adds a b (head ++ each n (λ i. text i (get_or items i none))) → Adds b c (text n x)
+    → Adds a c (head ++ each (n + 1) (λ i. text i (get_or items i none)))
+adds_item_behind {b = b} {c = c} {X = X} head text items none n x lt is so_far next =
+    adds_one_more_behind head (λ i. text i (get_or items i none)) n so_far
+    (subst (λ (y : X). Adds b c (text n y)) (get_or_read items n x lt is none) next)
