@@ -91,10 +91,12 @@ export class Hand extends Browser {
     if (is_tap) await this.evaluate(`addEventListener('click', () => { desk.was_tapped = true; },
       { capture: true, once: true }) ?? (desk.was_tapped = false)`);
     await this.finger('down', [x, y]);
-    for (let step = 1; step <= 8 && (by[0] || by[1]); step++) {
+    for (let step = 1; step <= 8 && !is_tap; step++) {
       await this.finger('drag', [x + by[0] * step / 8, y + by[1] * step / 8]);
       await soon(20);
     }
+    // (one that is lifted while it moves throws: in Chromium the next tap only stops that)
+    if (!is_tap) await soon(200);
     await this.finger('up', [x + by[0], y + by[1]]);
     // (the click of a tap comes behind it)
     if (is_tap) await this.comes('desk.was_tapped');
