@@ -1,6 +1,6 @@
 -- A line with a failure: what is read is spelled so, and what is spelled so is read.
-use Rattle.std.proofs.Common.{◌≡◌, ℕ, ◌<◌, ◌==◌, Bool, true, false, ◌&&◌, List, [], ◌∷◌, ◌++◌}
-use Rattle.std.proofs.Common.{length, map, All, Option, Some, None, option_map, refl, sym, ap, ◌∙◌}
+use Rattle.std.proofs.Common.{◌≡◌, ℕ, ◌<◌, true, ◌&&◌, List, [], ◌∷◌, ◌++◌}
+use Rattle.std.proofs.Common.{length, map, Option, Some, None, option_map, refl, sym, ap, ◌∙◌}
 use Rattle.std.proofs.Common.{subst, arith}
 use Rattle.std.specs.Prelude.{bytes_eq, codes}
 use Rattle.std.specs.Option.{option_or}
@@ -11,8 +11,6 @@ use Rattle.std.proofs.lemmas.List.{append-nil, length-map}
 use Rattle.std.proofs.lemmas.Option.{same_Some, cond_some}
 use Rattle.std.proofs.lemmas.Slice.Eq.{bytes_eq-Decides}
 use Rattle.std.proofs.lemmas.List.Concat.{flat_map-cons}
-use Rattle.std.proofs.lemmas.List.Elements.{All-from_recursion}
-use Rattle.std.proofs.lemmas.List.Splits.{slice_split_at, slice_split_none}
 use Rattle.std.proofs.lemmas.List.Splits.{join_with_byte-slice_split}
 use Rattle.task_sheet.specs.Name.{is_name, IsName}
 use Rattle.certificate.specs.Body.{CertReasonData, Chain, Over, Fail, IsShort, IsReasonText}
@@ -24,7 +22,8 @@ use Rattle.lines.proofs.Lacks.{decimal_lacks, name_lacks}
 use Rattle.certificate.specs.declared.version.CertVersion.{CertVersion}
 use Rattle.certificate.specs.declared.version.CertVersion.TheVariants.{First, Second, Third}
 use Rattle.certificate.proofs.FailCases.{fail_at}
-use Rattle.certificate.proofs.WordLaws.{bind_some, cond_given, numbers_take, numbers_again}
+use Rattle.certificate.proofs.WordLaws.{Lacks, lacks, words_one, words_more, bind_some, cond_given}
+use Rattle.certificate.proofs.WordLaws.{numbers_take, numbers_again}
 
 -- a line without its end
 abbrev pub fail_text : List ℕ → Fail → List ℕ
@@ -45,21 +44,15 @@ join_numbers n (m ∷ ms) = ap (λ (x : List ℕ). 32 ∷ (decimal n ++ x)) (joi
 
 pub words_numbers : (n : ℕ) (ns : List ℕ) → AllByRecursion IsShort (n ∷ ns)
     → words (decimal n ++ numbers_text ns) ≡ map decimal (n ∷ ns)
-words_numbers n [] short = ap words (append-nil (decimal n)) ∙ slice_split_none (λ b. b == 32)
-    (decimal n) (decimal_lacks 32 n (omega arith) (omega (arith, short.0)))
+words_numbers n [] short = ap words (append-nil (decimal n))
+    ∙ words_one (decimal n) (decimal_lacks 32 n (omega arith) (omega (arith, short.0)))
 words_numbers n (m ∷ ms) short =
     ap (λ (x : List ℕ). words (decimal n ++ x)) (numbers_text-cons m ms)
-    ∙ slice_split_at (λ b. b == 32) (decimal n) 32 (decimal m ++ numbers_text ms)
-    (decimal_lacks 32 n (omega arith) (omega (arith, short.0))) refl
+    ∙ words_more (decimal n) (decimal m ++ numbers_text ms)
+    (decimal_lacks 32 n (omega arith) (omega (arith, short.0)))
     ∙ ap (λ (x : List (List ℕ)). decimal n ∷ x) (words_numbers m ms short.1)
 
 -- ---- a line
-
-bytes_same : (x y : List ℕ) → bytes_eq x y ≡ true → x ≡ y
-bytes_same x y h = (bytes_eq-Decides x y).0 h
-
-bytes_again : (x : List ℕ) → bytes_eq x x ≡ true
-bytes_again x = (bytes_eq-Decides x x).1 refl
 
 -- ---- a reason
 -- the words of a reason
@@ -78,10 +71,6 @@ over_named First other fits = absurd fits
 over_named Second other fits = fits
 over_named Third other fits = fits
 
-over_plain : All (λ x. (x == 32) ≡ false) (codes "over")
-over_plain =
-    All-from_recursion (λ x. (x == 32) ≡ false) (codes "over") (refl, (refl, (refl, (refl, tt))))
-
 name_takes : (v : CertVersion) (n : List ℕ) (ns : List (List ℕ)) (r : CertReasonData)
     → ((other : List ℕ) → IsName other → IsReasonText v (Over other)) → over_in (n ∷ ns) ≡ Some r
     → (32 ∷ join_with_byte 32 (n ∷ ns) ≡ reason_text r) × IsReasonText v r
@@ -91,9 +80,8 @@ name_takes v n (other ∷ []) r may e =
     let g = cond_some (bytes_eq n (codes "over") && is_name other) (Over other) r e in
     let tests = and_parts (bytes_eq n (codes "over")) (is_name other) g.0 in
     subst (λ (x : CertReasonData). (32 ∷ (n ++ 32 ∷ other) ≡ reason_text x) × IsReasonText v x) g.1 (
-      ap (λ (x : List ℕ). 32 ∷ (x ++ 32 ∷ other)) (bytes_same n (codes "over") tests.0),
-      may other
-          tests.1,
+      ap (λ (x : List ℕ). 32 ∷ (x ++ 32 ∷ other)) ((bytes_eq-Decides n (codes "over")).0 tests.0),
+      may other tests.1,
     )
 
 over_takes : (v : CertVersion) (n : List ℕ) (ns : List (List ℕ)) (r : CertReasonData) → later_in v
@@ -130,12 +118,8 @@ reason_again : (v : CertVersion) (r : CertReasonData) → IsReasonText v r
 unfolding reason_in numbers_in
 reason_again v (Chain numbers) fits = rw (numbers_again numbers fits.1) refl
 reason_again First (Over other) fits = absurd fits
-reason_again Second (Over other) fits =
-    let is : is_name other ≡ true = fits in
-    rw is refl
-reason_again Third (Over other) fits =
-    let is : is_name other ≡ true = fits in
-    rw is refl
+reason_again Second (Over other) fits = rw fits refl
+reason_again Third (Over other) fits = rw fits refl
 
 reason_splits : (v : CertVersion) (r : CertReasonData) → IsReasonText v r
     → (reason_text r ≡ 32 ∷ reason_inner r) × (words (reason_inner r) ≡ reason_words r)
@@ -145,9 +129,9 @@ reason_splits v (Chain (n ∷ ns)) fits =
     (numbers_text-cons n ns, words_numbers n ns fits.1, omega arith)
 reason_splits v (Over other) fits = (
   refl,
-  slice_split_at (λ b. b == 32) (codes "over") 32 other over_plain refl
-      ∙ ap (λ (x : List (List ℕ)). codes "over" ∷ x) (slice_split_none (λ b. b == 32) other
-      (name_lacks 32 other (omega arith) (over_named v other fits))),
+  words_more (codes "over") other (lacks 32 (codes "over") refl)
+      ∙ ap (λ (x : List (List ℕ)). codes "over" ∷ x)
+      (words_one other (name_lacks 32 other (omega arith) (over_named v other fits))),
   omega arith,
 )
 
@@ -169,7 +153,8 @@ module _ (v : CertVersion) where
       subst (λ (x : Fail). (join_with_byte 32 (w ∷ name ∷ n ∷ ns) ≡ fail_text word x)
       × IsFailText v x) (same_Some (record { name = name; reason = b.0 }) f b.2) (
         ap (λ (x : List ℕ). x ++ 32 ∷ (name ++ 32 ∷ join_with_byte 32 (n ∷ ns)))
-            (bytes_same w word tests.0) ∙ ap (λ (x : List ℕ). word ++ 32 ∷ (name ++ x)) taken.0,
+            ((bytes_eq-Decides w word).0 tests.0)
+            ∙ ap (λ (x : List ℕ). word ++ 32 ∷ (name ++ x)) taken.0,
         record { name = tests.1; reason = taken.1 },
       )
 
@@ -179,20 +164,20 @@ module _ (v : CertVersion) where
       let t = take_words word (words line) f e in
       (sym (join_with_byte-slice_split 32 line) ∙ t.0, t.1)
 
-  again_words : (word : List ℕ) (f : Fail) → All (λ x. (x == 32) ≡ false) word → IsFailText v f
+  again_words : (word : List ℕ) (f : Fail) → Lacks 32 word → IsFailText v f
       → words (fail_text word f) ≡ word ∷ f.name ∷ reason_words f.reason
   again_words word f plain fits =
       let split = reason_splits v f.reason fits.reason in
-      slice_split_at (λ b. b == 32) word 32 (f.name ++ reason_text f.reason) plain refl
+      words_more word (f.name ++ reason_text f.reason) plain
       ∙ ap (λ (x : List ℕ). word ∷ words (f.name ++ x)) split.0
-      ∙ ap (λ (x : List (List ℕ)). word ∷ x) (slice_split_at (λ b. b == 32) f.name 32
-      (reason_inner f.reason) (name_lacks 32 f.name (omega arith) fits.name) refl)
+      ∙ ap (λ (x : List (List ℕ)). word ∷ x)
+      (words_more f.name (reason_inner f.reason) (name_lacks 32 f.name (omega arith) fits.name))
       ∙ ap (λ (x : List (List ℕ)). word ∷ f.name ∷ x) split.1
 
-  pub fail_again : (word : List ℕ) (f : Fail) → All (λ x. (x == 32) ≡ false) word → IsFailText v f
+  pub fail_again : (word : List ℕ) (f : Fail) → Lacks 32 word → IsFailText v f
       → fail_in v word (words (fail_text word f)) ≡ Some f
   fail_again word f plain fits =
       let is : is_name f.name ≡ true = fits.name in
       ap (fail_in v word) (again_words word f plain fits)
       ∙ fail_at v word word f.name (reason_words f.reason) (reason_splits v f.reason fits.reason).2
-      ∙ rw (bytes_again word, is, reason_again v f.reason fits.reason) refl
+      ∙ rw ((bytes_eq-Decides word word).1 refl, is, reason_again v f.reason fits.reason) refl

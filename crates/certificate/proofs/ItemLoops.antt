@@ -4,8 +4,7 @@ use Rattle.std.proofs.Common.{Some, MatchOption, List, [], ◌∷◌, ◌++◌, 
 use Rattle.std.proofs.Common.{ap, ◌∙◌, append_assoc, arith}
 use Rattle.std.proofs.lemmas.List.{append-nil}
 use Rattle.certificate.specs.declared.fault.CertFault.{CertFault}
-use Rattle.certificate.specs.declared.fault.CertFault.TheVariants.{BadHead, BadLine, Truncated}
-use Rattle.certificate.specs.declared.fault.CertFault.TheVariants.{Trailing, OutOfMemory}
+use Rattle.certificate.specs.declared.fault.CertFault.TheVariants.{Truncated, OutOfMemory}
 use Rattle.std.specs.Option.{ok_or}
 use Rattle.lines.specs.declared.place.TextPlace.{TextPlace}
 use Rattle.lines.proofs.Parts.{parts_some}
@@ -51,14 +50,8 @@ module _ {X : Type 0} (item : ℕ → At → Result (X × At) CertFault) where
       (total : Result (List X × At) CertFault) → i < count → Fails e (item (i + 1) at)
       → with_front front (items_at item (count - i) (i + 1) at) ≡ total → Fails e total
   Fails-with_front OutOfMemory front count i at total lt h so_far = tt
-  Fails-with_front BadHead front count i at total lt h so_far =
-      with_front_stops front count i at BadHead total lt h so_far
-  Fails-with_front (BadLine line) front count i at total lt h so_far =
-      with_front_stops front count i at (BadLine line) total lt h so_far
-  Fails-with_front Truncated front count i at total lt h so_far =
-      with_front_stops front count i at Truncated total lt h so_far
-  Fails-with_front Trailing front count i at total lt h so_far =
-      with_front_stops front count i at Trailing total lt h so_far
+  Fails-with_front e front count i at total lt h so_far =
+      with_front_stops front count i at e total lt h so_far
 
   pub with_front_last : (front : List X) (count i : ℕ) (at : At)
       (total : Result (List X × At) CertFault) → count ≤ i

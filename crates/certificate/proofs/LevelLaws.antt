@@ -1,17 +1,15 @@
 -- Levels: what is read, and what is read of what is spelled.
-use Rattle.std.proofs.Common.{◌≡◌, ℕ, suc, ◌+◌, ◌^◌, ◌<◌, ◌==◌, eq-eqb, true, false, ◌&&◌, List, []}
-use Rattle.std.proofs.Common.{◌∷◌, ◌++◌, length, All, Option, Some, None, Ok, refl, sym, ap, ◌∙◌}
+use Rattle.std.proofs.Common.{◌≡◌, ℕ, suc, ◌+◌, ◌^◌, ◌<◌, ◌==◌, eq-eqb, true, ◌&&◌, List, []}
+use Rattle.std.proofs.Common.{◌∷◌, ◌++◌, length, Option, Some, None, Ok, refl, sym, ap, ◌∙◌}
 use Rattle.std.proofs.Common.{subst, append_assoc, arith, add-zero}
 use Rattle.std.specs.Prelude.{bytes_eq, codes}
 use Rattle.std.specs.List.{AllByRecursion, join_with_byte}
 use Rattle.std.specs.Fmt.{decimal}
 use Rattle.std.proofs.lemmas.Bool.{eqb-true, and_parts}
-use Rattle.std.proofs.lemmas.Bool.Decides.{nat_tests}
 use Rattle.std.proofs.lemmas.Option.{cond_some}
 use Rattle.std.proofs.lemmas.Slice.Eq.{bytes_eq-Decides}
 use Rattle.std.proofs.lemmas.List.Concat.{flat_map-cons}
-use Rattle.std.proofs.lemmas.List.Elements.{All-append, All-from_recursion}
-use Rattle.std.proofs.lemmas.List.Splits.{slice_split_at, slice_split_none}
+use Rattle.std.proofs.lemmas.List.Splits.{slice_split_at}
 use Rattle.std.proofs.lemmas.List.Splits.{join_with_byte-slice_split}
 use Rattle.task_sheet.specs.Name.{is_name, IsName}
 use Rattle.certificate.specs.Body.{Fail, CertLevelData, IsShort, IsFailText, IsLevelText}
@@ -23,7 +21,7 @@ use Rattle.lines.specs.Steps.{◌>>=◌}
 use Rattle.certificate.specs.Lines.{At, line_from, wanted, level_head, level_in, fails_case}
 use Rattle.certificate.specs.Lines.{fails_from, items_at, level_read, levels_at}
 use Rattle.lines.proofs.NumberLaws.{number_takes, number_again}
-use Rattle.certificate.proofs.WordLaws.{cond_given}
+use Rattle.certificate.proofs.WordLaws.{Lacks, lacks, lacks_both, words_one, words_more, cond_given}
 use Rattle.lines.proofs.Parts.{parts_some}
 use Rattle.certificate.proofs.LevelLoops.{fails_line}
 use Rattle.certificate.proofs.FailLaws.{fail_text, fail_takes, fail_again}
@@ -75,26 +73,16 @@ level_line_takes k line h e =
     let t = take_level k (words line) h e in
     (sym (join_with_byte-slice_split 32 line) ∙ t.0, t.1, t.2)
 
-plain_level : (b : ℕ) → b < 45 → All (λ x. (x == b) ≡ false) (codes "level")
-plain_level b small = All-from_recursion (λ x. (x == b) ≡ false) (codes "level") (
-  grind (arith, nat_tests),
-  (
-    grind (arith, nat_tests),
-    (grind (arith, nat_tests), (grind (arith, nat_tests), (grind (arith, nat_tests), tt))),
-  ),
-)
-
 words_level : (k : ℕ) (name : List ℕ) (t : ℕ) → IsShort k → IsName name → IsShort t
     → words (level_text k name t) ≡ codes "level" ∷ decimal k ∷ name ∷ decimal t ∷ []
 words_level k name t short named brief =
-    slice_split_at (λ b. b == 32) (codes "level") 32 (decimal k ++ 32 ∷ (name ++ 32 ∷ decimal t))
-    (plain_level 32 (omega arith)) refl
-    ∙ ap (λ (x : List (List ℕ)). codes "level" ∷ x) (slice_split_at (λ b. b == 32) (decimal k) 32
-    (name ++ 32 ∷ decimal t) (decimal_lacks 32 k (omega arith) (omega arith)) refl)
-    ∙ ap (λ (x : List (List ℕ)). codes "level" ∷ decimal k ∷ x) (slice_split_at (λ b. b == 32) name
-    32 (decimal t) (name_lacks 32 name (omega arith) named) refl)
-    ∙ ap (λ (x : List (List ℕ)). codes "level" ∷ decimal k ∷ name ∷ x) (slice_split_none
-    (λ b. b == 32) (decimal t) (decimal_lacks 32 t (omega arith) (omega arith)))
+    words_more (codes "level") (decimal k ++ 32 ∷ (name ++ 32 ∷ decimal t))
+    (lacks 32 (codes "level") refl)
+    ∙ rw (
+      words_more (decimal k) (name ++ 32 ∷ decimal t) (decimal_lacks 32 k (omega arith) (omega arith)),
+      words_more name (decimal t) (name_lacks 32 name (omega arith) named),
+      words_one (decimal t) (decimal_lacks 32 t (omega arith) (omega arith)),
+    ) refl
 
 level_line_again : (k : ℕ) (name : List ℕ) (t : ℕ) → IsShort k → IsName name → IsShort t
     → level_in k (words (level_text k name t)) ≡ Some (name, t)
@@ -104,21 +92,14 @@ level_line_again k name t short named brief =
     ∙ rw (number_again k short, number_again t brief, eq-eqb k k refl, is) refl
 
 level_lacks : (k : ℕ) (name : List ℕ) (t : ℕ) → IsShort k → IsName name → IsShort t
-    → All (λ x. (x == 10) ≡ false) (level_text k name t)
+    → Lacks 10 (level_text k name t)
 level_lacks k name t short named brief =
-    let space : All (λ x. (x == 10) ≡ false) (32 ∷ []) =
-    All-from_recursion (λ x. (x == 10) ≡ false) (32 ∷ []) (refl, tt) in
-    All-append (λ x. (x == 10) ≡ false) (codes "level")
-    (32 ∷ (decimal k ++ 32 ∷ (name ++ 32 ∷ decimal t))) (plain_level 10 (omega arith))
-    (All-append (λ x. (x == 10) ≡ false) (32 ∷ [])
-    (decimal k ++ 32 ∷ (name ++ 32 ∷ decimal t)) space
-    (All-append (λ x. (x == 10) ≡ false) (decimal k) (32 ∷ (name ++ 32 ∷ decimal t))
+    lacks_both (codes "level") (decimal k ++ 32 ∷ (name ++ 32 ∷ decimal t))
+    (lacks 10 (codes "level") refl)
+    (lacks_both (decimal k) (name ++ 32 ∷ decimal t)
     (decimal_lacks 10 k (omega arith) (omega arith))
-    (All-append (λ x. (x == 10) ≡ false) (32 ∷ []) (name ++ 32 ∷ decimal t) space
-    (All-append (λ x. (x == 10) ≡ false) name (32 ∷ decimal t)
-    (name_lacks 10 name (omega arith) named)
-    (All-append (λ x. (x == 10) ≡ false) (32 ∷ []) (decimal t) space
-    (decimal_lacks 10 t (omega arith) (omega arith)))))))
+    (lacks_both name (decimal t) (name_lacks 10 name (omega arith) named)
+    (decimal_lacks 10 t (omega arith) (omega arith))))
 
 pub level_end : (k : ℕ) (l : CertLevelData) (rest : List ℕ)
     → level_text k l.name l.time ++ 10 ∷ rest ≡ level_spelling k l ++ rest
@@ -162,7 +143,7 @@ module _ (v : CertVersion) where
   BeginsNoFailure rest = (n : ℕ)
       → fails_from v (parts rest) n ≡ ([], record { parts = parts rest; line = n })
 
-  pub no_failure : (l rest : List ℕ) → All (λ x. (x == 10) ≡ false) l
+  pub no_failure : (l rest : List ℕ) → Lacks 10 l
       → fail_in v (codes "fails") (words l) ≡ None → BeginsNoFailure (l ++ 10 ∷ rest)
   no_failure l rest plain none n =
       let cut : parts (l ++ 10 ∷ rest) ≡ l ∷ parts rest =
@@ -172,14 +153,6 @@ module _ (v : CertVersion) where
       fails_line v l (parts rest) n (parts_some rest) ∙ rw none refl in
       subst (λ (y : List (List ℕ)). fails_from v y n ≡ ([], record { parts = y; line = n }))
       (sym cut) here
-
-fails_plain : All (λ x. (x == 32) ≡ false) (codes "fails")
-fails_plain = All-from_recursion (λ x. (x == 32) ≡ false) (codes "fails")
-    (refl, (refl, (refl, (refl, (refl, tt)))))
-
-fails_clean : All (λ x. (x == 10) ≡ false) (codes "fails")
-fails_clean = All-from_recursion (λ x. (x == 10) ≡ false) (codes "fails")
-    (refl, (refl, (refl, (refl, (refl, tt)))))
 
 -- the number of the line that follows levels
 abbrev pub line_after : ℕ → List CertLevelData → ℕ
@@ -202,15 +175,14 @@ module _ (v : CertVersion) where
       let cut : parts (fail_text (codes "fails") c ++ 10 ∷ more) ≡ fail_text (codes "fails") c
       ∷ parts more =
       slice_split_at (λ b. b == 10) (fail_text (codes "fails") c) 10 more
-      (fail_lacks v (codes "fails") c fails_clean fits.0) refl in
+      (fail_lacks v (codes "fails") c (lacks 10 (codes "fails") refl) fits.0) refl in
       let same : n + 1 + length cs ≡ n + suc (length cs) = omega arith in
       ap (λ (y : List ℕ). fails_from v (parts y) n) regrouped
       ∙ ap (λ (y : List (List ℕ)). fails_from v y n) cut
       ∙ fails_line v (fail_text (codes "fails") c) (parts more) n (parts_some more)
       ∙ rw (
-        fail_again v (codes "fails") c fails_plain fits.0,
-        fails_again cs rest (n + 1) fits.1
-            none,
+        fail_again v (codes "fails") c (lacks 32 (codes "fails") refl) fits.0,
+        fails_again cs rest (n + 1) fits.1 none,
         same,
       ) refl
 

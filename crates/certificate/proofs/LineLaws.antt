@@ -1,6 +1,6 @@
 -- Lines: what is read, and what is read of what is spelled.
 use Rattle.std.proofs.Common.{◌≡◌, ℕ, zero, suc, ◌+◌, ◌≤◌, ◌==◌, Bool, true, false, cond, List, []}
-use Rattle.std.proofs.Common.{◌∷◌, ◌++◌, length, All, Option, Some, None, Result, Ok, Err, refl}
+use Rattle.std.proofs.Common.{◌∷◌, ◌++◌, length, Option, Some, None, Result, Ok, Err, refl}
 use Rattle.std.proofs.Common.{sym, ap, ◌∙◌, subst, append_assoc, arith}
 use Rattle.std.specs.Prelude.{bytes_eq, codes, nat_le}
 use Rattle.std.specs.List.{AllByRecursion, join_with_byte}
@@ -9,8 +9,7 @@ use Rattle.std.proofs.lemmas.Bool.{le-leb, leb-true, eqb-true}
 use Rattle.std.proofs.lemmas.Option.{cond_some}
 use Rattle.std.proofs.lemmas.Slice.Eq.{bytes_eq-Decides}
 use Rattle.std.proofs.lemmas.List.{nil_from_length}
-use Rattle.std.proofs.lemmas.List.Elements.{All-from_recursion}
-use Rattle.std.proofs.lemmas.List.Splits.{slice_split_at, slice_split_none}
+use Rattle.std.proofs.lemmas.List.Splits.{slice_split_at}
 use Rattle.std.proofs.lemmas.List.Splits.{join_with_byte-slice_split}
 use Rattle.certificate.specs.Body.{Fail}
 use Rattle.certificate.specs.Spelling.{fail_line}
@@ -22,7 +21,7 @@ use Rattle.certificate.specs.Lines.{end_at, is_at_end}
 use Rattle.certificate.specs.declared.fault.CertFault.{CertFault}
 use Rattle.certificate.specs.declared.fault.CertFault.TheVariants.{BadLine, Trailing}
 use Rattle.lines.proofs.NumberLaws.{number_takes, number_again}
-use Rattle.certificate.proofs.WordLaws.{cond_given}
+use Rattle.certificate.proofs.WordLaws.{Lacks, lacks, words_one, words_more, cond_given}
 use Rattle.lines.proofs.Parts.{parts_some}
 use Rattle.certificate.proofs.ItemLoops.{line_is, over_is}
 use Rattle.certificate.proofs.FailLaws.{fail_text}
@@ -62,7 +61,7 @@ pub line_end : (word : List ℕ) (c : Fail) (rest : List ℕ)
     → fail_text word c ++ 10 ∷ rest ≡ fail_line word c ++ rest
 line_end word c rest = simp append_assoc
 
-pub line_again : (l rest : List ℕ) (n : ℕ) → All (λ x. (x == 10) ≡ false) l
+pub line_again : (l rest : List ℕ) (n : ℕ) → Lacks 10 l
     → line_from (parts (l ++ 10 ∷ rest)) n ≡ Ok (l, record { parts = parts rest; line = n + 1 })
 line_again l rest n plain = rw (slice_split_at (λ b. b == 10) l 10 rest plain refl)
     (line_is l (parts rest) n (parts_some rest))
@@ -118,17 +117,17 @@ count_takes word line n e =
     let t = take_count word (words line) n e in
     (sym (join_with_byte-slice_split 32 line) ∙ t.0, t.1)
 
-pub count_again : (word : List ℕ) (n : ℕ) → All (λ x. (x == 32) ≡ false) word → n ≤ 32
+-- a word and a number
+pub words_count : (word : List ℕ) (n : ℕ) → Lacks 32 word → n ≤ 32
+    → words (word ++ 32 ∷ decimal n) ≡ word ∷ decimal n ∷ []
+words_count word n plain small = words_more word (decimal n) plain
+    ∙ ap (λ (y : List (List ℕ)). word ∷ y)
+    (words_one (decimal n) (decimal_lacks 32 n (omega arith) (omega arith)))
+
+pub count_again : (word : List ℕ) (n : ℕ) → Lacks 32 word → n ≤ 32
     → count_in word (words (word ++ 32 ∷ decimal n)) ≡ Some n
-count_again word n plain small =
-    let two : words (word ++ 32 ∷ decimal n) ≡ word ∷ decimal n ∷ [] = slice_split_at (λ b. b == 32)
-    word 32 (decimal n) plain refl ∙ ap (λ (y : List (List ℕ)). word ∷ y) (slice_split_none
-    (λ b. b == 32) (decimal n) (decimal_lacks 32 n (omega arith) (omega arith))) in
-    ap (count_in word) two ∙ rw (
-      (bytes_eq-Decides word word).1 refl,
-      number_again n (omega arith),
-      le-leb n 32 small,
-    ) refl
+count_again word n plain small = ap (count_in word) (words_count word n plain small)
+    ∙ rw ((bytes_eq-Decides word word).1 refl, number_again n (omega arith), le-leb n 32 small) refl
 
 -- ---- the end
 guard_end : (b c : Bool) (x y : Unit {0}) (line : ℕ)
@@ -157,9 +156,7 @@ pub end_again : (rest : List ℕ) (n : ℕ) → end_at
     (record { parts = parts (codes "end\n" ++ rest); line = n }) ≡ closed (length rest == 0) tt
 unfolding end_at
 end_again rest n =
-    let plain : All (λ x. (x == 10) ≡ false) (codes "end") =
-    All-from_recursion (λ x. (x == 10) ≡ false) (codes "end") (refl, (refl, (refl, tt))) in
-    rw (line_again (codes "end") rest n plain, over_is rest) refl
+    rw (line_again (codes "end") rest n (lacks 10 (codes "end") refl), over_is rest) refl
 
 pub closed_bind : {A B : Type 0} (over : Bool) (x : A) (y : B)
     → (closed over x >>= λ z. Ok y) ≡ closed over y

@@ -1,12 +1,11 @@
 -- Lines with chains: what is read, and what is read of what is spelled.
-use Rattle.std.proofs.Common.{◌≡◌, ℕ, suc, ◌+◌, ◌<◌, ◌==◌, false, List, [], ◌∷◌, ◌++◌, length, All}
+use Rattle.std.proofs.Common.{◌≡◌, ℕ, suc, ◌+◌, ◌==◌, false, List, [], ◌∷◌, ◌++◌, length}
 use Rattle.std.proofs.Common.{Ok, refl, sym, ap, ◌∙◌, subst, append_assoc, arith, add-zero}
 use Rattle.std.specs.Prelude.{codes}
 use Rattle.std.specs.List.{AllByRecursion}
 use Rattle.std.specs.Fmt.{decimal}
-use Rattle.std.proofs.lemmas.Bool.Decides.{nat_tests}
 use Rattle.std.proofs.lemmas.List.Concat.{flat_map-cons}
-use Rattle.std.proofs.lemmas.List.Elements.{All-append, All-from_recursion}
+use Rattle.std.proofs.lemmas.List.Elements.{All-append}
 use Rattle.certificate.specs.Body.{CertReasonData, Chain, Over, Fail, IsShort, IsReasonText}
 use Rattle.certificate.specs.Body.{IsFailText}
 use Rattle.certificate.specs.Spelling.{numbers_text, reason_text, fail_line, fail_lines}
@@ -15,6 +14,7 @@ use Rattle.lines.specs.Words.{words}
 use Rattle.certificate.specs.Words.{fail_in}
 use Rattle.lines.specs.Steps.{◌>>=◌}
 use Rattle.certificate.specs.Lines.{At, line_from, wanted, items_at, member_at, members_at}
+use Rattle.certificate.proofs.WordLaws.{Lacks, lacks, lacks_both}
 use Rattle.certificate.proofs.FailLaws.{over_named, numbers_text-cons, fail_text, fail_takes}
 use Rattle.certificate.proofs.FailLaws.{fail_again}
 use Rattle.lines.proofs.Lacks.{decimal_lacks, name_lacks}
@@ -58,53 +58,25 @@ module _ (v : CertVersion) where
       (IsFailText v) (λ k. refl) one_more n 1 a x e
 
 -- ---- and back
-numbers_lack : (ns : List ℕ) → AllByRecursion IsShort ns
-    → All (λ x. (x == 10) ≡ false) (numbers_text ns)
-numbers_lack [] short = All-from_recursion (λ x. (x == 10) ≡ false) [] tt
-numbers_lack (n ∷ ns) short =
-    subst (λ (y : List ℕ). All (λ x. (x == 10) ≡ false) y) (sym (numbers_text-cons n ns))
-    (All-append (λ x. (x == 10) ≡ false) (32 ∷ decimal n) (numbers_text ns)
-    (All-append (λ x. (x == 10) ≡ false) (32 ∷ []) (decimal n) (All-from_recursion (λ x. (x == 10)
-    ≡ false) (32 ∷ []) (refl, tt)) (decimal_lacks 10 n (omega arith) (omega (arith, short.0))))
-    (numbers_lack ns short.1))
-
-eqb-less : (c b : ℕ) → b < c → (c == b) ≡ false
-eqb-less c b lt = grind (arith, nat_tests)
-
-member_plain : (b : ℕ) → b < 45 → All (λ x. (x == b) ≡ false) (codes "member")
-member_plain b small = All-from_recursion (λ x. (x == b) ≡ false) (codes "member") (
-  eqb-less 109 b
-      (omega arith),
-  (
-    eqb-less 101 b (omega arith),
-    (
-      eqb-less 109 b (omega arith),
-      (
-        eqb-less 98 b
-            (omega arith),
-        (eqb-less 101 b (omega arith), (eqb-less 114 b (omega arith), tt)),
-      ),
-    ),
-  ),
-)
+numbers_lack : (ns : List ℕ) → AllByRecursion IsShort ns → Lacks 10 (numbers_text ns)
+numbers_lack [] short = lacks 10 [] refl
+numbers_lack (n ∷ ns) short = subst (Lacks 10) (sym (numbers_text-cons n ns))
+    (lacks_both [] (decimal n ++ numbers_text ns) (lacks 10 [] refl)
+    (All-append (λ x. (x == 10) ≡ false) (decimal n) (numbers_text ns)
+    (decimal_lacks 10 n (omega arith) (omega (arith, short.0))) (numbers_lack ns short.1)))
 
 module _ (v : CertVersion) where
-  reason_lacks : (reason : CertReasonData) → IsReasonText v reason
-      → All (λ x. (x == 10) ≡ false) (reason_text reason)
+  reason_lacks : (reason : CertReasonData) → IsReasonText v reason → Lacks 10 (reason_text reason)
   reason_lacks (Chain numbers) fits = numbers_lack numbers fits.1
   reason_lacks (Over other) fits =
-      All-append (λ x. (x == 10) ≡ false) (codes " over ") other (All-from_recursion (λ x. (x == 10)
-      ≡ false) (codes " over ") (refl, (refl, (refl, (refl, (refl, (refl, tt)))))))
+      lacks_both (codes " over") other (lacks 10 (codes " over") refl)
       (name_lacks 10 other (omega arith) (over_named v other fits))
 
-  pub fail_lacks : (word : List ℕ) (c : Fail) → All (λ x. (x == 10) ≡ false) word → IsFailText v c
-      → All (λ x. (x == 10) ≡ false) (fail_text word c)
-  fail_lacks word c plain fits =
-      All-append (λ x. (x == 10) ≡ false) word (32 ∷ (c.name ++ reason_text c.reason)) plain
-      (All-append (λ x. (x == 10) ≡ false) (32 ∷ []) (c.name ++ reason_text c.reason)
-      (All-from_recursion (λ x. (x == 10) ≡ false) (32 ∷ []) (refl, tt))
+  pub fail_lacks : (word : List ℕ) (c : Fail) → Lacks 10 word → IsFailText v c
+      → Lacks 10 (fail_text word c)
+  fail_lacks word c plain fits = lacks_both word (c.name ++ reason_text c.reason) plain
       (All-append (λ x. (x == 10) ≡ false) c.name (reason_text c.reason)
-      (name_lacks 10 c.name (omega arith) fits.name) (reason_lacks c.reason fits.reason)))
+      (name_lacks 10 c.name (omega arith) fits.name) (reason_lacks c.reason fits.reason))
 
   pub member_again : (c : Fail) (rest : List ℕ) (n : ℕ) → IsFailText v c
       → member_at v (record { parts = parts (fail_line (codes "member") c ++ rest); line = n })
@@ -115,8 +87,8 @@ module _ (v : CertVersion) where
       ≡ Ok (fail_text (codes "member") c, record { parts = parts rest; line = n + 1 }) =
       ap (λ (y : List ℕ). line_from (parts y) n) (sym (line_end (codes "member") c rest))
       ∙ line_again (fail_text (codes "member") c) rest n
-      (fail_lacks (codes "member") c (member_plain 10 (omega arith)) fits) in
-      rw (lines, fail_again v (codes "member") c (member_plain 32 (omega arith)) fits) refl
+      (fail_lacks (codes "member") c (lacks 10 (codes "member") refl) fits) in
+      rw (lines, fail_again v (codes "member") c (lacks 32 (codes "member") refl) fits) refl
 
   pub members_again : (cs : List Fail) (rest : List ℕ) (k n : ℕ) → AllByRecursion (IsFailText v) cs
       → items_at (λ k. member_at v) (length cs) k

@@ -1,6 +1,6 @@
 -- A whole certificate: what is read is spelled so, and what is spelled so is read.
 use Rattle.std.proofs.Common.{◌≡◌, ℕ, suc, ◌+◌, ◌≤◌, ◌==◌, Bool, true, false, cond, List, [], ◌∷◌}
-use Rattle.std.proofs.Common.{◌++◌, length, All, Option, Some, None, Result, Ok, Err, refl, sym, ap}
+use Rattle.std.proofs.Common.{◌++◌, length, Option, Some, None, Result, Ok, Err, refl, sym, ap}
 use Rattle.std.proofs.Common.{◌∙◌, subst, append_assoc, arith}
 use Rattle.std.specs.Prelude.{bytes_eq, codes}
 use Rattle.std.specs.List.{AllByRecursion}
@@ -9,8 +9,6 @@ use Rattle.std.proofs.lemmas.Bool.Decides.{nat_tests}
 use Rattle.std.proofs.lemmas.Option.{same_Some}
 use Rattle.std.proofs.lemmas.Slice.Eq.{bytes_eq-Decides}
 use Rattle.std.proofs.lemmas.List.{append-nil}
-use Rattle.std.proofs.lemmas.List.Elements.{All-append, All-from_recursion}
-use Rattle.std.proofs.lemmas.List.Splits.{slice_split_at, slice_split_none}
 use Rattle.std.proofs.lemmas.List.Splits.{join_with_byte-slice_split}
 use Rattle.certificate.specs.declared.version.CertVersion.{CertVersion}
 use Rattle.certificate.specs.declared.version.CertVersion.TheVariants.{First, Second, Third}
@@ -27,6 +25,8 @@ use Rattle.certificate.specs.Lines.{levels_at, body_case, body_at, version_in, v
 use Rattle.certificate.specs.declared.fault.CertFault.{CertFault}
 use Rattle.certificate.specs.declared.fault.CertFault.TheVariants.{Trailing}
 use Rattle.lines.proofs.Lacks.{decimal_lacks}
+use Rattle.certificate.proofs.WordLaws.{Lacks, lacks, lacks_both}
+use Rattle.certificate.proofs.LineLaws.{words_count}
 use Rattle.certificate.proofs.LineLaws.{left, bind_ok, ok_is, line_takes, line_again, count_takes}
 use Rattle.certificate.proofs.LineLaws.{count_again, end_takes, end_again, closed, closed_bind}
 use Rattle.certificate.proofs.MemberLaws.{members_take, members_again}
@@ -144,33 +144,16 @@ certificate_takes bytes c e =
     )
 
 -- ---- what is spelled
-best_word : All (λ x. (x == 32) ≡ false) (codes "best")
-best_word =
-    All-from_recursion (λ x. (x == 32) ≡ false) (codes "best") (refl, (refl, (refl, (refl, tt))))
-
-none_word : All (λ x. (x == 32) ≡ false) (codes "none")
-none_word =
-    All-from_recursion (λ x. (x == 32) ≡ false) (codes "none") (refl, (refl, (refl, (refl, tt))))
-
-best_plain : (n : ℕ) → n ≤ 32 → All (λ x. (x == 10) ≡ false) (codes "best" ++ 32 ∷ decimal n)
-best_plain n small = All-append (λ x. (x == 10) ≡ false) (codes "best ") (decimal n)
-    (All-from_recursion (λ x. (x == 10) ≡ false) (codes "best ")
-    (refl, (refl, (refl, (refl, (refl, tt)))))) (decimal_lacks 10 n (omega arith) (omega arith))
-
-none_plain : (n : ℕ) → n ≤ 32 → All (λ x. (x == 10) ≡ false) (codes "none" ++ 32 ∷ decimal n)
-none_plain n small = All-append (λ x. (x == 10) ≡ false) (codes "none ") (decimal n)
-    (All-from_recursion (λ x. (x == 10) ≡ false) (codes "none ")
-    (refl, (refl, (refl, (refl, (refl, tt)))))) (decimal_lacks 10 n (omega arith) (omega arith))
+count_plain : (word : List ℕ) (n : ℕ) → Lacks 10 word → n ≤ 32
+    → Lacks 10 (word ++ 32 ∷ decimal n)
+count_plain word n plain small =
+    lacks_both word (decimal n) plain (decimal_lacks 10 n (omega arith) (omega arith))
 
 -- another word than the one that is wanted
 other_word : (n : ℕ) → n ≤ 32
     → count_in (codes "best") (words (codes "none" ++ 32 ∷ decimal n)) ≡ None
-other_word n small =
-    ap (count_in (codes "best"))
-    (slice_split_at (λ b. b == 32) (codes "none") 32 (decimal n) none_word refl
-    ∙ ap (λ (y : List (List ℕ)). codes "none" ∷ y) (slice_split_none (λ b. b == 32) (decimal n)
-    (decimal_lacks 32 n (omega arith) (omega arith))))
-    ∙ refl
+other_word n small = ap (count_in (codes "best"))
+    (words_count (codes "none") n (lacks 32 (codes "none") refl) small)
 
 regroup : (word digits lines rest : List ℕ) → ((word ++ 32 ∷ digits ++ 10 ∷ []) ++ lines) ++ rest
     ≡ (word ++ 32 ∷ digits) ++ 10 ∷ (lines ++ rest)
@@ -187,12 +170,9 @@ module _ (v : CertVersion) where
   no_chain = refl
 
   end_begins : (rest : List ℕ) → BeginsNoFailure v (codes "end\n" ++ rest)
-  end_begins rest =
-      let plain : All (λ x. (x == 10) ≡ false) (codes "end") =
-      All-from_recursion (λ x. (x == 10) ≡ false) (codes "end") (refl, (refl, (refl, tt))) in
-      no_failure v (codes "end") rest plain no_chain
+  end_begins rest = no_failure v (codes "end") rest (lacks 10 (codes "end") refl) no_chain
 
-  counted_again : (count rest : List ℕ) (n : ℕ) → All (λ x. (x == 10) ≡ false) count
+  counted_again : (count rest : List ℕ) (n : ℕ) → Lacks 10 count
       → body_at v (record { parts = parts (count ++ 10 ∷ rest); line = n })
       ≡ body_case v (count_in (codes "best") (words count))
       (count_in (codes "none") (words count)) (record { parts = parts rest; line = n + 1 })
@@ -207,145 +187,28 @@ module _ (v : CertVersion) where
       let count : List ℕ = codes "best" ++ 32 ∷ decimal (length ls) in
       ap (λ (y : List ℕ). body_at v (record { parts = parts y; line = n }))
       (regroup (codes "best") (decimal (length ls)) (level_spellings 1 ls) rest)
-      ∙ counted_again count (level_spellings 1 ls ++ rest) n (best_plain (length ls) fits.0)
+      ∙ counted_again count (level_spellings 1 ls ++ rest) n
+      (count_plain (codes "best") (length ls) (lacks 10 (codes "best") refl) fits.0)
       ∙ rw (
-        count_again (codes "best") (length ls) best_word fits.0,
-        levels_again v ls rest 1
-            (n + 1) (omega (arith, fits.0)) fits.1 none,
+        count_again (codes "best") (length ls) (lacks 32 (codes "best") refl) fits.0,
+        levels_again v ls rest 1 (n + 1) (omega (arith, fits.0)) fits.1 none,
       ) refl
   body_again (NoOrder ms) rest n fits none =
       let count : List ℕ = codes "none" ++ 32 ∷ decimal (length ms) in
       ap (λ (y : List ℕ). body_at v (record { parts = parts y; line = n }))
       (regroup (codes "none") (decimal (length ms)) (fail_lines (codes "member") ms) rest)
       ∙ counted_again count (fail_lines (codes "member") ms ++ rest) n
-      (none_plain (length ms) fits.0)
+      (count_plain (codes "none") (length ms) (lacks 10 (codes "none") refl) fits.0)
       ∙ rw (
         other_word (length ms) fits.0,
-        count_again (codes "none") (length ms) none_word fits.0,
+        count_again (codes "none") (length ms) (lacks 32 (codes "none") refl) fits.0,
         members_again v ms rest 1 (n + 1) fits.1,
       ) refl
 
-head_plain : (v : CertVersion) → All (λ x. (x == 10) ≡ false) (head_text v)
-head_plain First = All-from_recursion (λ x. (x == 10) ≡ false) (head_text First) (
-  refl,
-  (
-    refl,
-    (
-      refl,
-      (
-        refl,
-        (
-          refl,
-          (
-            refl,
-            (
-              refl,
-              (
-                refl,
-                (
-                  refl,
-                  (
-                    refl,
-                    (
-                      refl,
-                      (
-                        refl,
-                        (
-                          refl,
-                          (refl, (refl, (refl, (refl, (refl, tt))))),
-                        ),
-                      ),
-                    ),
-                  ),
-                ),
-              ),
-            ),
-          ),
-        ),
-      ),
-    ),
-  ),
-)
-head_plain Second = All-from_recursion (λ x. (x == 10) ≡ false) (head_text Second) (
-  refl,
-  (
-    refl,
-    (
-      refl,
-      (
-        refl,
-        (
-          refl,
-          (
-            refl,
-            (
-              refl,
-              (
-                refl,
-                (
-                  refl,
-                  (
-                    refl,
-                    (
-                      refl,
-                      (
-                        refl,
-                        (
-                          refl,
-                          (refl, (refl, (refl, (refl, (refl, tt))))),
-                        ),
-                      ),
-                    ),
-                  ),
-                ),
-              ),
-            ),
-          ),
-        ),
-      ),
-    ),
-  ),
-)
-head_plain Third = All-from_recursion (λ x. (x == 10) ≡ false) (head_text Third) (
-  refl,
-  (
-    refl,
-    (
-      refl,
-      (
-        refl,
-        (
-          refl,
-          (
-            refl,
-            (
-              refl,
-              (
-                refl,
-                (
-                  refl,
-                  (
-                    refl,
-                    (
-                      refl,
-                      (
-                        refl,
-                        (
-                          refl,
-                          (refl, (refl, (refl, (refl, (refl, tt))))),
-                        ),
-                      ),
-                    ),
-                  ),
-                ),
-              ),
-            ),
-          ),
-        ),
-      ),
-    ),
-  ),
-)
+head_plain : (v : CertVersion) → Lacks 10 (head_text v)
+head_plain First = lacks 10 (head_text First) refl
+head_plain Second = lacks 10 (head_text Second) refl
+head_plain Third = lacks 10 (head_text Third) refl
 
 version_again : (v : CertVersion) → version_in (head_text v) ≡ Some v
 version_again First = refl

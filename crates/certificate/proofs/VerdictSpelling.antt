@@ -24,8 +24,6 @@ use Rattle.task_sheet.proofs.IndexLaws.{order-below, order-few}
 use Rattle.task_sheet.proofs.TaskLaws.{valid_at, AllTasks-from_set}
 use Rattle.task_sheet.proofs.DemandFits.{limit-fits, demand-fits}
 use Rattle.task_sheet.proofs.VerdictLaws.{IsBestOrder-ready, IsStuck-ready}
-use Rattle.certificate.specs.declared.version.CertVersion.{CertVersion}
-use Rattle.certificate.specs.declared.version.CertVersion.TheVariants.{Second, Third}
 use Rattle.certificate.specs.Body.{Over, IsShort, IsReasonText, IsFailText, IsLevelText}
 use Rattle.certificate.specs.Body.{HasSpelling}
 use Rattle.certificate.specs.Versions.{some_bound, version_for}
@@ -34,30 +32,22 @@ use Rattle.certificate.specs.CertificateOf.{levels_named, certificate_of, IsKnow
 use Rattle.certificate.specs.CertificateOf.{IsKnownFail, IsKnownLevel}
 
 -- ---- tasks of the set
-push-below : (n m : ℕ) (ks : List ℕ) → AllByRecursion (λ k. k < n) ks → n ≤ m → n < m
-    → AllByRecursion (λ k. k < m) (ks ++ n ∷ [])
-push-below n m [] h le lt = (lt, tt)
-push-below n m (k ∷ ks) h le lt = (omega (arith, h.0), push-below n m ks h.1 le lt)
-
-keep-below : (n m : ℕ) (ks : List ℕ) → AllByRecursion (λ k. k < n) ks → n ≤ m
-    → AllByRecursion (λ k. k < m) ks
-keep-below n m [] h le = tt
-keep-below n m (k ∷ ks) h le = (omega (arith, h.0), keep-below n m ks h.1 le)
-
-grown-below : (n : ℕ) (b : Bool) (ks : List ℕ) → AllByRecursion (λ k. k < n) ks
-    → AllByRecursion (λ k. k < suc n) (cond b (ks ++ n ∷ []) ks)
-grown-below n true ks h = push-below n (suc n) ks h (omega arith) (omega arith)
-grown-below n false ks h = keep-below n (suc n) ks h (omega arith)
-
-listed-below : (n : ℕ) (L : Indexes) → AllByRecursion (λ k. k < n) (listed_below n L)
-listed-below zero L = tt
-listed-below (suc n) L = grown-below n (L n) (listed_below n L) (listed-below n L)
+listed-below : (n m : ℕ) (L : Indexes) → n ≤ m → AllByRecursion (λ k. k < m) (listed_below n L)
+listed-below zero m L le = tt
+listed-below (suc n) m L le =
+    grown (L n) (listed_below n L) (listed-below n m L (omega arith))
+  where
+    grown : (b : Bool) (ks : List ℕ) → AllByRecursion (λ k. k < m) ks
+        → AllByRecursion (λ k. k < m) (cond b (ks ++ n ∷ []) ks)
+    grown false ks h = h
+    grown true [] h = (omega arith, tt)
+    grown true (k ∷ ks) h = (h.0, grown true ks h.1)
 
 -- failures of the tasks of L below the chosen one name tasks of the set
 pub fails-below : (n : ℕ) (L : Indexes) (chosen : ℕ) (ks : List ℕ) → chosen < n
     → ks ≡ listed_below chosen L → AllByRecursion (λ k. k < n) ks
 fails-below n L chosen ks lt lesser = subst (AllByRecursion (λ k. k < n)) (sym lesser)
-    (keep-below chosen n (listed_below chosen L) (listed-below chosen L) (omega arith))
+    (listed-below chosen n L (omega arith))
 
 -- ---- names and numbers
 module _ (U : List Task) (set : IsTaskSet U) where
@@ -83,10 +73,8 @@ module _ (U : List Task) (set : IsTaskSet U) where
   name-text other bound named = by (has_interrupts U) refl
     where
       by : (b : Bool) → has_interrupts U ≡ b → IsReasonText (version_for U) (Over other)
-      by true is = let third : version_for U ≡ Third = rw is refl in
-          subst (λ (v : CertVersion). IsReasonText v (Over other)) (sym third) named
-      by false is = let second : version_for U ≡ Second = rw (is, bound) refl in
-          subst (λ (v : CertVersion). IsReasonText v (Over other)) (sym second) named
+      by true is = rw is named
+      by false is = rw (is, bound) named
 
   reason-text : (i : ℕ) (H : Indexes) (reason : ReasonData) → i < length U → Refutes U i H reason
       → IsReasonText (version_for U) (reason_named U reason)

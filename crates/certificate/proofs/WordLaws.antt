@@ -1,13 +1,42 @@
--- The numbers of a line, and the line that they are spelled in.
-use Rattle.std.proofs.Common.{◌≡◌, ℕ, Bool, true, false, cond, List, [], ◌∷◌, map, Option, Some}
-use Rattle.std.proofs.Common.{None, refl, ap₂, subst}
-use Rattle.std.specs.List.{AllByRecursion}
+-- The words of a line, and its numbers, as they are spelled.
+use Rattle.std.proofs.Common.{◌≡◌, ℕ, ◌==◌, Bool, true, false, not, cond, List, [], ◌∷◌, ◌++◌, All}
+use Rattle.std.proofs.Common.{map, Option, Some, None, refl, ap₂, subst}
+use Rattle.std.specs.List.{AllByRecursion, list_all}
 use Rattle.std.specs.Fmt.{decimal}
+use Rattle.std.proofs.lemmas.Bool.{and_parts, not-true}
+use Rattle.std.proofs.lemmas.List.Elements.{All-append, All-from_recursion}
+use Rattle.std.proofs.lemmas.List.Splits.{slice_split_at, slice_split_none}
 use Rattle.std.proofs.lemmas.Option.{same_Some}
 use Rattle.certificate.specs.Body.{IsShort}
-use Rattle.lines.specs.Words.{number_in}
+use Rattle.lines.specs.Words.{words, number_in}
 use Rattle.certificate.specs.Words.{◌>>=◌, numbers_in}
 use Rattle.lines.proofs.NumberLaws.{number_again, number_takes}
+
+-- the byte does not stand in the text
+abbrev pub Lacks : ℕ → List ℕ → Type 0
+Lacks b text = All (λ x. (x == b) ≡ false) text
+
+-- a test that computes where the text is written out
+pub lacks : (b : ℕ) (text : List ℕ) → list_all (λ x. not (x == b)) text ≡ true → Lacks b text
+lacks b text h = All-from_recursion (λ x. (x == b) ≡ false) text (each text h)
+  where
+    each : (xs : List ℕ) → list_all (λ x. not (x == b)) xs ≡ true
+        → AllByRecursion (λ x. (x == b) ≡ false) xs
+    each [] h = tt
+    each (x ∷ xs) h =
+        let p = and_parts _ _ h in
+        (not-true (x == b) p.0, each xs p.1)
+
+-- two texts of one line with a space between them
+pub lacks_both : (x y : List ℕ) → Lacks 10 x → Lacks 10 y → Lacks 10 (x ++ 32 ∷ y)
+lacks_both x y first second = All-append (λ x. (x == 10) ≡ false) x (32 ∷ y) first
+    (All-append (λ x. (x == 10) ≡ false) (32 ∷ []) y (lacks 10 (32 ∷ []) refl) second)
+
+pub words_one : (x : List ℕ) → Lacks 32 x → words x ≡ x ∷ []
+words_one x plain = slice_split_none (λ b. b == 32) x plain
+
+pub words_more : (x y : List ℕ) → Lacks 32 x → words (x ++ 32 ∷ y) ≡ x ∷ words y
+words_more x y plain = slice_split_at (λ b. b == 32) x 32 y plain refl
 
 -- a test that let an option through
 pub cond_given : {A : Type 0} (b : Bool) (x : Option A) (y : A) → cond b x None ≡ Some y

@@ -33,5 +33,5 @@ pub returns-in-Some-2 : goal.returns-in-Some-2
 returns-in-Some-2 c =
     rw c.in-Ok.ensures.same (is_fail c.args.self.version c.args.word.now c.args.line.now
     c.in-Some.first.now c.in-Some.rest.now c.in-Some-cut.name.now c.in-Some-cut.rest.now
-    (reason_seen c.in-Some-2.reason) c.in-Some.ensures.parts c.in-Some-cut.ensures.parts
+    c.in-Some.ensures.parts c.in-Some-cut.ensures.parts (reason_seen c.in-Some-2.reason)
     (sym c.if-ne.ensures) (search rules) (rw c.in-Some-2.is at c.in_ok-reason_of.ensures))
