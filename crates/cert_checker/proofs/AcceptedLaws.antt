@@ -55,13 +55,11 @@ module _ (U : List Task) (set : IsTaskSet U) where
   failures-own : (fails : List FailureData) → AllByRecursion (IsKnownFail (length U)) fails
       → failures_of U (fails_named U fails) ≡ fails
   failures-own [] known = refl
-  failures-own (f ∷ fails) known =
-      ap (λ (k : ℕ). let x : FailureData =
-      record { task = k; reason = reason_by_index U (reason_named U f.reason) } in
-      x ∷ failures_of U (fails_named U fails)) (task-own f.task known.0.task)
-      ∙ ap (λ (r : ReasonData). let x : FailureData = record { task = f.task; reason = r } in
-      x ∷ failures_of U (fails_named U fails)) (reason-own f.reason known.0.reason)
-      ∙ ap (λ (xs : List FailureData). f ∷ xs) (failures-own fails known.1)
+  failures-own (f ∷ fails) known = rw (
+    task-own f.task known.0.task,
+    reason-own f.reason known.0.reason,
+    failures-own fails known.1,
+  ) refl
 
   levels-own : (L : Indexes) (levels : List LevelData) → IsOrderOf L (order_of levels)
       → IsPart L (all_of U) → AllReady U L levels → levels_of U (levels_named U levels) ≡ levels
@@ -69,30 +67,14 @@ module _ (U : List Task) (set : IsTaskSet U) where
   levels-own L (l ∷ levels) each part ready =
       let lt : l.task < length U = ltb-true l.task (length U)
       (part l.task (IsOrderOf-head L l.task (order_of levels) each)) in
-      let rest : List LevelData = levels_of U (levels_named U levels) in
-      ap (λ (k : ℕ). let x : LevelData = record {
-        task = k;
-        response =
-            time_of U l + (task_at U k).jitter;
-        fails = failures_of U (fails_named U l.fails);
-      } in
-      x ∷ rest) (task-own l.task lt)
-      ∙ ap (λ (r : ℕ). let x : LevelData = record {
-        task = l.task;
-        response = r;
-        fails =
-            failures_of U (fails_named U l.fails);
-      } in x ∷ rest) (response-own U l ready.0.positive)
-      ∙ ap (λ (fs : List FailureData). let x : LevelData = record {
-        task = l.task;
-        response =
-            l.response;
-        fails = fs;
-      } in x ∷ rest) (failures-own l.fails (fails-known U L l.fails
-      (fails-below (length U) L l.task (tasks_of l.fails) lt ready.0.lesser) ready.0.refuted))
-      ∙ ap (λ (xs : List LevelData). l ∷ xs) (levels-own (without_index L l.task) levels
-      (IsOrderOf-rest L l.task (order_of levels) each)
-      (without-part_of (length U) L l.task part) ready.1)
+      let below = fails-below (length U) L l.task (tasks_of l.fails) lt ready.0.lesser in
+      rw (
+        task-own l.task lt,
+        response-own U l ready.0.positive,
+        failures-own l.fails (fails-known U L l.fails below ready.0.refuted),
+        levels-own (without_index L l.task) levels (IsOrderOf-rest L l.task (order_of levels) each)
+            (without-part_of (length U) L l.task part) ready.1,
+      ) refl
 
   body-ready : (v : VerdictData) → IsVerdictOf U v → IsReadyBody U (body_named U v)
   body-ready (Admitted levels) h =

@@ -48,9 +48,6 @@ pub answer-fault : (U : List Task) (b : Cert) (r : Result Checked CheckFault) �
 answer-fault U b (Ok kind) told = tt
 answer-fault U b (Err fault) told = told
 
-best-apart : {P : Type 0} (kind : Checked) → kind ≡ Best → kind ≡ NoOrder → P
-best-apart kind e f = absurd cc
-
 abbrev ok_answer : Checked → Result Checked CheckFault
 ok_answer kind = Ok kind
 

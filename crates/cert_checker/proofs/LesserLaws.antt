@@ -1,8 +1,7 @@
 -- The failures of a level: by rank, of the tasks that are left below the chosen one, and of no others.
 use Rattle.std.proofs.Common.{◌≡◌, ℕ, zero, suc, ◌+◌, ◌<◌, ◌≤◌, Bool, true, false, cond, ◌&&◌, ◌==◌}
-use Rattle.std.proofs.Common.{not, nat_lt, List, [], ◌∷◌, ◌++◌, Option, Some, None, refl, sym, ◌∙◌}
+use Rattle.std.proofs.Common.{not, List, [], ◌∷◌, ◌++◌, Option, Some, None, refl, sym, ◌∙◌}
 use Rattle.std.proofs.Common.{ap, subst, append_assoc, arith, inl, inr}
-use Rattle.std.specs.Prelude.{nat_le}
 use Rattle.std.specs.Option.{option_or}
 use Rattle.std.proofs.lemmas.List.{append-nil}
 use Rattle.std.proofs.lemmas.Bool.{cases_Bool, cases_eq, and_parts, and_from, or_cases, both_ways}
@@ -36,17 +35,15 @@ listed-up (suc c) from L =
 head-parts : (L : Indexes) (from n k : ℕ) (ks : List ℕ) → are_lesser L from n (k ∷ ks) ≡ true
     → (from ≤ k) × (k < n) × (L k ≡ true) × (are_lesser L (k + 1) n ks ≡ true)
 head-parts L from n k ks h =
-    let both = and_parts (nat_le from k && nat_lt k n && L k) (are_lesser L (k + 1) n ks) h in
-    let third = and_parts (nat_le from k && nat_lt k n) (L k) both.0 in
-    let first = and_parts (nat_le from k) (nat_lt k n) third.0 in
+    let both = and_parts _ _ h in
+    let third = and_parts _ _ both.0 in
+    let first = and_parts _ _ third.0 in
     (leb-true from k first.0, ltb-true k n first.1, third.1, both.1)
 
 head-from : (L : Indexes) (from n k : ℕ) (ks : List ℕ) → from ≤ k → k < n → L k ≡ true
     → are_lesser L (k + 1) n ks ≡ true → are_lesser L from n (k ∷ ks) ≡ true
 head-from L from n k ks le lt member rest =
-    and_from (nat_le from k && nat_lt k n && L k) (are_lesser L (k + 1) n ks)
-    (and_from (nat_le from k && nat_lt k n) (L k)
-    (and_from (nat_le from k) (nat_lt k n) (le-leb from k le) (lt-ltb k n lt)) member) rest
+    and_from _ _ (and_from _ _ (and_from _ _ (le-leb from k le) (lt-ltb k n lt)) member) rest
 
 -- what stands in it is no less than its first
 lesser-above : (L : Indexes) (from n : ℕ) (ks : List ℕ) (j : ℕ) → are_lesser L from n ks ≡ true
@@ -145,8 +142,7 @@ missing-sound : (L : Indexes) (named : List ℕ) (n j : ℕ) → first_unnamed L
     → L j ≡ true → among named j ≡ true
 missing-sound L named zero j h lt member = absurd (omega arith)
 missing-sound L named (suc n) j h lt member =
-    let both =
-    none-or (first_unnamed L named n) (cond (L n && not (among named n)) (Some n) None) h in
+    let both = none-or _ _ h in
     elim (cases_eq j n) [
       | inl e ↦ ap (among named) e
           ∙ test-none (L n) (among named n) n both.1 (ap L (sym e) ∙ member)

@@ -1,5 +1,5 @@
 -- The checks of the levels, one level after the other.
-use Rattle.std.proofs.Common.{◌≡◌, ℕ, zero, suc, ◌+◌, ◌<◌, Bool, true, false, ◌&&◌, not, nat_lt}
+use Rattle.std.proofs.Common.{◌≡◌, ℕ, zero, suc, ◌+◌, ◌<◌, Bool, true, false, ◌&&◌}
 use Rattle.std.proofs.Common.{List, [], ◌∷◌, length, drop, get_or, All, Option, Some, None, refl}
 use Rattle.std.proofs.Common.{sym, ◌∙◌, ap, arith, inl, inr}
 use Rattle.std.specs.List.{AllByRecursion}
@@ -42,28 +42,15 @@ levels-step U asked L M ls i l total lt e none is h =
     ap (λ (X : Indexes). levels_fault U asked (i + 1 + 1) X (drop (i + 1) ls)) is
     ∙ sym (ap (levels_fault U asked (i + 1) L) (dropped ls i l lt e) ∙ rw none refl) ∙ h
 
-pub levels-stop : (U : List Task) (asked : LevelCheck) (L : Indexes) (ls : List CertLevelData)
-    (i : ℕ) (l : CertLevelData) (fault : CheckFault) (total : Option CheckFault) → i < length ls
-    → l ≡ get_or ls i l
-    → level_fault U asked (i + 1) L l ≡ Some fault
-    → levels_fault U asked (i + 1) L (drop i ls) ≡ total → Some fault ≡ total
-levels-stop U asked L ls i l fault total lt e some h =
-    sym (ap (levels_fault U asked (i + 1) L) (dropped ls i l lt e) ∙ rw some refl) ∙ h
-
 -- levels that name tasks each once name tasks
 new-known : (U : List Task) (seen : Indexes) (ls : List CertLevelData)
     → are_new (length U) seen (order_of (levels_of U ls)) ≡ true
     → AllByRecursion (λ (l : CertLevelData). task_by_name U l.name < length U) ls
 new-known U seen [] h = tt
 new-known U seen (l ∷ ls) h =
-    let parts = and_parts
-    (nat_lt (task_by_name U l.name) (length U) && not (seen (task_by_name U l.name))) (are_new
-    (length U) (with_index seen (task_by_name U l.name)) (order_of (levels_of U ls))) h in
-    let first = and_parts (nat_lt (task_by_name U l.name) (length U))
-    (not (seen (task_by_name U l.name))) parts.0 in (
-      ltb-true (task_by_name U l.name) (length U) first.0,
-      new-known U
-          (with_index seen (task_by_name U l.name)) ls parts.1,
+    let parts = and_parts _ _ h in (
+      ltb-true _ _ (and_parts _ _ parts.0).0,
+      new-known U (with_index seen (task_by_name U l.name)) ls parts.1,
     )
 
 pub levels-known : (U : List Task) (seen : Indexes) (ls : List CertLevelData) (b : Bool)
@@ -71,4 +58,4 @@ pub levels-known : (U : List Task) (seen : Indexes) (ls : List CertLevelData) (b
     → All (λ (l : CertLevelData). task_by_name U l.name < length U) ls
 levels-known U seen ls b h =
     All-from_recursion (λ (l : CertLevelData). task_by_name U l.name < length U) ls
-    (new-known U seen ls (and_parts (are_new (length U) seen (order_of (levels_of U ls))) b h).0)
+    (new-known U seen ls (and_parts _ b h).0)

@@ -1,6 +1,6 @@
 -- Lists that name tasks each once.
 use Rattle.std.proofs.Common.{◌≡◌, ℕ, zero, suc, ◌+◌, ◌<◌, Bool, true, false, cond, ◌&&◌, ◌||◌}
-use Rattle.std.proofs.Common.{◌==◌, not, nat_lt, List, [], ◌∷◌, refl, ◌∙◌, ap, subst, arith, inl}
+use Rattle.std.proofs.Common.{◌==◌, not, List, [], ◌∷◌, refl, ◌∙◌, ap, subst, arith, inl}
 use Rattle.std.proofs.Common.{inr}
 use Rattle.std.specs.List.{count_by}
 use Rattle.std.proofs.lemmas.Bool.{cases_eq, and_parts, and_from, or_cases, both_ways, ltb-true}
@@ -16,8 +16,8 @@ use Rattle.cert_checker.proofs.SeenSteps.{same-test}
 new-parts : (n : ℕ) (seen : Indexes) (x : ℕ) (ks : List ℕ) → are_new n seen (x ∷ ks) ≡ true
     → (x < n) × (seen x ≡ false) × (are_new n (with_index seen x) ks ≡ true)
 new-parts n seen x ks h =
-    let both = and_parts (nat_lt x n && not (seen x)) (are_new n (with_index seen x) ks) h in
-    let first = and_parts (nat_lt x n) (not (seen x)) both.0 in
+    let both = and_parts _ _ h in
+    let first = and_parts _ _ both.0 in
     (ltb-true x n first.0, not-true (seen x) first.1, both.1)
 
 none-count : (b : Bool) → 0 + cond b 1 0 ≡ cond (b || false) 1 0
@@ -63,7 +63,7 @@ new-part n ks h k is = lt-ltb k n (new-below n no_index ks k h is)
 has_all-each : (n : ℕ) (L : Indexes) (k : ℕ) → has_all n L ≡ true → k < n → L k ≡ true
 has_all-each zero L k h lt = absurd (omega arith)
 has_all-each (suc n) L k h lt =
-    let both = and_parts (has_all n L) (L n) h in
+    let both = and_parts _ _ h in
     elim (cases_eq k n) [
       | inl e ↦ ap L e ∙ both.1
       | inr ne ↦ has_all-each n L k both.0 (omega arith)
@@ -72,7 +72,7 @@ has_all-each (suc n) L k h lt =
 has_all-from : (n : ℕ) (L : Indexes) → ((k : ℕ) → k < n → L k ≡ true) → has_all n L ≡ true
 has_all-from zero L h = refl
 has_all-from (suc n) L h =
-    and_from (has_all n L) (L n) (has_all-from n L (λ k lt. h k (omega arith))) (h n (omega arith))
+    and_from _ _ (has_all-from n L (λ k lt. h k (omega arith))) (h n (omega arith))
 
 -- each task once, and every task
 pub order-sound : (n : ℕ) (ks : List ℕ) → are_new n no_index ks ≡ true → has_all n (among ks) ≡ true
@@ -87,9 +87,7 @@ new-complete : (n : ℕ) (seen L : Indexes) (ks : List ℕ) → IsOrderOf L ks �
 new-complete n seen L [] each part apart = refl
 new-complete n seen L (x ∷ ks) each part apart =
     let member = IsOrderOf-head L x ks each in
-    let first : (nat_lt x n && not (seen x)) ≡ true =
-    and_from (nat_lt x n) (not (seen x)) (part x member) (ap not (apart x member)) in
-    and_from (nat_lt x n && not (seen x)) (are_new n (with_index seen x) ks) first
+    and_from _ _ (and_from _ _ (part x member) (ap not (apart x member)))
     (new-complete n (with_index seen x) (without_index L x) ks (IsOrderOf-rest L x ks each)
     (λ k is. part k (without-parts L x k is).0)
     (λ k is. let both = without-parts L x k is in rw (ne_eqb k x both.1) (apart k both.0)))
@@ -101,7 +99,5 @@ set-complete n L ks each part = new-complete n no_index L ks each part (λ k is.
 pub order-complete : (n : ℕ) (ks : List ℕ) → IsOrderOf (below n) ks
     → (are_new n no_index ks && has_all n (among ks)) ≡ true
 order-complete n ks each =
-    and_from (are_new n no_index ks) (has_all n (among ks))
-    (set-complete n (below n) ks each (λ k is. is))
-    (has_all-from n (among ks)
+    and_from _ _ (set-complete n (below n) ks each (λ k is. is)) (has_all-from n (among ks)
     (λ k lt. ap (λ (L : Indexes). L k) (IsOrderOf-among (below n) ks each) ∙ lt-ltb k n lt))

@@ -1,8 +1,7 @@
 -- A certificate without a fault is ready, and a ready one has no fault.
 use Rattle.std.proofs.Common.{◌≡◌, ℕ, suc, ◌+◌, ◌<◌, ◌≤◌, Bool, true, false, cond, ◌&&◌, ◌==◌, not}
-use Rattle.std.proofs.Common.{nat_lt, List, [], ◌∷◌, length, Option, Some, None, refl, sym, ap}
+use Rattle.std.proofs.Common.{List, [], ◌∷◌, length, Option, Some, None, refl, sym, ap}
 use Rattle.std.proofs.Common.{subst, arith}
-use Rattle.std.specs.Prelude.{nat_le}
 use Rattle.std.specs.Option.{option_or}
 use Rattle.std.specs.List.{AllByRecursion}
 use Rattle.std.proofs.lemmas.Bool.{and_parts, and_from, both_ways, or_left, ltb-true, leb-true}
@@ -11,7 +10,7 @@ use Rattle.std.proofs.lemmas.Bool.Decides.{nat_tests}
 use Rattle.task_sheet.specs.Sheet.{Task, task_at}
 use Rattle.task_sheet.specs.Indexes.{Indexes, IsPart, no_index, without_index, among}
 use Rattle.task_sheet.specs.Demand.{demand_of, limit_of}
-use Rattle.task_sheet.specs.Orders.{all_of, must_outrank, is_bound, IsOrderOf}
+use Rattle.task_sheet.specs.Orders.{all_of, is_bound, IsOrderOf}
 use Rattle.task_sheet.specs.Verdicts.{tasks_of, order_of}
 use Rattle.task_sheet.specs.Ready.{time_of, Refutes, AllRefuted, IsReadyLevel, AllReady}
 use Rattle.task_sheet.specs.Ready.{IsReadyOrder, IsReadySet}
@@ -19,17 +18,14 @@ use Rattle.task_sheet.proofs.IndexLaws.{IsOrderOf-head, IsOrderOf-rest, without-
 use Rattle.task_sheet.proofs.IndexLaws.{order-below}
 use Rattle.certificate.specs.Body.{CertReasonData, Chain, Over, Fail, CertLevelData, Body, Best}
 use Rattle.certificate.specs.Body.{NoOrder, Cert}
-use Rattle.certificate.specs.Versions.{version_for}
 use Rattle.certificate.proofs.VerdictSpelling.{fails-below}
 use Rattle.cert_checker.specs.Ready.{task_by_name, reason_by_index, failures_of, level_by_index}
-use Rattle.cert_checker.specs.Ready.{levels_of, may_serve, IsReadyBody, IsReady}
-use Rattle.cert_checker.specs.Faults.{fault_unless, are_new, has_all, are_lesser, covers}
+use Rattle.cert_checker.specs.Ready.{levels_of, IsReadyBody, IsReady}
+use Rattle.cert_checker.specs.Faults.{fault_unless, are_new, has_all, are_lesser}
 use Rattle.cert_checker.specs.Faults.{time_stands, refutes, is_refuted, bad_fail, first_unnamed}
 use Rattle.cert_checker.specs.Faults.{missing_at, level_fault, levels_fault, order_fault, set_fault}
 use Rattle.cert_checker.specs.Faults.{body_fault, check_fault}
 use Rattle.cert_checker.specs.declared.fault.CheckFault.{CheckFault}
-use Rattle.cert_checker.specs.declared.fault.CheckFault.TheVariants.{WrongVersion, WrongTasks}
-use Rattle.cert_checker.specs.declared.fault.CheckFault.TheVariants.{BadPass, BadChain, EmptySet}
 use Rattle.cert_checker.specs.declared.levels.LevelCheck.{LevelCheck}
 use Rattle.cert_checker.specs.declared.levels.LevelCheck.TheVariants.{Tasks, Pass, Chains, Missing}
 use Rattle.cert_checker.proofs.ChainTests.{chain-sound, chain-complete}
@@ -60,29 +56,24 @@ refutes-sound : (U : List Task) (i : ℕ) (H : Indexes) (reason : CertReasonData
 refutes-sound U i H (Chain numbers) h =
     chain-sound (demand_of U i H) (limit_of (task_at U i)) numbers h
 refutes-sound U i H (Over other) h =
-    let k = task_by_name U other in
-    let both = and_parts (nat_lt k (length U) && H k) (must_outrank U i k) h in
-    let first = and_parts (nat_lt k (length U)) (H k) both.0 in
-    (ltb-true k (length U) first.0, first.1, both.1)
+    let both = and_parts _ _ h in
+    let first = and_parts _ _ both.0 in
+    (ltb-true _ _ first.0, first.1, both.1)
 
 refutes-complete : (U : List Task) (i : ℕ) (H : Indexes) (reason : CertReasonData)
     → Refutes U i H (reason_by_index U reason) → refutes U i H reason ≡ true
 refutes-complete U i H (Chain numbers) h =
     chain-complete (demand_of U i H) (limit_of (task_at U i)) numbers h
 refutes-complete U i H (Over other) h =
-    let k = task_by_name U other in
-    and_from (nat_lt k (length U) && H k) (must_outrank U i k)
-    (and_from (nat_lt k (length U)) (H k) (lt-ltb k (length U) h.0) h.1) h.2
+    and_from _ _ (and_from _ _ (lt-ltb (task_by_name U other) (length U) h.0) h.1) h.2
 
 fails-sound : (U : List Task) (place : ℕ) (L : Indexes) (fs : List Fail)
     → bad_fail U place L fs ≡ None → AllRefuted U L (failures_of U fs)
 fails-sound U place L [] h = tt
 fails-sound U place L (f ∷ fs) h =
-    let both = none-or (fault_unless (is_refuted U L f) (BadChain place f.name))
-    (bad_fail U place L fs) h in
+    let both = none-or _ _ h in
     let k = task_by_name U f.name in
-    let parts = and_parts (nat_lt k (length U)) (refutes U k (without_index L k) f.reason)
-    (met (is_refuted U L f) (BadChain place f.name) both.0) in
+    let parts = and_parts _ _ (met (is_refuted U L f) _ both.0) in
     (refutes-sound U k (without_index L k) f.reason parts.1, fails-sound U place L fs both.1)
 
 fails-complete : (U : List Task) (place : ℕ) (L : Indexes) (fs : List Fail)
@@ -91,12 +82,9 @@ fails-complete : (U : List Task) (place : ℕ) (L : Indexes) (fs : List Fail)
 fails-complete U place L [] known h = refl
 fails-complete U place L (f ∷ fs) known h =
     let k = task_by_name U f.name in
-    let first : is_refuted U L f ≡ true =
-    and_from (nat_lt k (length U)) (refutes U k (without_index L k) f.reason)
-    (lt-ltb k (length U) known.0)
+    let first : is_refuted U L f ≡ true = and_from _ _ (lt-ltb k (length U) known.0)
     (refutes-complete U k (without_index L k) f.reason h.0) in
-    or-none (fault_unless (is_refuted U L f) (BadChain place f.name)) (bad_fail U place L fs) (unmet
-    (is_refuted U L f) (BadChain place f.name) first) (fails-complete U place L fs known.1 h.1)
+    or-none _ _ (unmet _ _ first) (fails-complete U place L fs known.1 h.1)
 
 -- ---- a level
 -- the response that a time gives leaves the time
@@ -109,12 +97,9 @@ level-sound : (U : List Task) (place : ℕ) (L : Indexes) (l : CertLevelData)
 level-sound U place L l h =
     let k = task_by_name U l.name in
     let fails = tasks_of (failures_of U l.fails) in
-    let enough = nat_le (demand_of U k (without_index L k) l.time) l.time in
-    let stands = and_parts (covers U L k l.time) (not (is_bound U k (without_index L k)))
-    (met (time_stands U L k l.time) (BadPass place) (h Pass)) in
-    let pass =
-    and_parts (nat_le 1 l.time && nat_le l.time (limit_of (task_at U k))) enough stands.0 in
-    let times = and_parts (nat_le 1 l.time) (nat_le l.time (limit_of (task_at U k))) pass.0 in
+    let stands = and_parts _ _ (met (time_stands U L k l.time) _ (h Pass)) in
+    let pass = and_parts _ _ stands.0 in
+    let times = and_parts _ _ pass.0 in
     let same = time-own U l in
     record {
       positive = omega (arith, same, leb-true 1 l.time times.0);
@@ -122,7 +107,7 @@ level-sound U place L l h =
       covers = subst (λ (t : ℕ). demand_of U k (without_index L k) t ≤ t) (sym same)
           (leb-true (demand_of U k (without_index L k) l.time) l.time pass.1);
       unbound = not-true (is_bound U k (without_index L k)) stands.1;
-      lesser = lesser-sound L k fails (met (are_lesser L 0 k fails) (WrongTasks place) (h Tasks))
+      lesser = lesser-sound L k fails (met (are_lesser L 0 k fails) _ (h Tasks))
           (found U place (first_unnamed L fails k) (h Missing));
       refuted = fails-sound U place L l.fails (h Chains);
     }
@@ -131,17 +116,11 @@ level-complete : (U : List Task) (asked : LevelCheck) (place : ℕ) (L : Indexes
     → task_by_name U l.name < length U → IsReadyLevel U L (level_by_index U l)
     → level_fault U asked place L l ≡ None
 level-complete U Tasks place L l lt ready =
-    let k = task_by_name U l.name in
-    let fails = tasks_of (failures_of U l.fails) in
-    unmet (are_lesser L 0 k fails) (WrongTasks place) (lesser-complete L k fails ready.lesser).0
+    unmet _ _ (lesser-complete L (task_by_name U l.name) _ ready.lesser).0
 level-complete U Pass place L l lt ready =
     let k = task_by_name U l.name in
-    let enough = nat_le (demand_of U k (without_index L k) l.time) l.time in
     let same = time-own U l in
-    unmet (time_stands U L k l.time) (BadPass place)
-    (and_from (covers U L k l.time) (not (is_bound U k (without_index L k)))
-    (and_from (nat_le 1 l.time && nat_le l.time (limit_of (task_at U k))) enough
-    (and_from (nat_le 1 l.time) (nat_le l.time (limit_of (task_at U k)))
+    unmet _ _ (and_from _ _ (and_from _ _ (and_from _ _
     (le-leb 1 l.time (omega (arith, same, ready.positive)))
     (le-leb l.time (limit_of (task_at U k)) (omega (arith, same, ready.within))))
     (le-leb (demand_of U k (without_index L k) l.time) l.time
@@ -152,23 +131,18 @@ level-complete U Chains place L l lt ready =
     let known = fails-below (length U) L k (tasks_of (failures_of U l.fails)) lt ready.lesser in
     fails-complete U place L l.fails known ready.refuted
 level-complete U Missing place L l lt ready =
-    let k = task_by_name U l.name in
-    let fails = tasks_of (failures_of U l.fails) in
-    ap (missing_at U place) (lesser-complete L k fails ready.lesser).1
+    ap (missing_at U place) (lesser-complete L (task_by_name U l.name) _ ready.lesser).1
 
 -- ---- the levels
 levels-sound : (U : List Task) (place : ℕ) (L : Indexes) (ls : List CertLevelData)
     → ((asked : LevelCheck) → levels_fault U asked place L ls ≡ None)
     → AllReady U L (levels_of U ls)
 levels-sound U place L [] h = tt
-levels-sound U place L (l ∷ ls) h =
-    let rest : LevelCheck → Option CheckFault =
-    λ asked. levels_fault U asked (place + 1) (without_index L (task_by_name U l.name)) ls in (
-      level-sound U place L l
-          (λ asked. (none-or (level_fault U asked place L l) (rest asked) (h asked)).0),
-      levels-sound U (place + 1) (without_index L (task_by_name U l.name)) ls
-          (λ asked. (none-or (level_fault U asked place L l) (rest asked) (h asked)).1),
-    )
+levels-sound U place L (l ∷ ls) h = (
+  level-sound U place L l (λ asked. (none-or _ _ (h asked)).0),
+  levels-sound U (place + 1) (without_index L (task_by_name U l.name)) ls
+      (λ asked. (none-or _ _ (h asked)).1),
+)
 
 levels-complete : (U : List Task) (asked : LevelCheck) (place : ℕ) (L : Indexes)
     (ls : List CertLevelData) → IsOrderOf L (order_of (levels_of U ls)) → IsPart L (all_of U)
@@ -177,9 +151,7 @@ levels-complete U asked place L [] each part ready = refl
 levels-complete U asked place L (l ∷ ls) each part ready =
     let k = task_by_name U l.name in
     let above = order_of (levels_of U ls) in
-    or-none (level_fault U asked place L l)
-    (levels_fault U asked (place + 1) (without_index L k) ls)
-    (level-complete U asked place L l
+    or-none _ _ (level-complete U asked place L l
     (ltb-true k (length U) (part k (IsOrderOf-head L k above each))) ready.0)
     (levels-complete U asked (place + 1) (without_index L k) ls (IsOrderOf-rest L k above each)
     (without-part_of (length U) L k part) ready.1)
@@ -193,22 +165,14 @@ guard-none false o fault e = absurd cc
 order-without_fault : (U : List Task) (ls : List CertLevelData) → order_fault U ls ≡ None
     → IsReadyOrder U (levels_of U ls)
 order-without_fault U ls h =
-    let n = length U in
-    let order = order_of (levels_of U ls) in
-    let all = all_of U in
-    let first = levels_fault U Tasks 1 all ls in
-    let second = levels_fault U Pass 1 all ls in
-    let third = levels_fault U Chains 1 all ls in
-    let fourth = levels_fault U Missing 1 all ls in
-    let g = guard-none (are_new n no_index order && has_all n (among order))
-    (option_or first (option_or second (option_or third fourth))) (WrongTasks 0) h in
-    let named = and_parts (are_new n no_index order) (has_all n (among order)) g.0 in
-    let a = none-or first (option_or second (option_or third fourth)) g.1 in
-    let b = none-or second (option_or third fourth) a.1 in
-    let c = none-or third fourth b.1 in
+    let g = guard-none _ _ _ h in
+    let named = and_parts _ _ g.0 in
+    let a = none-or _ _ g.1 in
+    let b = none-or _ _ a.1 in
+    let c = none-or _ _ b.1 in
     record {
-      each_once = order-sound n order named.0 named.1;
-      ready = levels-sound U 1 all ls (each a.0 b.0 c.0 c.1);
+      each_once = order-sound (length U) (order_of (levels_of U ls)) named.0 named.1;
+      ready = levels-sound U 1 (all_of U) ls (each a.0 b.0 c.0 c.1);
     }
   where
     each : levels_fault U Tasks 1 (all_of U) ls ≡ None → levels_fault U Pass 1 (all_of U) ls ≡ None
@@ -230,12 +194,8 @@ order-ready U ls ready =
     ready.ready in
     let named : (are_new n no_index order && has_all n (among order)) ≡ true =
     order-complete n order ready.each_once in
-    rw named (or-none (levels_fault U Tasks 1 all ls) (option_or (levels_fault U Pass 1 all ls)
-    (option_or (levels_fault U Chains 1 all ls) (levels_fault U Missing 1 all ls))) (none Tasks)
-    (or-none (levels_fault U Pass 1 all ls)
-    (option_or (levels_fault U Chains 1 all ls) (levels_fault U Missing 1 all ls)) (none Pass)
-    (or-none (levels_fault U Chains 1 all ls) (levels_fault U Missing 1 all ls) (none Chains)
-    (none Missing))))
+    rw named (or-none _ _ (none Tasks)
+    (or-none _ _ (none Pass) (or-none _ _ (none Chains) (none Missing))))
 
 -- ---- a set
 some-member : (U : List Task) (cs : List Fail) → not (length cs == 0) ≡ true → (k : ℕ)
@@ -261,13 +221,11 @@ set-without_fault : (U : List Task) (cs : List Fail) → set_fault U cs ≡ None
 set-without_fault U cs h =
     let n = length U in
     let ks = tasks_of (failures_of U cs) in
-    let bad = bad_fail U 0 (among ks) cs in
-    let empty = fault_unless (not (length cs == 0)) EmptySet in
-    let g = guard-none (are_new n no_index ks) (option_or bad empty) (WrongTasks 0) h in
-    let both = none-or bad empty g.1 in
+    let g = guard-none _ _ _ h in
+    let both = none-or _ _ g.1 in
     record {
       within = new-part n ks g.0;
-      some = some-member U cs (met (not (length cs == 0)) EmptySet both.1);
+      some = some-member U cs (met _ _ both.1);
       distinct = new-order n ks g.0;
       refuted = fails-sound U 0 (among ks) cs both.0;
     }
@@ -280,9 +238,8 @@ set-ready U cs ready =
     let named : are_new n no_index ks ≡ true =
     set-complete n (among ks) ks ready.distinct ready.within in
     let known = order-below n (among ks) ks ready.distinct ready.within in
-    rw named (or-none (bad_fail U 0 (among ks) cs) (fault_unless (not (length cs == 0)) EmptySet)
-    (fails-complete U 0 (among ks) cs known ready.refuted)
-    (unmet (not (length cs == 0)) EmptySet (member-some U cs ready.some.0 ready.some.1)))
+    rw named (or-none _ _ (fails-complete U 0 (among ks) cs known ready.refuted)
+    (unmet _ _ (member-some U cs ready.some.0 ready.some.1)))
 
 -- ---- the whole
 body-sound : (U : List Task) (b : Body) → body_fault U b ≡ None → IsReadyBody U b
@@ -295,12 +252,9 @@ body-complete U (NoOrder members) h = set-ready U members h
 
 pub ready-from_none : (U : List Task) (c : Cert) → check_fault U c ≡ None → IsReady U c
 ready-from_none U c h =
-    let serves = may_serve c.version (version_for U) in
-    let both = none-or (fault_unless serves WrongVersion) (body_fault U c.body) h in
-    record { version = met serves WrongVersion both.0; body = body-sound U c.body both.1 }
+    let both = none-or _ _ h in
+    record { version = met _ _ both.0; body = body-sound U c.body both.1 }
 
 pub none-from_ready : (U : List Task) (c : Cert) → IsReady U c → check_fault U c ≡ None
 none-from_ready U c h =
-    let serves = may_serve c.version (version_for U) in
-    or-none (fault_unless serves WrongVersion) (body_fault U c.body)
-    (unmet serves WrongVersion h.version) (body-complete U c.body h.body)
+    or-none _ _ (unmet _ _ h.version) (body-complete U c.body h.body)
