@@ -16,26 +16,21 @@ fn has_task(set: &TaskSet, word: &str) -> bool {
     }
 }
 
-// The names of the tasks by rank, and how many more there are.
-fn tell_tasks(told: &mut Told, set: &TaskSet) {
+// That no task of the set has the name, and which there are by rank, with how many more.
+fn no_task(alloc: Global, set: &TaskSet, word: &str) -> Option<String> {
+    let mut told = Told::new(alloc);
+    told.quoted("no task is called ", Some(word.as_bytes()));
+    if set.is_empty() {
+        told.words(": the set has none");
+        return told.whole();
+    }
+    told.words(": the set has");
     for (i, sheet) in set.sheets().iter().take(MOST_NAMED).enumerate() {
         told.name(between(i), sheet.name());
     }
     if set.len() > MOST_NAMED {
         told.number(" and ", (set.len() - MOST_NAMED) as u64);
         told.words(" more");
-    }
-}
-
-// That no task of the set has the name, and which there are.
-fn no_task(alloc: Global, set: &TaskSet, word: &str) -> Option<String> {
-    let mut told = Told::new(alloc);
-    told.quoted("no task is called ", Some(word.as_bytes()));
-    if set.is_empty() {
-        told.words(": the set has none");
-    } else {
-        told.words(": the set has");
-        tell_tasks(&mut told, set);
     }
     told.whole()
 }
@@ -67,11 +62,9 @@ pub fn of_window(alloc: Global, bytes: &[u8], from: usize, to: Option<usize>) ->
     match to {
         Some(to) => {
             told.number(" to ", to as u64);
-            told.words(if to <= from {
-                "; --to has to be after --from"
-            } else {
-                ""
-            });
+            if to <= from {
+                told.words("; --to has to be after --from");
+            }
         }
         None => told.words(" on"),
     }

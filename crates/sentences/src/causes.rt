@@ -4,46 +4,34 @@ use crate::told::Told;
 use crate::values::{Numbers, Span, end_of};
 use task_sheet::{Node, SheetCause};
 
-// Up to two values that a cause is about, behind words.
-fn values_of(
-    cause: SheetCause,
-    numbers: &Numbers,
-    span: &Span,
-) -> [(&'static str, Option<u64>); 2] {
-    match cause {
-        SheetCause::BadWeight => [(": weight ", numbers.weight), ("", None)],
-        SheetCause::BadPeriod => [(" microseconds: period ", numbers.period), ("", None)],
-        SheetCause::DeadlinePastPeriod => {
-            [
-                (": deadline ", numbers.deadline),
-                (", period ", numbers.period),
-            ]
-        }
-        SheetCause::CostPastPeriod => [(": cost ", numbers.cost), (", period ", numbers.period)],
-        SheetCause::TooManySections => [(": there are ", numbers.sections), ("", None)],
-        SheetCause::TooManyLocks { .. } => [(": there are ", span.locks), ("", None)],
-        SheetCause::Overlap { .. } => { [(": at ", span.at), (", that one ends at ", span.from)] }
-        _ => [("", None), ("", None)],
-    }
-}
-
 /// A fault of the numbers or of a section, with the values at hand.
 pub(crate) fn tell_cause(told: &mut Told, cause: SheetCause, numbers: &Numbers, span: &Span) {
-    told.cause(cause);
-    let [first, second] = values_of(cause, numbers, span);
-    told.value(first.0, first.1);
-    told.value(second.0, second.1);
-    if let SheetCause::SectionPastCost { .. } = cause {
-        tell_span(told, numbers, span);
+    told.show(cause);
+    match cause {
+        SheetCause::BadWeight => told.value(": weight ", numbers.weight),
+        SheetCause::BadPeriod => told.value(" microseconds: period ", numbers.period),
+        SheetCause::DeadlinePastPeriod => {
+            told.value(": deadline ", numbers.deadline);
+            told.value(", period ", numbers.period);
+        }
+        SheetCause::CostPastPeriod => {
+            told.value(": cost ", numbers.cost);
+            told.value(", period ", numbers.period);
+        }
+        SheetCause::TooManySections => told.value(": there are ", numbers.sections),
+        SheetCause::TooManyLocks { .. } => told.value(": there are ", span.locks),
+        SheetCause::Overlap { .. } => {
+            told.value(": at ", span.at);
+            told.value(", that one ends at ", span.from);
+        }
+        SheetCause::SectionPastCost { .. } => {
+            told.value(": at ", span.at);
+            told.value(" and len ", span.len);
+            told.value(" make ", end_of(span.at, span.len));
+            told.value(", cost ", numbers.cost);
+        }
+        _ => {}
     }
-}
-
-// Where a section ends, and the cost.
-fn tell_span(told: &mut Told, numbers: &Numbers, span: &Span) {
-    told.value(": at ", span.at);
-    told.value(" and len ", span.len);
-    told.value(" make ", end_of(span.at, span.len));
-    told.value(", cost ", numbers.cost);
 }
 
 /// A jitter that isn't below the deadline.

@@ -21,26 +21,18 @@ pub fn put_override<W: Write + Drop>(
     write_note(&pieces, out)
 }
 
-// Whether some task has a weight.
-fn has_weight(sheets: &[Sheet]) -> bool {
-    for sheet in sheets {
-        if sheet.weight() > 0 {
-            return true;
-        }
-    }
-    false
-}
-
-// Whether a task stands lower than one of a longer limit.
-fn is_against_limits(sheets: &[Sheet]) -> bool {
+// Whether no task has a weight, and one stands lower than one of a longer limit.
+fn are_against_limits(sheets: &[Sheet]) -> bool {
+    let mut is_one = false;
     let mut before = u64::MAX;
     for sheet in sheets {
-        if before < sheet.limit() {
-            return true;
+        if sheet.weight() > 0 {
+            return false;
         }
+        is_one = is_one || before < sheet.limit();
         before = sheet.limit();
     }
-    false
+    is_one
 }
 
 /// Writes a note where no task of a set has a weight and names put a task lower than one of a longer limit. It takes no
@@ -49,11 +41,10 @@ pub fn put_names_decide<W: Write + Drop>(
     set: &TaskSet,
     out: &mut Watched<W>,
 ) -> Result<(), WriteFailed> {
-    let sheets = set.sheets();
-    let note: &[u8] = if has_weight(sheets) || !is_against_limits(sheets) {
-        b""
-    } else {
+    let note: &[u8] = if are_against_limits(set.sheets()) {
         b"note: names decide the order; prefer = \"deadline\" in front of the tasks bears most\n"
+    } else {
+        b""
     };
     out.write(note)
 }

@@ -4,21 +4,7 @@ use crate::pieces::{put_pieces, write_note};
 use crate::told::between;
 use std::io::Write;
 use streams::{Held, Watched, WriteFailed};
-use task_sheet::{Members, TASK_LIMIT, TaskSet};
-
-// The name of the task at an index behind some words.
-fn put_name<W: Write + Drop>(
-    words: &str,
-    set: &TaskSet,
-    task: usize,
-    held: &mut Held,
-    out: &mut Watched<W>,
-) -> Result<(), WriteFailed> {
-    match set.get(task) {
-        Some(sheet) => put_pieces(&[words, sheet.name().as_str()], held, out),
-        None => Ok(()),
-    }
-}
+use task_sheet::{Members, TaskSet};
 
 // The names of some tasks, by rank, with commas.
 fn put_names<W: Write + Drop>(
@@ -28,9 +14,9 @@ fn put_names<W: Write + Drop>(
     out: &mut Watched<W>,
 ) -> Result<(), WriteFailed> {
     let mut count = 0usize;
-    for i in 0..TASK_LIMIT {
+    for (i, sheet) in set.sheets().iter().enumerate() {
         if tasks.has(i) {
-            put_name(between(count), set, i, held, out)?;
+            put_pieces(&[between(count), sheet.name().as_str()], held, out)?;
             count = 1;
         }
     }

@@ -17,24 +17,19 @@ fn instant_of(sheets: &[Sheet]) -> u64 {
     instant
 }
 
-// How many releases of a task are ready before the end: one at the instant, and each that arrives periods after it.
-fn releases_of(sheet: &Sheet, instant: u64, until: u64) -> u64 {
+// How many releases the densest list up to `until` has: of each task one at the instant, and each that arrives periods
+// after it.
+fn releases_in(sheets: &[Sheet], until: u64) -> u64 {
+    let instant = instant_of(sheets);
     if until <= instant {
         return 0;
     }
-    let first = instant.saturating_sub(sheet.jitter());
-    let span = until.saturating_sub(first).saturating_sub(1);
-    span.checked_div(sheet.period())
-        .unwrap_or(0)
-        .saturating_add(1)
-}
-
-// How many releases the densest list up to `until` has.
-fn releases_in(sheets: &[Sheet], until: u64) -> u64 {
-    let instant = instant_of(sheets);
     let mut count = 0u64;
     for sheet in sheets {
-        count = count.saturating_add(releases_of(sheet, instant, until));
+        let first = instant.saturating_sub(sheet.jitter());
+        let span = until.saturating_sub(first).saturating_sub(1);
+        let later = span.checked_div(sheet.period()).unwrap_or(0);
+        count = count.saturating_add(1).saturating_add(later);
     }
     count
 }

@@ -7,7 +7,7 @@ use crate::texts::tell_unseen;
 use crate::told::Told;
 use overheads::PadFault;
 use std::alloc::Global;
-use task_sheet::{Document, Name, Node, SetFault, read_document};
+use task_sheet::{Name, Node, SetFault, read_document};
 use teams::{TeamsFault, first_part, node_part};
 
 /// What a person is told of the fault of a set's text, from its bytes; none where memory runs out. What is said of a
@@ -20,10 +20,12 @@ pub fn of_set_text(alloc: Global, bytes: &[u8], fault: TeamsFault) -> Option<Str
 
 // Why it is no task set.
 fn tell_gathered(told: &mut Told, alloc: Global, bytes: &[u8], fault: TeamsFault) {
+    let nothing: &[u8] = b"";
+    let (node, teams) = node_part(bytes).unwrap_or((nothing, bytes));
     match fault {
         TeamsFault::Alone { fault } => tell_set(told, alloc, bytes, fault),
-        TeamsFault::Of { team, fault } => tell_document(told, alloc, teams_in(bytes), team, fault),
-        TeamsFault::BadHead { part } => tell_head(told, teams_in(bytes), part),
+        TeamsFault::Of { team, fault } => tell_document(told, alloc, teams, team, fault),
+        TeamsFault::BadHead { part } => tell_head(told, teams, part),
         TeamsFault::Taken { team, task, other } => {
             told.name("", team);
             told.name(".toml: ", task);
@@ -38,15 +40,15 @@ fn tell_gathered(told: &mut Told, alloc: Global, bytes: &[u8], fault: TeamsFault
         TeamsFault::TooManyInterrupts => {
             told.words("the teams have more than 8 interrupts together");
         }
-        TeamsFault::Node { fault } => tell_node(told, alloc, node_in(bytes), fault),
-        TeamsFault::NoSuchTeam { team } => tell_stranger(told, node_in(bytes), team),
+        TeamsFault::Node { fault } => tell_node(told, alloc, node, fault),
+        TeamsFault::NoSuchTeam { team } => tell_stranger(told, node, team),
         TeamsFault::PastBudget {
             team,
             quantity,
             number,
             limit,
-        } => tell_budget(told, node_in(bytes), team, quantity, number, limit),
-        TeamsFault::Padded { fault } => tell_padded(told, alloc, bytes, fault),
+        } => tell_budget(told, node, team, quantity, number, limit),
+        TeamsFault::Padded { fault } => tell_padded(told, alloc, bytes, teams, fault),
         TeamsFault::TooManyTasks => told.words("the teams have more than 32 tasks together"),
         TeamsFault::OutOfMemory => told.give_up(),
     }
@@ -59,38 +61,17 @@ fn tell_two(told: &mut Told, team: Name, says: &str, other: Name) {
     told.words(".toml; one team says it for all");
 }
 
-// The node's document of a text; nothing where there is none.
-fn node_in(bytes: &[u8]) -> &[u8] {
-    match node_part(bytes) {
-        Some((node, _)) => node,
-        None => b"",
-    }
-}
-
-// The documents of teams of a text.
-fn teams_in(bytes: &[u8]) -> &[u8] {
-    match node_part(bytes) {
-        Some((_, rest)) => rest,
-        None => bytes,
-    }
-}
-
-// What stands from a part on, counted from 1.
-fn part_at(bytes: &[u8], part: usize) -> &[u8] {
+// A part, counted from 1, without its head, or with too few bytes behind it.
+fn tell_head(told: &mut Told, bytes: &[u8], part: usize) {
     let mut rest = bytes;
     for _ in 1..part {
         if let Some((_, after)) = first_part(rest) {
             rest = after;
         }
     }
-    rest
-}
-
-// A part without its head, or with too few bytes behind it.
-fn tell_head(told: &mut Told, bytes: &[u8], part: usize) {
     told.number("part ", part as u64);
     told.words(": no line `#% TEAM COUNT` that so many bytes follow");
-    tell_unseen(told, part_at(bytes, part), 1);
+    tell_unseen(told, rest, 1);
 }
 
 // What is looked for among the documents of teams.
@@ -104,19 +85,14 @@ enum Sought {
     Task(Name),
 }
 
-// Whether a set's document is sought.
-fn says(document: &Document, sought: &Sought) -> bool {
-    match sought {
-        Sought::Faulty(_) => false,
-        Sought::Node => document.node.is_some(),
-        Sought::Task(name) => document.set.find(*name).is_some(),
-    }
-}
-
 // Whether a team's document is sought.
 fn is_sought(alloc: Global, team: Name, text: &[u8], sought: &Sought) -> bool {
     match read_document(alloc, text) {
-        Ok(document) => says(&document, sought),
+        Ok(document) => match sought {
+            Sought::Faulty(_) => false,
+            Sought::Node => document.node.is_some(),
+            Sought::Task(name) => document.set.find(*name).is_some(),
+        },
         Err(_) => match sought {
             Sought::Faulty(owner) => *owner == team,
             Sought::Node | Sought::Task(_) => false,
@@ -139,12 +115,17 @@ fn from_sought<'a>(alloc: Global, bytes: &'a [u8], sought: &Sought) -> &'a [u8] 
     b""
 }
 
+// Whose document what follows is said of.
+fn tell_file(told: &mut Told, team: Name) {
+    told.name("", team);
+    told.words(".toml: ");
+}
+
 // The fault of a team's document.
 fn tell_document(told: &mut Told, alloc: Global, bytes: &[u8], team: Name, fault: SetFault) {
     match first_part(from_sought(alloc, bytes, &Sought::Faulty(team))) {
         Some((part, _)) => {
-            told.name("", team);
-            told.words(".toml: ");
+            tell_file(told, team);
             tell_set(told, alloc, part.text, fault);
         }
         None => told.give_up(),
@@ -161,31 +142,18 @@ fn node_said(alloc: Global, document: &[u8]) -> Option<Node> {
     }
 }
 
-// The node that one of the documents of teams says.
-fn node_of_teams(alloc: Global, bytes: &[u8]) -> Option<Node> {
-    match first_part(from_sought(alloc, bytes, &Sought::Node)) {
+// Documents of teams without room for what the node takes, of the one with the task; another one may say the node.
+fn tell_padded_teams(told: &mut Told, alloc: Global, bytes: &[u8], fault: PadFault) {
+    let node = match first_part(from_sought(alloc, bytes, &Sought::Node)) {
         Some((part, _)) => node_said(alloc, part.text),
         None => None,
-    }
-}
-
-// One document's set that has no room for what its node takes.
-fn tell_padded_alone(told: &mut Told, alloc: Global, bytes: &[u8], fault: PadFault) {
-    match node_said(alloc, bytes) {
-        Some(node) => tell_padding(told, alloc, bytes, &node, &fault),
-        None => told.give_up(),
-    }
-}
-
-// The same of documents of teams, of the one with the task; another one may say the node.
-fn tell_padded_teams(told: &mut Told, alloc: Global, bytes: &[u8], fault: PadFault) {
-    let (Some(node), Some(task)) = (node_of_teams(alloc, bytes), task_of(&fault)) else {
+    };
+    let (Some(node), Some(task)) = (node, task_of(&fault)) else {
         return told.give_up();
     };
     match first_part(from_sought(alloc, bytes, &Sought::Task(task))) {
         Some((part, _)) => {
-            told.name("", part.team);
-            told.words(".toml: ");
+            tell_file(told, part.team);
             tell_padding(told, alloc, part.text, &node, &fault);
         }
         None => told.give_up(),
@@ -193,10 +161,13 @@ fn tell_padded_teams(told: &mut Told, alloc: Global, bytes: &[u8], fault: PadFau
 }
 
 // A set's text that has no room for what its node takes.
-fn tell_padded(told: &mut Told, alloc: Global, bytes: &[u8], fault: PadFault) {
-    if bytes.starts_with(b"#% ") {
-        tell_padded_teams(told, alloc, teams_in(bytes), fault);
+fn tell_padded(told: &mut Told, alloc: Global, bytes: &[u8], teams: &[u8], fault: PadFault) {
+    if !bytes.starts_with(b"#% ") {
+        match node_said(alloc, bytes) {
+            Some(node) => tell_padding(told, alloc, bytes, &node, &fault),
+            None => told.give_up(),
+        }
     } else {
-        tell_padded_alone(told, alloc, bytes, fault);
+        tell_padded_teams(told, alloc, teams, fault);
     }
 }

@@ -15,18 +15,16 @@ pub fn of_release_line(alloc: Global, bytes: &[u8], line: u64) -> Option<String>
     let mut told = Told::new(alloc);
     match line_of_place(bytes, 0) {
         None => told.words("there is no line until N"),
-        Some(first) => tell_bad_line(&mut told, bytes, line, form_of(first == line)),
+        Some(first) => {
+            let wanted = if first == line {
+                " has to be until N, in whole microseconds"
+            } else {
+                " has to be TIME NAME [LATE] [runs N], in whole microseconds"
+            };
+            tell_bad_line(&mut told, bytes, line, wanted);
+        }
     }
     told.whole()
-}
-
-// What a line of a release list has to be, the first or a later one.
-fn form_of(is_first: bool) -> &'static str {
-    if is_first {
-        " has to be until N, in whole microseconds"
-    } else {
-        " has to be TIME NAME [LATE] [runs N], in whole microseconds"
-    }
 }
 
 // Whether a line has a word at a place.
@@ -80,12 +78,8 @@ pub fn of_run(
             tell_release(&mut told, bytes, place, " arrives before the one above it");
         }
         RunFault::UnknownTask { place } => {
-            tell_release(
-                &mut told,
-                bytes,
-                place,
-                ": the set has no task of that name",
-            );
+            let wrong = ": the set has no task of that name";
+            tell_release(&mut told, bytes, place, wrong);
         }
         RunFault::TooSoon { place } => tell_soon(&mut told, bytes, set, place),
         RunFault::TooLate { place } => tell_late(&mut told, bytes, set, place),
@@ -150,12 +144,8 @@ fn tell_soon(told: &mut Told, bytes: &[u8], set: Option<&TaskSet>, place: usize)
 
 // A release that is too late, with the jitter.
 fn tell_late(told: &mut Told, bytes: &[u8], set: Option<&TaskSet>, place: usize) {
-    tell_release(
-        told,
-        bytes,
-        place,
-        " is later than the task's jitter allows",
-    );
+    let wrong = " is later than the task's jitter allows";
+    tell_release(told, bytes, place, wrong);
     let line = release_at(bytes, place);
     told.number(": late ", time_at(line, 2));
     if let Some(task) = task_of(set, line) {
@@ -163,19 +153,11 @@ fn tell_late(told: &mut Told, bytes: &[u8], set: Option<&TaskSet>, place: usize)
     }
 }
 
-// For how long the job of a release executes, where its line says so.
-fn runs_in(line: &[u8]) -> u64 {
-    if has_word(line, 2, b"runs") {
-        time_at(line, 3)
-    } else {
-        time_at(line, 4)
-    }
-}
-
 // A release whose job executes for nothing or for too long, with the cost.
 fn tell_cost(told: &mut Told, bytes: &[u8], set: Option<&TaskSet>, place: usize) {
     let line = release_at(bytes, place);
-    let runs = runs_in(line);
+    // behind the word `runs`, in front of which may stand how late it is
+    let runs = time_at(line, if has_word(line, 2, b"runs") { 3 } else { 4 });
     let wrong = if runs == 0 {
         " runs for nothing"
     } else {
@@ -190,18 +172,12 @@ fn tell_cost(told: &mut Told, bytes: &[u8], set: Option<&TaskSet>, place: usize)
 
 // The number of a word of a line; 0 where there is none.
 fn time_at(line: &[u8], place: usize) -> u64 {
-    match word_at(line, place) {
-        Some(word) => number_of(word).unwrap_or(0),
-        None => 0,
-    }
+    number_of(word_at(line, place).unwrap_or(&[])).unwrap_or(0)
 }
 
 /// The time of the line until.
 pub(crate) fn until_of(bytes: &[u8]) -> u64 {
-    match line_of_place(bytes, 0) {
-        Some(number) => time_at(line_at(bytes, number).unwrap_or(&[]), 1),
-        None => 0,
-    }
+    time_at(release_at(bytes, 0), 1)
 }
 
 // The number of the first line of a release that becomes ready at a time or after it.
@@ -240,66 +216,36 @@ fn tell_horizon(told: &mut Told, bytes: &[u8]) {
 /// What a person is told of a fault of settings; none where memory runs out.
 pub fn of_settings(alloc: Global, bytes: &[u8], fault: SettingsFault) -> Option<String> {
     let mut told = Told::new(alloc);
-    match fault {
+    let (line, wrong) = match fault {
         SettingsFault::BadLine { line } => {
             let wanted =
                 " has to be thread NAME NUMBER or mutex NAME NUMBER, with a number from 1 to 1000000";
             tell_bad_line(&mut told, bytes, line, wanted);
+            return told.whole();
         }
-        SettingsFault::UnknownTask { line } => {
-            tell_line(&mut told, bytes, line, ": the set has no task of that name");
-        }
-        SettingsFault::UnknownLock { line } => {
-            tell_line(
-                &mut told,
-                bytes,
-                line,
-                ": no task of the set uses that lock",
-            );
-        }
-        SettingsFault::SameTask { line } => {
-            tell_line(
-                &mut told,
-                bytes,
-                line,
-                ": a thread line before it has that name",
-            );
-        }
-        SettingsFault::SameLock { line } => {
-            tell_line(
-                &mut told,
-                bytes,
-                line,
-                ": a mutex line before it has that name",
-            );
-        }
-        SettingsFault::SameNumber { line } => {
-            tell_line(
-                &mut told,
-                bytes,
-                line,
-                ": a thread line before it has that number",
-            );
-        }
+        SettingsFault::UnknownTask { line } => (line, ": the set has no task of that name"),
+        SettingsFault::UnknownLock { line } => (line, ": no task of the set uses that lock"),
+        SettingsFault::SameTask { line } => (line, ": a thread line before it has that name"),
+        SettingsFault::SameLock { line } => (line, ": a mutex line before it has that name"),
+        SettingsFault::SameNumber { line } => (line, ": a thread line before it has that number"),
         SettingsFault::MissingTask { name } => {
             told.name("no line thread ", name);
             told.words(" NUMBER");
+            return told.whole();
         }
         SettingsFault::MissingLock { name } => {
             told.name("no line mutex ", name);
             told.words(" NUMBER; there is one for each lock or for none");
+            return told.whole();
         }
         SettingsFault::WrongCeiling { name, number } => {
             tell_ceiling(&mut told, bytes, name, number);
+            return told.whole();
         }
-        SettingsFault::OutOfMemory => told.give_up(),
-    }
+        SettingsFault::OutOfMemory => return None,
+    };
+    tell_line(&mut told, bytes, line, wrong);
     told.whole()
-}
-
-// Whether a line is the mutex of a lock.
-fn is_mutex_of(line: &[u8], lock: &Name) -> bool {
-    has_word(line, 0, b"mutex") && has_word(line, 1, lock.bytes())
 }
 
 // The number of the line of a lock's mutex.
@@ -307,7 +253,7 @@ fn line_of_mutex(bytes: &[u8], lock: &Name) -> Option<u64> {
     let mut number = 0u64;
     for line in bytes.split(is_line_end) {
         number = number.saturating_add(1);
-        if is_mutex_of(line, lock) {
+        if has_word(line, 0, b"mutex") && has_word(line, 1, lock.bytes()) {
             return Some(number);
         }
     }

@@ -36,18 +36,12 @@ fn tell_place(told: &mut Told, bytes: &[u8], team: Name) {
 
 // The table of all budgets.
 fn budgets_in<'a>(root: &'a Table) -> Option<&'a Table> {
-    match root.get("team") {
-        Some(Value::Table(table)) => Some(table),
-        _ => None,
-    }
+    root.get("team")?.as_table()
 }
 
 // What stands at a team's name.
 fn value_of<'a>(root: &'a Table, team: Name) -> Option<&'a Value> {
-    match budgets_in(root) {
-        Some(budgets) => budgets.get(team.as_str()),
-        None => None,
-    }
+    budgets_in(root)?.get(team.as_str())
 }
 
 // What stands in place of a value of another kind.
@@ -93,23 +87,6 @@ fn tell_number(told: &mut Told, root: &Table, team: Name, quantity: Quantity) {
     }
 }
 
-// A key that is no name of a team.
-fn tell_bad(told: &mut Told, root: &Table) {
-    told.words("node.toml: ");
-    if let Some(table) = budgets_in(root) {
-        told.shown(unknown_key(Known::Names, table).unwrap_or(""));
-    }
-    told.words(" is no name of a team");
-}
-
-// A team at whose name stands no table.
-fn tell_no_budget(told: &mut Told, root: &Table, team: Name) {
-    told.name("team.", team);
-    told.name(" has to be a table, headed by [team.", team);
-    told.words("]");
-    tell_found(told, value_of(root, team));
-}
-
 // What is wrong in a document.
 fn tell_fault(told: &mut Told, bytes: &[u8], root: &Table, fault: NodeFault) {
     match fault {
@@ -118,10 +95,19 @@ fn tell_fault(told: &mut Told, bytes: &[u8], root: &Table, fault: NodeFault) {
             told.words("node.toml: team has to be a table of budgets, each headed by [team.NAME]");
             tell_found(told, root.get("team"));
         }
-        NodeFault::BadName => tell_bad(told, root),
+        NodeFault::BadName => {
+            told.words("node.toml: ");
+            if let Some(table) = budgets_in(root) {
+                told.shown(unknown_key(Known::Names, table).unwrap_or(""));
+            }
+            told.words(" is no name of a team");
+        }
         NodeFault::NoBudget { team } => {
             tell_place(told, bytes, team);
-            tell_no_budget(told, root, team);
+            told.name("team.", team);
+            told.name(" has to be a table, headed by [team.", team);
+            told.words("]");
+            tell_found(told, value_of(root, team));
         }
         NodeFault::UnknownKey { team } => {
             tell_place(told, bytes, team);

@@ -24,26 +24,15 @@ impl Wide {
         Wide { limbs }
     }
 
-    // So many times the number, for a factor of one limb.
-    fn times(mut self, factor: u64) -> Wide {
-        let mut carry = 0;
+    // So many times the number, and so many times another one, for factors below 2^31.
+    fn times(mut self, factor: u64, other: Wide, others: u64) -> Wide {
+        let mut sum = 0u64;
         for i in 0..LIMBS {
-            let product = self.limbs[i].wrapping_mul(factor).wrapping_add(carry);
-            self.limbs[i] = product % BASE;
-            carry = product / BASE;
-        }
-        self
-    }
-
-    // The sum of both.
-    fn plus(mut self, other: Wide) -> Wide {
-        let mut carry = 0;
-        for i in 0..LIMBS {
-            let sum = self.limbs[i]
-                .wrapping_add(other.limbs[i])
-                .wrapping_add(carry);
+            sum = sum
+                .wrapping_add(self.limbs[i].wrapping_mul(factor))
+                .wrapping_add(other.limbs[i].wrapping_mul(others));
             self.limbs[i] = sum % BASE;
-            carry = sum / BASE;
+            sum /= BASE;
         }
         self
     }
@@ -64,9 +53,8 @@ fn is_overloaded(sheets: &[Sheet]) -> bool {
     let mut costs = Wide::small(0);
     let mut periods = Wide::small(1);
     for sheet in sheets {
-        let own = periods.times(sheet.cost());
-        costs = costs.times(sheet.period()).plus(own);
-        periods = periods.times(sheet.period());
+        costs = costs.times(sheet.period(), periods, sheet.cost());
+        periods = periods.times(sheet.period(), costs, 0);
     }
     costs.is_above(periods)
 }

@@ -48,7 +48,14 @@ fn tell_tree(
         Err(_) => told.give_up(),
     }
     if let Some(table) = table_of(root, place, 0) {
-        tell_fault(told, table, node, fault);
+        let numbers = numbers_in(table);
+        match fault {
+            PadFault::CostPastPeriod { .. } => {
+                tell_padded_cost(told, &numbers, node, locks_in(table));
+            }
+            PadFault::JitterPastDeadline { .. } => tell_padded_jitter(told, &numbers, node.late),
+            PadFault::OutOfMemory => {}
+        }
     }
 }
 
@@ -56,14 +63,4 @@ fn tell_tree(
 fn place_of(root: &Table, fault: &PadFault) -> Option<usize> {
     let task = task_of(fault)?;
     place_of_name(root, task.as_str())
-}
-
-// What a task's table has no room for.
-fn tell_fault(told: &mut Told, table: &Table, node: &Node, fault: &PadFault) {
-    let numbers = numbers_in(table);
-    match fault {
-        PadFault::CostPastPeriod { .. } => tell_padded_cost(told, &numbers, node, locks_in(table)),
-        PadFault::JitterPastDeadline { .. } => tell_padded_jitter(told, &numbers, node.late),
-        PadFault::OutOfMemory => {}
-    }
 }

@@ -4,7 +4,7 @@ use crate::causes::{tell_cause, tell_jitter};
 use crate::sets::section_of;
 use crate::texts::{is_space, line_at, tell_line, tell_unseen, word_at};
 use crate::told::Told;
-use crate::values::{NO_SPAN, Numbers, Span, end_of};
+use crate::values::{NO_SPAN, Numbers, Span};
 use lines::{cut, number_of};
 use scripts::ScriptFault;
 use std::alloc::Global;
@@ -28,38 +28,24 @@ pub fn of_script(alloc: Global, bytes: &[u8], fault: ScriptFault) -> Option<Stri
         }
         ScriptFault::Outranks { line, cause } => {
             tell_line(&mut told, bytes, line, ": over: ");
-            told.outranks(cause);
+            told.show(cause);
         }
         ScriptFault::BadOverhead { line } => {
-            tell_line(
-                &mut told,
-                bytes,
-                line,
-                ": node: job, lock and late are at most ",
-            );
-            tell_overheads(&mut told);
+            let limits = ": node: job, lock and late are at most ";
+            tell_line(&mut told, bytes, line, limits);
+            told.number("", PERIOD_TO);
+            told.number(" microseconds, release at most ", PERIOD_FROM);
         }
         ScriptFault::BadInterrupt { line } => {
             tell_line(&mut told, bytes, line, ": irq: at most ");
-            tell_interrupts(&mut told);
+            told.number("", INTERRUPT_LIMIT as u64);
+            told.number(", each with a period from ", INTERRUPT_FROM);
+            told.number(" to ", PERIOD_TO);
+            told.words(" microseconds and a cost of at most its period");
         }
         ScriptFault::OutOfMemory => told.give_up(),
     }
     told.whole()
-}
-
-// What a node may take.
-fn tell_overheads(told: &mut Told) {
-    told.number("", PERIOD_TO);
-    told.number(" microseconds, release at most ", PERIOD_FROM);
-}
-
-// Which interrupts a task may have.
-fn tell_interrupts(told: &mut Told) {
-    told.number("", INTERRUPT_LIMIT as u64);
-    told.number(", each with a period from ", INTERRUPT_FROM);
-    told.number(" to ", PERIOD_TO);
-    told.words(" microseconds and a cost of at most its period");
 }
 
 // ---- lines
@@ -172,7 +158,7 @@ fn end_before(line: &[u8], place: usize) -> Option<u64> {
         return None;
     }
     let (at, len) = ends_of(section_at(line, before)?)?;
-    end_of(Some(at), Some(len))
+    Some(at.saturating_add(len))
 }
 
 // How many locks a section has.
@@ -187,33 +173,24 @@ fn locks_in(section: &[u8]) -> Option<u64> {
     Some(count)
 }
 
-// The values of a section, behind one that ends at `from`.
-fn span_of(section: &[u8], from: Option<u64>) -> Span {
-    let locks = locks_in(section);
-    match ends_of(section) {
-        Some((at, len)) => Span {
-            at: Some(at),
-            len: Some(len),
-            locks,
-            from,
-        },
-        None => NO_SPAN,
-    }
-}
-
 // The values of the section at a place of a put, from 1.
-fn span_at(line: &[u8], place: usize) -> Span {
-    match section_at(line, place) {
-        Some(section) => span_of(section, end_before(line, place)),
-        None => NO_SPAN,
-    }
+fn span_at(line: &[u8], place: usize) -> Option<Span> {
+    let section = section_at(line, place)?;
+    let (at, len) = ends_of(section)?;
+    Some(Span {
+        at: Some(at),
+        len: Some(len),
+        locks: locks_in(section),
+        from: end_before(line, place),
+    })
 }
 
 // A put whose values are no sheet, with the section that the cause names, as it stands in the line.
 fn tell_sheet(told: &mut Told, put: &[u8], cause: SheetCause) {
     match section_of(cause) {
         Some(place) => {
-            tell_cause(told, cause, &numbers_in(put), &span_at(put, place));
+            let span = span_at(put, place).unwrap_or(NO_SPAN);
+            tell_cause(told, cause, &numbers_in(put), &span);
             told.quoted(", in ", section_at(put, place));
         }
         None => tell_cause(told, cause, &numbers_in(put), &NO_SPAN),

@@ -51,7 +51,13 @@ pub fn of_check(
         CheckFault::WrongTasks { level } => tell_tasks(&mut told, level),
         CheckFault::BadPass { level } => tell_pass(&mut told, bytes, set, level),
         CheckFault::BadChain { level, name } => tell_chain(&mut told, level, name),
-        CheckFault::MissingFail { level, name } => tell_missing(&mut told, level, name),
+        CheckFault::MissingFail { level, name } => {
+            told.number("level ", level as u64);
+            told.name(": ", name);
+            told.words(
+                " is left and of smaller rank than the level's task, but no line fails says why it can't have the level",
+            );
+        }
         CheckFault::EmptySet => told.words("none without members shows nothing"),
     }
     if !is_preferred && may_be_of_other(fault) {
@@ -69,16 +75,11 @@ fn may_be_of_other(fault: CheckFault) -> bool {
     }
 }
 
-// Whether a line is that of a level.
-fn is_level(line: &[u8], level: u64) -> bool {
-    word_at(line, 0).unwrap_or(&[]) == b"level".as_slice()
-        && number_of(word_at(line, 1).unwrap_or(&[])) == Some(level)
-}
-
 // The line of a level; an empty one where there is none.
 fn level_line(bytes: &[u8], level: u64) -> &[u8] {
     for line in bytes.split(is_line_end) {
-        if is_level(line, level) {
+        let is_one = word_at(line, 0).unwrap_or(&[]) == b"level".as_slice();
+        if is_one && number_of(word_at(line, 1).unwrap_or(&[])) == Some(level) {
             return line;
         }
     }
@@ -132,14 +133,5 @@ fn tell_chain(told: &mut Told, level: usize, name: Name) {
     }
     told.words(
         ": its numbers have to begin with 1, to rise by no more than the task's demand, and to end with the first past the deadline less the jitter; after over stands a task above it that it has to outrank",
-    );
-}
-
-// A task that has no reason at a level.
-fn tell_missing(told: &mut Told, level: usize, name: Name) {
-    told.number("level ", level as u64);
-    told.name(": ", name);
-    told.words(
-        " is left and of smaller rank than the level's task, but no line fails says why it can't have the level",
     );
 }

@@ -4,10 +4,10 @@ use crate::causes::{tell_cause, tell_jitter};
 use crate::texts::line_at;
 use crate::told::{Told, between};
 use crate::tree::{
-    Known, bad_name_in, is_name, items_at, line_of_task, number_at, place_of_name, repeated_in,
-    table_at, table_of, tell_place, text_at, unknown_key,
+    Known, bad_name_in, is_name, items_at, line_of_task, name_of, number_at, place_of_name,
+    repeated_in, table_at, table_of, tell_place, unknown_key,
 };
-use crate::values::{NO_SPAN, numbers_in, span_at};
+use crate::values::{NO_SPAN, count_at, numbers_in, span_at};
 use std::alloc::Global;
 use task_sheet::{
     INTERRUPT_FROM, INTERRUPT_KEYS, INTERRUPT_LIMIT, Key, NAME_LIMIT, NODE_KEYS, OutranksCause,
@@ -118,33 +118,31 @@ fn tell_keys(told: &mut Told, keys: &[Key]) {
 }
 
 // The first key of a table, where there is one, that is none of these.
-fn unknown_of<'a>(keys: &[Key], table: Option<&'a Table>) -> &'a str {
-    match table {
+fn tell_unknown_key<'a>(told: &mut Told, keys: &[Key], table: Option<&'a Table>) -> &'a str {
+    let key = match table {
         Some(table) => unknown_key(Known::Keys(keys), table).unwrap_or(""),
         None => "",
-    }
-}
-
-// The same, told.
-fn tell_unknown_key(told: &mut Told, keys: &[Key], table: Option<&Table>) {
+    };
     told.words("unknown key ");
-    told.shown(unknown_of(keys, table));
+    told.shown(key);
+    key
 }
 
-// What a set may have in place of an unknown key.
-fn tell_root(told: &mut Told, key: &str) {
-    if key == Key::Section.word() {
-        told.words("; a section is headed [[task.section]]");
-    } else {
-        told.words(
-            "; a set has tasks, each headed by [[task]], and may have prefer in front of them, [node] and [[interrupt]]",
-        );
-    }
-}
-
-// What a task may have in place of an unknown key.
-fn tell_task(told: &mut Told, key: &str) {
-    if key == Key::Prefer.word() {
+// A key that is not known, and what a table may have in its place.
+fn tell_unknown(told: &mut Told, root: &Table, task: usize, section: usize) {
+    let table = table_of(root, task, section);
+    if task == 0 {
+        let key = tell_unknown_key(told, &ROOT_KEYS, table);
+        told.words(if key == Key::Section.word() {
+            "; a section is headed [[task.section]]"
+        } else {
+            "; a set has tasks, each headed by [[task]], and may have prefer in front of them, [node] and [[interrupt]]"
+        });
+    } else if section > 0 {
+        tell_unknown_key(told, &SECTION_KEYS, table);
+        told.words("; a section has");
+        tell_keys(told, &SECTION_KEYS);
+    } else if tell_unknown_key(told, &TASK_KEYS, table) == Key::Prefer.word() {
         told.words("; prefer stands in front of the first [[task]]");
     } else {
         told.words("; a task has");
@@ -152,28 +150,9 @@ fn tell_task(told: &mut Told, key: &str) {
     }
 }
 
-// A key that is not known, and those that a table may have.
-fn tell_unknown(told: &mut Told, root: &Table, task: usize, section: usize) {
-    let table = table_of(root, task, section);
-    if task == 0 {
-        tell_unknown_key(told, &ROOT_KEYS, table);
-        tell_root(told, unknown_of(&ROOT_KEYS, table));
-    } else if section == 0 {
-        tell_unknown_key(told, &TASK_KEYS, table);
-        tell_task(told, unknown_of(&TASK_KEYS, table));
-    } else {
-        tell_unknown_key(told, &SECTION_KEYS, table);
-        told.words("; a section has");
-        tell_keys(told, &SECTION_KEYS);
-    }
-}
-
 // The node's table, where it is one.
 fn node_table<'a>(root: &'a Table) -> Option<&'a Table> {
-    match root.get(Key::Node.word()) {
-        Some(Value::Table(table)) => Some(table),
-        _ => None,
-    }
+    root.get(Key::Node.word())?.as_table()
 }
 
 // A key of the node's table that is not known, and those that are.
@@ -221,15 +200,12 @@ fn tell_interrupt(told: &mut Told, root: &Table, place: usize) {
     told.number("interrupt ", place as u64);
     told.words(": ");
     if let Some(table) = table_at(Key::Interrupt, place, root) {
-        match unknown_key(Known::Keys(&INTERRUPT_KEYS), table) {
-            Some(key) => {
-                told.words("unknown key ");
-                told.shown(key);
-                told.words("; an interrupt has");
-                tell_keys(told, &INTERRUPT_KEYS);
-            }
-            None => tell_numbers(told, table),
+        if unknown_key(Known::Keys(&INTERRUPT_KEYS), table).is_none() {
+            return tell_numbers(told, table);
         }
+        tell_unknown_key(told, &INTERRUPT_KEYS, Some(table));
+        told.words("; an interrupt has");
+        tell_keys(told, &INTERRUPT_KEYS);
     }
 }
 
@@ -253,17 +229,14 @@ fn tell_numbers(told: &mut Told, table: &Table) {
             tell_keys(told, &INTERRUPT_KEYS);
         }
         Some(key) => tell_kind_in(told, Some(table), key),
-        None => tell_limits(told, table),
+        None => {
+            told.number("period has to be from ", INTERRUPT_FROM);
+            told.number(" to ", PERIOD_TO);
+            told.words(", and cost at most period");
+            told.value("; period is ", number_at(Key::Period, table));
+            told.value(", cost is ", number_at(Key::Cost, table));
+        }
     }
-}
-
-// The limits of an interrupt's numbers, and those of its table.
-fn tell_limits(told: &mut Told, table: &Table) {
-    told.number("period has to be from ", INTERRUPT_FROM);
-    told.number(" to ", PERIOD_TO);
-    told.words(", and cost at most period");
-    told.value("; period is ", number_at(Key::Period, table));
-    told.value(", cost is ", number_at(Key::Cost, table));
 }
 
 // ---- kinds
@@ -293,26 +266,6 @@ fn kind_of(key: Key) -> &'static str {
     }
 }
 
-// The table that has a key, at the place of a fault.
-fn table_with<'a>(root: &'a Table, task: usize, section: usize, key: Key) -> Option<&'a Table> {
-    match key {
-        Key::Job | Key::Lock | Key::Release | Key::Late => node_table(root),
-        _ => table_of(root, task, section),
-    }
-}
-
-// What a value is that isn't shown.
-fn kind_of_value(value: &Value) -> &'static str {
-    match value {
-        Value::Float(_) => "a number with a fraction",
-        Value::Boolean(true) => "true",
-        Value::Boolean(false) => "false",
-        Value::Datetime(_) => "a date or time",
-        Value::Array(_) => "an array",
-        _ => "a single table",
-    }
-}
-
 /// A value, or its kind.
 pub(crate) fn tell_value(told: &mut Told, value: &Value) {
     match value {
@@ -321,23 +274,21 @@ pub(crate) fn tell_value(told: &mut Told, value: &Value) {
             told.shown(text.as_str());
             told.words("\"");
         }
-        Value::Integer(number) => told.integer(*number),
-        _ => told.words(kind_of_value(value)),
-    }
-}
-
-// Whether an array at the key may hold the value.
-fn may_hold(key: Key, value: &Value) -> bool {
-    match key {
-        Key::Task | Key::Section | Key::Interrupt => value.is_table(),
-        _ => value.is_str(),
+        Value::Integer(number) => told.show(*number),
+        Value::Float(_) => told.words("a number with a fraction"),
+        Value::Boolean(true) => told.words("true"),
+        Value::Boolean(false) => told.words("false"),
+        Value::Datetime(_) => told.words("a date or time"),
+        Value::Array(_) => told.words("an array"),
+        Value::Table(_) => told.words("a single table"),
     }
 }
 
 // The first value that an array at a key may not hold.
 fn stranger<'a>(key: Key, items: &'a [Value]) -> Option<&'a Value> {
+    let holds_tables = matches!(key, Key::Task | Key::Section | Key::Interrupt);
     for item in items {
-        if !may_hold(key, item) {
+        if !item.is_table() && holds_tables || !item.is_str() && !holds_tables {
             return Some(item);
         }
     }
@@ -357,7 +308,11 @@ fn tell_found(told: &mut Told, key: Key, value: &Value) {
 
 // A value of another kind, at the place of a fault.
 fn tell_kind(told: &mut Told, root: &Table, task: usize, section: usize, key: Key) {
-    tell_kind_in(told, table_with(root, task, section, key), key);
+    let table = match key {
+        Key::Job | Key::Lock | Key::Release | Key::Late => node_table(root),
+        _ => table_of(root, task, section),
+    };
+    tell_kind_in(told, table, key);
 }
 
 // The same, in a table.
@@ -422,11 +377,9 @@ fn tell_bad_name(told: &mut Told, root: &Table, task: usize, section: usize) {
 // The name of a task before it.
 fn tell_same_name(told: &mut Told, root: &Table, task: usize) {
     told.words("a task before it has its name");
-    if let Some(table) = table_of(root, task, 0) {
-        if let Some(name) = text_at(Key::Name, table) {
-            if let Some(place) = place_of_name(root, name) {
-                told.number(": task ", place as u64);
-            }
+    if let Some(name) = name_of(root, task) {
+        if let Some(place) = place_of_name(root, name) {
+            told.number(": task ", place as u64);
         }
     }
 }
@@ -436,7 +389,7 @@ fn tell_same_name(told: &mut Told, root: &Table, task: usize) {
 // A sheet's cause, with the values of its table.
 fn tell_sheet(told: &mut Told, root: &Table, task: usize, cause: SheetCause) {
     let Some(table) = table_of(root, task, 0) else {
-        return told.cause(cause);
+        return told.show(cause);
     };
     let span = match section_of(cause) {
         Some(place) => span_at(place, table),
@@ -444,19 +397,17 @@ fn tell_sheet(told: &mut Told, root: &Table, task: usize, cause: SheetCause) {
     };
     tell_cause(told, cause, &numbers_in(table), &span);
     if let SheetCause::LockTwice { section } = cause {
-        tell_twice(told, section, table);
+        if let Some(section) = table_at(Key::Section, section, table) {
+            tell_twice(told, items_at(Key::Locks, section));
+        }
     }
 }
 
-// The lock that stands twice in the section at a place of a task's table.
-fn tell_twice(told: &mut Told, place: usize, table: &Table) {
-    if let Some(section) = table_at(Key::Section, place, table) {
-        if let Some(locks) = items_at(Key::Locks, section) {
-            if let Some(lock) = repeated_in(locks) {
-                told.words(": ");
-                told.shown(lock);
-            }
-        }
+// The name that stands twice in an array.
+fn tell_twice(told: &mut Told, items: Option<&[Value]>) {
+    if let Some(name) = repeated_in(items.unwrap_or(&[])) {
+        told.words(": ");
+        told.shown(name);
     }
 }
 
@@ -483,25 +434,15 @@ pub(crate) fn section_of(cause: SheetCause) -> Option<usize> {
 // The names that a task outranks break a limit.
 fn tell_outranks(told: &mut Told, root: &Table, task: usize, cause: OutranksCause) {
     told.words("outranks: ");
-    told.outranks(cause);
+    told.show(cause);
     if let Some(table) = table_of(root, task, 0) {
-        if let Some(items) = items_at(Key::Outranks, table) {
-            tell_outranked(told, items, cause);
-        }
-    }
-}
-
-// How many names there are, where they are too many, or the one that stands twice.
-fn tell_outranked(told: &mut Told, items: &[Value], cause: OutranksCause) {
-    match cause {
-        OutranksCause::TooManyOutranks => told.number(": there are ", items.len() as u64),
-        OutranksCause::OutranksTwice => {
-            if let Some(name) = repeated_in(items) {
-                told.words(": ");
-                told.shown(name);
+        match cause {
+            OutranksCause::TooManyOutranks => {
+                told.value(": there are ", count_at(Key::Outranks, table));
             }
+            OutranksCause::OutranksTwice => tell_twice(told, items_at(Key::Outranks, table)),
+            OutranksCause::OutranksSelf => {}
         }
-        OutranksCause::OutranksSelf => {}
     }
 }
 
@@ -511,7 +452,5 @@ fn tell_count(told: &mut Told, root: &Table, limit: usize, key: Key) {
     told.words(" ");
     told.words(key.word());
     told.words("s");
-    if let Some(items) = items_at(key, root) {
-        told.number(": there are ", items.len() as u64);
-    }
+    told.value(": there are ", count_at(key, root));
 }

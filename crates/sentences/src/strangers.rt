@@ -5,23 +5,6 @@ use std::io::Write;
 use streams::{Held, Watched, WriteFailed};
 use task_sheet::{Name, Outranks, TaskSet};
 
-// The note on a name that a task outranks.
-fn put_stranger<W: Write + Drop>(
-    task: &Name,
-    stranger: &Name,
-    held: &mut Held,
-    out: &mut Watched<W>,
-) -> Result<(), WriteFailed> {
-    let pieces = [
-        "note: ",
-        task.as_str(),
-        " outranks ",
-        stranger.as_str(),
-        ", which is no task of the set: that binds nothing\n",
-    ];
-    put_pieces(&pieces, held, out)
-}
-
 // The notes on those of the names that a task outranks that no task of the set has.
 fn put_strangers_of<W: Write + Drop>(
     set: &TaskSet,
@@ -32,7 +15,14 @@ fn put_strangers_of<W: Write + Drop>(
 ) -> Result<(), WriteFailed> {
     for name in names {
         if set.find(*name).is_none() {
-            put_stranger(task, name, held, out)?;
+            let pieces = [
+                "note: ",
+                task.as_str(),
+                " outranks ",
+                name.as_str(),
+                ", which is no task of the set: that binds nothing\n",
+            ];
+            put_pieces(&pieces, held, out)?;
         }
     }
     Ok(())

@@ -52,26 +52,6 @@ pub(crate) fn is_skipped(line: &[u8]) -> bool {
     }
 }
 
-// Whether some word of the line is empty: a space stands at its head or end, or two stand together.
-fn has_empty_word(line: &[u8]) -> bool {
-    for word in line.split(is_space) {
-        if word.is_empty() {
-            return true;
-        }
-    }
-    false
-}
-
-// Whether a word behind the first of the line begins with `#`.
-fn has_comment(line: &[u8]) -> bool {
-    for (place, word) in line.split(is_space).enumerate() {
-        if place > 0 && word.starts_with(b"#") {
-            return true;
-        }
-    }
-    false
-}
-
 // Whether a word is of digits alone.
 fn is_digits(word: &[u8]) -> bool {
     for byte in word {
@@ -106,13 +86,19 @@ fn slip_in_numbers(line: &[u8]) -> Option<&'static str> {
 // A slip in a line: a tab, a comment, a space too many, or a number that is none.
 fn slip_in(line: &[u8]) -> &'static str {
     if line.contains(&b'\t') {
-        "; a tab stands in it, where one space stands between words"
-    } else if has_comment(line) {
-        "; a comment has to be a line of its own, which begins with #"
-    } else if has_empty_word(line) {
-        "; one space stands between words, none before or after them"
-    } else {
+        return "; a tab stands in it, where one space stands between words";
+    }
+    let mut is_spaced = true;
+    for (place, word) in line.split(is_space).enumerate() {
+        if place > 0 && word.starts_with(b"#") {
+            return "; a comment has to be a line of its own, which begins with #";
+        }
+        is_spaced = is_spaced && !word.is_empty();
+    }
+    if is_spaced {
         slip_in_numbers(line).unwrap_or("")
+    } else {
+        "; one space stands between words, none before or after them"
     }
 }
 

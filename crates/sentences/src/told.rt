@@ -2,7 +2,8 @@
 
 use crate::shown::clean;
 use std::alloc::Global;
-use task_sheet::{Name, OutranksCause, SheetCause};
+use std::fmt::Display;
+use task_sheet::Name;
 
 /// A text that grows by words and numbers; none in the end where one of them found no memory.
 #[derive(Drop)]
@@ -40,9 +41,7 @@ impl Told {
     /// A number behind words.
     pub(crate) fn number(&mut self, words: &str, number: u64) {
         self.words(words);
-        if self.is_whole {
-            self.is_whole = write!(self.text, "{number}").is_ok();
-        }
+        self.show(number);
     }
 
     /// The same, where there is a number.
@@ -52,10 +51,10 @@ impl Told {
         }
     }
 
-    /// A number that may be negative.
-    pub(crate) fn integer(&mut self, number: i64) {
+    /// What is shown as it is.
+    pub(crate) fn show<D: Display + Drop>(&mut self, shown: D) {
         if self.is_whole {
-            self.is_whole = write!(self.text, "{number}").is_ok();
+            self.is_whole = write!(self.text, "{shown}").is_ok();
         }
     }
 
@@ -63,20 +62,6 @@ impl Told {
     pub(crate) fn name(&mut self, words: &str, name: Name) {
         self.words(words);
         self.words(name.as_str());
-    }
-
-    /// What a task's values break.
-    pub(crate) fn cause(&mut self, cause: SheetCause) {
-        if self.is_whole {
-            self.is_whole = write!(self.text, "{cause}").is_ok();
-        }
-    }
-
-    /// Why a task can't be one that must stand above others.
-    pub(crate) fn outranks(&mut self, cause: OutranksCause) {
-        if self.is_whole {
-            self.is_whole = write!(self.text, "{cause}").is_ok();
-        }
     }
 
     /// A letter that others wrote, as `?` where it can't be shown.

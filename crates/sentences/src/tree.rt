@@ -8,21 +8,13 @@ use toml::{Table, Value};
 
 /// The items of the array at a key.
 pub(crate) fn items_at<'a>(key: Key, table: &'a Table) -> Option<&'a [Value]> {
-    match table.get(key.word()) {
-        Some(Value::Array(items)) => Some(items.as_slice()),
-        _ => None,
-    }
+    Some(table.get(key.word())?.as_array()?.as_slice())
 }
 
 /// The table at a place of the array at a key, from 1.
 pub(crate) fn table_at<'a>(key: Key, place: usize, table: &'a Table) -> Option<&'a Table> {
-    match items_at(key, table)
-        .unwrap_or(&[])
-        .get(place.wrapping_sub(1))
-    {
-        Some(Value::Table(item)) => Some(item),
-        _ => None,
-    }
+    let items = items_at(key, table)?;
+    items.get(place.wrapping_sub(1))?.as_table()
 }
 
 /// The table that a fault names: the root where the task is 0, the task's own where the section is 0.
@@ -39,18 +31,12 @@ pub(crate) fn table_of<'a>(root: &'a Table, task: usize, section: usize) -> Opti
 
 /// The number at a key.
 pub(crate) fn number_at(key: Key, table: &Table) -> Option<u64> {
-    match table.get(key.word()) {
-        Some(Value::Integer(number)) => u64::try_from(*number).ok(),
-        _ => None,
-    }
+    u64::try_from(table.get(key.word())?.as_integer()?).ok()
 }
 
 /// The text at a key.
 pub(crate) fn text_at<'a>(key: Key, table: &'a Table) -> Option<&'a str> {
-    match table.get(key.word()) {
-        Some(Value::String(text)) => Some(text.as_str()),
-        _ => None,
-    }
+    table.get(key.word())?.as_str()
 }
 
 /// The place of a task, with the line that heads it and its name where it has them, and of a section.
@@ -69,22 +55,20 @@ pub(crate) fn tell_place(
         told.words(", ");
     }
     told.number("task ", task as u64);
-    tell_task_name(told, root, task);
+    if let Some(name) = name_of(root, task) {
+        told.words(" (");
+        told.shown(name);
+        told.words(")");
+    }
     if section > 0 {
         told.number(", section ", section as u64);
     }
     told.words(": ");
 }
 
-// The name of a task in brackets.
-fn tell_task_name(told: &mut Told, root: &Table, task: usize) {
-    if let Some(own) = table_at(Key::Task, task, root) {
-        if let Some(name) = text_at(Key::Name, own) {
-            told.words(" (");
-            told.shown(name);
-            told.words(")");
-        }
-    }
+/// The name of a task.
+pub(crate) fn name_of<'a>(root: &'a Table, task: usize) -> Option<&'a str> {
+    text_at(Key::Name, table_at(Key::Task, task, root)?)
 }
 
 /// What a line has between what opens and what closes a table's head; nothing where it is none.
@@ -147,26 +131,10 @@ pub(crate) fn line_of_task(
     };
     // With the line's LF, which a CR needs behind it.
     let head = bytes.get(..end.saturating_add(1)).unwrap_or(bytes);
-    match begins_in(alloc, head, task)? {
-        true => Ok(Some(number)),
-        false => Ok(None),
-    }
-}
-
-// Whether a document has so many tasks, the last of them without a key.
-fn begins_in(alloc: Global, head: &[u8], task: usize) -> Result<bool, AllocError> {
     match toml::table_from_slice(alloc, head) {
-        Ok(root) => Ok(has_begun(&root, task)),
-        Err(error) => none_begun(&error),
-    }
-}
-
-// No task has begun in what is no document, if memory isn't wanting.
-fn none_begun(error: &toml::de::Error) -> Result<bool, AllocError> {
-    if error.is_memory() {
-        Err(AllocError)
-    } else {
-        Ok(false)
+        Ok(root) if has_begun(&root, task) => Ok(Some(number)),
+        Err(error) if error.is_memory() => Err(AllocError),
+        _ => Ok(None),
     }
 }
 
@@ -242,35 +210,19 @@ pub(crate) fn repeated_in<'a>(items: &'a [Value]) -> Option<&'a str> {
 // Whether one of the values is this string.
 fn has_text(items: &[Value], text: &str) -> bool {
     for item in items {
-        if is_text(item, text) {
+        if item.as_str() == Some(text) {
             return true;
         }
     }
     false
 }
 
-// Whether a value is this string.
-fn is_text(item: &Value, text: &str) -> bool {
-    match item {
-        Value::String(found) => found.as_str() == text,
-        _ => false,
-    }
-}
-
 /// The place, from 1, of the first task of a name.
 pub(crate) fn place_of_name(root: &Table, name: &str) -> Option<usize> {
-    for (i, item) in items_at(Key::Task, root).unwrap_or(&[]).iter().enumerate() {
-        if is_called(item, name) {
-            return Some(i.saturating_add(1));
+    for place in 1..=items_at(Key::Task, root)?.len() {
+        if name_of(root, place) == Some(name) {
+            return Some(place);
         }
     }
     None
-}
-
-// Whether a value is the table of a task of a name.
-fn is_called(item: &Value, name: &str) -> bool {
-    match item {
-        Value::Table(table) => text_at(Key::Name, table).unwrap_or("") == name,
-        _ => false,
-    }
 }

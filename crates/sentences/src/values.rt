@@ -33,12 +33,9 @@ pub(crate) const NO_SPAN: Span = Span {
     from: None,
 };
 
-// How many items the array at a key has.
-fn count_at(key: Key, table: &Table) -> Option<u64> {
-    match items_at(key, table) {
-        Some(items) => Some(items.len() as u64),
-        None => None,
-    }
+/// How many items the array at a key has.
+pub(crate) fn count_at(key: Key, table: &Table) -> Option<u64> {
+    Some(items_at(key, table)?.len() as u64)
 }
 
 /// How many locks a task's sections have together.
