@@ -1,8 +1,8 @@
 -- A line with a failure: what is read is spelled so, and what is spelled so is read.
-use Rattle.std.proofs.Common.{◌≡◌, ℕ, ◌<◌, true, ◌&&◌, List, [], ◌∷◌, ◌++◌}
+use Rattle.std.proofs.Common.{◌≡◌, ℕ, ◌<◌, true, List, [], ◌∷◌, ◌++◌}
 use Rattle.std.proofs.Common.{length, map, Option, Some, None, option_map, refl, sym, ap, ◌∙◌}
 use Rattle.std.proofs.Common.{subst, arith}
-use Rattle.std.specs.Prelude.{bytes_eq, codes}
+use Rattle.std.specs.Prelude.{codes}
 use Rattle.std.specs.Option.{option_or}
 use Rattle.std.specs.List.{AllByRecursion, join_with_byte}
 use Rattle.std.specs.Fmt.{decimal}
@@ -17,7 +17,7 @@ use Rattle.certificate.specs.Body.{CertReasonData, Chain, Over, Fail, IsShort, I
 use Rattle.certificate.specs.Body.{IsFailText}
 use Rattle.certificate.specs.Spelling.{numbers_text, reason_text}
 use Rattle.lines.specs.Words.{words}
-use Rattle.certificate.specs.Words.{◌>>=◌, numbers_in, over_in, later_in, reason_in, fail_in}
+use Rattle.certificate.specs.Words.{numbers_in, over_in, later_in, reason_in, fail_in}
 use Rattle.lines.proofs.Lacks.{decimal_lacks, name_lacks}
 use Rattle.certificate.specs.declared.version.CertVersion.{CertVersion}
 use Rattle.certificate.specs.declared.version.CertVersion.TheVariants.{First, Second, Third}
@@ -77,8 +77,8 @@ name_takes : (v : CertVersion) (n : List ℕ) (ns : List (List ℕ)) (r : CertRe
 name_takes v n [] r may e = absurd cc
 name_takes v n (other ∷ x ∷ xs) r may e = absurd cc
 name_takes v n (other ∷ []) r may e =
-    let g = cond_some (bytes_eq n (codes "over") && is_name other) (Over other) r e in
-    let tests = and_parts (bytes_eq n (codes "over")) (is_name other) g.0 in
+    let g = cond_some _ (Over other) r e in
+    let tests = and_parts _ _ g.0 in
     subst (λ (x : CertReasonData). (32 ∷ (n ++ 32 ∷ other) ≡ reason_text x) × IsReasonText v x) g.1 (
       ap (λ (x : List ℕ). 32 ∷ (x ++ 32 ∷ other)) ((bytes_eq-Decides n (codes "over")).0 tests.0),
       may other tests.1,
@@ -144,11 +144,9 @@ module _ (v : CertVersion) where
   take_words word (w ∷ []) f e = absurd cc
   take_words word (w ∷ name ∷ []) f e = absurd cc
   take_words word (w ∷ name ∷ n ∷ ns) f e =
-      let g = cond_given (bytes_eq w word && is_name name)
-      (reason_in v (n ∷ ns) >>= λ reason. Some (record { name = name; reason = reason })) f e in
-      let tests = and_parts (bytes_eq w word) (is_name name) g.0 in
-      let b = bind_some (reason_in v (n ∷ ns))
-      (λ reason. Some (record { name = name; reason = reason })) f g.1 in
+      let g = cond_given _ _ f e in
+      let tests = and_parts _ _ g.0 in
+      let b = bind_some _ _ f g.1 in
       let taken = reason_takes v n ns b.0 b.1 in
       subst (λ (x : Fail). (join_with_byte 32 (w ∷ name ∷ n ∷ ns) ≡ fail_text word x)
       × IsFailText v x) (same_Some (record { name = name; reason = b.0 }) f b.2) (

@@ -1,8 +1,8 @@
 -- Levels: what is read, and what is read of what is spelled.
-use Rattle.std.proofs.Common.{◌≡◌, ℕ, suc, ◌+◌, ◌^◌, ◌<◌, ◌==◌, eq-eqb, true, ◌&&◌, List, []}
+use Rattle.std.proofs.Common.{◌≡◌, ℕ, suc, ◌+◌, ◌^◌, ◌<◌, ◌==◌, eq-eqb, true, List, []}
 use Rattle.std.proofs.Common.{◌∷◌, ◌++◌, length, Option, Some, None, Ok, refl, sym, ap, ◌∙◌}
 use Rattle.std.proofs.Common.{subst, append_assoc, arith, add-zero}
-use Rattle.std.specs.Prelude.{bytes_eq, codes}
+use Rattle.std.specs.Prelude.{codes}
 use Rattle.std.specs.List.{AllByRecursion, join_with_byte}
 use Rattle.std.specs.Fmt.{decimal}
 use Rattle.std.proofs.lemmas.Bool.{eqb-true, and_parts}
@@ -17,8 +17,7 @@ use Rattle.certificate.specs.Spelling.{fail_line, fail_lines, level_spelling, le
 use Rattle.lines.specs.Lines.{parts}
 use Rattle.lines.specs.Words.{words, number_in}
 use Rattle.certificate.specs.Words.{fail_in}
-use Rattle.lines.specs.Steps.{◌>>=◌}
-use Rattle.certificate.specs.Lines.{At, line_from, wanted, level_head, level_in, fails_case}
+use Rattle.certificate.specs.Lines.{At, line_from, level_head, level_in, fails_case}
 use Rattle.certificate.specs.Lines.{fails_from, items_at, level_read, levels_at}
 use Rattle.lines.proofs.NumberLaws.{number_takes, number_again}
 use Rattle.certificate.proofs.WordLaws.{Lacks, lacks, lacks_both, words_one, words_more, cond_given}
@@ -42,8 +41,8 @@ parts_of_level : (k : ℕ) (name : List ℕ) (number time : Option ℕ) (h : Lis
 parts_of_level k name None time h e = absurd cc
 parts_of_level k name (Some m) None h e = absurd cc
 parts_of_level k name (Some m) (Some n) h e =
-    let g = cond_some ((m == k) && is_name name) (name, n) h e in
-    let t = and_parts (m == k) (is_name name) g.0 in
+    let g = cond_some _ (name, n) h e in
+    let t = and_parts _ _ g.0 in
     (ap (λ (x : ℕ). Some x) (eqb-true m k t.0), t.1, (n, refl, g.1))
 
 take_level : (k : ℕ) (ws : List (List ℕ)) (h : List ℕ × ℕ) → level_in k ws ≡ Some h
@@ -54,8 +53,7 @@ take_level k (w ∷ m ∷ []) h e = absurd cc
 take_level k (w ∷ m ∷ name ∷ []) h e = absurd cc
 take_level k (w ∷ m ∷ name ∷ n ∷ x ∷ xs) h e = absurd cc
 take_level k (w ∷ m ∷ name ∷ n ∷ []) h e =
-    let g = cond_given (bytes_eq w (codes "level"))
-    (level_head k name (number_in m) (number_in n)) h e in
+    let g = cond_given _ _ h e in
     let p = parts_of_level k name (number_in m) (number_in n) h g.1 in
     let number = number_takes m k p.0 in
     let time = number_takes n p.2.0 p.2.1 in
@@ -192,20 +190,10 @@ module _ (v : CertVersion) where
       × IsLevelText v x.0
   unfolding level_read
   level_takes k a x e =
-      let l = bind_ok (line_from a.parts a.line) (λ l. wanted a.line (level_in k (words l.0))
-      >>= λ h. Ok (
-        record {
-          name = h.0;
-          time = h.1;
-          fails =
-              (fails_from v l.1.parts l.1.line).0;
-        },
-        (fails_from v l.1.parts l.1.line).1,
-      )) x e in
+      let l = bind_ok _ _ x e in
       let f : List Fail × At = fails_from v l.0.1.parts l.0.1.line in
-      let h = bind_ok (wanted a.line (level_in k (words l.0.0)))
-      (λ h. Ok (record { name = h.0; time = h.1; fails = f.0 }, f.1)) x l.2 in
-      let t = level_line_takes k l.0.0 h.0 (wanted_ok a.line (level_in k (words l.0.0)) h.0 h.1) in
+      let h = bind_ok _ _ x l.2 in
+      let t = level_line_takes k l.0.0 h.0 (wanted_ok _ _ _ h.1) in
       let fs = fails_take v l.0.1.parts l.0.1.line in
       let made : CertLevelData = record { name = h.0.0; time = h.0.1; fails = f.0 } in
       let whole : left a ≡ level_spelling k made ++ (fail_lines (codes "fails") f.0 ++ left f.1) =

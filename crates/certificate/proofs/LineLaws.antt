@@ -2,7 +2,7 @@
 use Rattle.std.proofs.Common.{◌≡◌, ℕ, zero, suc, ◌+◌, ◌≤◌, ◌==◌, Bool, true, false, cond, List, []}
 use Rattle.std.proofs.Common.{◌∷◌, ◌++◌, length, Option, Some, None, Result, Ok, Err, refl}
 use Rattle.std.proofs.Common.{sym, ap, ◌∙◌, subst, append_assoc, arith}
-use Rattle.std.specs.Prelude.{bytes_eq, codes, nat_le}
+use Rattle.std.specs.Prelude.{codes}
 use Rattle.std.specs.List.{AllByRecursion, join_with_byte}
 use Rattle.std.specs.Fmt.{decimal}
 use Rattle.std.proofs.lemmas.Bool.{le-leb, leb-true, eqb-true}
@@ -16,8 +16,8 @@ use Rattle.certificate.specs.Spelling.{fail_line}
 use Rattle.lines.specs.Lines.{parts}
 use Rattle.lines.specs.Words.{words, number_in}
 use Rattle.lines.specs.Steps.{◌>>=◌}
-use Rattle.certificate.specs.Lines.{At, line_from, items_at, wanted, count_in, few, at_most_limit}
-use Rattle.certificate.specs.Lines.{end_at, is_at_end}
+use Rattle.certificate.specs.Lines.{At, line_from, items_at, wanted, count_in, at_most_limit}
+use Rattle.certificate.specs.Lines.{end_at}
 use Rattle.certificate.specs.declared.fault.CertFault.{CertFault}
 use Rattle.certificate.specs.declared.fault.CertFault.TheVariants.{BadLine, Trailing}
 use Rattle.lines.proofs.NumberLaws.{number_takes, number_again}
@@ -80,10 +80,8 @@ items_take {X} item text Fits none more zero k a x e =
     × AllByRecursion Fits y.0) (ok_is made x e)
     (ap (λ (y : List ℕ). y ++ left a) (sym (none k)), refl, tt)
 items_take {X} item text Fits none more (suc n) k a x e =
-    let f = bind_ok (item k a) (λ first. items_at item n (k + 1) first.1
-    >>= λ others. Ok (first.0 ∷ others.0, others.1)) x e in
-    let o =
-    bind_ok (items_at item n (k + 1) f.0.1) (λ others. Ok (f.0.0 ∷ others.0, others.1)) x f.2 in
+    let f = bind_ok _ _ x e in
+    let o = bind_ok _ _ x f.2 in
     let rest = items_take item text Fits none more n (k + 1) f.0.1 o.0 o.1 in
     let first = more k a f.0 o.0.0 (left o.0.1) f.1 rest.0 in
     let made : List X × At = (f.0.0 ∷ o.0.0, o.0.1) in
@@ -94,7 +92,7 @@ items_take {X} item text Fits none more (suc n) k a x e =
 few_takes : (o : Option ℕ) (n : ℕ) → at_most_limit o ≡ Some n → (o ≡ Some n) × (n ≤ 32)
 few_takes None n e = absurd cc
 few_takes (Some m) n e =
-    let g = cond_some (nat_le m 32) m n e in
+    let g = cond_some _ m n e in
     (ap (λ (x : ℕ). Some x) g.1, omega (arith, leb-true m 32 g.0, g.1))
 
 take_count : (word : List ℕ) (ws : List (List ℕ)) (n : ℕ) → count_in word ws ≡ Some n
@@ -103,7 +101,7 @@ take_count word [] n e = absurd cc
 take_count word (w ∷ []) n e = absurd cc
 take_count word (w ∷ m ∷ x ∷ xs) n e = absurd cc
 take_count word (w ∷ m ∷ []) n e =
-    let g = cond_given (bytes_eq w word) (few m) n e in
+    let g = cond_given _ _ n e in
     let f = few_takes (number_in m) n g.1 in
     let t = number_takes m n f.0 in (
       ap (λ (y : List ℕ). y ++ 32 ∷ m) ((bytes_eq-Decides w word).0 g.0)
@@ -139,9 +137,8 @@ guard_end false c x y line e = absurd cc
 pub end_takes : (a : At) → end_at a ≡ Ok tt → left a ≡ codes "end\n"
 unfolding end_at
 end_takes a e =
-    let l = bind_ok (line_from a.parts a.line) (λ l. cond (bytes_eq l.0 (codes "end"))
-    (cond (is_at_end l.1.parts) (Ok tt) (Err Trailing)) (Err (BadLine a.line))) tt e in
-    let g = guard_end (bytes_eq l.0.0 (codes "end")) (is_at_end l.0.1.parts) tt tt a.line l.2 in
+    let l = bind_ok _ _ tt e in
+    let g = guard_end _ _ tt tt a.line l.2 in
     let over : left l.0.1 ≡ [] =
     nil_from_length (left l.0.1) (eqb-true (length (left l.0.1)) 0 g.1) in
     line_takes a.parts a.line l.0 l.1

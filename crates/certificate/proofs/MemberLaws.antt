@@ -10,10 +10,7 @@ use Rattle.certificate.specs.Body.{CertReasonData, Chain, Over, Fail, IsShort, I
 use Rattle.certificate.specs.Body.{IsFailText}
 use Rattle.certificate.specs.Spelling.{numbers_text, reason_text, fail_line, fail_lines}
 use Rattle.lines.specs.Lines.{parts}
-use Rattle.lines.specs.Words.{words}
-use Rattle.certificate.specs.Words.{fail_in}
-use Rattle.lines.specs.Steps.{◌>>=◌}
-use Rattle.certificate.specs.Lines.{At, line_from, wanted, items_at, member_at, members_at}
+use Rattle.certificate.specs.Lines.{At, line_from, items_at, member_at, members_at}
 use Rattle.certificate.proofs.WordLaws.{Lacks, lacks, lacks_both}
 use Rattle.certificate.proofs.FailLaws.{over_named, numbers_text-cons, fail_text, fail_takes}
 use Rattle.certificate.proofs.FailLaws.{fail_again}
@@ -27,12 +24,9 @@ module _ (v : CertVersion) where
       → (left a ≡ fail_line (codes "member") x.0 ++ left x.1) × IsFailText v x.0
   unfolding member_at
   member_takes a x e =
-      let l = bind_ok (line_from a.parts a.line)
-      (λ l. wanted a.line (fail_in v (codes "member") (words l.0)) >>= λ c. Ok (c, l.1)) x e in
-      let c = bind_ok (wanted a.line (fail_in v (codes "member") (words l.0.0)))
-      (λ c. Ok (c, l.0.1)) x l.2 in
-      let t = fail_takes v (codes "member") l.0.0 c.0
-      (wanted_ok a.line (fail_in v (codes "member") (words l.0.0)) c.0 c.1) in
+      let l = bind_ok _ _ x e in
+      let c = bind_ok _ _ x l.2 in
+      let t = fail_takes v (codes "member") l.0.0 c.0 (wanted_ok _ _ _ c.1) in
       let whole : left a ≡ fail_line (codes "member") c.0 ++ left l.0.1 =
       line_takes a.parts a.line l.0 l.1 ∙ ap (λ (y : List ℕ). y ++ 10 ∷ left l.0.1) t.0
       ∙ line_end (codes "member") c.0 (left l.0.1) in

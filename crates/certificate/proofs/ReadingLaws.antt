@@ -20,7 +20,7 @@ use Rattle.lines.specs.Lines.{parts}
 use Rattle.lines.specs.Words.{words}
 use Rattle.certificate.specs.Words.{fail_in}
 use Rattle.lines.specs.Steps.{◌>>=◌}
-use Rattle.certificate.specs.Lines.{At, line_from, certificate_in, count_in, end_at, members_at}
+use Rattle.certificate.specs.Lines.{At, certificate_in, count_in, members_at}
 use Rattle.certificate.specs.Lines.{levels_at, body_case, body_at, version_in, versioned, Gives}
 use Rattle.certificate.specs.declared.fault.CertFault.{CertFault}
 use Rattle.certificate.specs.declared.fault.CertFault.TheVariants.{Trailing}
@@ -54,7 +54,7 @@ module _ (v : CertVersion) where
       → (second ++ 10 ∷ left a ≡ body_text x.0 ++ left x.1) × IsBodyText v x.0
   counted_items word second n a read body text Fits x texts fits number takes e =
       let count = count_takes word second n number in
-      let r = bind_ok read (λ xs. Ok (body xs.0, xs.1)) x e in
+      let r = bind_ok _ _ x e in
       let t = takes r.0 r.1 in
       let line : List ℕ = count_line word (length r.0.0) in
       let whole : second ++ 10 ∷ left a ≡ body_text (body r.0.0) ++ left r.0.1 =
@@ -82,10 +82,8 @@ module _ (v : CertVersion) where
       → (left a ≡ body_text x.0 ++ left x.1) × IsBodyText v x.0
   unfolding body_at
   body_takes a x e =
-      let s = bind_ok (line_from a.parts a.line) (λ second. body_case v (count_in (codes "best")
-      (words second.0)) (count_in (codes "none") (words second.0)) second.1) x e in
-      let t = case_takes s.0.0 (count_in (codes "best") (words s.0.0))
-      (count_in (codes "none") (words s.0.0)) s.0.1 x refl refl s.2 in
+      let s = bind_ok _ _ x e in
+      let t = case_takes s.0.0 _ _ s.0.1 x refl refl s.2 in
       (line_takes a.parts a.line s.0 s.1 ∙ t.0, t.1)
 
 head_ends : (v : CertVersion) (rest : List ℕ) → head_text v ++ 10 ∷ rest ≡ head_line v ++ rest
@@ -117,10 +115,9 @@ versioned_takes : (o : Option CertVersion) (a : At) (c : Cert) → versioned o a
     → (o ≡ Some c.version) × (left a ≡ body_text c.body ++ codes "end\n") × HasSpelling c
 versioned_takes None a c e = absurd cc
 versioned_takes (Some v) a c e =
-    let b = bind_ok (body_at v a)
-    (λ body. end_at body.1 >>= λ end. Ok (record { version = v; body = body.0 })) c e in
+    let b = bind_ok _ _ c e in
     let made : Cert = record { version = v; body = b.0.0 } in
-    let o = bind_ok (end_at b.0.1) (λ end. Ok made) c b.2 in
+    let o = bind_ok _ _ c b.2 in
     let t = body_takes v a b.0 b.1 in
     let ended : left b.0.1 ≡ codes "end\n" = end_takes b.0.1 o.1 in
     subst (λ (x : Cert). (Some v ≡ Some x.version) × (left a ≡ body_text x.body ++ codes "end\n")
@@ -131,8 +128,7 @@ pub certificate_takes : (bytes : List ℕ) (c : Cert) → certificate_in bytes �
     → (bytes ≡ spelling c) × HasSpelling c
 unfolding certificate_in
 certificate_takes bytes c e =
-    let h =
-    bind_ok (line_from (parts bytes) 1) (λ head. versioned (version_in head.0) head.1) c e in
+    let h = bind_ok _ _ c e in
     let t = versioned_takes (version_in h.0.0) h.0.1 c h.2 in (
       sym (join_with_byte-slice_split 10 bytes)
           ∙ line_takes (parts bytes) 1 h.0 h.1

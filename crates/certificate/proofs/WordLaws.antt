@@ -8,7 +8,7 @@ use Rattle.std.proofs.lemmas.List.Elements.{All-append, All-from_recursion}
 use Rattle.std.proofs.lemmas.List.Splits.{slice_split_at, slice_split_none}
 use Rattle.std.proofs.lemmas.Option.{same_Some}
 use Rattle.certificate.specs.Body.{IsShort}
-use Rattle.lines.specs.Words.{words, number_in}
+use Rattle.lines.specs.Words.{words}
 use Rattle.certificate.specs.Words.{◌>>=◌, numbers_in}
 use Rattle.lines.proofs.NumberLaws.{number_again, number_takes}
 
@@ -56,8 +56,8 @@ numbers_take [] ns e =
     let is : [] ≡ ns = same_Some [] ns e in
     subst (λ (xs : List ℕ). ([] ≡ map decimal xs) × AllByRecursion IsShort xs) is (refl, tt)
 numbers_take (w ∷ ws) ns e =
-    let a = bind_some (number_in w) (λ n. numbers_in ws >>= λ rest. Some (n ∷ rest)) ns e in
-    let b = bind_some (numbers_in ws) (λ rest. Some (a.0 ∷ rest)) ns a.2 in
+    let a = bind_some _ _ ns e in
+    let b = bind_some _ _ ns a.2 in
     let first = number_takes w a.0 a.1 in
     let others = numbers_take ws b.0 b.1 in
     subst (λ (xs : List ℕ). (w ∷ ws ≡ map decimal xs) × AllByRecursion IsShort xs)
