@@ -8,7 +8,7 @@ use Rattle.clap.specs.Words.{FailsBy, Shape, Text, built, fault_of, subcommand_o
 use Rattle.clap.specs.Words.{subcommand_rows_of}
 use Rattle.clap.specs.declared.parser.matches.ArgMatches.{ArgMatches}
 use Rattle.clap.specs.declared.error.Error.{Error}
-use Rattle.clap.specs.Walk.{Held, Names, answers_to, finished, nothing_held, Row, settled}
+use Rattle.clap.specs.Walk.{Held, Names, Rule, answers_to, finished, nothing_held, Row, settled}
 use Rattle.clap.specs.Walk.{stop_after, walk, walk_from}
 use Rattle.clap.specs.Simple.{App, built_leaf, entered, help_shape, inherited, label_of}
 use Rattle.clap.specs.Simple.{marked_built, names_of, rows_at, with_filled_rules, with_help_flag}
@@ -19,7 +19,9 @@ use Rattle.clap.specs.Facts.{explicit_source}
 use Rattle.clap.specs.Takes.{is_given}
 use Rattle.clap.specs.Kinds.{Kinds, check_kinds, or_else}
 use Rattle.clap.specs.Faults.{check_fault, defaults_fault, entered_fault, level_fault, settle_fault}
-use Rattle.clap.specs.Faults.{walk_fault}
+use Rattle.clap.specs.Faults.{other_fault, walk_fault}
+use Rattle.clap.specs.declared.error.kind.ErrorKind.TheVariants as kind
+use Rattle.std.specs.Prelude.{IfSome}
 use Rattle.clap.proofs.OnLiterals.{clap_on_literals}
 use Rattle.std.proofs.lemmas.Bool.{and_parts}
 use Rattle.command_line.specs.App.{choice_rule, command_app, desk_app, verb_app, with_choices}
@@ -28,7 +30,7 @@ use Rattle.command_line.specs.Calls.{IsCommand, SayChoices, SaysNumber}
 use Rattle.command_line.specs.Commands.{commands, verb_of}
 use Rattle.command_line.specs.declared.calls.Verb.{Verb}
 use Rattle.command_line.specs.declared.calls.Verb.TheVariants.{One, Two, Number}
-use Rattle.command_line.proofs.Help.{NotHelp, first_empty, second_empty, walk_keeps}
+use Rattle.command_line.proofs.Walks.{Keeps, first_empty, second_empty, walk_keeps}
 use Rattle.command_line.proofs.Taken.{all_fit, all_taken, row_fits, shape}
 
 or_false : (b : Bool) → (b || false) ≡ b
@@ -120,7 +122,19 @@ module _ (p : Text × List Text) where
   found_command None is = absurd is
   found_command (Some found) is = (is.1, ap verb_of is.0 ∙ is.2, is.3, is.4)
 
-entered_is : (stop : Option (Text × List Text)) → NotHelp stop
+-- a word that passes names no command `help`
+passes : (s : Shape) → s.disable_help_subcommand ≡ false → (name word : Text) (h : Held)
+    → other_fault s (Some name) word h ≡ [] → name ≢ codes "help"
+passes s allowed name word h passed is =
+    let refused : other_fault s (Some name) word h ≡ kind.DisplayHelp ∷ kind.InvalidSubcommand
+    ∷ [] = rw (is, allowed) refl in
+    cc
+
+keeps_nothing : (again : Bool) (found : Option Rule) → IfSome found (Keeps again (λ rows. Unit {0}))
+keeps_nothing again None = tt
+keeps_nothing again (Some a) = λ values rows fine kept. tt
+
+entered_is : (stop : Option (Text × List Text)) → IfSome stop (λ p. p.0 ≢ codes "help")
     → entered_fault (built desk_app) stop ≡ []
     → is_some (entered (built desk_app) stop) ≡ true → IsCommand (entered (built desk_app) stop)
 unfolding clap_on_literals verb_of
@@ -162,7 +176,9 @@ named_commands words taken =
     let names = names_of (built desk_app) in
     let stop = stop_after top.rules names words in
     entered_is stop
-    (walk_keeps top names refl words (walk_from nothing_held) tt (first_empty _ _ taken))
+    (walk_keeps top (λ rows. Unit {0}) (λ name. name ≢ codes "help")
+    (λ p. keeps_nothing top.args_override_self (find p top.rules)) (passes top refl) names words
+    (walk_from nothing_held) (first_empty _ _ taken) (tt, tt)).1
     (first_empty (entered_fault (built desk_app) stop) _
     (second_empty (walk_fault top names (walk_from nothing_held) words) _ taken))
     (level_wants top names nothing_held words (is_some (entered (built desk_app) stop))

@@ -1,5 +1,4 @@
 pub mod Matches
-pub mod Help
 pub mod Walks
 pub mod Numbers
 pub mod Taken

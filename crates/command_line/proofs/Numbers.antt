@@ -33,8 +33,7 @@ use Rattle.clap.specs.declared.parser.matches.ValueSource.{ValueSource}
 use Rattle.clap.specs.declared.parser.matches.ValueSource.TheVariants.{CommandLine, DefaultValue}
 use Rattle.clap.proofs.ValueTestLemmas.{accepts-Accepts}
 use Rattle.command_line.specs.Calls.{MaySayWithin, SaysWithin}
-use Rattle.command_line.proofs.Help.{first_empty, second_empty}
-use Rattle.command_line.proofs.Walks.{Keeps, settled_keeps, walk_keeps}
+use Rattle.command_line.proofs.Walks.{Keeps, first_empty, second_empty, settled_keeps, walk_keeps}
 
 no_fault : (k : ErrorKind) → k ∷ [] ≡ [] → ⊥
 no_fault k e = cc
@@ -59,14 +58,7 @@ is_set _ = false
 
 set_of : (a : ArgAction) → is_set a ≡ true → a ≡ action.Set
 set_of action.Set e = refl
-set_of action.Append e = cc
-set_of action.SetTrue e = cc
-set_of action.SetFalse e = cc
-set_of action.Count e = cc
-set_of action.Help e = cc
-set_of action.HelpShort e = cc
-set_of action.HelpLong e = cc
-set_of action.Version e = cc
+set_of _ e = cc
 
 -- ---- rows
 
@@ -179,19 +171,10 @@ module _ (id : Text) (least most : ℕ) where
   parses _ = false
 
   parsed_of : (p : ValueParser) → parses p ≡ true → p ≡ vp.Unsigned least most
-  parsed_of vp.String e = cc
-  parsed_of vp.NonEmptyString e = cc
-  parsed_of vp.Bool e = cc
-  parsed_of vp.Boolish e = cc
-  parsed_of vp.Falsey e = cc
-  parsed_of (vp.Signed low high) e = cc
   parsed_of (vp.Unsigned low high) e =
       let each = and_parts _ _ e in
       ap₂ (λ l m. vp.Unsigned l m) (eqb-true low least each.0) (eqb-true high most each.1)
-  parsed_of vp.Float e = cc
-  parsed_of vp.Char e = cc
-  parsed_of (vp.Names names) e = cc
-  parsed_of (vp.Values values) e = cc
+  parsed_of _ e = cc
 
   -- the rule takes one value, a number from the least to the most
   abbrev is_number : Rule → Bool
@@ -212,12 +195,7 @@ module _ (id : Text) (least most : ℕ) where
   used_says action.SetTrue name how values plain other rows all =
       set_says name how values (λ same. cc) rows all
   used_says action.Help name how values plain other rows all = all
-  used_says action.Append name how values plain other rows all = cc
-  used_says action.SetFalse name how values plain other rows all = cc
-  used_says action.Count name how values plain other rows all = cc
-  used_says action.HelpShort name how values plain other rows all = cc
-  used_says action.HelpLong name how values plain other rows all = cc
-  used_says action.Version name how values plain other rows all = cc
+  used_says _ name how values plain other rows all = cc
 
   module _ (again : Bool) where
     number_keeps : (a : Rule) → is_number a ≡ true → Keeps again AllSay a
@@ -335,8 +313,11 @@ module _ (id : Text) (least most : ℕ) where
       let settles = first_empty (settle_fault s.rules again end) _ ends in
       let each : (p : Rule → Bool) → IfSome (find p s.rules) (Keeps again AllSay) =
       λ p. found_keeps again p s.rules fit in
-      let held = walk_keeps s AllSay each [] words (walk_from nothing_held) walked tt in
-      defaults_say s.rules fit _ (settled_keeps s AllSay each end settles held)
+      let any : Text → Type 0 = λ name. Unit {0} in
+      let held = walk_keeps s AllSay any each (λ name word h fine. tt) [] words
+      (walk_from nothing_held) walked (tt, tt) in
+      defaults_say s.rules fit _
+      (settled_keeps s AllSay any each (λ name word h fine. tt) end settles held.0)
 
   -- so they say it or nothing
   pub level_may_say : (s : Shape) → list_all fits s.rules ≡ true → (words : List Text)

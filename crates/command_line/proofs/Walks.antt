@@ -1,6 +1,7 @@
--- Where a level has no fault, its uses are faultless; so what each faultless use keeps of the rows holds at its end.
+-- Where a level has no fault, its uses are faultless; so what each faultless use keeps of the rows holds at its end, and
+-- what holds of each name of a command that passes holds of the one that it stops at.
 use Rattle.std.proofs.Common.{◌≡◌, ℕ, zero, suc, List, [], ◌∷◌, Option, Some, None, is_some, Bool}
-use Rattle.std.proofs.Common.{true, false, ◌&&◌, if◌then◌else◌, length, drop}
+use Rattle.std.proofs.Common.{true, false, ◌&&◌, if◌then◌else◌, length, drop, refl}
 use Rattle.std.specs.List.{find, fold}
 use Rattle.std.specs.Option.{option_map_or}
 use Rattle.std.specs.Prelude.{IfSome, encode_utf8, slice_get}
@@ -22,15 +23,31 @@ use Rattle.clap.specs.Faults.{option_fault, other_fault, positional_fault, react
 use Rattle.clap.specs.Faults.{settle_fault, short_fault, step_fault, stray_fault, turn_fault}
 use Rattle.clap.specs.Faults.{use_fault, walk_fault, word_fault}
 use Rattle.clap.specs.declared.error.kind.ErrorKind.TheVariants as kind
-use Rattle.command_line.proofs.Help.{first_empty, second_empty}
+
+pub first_empty : (a b : Kinds) → or_else a b ≡ [] → a ≡ []
+first_empty [] b e = refl
+first_empty (k ∷ ks) b e = e
+
+pub second_empty : (a b : Kinds) → or_else a b ≡ [] → b ≡ []
+second_empty [] b e = e
+second_empty (k ∷ ks) b e = cc
 
 -- a faultless use of the argument keeps a fact of the rows
 abbrev pub Keeps : Bool → (List Row → Type 0) → Rule → Type 0
 Keeps again P a = (values : List Text) (rows : List Row) → use_fault again a values rows ≡ []
     → P rows → P (used a values rows)
 
-module _ (s : Shape) (P : List Row → Type 0)
-    (each : (p : Rule → Bool) → IfSome (find p s.rules) (Keeps s.args_override_self P)) where
+module _ (s : Shape) (P : List Row → Type 0) (Q : Text → Type 0)
+    (each : (p : Rule → Bool) → IfSome (find p s.rules) (Keeps s.args_override_self P))
+    (passes : (name word : Text) (h : Held) → other_fault s (Some name) word h ≡ [] → Q name) where
+  -- no command follows, or one whose name passes
+  abbrev pub Passes : Step → Type 0
+  Passes (subcommand name) = Q name
+  Passes _ = Unit {0}
+
+  abbrev pub Kept : Walk → Type 0
+  Kept w = P w.held.rows × IfSome w.stopped (λ p. Q p.0)
+
   by_id : (found : Option Rule) → IfSome found (Keeps s.args_override_self P)
       → (values : List Text) (rows : List Row)
       → option_map_or (λ a. use_fault s.args_override_self a values rows) found [] ≡ [] → P rows
@@ -125,36 +142,35 @@ module _ (s : Shape) (P : List Row → Type 0)
       go later (Some x) (suc skip) fine =
           later (drop (length (encode_utf8 x)) flags) skip so_far h fine kept
 
-  option_word_keeps : (found : Option Rule) (id word : Text) (h : Held) → P h.rows
-      → P (option_word found id word h).0.rows
-  option_word_keeps None id word h kept = kept
-  option_word_keeps (Some a) id word h kept = kept
-
   plain_keeps : (waiting : Waiting) (word : Text) (h : Held) → P h.rows
-      → P (plain_word s.rules waiting word h).0.rows
-  plain_keeps idle word h kept = kept
-  plain_keeps (option id) word h kept = option_word_keeps (arg_by_id s.rules id) id word h kept
-  plain_keeps positional word h kept = kept
+      → (let met = plain_word s.rules waiting word h in P met.0.rows × Passes met.1)
+  plain_keeps idle word h kept = (kept, tt)
+  plain_keeps (option id) word h kept = (go (arg_by_id s.rules id), tt)
+    where
+      go : (found : Option Rule) → P (option_word found id word h).0.rows
+      go None = kept
+      go (Some a) = kept
+  plain_keeps positional word h kept = (kept, tt)
 
   flag_keeps : (waiting : Waiting) (word : Text) (h : Held) (o : Outcome) → P h.rows
-      → P (after_flag s.rules waiting word h o).0.rows
-  flag_keeps waiting word h done kept = kept
-  flag_keeps waiting word h (waits id) kept = kept
+      → (let met = after_flag s.rules waiting word h o in P met.0.rows × Passes met.1)
+  flag_keeps waiting word h done kept = (kept, tt)
+  flag_keeps waiting word h (waits id) kept = (kept, tt)
   flag_keeps waiting word h plain kept = plain_keeps waiting word h kept
   flag_keeps waiting word h refused kept = plain_keeps waiting word h kept
 
   short_word_keeps : (waiting : Waiting) (word : Text) (flags : Option Text) (h : Held)
       → option_map_or (λ f. flags_fault s.rules s.args_override_self (length f) f h.skip
       (record h { skip = 0 })) flags [] ≡ [] → P h.rows
-      → P (short_or_plain s.rules waiting word flags h).0.rows
+      → (let met = short_or_plain s.rules waiting word flags h in P met.0.rows × Passes met.1)
   short_word_keeps waiting word None h fine kept = plain_keeps waiting word h kept
   short_word_keeps waiting word (Some flags) h fine kept =
       flag_keeps waiting word (bundle s.rules flags h).0 (bundle s.rules flags h).1
       (flags_keep (length flags) flags h.skip plain (record h { skip = 0 }) fine kept)
 
   other_keeps : (waiting : Waiting) (word : Text) (flag : Option (Text × Option Text)) (h : Held)
-      → flag_word_fault s.rules s.args_override_self flag word h ≡ []
-      → P h.rows → P (long_or_other s.rules waiting word flag h).0.rows
+      → flag_word_fault s.rules s.args_override_self flag word h ≡ [] → P h.rows
+      → (let met = long_or_other s.rules waiting word flag h in P met.0.rows × Passes met.1)
   other_keeps waiting word (Some p) h fine kept =
       let met = long_met s.rules (arg_by_long s.rules p.0) p.1 h in
       flag_keeps waiting word met.0 met.1
@@ -164,22 +180,23 @@ module _ (s : Shape) (P : List Row → Type 0)
 
   named_keeps : (named : Option Text) (waiting : Waiting) (position : ℕ) (word : Text) (h : Held)
       → other_fault s named word h ≡ [] → P h.rows
-      → P (subcommand_or_other s.rules named waiting position word h).0.rows
-  named_keeps (Some name) waiting position word h fine kept = kept
+      → (let met = subcommand_or_other s.rules named waiting position word h in
+      P met.0.rows × Passes met.1)
+  named_keeps (Some name) waiting position word h fine kept = (kept, passes name word h fine)
   named_keeps None waiting position word h fine kept = go (bytes_eq word (45 ∷ 45 ∷ [])) fine
     where
       go : (b : Bool) → (if b then [] else flag_word_fault s.rules s.args_override_self
           (long_of word) word h) ≡ []
-          → P (if b then (h, trailing position) else long_or_other s.rules waiting word
-          (long_of word) h).0.rows
-      go true fine = kept
+          → (let met : Held × Step = if b then (h, trailing position) else long_or_other s.rules
+          waiting word (long_of word) h in P met.0.rows × Passes met.1)
+      go true fine = (kept, tt)
       go false fine = other_keeps waiting word (long_of word) h fine kept
 
   word_keeps : (names : Names) (is_trailing : Bool) (waiting : Waiting) (position : ℕ) (word : Text)
-      (h : Held)
-      → word_fault s names is_trailing waiting word h ≡ [] → P h.rows
-      → P (word_met s.rules names is_trailing waiting position word h).0.rows
-  word_keeps names true waiting position word h fine kept = kept
+      (h : Held) → word_fault s names is_trailing waiting word h ≡ [] → P h.rows
+      → (let met = word_met s.rules names is_trailing waiting position word h in
+      P met.0.rows × Passes met.1)
+  word_keeps names true waiting position word h fine kept = (kept, tt)
   word_keeps names false waiting position word h fine kept =
       named_keeps (subcommand_met names waiting word) waiting position word h fine kept
 
@@ -195,39 +212,37 @@ module _ (s : Shape) (P : List Row → Type 0)
 
   to_positional_keeps : (found : Option Rule) (word : Text) (w : Walk) (h : Held)
       → option_map_or (λ a. positional_fault s.rules s.args_override_self a h) found (stray_fault s)
-      ≡ [] → P h.rows
-      → P (to_positional s.rules found word w h).held.rows
-  to_positional_keeps None word w h fine kept = kept
-  to_positional_keeps (Some a) word w h fine kept = positional_keeps a word h fine kept
+      ≡ [] → P h.rows → IfSome w.stopped (λ p. Q p.0) → Kept (to_positional s.rules found word w h)
+  to_positional_keeps None word w h fine kept stops = (kept, stops)
+  to_positional_keeps (Some a) word w h fine kept stops = (positional_keeps a word h fine kept, tt)
 
   step_keeps : (word : Text) (w : Walk) (h : Held) (step : Step)
-      → step_fault s w.position h step ≡ [] → P h.rows
-      → P (after_step s.rules word w h step).held.rows
-  step_keeps word w h (next waiting) fine kept = kept
-  step_keeps word w h (trailing position) fine kept = kept
-  step_keeps word w h (subcommand name) fine kept = kept
-  step_keeps word w h value fine kept =
-      to_positional_keeps (arg_by_index s.rules w.position) word w h fine kept
+      → step_fault s w.position h step ≡ [] → P h.rows × Passes step
+      → IfSome w.stopped (λ p. Q p.0) → Kept (after_step s.rules word w h step)
+  step_keeps word w h (next waiting) fine met stops = (met.0, stops)
+  step_keeps word w h (trailing position) fine met stops = (met.0, stops)
+  step_keeps word w h (subcommand name) fine met stops = met
+  step_keeps word w h value fine met stops =
+      to_positional_keeps (arg_by_index s.rules w.position) word w h fine met.0 stops
 
   turn_keeps : (names : Names) (w : Walk) (word : Text) (stopped : Option (Text × List Text))
       → (let met = word_met s.rules names w.is_trailing w.waiting w.position word w.held in
       (if is_some stopped then [] else or_else (word_fault s names w.is_trailing w.waiting word
       w.held) (step_fault s w.position met.0 met.1)) ≡ [])
-      → P w.held.rows → P (walked_from s.rules names stopped w word).held.rows
-  turn_keeps names w word (Some p) fine kept = kept
-  turn_keeps names w word None fine kept =
+      → IfSome stopped (λ p. Q p.0) → Kept w → Kept (walked_from s.rules names stopped w word)
+  turn_keeps names w word (Some p) fine stops kept = (kept.0, stops)
+  turn_keeps names w word None fine stops kept =
       let met = word_met s.rules names w.is_trailing w.waiting w.position word w.held in
       let said = word_fault s names w.is_trailing w.waiting word w.held in
       step_keeps word w met.0 met.1 (second_empty said _ fine)
       (word_keeps names w.is_trailing w.waiting w.position word w.held
-      (first_empty said _ fine) kept)
+      (first_empty said _ fine) kept.0) kept.1
 
   pub walk_keeps : (names : Names) (words : List Text) (w : Walk) → walk_fault s names w words ≡ []
-      → P w.held.rows
-      → P (fold (walked s.rules names) w words).held.rows
+      → Kept w → Kept (fold (walked s.rules names) w words)
   unfolding walk_fault walked
   walk_keeps names [] w fine kept = kept
   walk_keeps names (word ∷ words) w fine kept =
       walk_keeps names words (walked s.rules names w word)
       (second_empty (turn_fault s names w word) _ fine)
-      (turn_keeps names w word w.stopped (first_empty (turn_fault s names w word) _ fine) kept)
+      (turn_keeps names w word w.stopped (first_empty (turn_fault s names w word) _ fine) kept.1 kept)
