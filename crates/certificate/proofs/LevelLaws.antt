@@ -77,7 +77,8 @@ words_level k name t short named brief =
     words_more (codes "level") (decimal k ++ 32 ∷ (name ++ 32 ∷ decimal t))
     (lacks 32 (codes "level") refl)
     ∙ rw (
-      words_more (decimal k) (name ++ 32 ∷ decimal t) (decimal_lacks 32 k (omega arith) (omega arith)),
+      words_more (decimal k) (name ++ 32 ∷ decimal t)
+          (decimal_lacks 32 k (omega arith) (omega arith)),
       words_more name (decimal t) (name_lacks 32 name (omega arith) named),
       words_one (decimal t) (decimal_lacks 32 t (omega arith) (omega arith)),
     ) refl

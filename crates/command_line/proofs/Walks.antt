@@ -1,5 +1,5 @@
--- Where a level has no fault, its uses are faultless; so what each faultless use keeps of the rows holds at its end, and
--- what holds of each name of a command that passes holds of the one that it stops at.
+-- Where a level has no fault, its uses are faultless; so what each faultless use keeps of the rows holds at
+-- its end, and what holds of each name of a command that passes holds of the one that it stops at.
 use Rattle.std.proofs.Common.{◌≡◌, ℕ, zero, suc, List, [], ◌∷◌, Option, Some, None, is_some, Bool}
 use Rattle.std.proofs.Common.{true, false, ◌&&◌, if◌then◌else◌, length, drop, refl}
 use Rattle.std.specs.List.{find, fold}
@@ -245,4 +245,5 @@ module _ (s : Shape) (P : List Row → Type 0) (Q : Text → Type 0)
   walk_keeps names (word ∷ words) w fine kept =
       walk_keeps names words (walked s.rules names w word)
       (second_empty (turn_fault s names w word) _ fine)
-      (turn_keeps names w word w.stopped (first_empty (turn_fault s names w word) _ fine) kept.1 kept)
+      (turn_keeps names w word w.stopped (first_empty (turn_fault s names w word) _ fine) kept.1
+      kept)
