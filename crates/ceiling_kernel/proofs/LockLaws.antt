@@ -38,8 +38,7 @@ pub held_before : (node : Node) (begin cost : ℕ) (ss : List CriticalSection) (
 held_before node begin cost [] e apart h = refl
 held_before node begin cost (s ∷ ss) e apart h =
     let out : is_inside s e ≡ false = outside_before s e (omega arith) in
-    let ih : held_ceiling node ss e ≡ 0 =
-    held_before node (s.at + s.len) cost ss e apart.2 (omega arith) in
+    let ih = held_before node (s.at + s.len) cost ss e apart.2 (omega arith) in
     rw out (omega arith)
 
 asks_after : (begin cost : ℕ) (ss : List CriticalSection) (e : ℕ) (r : List ℕ)
@@ -47,10 +46,8 @@ asks_after : (begin cost : ℕ) (ss : List CriticalSection) (e : ℕ) (r : List 
 asks_after begin cost [] e r apart h = absurd (true≢false (sym h))
 asks_after begin cost (s ∷ ss) e r apart h =
     elim (or_cases ((s.at == e) && names_lock s r) (asks_lock ss e r) h) [
-      | inl here ↦ (let at_e : s.at ≡ e =
-          eqb-true s.at e ((and_parts (s.at == e) (names_lock s r) here).0) in omega arith)
-      | inr later ↦ (let ih : s.at + s.len ≤ e =
-          asks_after (s.at + s.len) cost ss e r apart.2 later in omega arith)
+      | inl here ↦ omega (arith, eqb-true s.at e ((and_parts (s.at == e) (names_lock s r) here).0))
+      | inr later ↦ omega (arith, asks_after (s.at + s.len) cost ss e r apart.2 later)
     ]
 
 -- a job that asks holds nothing
@@ -64,8 +61,8 @@ holds_none_of begin cost (s ∷ ss) e r q apart h =
           let out : is_inside s e ≡ false = outside_before s e (omega arith) in
           rw out (holds_before (s.at + s.len) cost ss e q apart.2 (omega arith))
       | inr later ↦
-          let after : s.at + s.len ≤ e = asks_after (s.at + s.len) cost ss e r apart.2 later in
-          let out : is_inside s e ≡ false = outside_after s e after in
+          let out : is_inside s e ≡ false = outside_after s e
+          (asks_after (s.at + s.len) cost ss e r apart.2 later) in
           rw out (holds_none_of (s.at + s.len) cost ss e r q apart.2 later)
     ]
 
@@ -77,15 +74,12 @@ held_none_of node begin cost (s ∷ ss) e r apart h =
       | inl here ↦
           let at_e : s.at ≡ e = eqb-true s.at e ((and_parts (s.at == e) (names_lock s r) here).0) in
           let out : is_inside s e ≡ false = outside_before s e (omega arith) in
-          let none : held_ceiling node ss e ≡ 0 =
-          held_before node (s.at + s.len) cost ss e apart.2 (omega arith) in
+          let none = held_before node (s.at + s.len) cost ss e apart.2 (omega arith) in
           rw out (omega arith)
       | inr later ↦
-          let after : s.at + s.len ≤ e = asks_after (s.at + s.len) cost ss e r apart.2 later in
-          let out : is_inside s e ≡ false = outside_after s e after in
-          let none : held_ceiling node ss e ≡ 0 =
-          held_none_of node (s.at + s.len) cost ss e r apart.2 later in
-          rw out (omega arith)
+          let out : is_inside s e ≡ false = outside_after s e
+          (asks_after (s.at + s.len) cost ss e r apart.2 later) in
+          rw out (omega (arith, held_none_of node (s.at + s.len) cost ss e r apart.2 later))
     ]
 
 -- who holds a lock executes at its ceiling at least, inside a section
@@ -96,24 +90,22 @@ ceiling-le_held node begin cost [] e r apart h = absurd (true≢false (sym h))
 ceiling-le_held node begin cost (s ∷ ss) e r apart h =
     elim (or_cases (is_inside s e && names_lock s r) (holds_lock ss e r) h) [
       | inl here ↦
-          let p : (is_inside s e ≡ true) × (names_lock s r ≡ true) =
-          and_parts (is_inside s e) (names_lock s r) here in
+          let p = and_parts (is_inside s e) (names_lock s r) here in
           let in_ : is_inside s e ≡ true = p.0 in
           let b : (s.at < e) × (e < s.at + s.len) = inside_true s e in_ in
           let top : ceiling node r ≤ top_ceiling node s.locks = ceiling-le_top node s.locks r p.1 in
           let c : s.at + s.len ≤ cost = end_within (s.at + s.len) cost ss apart.2 in
           (rw in_ (omega arith), omega arith, omega arith)
       | inr later ↦
-          let ih : (ceiling node r ≤ held_ceiling node ss e) × (s.at + s.len < e) × (e < cost) =
-          ceiling-le_held node (s.at + s.len) cost ss e r apart.2 later in
+          let ih = ceiling-le_held node (s.at + s.len) cost ss e r apart.2 later in
           (omega arith, omega arith, ih.2)
     ]
   where
     end_within : (begin cost : ℕ) (ss : List CriticalSection) → AreApart begin ss cost
         → begin ≤ cost
     end_within begin cost [] apart = apart
-    end_within begin cost (s ∷ ss) apart = let c : s.at + s.len ≤ cost =
-        end_within (s.at + s.len) cost ss apart.2 in omega arith
+    end_within begin cost (s ∷ ss) apart = let c = end_within (s.at + s.len) cost ss apart.2 in
+        omega arith
 
 -- some section names the lock
 abbrev pub some_names : List CriticalSection → List ℕ → Bool
@@ -126,8 +118,8 @@ names_from_asks (s ∷ ss) e r h =
     elim (or_cases ((s.at == e) && names_lock s r) (asks_lock ss e r) h) [
       | inl here ↦
           (let c : names_lock s r ≡ true = (and_parts (s.at == e) (names_lock s r) here).1 in rw c)
-      | inr later ↦ (let ih : some_names ss r ≡ true = names_from_asks ss e r later in
-          elim (cases_Bool (names_lock s r)) [ inl c ↦ rw c | inr c ↦ rw c ih ])
+      | inr later ↦ (elim (cases_Bool (names_lock s r))
+          [ inl c ↦ rw c | inr c ↦ rw c (names_from_asks ss e r later) ])
     ]
 
 pub names_from_holds : (ss : List CriticalSection) (e : ℕ) (r : List ℕ) → holds_lock ss e r ≡ true
@@ -135,10 +127,9 @@ pub names_from_holds : (ss : List CriticalSection) (e : ℕ) (r : List ℕ) → 
 names_from_holds [] e r h = h
 names_from_holds (s ∷ ss) e r h =
     elim (or_cases (is_inside s e && names_lock s r) (holds_lock ss e r) h) [
-      | inl here ↦ (let c : names_lock s r ≡ true =
-          (and_parts (is_inside s e) (names_lock s r) here).1 in rw c)
-      | inr later ↦ (let ih : some_names ss r ≡ true = names_from_holds ss e r later in
-          elim (cases_Bool (names_lock s r)) [ inl c ↦ rw c | inr c ↦ rw c ih ])
+      | inl here ↦ (let c = (and_parts (is_inside s e) (names_lock s r) here).1 in rw c)
+      | inr later ↦ (elim (cases_Bool (names_lock s r))
+          [ inl c ↦ rw c | inr c ↦ rw c (names_from_holds ss e r later) ])
     ]
 
 -- who holds a lock after a tick held it before, or asked for it
@@ -148,14 +139,12 @@ holds_begins [] e r h = absurd (true≢false (sym h))
 holds_begins (s ∷ ss) e r h =
     elim (or_cases (is_inside s (suc e) && names_lock s r) (holds_lock ss (suc e) r) h) [
       | inl here ↦
-          let p : (is_inside s (suc e) ≡ true) × (names_lock s r ≡ true) =
-          and_parts (is_inside s (suc e)) (names_lock s r) here in
+          let p = and_parts (is_inside s (suc e)) (names_lock s r) here in
           let n : names_lock s r ≡ true = p.1 in
           let b : (s.at < suc e) × (suc e < s.at + s.len) = inside_true s (suc e) p.0 in
           elim (cases_eq s.at e) [
-            | inl begins ↦ (let c : (s.at == e) ≡ true = eq-eqb s.at e begins in inr (rw (c, n)))
-            | inr ne ↦ (let c : is_inside s e ≡ true =
-                inside_from s e (omega arith) (omega arith) in inl (rw (c, n)))
+            | inl begins ↦ inr (rw (eq-eqb s.at e begins, n))
+            | inr ne ↦ (let c = inside_from s e (omega arith) (omega arith) in inl (rw (c, n)))
           ]
       | inr later ↦ elim (holds_begins ss e r later) [
         | inl held ↦ inl (or_right (is_inside s e && names_lock s r) (holds_lock ss e r) held)
@@ -190,25 +179,21 @@ module _ (node : Node) (jobs : List Job) (valid : IsSound node)
       → (job_at jobs j).task ≡ (job_at jobs k).task → (job_at jobs k).ready ≤ t
       → executed_before node jobs t j < (job_at jobs j).executes → ⊥
   two_pending t j k lt below none same ready open_ =
-      let earlier : executed_before node jobs (job_at jobs k).ready j
-      ≤ executed_before node jobs t j = executed_later (job_at jobs k).ready t j ready in
+      let earlier = executed_later (job_at jobs k).ready t j ready in
       none k below ready (j, lt, same, omega arith)
 
   granted : ((j : ℕ) → j < length jobs → (job_at jobs j).task < length node.tasks)
       → NobodyWaits node jobs
   granted known t p r none pick asks =
       let is : IsPick node jobs t p = picked_is node jobs t p pick in
-      let pp : ((job_at jobs p).ready ≤ t)
-      × (executed_before node jobs t p < (job_at jobs p).executes) =
-      pending_parts node jobs t p is.is_pending in
-      let held : held_ceiling node (job_at jobs p).sections (executed_before node jobs t p) ≡ 0 =
-      held_none_of node 0 (job_at jobs p).executes (job_at jobs p).sections
+      let pp = pending_parts node jobs t p is.is_pending in
+      let held = held_none_of node 0 (job_at jobs p).executes (job_at jobs p).sections
       (executed_before node jobs t p) r (apart_at p) asks in
       let own : active_of node jobs (executed_before node jobs t) p ≡ level_of_job node jobs p =
       omega arith in
-      let within : level_of_job node jobs p ≤ ceiling node r =
-      valid.users_below (job_at jobs p).task r (own_sections.uses_own p r
-      (names_from_asks (job_at jobs p).sections (executed_before node jobs t p) r asks)) in
+      let within = valid.users_below (job_at jobs p).task r
+      (own_sections.uses_own p r (names_from_asks (job_at jobs p).sections
+      (executed_before node jobs t p) r asks)) in
       let holds_none : (q : List ℕ) → holds_lock (job_at jobs p).sections
       (executed_before node jobs t p) q ≡ false = λ q. holds_none_of 0 (job_at jobs p).executes
       (job_at jobs p).sections (executed_before node jobs t p) r q (apart_at p) asks in
@@ -218,23 +203,19 @@ module _ (node : Node) (jobs : List Job) (valid : IsSound node)
             (holds_lock (job_at jobs k).sections (executed_before node jobs t k) r)) [
               | inr free ↦ free
               | inl holds ↦
-                  let h : (ceiling node r ≤ held_ceiling node (job_at jobs k).sections
-                  (executed_before node jobs t k)) × (0 < executed_before node jobs t k)
-                  × (executed_before node jobs t k < (job_at jobs k).executes) =
-                  ceiling-le_held node 0 (job_at jobs k).executes (job_at jobs k).sections
+                  let h = ceiling-le_held node 0 (job_at jobs k).executes (job_at jobs k).sections
                   (executed_before node jobs t k) r (apart_at k) holds in
                   let b : (k < length jobs) × ((job_at jobs k).ready ≤ t) = began_of t k h.1 in
-                  let of_k : level_of_job node jobs k ≤ ceiling node r = valid.users_below
-                  (job_at jobs k).task r (own_sections.uses_own k r (names_from_holds
-                  (job_at jobs k).sections (executed_before node jobs t k) r holds)) in
+                  let of_k = valid.users_below (job_at jobs k).task r
+                  (own_sections.uses_own k r (names_from_holds (job_at jobs k).sections
+                  (executed_before node jobs t k) r holds)) in
                   let same_level : level_of_job node jobs p ≡ level_of_job node jobs k =
                   elim (is.first k lt (pending_from node jobs t k b.1 h.2)) [
                     | inl less ↦ omega arith
                     | inr tied ↦ omega arith
                   ] in
-                  let same : (job_at jobs p).task ≡ (job_at jobs k).task =
-                  valid.levels_differ (job_at jobs p).task (job_at jobs k).task (known p is.below)
-                  (known k lt) same_level in
+                  let same = valid.levels_differ (job_at jobs p).task (job_at jobs k).task
+                  (known p is.below) (known k lt) same_level in
                   elim (cases_order p k) [
                     | inl e ↦ absurd (true≢false (sym holds ∙ subst (λ x. holds_lock (job_at jobs
                         x).sections (executed_before node jobs t x) r ≡ false) e (holds_none r)))
@@ -262,24 +243,20 @@ anew_law jobs turns j e r asks = holds_none_of 0 (job_at jobs j).executes (job_a
 -- a job that has executed was ready before
 pub began_strictly : (node : Node) (jobs : List Job) (t j : ℕ) → 0 < executed_before node jobs t j
     → (job_at jobs j).ready < t
-began_strictly node jobs zero j h = let z : executed_before node jobs 0 j ≡ 0 =
-    start_of node jobs j in absurd (omega arith)
+began_strictly node jobs zero j h = absurd (omega (arith, start_of node jobs j))
 began_strictly node jobs (suc t) j h =
     elim (picked node jobs t) as (λ r. picked node jobs t ≡ r → (job_at jobs j).ready < suc t) [
-      | None ↦ λ e. (let s : executed_before node jobs (suc t) j ≡ executed_before node jobs t j =
-          idle_of node jobs t j e in let ih : (job_at jobs j).ready < t =
-          began_strictly node jobs t j (omega arith) in omega arith)
+      | None ↦ λ e. (let s = idle_of node jobs t j e in let ih = began_strictly node jobs t j
+          (omega arith) in omega arith)
       | Some p ↦ λ e. elim (cases_eq j p) [
         | inl same ↦
-            let is : IsPick node jobs t p = picked_is node jobs t p e in
-            let pp : ((job_at jobs p).ready ≤ t)
-            × (executed_before node jobs t p < (job_at jobs p).executes) =
-            pending_parts node jobs t p is.is_pending in
-            let r : (job_at jobs j).ready ≡ (job_at jobs p).ready =
-            ap (λ x. (job_at jobs x).ready) same in
-            omega arith
-        | inr ne ↦ (let s : executed_before node jobs (suc t) j ≡ executed_before node jobs t j =
-            other_of node jobs t p j e ne in let ih : (job_at jobs j).ready < t =
-            began_strictly node jobs t j (omega arith) in omega arith)
+            omega (
+              arith,
+              pending_parts node jobs t p (picked_is node jobs t p e).is_pending,
+              ap
+                  (λ x. (job_at jobs x).ready) same,
+            )
+        | inr ne ↦ (let s = other_of node jobs t p j e ne in let ih = began_strictly node jobs t j
+            (omega arith) in omega arith)
       ]
     ] refl
