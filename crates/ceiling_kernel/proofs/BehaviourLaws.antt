@@ -173,13 +173,7 @@ uses_of node jobs within j lock names = elim (cases_lt j (length jobs)) [
       absurd (true≢false (sym no_names))
 ]
 
--- ---- jobs as the laws of locks need them
-pub record AreSoundJobs (node : Node) (jobs : List Job) : Type 0 where
-  pub apart : (j : ℕ) → AreApart 0 (job_at jobs j).sections (job_at jobs j).executes
-  pub uses_own : (j : ℕ) (lock : List ℕ) → list_any (λ s. names_lock s lock)
-      (job_at jobs j).sections ≡ true → uses (job_task node jobs j) lock ≡ true
-  pub spanned : (j : ℕ) → HasSpans node jobs j
-
+-- a job past the end of the list takes none
 pub turns_apart : (jobs : List Job) → TakeTurns jobs → (j : ℕ)
     → AreApart 0 (job_at jobs j).sections (job_at jobs j).executes
 turns_apart jobs turns j = elim (cases_lt j (length jobs)) [
@@ -187,11 +181,3 @@ turns_apart jobs turns j = elim (cases_lt j (length jobs)) [
   | inr past ↦ subst (λ x. AreApart 0 x.sections x.executes) (sym (get_or_past jobs j no_job past))
       (omega arith)
 ]
-
-pub sound_jobs : (node : Node) (jobs : List Job) → AreWithinSheets node jobs → TakeTurns jobs
-    → AreSoundJobs node jobs
-sound_jobs node jobs within turns = record {
-  apart = turns_apart jobs turns;
-  uses_own = uses_of node jobs within;
-  spanned = spans_of node jobs within;
-}

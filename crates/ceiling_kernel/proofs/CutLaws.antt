@@ -9,6 +9,9 @@ use Rattle.ceiling_kernel.specs.Behaviours.{AreCut, AreKnown}
 use Rattle.ceiling_kernel.specs.Tick.{Node, Job, job_at, job_task, is_inside, held_ceiling}
 use Rattle.ceiling_kernel.specs.Jumps.{change_after}
 use Rattle.ceiling_kernel.specs.Waits.{IsNode}
+use Rattle.ceiling_kernel.specs.declared.trace.Release.{Release}
+use Rattle.ceiling_kernel.specs.Releases.{task_number, runs_of, jobs_of, release_at}
+use Rattle.ceiling_kernel.proofs.ReleaseLaws.{job_is, jobs_length}
 use Rattle.ceiling_kernel.proofs.NodeLaws.{IsSound, sound}
 use Rattle.ceiling_kernel.proofs.BehaviourLaws.{taken_apart}
 use Rattle.ceiling_kernel.proofs.SectionLaws.{outside_before}
@@ -138,6 +141,17 @@ selves (s ∷ ss) = (let own : LiesWithin s s = record {
   locks =
       λ lock names. names;
 } in (inl own, selves_more s ss ss (selves ss)))
+
+-- the jobs of releases that execute something, and no more than their task's cost, do as their sheets say up to their ends
+pub cuts_by : (node : Node) (rs : List Release) → ((j : ℕ) → j < length rs
+    → (0 < runs_of node.tasks (release_at rs j)) × (runs_of node.tasks (release_at rs j)
+    ≤ (task_at node.tasks (task_number node.tasks (release_at rs j))).cost))
+    → AreCut node (jobs_of node.tasks rs)
+cuts_by node rs in_cost j lt =
+    let in_list : j < length rs = omega (arith, jobs_length node.tasks rs) in
+    let cost = in_cost j in_list in
+    subst (λ x. IsCut (task_at node.tasks x.task) x) (sym (job_is node.tasks rs j in_list))
+    (record { some = cost.0; most = cost.1; sections = refl })
 
 pub cuts_within : (node : Node) (jobs : List Job) → IsSound node → AreKnown node jobs
     → AreCut node jobs → AreWithinSheets node jobs

@@ -1,8 +1,7 @@
 -- What a run has shown at its end.
-use Rattle.std.proofs.Common.{ℕ, zero, suc, ◌^◌, All, Bool, ◌+◌, ◌-◌, ◌<◌, ◌≤◌, ◌≡◌, inl, inr, refl}
+use Rattle.std.proofs.Common.{ℕ, zero, suc, ◌^◌, All, Bool, ◌+◌, ◌-◌, ◌<◌, ◌≤◌, ◌≡◌, inl, inr}
 use Rattle.std.proofs.Common.{sym, ap, ◌∙◌, subst, arith, List, [], ◌∷◌, length, slice_index_or}
-use Rattle.std.proofs.Common.{Option, None, Some, false, cond, nat_le, nat_lt}
-use Rattle.std.proofs.lemmas.Option.{none-some}
+use Rattle.std.proofs.Common.{Option, None, Some, false, nat_lt}
 use Rattle.std.proofs.lemmas.Bool.{cases_lt, cases_Bool, true≢false, le-leb, eq-eqb}
 use Rattle.std.proofs.lemmas.List.Elements.{All-from_get_or}
 use Rattle.task_sheet.specs.Sheet.{task_at}
@@ -24,13 +23,13 @@ use Rattle.ceiling_kernel.specs.Turns.{AreTurns}
 use Rattle.ceiling_kernel.specs.Runs.{IsFirstOverrun, IsOverrun, record_of, no_record, records_from}
 use Rattle.ceiling_kernel.specs.Runs.{bound_by, MeetsBounds, MeetsTighterBounds, IsNoOverrun}
 use Rattle.ceiling_kernel.specs.States.{IsRunnable, Kept, IsStop}
-use Rattle.ceiling_kernel.proofs.LockLaws.{nobody_waits_law}
+use Rattle.ceiling_kernel.proofs.NestLaws.{nobody_waits_law}
 use Rattle.ceiling_kernel.proofs.BoundLaws.{covers_from, tighter_response, no_overrun_law}
-use Rattle.ceiling_kernel.proofs.FinishLaws.{finish_start, finish_step, finish_some, finish_later}
+use Rattle.ceiling_kernel.proofs.FinishLaws.{finish_some, finish_later, finish_is}
 use Rattle.ceiling_kernel.proofs.ReleaseLaws.{job_is, jobs_length}
 use Rattle.ceiling_kernel.proofs.NodeLaws.{sound}
-use Rattle.ceiling_kernel.specs.Behaviours.{IsCut, AreCut, TakeTurns}
-use Rattle.ceiling_kernel.proofs.CutLaws.{cuts_within, cuts_apart}
+use Rattle.ceiling_kernel.specs.Behaviours.{AreCut, AreKnown, TakeTurns}
+use Rattle.ceiling_kernel.proofs.CutLaws.{cuts_by, cuts_within, cuts_apart}
 use Rattle.ceiling_kernel.proofs.AcceptLaws.{IsAccepted, accepted, first_none, none_below}
 use Rattle.ceiling_kernel.proofs.AcceptLaws.{none_passes, not_lt, known_from, inside_cost}
 
@@ -70,19 +69,14 @@ in_cost_from node rs until j a lt =
 -- so its job does as its sheet says, up to its end
 cuts_from : (node : Node) (rs : List Release) (until : ℕ) → IsAccepted node.tasks rs until
     → AreCut node (jobs_of node.tasks rs)
-cuts_from node rs until a j lt =
-    let l : length (jobs_of node.tasks rs) ≡ length rs = jobs_length node.tasks rs in
-    let c = in_cost_from node rs until j a (omega arith) in
-    subst (λ x. IsCut (task_at node.tasks x.task) x) (sym (job_is node.tasks rs j (omega arith)))
-    (record { some = c.0; most = c.1; sections = refl })
+cuts_from node rs until a = cuts_by node rs (λ j lt. in_cost_from node rs until j a lt)
 
 -- each job of an accepted list executes something
 pub some_executes : (node : Node) (rs : List Release) (until j : ℕ) → refusal_of node.tasks rs until
     ≡ None → j < length rs → 0 < (job_at (jobs_of node.tasks rs) j).executes
 some_executes node rs until j e lt =
-    let l : length (jobs_of node.tasks rs) ≡ length rs = jobs_length node.tasks rs in
-    let c = cuts_from node rs until (accepted node.tasks rs until e) j (omega arith) in
-    c.some
+    (cuts_from node rs until (accepted node.tasks rs until e) j
+    (omega (arith, jobs_length node.tasks rs))).some
 
 -- the jobs of an accepted list are legal
 pub legal_from : (node : Node) (rs : List Release) (until : ℕ) → IsNode node
@@ -90,18 +84,15 @@ pub legal_from : (node : Node) (rs : List Release) (until : ℕ) → IsNode node
 legal_from node rs until ok e =
     let a : IsAccepted node.tasks rs until = accepted node.tasks rs until e in
     let l : length (jobs_of node.tasks rs) ≡ length rs = jobs_length node.tasks rs in
-    let known_task : (j : ℕ) → j < length (jobs_of node.tasks rs)
-    → (job_at (jobs_of node.tasks rs) j).task < length node.tasks = λ j lt.
-    let k = known_from node.tasks rs a.known j (omega arith) in
-    let t = ap (λ x. x.task) (job_is node.tasks rs j (omega arith)) in
-    omega arith in
+    let known_task : AreKnown node (jobs_of node.tasks rs) = λ j lt. omega (
+      arith,
+      known_from node.tasks rs a.known j (omega arith),
+      ap (λ x. x.task) (job_is node.tasks rs j (omega arith)),
+    ) in
     record {
       within = cuts_within node (jobs_of node.tasks rs) (sound node ok) known_task
           (cuts_from node rs until a);
-      known = λ j lt.
-          let k = known_from node.tasks rs a.known j (omega arith) in
-          let t = ap (λ x. x.task) (job_is node.tasks rs j (omega arith)) in
-          omega arith;
+      known = known_task;
       not_early = λ j lt. (let r = job_is node.tasks rs j (omega arith) in rw r (omega arith));
       not_late = λ j lt.
           let r = job_is node.tasks rs j (omega arith) in
@@ -152,8 +143,7 @@ runnable_from node rs turns until ok e are =
     record {
       of_node = ok;
       known = known_from node.tasks rs a.known;
-      in_cost = λ j lt. in_cost_from
-          node rs until j a lt;
+      in_cost = λ j lt. in_cost_from node rs until j a lt;
       legal = legal_from node rs until ok e;
       in_turn = are;
     }
@@ -167,27 +157,6 @@ each_granted node rs until ok e none t p lock pick asks =
     (turns_from node rs until ok e) t p lock (λ k lt le. none k lt) pick asks
 
 -- ---- the bound
-finish_within : (node : Node) (jobs : List Job) (j t f : ℕ)
-    → finish_before node jobs t j ≡ Some f → f ≤ t
-finish_within node jobs j zero f e = absurd (none-some f (sym (finish_start node jobs j) ∙ e))
-finish_within node jobs j (suc t) f e =
-    elim (finish_before node jobs t j) as (λ o. finish_before node jobs t j ≡ o → f ≤ suc t) [
-      | Some g ↦ λ is.
-          let later : finish_before node jobs (suc t) j ≡ Some g = finish_step node jobs j t
-          ∙ rw is in
-          let same : g ≡ f = cc (sym later ∙ e) in
-          omega (arith, finish_within node jobs j t g is)
-      | None ↦ λ is.
-          let now : cond (nat_le (job_at jobs j).executes (executed_before node jobs (suc t) j))
-          (Some (suc t)) None ≡ Some f = sym (finish_step node jobs j t ∙ rw is) ∙ e in
-          elim (cases_Bool
-          (nat_le (job_at jobs j).executes (executed_before node jobs (suc t) j))) [
-            | inl y ↦ (let n : ◌≡◌ {A = Option ℕ} (Some (suc t)) (Some f) = rw y at now in
-                let same : suc t ≡ f = cc (n) in omega arith)
-            | inr n ↦ (let m : ◌≡◌ {A = Option ℕ} None (Some f) = rw n at now in absurd (cc (m)))
-          ]
-    ] refl
-
 pub records_at : (node : Node) (jobs : List Job) (t k : ℕ) (rs : List Release) (j : ℕ)
     → j < length rs → slice_index_or (records_from node jobs t k rs) j no_record
     ≡ record_of node jobs t (k + j) (release_at rs j)
@@ -202,7 +171,6 @@ pub tighter_trace : (node : Node) (rs : List Release) (until : ℕ) (trace : Tra
     → refusal_of node.tasks rs until ≡ None → trace.jobs.items
     ≡ records_from node (jobs_of node.tasks rs) until 0 rs → MeetsTighterBounds node rs until trace
 tighter_trace node rs until trace ok e jobs_are j t lt covers in_run =
-    let jobs : List Job = jobs_of node.tasks rs in
     let l : length (jobs_of node.tasks rs) ≡ length rs = jobs_length node.tasks rs in
     let is = job_is node.tasks rs j lt in
     let covers' = subst (λ x. CoversBy node x.task t) (sym is) covers in
@@ -218,14 +186,14 @@ tighter_trace node rs until trace ok e jobs_are j t lt covers in_run =
     let then = subst (λ x. finish_before node (jobs_of node.tasks rs) x j ≡ Some f.0) to
     (finish_later node (jobs_of node.tasks rs) j (bound_by node (release_at rs j) t)
     (until - bound_by node (release_at rs j) t) f.0 f.1) in
+    let z : 0 + j ≡ j = omega arith in
     let row = ap (λ (x : List JobRecord). slice_index_or x j no_record) jobs_are
     ∙ (records_at node (jobs_of node.tasks rs) until 0 rs j lt
-    ∙ ap (λ n. record_of node (jobs_of node.tasks rs) until n (release_at rs j))
-    (let z : 0 + j ≡ j = omega arith in z)) in (
+    ∙ ap (λ n. record_of node (jobs_of node.tasks rs) until n (release_at rs j)) z) in (
       f.0,
       ap (λ x. x.finish) row ∙ then,
-      finish_within node (jobs_of node.tasks rs) j
-          (bound_by node (release_at rs j) t) f.0 f.1,
+      (finish_is node (jobs_of node.tasks rs) j (bound_by node (release_at rs j) t) f.0
+          (some_executes node rs until j e lt) f.1).0,
     )
 
 pub bounded_trace : (node : Node) (rs : List Release) (until : ℕ) (trace : Trace) → IsNode node

@@ -21,11 +21,11 @@ use Rattle.ceiling_kernel.specs.Behaviours.{AreApart, IsCut, AreCut}
 use Rattle.ceiling_kernel.proofs.NodeLaws.{IsSound, sound}
 use Rattle.ceiling_kernel.proofs.PickLaws.{best_is, best_none_is}
 use Rattle.ceiling_kernel.proofs.MachineLaws.{pending_parts, pending_from}
-use Rattle.ceiling_kernel.proofs.CutLaws.{held-cut, change-cut, cuts_apart}
+use Rattle.ceiling_kernel.proofs.CutLaws.{held-cut, change-cut, cuts_by, cuts_apart}
 use Rattle.ceiling_kernel.proofs.LockLaws.{began_strictly, held_before}
 use Rattle.ceiling_kernel.proofs.JumpLaws as jump
 use Rattle.ceiling_kernel.proofs.SlotLaws.{IsBestSlot, slot_some, slot_none}
-use Rattle.ceiling_kernel.proofs.ReleaseLaws.{job_is, jobs_length, replicated}
+use Rattle.ceiling_kernel.proofs.ReleaseLaws.{replicated}
 use Rattle.ceiling_kernel.proofs.TurnLaws.{keeps_order, come_of, come_others, next_fresh, next_time}
 
 -- what stands in the slots after one is written
@@ -78,11 +78,7 @@ module _ {node : Node} {rs : List Release} {turns : List (ℕ × ℕ)}
 
   -- each job does as its sheet says, up to its end
   pub cuts_of : AreCut node jobs
-  cuts_of j lt =
-      let in_list : j < length rs = omega (arith, jobs_length node.tasks rs) in
-      let cost = runnable.in_cost j in_list in
-      subst (λ x. IsCut (task_at node.tasks x.task) x) (sym (job_is node.tasks rs j in_list))
-      (record { some = cost.0; most = cost.1; sections = refl })
+  cuts_of = cuts_by node rs runnable.in_cost
 
   -- before the first tick
   pub kept_start : Kept node jobs 0 (has_come turns 0) (replicate (length node.tasks) None)

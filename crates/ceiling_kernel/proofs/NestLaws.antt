@@ -1,4 +1,4 @@
--- No job finds a lock taken, where sections may be nested.
+-- No job finds a lock taken, where sections may be nested; and none waits, where they stand one after the other.
 use Rattle.std.proofs.Common.{ℕ, zero, suc, ◌+◌, ◌<◌, ◌≤◌, ◌≡◌, ◌≢◌, inl, inr, refl, sym, ap, ◌∙◌}
 use Rattle.std.proofs.Common.{subst, arith, true, false, ◌&&◌, List, [], ◌∷◌, length, Some, None}
 use Rattle.std.proofs.lemmas.Bool.{cases_eq, cases_lt, cases_Bool, cases_order, true≢false}
@@ -9,16 +9,17 @@ use Rattle.ceiling_kernel.specs.Tick.{Node, Job, job_at, job_task, level_of_job,
 use Rattle.ceiling_kernel.specs.Tick.{executed_before, picked, is_inside, ceiling, top_ceiling}
 use Rattle.ceiling_kernel.specs.Tick.{held_ceiling}
 use Rattle.ceiling_kernel.specs.Waits.{IsNode, AreLegalJobs, holds_lock, NoOverrunBy, AskAnew}
-use Rattle.ceiling_kernel.specs.Waits.{NobodyFindsItTaken, OneOwner}
+use Rattle.ceiling_kernel.specs.Waits.{NobodyFindsItTaken, NobodyWaits, OneOwner}
+use Rattle.ceiling_kernel.specs.Behaviours.{AreApart, TakeTurns}
 use Rattle.ceiling_kernel.proofs.NodeLaws.{IsSound, sound}
 use Rattle.ceiling_kernel.proofs.BehaviourLaws.{ceiling-le_top, HasSpans, taken_apart, spans_of}
-use Rattle.ceiling_kernel.proofs.BehaviourLaws.{uses_of}
+use Rattle.ceiling_kernel.proofs.BehaviourLaws.{uses_of, turns_apart}
 use Rattle.ceiling_kernel.proofs.SectionLaws.{inside_true, rest_from_held, rest_after}
 use Rattle.ceiling_kernel.proofs.MachineLaws.{machine, is_high, rest_at, picked_is, IsPick}
 use Rattle.ceiling_kernel.proofs.MachineLaws.{pending_from, pending_parts, start_of, idle_of}
 use Rattle.ceiling_kernel.proofs.MachineLaws.{own_of, other_of}
 use Rattle.ceiling_kernel.proofs.LockLaws.{some_names, names_from_asks, names_from_holds}
-use Rattle.ceiling_kernel.proofs.LockLaws.{holds_begins}
+use Rattle.ceiling_kernel.proofs.LockLaws.{holds_begins, holds_none_of, held_none_of, anew_law}
 use Rattle.ceiling_kernel.proofs.Busy.{began, done_later}
 
 -- who holds a lock holds its ceiling, and has executed
@@ -275,3 +276,19 @@ module _ (node : Node) (jobs : List Job) (ok : IsNode node) (legal : AreLegalJob
   one_holder_law t j k r none hj hk =
       owner_of node jobs (sound node ok) legal.known (spans_of node jobs legal.within) uses_own anew
       (t + 1) j k r (λ s lt i below ready. none i below (omega arith)) hj hk
+
+-- where jobs take their sections in turn, who asks for a lock holds none
+pub nobody_waits_law : (node : Node) (jobs : List Job) → IsNode node → AreLegalJobs node jobs
+    → TakeTurns jobs → NobodyWaits node jobs
+nobody_waits_law node jobs ok legal turns t p r none pick asks =
+    let free = free_law node jobs ok legal (anew_law jobs turns) t p r none pick asks in
+    let ss : List CriticalSection = (job_at jobs p).sections in
+    let e : ℕ = executed_before node jobs t p in
+    let apart : AreApart 0 ss (job_at jobs p).executes = turns_apart jobs turns p in
+    record {
+      holds_none = λ q. holds_none_of 0 (job_at jobs p).executes ss e r q apart asks;
+      is_free = free.is_free;
+      at_own_level =
+          omega (arith, held_none_of node 0 (job_at jobs p).executes ss e r apart asks);
+      within_ceiling = free.within_ceiling;
+    }
