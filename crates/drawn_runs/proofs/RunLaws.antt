@@ -1,7 +1,7 @@
 -- The jobs of a run in a set's best order: they stand by arrival, and are done by their deadlines.
 use Rattle.std.proofs.Common.{◌≡◌, ◌∙◌, ℕ, suc, ◌+◌, ◌-◌, ◌<◌, ◌≤◌, inl, inr, Bool, true, false}
 use Rattle.std.proofs.Common.{List, [], ◌∷◌, length, Option, Some, None, Ok, is_some, unwrap_or}
-use Rattle.std.proofs.Common.{nat_lt, nat_le, refl, sym, ap, arith, slice_index_or, eqb}
+use Rattle.std.proofs.Common.{refl, sym, ap, arith, slice_index_or}
 use Rattle.std.proofs.lemmas.Bool.{and_from, cases_eq, cases_lt, le-leb, le-ltb, lt-leb, lt-ltb}
 use Rattle.std.proofs.lemmas.Bool.{ne_eqb, true≢false}
 use Rattle.task_sheet.specs.Sheet.{Task, same_bytes, task_at}

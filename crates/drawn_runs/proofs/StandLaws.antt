@@ -1,6 +1,6 @@
 -- Each job stands in one place, and where its box is in the window, that of its place is.
 use Rattle.std.proofs.Common.{◌≡◌, ◌∙◌, ℕ, ◌+◌, ◌-◌, ◌<◌, ◌≤◌, inl, inr, refl, sym, ap, subst}
-use Rattle.std.proofs.Common.{arith, min, Bool, true, false, ◌&&◌, ◌||◌, nat_lt, List, [], length}
+use Rattle.std.proofs.Common.{arith, Bool, true, false, ◌&&◌, ◌||◌, nat_lt, List, [], length}
 use Rattle.std.proofs.Common.{get_or, take, drop, Option}
 use Rattle.std.specs.Prelude.{if◌then◌else◌}
 use Rattle.std.proofs.lemmas.Bool.{and_from, and_parts, cases_Bool, cases_lt, lt-ltb, ltb-false}
@@ -19,7 +19,7 @@ use Rattle.job_boxes.specs.Jobs.{job_text, limit_of, seen_job}
 use Rattle.frames.specs.Frame.{Frame, sees}
 use Rattle.frames.specs.Rows.{in_spot, on_spot, record_at, row_at, spot_at, spot_of}
 use Rattle.drawn_runs.specs.Stand.{AreByArrival, IsSeenAt, StandsOnce, band_at, count_at, drawn_at}
-use Rattle.drawn_runs.specs.Stand.{latest_at, sees_job, sees_place, text_at}
+use Rattle.drawn_runs.specs.Stand.{latest_at, sees_job, sees_place}
 use Rattle.drawn_runs.proofs.ListLaws.{kept_most, kept_two}
 use Rattle.pieces.proofs.PlaceLaws.{Place, place_of, stands_first}
 

@@ -1,6 +1,6 @@
 -- There is a run of the lists.
 use Rattle.std.proofs.Common.{ℕ, zero, suc, ◌<◌, ◌≤◌, ◌≡◌, ◌≢◌, ◌⊎◌, inl, inr, refl, sym, ap, ◌∙◌}
-use Rattle.std.proofs.Common.{subst, arith, true, false, List, [], ◌∷◌, length, Some, None, eqb}
+use Rattle.std.proofs.Common.{subst, arith, true, List, [], ◌∷◌, length, Some, None}
 use Rattle.std.proofs.Common.{if◌then◌else◌, ◌==◌}
 use Rattle.std.proofs.lemmas.Bool.{cases_eq, cases_lt, cases_Bool, true≢false, eq-eqb, ne_eqb}
 use Rattle.std.proofs.lemmas.Option.{none-some}
@@ -15,7 +15,7 @@ use Rattle.posix_lists.specs.ThreadLists.{IsSelected, IsAtRest, Settles, AnyWay,
 use Rattle.posix_lists.specs.ThreadLists.{ticked, IsTick, CanRun}
 use Rattle.posix_lists.proofs.QueueLaws.{In, none_in, empty_from, from_head, to_head, own_head}
 use Rattle.posix_lists.proofs.QueueLaws.{head_here, Rising}
-use Rattle.posix_lists.proofs.TickLaws.{Queued, AllCame, active_same}
+use Rattle.posix_lists.proofs.TickLaws.{AllCame, active_same}
 use Rattle.posix_lists.proofs.ListLaws.{shown_of, Agrees, none_runs, one_runs, move_keeps}
 use Rattle.posix_lists.proofs.ListLaws.{tick_keeps, begins, empty_raised}
 

@@ -1,6 +1,6 @@
 -- Lists of threads whose own levels rise from head to tail.
-use Rattle.std.proofs.Common.{ℕ, ◌<◌, ◌≡◌, ◌≢◌, ◌⊎◌, inl, inr, refl, sym, ap, ◌∙◌, subst, true}
-use Rattle.std.proofs.Common.{false, ◌==◌, List, [], ◌∷◌, ◌++◌, eqb}
+use Rattle.std.proofs.Common.{ℕ, ◌<◌, ◌≡◌, ◌≢◌, ◌⊎◌, inl, inr, refl, sym, ap, ◌∙◌, subst}
+use Rattle.std.proofs.Common.{◌==◌, List, [], ◌∷◌, ◌++◌}
 use Rattle.std.proofs.lemmas.Bool.{cases_eq, cases_Bool, eq-eqb, ne_eqb}
 use Rattle.posix_lists.specs.ThreadLists.{with_head, with_tail, with_list}
 

@@ -1,7 +1,7 @@
 -- Lists with the running thread at the head of its own: what they keep from tick to tick, and whom the tick rule picks.
 use Rattle.std.proofs.Common.{ℕ, suc, ◌+◌, ◌<◌, ◌≤◌, ◌≡◌, ◌≢◌, inl, inr, refl, sym, ap, ◌∙◌, subst}
 use Rattle.std.proofs.Common.{arith, Bool, true, false, ◌==◌, if◌then◌else◌, max, List, [], length}
-use Rattle.std.proofs.Common.{Some, None, eqb}
+use Rattle.std.proofs.Common.{Some, None}
 use Rattle.std.proofs.lemmas.Bool.{cases_eq, cases_lt, cases_Bool, cases_order, true≢false, eq-eqb}
 use Rattle.std.proofs.lemmas.Bool.{ne_eqb}
 use Rattle.ceiling_kernel.specs.Tick.{Node, Job, job_at, level_of_job, is_pending, active_of}

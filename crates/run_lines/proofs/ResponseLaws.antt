@@ -1,6 +1,6 @@
 -- The responses of an order bound the jobs of each run in it.
 use Rattle.std.proofs.Common.{◌≡◌, ◌∙◌, All, ℕ, suc, ◌+◌, ◌<◌, ◌≤◌, inl, inr, true, false, List, []}
-use Rattle.std.proofs.Common.{◌∷◌, length, Option, Some, None, Ok, is_some, unwrap_or, nat_lt, refl}
+use Rattle.std.proofs.Common.{◌∷◌, length, Some, None, Ok, is_some, unwrap_or, refl}
 use Rattle.std.proofs.Common.{sym, ap, subst, arith, slice_index_or, eqb}
 use Rattle.std.proofs.lemmas.Bool.{and_parts, cases_Bool, cases_lt, eq-eqb, eqb-true, lt-ltb}
 use Rattle.std.proofs.lemmas.Bool.{true≢false}
@@ -18,7 +18,6 @@ use Rattle.assignment.specs.Placings.{IsBestPlacing, tasks_of_places}
 use Rattle.explain.specs.Accounts.{AreInTime}
 use Rattle.explain.proofs.AccountLaws.{best-in_time}
 use Rattle.ceiling_kernel.specs.Tick.{Job, Node, node_in}
-use Rattle.ceiling_kernel.specs.Trace.{finish_before}
 use Rattle.ceiling_kernel.specs.Waits.{IsNode}
 use Rattle.ceiling_kernel.specs.Bounds.{PassesBy, above_of, after_of, response_by}
 use Rattle.ceiling_kernel.specs.Releases.{jobs_of, release_at, task_named, task_number}
