@@ -142,7 +142,8 @@ selves (s ∷ ss) = (let own : LiesWithin s s = record {
       λ lock names. names;
 } in (inl own, selves_more s ss ss (selves ss)))
 
--- the jobs of releases that execute something, and no more than their task's cost, do as their sheets say up to their ends
+-- the jobs of releases that execute something, and no more than their task's cost, do as their
+-- sheets say up to their ends
 pub cuts_by : (node : Node) (rs : List Release) → ((j : ℕ) → j < length rs
     → (0 < runs_of node.tasks (release_at rs j)) × (runs_of node.tasks (release_at rs j)
     ≤ (task_at node.tasks (task_number node.tasks (release_at rs j))).cost))

@@ -1,8 +1,8 @@
 -- What the slots keep gives the pick of the tick rule, and each event keeps it.
-use Rattle.std.proofs.Common.{ℕ, suc, ◌+◌, ◌-◌, ◌<◌, ◌≤◌, ◌≡◌, ◌≢◌, ◌⊎◌, inl, inr, refl, sym, ap, ap₂}
+use Rattle.std.proofs.Common.{ℕ, suc, ◌+◌, ◌-◌, ◌<◌, ◌≤◌, ◌≡◌, ◌≢◌, ◌⊎◌, inl, inr, refl, sym, ap}
 use Rattle.std.proofs.Common.{◌∙◌, subst, arith, max, List, length, set, replicate, Option, Some}
 use Rattle.std.proofs.Common.{None, Bool, true, false, slice_index_or, get_or-set_same}
-use Rattle.std.proofs.Common.{get_or-set_other, length-set}
+use Rattle.std.proofs.Common.{ap₂, get_or-set_other, length-set}
 use Rattle.std.proofs.lemmas.Option.{none-some, same_Some}
 use Rattle.std.proofs.lemmas.Bool.{cases_Bool, cases_eq, cases_lt, true≢false}
 use Rattle.std.proofs.lemmas.List.{length-replicate}
@@ -16,7 +16,8 @@ use Rattle.ceiling_kernel.specs.Jumps.{change_after, NoneReadyBetween}
 use Rattle.ceiling_kernel.specs.Waits.{Overruns}
 use Rattle.ceiling_kernel.specs.Releases.{jobs_of}
 use Rattle.ceiling_kernel.specs.Turns.{time_in_turn, job_in_turn, has_come, TasksKeepOrder}
-use Rattle.ceiling_kernel.specs.States.{active_at, best_slot, IsRunnable, IsPending, Kept, IsRunning}
+use Rattle.ceiling_kernel.specs.States.{active_at, best_slot, IsRunnable, IsPending, Kept}
+use Rattle.ceiling_kernel.specs.States.{IsRunning}
 use Rattle.ceiling_kernel.specs.Behaviours.{AreApart, IsCut, AreCut}
 use Rattle.ceiling_kernel.proofs.NodeLaws.{IsSound, sound}
 use Rattle.ceiling_kernel.proofs.PickLaws.{best_is, best_none_is}
@@ -87,7 +88,8 @@ module _ {node : Node} {rs : List Release} {turns : List (ℕ × ℕ)}
     admitted = λ j has. absurd (true≢false (sym has));
     to_come = λ j not lt. omega arith;
     slot_count = length-replicate (length node.tasks) None;
-    pending = λ i p e. absurd (none-some p (sym (replicated {X = Option Pending} (length node.tasks) i None) ∙ e));
+    pending = λ i p e. absurd (none-some p
+        (sym (replicated {X = Option Pending} (length node.tasks) i None) ∙ e));
     complete = λ j has. absurd (true≢false (sym has));
     no_overrun = λ k has. absurd (true≢false (sym has));
   }
@@ -329,7 +331,8 @@ module _ {node : Node} {rs : List Release} {turns : List (ℕ × ℕ)}
 
         -- it isn't finished then
         pub kept_run : (q : Pending) → q.job ≡ p.job → q.task ≡ p.task → q.level ≡ p.level
-            → q.executed ≡ p.executed + (limit - s.now) → q.active ≡ active_at node p.task q.executed
+            → q.executed ≡ p.executed + (limit - s.now)
+            → q.active ≡ active_at node p.task q.executed
             → p.executed + (limit - s.now) < executes_of p.job
             → Kept node jobs limit come (set s.slots.items p.task (Some q))
         kept_run q job task level executed active open_ =

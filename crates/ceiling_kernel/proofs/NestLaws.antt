@@ -1,4 +1,5 @@
--- No job finds a lock taken, where sections may be nested; and none waits, where they stand one after the other.
+-- No job finds a lock taken, where sections may be nested; and none waits, where they stand one
+-- after the other.
 use Rattle.std.proofs.Common.{ℕ, zero, suc, ◌+◌, ◌<◌, ◌≤◌, ◌≡◌, ◌≢◌, inl, inr, refl, sym, ap, ◌∙◌}
 use Rattle.std.proofs.Common.{subst, arith, true, false, ◌&&◌, List, [], ◌∷◌, length, Some, None}
 use Rattle.std.proofs.lemmas.Bool.{cases_eq, cases_lt, cases_Bool, cases_order, true≢false}

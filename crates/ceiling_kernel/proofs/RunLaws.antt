@@ -1,5 +1,5 @@
--- The steps of a run, over the code's own lists: where nothing is pending, where a job becomes ready, and where the
--- pending job that goes first stops, done or to run on.
+-- The steps of a run, over the code's own lists: where nothing is pending, where a job becomes
+-- ready, and where the pending job that goes first stops, done or to run on.
 use Rattle.std.proofs.Common.{ℕ, suc, ◌+◌, ◌-◌, ◌<◌, ◌≤◌, ◌≡◌, ◌≢◌, ◌⊎◌, ◌++◌, ◌∷◌, [], inl, inr}
 use Rattle.std.proofs.Common.{sym, ap, ap₂, ◌∙◌, subst, arith, add-one, List, length, set, get_or}
 use Rattle.std.proofs.Common.{map, drop, replicate, Option, Some, None, slice_index_or}
@@ -237,7 +237,8 @@ module _ {node : Node} {rs : List Release} {turns : List (ℕ × ℕ)}
         -- it runs up to a stop, and then the state is another
         module _ (stop : ℕ) (runs : s.now < stop)
             (before_next : s.next < length turns → stop ≤ time_in_turn turns s.next)
-            (within : p.executed + (stop - s.now) ≤ next_change x.sections.items p.executed executes)
+            (within : p.executed + (stop - s.now)
+            ≤ next_change x.sections.items p.executed executes)
             (to_end : p.executed + (stop - s.now) ≤ executes) (until : ℕ) (in_run : stop ≤ until)
             (new : Simulation) (now_is : new.now ≡ stop) (next_is : new.next ≡ s.next)
             (shown : slices_shown new.slices ≡ with_run (slices_shown s.slices) p.job s.now stop)

@@ -29,7 +29,8 @@ returns-in_default c =
       };
     }
 
-best_at : (c : goal.After-tasks) → best_slot c.args.self.now.slots.items None ≡ Some c.in-Some.picked
+best_at : (c : goal.After-tasks)
+    → best_slot c.args.self.now.slots.items None ≡ Some c.in-Some.picked
 best_at c = sym (rw c.deref.ensures.value at c.in-Some.ensures)
 
 pub offset_bounds-tasks-picked : goal.offset_bounds-tasks-picked
