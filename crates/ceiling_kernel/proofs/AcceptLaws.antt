@@ -9,8 +9,7 @@ use Rattle.std.specs.List.{list_any}
 use Rattle.std.specs.Option.{option_or, option_map}
 use Rattle.std.proofs.lemmas.Bool.{cases_eq, cases_lt, cases_Bool, true≢false, lt-ltb, le-ltb}
 use Rattle.std.proofs.lemmas.Bool.{eq-eqb, ne_eqb}
-use Rattle.std.proofs.lemmas.List.{map_more, get_or_default, get_or-replicate, length-replicate}
-use Rattle.std.proofs.lemmas.List.{get_or_past}
+use Rattle.std.proofs.lemmas.List.{map_more, get_or_default, length-replicate}
 use Rattle.std.proofs.lemmas.List.Folds.{list_any_at}
 use Rattle.std.proofs.lemmas.List.Quantifiers.{position-Some}
 use Rattle.task_sheet.specs.Sheet.{Task, no_task, same_bytes, task_at}
@@ -25,7 +24,7 @@ use Rattle.ceiling_kernel.specs.Releases.{is_unknown, is_soon_job, is_too_soon, 
 use Rattle.ceiling_kernel.specs.Releases.{is_outside_cost, is_past, refuse_if, refusal_of}
 use Rattle.ceiling_kernel.specs.Releases.{soon_after}
 use Rattle.task_sheet.proofs.Below.{some_below-at, some_below-none}
-use Rattle.ceiling_kernel.proofs.ReleaseLaws.{job_is, place_is}
+use Rattle.ceiling_kernel.proofs.ReleaseLaws.{job_is, place_is, replicated}
 
 -- ---- the first that passes a test
 first_step : (test : ℕ → Bool) (n : ℕ)
@@ -46,8 +45,7 @@ pub first_none : (test : ℕ → Bool) (n : ℕ) → first_where test n ≡ None
     → test k ≡ false
 first_none test zero e k lt = absurd (omega arith)
 first_none test (suc n) e k lt =
-    let p : (first_where test n ≡ None) × (test n ≡ false) =
-    first_or-none (first_where test n) (test n) n (sym (first_step test n) ∙ e) in
+    let p = first_or-none (first_where test n) (test n) n (sym (first_step test n) ∙ e) in
     elim (cases_eq k n) [
       | inl same ↦ ap test same ∙ p.1
       | inr ne ↦ first_none test n p.0 k (omega arith)
@@ -155,8 +153,7 @@ pub sorted_from : (rs : List Release) → first_where (is_unsorted rs) (length r
     → i ≤ j → j < length rs → (release_at rs i).time ≤ (release_at rs j).time
 sorted_from rs e i j le lt =
     let to : i + (j - i) ≡ j = omega arith in
-    let h : (release_at rs i).time ≤ (release_at rs (i + (j - i))).time =
-    sorted_by rs (first_none (is_unsorted rs) (length rs) e) i (j - i) (omega arith) in
+    let h = sorted_by rs (first_none (is_unsorted rs) (length rs) e) i (j - i) (omega arith) in
     subst (λ k. (release_at rs i).time ≤ (release_at rs k).time) to h
 
 -- ---- known tasks
@@ -179,18 +176,7 @@ pub place_in : (U : List Task) (rs : List Release) (places : List ℕ) (k : ℕ)
     → places ≡ map (task_number U) rs → first_where (is_unknown U rs) (length rs) ≡ None
     → k < length rs → get_or places k 0 < length U
 place_in U rs places k e known lt =
-    let i : get_or places k 0 ≡ task_number U (release_at rs k) = place_is U rs places k e lt in
-    omega (arith, known_from U rs known k lt)
-
--- ---- the tests that the code makes
-pub unsorted_is : (rs : List Release) (k : ℕ) → 0 < k
-    → is_unsorted rs k ≡ nat_lt (release_at rs k).time (release_at rs (k - 1)).time
-unsorted_is rs zero some = absurd (omega arith)
-unsorted_is rs (suc k) some = (let e : suc k - 1 ≡ k = omega arith in
-    ap (λ n. nat_lt (release_at rs (suc k)).time (release_at rs n).time) (sym e))
-
-pub unsorted_first : (rs : List Release) (k : ℕ) → k ≡ 0 → is_unsorted rs k ≡ false
-unsorted_first rs k e = ap (is_unsorted rs) e
+    omega (arith, place_is U rs places k e lt, known_from U rs known k lt)
 
 -- ---- the last release of each task
 pub record AreLast (U : List Task) (rs : List Release) (n : ℕ)
@@ -202,18 +188,11 @@ pub record AreLast (U : List Task) (rs : List Release) (n : ℕ)
   pub some : (i l : ℕ) → slice_index_or last i None ≡ Some l → (j : ℕ) × (j < n)
       × (task_number U (release_at rs j) ≡ i) × ((release_at rs j).time ≡ l)
 
-abbrev none_of : Option ℕ
-none_of = None
-
 pub last_start : (U : List Task) (rs : List Release) → AreLast U rs 0 (replicate 32 None)
 last_start U rs = record {
-  count = length-replicate 32 none_of;
+  count = length-replicate {A = Option ℕ} 32 None;
   known = λ j lt. absurd (omega arith);
-  some = λ i l e. elim (cases_lt i 32) [
-    | inl lt ↦ absurd (none-some l (sym (get_or-replicate 32 i none_of None lt) ∙ e))
-    | inr ge ↦ (let n : length (replicate 32 none_of) ≡ 32 = length-replicate 32 none_of in
-        absurd (none-some l (sym (get_or_past (replicate 32 none_of) i None (omega arith)) ∙ e)))
-  ];
+  some = λ i l e. absurd (none-some l (sym (replicated {X = Option ℕ} 32 i None) ∙ e));
 }
 
 module _ (U : List Task) (rs : List Release)
@@ -228,8 +207,7 @@ module _ (U : List Task) (rs : List Release)
   -- the last time of its task isn't after it
   pub last_before : (l : ℕ) → slice_index_or last (task_no k) None ≡ Some l → l ≤ time_of k
   last_before l e =
-      let w : (j : ℕ) × (j < k) × (task_no j ≡ task_no k) × (time_of j ≡ l) =
-      are.some (task_no k) l e in
+      let w = are.some (task_no k) l e in
       let s : time_of w.0 ≤ time_of k = sorted w.0 k (omega (arith, w.1)) lt in
       omega (arith, w.3)
 
@@ -252,8 +230,7 @@ module _ (U : List Task) (rs : List Release)
                 | inl e ↦ absurd (other (ap task_no e))
                 | inr ne ↦ omega arith
               ] in
-              let w : (l : ℕ) × (slice_index_or last (task_no j) None ≡ Some l) × (time_of j ≤ l) =
-              are.known j before in (
+              let w = are.known j before in (
                 w.0,
                 get_or-set_other last (task_no k) (task_no j) (Some (time_of k)) None other
                     ∙ w.1,
@@ -262,15 +239,14 @@ module _ (U : List Task) (rs : List Release)
         ];
         some = λ i l e. elim (cases_eq i (task_no k)) [
           | inl same ↦
-              let here : slice_index_or (set last (task_no k) (Some (time_of k))) (task_no k) None
-              ≡ Some l = subst (λ x. slice_index_or (set last (task_no k) (Some (time_of k))) x
-              None ≡ Some l) same e in
-              let is : ◌≡◌ {A = Option ℕ} (Some (time_of k)) (Some l) =
-              sym (get_or-set_same last (task_no k) (Some (time_of k)) None inside) ∙ here in
+              let here = subst (λ x. slice_index_or (set last (task_no k) (Some (time_of k))) x None
+              ≡ Some l) same e in
+              let is = sym (get_or-set_same last (task_no k) (Some (time_of k)) None inside) ∙
+              here in
               (k, omega arith, sym same, cc (is))
           | inr other ↦
-              let w : (j : ℕ) × (j < k) × (task_no j ≡ i) × (time_of j ≡ l) = are.some i l
-              (sym (get_or-set_other last (task_no k) i (Some (time_of k)) None other) ∙ e) in
+              let w = are.some i l (sym (get_or-set_other last (task_no k) i (Some (time_of k)) None
+              other) ∙ e) in
               (w.0, omega (arith, w.1), w.2, w.3)
         ];
       }
@@ -279,9 +255,8 @@ module _ (U : List Task) (rs : List Release)
       && nat_lt (time_of k) (time_of j + (task_at U (task_no k)).period))
   too_soon_job j before =
       let ej : job_at (jobs_of U rs) j ≡ job_of U (release_at rs j) = job_is U rs j (omega arith) in
-      let ek : job_at (jobs_of U rs) k ≡ job_of U (release_at rs k) = job_is U rs k lt in
       ap₂ (λ x y. (x.task == y.task) && nat_lt y.arrival (x.arrival + (task_at U y.task).period)) ej
-      ek
+      (job_is U rs k lt)
 
   pub too_soon_is : is_too_soon U (jobs_of U rs) k
       ≡ soon_after (slice_index_or last (task_no k) None) (time_of k) (task_at U (task_no k)).period
@@ -292,48 +267,32 @@ module _ (U : List Task) (rs : List Release)
         | None ↦ λ e. some_below-none k (is_soon_job U (jobs_of U rs) k)
             (λ j before. too_soon_job j before ∙ elim (cases_eq (task_no j) (task_no k)) [
               | inl same ↦
-                  let w : (l : ℕ) × (slice_index_or last (task_no j) None ≡ Some l)
-                  × (time_of j ≤ l) =
-                  are.known j before in
+                  let w = are.known j before in
                   absurd (none-some w.0 (sym e
                   ∙ subst (λ x. slice_index_or last x None ≡ Some w.0) same w.1))
-              | inr other ↦ (let f : (task_no j == task_no k) ≡ false =
-                  ne_eqb (task_no j) (task_no k) other in rw f)
+              | inr other ↦ rw (ne_eqb (task_no j) (task_no k) other)
             ])
         | Some l ↦ λ e.
-            let w : (j : ℕ) × (j < k) × (task_no j ≡ task_no k) × (time_of j ≡ l) =
-            are.some (task_no k) l e in
+            let w = are.some (task_no k) l e in
             elim (cases_lt (time_of k) (l + (task_at U (task_no k)).period)) [
               | inl soon ↦
-                  let s : (task_no w.0 == task_no k) ≡ true =
-                  eq-eqb (task_no w.0) (task_no k) w.2 in
-                  let t : nat_lt (time_of k) (time_of w.0 + (task_at U (task_no k)).period) ≡ true =
-                  lt-ltb (time_of k) (time_of w.0 + (task_at U (task_no k)).period)
+                  let t = lt-ltb (time_of k) (time_of w.0 + (task_at U (task_no k)).period)
                   (omega (arith, w.3)) in
-                  let r : nat_lt (time_of k) (l + (task_at U (task_no k)).period) ≡ true =
-                  lt-ltb (time_of k) (l + (task_at U (task_no k)).period) soon in
                   some_below-at k (is_soon_job U (jobs_of U rs) k) w.0 w.1
-                  (too_soon_job w.0 w.1 ∙ rw (s, t)) ∙ sym r
+                  (too_soon_job w.0 w.1 ∙ rw (eq-eqb (task_no w.0) (task_no k) w.2, t)) ∙ sym
+                  (lt-ltb (time_of k) (l + (task_at U (task_no k)).period) soon)
               | inr late ↦
-                  let r : nat_lt (time_of k) (l + (task_at U (task_no k)).period) ≡ false =
-                  le-ltb (time_of k) (l + (task_at U (task_no k)).period) late in
                   some_below-none k (is_soon_job U (jobs_of U rs) k)
                   (λ j before. too_soon_job j before ∙ elim (cases_eq (task_no j) (task_no k)) [
                     | inl same ↦
-                        let v : (m : ℕ) × (slice_index_or last (task_no j) None ≡ Some m)
-                        × (time_of j ≤ m) = are.known j before in
-                        let v' : slice_index_or last (task_no k) None ≡ Some v.0 =
-                        subst (λ x. slice_index_or last x None ≡ Some v.0) same v.1 in
+                        let v = are.known j before in
+                        let v' = subst (λ x. slice_index_or last x None ≡ Some v.0) same v.1 in
                         let one : v.0 ≡ l = cc (e, v') in
-                        let s : (task_no j == task_no k) ≡ true =
-                        eq-eqb (task_no j) (task_no k) same in
-                        let f : nat_lt (time_of k) (time_of j + (task_at U (task_no k)).period)
-                        ≡ false = le-ltb (time_of k)
-                        (time_of j + (task_at U (task_no k)).period) (omega (arith, v.2)) in
-                        rw (s, f)
-                    | inr other ↦ (let f : (task_no j == task_no k) ≡ false =
-                        ne_eqb (task_no j) (task_no k) other in rw f)
-                  ]) ∙ sym r
+                        let f = le-ltb (time_of k) (time_of j + (task_at U (task_no k)).period)
+                        (omega (arith, v.2)) in
+                        rw (eq-eqb (task_no j) (task_no k) same, f)
+                    | inr other ↦ rw (ne_eqb (task_no j) (task_no k) other)
+                  ]) ∙ sym (le-ltb (time_of k) (l + (task_at U (task_no k)).period) late)
             ]
       ] refl
 
@@ -341,10 +300,8 @@ module _ (U : List Task) (rs : List Release)
       ≡ (task_at U (task_no k)).period → b ≡ soon_after (slice_index_or last i None) time period
       → is_too_soon U (jobs_of U rs) k ≡ b
   too_soon_at i time period b ei et ep eb =
-      let a : soon_after (slice_index_or last i None) time period ≡ soon_after
-      (slice_index_or last (task_no k) None) (time_of k) (task_at U (task_no k)).period =
-      ap (λ x. soon_after (slice_index_or last x None) time period) ei
-      ∙ ap₂ (λ x y. soon_after (slice_index_or last (task_no k) None) x y) et ep in
+      let a = ap (λ x. soon_after (slice_index_or last x None) time period) ei ∙ ap₂
+      (λ x y. soon_after (slice_index_or last (task_no k) None) x y) et ep in
       too_soon_is ∙ (sym a ∙ sym eb)
 
   -- the same, where the sheet is read by a kept index
@@ -356,12 +313,10 @@ module _ (U : List Task) (rs : List Release)
       → is_too_soon U (jobs_of U rs) k ≡ b
   too_soon_read places sheets sheet r period b kept known same is ep eb =
       let i : get_or places k 0 ≡ task_no k = place_is U rs places k kept lt in
-      let time : (get_or rs k r).time ≡ time_of k =
-      ap (λ x. x.time) (get_or_default rs k r no_release lt) in
-      let read : sheet ≡ task_at U (task_no k) =
-      is ∙ (ap (λ (xs : List Task). get_or xs (get_or places k 0) sheet) same
-      ∙ (ap (λ z. get_or U z sheet) i
-      ∙ get_or_default U (task_no k) sheet no_task (known_from U rs known k lt))) in
+      let time = ap (λ x. x.time) (get_or_default rs k r no_release lt) in
+      let read = is ∙ (ap (λ (xs : List Task). get_or xs (get_or places k 0) sheet) same ∙
+      (ap (λ z. get_or U z sheet) i ∙ get_or_default U (task_no k) sheet no_task
+      (known_from U rs known k lt))) in
       too_soon_at (get_or places k 0) (get_or rs k r).time period b i time
       (ep ∙ ap (λ (t : Task). t.period) read) eb
 
@@ -390,11 +345,9 @@ pub too_late_at : (U : List Task) (rs : List Release) (k i jitter : ℕ) (r : Re
     → t ≡ get_or U i t → jitter ≡ t.jitter
     → b ≡ nat_lt jitter (get_or rs k r).late → is_too_late U rs k ≡ b
 too_late_at U rs k i jitter r t b lt is known et ej eb =
-    let e : release_at rs k ≡ get_or rs k r = get_or_default rs k no_release r lt in
-    let f : task_at U i ≡ t = get_or_default U i no_task t known ∙ sym et in
-    let task : (task_at U (task_number U (release_at rs k))).jitter ≡ jitter =
-    ap (λ n. (task_at U n).jitter) (sym is) ∙ (ap (λ x. x.jitter) f ∙ sym ej) in
-    ap₂ nat_lt task (ap (λ x. x.late) e) ∙ sym eb
+    let task = ap (λ n. (task_at U n).jitter) (sym is) ∙
+    (ap (λ x. x.jitter) (get_or_default U i no_task t known ∙ sym et) ∙ sym ej) in
+    ap₂ nat_lt task (ap (λ x. x.late) (get_or_default rs k no_release r lt)) ∙ sym eb
 
 -- ---- how long they execute
 pub outside_at : (U : List Task) (rs : List Release) (k i cost : ℕ) (r : Release) (t : Task)
@@ -403,18 +356,16 @@ pub outside_at : (U : List Task) (rs : List Release) (k i cost : ℕ) (r : Relea
     → is_outside_cost U rs k ≡ ((unwrap_or (get_or rs k r).runs cost == 0)
     || nat_lt cost (unwrap_or (get_or rs k r).runs cost))
 outside_at U rs k i cost r t lt is known et ec =
-    let e : release_at rs k ≡ get_or rs k r = get_or_default rs k no_release r lt in
-    let f : task_at U i ≡ t = get_or_default U i no_task t known ∙ sym et in
-    let task : (task_at U (task_number U (release_at rs k))).cost ≡ cost =
-    ap (λ n. (task_at U n).cost) (sym is) ∙ (ap (λ x. x.cost) f ∙ sym ec) in
-    ap₂ (λ c o. (unwrap_or o c == 0) || nat_lt c (unwrap_or o c)) task (ap (λ x. x.runs) e)
+    let task = ap (λ n. (task_at U n).cost) (sym is) ∙ (ap (λ x. x.cost)
+    (get_or_default U i no_task t known ∙ sym et) ∙ sym ec) in
+    ap₂ (λ c o. (unwrap_or o c == 0) || nat_lt c (unwrap_or o c)) task
+    (ap (λ x. x.runs) (get_or_default rs k no_release r lt))
 
 -- a release that isn't outside executes something, and no more than the cost
 pub inside_cost : (runs cost : ℕ) → ((runs == 0) || nat_lt cost runs) ≡ false → (0 < runs)
     × (runs ≤ cost)
 inside_cost runs cost h =
-    let p : ((runs == 0) ≡ false) × (nat_lt cost runs ≡ false) =
-    or_false_parts (runs == 0) (nat_lt cost runs) h in
+    let p = or_false_parts (runs == 0) (nat_lt cost runs) h in
     let some : 0 < runs = elim (cases_eq runs 0) [
       | inl z ↦
           absurd (true≢false (sym (eq-eqb runs 0 z) ∙ p.0))

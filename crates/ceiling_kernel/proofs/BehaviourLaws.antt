@@ -1,6 +1,6 @@
 -- What a covered section has of the one that covers it.
 use Rattle.std.proofs.Common.{ℕ, ◌+◌, ◌<◌, ◌≤◌, ◌≡◌, inl, inr, sym, ap, subst, arith, if◌then◌else◌}
-use Rattle.std.proofs.Common.{true, false, nat_lt, List, [], ◌∷◌, length}
+use Rattle.std.proofs.Common.{true, nat_lt, List, [], ◌∷◌, length}
 use Rattle.std.proofs.lemmas.Bool.{cases_lt, cases_Bool, true≢false, or_cases, or_right, and_parts}
 use Rattle.std.proofs.lemmas.Bool.{and_from, ltb-true, lt-ltb}
 use Rattle.std.proofs.lemmas.List.{get_or_past}
@@ -29,7 +29,7 @@ covered_names : (declared : List CriticalSection) (s : CriticalSection) (lock : 
 covered_names [] s lock h names = absurd h
 covered_names (d ∷ ds) s lock h names =
     elim h [
-      | inl here ↦ (let n : names_lock d lock ≡ true = here.locks lock names in rw n)
+      | inl here ↦ rw (here.locks lock names)
       | inr later ↦ or_right (names_lock d lock) (list_any (λ x. names_lock x lock) ds)
           (covered_names ds s lock later names)
     ]
@@ -51,21 +51,21 @@ ceiling-le_top node [] r h = absurd (true≢false (sym h))
 ceiling-le_top node (q ∷ qs) r h =
     elim (or_cases (same_bytes q r) (list_any (λ p. same_bytes p r) qs) h) [
       | inl same ↦
-          let e : ceiling node q ≡ ceiling node r = ap (ceiling node) (same_text q r (sym same)) in
-          omega arith
-      | inr later ↦ (let ih : ceiling node r ≤ top_ceiling node qs =
-          ceiling-le_top node qs r later in omega arith)
+          omega (arith, ap (ceiling node) (same_text q r (sym same)))
+      | inr later ↦ omega (arith, ceiling-le_top node qs r later)
     ]
 
 top-le : (node : Node) (ps qs : List (List ℕ)) → ((r : List ℕ) → list_any (λ p. same_bytes p r) ps
     ≡ true → list_any (λ q. same_bytes q r) qs ≡ true) → top_ceiling node ps ≤ top_ceiling node qs
 top-le node [] qs h = omega arith
 top-le node (p ∷ ps) qs h =
-    let own : same_bytes p p ≡ true = same_own p in
-    let one : ceiling node p ≤ top_ceiling node qs = ceiling-le_top node qs p (h p (rw own)) in
-    let ih : top_ceiling node ps ≤ top_ceiling node qs = top-le node ps qs
-    (λ r names. h r (or_right (same_bytes p r) (list_any (λ q. same_bytes q r) ps) names)) in
-    omega arith
+    let one : ceiling node p ≤ top_ceiling node qs = ceiling-le_top node qs p
+    (h p (rw (same_own p))) in
+    omega (
+      arith,
+      top-le node ps qs
+          (λ r names. h r (or_right (same_bytes p r) (list_any (λ q. same_bytes q r) ps) names)),
+    )
 
 -- ---- how long they are
 -- where some tasks reach each section whose ceiling reaches a level, a covered one of such a ceiling is no longer than the longest that they reach
@@ -78,15 +78,11 @@ covered-le node level X all [] s h high = absurd h
 covered-le node level X all (d ∷ ds) s h high =
     elim h [
       | inl here ↦
-          let up : top_ceiling node s.locks ≤ top_ceiling node d.locks =
-          top-le node s.locks d.locks here.locks in
+          let up = top-le node s.locks d.locks here.locks in
           let r : reaches node.tasks X d ≡ true = all d (omega arith) in
-          let l : s.len ≤ d.len = here.no_longer in
-          rw r (omega arith)
+          rw r (omega (arith, here.no_longer))
       | inr later ↦
-          let ih : s.len ≤ greatest_of (λ d. if reaches node.tasks X d then d.len else 0) ds =
-          covered-le node level X all ds s later high in
-          omega arith
+          omega (arith, covered-le node level X all ds s later high)
     ]
 
 -- ---- spans
@@ -95,7 +91,7 @@ spanned_names : (spans : List CriticalSection) (s : CriticalSection) (lock : Lis
 spanned_names [] s lock h names = absurd h
 spanned_names (x ∷ xs) s lock h names =
     elim h [
-      | inl here ↦ (let n : names_lock x lock ≡ true = here.locks lock names in rw n)
+      | inl here ↦ rw (here.locks lock names)
       | inr later ↦ or_right (names_lock x lock) (list_any (λ y. names_lock y lock) xs)
           (spanned_names xs s lock later names)
     ]
@@ -116,19 +112,15 @@ spanned-le node [] s e h inside = absurd h
 spanned-le node (x ∷ xs) s e h inside =
     elim h [
       | inl here ↦
-          let b : (nat_lt s.at e ≡ true) × (nat_lt e (s.at + s.len) ≡ true) =
-          and_parts (nat_lt s.at e) (nat_lt e (s.at + s.len)) inside in
+          let b = and_parts (nat_lt s.at e) (nat_lt e (s.at + s.len)) inside in
           let lo : s.at < e = ltb-true s.at e b.0 in
           let hi : e < s.at + s.len = ltb-true e (s.at + s.len) b.1 in
           let from : x.at ≤ s.at = here.from in
           let to : s.at + s.len ≤ x.at + x.len = here.to in
-          let in_ : is_inside x e ≡ true = and_from (nat_lt x.at e) (nat_lt e (x.at + x.len))
-          (lt-ltb x.at e (omega arith)) (lt-ltb e (x.at + x.len) (omega arith)) in
-          let up : top_ceiling node s.locks ≤ top_ceiling node x.locks =
-          top-le node s.locks x.locks here.locks in
-          rw in_ (omega arith)
-      | inr later ↦ (let ih : top_ceiling node s.locks ≤ held_ceiling node xs e =
-          spanned-le node xs s e later inside in omega arith)
+          let in_ = and_from (nat_lt x.at e) (nat_lt e (x.at + x.len)) (lt-ltb x.at e (omega arith))
+          (lt-ltb e (x.at + x.len) (omega arith)) in
+          rw in_ (omega (arith, top-le node s.locks x.locks here.locks))
+      | inr later ↦ omega (arith, spanned-le node xs s e later inside)
     ]
 
 held-le : (node : Node) (spans ss : List CriticalSection) (e : ℕ) → AreSpanned spans ss
@@ -137,8 +129,7 @@ held-le node spans [] e h = omega arith
 held-le node spans (s ∷ ss) e h =
     let ih : held_ceiling node ss e ≤ held_ceiling node spans e = held-le node spans ss e h.1 in
     elim (cases_Bool (is_inside s e)) [
-      | inl inside ↦ (let one : top_ceiling node s.locks ≤ held_ceiling node spans e =
-          spanned-le node spans s e h.0 inside in rw inside (omega arith))
+      | inl inside ↦ rw inside (omega (arith, spanned-le node spans s e h.0 inside))
       | inr out ↦ rw out (omega arith)
     ]
 
@@ -177,31 +168,16 @@ uses_of node jobs within j lock names = elim (cases_lt j (length jobs)) [
       taken_names (job_task node jobs j).sections 0 (job_at jobs j).executes w.spans lock w.taken
       (own_names w.spans (job_at jobs j).sections lock w.sections names)
   | inr past ↦
-      let none : job_at jobs j ≡ no_job = get_or_past jobs j no_job past in
-      let no_names : false ≡ true =
-      subst (λ x. list_any (λ s. names_lock s lock) x.sections ≡ true) none names in
+      let no_names = subst (λ x. list_any (λ s. names_lock s lock) x.sections ≡ true)
+      (get_or_past jobs j no_job past) names in
       absurd (true≢false (sym no_names))
 ]
 
--- ---- jobs as the laws of locks need them
-pub record AreSoundJobs (node : Node) (jobs : List Job) : Type 0 where
-  pub apart : (j : ℕ) → AreApart 0 (job_at jobs j).sections (job_at jobs j).executes
-  pub uses_own : (j : ℕ) (lock : List ℕ) → list_any (λ s. names_lock s lock)
-      (job_at jobs j).sections ≡ true → uses (job_task node jobs j) lock ≡ true
-  pub spanned : (j : ℕ) → HasSpans node jobs j
-
+-- a job past the end of the list takes none
 pub turns_apart : (jobs : List Job) → TakeTurns jobs → (j : ℕ)
     → AreApart 0 (job_at jobs j).sections (job_at jobs j).executes
 turns_apart jobs turns j = elim (cases_lt j (length jobs)) [
   | inl lt ↦ turns j lt
-  | inr past ↦ (let none : job_at jobs j ≡ no_job = get_or_past jobs j no_job past in
-      subst (λ x. AreApart 0 x.sections x.executes) (sym none) (omega arith))
+  | inr past ↦ subst (λ x. AreApart 0 x.sections x.executes) (sym (get_or_past jobs j no_job past))
+      (omega arith)
 ]
-
-pub sound_jobs : (node : Node) (jobs : List Job) → AreWithinSheets node jobs → TakeTurns jobs
-    → AreSoundJobs node jobs
-sound_jobs node jobs within turns = record {
-  apart = turns_apart jobs turns;
-  uses_own = uses_of node jobs within;
-  spanned = spans_of node jobs within;
-}

@@ -9,30 +9,27 @@ use Rattle.std.proofs.lemmas.List.{get_or_past}
 use Rattle.std.proofs.Math.Nat.{mul-le-mul_right, div-lt_iff_lt-mul}
 use Rattle.std.proofs.Math.Nat.{div-eq_of_lt-le}
 use Rattle.std.proofs.lemmas.Grind.{div_ceil_times}
-use Rattle.std.specs.Int.{div_ceil}
 use Rattle.std.specs.List.{list_any}
 use Rattle.task_sheet.specs.Sheet.{no_task, Task, CriticalSection, task_at}
 use Rattle.task_sheet.specs.Indexes.{Indexes, with_index, greatest_below}
 use Rattle.task_sheet.specs.Locks.{uses, shares_lock, reaches}
 use Rattle.task_sheet.specs.Demand.{releases_within, longest_reached, blocking_of, interference_of}
-use Rattle.task_sheet.specs.Demand.{interference_within, interrupts_within, demand_of, limit_of}
-use Rattle.task_sheet.specs.Demand.{past_jitter, Passes}
+use Rattle.task_sheet.specs.Demand.{demand_of, limit_of}
+use Rattle.task_sheet.specs.Demand.{past_jitter}
 use Rattle.task_sheet.specs.Orders.{IsPassingOrder}
 use Rattle.ceiling_kernel.specs.Tick.{Node, Job, job_at, job_task, level_in_order, level_of_job}
 use Rattle.ceiling_kernel.specs.Tick.{executed_before, picked, ceiling, top_ceiling}
-use Rattle.ceiling_kernel.specs.Behaviours.{IsWithinSheet}
 use Rattle.ceiling_kernel.specs.Waits.{IsNode, AreLegalJobs, lateness_of, NoOverrun}
 use Rattle.ceiling_kernel.specs.Bounds.{above_of, is_ready_in, ready_within, WindowsHold, PassesBy}
-use Rattle.ceiling_kernel.specs.Bounds.{response_by, ResponsesBound, BoundHolds, work_of, CoversBy}
+use Rattle.ceiling_kernel.specs.Bounds.{response_by, ResponsesBound, BoundHolds, CoversBy}
 use Rattle.ceiling_kernel.specs.Bounds.{TighterBoundHolds}
-use Rattle.ceiling_kernel.specs.Behaviours.{AreApart}
 use Rattle.ceiling_kernel.proofs.NodeLaws.{IsSoundTask, IsSound, sound, top_user, stands_above}
 use Rattle.ceiling_kernel.proofs.SumLaws.{total, total-sum, total-le, total-add, total-single}
 use Rattle.ceiling_kernel.proofs.SumLaws.{total-zero}
 use Rattle.task_sheet.proofs.Below.{some_below-at, le-greatest_below}
 use Rattle.ceiling_kernel.proofs.WindowLaws.{of_task, most_in_window, by_tasks}
 use Rattle.ceiling_kernel.proofs.BehaviourLaws.{HasSpans, spans_of, taken_apart}
-use Rattle.ceiling_kernel.proofs.SectionLaws.{rest_of, rest-le, stretch, stretch-le}
+use Rattle.ceiling_kernel.proofs.SectionLaws.{rest-le, stretch-le}
 use Rattle.ceiling_kernel.proofs.MachineLaws.{machine, is_high, rest_at}
 use Rattle.ceiling_kernel.proofs.Busy.{work, finishes, done_later}
 
@@ -44,9 +41,7 @@ most_jobs task t = ((t + lateness_of task) + task.period - 1) / task.period
 most_jobs-releases : (task : Task) (t : ℕ) → 0 < task.period
     → most_jobs task t ≡ releases_within task t
 most_jobs-releases task t some =
-    let b : (t + task.jitter ≤ div_ceil (t + task.jitter) task.period * task.period)
-    × (div_ceil (t + task.jitter) task.period * task.period < t + task.jitter + task.period) =
-    div_ceil_times (t + task.jitter) task.period some in
+    let b = div_ceil_times (t + task.jitter) task.period some in
     div-eq_of_lt-le task.period (omega (arith, b.1)) (omega (arith, b.0))
 
 -- a task of a level or above that uses one of some locks
@@ -61,8 +56,7 @@ top_of node ok level [] some h = absurd (omega arith)
 top_of node ok level (r ∷ rs) some h =
     elim (cases_lt (ceiling node r) level) [
       | inr here ↦
-          let u : (h : ℕ) × (h < length node.tasks) × (level ≤ level_in_order node h)
-          × (uses (task_at node.tasks h) r ≡ true) = top_user node ok r level some here in
+          let u = top_user node ok r level some here in
           (u.0, u.1, u.2, rw u.3)
       | inl low ↦
           let ih : IsTopOf node level rs = top_of node ok level rs some (omega arith) in (
@@ -91,56 +85,48 @@ module _ (node : Node) (jobs : List Job) (is_node : IsNode node)
       → total (of_task (λ j. (job_at jobs j).task) (λ j. (job_at jobs j).arrival) counts h)
       (length jobs) ≤ most_jobs (task_at node.tasks h) t
   most_ready counts h a t lt some in_window =
-      let v : IsSoundTask node h = valid.each h lt in
       most_in_window (λ j. (job_at jobs j).task) (λ j. (job_at jobs j).arrival) counts h
       (a - lateness_of (task_at node.tasks h)) (t + lateness_of (task_at node.tasks h))
       (task_at node.tasks h).period (length jobs)
-      v.period_from_one
+      (valid.each h lt).period_from_one
       (omega arith)
       (λ j below c e.
-      let w : (a ≤ (job_at jobs j).ready) × ((job_at jobs j).ready < a + t) = in_window j below c in
-      let l : (job_at jobs j).ready ≤ (job_at jobs j).arrival + lateness_of (job_task node jobs j) =
-      legal.not_late j below in
-      let same : lateness_of (job_task node jobs j) ≡ lateness_of (task_at node.tasks h) =
-      ap (λ x. lateness_of (task_at node.tasks x)) e in
-      omega (arith, w.0))
+      omega (
+        arith,
+        legal.not_late j below,
+        ap (λ x. lateness_of (task_at node.tasks x)) e,
+        (in_window j below c).0,
+      ))
       (λ j k jk below c ej ek.
-      let s : (job_at jobs j).arrival + (job_task node jobs k).period ≤ (job_at jobs k).arrival =
-      legal.spaced j k jk below (ej ∙ sym ek) in
-      let same : (job_task node jobs k).period ≡ (task_at node.tasks h).period =
-      ap (λ x. (task_at node.tasks x).period) ek in
-      omega arith)
+      omega (
+        arith,
+        legal.spaced j k jk below (ej ∙ sym ek),
+        ap (λ x. (task_at node.tasks x).period)
+            ek,
+      ))
       (λ j below c e.
-      let w : (a ≤ (job_at jobs j).ready) × ((job_at jobs j).ready < a + t) = in_window j below c in
-      let l : (job_at jobs j).arrival ≤ (job_at jobs j).ready = legal.not_early j below in
-      omega (arith, w.1))
+      omega (arith, legal.not_early j below, (in_window j below c).1))
 
   -- a window holds no more jobs of a task than the analysis counts
   window_holds : (h a t : ℕ) → h < length node.tasks → 0 < t
       → ready_within jobs h a t ≤ releases_within (task_at node.tasks h) t
   window_holds h a t lt some =
-      let v : IsSoundTask node h = valid.each h lt in
-      let counted : most_jobs (task_at node.tasks h) t ≡ releases_within (task_at node.tasks h) t =
-      most_jobs-releases (task_at node.tasks h) t v.period_from_one in
-      let most : total (of_task (λ j. (job_at jobs j).task) (λ j. (job_at jobs j).arrival)
-      (is_ready_in jobs a t) h) (length jobs) ≤ most_jobs (task_at node.tasks h) t =
-      most_ready (is_ready_in jobs a t) h a t lt some (λ j below c.
-      let p : (nat_le a (job_at jobs j).ready ≡ true)
-      × (nat_lt (job_at jobs j).ready (a + t) ≡ true) =
-      and_parts (nat_le a (job_at jobs j).ready) (nat_lt (job_at jobs j).ready (a + t)) c in
+      let counted = most_jobs-releases (task_at node.tasks h) t (valid.each h lt).period_from_one in
+      let most = most_ready (is_ready_in jobs a t) h a t lt some (λ j below c.
+      let p = and_parts (nat_le a (job_at jobs j).ready) (nat_lt (job_at jobs j).ready (a + t)) c in
       (leb-true a (job_at jobs j).ready p.0, ltb-true (job_at jobs j).ready (a + t) p.1)) in
-      let sum : total (of_task (λ j. (job_at jobs j).task) (λ j. (job_at jobs j).arrival)
-      (is_ready_in jobs a t) h) (length jobs) ≡ ready_within jobs h a t =
-      total-sum (of_task (λ j. (job_at jobs j).task) (λ j. (job_at jobs j).arrival)
-      (is_ready_in jobs a t) h) (length jobs) in
-      omega arith
+      omega (
+        arith,
+        total-sum (of_task (λ j. (job_at jobs j).task) (λ j. (job_at jobs j).arrival)
+            (is_ready_in jobs a t) h) (length jobs),
+      )
 
   module _ (i t : ℕ) (is : i < length node.tasks) (covers : CoversBy node i t) where
     abbrev level : ℕ
     level = level_in_order node i
 
     level_some : 0 < level
-    level_some = (let v : IsSoundTask node i = valid.each i is in v.level_from_one)
+    level_some = (valid.each i is).level_from_one
 
     -- the tasks of this level or above
     abbrev upper : Indexes
@@ -153,30 +139,29 @@ module _ (node : Node) (jobs : List Job) (is_node : IsNode node)
     upper-high : (h : ℕ) → h < length node.tasks → level ≤ level_in_order node h → upper h ≡ true
     upper-high h lt le =
         elim (cases_eq h i) [
-          | inl e ↦ (let t : eqb h i ≡ true = eq-eqb h i e in rw t)
+          | inl e ↦ rw (eq-eqb h i e)
           | inr ne ↦
-              let f : eqb h i ≡ false = ne_eqb h i ne in
               elim (cases_eq level (level_in_order node h)) [
                 | inl same ↦ absurd (ne (valid.levels_differ h i lt is (sym same)))
-                | inr differ ↦ (let t : nat_lt level (level_in_order node h) ≡ true =
-                    lt-ltb level (level_in_order node h) (omega arith) in rw (f, t))
+                | inr differ ↦ (let t = lt-ltb level (level_in_order node h) (omega arith) in rw
+                    (ne_eqb h i ne, t))
               ]
         ]
 
     upper-low : (h : ℕ) → level_in_order node h < level → upper h ≡ false
     upper-low h low =
-        let f : eqb h i ≡ false = ne_eqb h i (λ e. (let same : level_in_order node h ≡ level =
-        ap (level_in_order node) e in absurd (omega arith))) in
-        let g : nat_lt level (level_in_order node h) ≡ false =
-        le-ltb level (level_in_order node h) (omega arith) in
+        let f : eqb h i ≡ false = ne_eqb h i (λ e. (absurd
+        (omega (arith, ap (level_in_order node) e)))) in
+        let g = le-ltb level (level_in_order node h) (omega arith) in
         rw (f, g)
 
     reached : (s : CriticalSection) → level ≤ top_ceiling node s.locks
         → reaches node.tasks upper s ≡ true
     reached s le =
         let u : IsTopOf node level s.locks = top_of node is_node level s.locks level_some le in
-        (let up : upper u.0 ≡ true = upper-high u.0 u.1 u.2 in some_below-at (length node.tasks)
-        (λ k. upper k && shares_lock (task_at node.tasks k) s) u.0 u.1 (rw (up, u.3)))
+        some_below-at (length node.tasks)
+        (λ k. upper k && shares_lock (task_at node.tasks k) s) u.0 u.1
+        (rw (upper-high u.0 u.1 u.2, u.3))
 
     -- the rest of a section of a lower task is at most that
     rest_most : (j e : ℕ) → rest_at node jobs level level_some spanned j e ≤ blocking
@@ -185,42 +170,32 @@ module _ (node : Node) (jobs : List Job) (is_node : IsNode node)
         let k : ℕ = (job_at jobs j).task in
         elim (cases_lt (level_of_job node jobs j) level) [
           | inr ge ↦
-              let high : nat_le level (level_of_job node jobs j) ≡ true =
-              le-leb level (level_of_job node jobs j) ge in
-              rw high (omega arith)
+              rw (le-leb level (level_of_job node jobs j) ge) (omega arith)
           | inl low ↦
-              let not_high : nat_le level (level_of_job node jobs j) ≡ false =
-              lt-leb level (level_of_job node jobs j) low in
+              let not_high = lt-leb level (level_of_job node jobs j) low in
               let o : HasSpans node jobs j = spanned j in
-              let a : rest_of node level o.spans e
-              ≤ longest_reached node.tasks upper (job_task node jobs j) - 1 =
-              rest-le node level upper reached (job_task node jobs j).sections 0
+              let a = rest-le node level upper reached (job_task node jobs j).sections 0
               (job_at jobs j).executes o.spans e o.taken in
-              let apart : AreApart 0 o.spans (job_at jobs j).executes = taken_apart
-              (job_task node jobs j).sections 0 (job_at jobs j).executes o.spans o.taken in
-              let s : stretch node level (job_at jobs j).sections ((job_at jobs j).executes - e) e
-              ≤ rest_of node level o.spans e =
-              stretch-le node level level_some 0 (job_at jobs j).executes (job_at jobs j).sections
-              o.spans apart o.above ((job_at jobs j).executes - e) e in
+              let apart = taken_apart (job_task node jobs j).sections 0 (job_at jobs j).executes
+              o.spans o.taken in
+              let s = stretch-le node level level_some 0 (job_at jobs j).executes
+              (job_at jobs j).sections o.spans apart o.above ((job_at jobs j).executes - e) e in
               elim (cases_lt k (length node.tasks)) [
                 | inl lt ↦
-                    let out : upper k ≡ false = upper-low k low in
-                    let b : (if upper k then 0 else longest_reached node.tasks upper
-                    (task_at node.tasks k)) ≤ greatest_below (length node.tasks) (λ k. if upper
-                    k then 0 else longest_reached node.tasks upper (task_at node.tasks k)) =
-                    le-greatest_below (length node.tasks) (λ k. if upper k then 0
-                    else longest_reached node.tasks upper (task_at node.tasks k)) k lt in
+                    let b = le-greatest_below (length node.tasks)
+                    (λ k. if upper k then 0 else longest_reached node.tasks upper
+                    (task_at node.tasks k)) k lt in
                     let b' : longest_reached node.tasks upper (task_at node.tasks k)
                     ≤ greatest_below (length node.tasks) (λ k. if upper k then 0
                     else longest_reached node.tasks upper (task_at node.tasks k)) =
-                    rw out at b in
+                    rw (upper-low k low) at b in
                     rw not_high (omega arith)
                 | inr past ↦
-                    let none : task_at node.tasks k ≡ no_task =
-                    get_or_past node.tasks k no_task past in
-                    let z : longest_reached node.tasks upper (job_task node jobs j) ≡ 0 =
-                    ap (longest_reached node.tasks upper) none in
-                    rw not_high (omega arith)
+                    rw not_high (omega (
+                      arith,
+                      ap (longest_reached node.tasks upper)
+                          (get_or_past node.tasks k no_task past),
+                    ))
               ]
         ]
 
@@ -241,12 +216,9 @@ module _ (node : Node) (jobs : List Job) (is_node : IsNode node)
     counts_parts : (a j : ℕ) → counts a j ≡ true → (level ≤ level_of_job node jobs j)
         × (a ≤ ready_of j) × (ready_of j < a + t)
     counts_parts a j h =
-        let p : (nat_le level (level_of_job node jobs j) ≡ true)
-        × ((nat_le a (ready_of j) && nat_lt (ready_of j) (a + t)) ≡ true) =
-        and_parts (nat_le level (level_of_job node jobs j))
+        let p = and_parts (nat_le level (level_of_job node jobs j))
         (nat_le a (ready_of j) && nat_lt (ready_of j) (a + t)) h in
-        let q : (nat_le a (ready_of j) ≡ true) × (nat_lt (ready_of j) (a + t) ≡ true) =
-        and_parts (nat_le a (ready_of j)) (nat_lt (ready_of j) (a + t)) p.1 in (
+        let q = and_parts (nat_le a (ready_of j)) (nat_lt (ready_of j) (a + t)) p.1 in (
           leb-true level (level_of_job node jobs j) p.0,
           leb-true a (ready_of j) q.0,
           ltb-true
@@ -260,8 +232,7 @@ module _ (node : Node) (jobs : List Job) (is_node : IsNode node)
 
     number-le : (a h : ℕ) → h < length node.tasks → number a h ≤ most_jobs (task_at node.tasks h) t
     number-le a h lt = most_ready (counts a) h a t lt covers.from_one
-        (λ j below c. let p : (level ≤ level_of_job node jobs j) × (a ≤ ready_of j)
-        × (ready_of j < a + t) = counts_parts a j c in (p.1, p.2))
+        (λ j below c. let p = counts_parts a j c in (p.1, p.2))
 
     number-zero : (a h : ℕ) → level_in_order node h < level → number a h ≡ 0
     number-zero a h low =
@@ -270,14 +241,13 @@ module _ (node : Node) (jobs : List Job) (is_node : IsNode node)
         elim (cases_Bool (counts a j && ((job_at jobs j).task == h))) [
           | inr out ↦ rw out
           | inl both ↦
-              let p : (counts a j ≡ true) × (((job_at jobs j).task == h) ≡ true) =
-              and_parts (counts a j) ((job_at jobs j).task == h) both in
-              let e : (job_at jobs j).task ≡ h = eqb-true (job_at jobs j).task h p.1 in
-              let c : (level ≤ level_of_job node jobs j) × (a ≤ ready_of j) × (ready_of j < a + t) =
-              counts_parts a j p.0 in
-              let same : level_of_job node jobs j ≡ level_in_order node h =
-              ap (λ x. level_in_order node x) e in
-              absurd (omega arith)
+              let p = and_parts (counts a j) ((job_at jobs j).task == h) both in
+              absurd (omega (
+                arith,
+                counts_parts a j p.0,
+                ap (λ x. level_in_order node x)
+                    (eqb-true (job_at jobs j).task h p.1),
+              ))
         ])
 
     -- one term of the bound
@@ -307,13 +277,9 @@ module _ (node : Node) (jobs : List Job) (is_node : IsNode node)
                     let within : (task_at node.tasks h).deadline ≤ (task_at node.tasks h).period =
                     v.deadline_within in
                     let two : most_jobs (task_at node.tasks h) t < 2 =
-                    (div-lt_iff_lt-mul v.period_from_one).1 (let some : 0
-                    < (task_at node.tasks h).period = v.period_from_one in omega arith) in
+                    (div-lt_iff_lt-mul v.period_from_one).1 (omega (arith, v.period_from_one)) in
                     let one : number a h ≤ 1 = omega arith in
-                    let product : number a h * (task_at node.tasks h).cost
-                    ≤ 1 * (task_at node.tasks h).cost =
-                    mul-le-mul_right (task_at node.tasks h).cost one in
-                    rw own (omega arith)
+                    rw own (omega (arith, mul-le-mul_right (task_at node.tasks h).cost one))
                 | inr ne ↦
                     elim (cases_eq (level_in_order node i) (level_in_order node h)) [
                       | inl same ↦ absurd (ne (valid.levels_differ i h is lt same))
@@ -326,10 +292,11 @@ module _ (node : Node) (jobs : List Job) (is_node : IsNode node)
                           most_jobs-releases (task_at node.tasks h) t v.period_from_one in
                           let most' : number a h ≤ releases_within (task_at node.tasks h) t =
                           rw counted at most in
-                          let product : number a h * (task_at node.tasks h).cost ≤ releases_within
-                          (task_at node.tasks h) t * (task_at node.tasks h).cost =
-                          mul-le-mul_right (task_at node.tasks h).cost most' in
-                          rw above (omega arith)
+                          rw above (omega (
+                            arith,
+                            mul-le-mul_right (task_at node.tasks h).cost
+                                most',
+                          ))
                     ]
               ]
         ]
@@ -349,8 +316,7 @@ module _ (node : Node) (jobs : List Job) (is_node : IsNode node)
     -- a job executes at most its task's cost
     work-le : (a j : ℕ) → j < length jobs → window_work a j ≤ cond (counts a j) (cost_of j) 0
     work-le a j lt =
-        let w : IsWithinSheet (job_task node jobs j) (job_at jobs j) = legal.within j lt in
-        let most : executes_of j ≤ cost_of j = w.executes in
+        let most : executes_of j ≤ cost_of j = (legal.within j lt).executes in
         let is : window_work a j ≡ cond (counts a j) (executes_of j) 0 = work-counts a j in
         elim (cases_Bool (counts a j)) [
           | inl c ↦ (let e : window_work a j ≡ executes_of j = rw c at is in rw c (omega arith))
@@ -359,28 +325,23 @@ module _ (node : Node) (jobs : List Job) (is_node : IsNode node)
 
     fits : (a : ℕ) → total (window_work a) (length jobs) + blocking ≤ t
     fits a =
-        let same : total (window_work a) (length jobs)
-        ≤ total (λ j. if counts a j then cost_of j else 0) (length jobs) =
-        total-le (window_work a) (λ j. if counts a j then cost_of j else 0) (length jobs)
+        let same = total-le (window_work a) (λ j. if counts a j then cost_of j else 0) (length jobs)
         (λ j lt. work-le a j lt) in
-        let tasks_first : total (λ j. if counts a j then cost_of j else 0) (length jobs)
-        ≡ total (λ h. number a h * (task_at node.tasks h).cost) (length node.tasks) =
-        by_tasks (λ j. (job_at jobs j).task) (λ j. (job_at jobs j).arrival) (counts a)
-        (λ h. (task_at node.tasks h).cost) (length node.tasks) (length jobs)
+        let tasks_first = by_tasks (λ j. (job_at jobs j).task) (λ j. (job_at jobs j).arrival)
+        (counts a) (λ h. (task_at node.tasks h).cost) (length node.tasks) (length jobs)
         (λ j lt c. legal.known j lt) in
-        let each : total (λ h. number a h * (task_at node.tasks h).cost) (length node.tasks)
-        ≤ total (λ h. own_term h + higher_term h) (length node.tasks) =
-        total-le (λ h. number a h * (task_at node.tasks h).cost) (λ h. own_term h + higher_term h)
-        (length node.tasks) (λ h lt. term-le_bound a h lt) in
-        let split : total (λ h. own_term h + higher_term h) (length node.tasks)
-        ≡ total own_term (length node.tasks) + total higher_term (length node.tasks) =
-        total-add own_term higher_term (length node.tasks) in
-        let own : total own_term (length node.tasks) ≡ (task_at node.tasks i).cost =
-        total-single (λ h. (task_at node.tasks h).cost) (length node.tasks) i is in
-        let enough : work_of node i blocking t ≤ t = covers.enough in
-        let sum : total higher_term (length node.tasks) ≡ interference_within node.tasks
-        (above_of node i) t = total-sum higher_term (length node.tasks) in
-        omega arith
+        omega (
+          arith,
+          total-le (λ h. number a h * (task_at node.tasks h).cost)
+              (λ h. own_term h + higher_term h)
+              (length node.tasks) (λ h lt. term-le_bound a h lt),
+          total-add own_term higher_term
+              (length node.tasks),
+          total-single (λ h. (task_at node.tasks h).cost) (length node.tasks) i
+              is,
+          covers.enough,
+          total-sum higher_term (length node.tasks),
+        )
 
     -- THE BOUND: a job of the task finishes within t ticks after it is ready
     pub within_bound : (j : ℕ) → j < length jobs → (job_at jobs j).task ≡ i
@@ -429,13 +390,9 @@ pub tighter_response : (node : Node) (jobs : List Job) → IsNode node → AreLe
     → (job_at jobs j).executes ≤ executed_before node jobs
     ((job_at jobs j).arrival + response_by (job_task node jobs j) t) j
 tighter_response node jobs valid legal j t lt covers =
-    let fin : (job_at jobs j).executes ≤ executed_before node jobs ((job_at jobs j).ready + t) j =
-    tighter_law node jobs valid legal j t lt covers in
-    let by : (job_at jobs j).ready ≤ (job_at jobs j).arrival + lateness_of (job_task node jobs j) =
-    legal.not_late j lt in
-    let later : executed_before node jobs ((job_at jobs j).ready + t) j ≤ executed_before node jobs
-    ((job_at jobs j).arrival + response_by (job_task node jobs j) t) j =
-    executed_later node jobs valid legal ((job_at jobs j).ready + t)
+    let fin = tighter_law node jobs valid legal j t lt covers in
+    let by = legal.not_late j lt in
+    let later = executed_later node jobs valid legal ((job_at jobs j).ready + t)
     ((job_at jobs j).arrival + response_by (job_task node jobs j) t) j (omega arith) in
     omega arith
 
@@ -443,9 +400,7 @@ tighter_response node jobs valid legal j t lt covers =
 pub covers_from : (node : Node) (i t : ℕ) → PassesBy node i t → CoversBy node i t
 unfolding demand_of
 covers_from node i t passes =
-    let enough : (task_at node.tasks i).cost + blocking_of node.tasks i
-    (above_of node i) + interference_within node.tasks (above_of node i) t + interrupts_within
-    node.tasks t ≤ t = passes.enough in
+    let enough = passes.enough in
     record { from_one = passes.from_one; in_time = passes.in_time; enough = omega arith }
 
 pub bound_law : (node : Node) (jobs : List Job) → IsNode node → AreLegalJobs node jobs
@@ -463,33 +418,22 @@ no_overrun_if node jobs valid legal pass k lt over =
     let is : i < length node.tasks = legal.known j below in
     let p : (t : ℕ) × PassesBy node i t = pass i is in
     let in_time : p.0 ≤ limit_of (task_at node.tasks i) = p.1.in_time in
-    let v : IsSoundTask node i = (let s : IsSound node = sound node valid in s.each i is) in
-    let room : limit_of (task_at node.tasks i) + lateness_of (task_at node.tasks i)
-    ≤ (task_at node.tasks i).deadline = v.late_within in
-    let within : (task_at node.tasks i).deadline ≤ (task_at node.tasks i).period =
-    v.deadline_within in
-    let gap : (job_at jobs j).arrival + (job_task node jobs k).period ≤ (job_at jobs k).arrival =
-    legal.spaced j k over.1 lt over.2 in
-    let same : (job_task node jobs k).period ≡ (task_at node.tasks i).period =
-    ap (λ x. (task_at node.tasks x).period) (sym over.2) in
+    let v : IsSoundTask node i = (sound node valid).each i is in
+    let room = v.late_within in
+    let within = v.deadline_within in
+    let gap = legal.spaced j k over.1 lt over.2 in
+    let same = ap (λ x. (task_at node.tasks x).period) (sym over.2) in
     let early : (job_at jobs k).arrival ≤ (job_at jobs k).ready = legal.not_early k lt in
-    let fin : (job_at jobs j).executes ≤ executed_before node jobs
-    ((job_at jobs j).arrival + response_by (task_at node.tasks i) p.0) j =
-    bound_law node jobs valid legal j p.0 below p.1 in
-    let later : executed_before node jobs ((job_at jobs j).arrival + response_by
-    (task_at node.tasks i) p.0) j ≤ executed_before node jobs (job_at jobs k).ready j =
-    executed_later node jobs valid legal ((job_at jobs j).arrival + response_by
+    let fin = bound_law node jobs valid legal j p.0 below p.1 in
+    let later = executed_later node jobs valid legal ((job_at jobs j).arrival + response_by
     (task_at node.tasks i) p.0) (job_at jobs k).ready j (omega arith) in
-    let open_ : executed_before node jobs (job_at jobs k).ready j < (job_at jobs j).executes =
-    over.3 in
-    omega arith
+    omega (arith, over.3)
 
 -- in a passing order each task passes by some time
 passes_in : (node : Node) → IsNode node → IsPassingOrder node.tasks node.order → (i : ℕ)
     → i < length node.tasks → (t : ℕ) × PassesBy node i t
 passes_in node valid order i lt =
-    let p : Passes node.tasks i (above_of node i) =
-    (stands_above node valid order.each_stands i lt).0 in
+    let p = (stands_above node valid order.each_stands i lt).0 in
     (p.0, record { from_one = omega (arith, p.1); in_time = p.2; enough = p.3 })
 
 pub no_overrun_law : (node : Node) (jobs : List Job) → IsNode node → AreLegalJobs node jobs

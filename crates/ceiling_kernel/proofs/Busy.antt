@@ -49,15 +49,12 @@ module _ (n : ℕ) (ready cost : ℕ → ℕ) (high : ℕ → Bool) (rest : ℕ 
   pub done_mono : (t k j : ℕ) → done t j ≤ done (t + k) j
   done_mono t zero j = rw add-zero (omega arith)
   done_mono t (suc k) j =
-      let before : done t j ≤ done (t + k) j = done_mono t k j in
-      let step : done (t + k) j ≤ done (suc (t + k)) j = done_grows (t + k) j in
-      rw add-suc (omega arith)
+      rw add-suc (omega (arith, done_mono t k j, done_grows (t + k) j))
 
   pub done_later : (t u j : ℕ) → t ≤ u → done t j ≤ done u j
   done_later t u j le =
-      let grown : done t j ≤ done (t + (u - t)) j = done_mono t (u - t) j in
       let at_u : t + (u - t) ≡ u = omega arith in
-      subst (λ x. done t j ≤ done x j) at_u grown
+      subst (λ x. done t j ≤ done x j) at_u (done_mono t (u - t) j)
 
   -- a job that has executed is one of the n, and was ready
   pub began : (t j : ℕ) → 0 < done t j → (j < n) × (ready j ≤ t)
@@ -67,18 +64,15 @@ module _ (n : ℕ) (ready cost : ℕ → ℕ) (high : ℕ → Bool) (rest : ℕ 
         | inl e ↦ let before : (j < n) × (ready j ≤ t) = began t j (omega arith) in
             (before.0, omega arith)
         | inr m ↦
-            let there : j < n = machine.picked_exists t j m.0 in
             let was : ready j ≤ t = machine.picked_ready t j m.0 in
-            (there, omega arith)
+            (machine.picked_exists t j m.0, omega arith)
       ]
 
   rest_began : (t j : ℕ) → 0 < rest j (done t j) → (j < n) × (ready j ≤ t)
   rest_began t j h =
       began t j (elim (cases_eq (done t j) 0) [
         | inl z ↦
-            let first : rest j 0 ≡ 0 = machine.rest_first j in
-            let same : rest j (done t j) ≡ rest j 0 = ap (rest j) z in
-            absurd (omega arith)
+            absurd (omega (arith, machine.rest_first j, ap (rest j) z))
         | inr nz ↦ omega arith
       ])
 
@@ -87,8 +81,7 @@ module _ (n : ℕ) (ready cost : ℕ → ℕ) (high : ℕ → Bool) (rest : ℕ 
       ⊎ ((run t ≡ Some j) × (rest j (done t j) ≡ 0))
   rest_cases t j h =
       elim (tick_cases t j) [
-        | inl e ↦ inl (let same : rest j (done (suc t) j) ≡ rest j (done t j) = ap (rest j) e in
-            omega arith)
+        | inl e ↦ inl (omega (arith, ap (rest j) e))
         | inr m ↦ elim (cases_eq (rest j (done t j)) 0) [
           | inl z ↦ inr (m.0, z)
           | inr nz ↦ inl (omega arith)
@@ -102,16 +95,14 @@ module _ (n : ℕ) (ready cost : ℕ → ℕ) (high : ℕ → Bool) (rest : ℕ 
       let b : (k < n) × (ready k ≤ t) = rest_began t k inside in
       elim (machine.hot_first t j k mine b.0 b.1 (machine.rest_inside k (done t k) inside)
       (inr inside)) [
-        | inl is_high ↦ let none : rest j (done (suc t) j) ≡ 0 =
-            machine.rest_low j (done (suc t) j) is_high in omega arith
+        | inl is_high ↦ omega (arith, machine.rest_low j (done (suc t) j) is_high)
         | inr hot ↦ omega arith
       ]
 
   -- at most one low job is inside a reaching section
   pub one_inside : (t j k : ℕ) → 0 < rest j (done t j) → 0 < rest k (done t k) → j ≡ k
   one_inside zero j k hj hk =
-      let z : done 0 j ≡ 0 = machine.at_start j in
-      let same : rest j (done 0 j) ≡ rest j 0 = ap (rest j) z in
+      let same : rest j (done 0 j) ≡ rest j 0 = ap (rest j) (machine.at_start j) in
       let first : rest j 0 ≡ 0 = machine.rest_first j in
       absurd (omega arith)
   one_inside (suc t) j k hj hk =
@@ -142,22 +133,19 @@ module _ (n : ℕ) (ready cost : ℕ → ℕ) (high : ℕ → Bool) (rest : ℕ 
         | inr found ↦ inr (found.0, omega arith, found.2, found.3, found.4)
         | inl none ↦ elim (cases_lt (ready m) a) [
           | inr late ↦ inl (λ j lt h r. elim (cases_eq j m) [
-            | inl e ↦ let same : ready j ≡ ready m = ap ready e in absurd (omega arith)
+            | inl e ↦ absurd (omega (arith, ap ready e))
             | inr ne ↦ none j (omega arith) h r
           ])
           | inl early ↦ elim (cases_lt (done a m) (cost m)) [
             | inr finished ↦ inl (λ j lt h r. elim (cases_eq j m) [
               | inl e ↦
-                  let c : cost j ≡ cost m = ap cost e in
-                  let d : done a j ≡ done a m = ap (done a) e in
-                  omega arith
+                  omega (arith, ap cost e, ap (done a) e)
               | inr ne ↦ none j (omega arith) h r
             ])
             | inl open_ ↦ elim (cases_Bool (high m)) [
               | inl is_high ↦ inr (m, omega arith, is_high, early, open_)
               | inr is_low ↦ inl (λ j lt h r. elim (cases_eq j m) [
-                | inl e ↦ let same : high j ≡ high m = ap high e in
-                    absurd (true≢false (sym h ∙ (same ∙ is_low)))
+                | inl e ↦ absurd (true≢false (sym h ∙ ((ap high e) ∙ is_low)))
                 | inr ne ↦ none j (omega arith) h r
               ])
             ]
@@ -176,9 +164,7 @@ module _ (n : ℕ) (ready cost : ℕ → ℕ) (high : ℕ → Bool) (rest : ℕ 
   to_do-high : (a b u j : ℕ) → high j ≡ true → a ≤ ready j → ready j < b
       → to_do a b u j ≡ cost j - done u j
   to_do-high a b u j h lo hi =
-      let x : nat_le a (ready j) ≡ true = le-leb a (ready j) lo in
-      let y : nat_lt (ready j) b ≡ true = lt-ltb (ready j) b hi in
-      rw (h, x, y)
+      rw (h, le-leb a (ready j) lo, lt-ltb (ready j) b hi)
 
   to_do-low : (a b u j : ℕ) → high j ≡ false → to_do a b u j ≡ rest j (done u j)
   to_do-low a b u j h = rw h
@@ -192,12 +178,10 @@ module _ (n : ℕ) (ready cost : ℕ → ℕ) (high : ℕ → Bool) (rest : ℕ 
   step_falls a b u quiet lo hi left =
       let k : ℕ = left.0 in
       let open_ : done u k < cost k =
-      (let g : done u k ≤ done (suc u) k = done_grows u k in omega arith) in
+      omega (arith, done_grows u k) in
       let w : (p : ℕ) × (run u ≡ Some p) = machine.works u k left.1 (omega arith) open_ in
       let p : ℕ = w.0 in
-      let hot : (high p ≡ true) ⊎ (0 < rest p (done u p)) =
-      machine.hot_first u p k w.1 left.1 (omega arith) open_ (inl left.2) in
-      let one : done (suc u) p ≡ suc (done u p) = machine.of_picked u p w.1 in
+      let hot = machine.hot_first u p k w.1 left.1 (omega arith) open_ (inl left.2) in
       let unfinished : done u p < cost p = machine.picked_unfinished u p w.1 in
       let was_ready : ready p ≤ u = machine.picked_ready u p w.1 in
       let less : to_do a b (suc u) p < to_do a b u p =
@@ -205,18 +189,17 @@ module _ (n : ℕ) (ready cost : ℕ → ℕ) (high : ℕ → Bool) (rest : ℕ 
         | inl is_high ↦
             let from_a : a ≤ ready p = elim (cases_lt (ready p) a) [
               | inl early ↦
-                  let fin : cost p ≤ done a p =
-                  quiet p (machine.picked_exists u p w.1) is_high early in
-                  let grown : done a p ≤ done (a + (u - a)) p = done_mono a (u - a) p in
+                  let fin = quiet p (machine.picked_exists u p w.1) is_high early in
                   let at_u : a + (u - a) ≡ u = omega arith in
-                  let grown_u : done a p ≤ done u p = subst (λ x. done a p ≤ done x p) at_u grown in
-                  absurd (omega arith)
+                  absurd (omega (
+                    arith,
+                    subst (λ x. done a p ≤ done x p) at_u
+                        (done_mono a (u - a) p),
+                  ))
               | inr late ↦ late
             ] in
-            let x : to_do a b u p ≡ cost p - done u p =
-            to_do-high a b u p is_high from_a (omega arith) in
-            let y : to_do a b (suc u) p ≡ cost p - done (suc u) p =
-            to_do-high a b (suc u) p is_high from_a (omega arith) in
+            let x = to_do-high a b u p is_high from_a (omega arith) in
+            let y = to_do-high a b (suc u) p is_high from_a (omega arith) in
             omega (arith, x, y)
         | inr is_low ↦
             let inside : 0 < rest p (done u p) =
@@ -224,24 +207,21 @@ module _ (n : ℕ) (ready cost : ℕ → ℕ) (high : ℕ → Bool) (rest : ℕ 
               | inl is_high ↦ absurd (true≢false (sym is_high ∙ is_low))
               | inr inside ↦ inside
             ] in
-            let next : rest p (done u p) ≡ suc (rest p (suc (done u p))) =
-            machine.rest_next p (done u p) inside in
-            let same : rest p (done (suc u) p) ≡ rest p (suc (done u p)) = ap (rest p) one in
-            let x : to_do a b u p ≡ rest p (done u p) = to_do-low a b u p is_low in
-            let y : to_do a b (suc u) p ≡ rest p (done (suc u) p) =
-            to_do-low a b (suc u) p is_low in
-            omega arith
+            omega (
+              arith,
+              machine.rest_next p (done u p) inside,
+              ap (rest p)
+                  (machine.of_picked u p w.1),
+              to_do-low a b u p is_low,
+              to_do-low a b (suc u) p is_low,
+            )
       ] in
       total-lt (to_do a b (suc u)) (to_do a b u) n p (machine.picked_exists u p w.1) less
       (λ j lt. elim (cases_eq j p) [
         | inl e ↦
-            let there : to_do a b (suc u) j ≡ to_do a b (suc u) p = ap (to_do a b (suc u)) e in
-            let here : to_do a b u j ≡ to_do a b u p = ap (to_do a b u) e in
-            omega arith
+            omega (arith, ap (to_do a b (suc u)) e, ap (to_do a b u) e)
         | inr ne ↦
-            let same : to_do a b (suc u) j ≡ to_do a b u j =
-            to_do_falls a b u j (machine.of_other u p j w.1 ne) in
-            omega arith
+            omega (arith, to_do_falls a b u j (machine.of_other u p j w.1 ne))
       ])
 
   -- a high job that is left from before a later tick became ready in the window
@@ -249,10 +229,7 @@ module _ (n : ℕ) (ready cost : ℕ → ℕ) (high : ℕ → Bool) (rest : ℕ 
   left_in_window a m quiet left =
       elim (cases_lt (ready left.0) a) [
         | inl early ↦
-            let fin : cost left.0 ≤ done a left.0 = quiet left.0 left.1 left.2 early in
-            let grown : done a left.0 ≤ done (a + m) left.0 = done_mono a m left.0 in
-            let lacks : done (a + m) left.0 < cost left.0 = left.4 in
-            absurd (omega arith)
+            absurd (omega (arith, quiet left.0 left.1 left.2 early, done_mono a m left.0, left.4))
         | inr late ↦ late
       ]
 
@@ -268,8 +245,7 @@ module _ (n : ℕ) (ready cost : ℕ → ℕ) (high : ℕ → Bool) (rest : ℕ 
             elim (quiet_or_left (suc (a + m))) [
               | inl q ↦ inl (suc (a + m), omega arith, omega arith, q)
               | inr left ↦
-                  let falls : total (to_do a b (suc (a + m))) n < total (to_do a b (a + m)) n =
-                  step_falls a b (a + m) quiet (omega arith) (omega arith) left in
+                  let falls = step_falls a b (a + m) quiet (omega arith) (omega arith) left in
                   inr (simp add-suc (omega arith))
             ]
       ]
@@ -293,16 +269,16 @@ module _ (n : ℕ) (ready cost : ℕ → ℕ) (high : ℕ → Bool) (rest : ℕ 
       (fits : (a : ℕ) → total (work a (a + w)) n + blocked ≤ w) where
     work_at_start : (a : ℕ) → total (to_do a (a + w) a) n ≤ w
     work_at_start a =
-        let each : total (to_do a (a + w) a) n
-        ≤ total (λ j. work a (a + w) j + rest j (done a j)) n = total-le (to_do a (a + w) a)
-        (λ j. work a (a + w) j + rest j (done a j)) n (λ j lt. to_do-le a (a + w) j) in
-        let parts : total (λ j. work a (a + w) j + rest j (done a j)) n
-        ≡ total (work a (a + w)) n + total (λ j. rest j (done a j)) n =
-        total-add (work a (a + w)) (λ j. rest j (done a j)) n in
-        let low : total (λ j. rest j (done a j)) n ≤ blocked = total-one (λ j. rest j (done a j)) n
-        blocked (λ j lt. rest_most j (done a j)) (one_inside a) in
-        let room : total (work a (a + w)) n + blocked ≤ w = fits a in
-        omega arith
+        omega (
+          arith,
+          total-le (to_do a (a + w) a)
+              (λ j. work a (a + w) j + rest j (done a j)) n (λ j lt. to_do-le a (a + w) j),
+          total-add
+              (work a (a + w)) (λ j. rest j (done a j)) n,
+          total-one (λ j. rest j (done a j)) n
+              blocked (λ j lt. rest_most j (done a j)) (one_inside a),
+          fits a,
+        )
 
     -- after a quiet tick another one comes within w ticks
     next_quiet : (a : ℕ) → IsQuiet a → (q : ℕ) × (a < q) × (q ≤ a + w) × IsQuiet q
@@ -312,14 +288,15 @@ module _ (n : ℕ) (ready cost : ℕ → ℕ) (high : ℕ → Bool) (rest : ℕ 
           | inr busy ↦ elim (quiet_or_left (a + w)) [
             | inl q ↦ (a + w, omega arith, omega arith, q)
             | inr left ↦
-                let from_a : a ≤ ready left.0 = left_in_window a w quiet left in
-                let lacks : done (a + w) left.0 < cost left.0 = left.4 in
-                let mine : to_do a (a + w) (a + w) left.0 ≡ cost left.0 - done (a + w) left.0 =
-                to_do-high a (a + w) (a + w) left.0 left.2 from_a left.3 in
-                let term : to_do a (a + w) (a + w) left.0 ≤ total (to_do a (a + w) (a + w)) n =
-                term-le (to_do a (a + w) (a + w)) n left.0 left.1 in
-                let start : total (to_do a (a + w) a) n ≤ w = work_at_start a in
-                absurd (omega arith)
+                absurd (omega (
+                  arith,
+                  left.4,
+                  to_do-high a (a + w) (a + w) left.0 left.2
+                      (left_in_window a w quiet left) left.3,
+                  term-le (to_do a (a + w) (a + w)) n left.0
+                      left.1,
+                  work_at_start a,
+                ))
           ]
         ]
 
@@ -335,8 +312,7 @@ module _ (n : ℕ) (ready cost : ℕ → ℕ) (high : ℕ → Bool) (rest : ℕ 
         elim (cases_lt (ready j) next.0) [
           | inl past ↦
               let fin : cost j ≤ done next.0 j = next.3 j lt h past in
-              let later : done next.0 j ≤ done (ready j + w) j =
-              done_later next.0 (ready j + w) j (omega (arith, next.2)) in
+              let later = done_later next.0 (ready j + w) j (omega (arith, next.2)) in
               omega arith
           | inr again ↦ finishes_from fuel next.0 j (omega (arith, next.1)) again next.3 lt h
         ]

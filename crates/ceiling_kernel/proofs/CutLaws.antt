@@ -9,7 +9,10 @@ use Rattle.ceiling_kernel.specs.Behaviours.{AreCut, AreKnown}
 use Rattle.ceiling_kernel.specs.Tick.{Node, Job, job_at, job_task, is_inside, held_ceiling}
 use Rattle.ceiling_kernel.specs.Jumps.{change_after}
 use Rattle.ceiling_kernel.specs.Waits.{IsNode}
-use Rattle.ceiling_kernel.proofs.NodeLaws.{IsSoundTask, IsSound, sound}
+use Rattle.ceiling_kernel.specs.declared.trace.Release.{Release}
+use Rattle.ceiling_kernel.specs.Releases.{task_number, runs_of, jobs_of, release_at}
+use Rattle.ceiling_kernel.proofs.ReleaseLaws.{job_is, jobs_length}
+use Rattle.ceiling_kernel.proofs.NodeLaws.{IsSound, sound}
 use Rattle.ceiling_kernel.proofs.BehaviourLaws.{taken_apart}
 use Rattle.ceiling_kernel.proofs.SectionLaws.{outside_before}
 
@@ -31,15 +34,11 @@ inside-cut : (x : ℕ) (s : CriticalSection) (e : ℕ) → e < x → s.at < x
 inside-cut x s e lt begins =
     elim (cases_lt e (s.at + s.len)) [
       | inl before ↦
-          let a : nat_lt e (s.at + s.len) ≡ true = lt-ltb e (s.at + s.len) before in
-          let b : nat_lt e (s.at + min s.len (x - s.at)) ≡ true =
-          lt-ltb e (s.at + min s.len (x - s.at)) (omega arith) in
-          rw (a, b)
+          let b = lt-ltb e (s.at + min s.len (x - s.at)) (omega arith) in
+          rw (lt-ltb e (s.at + s.len) before, b)
       | inr after ↦
-          let a : nat_lt e (s.at + s.len) ≡ false = le-ltb e (s.at + s.len) after in
-          let b : nat_lt e (s.at + min s.len (x - s.at)) ≡ false =
-          le-ltb e (s.at + min s.len (x - s.at)) (omega arith) in
-          rw (a, b)
+          let b = le-ltb e (s.at + min s.len (x - s.at)) (omega arith) in
+          rw (le-ltb e (s.at + s.len) after, b)
     ]
 
 pub held-cut : (node : Node) (x : ℕ) (ss : List CriticalSection) (e : ℕ) → e < x
@@ -49,13 +48,10 @@ held-cut node x (s ∷ ss) e lt =
     let ih : held_ceiling node (cut_at x ss) e ≡ held_ceiling node ss e = held-cut node x ss e lt in
     elim (cases_lt s.at x) [
       | inl begins ↦
-          let t : nat_lt s.at x ≡ true = lt-ltb s.at x begins in
-          let same : is_inside (cut x s) e ≡ is_inside s e = inside-cut x s e lt begins in
-          rw (t, same, ih)
+          rw (lt-ltb s.at x begins, inside-cut x s e lt begins, ih)
       | inr gone ↦
-          let f : nat_lt s.at x ≡ false = le-ltb s.at x gone in
           let out : is_inside s e ≡ false = outside_before s e (omega arith) in
-          rw (f, out, ih) (omega arith)
+          rw (le-ltb s.at x gone, out, ih) (omega arith)
     ]
 
 -- ---- the next boundary
@@ -66,9 +62,8 @@ change-cut x from cost [] e m apart lt near short = short
 change-cut x from cost (s ∷ ss) e m apart lt near short =
     elim (cases_lt s.at x) [
       | inr gone ↦
-          let f : nat_lt s.at x ≡ false = le-ltb s.at x gone in
           let none : cut_at x ss ≡ [] = cut-none x (s.at + s.len) cost ss apart.2 (omega arith) in
-          rw (f, none) short
+          rw (le-ltb s.at x gone, none) short
       | inl begins ↦
           let t : nat_lt s.at x ≡ true = lt-ltb s.at x begins in
           elim (cases_lt s.at e) [
@@ -80,16 +75,14 @@ change-cut x from cost (s ∷ ss) e m apart lt near short =
                 let a : nat_le e s.at ≡ false = lt-leb e s.at past in
                 elim (cases_lt e (s.at + s.len)) [
                   | inl within ↦
-                      let b : nat_lt e (s.at + s.len) ≡ true = lt-ltb e (s.at + s.len) within in
-                      let c : nat_lt e (s.at + min s.len (x - s.at)) ≡ true =
-                      lt-ltb e (s.at + min s.len (x - s.at)) (omega arith) in
-                      let near' : m ≤ s.at + s.len = rw (a, b) at near in
+                      let c = lt-ltb e (s.at + min s.len (x - s.at)) (omega arith) in
+                      let near' : m ≤ s.at + s.len = rw (a, lt-ltb e (s.at + s.len) within) at
+                      near in
                       rw (t, a, c) (omega arith)
                   | inr after ↦
-                      let b : nat_lt e (s.at + s.len) ≡ false = le-ltb e (s.at + s.len) after in
-                      let c : nat_lt e (s.at + min s.len (x - s.at)) ≡ false =
-                      le-ltb e (s.at + min s.len (x - s.at)) (omega arith) in
-                      let near' : m ≤ change_after ss e x = rw (a, b) at near in
+                      let c = le-ltb e (s.at + min s.len (x - s.at)) (omega arith) in
+                      let near' : m ≤ change_after ss e x = rw (a, le-ltb e (s.at + s.len) after) at
+                      near in
                       rw (t, a, c) (change-cut x (s.at + s.len) cost ss e m apart.2 lt near' short)
                 ]
           ]
@@ -110,11 +103,9 @@ cut-taken x from cost [] apart le = le
 cut-taken x from cost (s ∷ ss) apart le =
     elim (cases_lt s.at x) [
       | inr gone ↦
-          let f : nat_lt s.at x ≡ false = le-ltb s.at x gone in
           let none : cut_at x ss ≡ [] = cut-none x (s.at + s.len) cost ss apart.2 (omega arith) in
-          rw (f, none) le
+          rw (le-ltb s.at x gone, none) le
       | inl begins ↦
-          let t : nat_lt s.at x ≡ true = lt-ltb s.at x begins in
           let rest : AreTaken ss (s.at + min s.len (x - s.at)) x (cut_at x ss) =
           elim (cases_lt x (s.at + s.len)) [
             | inr whole ↦
@@ -122,12 +113,11 @@ cut-taken x from cost (s ∷ ss) apart le =
                 subst (λ l. AreTaken ss (s.at + l) x (cut_at x ss)) all
                 (cut-taken x (s.at + s.len) cost ss apart.2 whole)
             | inl ends ↦
-                let none : cut_at x ss ≡ [] =
-                cut-none x (s.at + s.len) cost ss apart.2 (omega arith) in
+                let none = cut-none x (s.at + s.len) cost ss apart.2 (omega arith) in
                 rw none (omega arith)
           ] in
           let one : 0 < min s.len (x - s.at) = omega (arith, apart.1) in
-          rw t (
+          rw (lt-ltb s.at x begins) (
             apart.0,
             one,
             inl (cut-covers x s),
@@ -152,11 +142,22 @@ selves (s ∷ ss) = (let own : LiesWithin s s = record {
       λ lock names. names;
 } in (inl own, selves_more s ss ss (selves ss)))
 
+-- the jobs of releases that execute something, and no more than their task's cost, do as their
+-- sheets say up to their ends
+pub cuts_by : (node : Node) (rs : List Release) → ((j : ℕ) → j < length rs
+    → (0 < runs_of node.tasks (release_at rs j)) × (runs_of node.tasks (release_at rs j)
+    ≤ (task_at node.tasks (task_number node.tasks (release_at rs j))).cost))
+    → AreCut node (jobs_of node.tasks rs)
+cuts_by node rs in_cost j lt =
+    let in_list : j < length rs = omega (arith, jobs_length node.tasks rs) in
+    let cost = in_cost j in_list in
+    subst (λ x. IsCut (task_at node.tasks x.task) x) (sym (job_is node.tasks rs j in_list))
+    (record { some = cost.0; most = cost.1; sections = refl })
+
 pub cuts_within : (node : Node) (jobs : List Job) → IsSound node → AreKnown node jobs
     → AreCut node jobs → AreWithinSheets node jobs
 cuts_within node jobs valid known cuts j lt =
     let c : IsCut (job_task node jobs j) (job_at jobs j) = cuts j lt in
-    let v : IsSoundTask node (job_at jobs j).task = valid.each (job_at jobs j).task (known j lt) in
     record {
       executes = c.most;
       spans = (job_at jobs j).sections;
@@ -164,7 +165,8 @@ cuts_within node jobs valid known cuts j lt =
       taken = subst (λ ss. AreTaken (job_task node jobs j).sections 0 (job_at jobs j).executes ss)
           (sym c.sections)
           (cut-taken (job_at jobs j).executes 0 (job_task node jobs j).cost
-          (job_task node jobs j).sections v.apart (omega arith));
+          (job_task node jobs j).sections (valid.each (job_at jobs j).task (known j lt)).apart
+          (omega arith));
     }
 
 -- a job that executes its cost takes all its sheet's sections whole
@@ -178,19 +180,18 @@ whole x from (s ∷ ss) apart =
   where
     end_within : (from : ℕ) (ss : List CriticalSection) → AreApart from ss x → from ≤ x
     end_within from [] apart = apart
-    end_within from (s ∷ ss) apart = let c : s.at + s.len ≤ x =
-        end_within (s.at + s.len) ss apart.2 in omega arith
+    end_within from (s ∷ ss) apart = omega (arith, end_within (s.at + s.len) ss apart.2)
 
 pub cuts_apart : (node : Node) (jobs : List Job) → IsSound node → AreKnown node jobs
     → AreCut node jobs → TakeTurns jobs
 cuts_apart node jobs valid known cuts j lt =
     let c : IsCut (job_task node jobs j) (job_at jobs j) = cuts j lt in
-    let v : IsSoundTask node (job_at jobs j).task = valid.each (job_at jobs j).task (known j lt) in
     subst (λ ss. AreApart 0 ss (job_at jobs j).executes) (sym c.sections)
     (taken_apart (job_task node jobs j).sections 0 (job_at jobs j).executes
     (cut_at (job_at jobs j).executes (job_task node jobs j).sections)
     (cut-taken (job_at jobs j).executes 0 (job_task node jobs j).cost
-    (job_task node jobs j).sections v.apart (omega (arith, c.some))))
+    (job_task node jobs j).sections (valid.each (job_at jobs j).task (known j lt)).apart
+    (omega (arith, c.some))))
 
 pub cut_law : (node : Node) (jobs : List Job) → IsNode node → AreKnown node jobs → AreCut node jobs
     → AreWithinSheets node jobs × TakeTurns jobs
@@ -202,5 +203,5 @@ cut_law node jobs ok known cuts = (
 
 pub whole_law : (node : Node) → IsNode node → (i : ℕ) → i < length node.tasks → cut_at
     (task_at node.tasks i).cost (task_at node.tasks i).sections ≡ (task_at node.tasks i).sections
-whole_law node ok i lt = (let s : IsSound node = sound node ok in let v : IsSoundTask node i =
-    s.each i lt in whole (task_at node.tasks i).cost 0 (task_at node.tasks i).sections v.apart)
+whole_law node ok i lt = (let v = (sound node ok).each i lt in whole (task_at node.tasks i).cost 0
+    (task_at node.tasks i).sections v.apart)

@@ -1,8 +1,7 @@
 -- What a run has shown at its end.
-use Rattle.std.proofs.Common.{ℕ, zero, suc, ◌^◌, All, Bool, ◌+◌, ◌-◌, ◌<◌, ◌≤◌, ◌≡◌, inl, inr, refl}
+use Rattle.std.proofs.Common.{ℕ, zero, suc, ◌^◌, All, Bool, ◌+◌, ◌-◌, ◌<◌, ◌≤◌, ◌≡◌, inl, inr}
 use Rattle.std.proofs.Common.{sym, ap, ◌∙◌, subst, arith, List, [], ◌∷◌, length, slice_index_or}
-use Rattle.std.proofs.Common.{Option, None, Some, false, true, cond, nat_le, nat_lt, eqb}
-use Rattle.std.proofs.lemmas.Option.{none-some}
+use Rattle.std.proofs.Common.{Option, None, Some, false, nat_lt}
 use Rattle.std.proofs.lemmas.Bool.{cases_lt, cases_Bool, true≢false, le-leb, eq-eqb}
 use Rattle.std.proofs.lemmas.List.Elements.{All-from_get_or}
 use Rattle.task_sheet.specs.Sheet.{task_at}
@@ -17,20 +16,20 @@ use Rattle.ceiling_kernel.specs.Tick.{Node, Job, job_at, job_task, executed_befo
 use Rattle.ceiling_kernel.specs.Trace.{finish_before}
 use Rattle.ceiling_kernel.specs.Waits.{IsNode, AreLegalJobs, lateness_of, NoOverrun, EachIsGranted}
 use Rattle.ceiling_kernel.specs.Bounds.{CoversBy, response_by}
-use Rattle.ceiling_kernel.specs.Releases.{task_number, ready_of, runs_of, jobs_of, job_of}
+use Rattle.ceiling_kernel.specs.Releases.{task_number, ready_of, runs_of, jobs_of}
 use Rattle.ceiling_kernel.specs.Releases.{no_release, release_at, is_soon_job, is_too_soon}
 use Rattle.ceiling_kernel.specs.Releases.{is_too_late, is_outside_cost, is_past, refusal_of}
 use Rattle.ceiling_kernel.specs.Turns.{AreTurns}
 use Rattle.ceiling_kernel.specs.Runs.{IsFirstOverrun, IsOverrun, record_of, no_record, records_from}
 use Rattle.ceiling_kernel.specs.Runs.{bound_by, MeetsBounds, MeetsTighterBounds, IsNoOverrun}
 use Rattle.ceiling_kernel.specs.States.{IsRunnable, Kept, IsStop}
-use Rattle.ceiling_kernel.proofs.LockLaws.{nobody_waits_law}
+use Rattle.ceiling_kernel.proofs.NestLaws.{nobody_waits_law}
 use Rattle.ceiling_kernel.proofs.BoundLaws.{covers_from, tighter_response, no_overrun_law}
-use Rattle.ceiling_kernel.proofs.FinishLaws.{finish_start, finish_step, finish_some, finish_later}
+use Rattle.ceiling_kernel.proofs.FinishLaws.{finish_some, finish_later, finish_is}
 use Rattle.ceiling_kernel.proofs.ReleaseLaws.{job_is, jobs_length}
 use Rattle.ceiling_kernel.proofs.NodeLaws.{sound}
-use Rattle.ceiling_kernel.specs.Behaviours.{IsCut, AreCut, TakeTurns}
-use Rattle.ceiling_kernel.proofs.CutLaws.{cuts_within, cuts_apart}
+use Rattle.ceiling_kernel.specs.Behaviours.{AreCut, AreKnown, TakeTurns}
+use Rattle.ceiling_kernel.proofs.CutLaws.{cuts_by, cuts_within, cuts_apart}
 use Rattle.ceiling_kernel.proofs.AcceptLaws.{IsAccepted, accepted, first_none, none_below}
 use Rattle.ceiling_kernel.proofs.AcceptLaws.{none_passes, not_lt, known_from, inside_cost}
 
@@ -38,13 +37,11 @@ use Rattle.ceiling_kernel.proofs.AcceptLaws.{none_passes, not_lt, known_from, in
 before_end : (node : Node) (rs : List Release) (until k : ℕ) → IsAccepted node.tasks rs until
     → k < length rs → (job_at (jobs_of node.tasks rs) k).ready < until
 before_end node rs until k a lt =
-    let f : is_past until (release_at rs k) ≡ false =
-    none_passes (is_past until) rs k no_release lt a.before in
-    let r : (job_at (jobs_of node.tasks rs) k).ready ≡ ready_of (release_at rs k) =
-    ap (λ x. x.ready) (job_is node.tasks rs k lt) in
+    let r = ap (λ x. x.ready) (job_is node.tasks rs k lt) in
     elim (cases_lt (ready_of (release_at rs k)) until) [
       | inl before ↦ omega arith
-      | inr past ↦ absurd (true≢false (sym (le-leb until (ready_of (release_at rs k)) past) ∙ f))
+      | inr past ↦ absurd (true≢false (sym (le-leb until (ready_of (release_at rs k)) past) ∙
+          (none_passes (is_past until) rs k no_release lt a.before)))
     ]
 
 pub no_overrun_then : (node : Node) (rs : List Release) (until t : ℕ) (come : ℕ → Bool)
@@ -56,8 +53,7 @@ no_overrun_then node rs until t come slots e kept le k lt over =
       | inl has ↦ kept.no_overrun k has over
       | inr not ↦
           let r : t ≤ (job_at (jobs_of node.tasks rs) k).ready = kept.to_come k not lt in
-          let b : (job_at (jobs_of node.tasks rs) k).ready < until =
-          before_end node rs until k (accepted node.tasks rs until e) (omega arith) in
+          let b = before_end node rs until k (accepted node.tasks rs until e) (omega arith) in
           omega arith
     ]
 
@@ -73,22 +69,14 @@ in_cost_from node rs until j a lt =
 -- so its job does as its sheet says, up to its end
 cuts_from : (node : Node) (rs : List Release) (until : ℕ) → IsAccepted node.tasks rs until
     → AreCut node (jobs_of node.tasks rs)
-cuts_from node rs until a j lt =
-    let l : length (jobs_of node.tasks rs) ≡ length rs = jobs_length node.tasks rs in
-    let c : (0 < runs_of node.tasks (release_at rs j)) × (runs_of node.tasks (release_at rs j)
-    ≤ (task_at node.tasks (task_number node.tasks (release_at rs j))).cost) =
-    in_cost_from node rs until j a (omega arith) in
-    subst (λ x. IsCut (task_at node.tasks x.task) x) (sym (job_is node.tasks rs j (omega arith)))
-    (record { some = c.0; most = c.1; sections = refl })
+cuts_from node rs until a = cuts_by node rs (λ j lt. in_cost_from node rs until j a lt)
 
 -- each job of an accepted list executes something
 pub some_executes : (node : Node) (rs : List Release) (until j : ℕ) → refusal_of node.tasks rs until
     ≡ None → j < length rs → 0 < (job_at (jobs_of node.tasks rs) j).executes
 some_executes node rs until j e lt =
-    let l : length (jobs_of node.tasks rs) ≡ length rs = jobs_length node.tasks rs in
-    let c : IsCut (job_task node (jobs_of node.tasks rs) j) (job_at (jobs_of node.tasks rs) j) =
-    cuts_from node rs until (accepted node.tasks rs until e) j (omega arith) in
-    c.some
+    (cuts_from node rs until (accepted node.tasks rs until e) j
+    (omega (arith, jobs_length node.tasks rs))).some
 
 -- the jobs of an accepted list are legal
 pub legal_from : (node : Node) (rs : List Release) (until : ℕ) → IsNode node
@@ -96,43 +84,30 @@ pub legal_from : (node : Node) (rs : List Release) (until : ℕ) → IsNode node
 legal_from node rs until ok e =
     let a : IsAccepted node.tasks rs until = accepted node.tasks rs until e in
     let l : length (jobs_of node.tasks rs) ≡ length rs = jobs_length node.tasks rs in
-    let known_task : (j : ℕ) → j < length (jobs_of node.tasks rs)
-    → (job_at (jobs_of node.tasks rs) j).task < length node.tasks = λ j lt.
-    let k : task_number node.tasks (release_at rs j) < length node.tasks =
-    known_from node.tasks rs a.known j (omega arith) in
-    let t : (job_at (jobs_of node.tasks rs) j).task ≡ task_number node.tasks (release_at rs j) =
-    ap (λ x. x.task) (job_is node.tasks rs j (omega arith)) in
-    omega arith in
+    let known_task : AreKnown node (jobs_of node.tasks rs) = λ j lt. omega (
+      arith,
+      known_from node.tasks rs a.known j (omega arith),
+      ap (λ x. x.task) (job_is node.tasks rs j (omega arith)),
+    ) in
     record {
       within = cuts_within node (jobs_of node.tasks rs) (sound node ok) known_task
           (cuts_from node rs until a);
-      known = λ j lt.
-          let k : task_number node.tasks (release_at rs j) < length node.tasks =
-          known_from node.tasks rs a.known j (omega arith) in
-          let t : (job_at (jobs_of node.tasks rs) j).task ≡ task_number node.tasks
-          (release_at rs j) = ap (λ x. x.task) (job_is node.tasks rs j (omega arith)) in
-          omega arith;
-      not_early = λ j lt. (let r : job_at (jobs_of node.tasks rs) j ≡ job_of node.tasks
-          (release_at rs j) = job_is node.tasks rs j (omega arith) in rw r (omega arith));
+      known = known_task;
+      not_early = λ j lt. (let r = job_is node.tasks rs j (omega arith) in rw r (omega arith));
       not_late = λ j lt.
-          let r : job_at (jobs_of node.tasks rs) j ≡ job_of node.tasks (release_at rs j) =
-          job_is node.tasks rs j (omega arith) in
-          let late : is_too_late node.tasks rs j ≡ false =
-          first_none (is_too_late node.tasks rs) (length rs) a.prompt j (omega arith) in
-          let le : (release_at rs j).late
-          ≤ lateness_of (task_at node.tasks (task_number node.tasks (release_at rs j))) =
-          not_lt (lateness_of (task_at node.tasks (task_number node.tasks (release_at rs j))))
-          (release_at rs j).late late in
-          rw r (omega arith);
+          let r = job_is node.tasks rs j (omega arith) in
+          let late = first_none (is_too_late node.tasks rs) (length rs) a.prompt j (omega arith) in
+          rw r (omega (
+            arith,
+            not_lt (lateness_of (task_at node.tasks
+                (task_number node.tasks (release_at rs j))))
+                (release_at rs j).late late,
+          ));
       spaced = λ j k jk lt same.
-          let soon : is_too_soon node.tasks (jobs_of node.tasks rs) k ≡ false =
-          first_none (is_too_soon node.tasks (jobs_of node.tasks rs)) (length rs) a.spaced k
-          (omega arith) in
-          let one : is_soon_job node.tasks (jobs_of node.tasks rs) k j ≡ false =
-          none_below k (is_soon_job node.tasks (jobs_of node.tasks rs) k) soon j jk in
-          let t : eqb (job_at (jobs_of node.tasks rs) j).task
-          (job_at (jobs_of node.tasks rs) k).task ≡ true =
-          eq-eqb (job_at (jobs_of node.tasks rs) j).task
+          let soon = first_none (is_too_soon node.tasks (jobs_of node.tasks rs)) (length rs)
+          a.spaced k (omega arith) in
+          let one = none_below k (is_soon_job node.tasks (jobs_of node.tasks rs) k) soon j jk in
+          let t = eq-eqb (job_at (jobs_of node.tasks rs) j).task
           (job_at (jobs_of node.tasks rs) k).task same in
           let f : nat_lt (job_at (jobs_of node.tasks rs) k).arrival ((job_at (jobs_of node.tasks rs)
           j).arrival + (job_task node (jobs_of node.tasks rs) k).period) ≡ false =
@@ -144,20 +119,21 @@ legal_from node rs until ok e =
 -- they take their sections one after the other
 turns_from : (node : Node) (rs : List Release) (until : ℕ) → IsNode node
     → refusal_of node.tasks rs until ≡ None → TakeTurns (jobs_of node.tasks rs)
-turns_from node rs until ok e = (let l : AreLegalJobs node (jobs_of node.tasks rs) =
-    legal_from node rs until ok e in cuts_apart node (jobs_of node.tasks rs) (sound node ok) l.known
-    (cuts_from node rs until (accepted node.tasks rs until e)))
+turns_from node rs until ok e = cuts_apart node (jobs_of node.tasks rs) (sound node ok)
+    (legal_from node rs until ok e).known
+    (cuts_from node rs until (accepted node.tasks rs until e))
 
 -- each release of an accepted list is ready in time for the clock
 pub ready_fits : (node : Node) (rs : List Release) (until : ℕ) → until < 2 ^ 64
     → refusal_of node.tasks rs until ≡ None → All (λ r. ready_of r < 2 ^ 64) rs
 ready_fits node rs until small e =
-    let a : IsAccepted node.tasks rs until = accepted node.tasks rs until e in
     All-from_get_or (λ r. ready_of r < 2 ^ 64) rs no_release (λ k lt.
-    let r : (job_at (jobs_of node.tasks rs) k).ready ≡ ready_of (release_at rs k) =
-    ap (λ x. x.ready) (job_is node.tasks rs k lt) in
-    let b : (job_at (jobs_of node.tasks rs) k).ready < until = before_end node rs until k a lt in
-    omega arith)
+    omega (
+      arith,
+      ap (λ x. x.ready) (job_is node.tasks rs k lt),
+      before_end node rs until k
+          (accepted node.tasks rs until e) lt,
+    ))
 
 pub runnable_from : (node : Node) (rs : List Release) (turns : List (ℕ × ℕ)) (until : ℕ)
     → IsNode node → refusal_of node.tasks rs until ≡ None → AreTurns (jobs_of node.tasks rs) turns
@@ -167,8 +143,7 @@ runnable_from node rs turns until ok e are =
     record {
       of_node = ok;
       known = known_from node.tasks rs a.known;
-      in_cost = λ j lt. in_cost_from
-          node rs until j a lt;
+      in_cost = λ j lt. in_cost_from node rs until j a lt;
       legal = legal_from node rs until ok e;
       in_turn = are;
     }
@@ -182,29 +157,6 @@ each_granted node rs until ok e none t p lock pick asks =
     (turns_from node rs until ok e) t p lock (λ k lt le. none k lt) pick asks
 
 -- ---- the bound
-finish_within : (node : Node) (jobs : List Job) (j t f : ℕ)
-    → finish_before node jobs t j ≡ Some f → f ≤ t
-finish_within node jobs j zero f e = absurd (none-some f (sym (finish_start node jobs j) ∙ e))
-finish_within node jobs j (suc t) f e =
-    elim (finish_before node jobs t j) as (λ o. finish_before node jobs t j ≡ o → f ≤ suc t) [
-      | Some g ↦ λ is.
-          let later : finish_before node jobs (suc t) j ≡ Some g = finish_step node jobs j t
-          ∙ rw is in
-          let both : ◌≡◌ {A = Option ℕ} (Some g) (Some f) = sym later ∙ e in
-          let same : g ≡ f = cc (both) in
-          let before : g ≤ t = finish_within node jobs j t g is in
-          omega arith
-      | None ↦ λ is.
-          let now : cond (nat_le (job_at jobs j).executes (executed_before node jobs (suc t) j))
-          (Some (suc t)) None ≡ Some f = sym (finish_step node jobs j t ∙ rw is) ∙ e in
-          elim (cases_Bool
-          (nat_le (job_at jobs j).executes (executed_before node jobs (suc t) j))) [
-            | inl y ↦ (let n : ◌≡◌ {A = Option ℕ} (Some (suc t)) (Some f) = rw y at now in
-                let same : suc t ≡ f = cc (n) in omega arith)
-            | inr n ↦ (let m : ◌≡◌ {A = Option ℕ} None (Some f) = rw n at now in absurd (cc (m)))
-          ]
-    ] refl
-
 pub records_at : (node : Node) (jobs : List Job) (t k : ℕ) (rs : List Release) (j : ℕ)
     → j < length rs → slice_index_or (records_from node jobs t k rs) j no_record
     ≡ record_of node jobs t (k + j) (release_at rs j)
@@ -219,45 +171,29 @@ pub tighter_trace : (node : Node) (rs : List Release) (until : ℕ) (trace : Tra
     → refusal_of node.tasks rs until ≡ None → trace.jobs.items
     ≡ records_from node (jobs_of node.tasks rs) until 0 rs → MeetsTighterBounds node rs until trace
 tighter_trace node rs until trace ok e jobs_are j t lt covers in_run =
-    let jobs : List Job = jobs_of node.tasks rs in
     let l : length (jobs_of node.tasks rs) ≡ length rs = jobs_length node.tasks rs in
-    let is : job_at (jobs_of node.tasks rs) j ≡ job_of node.tasks (release_at rs j) =
-    job_is node.tasks rs j lt in
-    let legal : AreLegalJobs node (jobs_of node.tasks rs) = legal_from node rs until ok e in
-    let covers' : CoversBy node (job_at (jobs_of node.tasks rs) j).task t =
-    subst (λ x. CoversBy node x.task t) (sym is) covers in
-    let done : (job_at (jobs_of node.tasks rs) j).executes ≤ executed_before node
-    (jobs_of node.tasks rs) ((job_at (jobs_of node.tasks rs) j).arrival + response_by
-    (job_task node (jobs_of node.tasks rs) j) t) j =
-    tighter_response node (jobs_of node.tasks rs) ok legal j t (omega arith) covers' in
-    let at_time : (job_at (jobs_of node.tasks rs) j).arrival + response_by
-    (job_task node (jobs_of node.tasks rs) j) t ≡ bound_by node (release_at rs j) t =
-    ap (λ x. x.arrival + response_by (task_at node.tasks x.task) t) is in
-    let done' : (job_at (jobs_of node.tasks rs) j).executes
-    ≤ executed_before node (jobs_of node.tasks rs) (bound_by node (release_at rs j) t) j =
-    subst (λ x. (job_at (jobs_of node.tasks rs) j).executes
-    ≤ executed_before node (jobs_of node.tasks rs) x j) at_time done in
-    let some : 0 < (job_at (jobs_of node.tasks rs) j).executes =
-    some_executes node rs until j e lt in
-    let f : (f : ℕ) × (finish_before node (jobs_of node.tasks rs)
-    (bound_by node (release_at rs j) t) j ≡ Some f) =
-    finish_some node (jobs_of node.tasks rs) j (bound_by node (release_at rs j) t) some done' in
+    let is = job_is node.tasks rs j lt in
+    let covers' = subst (λ x. CoversBy node x.task t) (sym is) covers in
+    let done = tighter_response node (jobs_of node.tasks rs) ok (legal_from node rs until ok e) j t
+    (omega arith) covers' in
+    let at_time = ap (λ x. x.arrival + response_by (task_at node.tasks x.task) t) is in
+    let done' = subst (λ x. (job_at (jobs_of node.tasks rs) j).executes ≤ executed_before node
+    (jobs_of node.tasks rs) x j) at_time done in
+    let f = finish_some node (jobs_of node.tasks rs) j (bound_by node (release_at rs j) t)
+    (some_executes node rs until j e lt) done' in
     let to : bound_by node (release_at rs j) t + (until - bound_by node (release_at rs j) t)
     ≡ until = omega arith in
-    let then : finish_before node (jobs_of node.tasks rs) until j ≡ Some f.0 =
-    subst (λ x. finish_before node (jobs_of node.tasks rs) x j ≡ Some f.0) to
+    let then = subst (λ x. finish_before node (jobs_of node.tasks rs) x j ≡ Some f.0) to
     (finish_later node (jobs_of node.tasks rs) j (bound_by node (release_at rs j) t)
     (until - bound_by node (release_at rs j) t) f.0 f.1) in
-    let row : slice_index_or trace.jobs.items j no_record
-    ≡ record_of node (jobs_of node.tasks rs) until j (release_at rs j) =
-    ap (λ (x : List JobRecord). slice_index_or x j no_record) jobs_are
+    let z : 0 + j ≡ j = omega arith in
+    let row = ap (λ (x : List JobRecord). slice_index_or x j no_record) jobs_are
     ∙ (records_at node (jobs_of node.tasks rs) until 0 rs j lt
-    ∙ ap (λ n. record_of node (jobs_of node.tasks rs) until n (release_at rs j))
-    (let z : 0 + j ≡ j = omega arith in z)) in (
+    ∙ ap (λ n. record_of node (jobs_of node.tasks rs) until n (release_at rs j)) z) in (
       f.0,
       ap (λ x. x.finish) row ∙ then,
-      finish_within node (jobs_of node.tasks rs) j
-          (bound_by node (release_at rs j) t) f.0 f.1,
+      (finish_is node (jobs_of node.tasks rs) j (bound_by node (release_at rs j) t) f.0
+          (some_executes node rs until j e lt) f.1).0,
     )
 
 pub bounded_trace : (node : Node) (rs : List Release) (until : ℕ) (trace : Trace) → IsNode node

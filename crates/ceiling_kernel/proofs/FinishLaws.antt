@@ -1,6 +1,6 @@
 -- When a job finishes.
 use Rattle.std.proofs.Common.{Option, ap, ◌-◌, ℕ, zero, suc, ◌+◌, ◌<◌, ◌≤◌, ◌≡◌, ◌⊎◌, inl, inr}
-use Rattle.std.proofs.Common.{refl, sym, ◌∙◌, subst, arith, true, false, cond, List, Some, None}
+use Rattle.std.proofs.Common.{refl, sym, ◌∙◌, subst, arith, cond, List, Some, None}
 use Rattle.std.proofs.Common.{nat_le, add-suc, add-zero}
 use Rattle.std.proofs.lemmas.Option.{none-some}
 use Rattle.std.specs.Option.{option_or}
@@ -29,19 +29,21 @@ module _ (node : Node) (jobs : List Job) (j : ℕ) where
   grows : (t : ℕ) → done t ≤ done (suc t)
   grows t =
       elim (picked node jobs t) as (λ r. picked node jobs t ≡ r → done t ≤ done (suc t)) [
-        | None ↦ λ e. (let s : done (suc t) ≡ done t = idle_of node jobs t j e in omega arith)
+        | None ↦ λ e. (omega (arith, idle_of node jobs t j e))
         | Some p ↦ λ e. elim (cases_eq j p) [
-          | inl same ↦ (let s : done (suc t) ≡ suc (done t) =
-              subst (λ x. executed_before node jobs (suc t) x ≡ suc (executed_before node jobs t x))
-              (sym same) (own_of node jobs t p e) in omega arith)
-          | inr ne ↦ (let s : done (suc t) ≡ done t = other_of node jobs t p j e ne in omega arith)
+          | inl same ↦ omega (
+            arith,
+            subst (λ x. executed_before node jobs (suc t) x ≡ suc
+                (executed_before node jobs t x))
+                (sym same) (own_of node jobs t p e),
+          )
+          | inr ne ↦ omega (arith, other_of node jobs t p j e ne)
         ]
       ] refl
 
   pub grows_by : (t k : ℕ) → done t ≤ done (t + k)
   grows_by t zero = rw add-zero (omega arith)
-  grows_by t (suc k) = let a : done t ≤ done (t + k) = grows_by t k in
-      let b : done (t + k) ≤ done (suc (t + k)) = grows (t + k) in rw add-suc (omega arith)
+  grows_by t (suc k) = rw add-suc (omega (arith, grows_by t k, grows (t + k)))
 
   -- an unfinished job has no finish
   pub finish_none : (t : ℕ) → done t < cost → finish_before node jobs t j ≡ None
@@ -49,18 +51,16 @@ module _ (node : Node) (jobs : List Job) (j : ℕ) where
   finish_none (suc t) lt =
       let g : done t ≤ done (suc t) = grows t in
       let before : finish_before node jobs t j ≡ None = finish_none t (omega arith) in
-      let f : nat_le cost (done (suc t)) ≡ false = lt-leb cost (done (suc t)) lt in
-      finish_step t ∙ rw (before, f)
+      finish_step t ∙ rw (before, lt-leb cost (done (suc t)) lt)
 
   -- a finished one has
   pub finish_some : (t : ℕ) → 0 < cost → cost ≤ done t → (f : ℕ)
       × (finish_before node jobs t j ≡ Some f)
   finish_some zero some le = let z : done 0 ≡ 0 = start_of node jobs j in absurd (omega arith)
   finish_some (suc t) some le =
-      let tr : nat_le cost (done (suc t)) ≡ true = le-leb cost (done (suc t)) le in
       elim (finish_before node jobs t j) as (λ o. finish_before node jobs t j ≡ o → (f : ℕ)
       × (finish_before node jobs (suc t) j ≡ Some f)) [
-        | None ↦ λ e. (suc t, finish_step t ∙ rw (e, tr))
+        | None ↦ λ e. (suc t, finish_step t ∙ rw (e, le-leb cost (done (suc t)) le))
         | Some f ↦ λ e. (f, finish_step t ∙ rw e)
       ] refl
 
@@ -68,30 +68,28 @@ module _ (node : Node) (jobs : List Job) (j : ℕ) where
       → finish_before node jobs (t + k) j ≡ Some f
   finish_later t zero f e = rw add-zero e
   finish_later t (suc k) f e =
-      let before : finish_before node jobs (t + k) j ≡ Some f = finish_later t k f e in
-      rw add-suc (finish_step (t + k) ∙ rw before)
+      rw add-suc (finish_step (t + k) ∙ rw (finish_later t k f e))
 
   -- what is known of its finish stays while it executes nothing, or doesn't finish
-  pub finish_stays : (t k : ℕ) → 0 < cost → (done (t + k) ≡ done t) ⊎ (done (t + k) < cost)
-      → finish_before node jobs (t + k) j ≡ finish_before node jobs t j
-  finish_stays t k some h =
+  pub finish_stays : (t u : ℕ) → t ≤ u → 0 < cost → (done u ≡ done t) ⊎ (done u < cost)
+      → finish_before node jobs u j ≡ finish_before node jobs t j
+  finish_stays t u le some h =
       elim (cases_lt (done t) cost) [
         | inl open_ ↦
-            let still : done (t + k) < cost = elim h [ inl same ↦ omega arith | inr less ↦ less ] in
-            finish_none (t + k) still ∙ sym (finish_none t open_)
+            let still : done u < cost = elim h [ inl same ↦ omega arith | inr less ↦ less ] in
+            finish_none u still ∙ sym (finish_none t open_)
         | inr full ↦
             let f : (f : ℕ) × (finish_before node jobs t j ≡ Some f) = finish_some t some full in
-            finish_later t k f.0 f.1 ∙ sym f.1
+            let to : t + (u - t) ≡ u = omega arith in
+            ap (λ x. finish_before node jobs x j) (sym to)
+            ∙ (finish_later t (u - t) f.0 f.1 ∙ sym f.1)
       ]
 
-  -- a job that finishes with the last of k ticks
-  pub finish_now : (t k : ℕ) → done (t + k) < cost → cost ≤ done (t + suc k)
-      → finish_before node jobs (t + suc k) j ≡ Some (t + suc k)
-  finish_now t k before after =
-      let none : finish_before node jobs (t + k) j ≡ None = finish_none (t + k) before in
-      let after' : cost ≤ done (suc (t + k)) = rw add-suc at after in
-      let tr : nat_le cost (done (suc (t + k))) ≡ true = le-leb cost (done (suc (t + k))) after' in
-      rw add-suc (finish_step (t + k) ∙ rw (none, tr))
+  -- a job that finishes with a tick
+  pub finish_now : (t : ℕ) → done t < cost → cost ≤ done (suc t)
+      → finish_before node jobs (suc t) j ≡ Some (suc t)
+  finish_now t before after =
+      finish_step t ∙ rw (finish_none t before, le-leb cost (done (suc t)) after)
 
   -- the finish is the end of the tick in which the job executes the last of its cost
   pub finish_is : (t f : ℕ) → 0 < cost → finish_before node jobs t j ≡ Some f → (f ≤ t)
@@ -102,8 +100,7 @@ module _ (node : Node) (jobs : List Job) (j : ℕ) where
       (λ o. finish_before node jobs t j ≡ o → (f ≤ suc t) × IsFinishAt node jobs j f) [
         | Some g ↦ λ is.
             let later : finish_before node jobs (suc t) j ≡ Some g = finish_step t ∙ rw is in
-            let both : ◌≡◌ {A = Option ℕ} (Some g) (Some f) = sym later ∙ e in
-            let same : g ≡ f = cc (both) in
+            let same : g ≡ f = cc (sym later ∙ e) in
             let was : (f ≤ t) × IsFinishAt node jobs j f = finish_is t f some (is ∙ ap Some same) in
             (omega (arith, was.0), was.1)
         | None ↦ λ is.
@@ -116,11 +113,11 @@ module _ (node : Node) (jobs : List Job) (j : ℕ) where
             ] in
             elim (cases_lt (done (suc t)) cost) [
               | inl less ↦
-                  (let no : nat_le cost (done (suc t)) ≡ false = lt-leb cost (done (suc t)) less in
-                  let m : ◌≡◌ {A = Option ℕ} None (Some f) = rw no at now in absurd (none-some f m))
+                  (let m : ◌≡◌ {A = Option ℕ} None (Some f) = rw (lt-leb cost (done (suc t)) less)
+                  at now in absurd (none-some f m))
               | inr full ↦
-                  let yes_ : nat_le cost (done (suc t)) ≡ true = le-leb cost (done (suc t)) full in
-                  let n : ◌≡◌ {A = Option ℕ} (Some (suc t)) (Some f) = rw yes_ at now in
+                  let n : ◌≡◌ {A = Option ℕ} (Some (suc t)) (Some f) = rw
+                  (le-leb cost (done (suc t)) full) at now in
                   let same : suc t ≡ f = cc (n) in
                   let back : suc t - 1 ≡ t = omega arith in
                   let mine : IsFinishAt node jobs j (suc t) = record {
@@ -138,6 +135,5 @@ module _ (node : Node) (jobs : List Job) (j : ℕ) where
   unfinished_is t some e =
       elim (cases_lt (done t) cost) [
         | inl lt ↦ lt
-        | inr ge ↦ (let g : (g : ℕ) × (finish_before node jobs t j ≡ Some g) =
-            finish_some t some ge in absurd (none-some g.0 (sym e ∙ g.1)))
+        | inr ge ↦ (let g = finish_some t some ge in absurd (none-some g.0 (sym e ∙ g.1)))
       ]

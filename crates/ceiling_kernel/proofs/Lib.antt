@@ -23,7 +23,6 @@ pub mod ReleaseLaws
 pub mod TurnLaws
 pub mod SortLaws
 pub mod RunLaws
-pub mod StopLaws
 pub mod AcceptLaws
 pub mod EndLaws
 pub mod OrderLaws

@@ -54,8 +54,7 @@ count_kept xs ys p zs e = sym (listed_length ys)
 moved_length : (lists : List (List ℕ)) (old new task : ℕ)
     → length (moved_to lists old new task) ≡ length lists
 moved_length lists old new task =
-    let n : length (without_head lists old) ≡ length lists =
-    length-set lists old (drop 1 (list_at lists old)) in
+    let n = length-set lists old (drop 1 (list_at lists old)) in
     elim (cases_Bool (old == new)) [
       | inl same ↦ rw same
       | inr differ ↦ elim (cases_Bool (nat_lt new old)) [

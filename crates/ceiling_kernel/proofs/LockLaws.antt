@@ -1,26 +1,23 @@
 -- No job waits for a lock.
-use Rattle.std.proofs.Common.{ℕ, zero, suc, ◌+◌, ◌<◌, ◌≤◌, ◌≡◌, ◌⊎◌, inl, inr, refl, sym, ap, ◌∙◌}
-use Rattle.std.proofs.Common.{subst, arith, Bool, true, false, ◌==◌, ◌&&◌, ◌||◌, List, [], ◌∷◌}
-use Rattle.std.proofs.Common.{length, Some, None}
-use Rattle.std.proofs.lemmas.Bool.{cases_eq, cases_Bool, cases_order, true≢false, and_parts}
+use Rattle.std.proofs.Common.{ℕ, zero, suc, ◌+◌, ◌<◌, ◌≤◌, ◌≡◌, ◌⊎◌, inl, inr, refl, sym, ap}
+use Rattle.std.proofs.Common.{arith, Bool, true, false, ◌==◌, ◌&&◌, ◌||◌, List, [], ◌∷◌}
+use Rattle.std.proofs.Common.{Some, None}
+use Rattle.std.proofs.lemmas.Bool.{cases_eq, cases_Bool, true≢false, and_parts}
 use Rattle.std.proofs.lemmas.Bool.{or_cases, or_right, eq-eqb, eqb-true}
 use Rattle.std.specs.List.{list_any}
 use Rattle.task_sheet.specs.Sheet.{CriticalSection}
 use Rattle.task_sheet.specs.Locks.{names_lock}
-use Rattle.ceiling_kernel.specs.Tick.{Node, Job, job_at, level_of_job, active_of, executed_before}
-use Rattle.ceiling_kernel.specs.Tick.{picked, is_inside, ceiling, top_ceiling, held_ceiling}
-use Rattle.ceiling_kernel.specs.Waits.{IsNode, AreLegalJobs, holds_lock, asks_lock, NoOverrunBy}
-use Rattle.ceiling_kernel.specs.Waits.{NobodyWaits, AskAnew}
+use Rattle.ceiling_kernel.specs.Tick.{Node, Job, job_at, executed_before}
+use Rattle.ceiling_kernel.specs.Tick.{picked, is_inside, held_ceiling}
+use Rattle.ceiling_kernel.specs.Waits.{holds_lock, asks_lock}
+use Rattle.ceiling_kernel.specs.Waits.{AskAnew}
 use Rattle.ceiling_kernel.specs.Behaviours.{AreApart, TakeTurns}
-use Rattle.ceiling_kernel.proofs.NodeLaws.{IsSound, sound}
-use Rattle.ceiling_kernel.proofs.BehaviourLaws.{turns_apart, ceiling-le_top, AreSoundJobs}
-use Rattle.ceiling_kernel.proofs.BehaviourLaws.{sound_jobs}
+use Rattle.ceiling_kernel.proofs.BehaviourLaws.{turns_apart}
 use Rattle.ceiling_kernel.proofs.SectionLaws.{inside_true, inside_from, outside_before}
 use Rattle.ceiling_kernel.proofs.SectionLaws.{outside_after}
-use Rattle.ceiling_kernel.proofs.MachineLaws.{machine, is_high, rest_at, picked_is, IsPick}
-use Rattle.ceiling_kernel.proofs.MachineLaws.{pending_from, pending_parts, start_of, idle_of}
+use Rattle.ceiling_kernel.proofs.MachineLaws.{picked_is}
+use Rattle.ceiling_kernel.proofs.MachineLaws.{pending_parts, start_of, idle_of}
 use Rattle.ceiling_kernel.proofs.MachineLaws.{other_of}
-use Rattle.ceiling_kernel.proofs.Busy.{began, done_later}
 
 or_false : (x y : Bool) → x ≡ false → y ≡ false → (x || y) ≡ false
 or_false x y a b = rw (a, b)
@@ -38,8 +35,7 @@ pub held_before : (node : Node) (begin cost : ℕ) (ss : List CriticalSection) (
 held_before node begin cost [] e apart h = refl
 held_before node begin cost (s ∷ ss) e apart h =
     let out : is_inside s e ≡ false = outside_before s e (omega arith) in
-    let ih : held_ceiling node ss e ≡ 0 =
-    held_before node (s.at + s.len) cost ss e apart.2 (omega arith) in
+    let ih = held_before node (s.at + s.len) cost ss e apart.2 (omega arith) in
     rw out (omega arith)
 
 asks_after : (begin cost : ℕ) (ss : List CriticalSection) (e : ℕ) (r : List ℕ)
@@ -47,14 +43,12 @@ asks_after : (begin cost : ℕ) (ss : List CriticalSection) (e : ℕ) (r : List 
 asks_after begin cost [] e r apart h = absurd (true≢false (sym h))
 asks_after begin cost (s ∷ ss) e r apart h =
     elim (or_cases ((s.at == e) && names_lock s r) (asks_lock ss e r) h) [
-      | inl here ↦ (let at_e : s.at ≡ e =
-          eqb-true s.at e ((and_parts (s.at == e) (names_lock s r) here).0) in omega arith)
-      | inr later ↦ (let ih : s.at + s.len ≤ e =
-          asks_after (s.at + s.len) cost ss e r apart.2 later in omega arith)
+      | inl here ↦ omega (arith, eqb-true s.at e ((and_parts (s.at == e) (names_lock s r) here).0))
+      | inr later ↦ omega (arith, asks_after (s.at + s.len) cost ss e r apart.2 later)
     ]
 
 -- a job that asks holds nothing
-holds_none_of : (begin cost : ℕ) (ss : List CriticalSection) (e : ℕ) (r q : List ℕ)
+pub holds_none_of : (begin cost : ℕ) (ss : List CriticalSection) (e : ℕ) (r q : List ℕ)
     → AreApart begin ss cost → asks_lock ss e r ≡ true → holds_lock ss e q ≡ false
 holds_none_of begin cost [] e r q apart h = refl
 holds_none_of begin cost (s ∷ ss) e r q apart h =
@@ -64,12 +58,12 @@ holds_none_of begin cost (s ∷ ss) e r q apart h =
           let out : is_inside s e ≡ false = outside_before s e (omega arith) in
           rw out (holds_before (s.at + s.len) cost ss e q apart.2 (omega arith))
       | inr later ↦
-          let after : s.at + s.len ≤ e = asks_after (s.at + s.len) cost ss e r apart.2 later in
-          let out : is_inside s e ≡ false = outside_after s e after in
+          let out : is_inside s e ≡ false = outside_after s e
+          (asks_after (s.at + s.len) cost ss e r apart.2 later) in
           rw out (holds_none_of (s.at + s.len) cost ss e r q apart.2 later)
     ]
 
-held_none_of : (node : Node) (begin cost : ℕ) (ss : List CriticalSection) (e : ℕ) (r : List ℕ)
+pub held_none_of : (node : Node) (begin cost : ℕ) (ss : List CriticalSection) (e : ℕ) (r : List ℕ)
     → AreApart begin ss cost → asks_lock ss e r ≡ true → held_ceiling node ss e ≡ 0
 held_none_of node begin cost [] e r apart h = refl
 held_none_of node begin cost (s ∷ ss) e r apart h =
@@ -77,43 +71,13 @@ held_none_of node begin cost (s ∷ ss) e r apart h =
       | inl here ↦
           let at_e : s.at ≡ e = eqb-true s.at e ((and_parts (s.at == e) (names_lock s r) here).0) in
           let out : is_inside s e ≡ false = outside_before s e (omega arith) in
-          let none : held_ceiling node ss e ≡ 0 =
-          held_before node (s.at + s.len) cost ss e apart.2 (omega arith) in
+          let none = held_before node (s.at + s.len) cost ss e apart.2 (omega arith) in
           rw out (omega arith)
       | inr later ↦
-          let after : s.at + s.len ≤ e = asks_after (s.at + s.len) cost ss e r apart.2 later in
-          let out : is_inside s e ≡ false = outside_after s e after in
-          let none : held_ceiling node ss e ≡ 0 =
-          held_none_of node (s.at + s.len) cost ss e r apart.2 later in
-          rw out (omega arith)
+          let out : is_inside s e ≡ false = outside_after s e
+          (asks_after (s.at + s.len) cost ss e r apart.2 later) in
+          rw out (omega (arith, held_none_of node (s.at + s.len) cost ss e r apart.2 later))
     ]
-
--- who holds a lock executes at its ceiling at least, inside a section
-ceiling-le_held : (node : Node) (begin cost : ℕ) (ss : List CriticalSection) (e : ℕ) (r : List ℕ)
-    → AreApart begin ss cost → holds_lock ss e r ≡ true → (ceiling node r ≤ held_ceiling node ss e)
-    × (begin < e) × (e < cost)
-ceiling-le_held node begin cost [] e r apart h = absurd (true≢false (sym h))
-ceiling-le_held node begin cost (s ∷ ss) e r apart h =
-    elim (or_cases (is_inside s e && names_lock s r) (holds_lock ss e r) h) [
-      | inl here ↦
-          let p : (is_inside s e ≡ true) × (names_lock s r ≡ true) =
-          and_parts (is_inside s e) (names_lock s r) here in
-          let in_ : is_inside s e ≡ true = p.0 in
-          let b : (s.at < e) × (e < s.at + s.len) = inside_true s e in_ in
-          let top : ceiling node r ≤ top_ceiling node s.locks = ceiling-le_top node s.locks r p.1 in
-          let c : s.at + s.len ≤ cost = end_within (s.at + s.len) cost ss apart.2 in
-          (rw in_ (omega arith), omega arith, omega arith)
-      | inr later ↦
-          let ih : (ceiling node r ≤ held_ceiling node ss e) × (s.at + s.len < e) × (e < cost) =
-          ceiling-le_held node (s.at + s.len) cost ss e r apart.2 later in
-          (omega arith, omega arith, ih.2)
-    ]
-  where
-    end_within : (begin cost : ℕ) (ss : List CriticalSection) → AreApart begin ss cost
-        → begin ≤ cost
-    end_within begin cost [] apart = apart
-    end_within begin cost (s ∷ ss) apart = let c : s.at + s.len ≤ cost =
-        end_within (s.at + s.len) cost ss apart.2 in omega arith
 
 -- some section names the lock
 abbrev pub some_names : List CriticalSection → List ℕ → Bool
@@ -126,8 +90,8 @@ names_from_asks (s ∷ ss) e r h =
     elim (or_cases ((s.at == e) && names_lock s r) (asks_lock ss e r) h) [
       | inl here ↦
           (let c : names_lock s r ≡ true = (and_parts (s.at == e) (names_lock s r) here).1 in rw c)
-      | inr later ↦ (let ih : some_names ss r ≡ true = names_from_asks ss e r later in
-          elim (cases_Bool (names_lock s r)) [ inl c ↦ rw c | inr c ↦ rw c ih ])
+      | inr later ↦ (elim (cases_Bool (names_lock s r))
+          [ inl c ↦ rw c | inr c ↦ rw c (names_from_asks ss e r later) ])
     ]
 
 pub names_from_holds : (ss : List CriticalSection) (e : ℕ) (r : List ℕ) → holds_lock ss e r ≡ true
@@ -135,10 +99,9 @@ pub names_from_holds : (ss : List CriticalSection) (e : ℕ) (r : List ℕ) → 
 names_from_holds [] e r h = h
 names_from_holds (s ∷ ss) e r h =
     elim (or_cases (is_inside s e && names_lock s r) (holds_lock ss e r) h) [
-      | inl here ↦ (let c : names_lock s r ≡ true =
-          (and_parts (is_inside s e) (names_lock s r) here).1 in rw c)
-      | inr later ↦ (let ih : some_names ss r ≡ true = names_from_holds ss e r later in
-          elim (cases_Bool (names_lock s r)) [ inl c ↦ rw c | inr c ↦ rw c ih ])
+      | inl here ↦ (let c = (and_parts (is_inside s e) (names_lock s r) here).1 in rw c)
+      | inr later ↦ (elim (cases_Bool (names_lock s r))
+          [ inl c ↦ rw c | inr c ↦ rw c (names_from_holds ss e r later) ])
     ]
 
 -- who holds a lock after a tick held it before, or asked for it
@@ -148,111 +111,18 @@ holds_begins [] e r h = absurd (true≢false (sym h))
 holds_begins (s ∷ ss) e r h =
     elim (or_cases (is_inside s (suc e) && names_lock s r) (holds_lock ss (suc e) r) h) [
       | inl here ↦
-          let p : (is_inside s (suc e) ≡ true) × (names_lock s r ≡ true) =
-          and_parts (is_inside s (suc e)) (names_lock s r) here in
+          let p = and_parts (is_inside s (suc e)) (names_lock s r) here in
           let n : names_lock s r ≡ true = p.1 in
           let b : (s.at < suc e) × (suc e < s.at + s.len) = inside_true s (suc e) p.0 in
           elim (cases_eq s.at e) [
-            | inl begins ↦ (let c : (s.at == e) ≡ true = eq-eqb s.at e begins in inr (rw (c, n)))
-            | inr ne ↦ (let c : is_inside s e ≡ true =
-                inside_from s e (omega arith) (omega arith) in inl (rw (c, n)))
+            | inl begins ↦ inr (rw (eq-eqb s.at e begins, n))
+            | inr ne ↦ (let c = inside_from s e (omega arith) (omega arith) in inl (rw (c, n)))
           ]
       | inr later ↦ elim (holds_begins ss e r later) [
         | inl held ↦ inl (or_right (is_inside s e && names_lock s r) (holds_lock ss e r) held)
         | inr asks ↦ inr (or_right ((s.at == e) && names_lock s r) (asks_lock ss e r) asks)
       ]
     ]
-
-module _ (node : Node) (jobs : List Job) (valid : IsSound node)
-    (own_sections : AreSoundJobs node jobs) where
-  apart_at : (j : ℕ) → AreApart 0 (job_at jobs j).sections (job_at jobs j).executes
-  apart_at = own_sections.apart
-
-  one : 0 < 1
-  one = omega arith
-
-  executed_later : (s u j : ℕ) → s ≤ u
-      → executed_before node jobs s j ≤ executed_before node jobs u j
-  executed_later s u j le = done_later (length jobs) (λ k. (job_at jobs k).ready)
-      (λ k. (job_at jobs k).executes) (is_high node jobs 1 one own_sections.spanned)
-      (rest_at node jobs 1 one own_sections.spanned) (executed_before node jobs) (picked node jobs)
-      (machine node jobs 1 one own_sections.spanned) s u j le
-
-  began_of : (t j : ℕ) → 0 < executed_before node jobs t j → (j < length jobs)
-      × ((job_at jobs j).ready ≤ t)
-  began_of t j h = began (length jobs) (λ k. (job_at jobs k).ready) (λ k. (job_at jobs k).executes)
-      (is_high node jobs 1 one own_sections.spanned) (rest_at node jobs 1 one own_sections.spanned)
-      (executed_before node jobs) (picked node jobs)
-      (machine node jobs 1 one own_sections.spanned) t j h
-
-  -- two jobs of a task that are both pending overrun
-  two_pending : (t j k : ℕ) → j < k → k < length jobs → NoOverrunBy node jobs t
-      → (job_at jobs j).task ≡ (job_at jobs k).task → (job_at jobs k).ready ≤ t
-      → executed_before node jobs t j < (job_at jobs j).executes → ⊥
-  two_pending t j k lt below none same ready open_ =
-      let earlier : executed_before node jobs (job_at jobs k).ready j
-      ≤ executed_before node jobs t j = executed_later (job_at jobs k).ready t j ready in
-      none k below ready (j, lt, same, omega arith)
-
-  granted : ((j : ℕ) → j < length jobs → (job_at jobs j).task < length node.tasks)
-      → NobodyWaits node jobs
-  granted known t p r none pick asks =
-      let is : IsPick node jobs t p = picked_is node jobs t p pick in
-      let pp : ((job_at jobs p).ready ≤ t)
-      × (executed_before node jobs t p < (job_at jobs p).executes) =
-      pending_parts node jobs t p is.is_pending in
-      let held : held_ceiling node (job_at jobs p).sections (executed_before node jobs t p) ≡ 0 =
-      held_none_of node 0 (job_at jobs p).executes (job_at jobs p).sections
-      (executed_before node jobs t p) r (apart_at p) asks in
-      let own : active_of node jobs (executed_before node jobs t) p ≡ level_of_job node jobs p =
-      omega arith in
-      let within : level_of_job node jobs p ≤ ceiling node r =
-      valid.users_below (job_at jobs p).task r (own_sections.uses_own p r
-      (names_from_asks (job_at jobs p).sections (executed_before node jobs t p) r asks)) in
-      let holds_none : (q : List ℕ) → holds_lock (job_at jobs p).sections
-      (executed_before node jobs t p) q ≡ false = λ q. holds_none_of 0 (job_at jobs p).executes
-      (job_at jobs p).sections (executed_before node jobs t p) r q (apart_at p) asks in
-      record {
-        holds_none = holds_none;
-        is_free = λ k lt. elim (cases_Bool
-            (holds_lock (job_at jobs k).sections (executed_before node jobs t k) r)) [
-              | inr free ↦ free
-              | inl holds ↦
-                  let h : (ceiling node r ≤ held_ceiling node (job_at jobs k).sections
-                  (executed_before node jobs t k)) × (0 < executed_before node jobs t k)
-                  × (executed_before node jobs t k < (job_at jobs k).executes) =
-                  ceiling-le_held node 0 (job_at jobs k).executes (job_at jobs k).sections
-                  (executed_before node jobs t k) r (apart_at k) holds in
-                  let b : (k < length jobs) × ((job_at jobs k).ready ≤ t) = began_of t k h.1 in
-                  let of_k : level_of_job node jobs k ≤ ceiling node r = valid.users_below
-                  (job_at jobs k).task r (own_sections.uses_own k r (names_from_holds
-                  (job_at jobs k).sections (executed_before node jobs t k) r holds)) in
-                  let same_level : level_of_job node jobs p ≡ level_of_job node jobs k =
-                  elim (is.first k lt (pending_from node jobs t k b.1 h.2)) [
-                    | inl less ↦ omega arith
-                    | inr tied ↦ omega arith
-                  ] in
-                  let same : (job_at jobs p).task ≡ (job_at jobs k).task =
-                  valid.levels_differ (job_at jobs p).task (job_at jobs k).task (known p is.below)
-                  (known k lt) same_level in
-                  elim (cases_order p k) [
-                    | inl e ↦ absurd (true≢false (sym holds ∙ subst (λ x. holds_lock (job_at jobs
-                        x).sections (executed_before node jobs t x) r ≡ false) e (holds_none r)))
-                    | inr differ ↦ elim differ [
-                      | inl before ↦ absurd (two_pending t p k before lt none same b.1 pp.1)
-                      | inr after ↦
-                          absurd (two_pending t k p after is.below none (sym same) pp.0 h.2)
-                    ]
-                  ]
-            ];
-        at_own_level = own;
-        within_ceiling = within;
-      }
-
-pub nobody_waits_law : (node : Node) (jobs : List Job) → IsNode node → AreLegalJobs node jobs
-    → TakeTurns jobs → NobodyWaits node jobs
-nobody_waits_law node jobs valid legal turns =
-    granted node jobs (sound node valid) (sound_jobs node jobs legal.within turns) legal.known
 
 -- a job that takes its sections in turn asks for no lock that it holds
 pub anew_law : (jobs : List Job) → TakeTurns jobs → AskAnew jobs
@@ -262,24 +132,20 @@ anew_law jobs turns j e r asks = holds_none_of 0 (job_at jobs j).executes (job_a
 -- a job that has executed was ready before
 pub began_strictly : (node : Node) (jobs : List Job) (t j : ℕ) → 0 < executed_before node jobs t j
     → (job_at jobs j).ready < t
-began_strictly node jobs zero j h = let z : executed_before node jobs 0 j ≡ 0 =
-    start_of node jobs j in absurd (omega arith)
+began_strictly node jobs zero j h = absurd (omega (arith, start_of node jobs j))
 began_strictly node jobs (suc t) j h =
     elim (picked node jobs t) as (λ r. picked node jobs t ≡ r → (job_at jobs j).ready < suc t) [
-      | None ↦ λ e. (let s : executed_before node jobs (suc t) j ≡ executed_before node jobs t j =
-          idle_of node jobs t j e in let ih : (job_at jobs j).ready < t =
-          began_strictly node jobs t j (omega arith) in omega arith)
+      | None ↦ λ e. (let s = idle_of node jobs t j e in let ih = began_strictly node jobs t j
+          (omega arith) in omega arith)
       | Some p ↦ λ e. elim (cases_eq j p) [
         | inl same ↦
-            let is : IsPick node jobs t p = picked_is node jobs t p e in
-            let pp : ((job_at jobs p).ready ≤ t)
-            × (executed_before node jobs t p < (job_at jobs p).executes) =
-            pending_parts node jobs t p is.is_pending in
-            let r : (job_at jobs j).ready ≡ (job_at jobs p).ready =
-            ap (λ x. (job_at jobs x).ready) same in
-            omega arith
-        | inr ne ↦ (let s : executed_before node jobs (suc t) j ≡ executed_before node jobs t j =
-            other_of node jobs t p j e ne in let ih : (job_at jobs j).ready < t =
-            began_strictly node jobs t j (omega arith) in omega arith)
+            omega (
+              arith,
+              pending_parts node jobs t p (picked_is node jobs t p e).is_pending,
+              ap
+                  (λ x. (job_at jobs x).ready) same,
+            )
+        | inr ne ↦ (let s = other_of node jobs t p j e ne in let ih = began_strictly node jobs t j
+            (omega arith) in omega arith)
       ]
     ] refl

@@ -6,7 +6,6 @@ use Rattle.std.proofs.lemmas.Bool.{cases_eq, cases_lt, cases_Bool, lt-ltb, le-le
 use Rattle.std.proofs.lemmas.Bool.{ltb-true, and_parts, and_from, eq-eqb, ne_eqb}
 use Rattle.ceiling_kernel.specs.Tick.{Node, Job, job_at, job_task, level_of_job, is_pending}
 use Rattle.ceiling_kernel.specs.Tick.{active_of, held_ceiling, one_more, executed_before, picked}
-use Rattle.ceiling_kernel.specs.Behaviours.{AreApart}
 use Rattle.ceiling_kernel.proofs.PickLaws.{IsBest, best_some, best_none, best_exists}
 use Rattle.ceiling_kernel.specs.Readings.{IsPicked}
 use Rattle.ceiling_kernel.proofs.BehaviourLaws.{HasSpans, taken_apart}
@@ -30,8 +29,7 @@ module _ (node : Node) (jobs : List Job) where
 
   pub own_of : (t p : ℕ) → picked node jobs t ≡ Some p
       → executed_before node jobs (suc t) p ≡ suc (executed_before node jobs t p)
-  own_of t p e = let same : eqb p p ≡ true = eq-eqb p p refl in
-      rw (tick_of t p, e, same) (omega arith)
+  own_of t p e = rw (tick_of t p, e, eq-eqb p p refl) (omega arith)
 
   pub other_of : (t p j : ℕ) → picked node jobs t ≡ Some p → j ≢ p
       → executed_before node jobs (suc t) j ≡ executed_before node jobs t j
@@ -57,9 +55,7 @@ module _ (node : Node) (jobs : List Job) where
   pub pending_parts : (t k : ℕ) → is_pending jobs (executed_before node jobs t) t k ≡ true
       → ((job_at jobs k).ready ≤ t) × (executed_before node jobs t k < (job_at jobs k).executes)
   pending_parts t k h =
-      let p : (nat_le (job_at jobs k).ready t ≡ true)
-      × (nat_lt (executed_before node jobs t k) (job_at jobs k).executes ≡ true) =
-      and_parts (nat_le (job_at jobs k).ready t)
+      let p = and_parts (nat_le (job_at jobs k).ready t)
       (nat_lt (executed_before node jobs t k) (job_at jobs k).executes) h in (
         leb-true (job_at jobs k).ready t p.0,
         ltb-true (executed_before node jobs t k)
@@ -88,13 +84,11 @@ module _ (node : Node) (jobs : List Job) where
         ≤ rest_of node level (spanned j).spans e) × (0 < e) × (e < (job_at jobs j).executes)
     within_span j e h =
         let o : HasSpans node jobs j = spanned j in
-        let apart : AreApart 0 o.spans (job_at jobs j).executes = taken_apart
-        (job_task node jobs j).sections 0 (job_at jobs j).executes o.spans o.taken in
-        let le : stretch node level (job_at jobs j).sections ((job_at jobs j).executes - e) e
-        ≤ rest_of node level o.spans e = stretch-le node level some 0 (job_at jobs j).executes
-        (job_at jobs j).sections o.spans apart o.above ((job_at jobs j).executes - e) e in
-        let in_ : (0 < e) × (e < (job_at jobs j).executes) =
-        rest_after node level 0 (job_at jobs j).executes o.spans e apart (omega arith) in
+        let apart = taken_apart (job_task node jobs j).sections 0 (job_at jobs j).executes o.spans
+        o.taken in
+        let le = stretch-le node level some 0 (job_at jobs j).executes (job_at jobs j).sections
+        o.spans apart o.above ((job_at jobs j).executes - e) e in
+        let in_ = rest_after node level 0 (job_at jobs j).executes o.spans e apart (omega arith) in
         (le, in_.0, in_.1)
 
     -- before its end a job's held ceiling that reaches the level is held inside of a span
@@ -102,10 +96,9 @@ module _ (node : Node) (jobs : List Job) where
         → e < (job_at jobs j).executes
     before_end j e h =
         let o : HasSpans node jobs j = spanned j in
-        let apart : AreApart 0 o.spans (job_at jobs j).executes = taken_apart
-        (job_task node jobs j).sections 0 (job_at jobs j).executes o.spans o.taken in
-        let up : held_ceiling node (job_at jobs j).sections e ≤ held_ceiling node o.spans e =
-        o.above e in
+        let apart = taken_apart (job_task node jobs j).sections 0 (job_at jobs j).executes o.spans
+        o.taken in
+        let up = o.above e in
         (rest_after node level 0 (job_at jobs j).executes o.spans e apart
         (rest_from_held node level o.spans e some (omega arith))).1
 
@@ -116,18 +109,13 @@ module _ (node : Node) (jobs : List Job) where
         elim (cases_lt (level_of_job node jobs j) level) [
           | inr ge ↦ inl (le-leb level (level_of_job node jobs j) ge)
           | inl low ↦
-              let not_high : is_high j ≡ false = lt-leb level (level_of_job node jobs j) low in
               let held : level ≤ held_ceiling node (job_at jobs j).sections
               (executed_before node jobs t j) = omega arith in
-              let open_ : executed_before node jobs t j < (job_at jobs j).executes =
-              before_end j (executed_before node jobs t j) held in
-              let left : 0 < stretch node level (job_at jobs j).sections
-              ((job_at jobs j).executes - executed_before node jobs t j)
-              (executed_before node jobs t j) =
-              stretch_from node level (job_at jobs j).sections
+              let open_ = before_end j (executed_before node jobs t j) held in
+              let left = stretch_from node level (job_at jobs j).sections
               ((job_at jobs j).executes - executed_before node jobs t j)
               (executed_before node jobs t j) (omega arith) held in
-              inr (rw not_high left)
+              inr (rw (lt-leb level (level_of_job node jobs j) low) left)
         ]
 
     low_rest : (j e : ℕ) → 0 < rest_at j e → (is_high j ≡ false)
@@ -143,15 +131,14 @@ module _ (node : Node) (jobs : List Job) where
         → level ≤ active_of node jobs (executed_before node jobs t) j
     active_from_hot j t h =
         elim h [
-          | inl is ↦ (let l : level ≤ level_of_job node jobs j =
-              leb-true level (level_of_job node jobs j) is in omega arith)
+          | inl is ↦ omega (arith, leb-true level (level_of_job node jobs j) is)
           | inr left ↦
-              let held : level ≤ held_ceiling node (job_at jobs j).sections
-              (executed_before node jobs t j) =
-              stretch_held node level (job_at jobs j).sections
-              ((job_at jobs j).executes - executed_before node jobs t j) (executed_before node
-              jobs t j) (low_rest j (executed_before node jobs t j) left).1 in
-              omega arith
+              omega (
+                arith,
+                stretch_held node level (job_at jobs j).sections
+                    ((job_at jobs j).executes - executed_before node jobs t j) (executed_before node
+                    jobs t j) (low_rest j (executed_before node jobs t j) left).1,
+              )
         ]
 
     pub machine : IsMachine (length jobs) (λ j. (job_at jobs j).ready) (λ j.
@@ -161,33 +148,27 @@ module _ (node : Node) (jobs : List Job) where
       when_idle = idle_of;
       of_picked = own_of;
       of_other = other_of;
-      picked_exists = λ t p e. (let is : IsPick t p = picked_is t p e in is.below);
+      picked_exists = λ t p e. ((picked_is t p e).below);
       picked_ready =
-          λ t p e. (let is : IsPick t p = picked_is t p e in (pending_parts t p is.is_pending).0);
+          λ t p e. ((pending_parts t p (picked_is t p e).is_pending).0);
       picked_unfinished =
-          λ t p e. (let is : IsPick t p = picked_is t p e in (pending_parts t p is.is_pending).1);
+          λ t p e. ((pending_parts t p (picked_is t p e).is_pending).1);
       works = works_of;
       hot_first = λ t p k e lt r c hot.
-          let is : IsPick t p = picked_is t p e in
-          let at_least : level ≤ active_of node jobs (executed_before node jobs t) k =
-          active_from_hot k t hot in
-          hot_from_active p t (elim (is.first k lt (pending_from t k r c)) [
+          let at_least = active_from_hot k t hot in
+          hot_from_active p t (elim ((picked_is t p e).first k lt (pending_from t k r c)) [
             | inl less ↦ omega arith
             | inr tied ↦ omega arith
           ]);
       rest_low = λ j e is. rw is;
       rest_first = λ j. (elim (cases_eq (rest_at j 0) 0) [
         | inl none ↦ none
-        | inr some_left ↦ (let low : (is_high j ≡ false)
-            × (0 < stretch node level (job_at jobs j).sections ((job_at jobs j).executes - 0) 0) =
-            low_rest j 0 (omega arith) in absurd (omega (arith, (within_span j 0 low.1).1)))
+        | inr some_left ↦ (let low = low_rest j 0 (omega arith) in absurd
+            (omega (arith, (within_span j 0 low.1).1)))
       ]);
       rest_next = λ j e h.
-          let low : (is_high j ≡ false)
-          × (0 < stretch node level (job_at jobs j).sections ((job_at jobs j).executes - e) e) =
-          low_rest j e h in
-          let not : is_high j ≡ false = low.0 in
-          rw not (stretch_next node level (job_at jobs j).sections (job_at jobs j).executes e
+          let low = low_rest j e h in
+          rw low.0 (stretch_next node level (job_at jobs j).sections (job_at jobs j).executes e
           (within_span j e low.1).2 low.1);
       rest_inside = λ j e h. (within_span j e (low_rest j e h).1).2;
     }

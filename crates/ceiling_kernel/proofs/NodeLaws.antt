@@ -10,7 +10,6 @@ use Rattle.std.proofs.lemmas.List.Elements.{All-get_or}
 use Rattle.std.proofs.lemmas.List.Sums.{sum_by-cons}
 use Rattle.task_sheet.specs.Sheet.{Task, CriticalSection, AreSections, IsSection, IsValidSheet}
 use Rattle.task_sheet.specs.Sheet.{no_task, task_at}
-use Rattle.task_sheet.specs.TaskSet.{IsTaskSet}
 use Rattle.task_sheet.specs.Locks.{uses, ceiling_from}
 use Rattle.task_sheet.specs.Indexes.{among}
 use Rattle.task_sheet.specs.Orders.{Stands, AllStand}
@@ -68,8 +67,7 @@ pub level_past : (l : ℕ) (order : List ℕ) (i : ℕ) → times i order ≡ 0 
 level_past l [] i h = refl
 level_past l (x ∷ order) i h =
     elim (cases_Bool (x == i)) [
-      | inl here ↦ (let more : times i (x ∷ order) ≡ 1 + times i order =
-          times-here i x order here in absurd (omega arith))
+      | inl here ↦ absurd (omega (arith, times-here i x order here))
       | inr not ↦
           let more : times i (x ∷ order) ≡ times i order = times-not i x order not in
           rw not (level_past (l + 1) order i (omega arith))
@@ -84,8 +82,7 @@ same_level l (x ∷ order) i k hi hk e =
         | inl xk ↦ sym (eqb-true x i xi) ∙ eqb-true x k xk
         | inr nk ↦
             let more : times k (x ∷ order) ≡ times k order = times-not k x order nk in
-            let up : l + 1 ≤ level_from (l + 1) order k =
-            level_named (l + 1) order k (omega arith) in
+            let up = level_named (l + 1) order k (omega arith) in
             let e' : l ≡ level_from (l + 1) order k = rw (xi, nk) at e in
             absurd (omega arith)
       ]
@@ -93,8 +90,7 @@ same_level l (x ∷ order) i k hi hk e =
           let more_i : times i (x ∷ order) ≡ times i order = times-not i x order ni in
           elim (cases_Bool (x == k)) [
             | inl xk ↦
-                let up : l + 1 ≤ level_from (l + 1) order i =
-                level_named (l + 1) order i (omega arith) in
+                let up = level_named (l + 1) order i (omega arith) in
                 let e' : level_from (l + 1) order i ≡ l = rw (ni, xk) at e in
                 absurd (omega arith)
             | inr nk ↦
@@ -140,23 +136,19 @@ user_level U l (x ∷ order) lock i h u =
             | inl here ↦ rw here (omega arith)
             | inr not ↦
                 let more : times i (x ∷ order) ≡ times i order = times-not i x order not in
-                let ih : level_from (l + 1) order i ≤ unwrap_or (ceiling_from (l + 1) U order lock)
-                0 = user_level U (l + 1) order lock i (omega arith) u in
+                let ih = user_level U (l + 1) order lock i (omega arith) u in
                 let ih' : level_from (l + 1) order i ≤ d = rw is at ih in
                 rw not ih'
           ]
       | None ↦ λ is. elim (cases_Bool (x == i)) [
         | inl here ↦
-            let ux : uses (task_at U x) lock ≡ true =
-            subst (λ z. uses (task_at U z) lock ≡ true) (sym (eqb-true x i here)) u in
+            let ux = subst (λ z. uses (task_at U z) lock ≡ true) (sym (eqb-true x i here)) u in
             rw (here, ux) (omega arith)
         | inr not ↦
             let more : times i (x ∷ order) ≡ times i order = times-not i x order not in
-            let ih : level_from (l + 1) order i ≤ unwrap_or (ceiling_from (l + 1) U order lock) 0 =
-            user_level U (l + 1) order lock i (omega arith) u in
+            let ih = user_level U (l + 1) order lock i (omega arith) u in
             let ih' : level_from (l + 1) order i ≤ 0 = rw is at ih in
-            let up : l + 1 ≤ level_from (l + 1) order i =
-            level_named (l + 1) order i (omega arith) in
+            let up = level_named (l + 1) order i (omega arith) in
             absurd (omega arith)
       ]
     ] refl
@@ -178,15 +170,14 @@ ceiling_user U l (x ∷ order) lock c once e =
     → IsUserAt U l (x ∷ order) lock c) [
       | Some d ↦ λ is h.
           let same : d ≡ c = cc in
-          let ih : IsUserAt U (l + 1) order lock d = ceiling_user U (l + 1) order lock d
-          (λ k. omega (arith, once k, times-grow k x order)) is in
+          let ih = ceiling_user U (l + 1) order lock d (λ k. omega
+          (arith, once k, times-grow k x order)) is in
           let i : ℕ = ih.task in
           let o : times i (x ∷ order) ≤ 1 = once i in
           let n : 0 < times i order = ih.named in
           let grow : times i order ≤ times i (x ∷ order) = times-grow i x order in
           elim (cases_Bool (x == i)) [
-            | inl here ↦ (let more' : times i (x ∷ order) ≡ 1 + times i order =
-                times-here i x order here in absurd (omega arith))
+            | inl here ↦ absurd (omega (arith, times-here i x order here))
             | inr not ↦ record {
               task = i;
               named = omega arith;
@@ -210,8 +201,8 @@ among-times : (order : List ℕ) (h : ℕ) → among order h ≡ nat_lt 0 (times
 among-times [] h = sym (le-ltb 0 (times h []) (omega (arith, times-nil h)))
 among-times (x ∷ order) h =
     elim (cases_Bool (x == h)) [
-      | inl here ↦ (let t : nat_lt 0 (times h (x ∷ order)) ≡ true =
-          lt-ltb 0 (times h (x ∷ order)) (omega (arith, times-here h x order here)) in rw (here, t))
+      | inl here ↦ (let t = lt-ltb 0 (times h (x ∷ order))
+          (omega (arith, times-here h x order here)) in rw (here, t))
       | inr not ↦ rw (not, times-not h x order not) (among-times order h)
     ]
 
@@ -229,7 +220,7 @@ stands-after U (x ∷ order) i all named =
     elim (cases_Bool (x == i)) [
       | inl here ↦ rw here (subst (λ k. Stands U k (among order)) (eqb-true x i here) all.0)
       | inr not ↦ rw not (stands-after U order i all.1
-          (let more : times i (x ∷ order) ≡ times i order = times-not i x order not in omega arith))
+          (omega (arith, times-not i x order not)))
     ]
 
 -- who stands after a task stands at a higher level
@@ -241,41 +232,32 @@ after-higher l (x ∷ order) i some once named h =
     elim (cases_Bool (x == i)) [
       | inl here ↦ rw here (elim (cases_Bool (x == h)) [
         | inl xh ↦
-            let none : times h order ≡ 0 = (let o : times h (x ∷ order) ≤ 1 = once h in let more :
-            times h (x ∷ order) ≡ 1 + times h order = times-here h x order xh in omega arith) in
+            let none : times h order ≡ 0 = omega (arith, once h, times-here h x order xh) in
             let f : nat_lt l l ≡ false = le-ltb l l (omega arith) in
             rw (xh, f) (among-none order h none)
         | inr nh ↦ elim (cases_eq (times h order) 0) [
           | inl none ↦
-              let z : level_from (l + 1) order h ≡ 0 = level_past (l + 1) order h none in
               let f : nat_lt l 0 ≡ false = le-ltb l 0 (omega arith) in
-              rw (nh, z, f) (among-none order h none)
+              rw (nh, level_past (l + 1) order h none, f) (among-none order h none)
           | inr one ↦
-              let up : l + 1 ≤ level_from (l + 1) order h =
-              level_named (l + 1) order h (omega arith) in
-              let t : nat_lt l (level_from (l + 1) order h) ≡ true =
-              lt-ltb l (level_from (l + 1) order h) (omega arith) in
+              let up = level_named (l + 1) order h (omega arith) in
+              let t = lt-ltb l (level_from (l + 1) order h) (omega arith) in
               rw (nh, t) (among-some order h (omega arith))
         ]
       ])
       | inr not ↦
-          let some_i : 0 < times i order = (let more : times i (x ∷ order) ≡ times i order =
-          times-not i x order not in omega arith) in
-          let ih : among (after_of order i) h ≡ nat_lt (level_from (l + 1) order i)
-          (level_from (l + 1) order h) = after-higher (l + 1) order i (omega arith)
+          let some_i : 0 < times i order = omega (arith, times-not i x order not) in
+          let ih = after-higher (l + 1) order i (omega arith)
           (λ k. omega (arith, once k, times-grow k x order)) some_i h in
           let up : l + 1 ≤ level_from (l + 1) order i = level_named (l + 1) order i some_i in
           rw not (elim (cases_Bool (x == h)) [
             | inl xh ↦
                 let none : times h order ≡ 0 =
-                (let o : times h (x ∷ order) ≤ 1 = once h in let more : times h (x ∷ order)
-                ≡ 1 + times h order = times-here h x order xh in omega arith) in
-                let z : level_from (l + 1) order h ≡ 0 = level_past (l + 1) order h none in
-                let f : nat_lt (level_from (l + 1) order i) l ≡ false =
-                le-ltb (level_from (l + 1) order i) l (omega arith) in
-                let g : nat_lt (level_from (l + 1) order i) 0 ≡ false =
-                le-ltb (level_from (l + 1) order i) 0 (omega arith) in
-                rw (xh, f) (ih ∙ (ap (nat_lt (level_from (l + 1) order i)) z ∙ g))
+                omega (arith, once h, times-here h x order xh) in
+                let f = le-ltb (level_from (l + 1) order i) l (omega arith) in
+                let g = le-ltb (level_from (l + 1) order i) 0 (omega arith) in
+                rw (xh, f) (ih ∙ (ap (nat_lt (level_from (l + 1) order i))
+                (level_past (l + 1) order h none) ∙ g))
             | inr nh ↦ rw nh ih
           ])
     ]
@@ -314,9 +296,7 @@ module _ (node : Node) (ok : IsNode node) where
 
   named : (i : ℕ) → i < length node.tasks → 0 < times i node.order
   named i lt =
-      let once : times i node.order ≡ cond (nat_lt i (length node.tasks)) 1 0 = times-order i in
-      let t : nat_lt i (length node.tasks) ≡ true = lt-ltb i (length node.tasks) lt in
-      let one : times i node.order ≡ 1 = rw t at once in
+      let one : times i node.order ≡ 1 = rw (lt-ltb i (length node.tasks) lt) at (times-order i) in
       omega arith
 
   at_most_once : (i : ℕ) → times i node.order ≤ 1
@@ -328,8 +308,7 @@ module _ (node : Node) (ok : IsNode node) where
       ]
 
   valid_at : (i : ℕ) → i < length node.tasks → IsValidSheet (task_at node.tasks i)
-  valid_at i lt = (let set : IsTaskSet node.tasks = ok.tasks in
-      All-get_or IsValidSheet node.tasks i no_task lt set.valid)
+  valid_at i lt = All-get_or IsValidSheet node.tasks i no_task lt ok.tasks.valid
 
   pub sound : IsSound node
   sound = record {
@@ -343,7 +322,7 @@ module _ (node : Node) (ok : IsNode node) where
               (omega arith) v.sections;
           deadline_within = v.deadline_to;
           period_from_one =
-              (let p : 1000 ≤ (task_at node.tasks i).period = v.period_from in omega arith);
+              omega (arith, v.period_from);
           late_within = late_room (task_at node.tasks i) v;
           late_before = late_less (task_at node.tasks i) v;
         };
@@ -351,8 +330,8 @@ module _ (node : Node) (ok : IsNode node) where
     users_below = λ i lock u. elim (cases_lt i (length node.tasks)) [
       | inl lt ↦ user_level node.tasks 1 node.order lock i (named i lt) u
       | inr past ↦
-          let none : task_at node.tasks i ≡ no_task = get_or_past node.tasks i no_task past in
-          let u' : false ≡ true = subst (λ t. uses t lock ≡ true) none u in
+          let u' : false ≡ true = subst (λ t. uses t lock ≡ true)
+          (get_or_past node.tasks i no_task past) u in
           absurd (true≢false (sym u'))
     ];
   }
@@ -367,16 +346,14 @@ module _ (node : Node) (ok : IsNode node) where
       × (level ≤ level_in_order node h) × (uses (task_at node.tasks h) lock ≡ true)) [
         | None ↦ λ is h. absurd (omega arith)
         | Some c ↦ λ is h.
-            let at_top : IsUserAt node.tasks 1 node.order lock c =
-            ceiling_user node.tasks 1 node.order lock c at_most_once is in
+            let at_top = ceiling_user node.tasks 1 node.order lock c at_most_once is in
             let i : ℕ = at_top.task in
-            let once : times i node.order ≡ cond (nat_lt i (length node.tasks)) 1 0 =
-            times-order i in
             let n : 0 < times i node.order = at_top.named in
             let l : level_in_order node i ≡ c = at_top.level in
             elim (cases_Bool (nat_lt i (length node.tasks))) [
               | inl t ↦ (i, ltb-true i (length node.tasks) t, omega arith, at_top.user)
-              | inr f ↦ (let e : times i node.order ≡ 0 = rw f at once in absurd (omega arith))
+              | inr f ↦ (let e : times i node.order ≡ 0 = rw f at (times-order i) in absurd
+                  (omega arith))
             ]
       ] refl le
 

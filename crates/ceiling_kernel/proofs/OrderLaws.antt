@@ -1,6 +1,6 @@
 -- What the tests of an order show.
 use Rattle.std.proofs.Common.{ℕ, zero, suc, ◌+◌, ◌<◌, ◌≤◌, ◌≡◌, ◌↔◌, inl, inr, refl, sym, ap, ◌∙◌}
-use Rattle.std.proofs.Common.{arith, true, false, cond, ◌==◌, nat_lt, List, [], ◌∷◌, length}
+use Rattle.std.proofs.Common.{arith, false, cond, ◌==◌, nat_lt, List, [], ◌∷◌, length}
 use Rattle.std.proofs.Common.{count_by, All, eqb}
 use Rattle.std.proofs.lemmas.Bool.{cases_Bool, cases_lt, eq-eqb, ne_eqb, lt-ltb, le-ltb}
 use Rattle.task_sheet.specs.Indexes.{below}
@@ -35,14 +35,10 @@ below_from_times n (x ∷ xs) h =
     let mine : x < n = elim (cases_lt x n) [
       | inl lt ↦ lt
       | inr ge ↦
-          let t : eqb x x ≡ true = eq-eqb x x refl in
-          let one : times x (x ∷ xs) ≡ 1 + times x xs = times-here x x xs t in
-          let none : times x (x ∷ xs) ≡ 0 = h x ge in
-          absurd (omega arith)
+          absurd (omega (arith, times-here x x xs (eq-eqb x x refl), h x ge))
     ] in (
       mine,
-      below_from_times n xs (λ k le. (let g : times k xs ≤ times k (x ∷ xs) =
-          times-grow k x xs in let z : times k (x ∷ xs) ≡ 0 = h k le in omega arith)),
+      below_from_times n xs (λ k le. (omega (arith, times-grow k x xs, h k le))),
     )
 
 times-order : (n : ℕ) (order : List ℕ) → IsOrderOf (below n) order → (k : ℕ)
@@ -63,31 +59,33 @@ order_iff n order = (forth, back)
         → IsOrderOf (below n) order
     forth h k = elim (cases_lt k n) [
       | inl lt ↦
-          (let t : nat_lt k n ≡ true = lt-ltb k n lt in h.1 k lt ∙ sym (ap (λ b. cond b 1 0) t))
-      | inr ge ↦ (let f : nat_lt k n ≡ false = le-ltb k n ge in sym (times-count k order)
-          ∙ (times-past n k order (below_from_All n order h.0) ge ∙ sym (ap (λ b. cond b 1 0) f)))
+          h.1 k lt ∙ sym (ap (λ b. cond b 1 0) (lt-ltb k n lt))
+      | inr ge ↦ sym (times-count k order)
+          ∙ (times-past n k order (below_from_All n order h.0) ge ∙ sym
+          (ap (λ b. cond b 1 0) (le-ltb k n ge)))
     ]
 
     back : IsOrderOf (below n) order → All (λ x. x < n) order
         × ((k : ℕ) → k < n → count_by (λ x. x == k) order ≡ 1)
     back h = (
-      All_from_below n order (below_from_times n order (λ k le. (let f : nat_lt k n ≡ false =
-          le-ltb k n le in times-order n order h k ∙ ap (λ b. cond b 1 0) f))),
-      λ k lt. (let t : nat_lt k n ≡ true = lt-ltb k n lt in h k ∙ ap (λ b. cond b 1 0) t),
+      All_from_below n order (below_from_times n order (λ k le.
+          (times-order n order h k ∙ ap (λ b. cond b 1 0) (le-ltb k n le)))),
+      λ k lt. (h k ∙ ap (λ b. cond b 1 0) (lt-ltb k n lt)),
     )
 
 -- an order of n indexes has n elements
 total-times : (n : ℕ) (xs : List ℕ) → AllBelow n xs → total (λ k. times k xs) n ≡ length xs
 total-times n [] h = total-zero (λ k. times k []) n (λ k lt. times-nil k)
 total-times n (x ∷ xs) h =
-    let same : total (λ k. times k (x ∷ xs)) n ≡ total (λ k. cond (x == k) 1 0 + times k xs) n =
-    total-same (λ k. times k (x ∷ xs)) (λ k. cond (x == k) 1 0 + times k xs) n
-    (λ k lt. split k) in
-    let parts : total (λ k. cond (x == k) 1 0 + times k xs) n ≡ total (λ k. cond (x == k) 1 0)
-    n + total (λ k. times k xs) n = total-add (λ k. cond (x == k) 1 0) (λ k. times k xs) n in
-    let one : total (λ k. cond (x == k) 1 0) n ≡ 1 = total-single (λ k. 1) n x h.0 in
-    let ih : total (λ k. times k xs) n ≡ length xs = total-times n xs h.1 in
-    omega arith
+    omega (
+      arith,
+      total-same (λ k. times k (x ∷ xs)) (λ k. cond (x == k) 1 0 + times k xs) n
+          (λ k lt. split k),
+      total-add (λ k. cond (x == k) 1 0) (λ k. times k xs) n,
+      total-single (λ k. 1)
+          n x h.0,
+      total-times n xs h.1,
+    )
   where
     split : (k : ℕ) → times k (x ∷ xs) ≡ cond (x == k) 1 0 + times k xs
     split k = elim (cases_Bool (x == k)) [

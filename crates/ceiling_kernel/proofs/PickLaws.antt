@@ -1,6 +1,6 @@
 -- What the pick is: the one pending job that no pending job goes before.
 use Rattle.std.proofs.Common.{ℕ, zero, suc, ◌<◌, ◌≤◌, ◌≡◌, ◌≢◌, ◌⊎◌, inl, inr, refl, sym, ap, ◌∙◌}
-use Rattle.std.proofs.Common.{subst, arith, Bool, true, false, ◌==◌, Option, Some, None, nat_lt}
+use Rattle.std.proofs.Common.{subst, arith, Bool, true, false, Option, Some, None, nat_lt}
 use Rattle.std.proofs.lemmas.Bool.{cases_eq, cases_lt, cases_Bool, true≢false, lt-ltb, le-ltb}
 use Rattle.std.proofs.lemmas.Bool.{ltb-true, eq-eqb, ne_eqb}
 use Rattle.ceiling_kernel.specs.Tick.{gives_way, better_of, best}
@@ -34,13 +34,12 @@ module _ (pending : ℕ → Bool) (active level : ℕ → ℕ) where
             let x : nat_lt (active k) (active j) ≡ false = le-ltb (active k) (active j) ge in
             elim (cases_eq (active k) (active j)) [
               | inl e ↦
-                  let y : (active k == active j) ≡ true = eq-eqb (active k) (active j) e in
-                  let z : nat_lt (level j) (level k) ≡ true = rw (x, y) at h in
+                  let z : nat_lt (level j) (level k) ≡ true = rw (x, eq-eqb (active k) (active j) e)
+                  at h in
                   let lt : level j < level k = ltb-true (level j) (level k) z in
                   inr (e, omega arith)
               | inr ne ↦
-                  let y : (active k == active j) ≡ false = ne_eqb (active k) (active j) ne in
-                  let z : false ≡ true = rw (x, y) at h in
+                  let z : false ≡ true = rw (x, ne_eqb (active k) (active j) ne) at h in
                   absurd (true≢false (sym z))
             ]
       ]
@@ -52,19 +51,19 @@ module _ (pending : ℕ → Bool) (active level : ℕ → ℕ) where
         | inr ge ↦
             elim (cases_eq (active k) (active j)) [
               | inr ne ↦
-                  let x : nat_lt (active k) (active j) ≡ true =
-                  lt-ltb (active k) (active j) (omega arith) in
+                  let x = lt-ltb (active k) (active j) (omega arith) in
                   let z : true ≡ false = rw x at h in
                   absurd (true≢false z)
               | inl e ↦
                   elim (cases_lt (level j) (level k)) [
                     | inl lower ↦
-                        let y : (active k == active j) ≡ true = eq-eqb (active k) (active j) e in
-                        let x : nat_lt (active k) (active j) ≡ false =
-                        le-ltb (active k) (active j) (omega arith) in
-                        let w : nat_lt (level j) (level k) ≡ true =
-                        lt-ltb (level j) (level k) lower in
-                        let z : true ≡ false = rw (x, y, w) at h in
+                        let x = le-ltb (active k) (active j) (omega arith) in
+                        let z : true ≡ false = rw (
+                          x,
+                          eq-eqb (active k) (active j) e,
+                          lt-ltb
+                              (level j) (level k) lower,
+                        ) at h in
                         absurd (true≢false z)
                     | inr not_lower ↦ inr (sym e, not_lower)
                   ]
@@ -72,8 +71,7 @@ module _ (pending : ℕ → Bool) (active level : ℕ → ℕ) where
       ]
 
   pub same_place : (k j : ℕ) → k ≡ j → NotBefore k j
-  same_place k j e = let a : active k ≡ active j = ap active e in let l : level k ≡ level j =
-      ap level e in inr (a, omega arith)
+  same_place k j e = let l = ap level e in inr (ap active e, omega arith)
 
   step : (n : ℕ) (r : Option ℕ) → IsOutcome n r
       → IsOutcome (suc n) (better_of pending active level r n)
@@ -104,7 +102,7 @@ module _ (pending : ℕ → Bool) (active level : ℕ → ℕ) where
             ];
           })
           | inr holds ↦ rw (is, holds) (record {
-            below = (let b : j < n = h.below in omega arith);
+            below = omega (arith, h.below);
             is_pending = h.is_pending;
             first = λ k lt p. elim (cases_eq k n) [
               | inl e ↦ trans k n j (same_place k n e)
@@ -114,7 +112,7 @@ module _ (pending : ℕ → Bool) (active level : ℕ → ℕ) where
           })
         ]
         | inr not ↦ rw not (record {
-          below = (let b : j < n = h.below in omega arith);
+          below = omega (arith, h.below);
           is_pending = h.is_pending;
           first = λ k lt p.
               elim (cases_eq k n) [
@@ -134,7 +132,7 @@ module _ (pending : ℕ → Bool) (active level : ℕ → ℕ) where
 
   pub best_none : (n k : ℕ) → best pending active level n ≡ None → k < n → pending k ≡ false
   best_none n k e lt =
-      (let none : IsOutcome n None = subst (IsOutcome n) e (outcome n) in none k lt)
+      (subst (IsOutcome n) e (outcome n)) k lt
 
   pub best_exists : (n k : ℕ) → k < n → pending k ≡ true → (j : ℕ)
       × (best pending active level n ≡ Some j)
@@ -184,13 +182,12 @@ pub best_same : (p q : ℕ → Bool) (a b level : ℕ → ℕ) (n : ℕ) → ((k
 unfolding best
 best_same p q a b level zero hp ha = refl
 best_same p q a b level (suc n) hp ha =
-    let before : best p a level n ≡ best q b level n =
-    best_same p q a b level n (λ k lt. hp k (omega arith)) (λ k lt. ha k (omega arith)) in
+    let before = best_same p q a b level n (λ k lt. hp k (omega arith))
+    (λ k lt. ha k (omega arith)) in
     rw before (elim (best q b level n) as
     (λ r. best q b level n ≡ r → better_of p a level r n ≡ better_of q b level r n) [
       | None ↦ λ e. rw (hp n (omega arith))
       | Some k ↦ λ e.
-          let is : IsBest q b level n k = best_some q b level n k e in
-          let lt : k < n = is.below in
+          let lt : k < n = (best_some q b level n k e).below in
           rw (hp n (omega arith), ha n (omega arith), ha k (omega arith))
     ] refl)

@@ -19,7 +19,7 @@ stands_one (x ∷ xs) (suc n) i k a b = stands_one xs n i k a b
 stands_below : (xs : List ℕ) (n i : ℕ) → StandsAt xs n i → n < length xs
 stands_below [] n i a = absurd a
 stands_below (x ∷ xs) zero i a = omega arith
-stands_below (x ∷ xs) (suc n) i a = let ih : n < length xs = stands_below xs n i a in omega arith
+stands_below (x ∷ xs) (suc n) i a = omega (arith, stands_below xs n i a)
 
 pub head_of : (xs : List ℕ) (n i : ℕ) → StandsAt xs n i → (k : ℕ) × StandsAt xs 0 k
 head_of [] n i a = absurd a
@@ -33,10 +33,6 @@ empty_from (x ∷ xs) none = absurd (none x refl)
 from_rest : (xs : List ℕ) (n i : ℕ) → StandsAt (drop 1 xs) n i → StandsAt xs (suc n) i
 from_rest [] n i a = absurd a
 from_rest (x ∷ xs) n i a = a
-
-to_rest : (xs : List ℕ) (n i : ℕ) → StandsAt xs (suc n) i → StandsAt (drop 1 xs) n i
-to_rest [] n i a = absurd a
-to_rest (x ∷ xs) n i a = a
 
 to_longer : (xs : List ℕ) (j n i : ℕ) → StandsAt xs n i → StandsAt (xs ++ j ∷ []) n i
 to_longer [] j n i a = absurd a
@@ -110,8 +106,8 @@ highest_none ([] ∷ lists) found e =
     empty : ((q : ℕ) → list_at lists q ≡ []) → (q : ℕ) → list_at ([] ∷ lists) q ≡ []
     empty h zero = refl
     empty h (suc q) = h q
-highest_none ((x ∷ xs) ∷ lists) found e = (let ih : (Some x ≡ None) × AllEmpty lists =
-    highest_none lists (Some x) e in absurd (none-some x (sym ih.0)))
+highest_none ((x ∷ xs) ∷ lists) found e = absurd (none-some x
+    (sym (highest_none lists (Some x) e).0))
 
 pub stands_empty : (xs : List ℕ) (n i : ℕ) → xs ≡ [] → StandsAt xs n i → ⊥
 stands_empty xs n i e a = subst (λ x. StandsAt x n i) e a
@@ -125,8 +121,7 @@ module _ (slots : List (Option Pending)) (lists : List (List ℕ))
   pub head_in_slots : (j : ℕ) → head_of_highest lists None ≡ Some j → j < length slots
   head_in_slots j e =
       let top : (p : ℕ) × IsTop lists p j = highest_some lists j e in
-      let s : (q : Pending) × (slot_of j ≡ Some q) × (q.active ≡ top.0) =
-      queues.sound top.0 0 j top.1.0 in
+      let s = queues.sound top.0 0 j top.1.0 in
       elim (cases_lt j (length slots)) [
         | inl lt ↦ lt
         | inr past ↦ absurd (none-some s.0 (sym (get_or_past slots j None past) ∙ s.1))
@@ -140,14 +135,13 @@ module _ (slots : List (Option Pending)) (lists : List (List ℕ))
       elim not_first [
         | inl less ↦ absurd (omega arith)
         | inr tied ↦
-            let here : StandsAt (list_at lists p.active) place.0 i =
-            subst (λ x. StandsAt (list_at lists x) place.0 i) (sym tied.0) place.1 in
+            let here = subst (λ x. StandsAt (list_at lists x) place.0 i) (sym tied.0) place.1 in
             elim (cases_eq place.0 0) [
               | inl first ↦ stands_one (list_at lists p.active) 0 i j
                   (subst (λ x. StandsAt (list_at lists p.active) x i) first here) head
               | inr behind ↦
-                  let r : p.level < b.level =
-                  queues.rising p.active 0 place.0 j i p b (omega arith) head here at_j at_i in
+                  let r = queues.rising p.active 0 place.0 j i p b (omega arith) head here at_j
+                  at_i in
                   absurd (omega (arith, tied.1))
             ]
       ]
@@ -156,26 +150,22 @@ module _ (slots : List (Option Pending)) (lists : List (List ℕ))
       → x ≡ best_slot slots None
   pick_head j x e read =
       let top : (p : ℕ) × IsTop lists p j = highest_some lists j e in
-      let s : (q : Pending) × (slot_of j ≡ Some q) × (q.active ≡ top.0) =
-      queues.sound top.0 0 j top.1.0 in
+      let s = queues.sound top.0 0 j top.1.0 in
       let p : Pending = s.0 in
-      let head : StandsAt (list_at lists p.active) 0 j =
-      subst (λ y. StandsAt (list_at lists y) 0 j) (sym s.2) top.1.0 in
+      let head = subst (λ y. StandsAt (list_at lists y) 0 j) (sym s.2) top.1.0 in
       elim (best_slot slots None) as (λ r. best_slot slots None ≡ r → x ≡ r) [
         | None ↦ λ none. absurd (nobody j p s.1 none)
         | Some b ↦ λ found.
             let is : IsBestSlot slots None b = slot_some slots None b found in
             let place : (i : ℕ) × (slot_of i ≡ Some b) =
             elim is.from [ inl no_one ↦ absurd (none-some b no_one) | inr at ↦ at ] in
-            let at_b : (n : ℕ) × StandsAt (list_at lists b.active) n place.0 =
-            queues.complete place.0 b place.1 in
+            let at_b = queues.complete place.0 b place.1 in
             let at_most : b.active ≤ p.active = elim (cases_lt top.0 b.active) [
               | inl above ↦ absurd (stands_empty (list_at lists b.active) at_b.0 place.0
                   (top.1.1 b.active above) at_b.1)
-              | inr le ↦ (let a : p.active ≡ top.0 = s.2 in omega arith)
+              | inr le ↦ omega (arith, s.2)
             ] in
-            let same : place.0 ≡ j =
-            is_head j place.0 p b head s.1 place.1 (is.first j p s.1) at_most in
+            let same = is_head j place.0 p b head s.1 place.1 (is.first j p s.1) at_most in
             read ∙ subst (λ y. slot_of y ≡ Some b) same place.1
       ] refl
     where
@@ -188,11 +178,12 @@ module _ (slots : List (Option Pending)) (lists : List (List ℕ))
       elim (best_slot slots None) as (λ r. best_slot slots None ≡ r → None ≡ r) [
         | None ↦ λ none. refl
         | Some b ↦ λ found.
-            let is : IsBestSlot slots None b = slot_some slots None b found in
             let place : (i : ℕ) × (slot_of i ≡ Some b) =
-            elim is.from [ inl no_one ↦ absurd (none-some b no_one) | inr at ↦ at ] in
-            let at_b : (n : ℕ) × StandsAt (list_at lists b.active) n place.0 =
-            queues.complete place.0 b place.1 in
+            elim (slot_some slots None b found).from [
+              | inl no_one ↦ absurd (none-some b no_one)
+              | inr at ↦ at
+            ] in
+            let at_b = queues.complete place.0 b place.1 in
             absurd (stands_empty (list_at lists b.active) at_b.0 place.0 (empty b.active) at_b.1)
       ] refl
 
@@ -215,41 +206,31 @@ module _ (g : ℕ → Option Pending) (f : ℕ → List ℕ) (queues : Queues g 
   head_leaves f' q head at_i gone rest same_list = record {
     sound = λ p n k st. elim (cases_eq p q.active) [
       | inl e ↦
-          let st' : StandsAt (drop 1 (f q.active)) n k =
-          subst (λ x. StandsAt x n k) (ap f' e ∙ rest) st in
+          let st' = subst (λ x. StandsAt x n k) (ap f' e ∙ rest) st in
           let was : StandsAt (f q.active) (suc n) k = from_rest (f q.active) n k st' in
-          let s : (r : Pending) × (g k ≡ Some r) × (r.active ≡ q.active) =
-          queues.sound q.active (suc n) k was in
+          let s = queues.sound q.active (suc n) k was in
           let ne : k ≢ i = λ same.
-          let one : s.0 ≡ q =
-          pending_same (g i) s.0 q (subst (λ x. g x ≡ Some s.0) same s.1) at_i in
+          let one = pending_same (g i) s.0 q (subst (λ x. g x ≡ Some s.0) same s.1) at_i in
           let lv : s.0.level ≡ q.level = ap (λ x. x.level) one in
-          let lt : q.level < s.0.level =
-          queues.rising q.active 0 (suc n) i k q s.0 (omega arith) head was at_i s.1 in
-          omega arith
-          in
+          let lt = queues.rising q.active 0 (suc n) i k q s.0 (omega arith) head was at_i s.1 in
+          omega arith in
           (s.0, others k ne ∙ s.1, s.2 ∙ sym e)
       | inr differ ↦
           let was : StandsAt (f p) n k = subst (λ x. StandsAt x n k) (same_list p differ) st in
           let s : (r : Pending) × (g k ≡ Some r) × (r.active ≡ p) = queues.sound p n k was in
           let ne : k ≢ i = λ same.
-          let one : s.0 ≡ q =
-          pending_same (g i) s.0 q (subst (λ x. g x ≡ Some s.0) same s.1) at_i in
-          differ (sym s.2 ∙ ap (λ x. x.active) one)
-          in
+          let one = pending_same (g i) s.0 q (subst (λ x. g x ≡ Some s.0) same s.1) at_i in
+          differ (sym s.2 ∙ ap (λ x. x.active) one) in
           (s.0, others k ne ∙ s.1, s.2)
     ];
     complete = λ k r e. elim (cases_eq k i) [
       | inl same ↦ absurd (none-some r (sym gone ∙ subst (λ x. g' x ≡ Some r) same e))
       | inr ne ↦
-          let place : (n : ℕ) × StandsAt (f r.active) n k =
-          queues.complete k r (sym (others k ne) ∙ e) in
+          let place = queues.complete k r (sym (others k ne) ∙ e) in
           elim (cases_eq r.active q.active) [
             | inl same ↦
-                let here : StandsAt (f q.active) place.0 k =
-                subst (λ x. StandsAt (f x) place.0 k) same place.1 in
-                let m : (m : ℕ) × StandsAt (drop 1 (f q.active)) m k =
-                not_first (f q.active) place.0 k i here head ne in
+                let here = subst (λ x. StandsAt (f x) place.0 k) same place.1 in
+                let m = not_first (f q.active) place.0 k i here head ne in
                 (m.0, subst (λ x. StandsAt x m.0 k) (sym (ap f' same ∙ rest)) m.1)
             | inr differ ↦ (
               place.0,
@@ -263,10 +244,10 @@ module _ (g : ℕ → Option Pending) (f : ℕ → List ℕ) (queues : Queues g 
         let was' : g h ≡ Some s = still h s e' gone in
         elim (cases_eq p q.active) [
           | inl same ↦
-              let a : StandsAt (f q.active) (suc n) k =
-              from_rest (f q.active) n k (subst (λ x. StandsAt x n k) (ap f' same ∙ rest) st) in
-              let b : StandsAt (f q.active) (suc m) h = from_rest (f q.active) m h
-              (subst (λ x. StandsAt x m h) (ap f' same ∙ rest) st') in
+              let a = from_rest (f q.active) n k (subst (λ x. StandsAt x n k) (ap f' same ∙ rest)
+              st) in
+              let b = from_rest (f q.active) m h (subst (λ x. StandsAt x m h) (ap f' same ∙ rest)
+              st') in
               queues.rising q.active (suc n) (suc m) k h r s (omega arith) a b was was'
           | inr differ ↦
               queues.rising p n m k h r s lt (subst (λ x. StandsAt x n k) (same_list p differ) st)
@@ -290,21 +271,18 @@ module _ (g : ℕ → Option Pending) (f : ℕ → List ℕ) (queues : Queues g 
       | inl e ↦ elim (from_longer (f p.active) i n k
           (subst (λ x. StandsAt x n k) (ap f' e ∙ longer) st)) [
             | inl was ↦
-                let s : (r : Pending) × (g k ≡ Some r) × (r.active ≡ p.active) =
-                queues.sound p.active n k was in
+                let s = queues.sound p.active n k was in
                 (s.0, others k (other k s.0 s.1) ∙ s.1, s.2 ∙ sym e)
             | inr last ↦ (p, subst (λ x. g' x ≡ Some p) last.1 at_i, sym e)
           ]
       | inr differ ↦
-          let s : (r : Pending) × (g k ≡ Some r) × (r.active ≡ l) =
-          queues.sound l n k (subst (λ x. StandsAt x n k) (same_list l differ) st) in
+          let s = queues.sound l n k (subst (λ x. StandsAt x n k) (same_list l differ) st) in
           (s.0, others k (other k s.0 s.1) ∙ s.1, s.2)
     ];
     complete = λ k r e. elim (cases_eq k i) [
       | inl same ↦
           let one : p ≡ r = pending_same (g' i) p r at_i (subst (λ x. g' x ≡ Some r) same e) in
-          let last : StandsAt (f' p.active) (length (f p.active)) i =
-          subst (λ x. StandsAt x (length (f p.active)) i) (sym longer)
+          let last = subst (λ x. StandsAt x (length (f p.active)) i) (sym longer)
           (at_tail (f p.active) i) in (
             length (f p.active),
             subst (λ x. StandsAt (f' x) (length (f p.active)) k)
@@ -312,12 +290,11 @@ module _ (g : ℕ → Option Pending) (f : ℕ → List ℕ) (queues : Queues g 
                 (subst (λ x. StandsAt (f' p.active) (length (f p.active)) x) (sym same) last),
           )
       | inr ne ↦
-          let place : (n : ℕ) × StandsAt (f r.active) n k =
-          queues.complete k r (sym (others k ne) ∙ e) in
+          let place = queues.complete k r (sym (others k ne) ∙ e) in
           elim (cases_eq r.active p.active) [
             | inl same ↦
-                let here : StandsAt (f p.active ++ i ∷ []) place.0 k = to_longer (f p.active) i
-                place.0 k (subst (λ x. StandsAt (f x) place.0 k) same place.1) in
+                let here = to_longer (f p.active) i place.0 k
+                (subst (λ x. StandsAt (f x) place.0 k) same place.1) in
                 (place.0, subst (λ x. StandsAt x place.0 k) (sym (ap f' same ∙ longer)) here)
             | inr differ ↦ (
               place.0,
@@ -334,16 +311,13 @@ module _ (g : ℕ → Option Pending) (f : ℕ → List ℕ) (queues : Queues g 
                   | inl b ↦ queues.rising p.active n m k h r s lt a b (was p.active n k r a e)
                       (was p.active m h s b e')
                   | inr last ↦
-                      let one : p ≡ s =
-                      pending_same (g' i) p s at_i (subst (λ x. g' x ≡ Some s) (sym last.1) e') in
-                      let lv : p.level ≡ s.level = ap (λ x. x.level) one in
-                      let lt' : r.level < p.level = below n k r a (was p.active n k r a e) in
-                      omega arith
+                      let one = pending_same (g' i) p s at_i
+                      (subst (λ x. g' x ≡ Some s) (sym last.1) e') in
+                      omega (arith, ap (λ x. x.level) one, below n k r a (was p.active n k r a e))
                 ]
             | inr end ↦ elim (from_longer (f p.active) i m h
                 (subst (λ x. StandsAt x m h) (ap f' same ∙ longer) st')) [
-                  | inl b ↦ (let lt' : m < length (f p.active) = stands_below (f p.active) m h b in
-                      absurd (omega (arith, end.0)))
+                  | inl b ↦ absurd (omega (arith, stands_below (f p.active) m h b, end.0))
                   | inr last ↦ absurd (omega (arith, end.0, last.0))
                 ]
           ]
@@ -358,8 +332,7 @@ module _ (g : ℕ → Option Pending) (f : ℕ → List ℕ) (queues : Queues g 
       other k r e = λ same. none-some r (sym free ∙ subst (λ x. g x ≡ Some r) same e)
 
       was : (l n k : ℕ) (r : Pending) → StandsAt (f l) n k → g' k ≡ Some r → g k ≡ Some r
-      was l n k r st e = (let s : (q : Pending) × (g k ≡ Some q) × (q.active ≡ l) =
-          queues.sound l n k st in sym (others k (other k s.0 s.1)) ∙ e)
+      was l n k r st e = (let s = queues.sound l n k st in sym (others k (other k s.0 s.1)) ∙ e)
 
   -- task i stays where it is
   pub place_stays : (p q : Pending) → g i ≡ Some p → g' i ≡ Some q → q.active ≡ p.active
@@ -369,8 +342,7 @@ module _ (g : ℕ → Option Pending) (f : ℕ → List ℕ) (queues : Queues g 
         let s : (r : Pending) × (g k ≡ Some r) × (r.active ≡ l) = queues.sound l n k st in
         elim (cases_eq k i) [
           | inl same ↦
-              let one : s.0 ≡ p =
-              pending_same (g i) s.0 p (subst (λ x. g x ≡ Some s.0) same s.1) at_i in (
+              let one = pending_same (g i) s.0 p (subst (λ x. g x ≡ Some s.0) same s.1) at_i in (
                 q,
                 subst (λ x. g' x ≡ Some q) (sym same) at_i',
                 active
@@ -379,17 +351,13 @@ module _ (g : ℕ → Option Pending) (f : ℕ → List ℕ) (queues : Queues g 
           | inr ne ↦ (s.0, others k ne ∙ s.1, s.2)
         ];
     complete = λ k r e.
-        let b : (s : Pending) × (g k ≡ Some s) × (s.active ≡ r.active) × (s.level ≡ r.level) =
-        before k r e in
+        let b = before k r e in
         let place : (n : ℕ) × StandsAt (f b.0.active) n k = queues.complete k b.0 b.1 in
         (place.0, subst (λ x. StandsAt (f x) place.0 k) b.2 place.1);
     rising = λ l n m k h r s lt st st' e e'.
-        let a : (t : Pending) × (g k ≡ Some t) × (t.active ≡ r.active) × (t.level ≡ r.level) =
-        before k r e in
-        let b : (t : Pending) × (g h ≡ Some t) × (t.active ≡ s.active) × (t.level ≡ s.level) =
-        before h s e' in
-        let lt' : a.0.level < b.0.level = queues.rising l n m k h a.0 b.0 lt st st' a.1 b.1 in
-        omega (arith, a.3, b.3);
+        let a = before k r e in
+        let b = before h s e' in
+        omega (arith, queues.rising l n m k h a.0 b.0 lt st st' a.1 b.1, a.3, b.3);
   }
     where
       before : (k : ℕ) (r : Pending) → g' k ≡ Some r → (s : Pending) × (g k ≡ Some s)

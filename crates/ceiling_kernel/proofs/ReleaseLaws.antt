@@ -1,7 +1,7 @@
 -- The jobs and the records of a release list, and what a run reads of its lists.
 use Rattle.std.proofs.Common.{ℕ, zero, suc, ◌+◌, ◌<◌, ◌≡◌, refl, sym, ap, ap₂, ◌∙◌, arith, List, []}
 use Rattle.std.proofs.Common.{◌∷◌, ◌++◌, length, get_or, map, take, Option, Some, None, true, false}
-use Rattle.std.proofs.Common.{is_some, slice_index_or}
+use Rattle.std.proofs.Common.{is_some, slice_index_or, replicate}
 use Rattle.std.proofs.lemmas.Bool.{true≢false}
 use Rattle.std.proofs.lemmas.List.{length-map, length-take, take_more, get_or_default}
 use Rattle.task_sheet.specs.Sheet.{Task}
@@ -37,6 +37,12 @@ place_is U rs places j e lt = ap (λ x. get_or x j 0) e ∙ numbers_at U rs j lt
 pub read_at : {X : Type 0} (xs : List X) (i : ℕ) (x d : X) → i < length xs
     → x ≡ slice_index_or xs i x → slice_index_or xs i d ≡ x
 read_at xs i x d lt e = get_or_default xs i d x lt ∙ sym e
+
+-- what is read where every element is the default
+pub replicated : {X : Type 0} (n i : ℕ) (x : X) → slice_index_or (replicate n x) i x ≡ x
+replicated zero i x = refl
+replicated (suc n) zero x = refl
+replicated (suc n) (suc i) x = replicated n i x
 
 pub some_from : (o : Option Pending) → true ≡ is_some o → (q : Pending) × (o ≡ Some q)
 some_from None e = absurd (true≢false e)

@@ -16,8 +16,7 @@ use Rattle.ceiling_kernel.specs.Behaviours.{AreApart}
 pub inside_true : (s : CriticalSection) (e : ℕ) → is_inside s e ≡ true → (s.at < e)
     × (e < s.at + s.len)
 inside_true s e h =
-    let p : (nat_lt s.at e ≡ true) × (nat_lt e (s.at + s.len) ≡ true) =
-    and_parts (nat_lt s.at e) (nat_lt e (s.at + s.len)) h in
+    let p = and_parts (nat_lt s.at e) (nat_lt e (s.at + s.len)) h in
     (ltb-true s.at e p.0, ltb-true e (s.at + s.len) p.1)
 
 pub inside_from : (s : CriticalSection) (e : ℕ) → s.at < e → e < s.at + s.len → is_inside s e ≡ true
@@ -43,8 +42,7 @@ module _ (node : Node) (level : ℕ) where
       → (is_inside s e ≡ true) × (nat_le level (top_ceiling node s.locks) ≡ true) × (s.at < e)
       × (e < s.at + s.len)
   of_reaching s e reaching =
-      let p : (is_inside s e ≡ true) × (nat_le level (top_ceiling node s.locks) ≡ true) =
-      and_parts (is_inside s e) (nat_le level (top_ceiling node s.locks)) reaching in
+      let p = and_parts (is_inside s e) (nat_le level (top_ceiling node s.locks)) reaching in
       let b : (s.at < e) × (e < s.at + s.len) = inside_true s e p.0 in
       (p.0, p.1, b.0, b.1)
 
@@ -67,16 +65,15 @@ module _ (node : Node) (level : ℕ) where
             (omega arith, omega arith)
         | inr not_it ↦
             let later : 0 < rest_of ss e = rw not_it at h in
-            let r : (s.at + s.len < e) × (e < cost) =
-            rest_after (s.at + s.len) cost ss e apart.2 later in
+            let r = rest_after (s.at + s.len) cost ss e apart.2 later in
             (omega arith, r.1)
       ]
     where
       end_within : (begin cost : ℕ) (ss : List CriticalSection) → AreApart begin ss cost
           → begin ≤ cost
       end_within begin cost [] apart = apart
-      end_within begin cost (s ∷ ss) apart = let c : s.at + s.len ≤ cost =
-          end_within (s.at + s.len) cost ss apart.2 in omega arith
+      end_within begin cost (s ∷ ss) apart = let c = end_within (s.at + s.len) cost ss apart.2 in
+          omega arith
 
   -- one tick takes one from it
   pub rest_next_of : (begin cost : ℕ) (ss : List CriticalSection) (e : ℕ) → AreApart begin ss cost
@@ -88,23 +85,17 @@ module _ (node : Node) (level : ℕ) where
             let p = of_reaching s e reaching in
             elim (cases_lt (suc e) (s.at + s.len)) [
               | inl still ↦
-                  let still_in : is_inside s (suc e) ≡ true =
-                  inside_from s (suc e) (omega arith) still in
+                  let still_in = inside_from s (suc e) (omega arith) still in
                   rw (p.0, p.1, still_in) (omega arith)
               | inr left ↦
-                  let out : is_inside s (suc e) ≡ false = outside_after s (suc e) left in
-                  let none : rest_of ss (suc e) ≡ 0 =
-                  rest_before (s.at + s.len) cost ss (suc e) apart.2 (omega arith) in
-                  rw (p.0, p.1, out, none) (omega arith)
+                  let none = rest_before (s.at + s.len) cost ss (suc e) apart.2 (omega arith) in
+                  rw (p.0, p.1, outside_after s (suc e) left, none) (omega arith)
             ]
         | inr not_it ↦
             let later : 0 < rest_of ss e = rw not_it at h in
-            let r : (s.at + s.len < e) × (e < cost) =
-            rest_after (s.at + s.len) cost ss e apart.2 later in
+            let r = rest_after (s.at + s.len) cost ss e apart.2 later in
             let out : is_inside s (suc e) ≡ false = outside_after s (suc e) (omega arith) in
-            let ih : rest_of ss e ≡ suc (rest_of ss (suc e)) =
-            rest_next_of (s.at + s.len) cost ss e apart.2 later in
-            rw (not_it, out) ih
+            rw (not_it, out) (rest_next_of (s.at + s.len) cost ss e apart.2 later)
       ]
 
   -- it is less than the longest section of the sheet that some tasks reach, where they reach each one whose ceiling reaches the level: the first tick is executed
@@ -115,13 +106,11 @@ module _ (node : Node) (level : ℕ) where
       → rest_of ss e ≤ greatest_of (λ s. if reaches node.tasks X s then s.len else 0) declared - 1
   rest-le X all declared from executes [] e taken = omega arith
   rest-le X all declared from executes (s ∷ ss) e taken =
-      let ih : rest_of ss e ≤ greatest_of (λ s. if reaches node.tasks X s then s.len else 0)
-      declared - 1 = rest-le X all declared (s.at + s.len) executes ss e taken.3 in
+      let ih = rest-le X all declared (s.at + s.len) executes ss e taken.3 in
       elim (cases_Bool (is_inside s e && nat_le level (top_ceiling node s.locks))) [
         | inl reaching ↦
             let p = of_reaching s e reaching in
-            let most : s.len ≤ greatest_of (λ s. if reaches node.tasks X s then s.len else 0)
-            declared = covered-le node level X all declared s taken.2
+            let most = covered-le node level X all declared s taken.2
             (leb-true level (top_ceiling node s.locks) p.1) in
             rw (p.0, p.1) (omega (arith, p.2, p.3, most))
         | inr not_it ↦ rw not_it (omega arith)
@@ -137,16 +126,12 @@ module _ (node : Node) (level : ℕ) where
             let b : (s.at < e) × (e < s.at + s.len) = inside_true s e inside in
             elim (cases_lt (top_ceiling node s.locks) level) [
               | inr reaches ↦
-                  let t : nat_le level (top_ceiling node s.locks) ≡ true =
-                  le-leb level (top_ceiling node s.locks) reaches in
-                  rw (inside, t) (omega arith)
+                  rw (inside, le-leb level (top_ceiling node s.locks) reaches) (omega arith)
               | inl low ↦
-                  let t : nat_le level (top_ceiling node s.locks) ≡ false =
-                  lt-leb level (top_ceiling node s.locks) low in
                   let h' : level ≤ max (top_ceiling node s.locks) (held_ceiling node ss e) =
                   rw inside at h in
                   let ih : 0 < rest_of ss e = rest_from_held ss e some (omega arith) in
-                  rw (inside, t) ih
+                  rw (inside, lt-leb level (top_ceiling node s.locks) low) ih
             ]
         | inr outside ↦
             let h' : level ≤ max 0 (held_ceiling node ss e) = rw outside at h in
@@ -161,13 +146,10 @@ module _ (node : Node) (level : ℕ) where
       elim (cases_Bool (is_inside s e && nat_le level (top_ceiling node s.locks))) [
         | inl reaching ↦
             let p = of_reaching s e reaching in
-            let t : level ≤ top_ceiling node s.locks =
-            leb-true level (top_ceiling node s.locks) p.1 in
-            rw p.0 (omega arith)
+            rw p.0 (omega (arith, leb-true level (top_ceiling node s.locks) p.1))
         | inr not_it ↦
             let later : 0 < rest_of ss e = rw not_it at h in
-            let ih : level ≤ held_ceiling node ss e = held_from_rest ss e later in
-            omega arith
+            omega (arith, held_from_rest ss e later)
       ]
 
   -- ---- for how many of n ticks from e on the ceiling that is held reaches the level without a break
@@ -187,13 +169,12 @@ module _ (node : Node) (level : ℕ) where
   pub stretch_from : (ss : List CriticalSection) (n e : ℕ) → 0 < n → level ≤ held_ceiling node ss e
       → 0 < stretch ss n e
   stretch_from ss zero e some h = absurd (omega arith)
-  stretch_from ss (suc n) e some h = (let t : nat_le level (held_ceiling node ss e) ≡ true =
-      le-leb level (held_ceiling node ss e) h in rw t (omega arith))
+  stretch_from ss (suc n) e some h = rw (le-leb level (held_ceiling node ss e) h) (omega arith)
 
   stretch_step : (ss : List CriticalSection) (n e : ℕ) → 0 < stretch ss (suc n) e
       → stretch ss (suc n) e ≡ suc (stretch ss n (suc e))
-  stretch_step ss n e h = (let t : nat_le level (held_ceiling node ss e) ≡ true =
-      le-leb level (held_ceiling node ss e) (stretch_held ss (suc n) e h) in rw t)
+  stretch_step ss n e h = (let t = le-leb level (held_ceiling node ss e)
+      (stretch_held ss (suc n) e h) in rw t)
 
   pub stretch_next : (ss : List CriticalSection) (x e : ℕ) → e < x → 0 < stretch ss (x - e) e
       → stretch ss (x - e) e ≡ suc (stretch ss (x - suc e) (suc e))
@@ -213,10 +194,11 @@ module _ (node : Node) (level : ℕ) where
             let high : level ≤ held_ceiling node ss e = leb-true level (held_ceiling node ss e) t in
             let up : held_ceiling node ss e ≤ held_ceiling node spans e = above e in
             let left : 0 < rest_of spans e = rest_from_held spans e some (omega arith) in
-            let next : rest_of spans e ≡ suc (rest_of spans (suc e)) =
-            rest_next_of begin cost spans e apart left in
-            let ih : stretch ss n (suc e) ≤ rest_of spans (suc e) =
-            stretch-le some begin cost ss spans apart above n (suc e) in
-            rw t (omega arith)
+            rw t (omega (
+              arith,
+              rest_next_of begin cost spans e apart left,
+              stretch-le some begin
+                  cost ss spans apart above n (suc e),
+            ))
         | inr f ↦ rw f (omega arith)
       ]

@@ -58,8 +58,7 @@ module _ (run : ℕ → Option ℕ) where
   busy t job (s ∷ ss) e h =
       elim (cases_Bool ((s.job == job) && (s.stop == t))) [
         | inl joins ↦
-            let p : ((s.job == job) ≡ true) × ((s.stop == t) ≡ true) =
-            and_parts (s.job == job) (s.stop == t) joins in
+            let p = and_parts (s.job == job) (s.stop == t) joins in
             let same_job : s.job ≡ job = eqb-true s.job job p.0 in
             let same_stop : s.stop ≡ t = eqb-true s.stop t p.1 in
             rw joins (
@@ -136,8 +135,7 @@ module _ (run : ℕ → Option ℕ) where
   joined t until [] after le h rest meets =
       earlier 0 t until after (omega arith) (λ u lo hi. h u hi) rest
   joined t until (s ∷ ss) after le h rest meets =
-      let behind : AreLongestRuns run s.stop until after =
-      earlier s.stop t until after (h.1) (λ u lo hi. h.3 u lo hi) rest in
+      let behind = earlier s.stop t until after (h.1) (λ u lo hi. h.3 u lo hi) rest in
       let mine : AreLongestRuns run s.start until (s ∷ after) = (
         omega arith,
         h.0,
@@ -152,11 +150,9 @@ module _ (run : ℕ → Option ℕ) where
         ],
         behind,
       ) in
-      let all : AreLongestRuns run 0 until (reverse ss ++ (s ∷ after)) =
-      joined s.start until ss (s ∷ after) (omega (arith, h.0, h.1)) h.5 mine
+      let all = joined s.start until ss (s ∷ after) (omega (arith, h.0, h.1)) h.5 mine
       (λ lt job e. (let first : run s.start ≡ Some s.job = h.2 s.start (omega arith) h.0 in
-      let same : job ≡ s.job = same_Some job s.job (sym e ∙ first) in
-      subst (λ j. Differs ss s.start j) (sym same) h.4)) in
+      subst (λ j. Differs ss s.start j) (sym (same_Some job s.job (sym e ∙ first))) h.4)) in
       subst (AreLongestRuns run 0 until) (sym (turn ss s after)) all
     where
       turn : (ss : List Slice) (s : Slice) (after : List Slice)

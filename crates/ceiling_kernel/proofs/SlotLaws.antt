@@ -37,13 +37,11 @@ yields_true q p h =
           let x : nat_lt q.active p.active ≡ false = le-ltb q.active p.active ge in
           elim (cases_eq q.active p.active) [
             | inl e ↦
-                let y : (q.active == p.active) ≡ true = eq-eqb q.active p.active e in
-                let z : nat_lt p.level q.level ≡ true = rw (x, y) at h in
+                let z : nat_lt p.level q.level ≡ true = rw (x, eq-eqb q.active p.active e) at h in
                 let lt : p.level < q.level = ltb-true p.level q.level z in
                 inr (e, omega arith)
             | inr ne ↦
-                let y : (q.active == p.active) ≡ false = ne_eqb q.active p.active ne in
-                let z : false ≡ true = rw (x, y) at h in
+                let z : false ≡ true = rw (x, ne_eqb q.active p.active ne) at h in
                 absurd (true≢false (sym z))
           ]
     ]
@@ -61,11 +59,13 @@ yields_false q p h =
             | inl e ↦
                 elim (cases_lt p.level q.level) [
                   | inl lower ↦
-                      let y : (q.active == p.active) ≡ true = eq-eqb q.active p.active e in
-                      let x : nat_lt q.active p.active ≡ false =
-                      le-ltb q.active p.active (omega arith) in
-                      let w : nat_lt p.level q.level ≡ true = lt-ltb p.level q.level lower in
-                      let z : true ≡ false = rw (x, y, w) at h in
+                      let x = le-ltb q.active p.active (omega arith) in
+                      let z : true ≡ false = rw (
+                        x,
+                        eq-eqb q.active p.active e,
+                        lt-ltb p.level
+                            q.level lower,
+                      ) at h in
                       absurd (true≢false z)
                   | inr not_lower ↦ inr (sym e, not_lower)
                 ]
@@ -123,8 +123,7 @@ slot_some (None ∷ slots) found p e =
     after_none h (suc i) k e = h i k e
 slot_some (Some j ∷ slots) found p e =
     let b : IsBetter found j (better_pending found j) = better_is found j in
-    let ih : IsBestSlot slots (Some (better_pending found j)) p =
-    slot_some slots (Some (better_pending found j)) p e in
+    let ih = slot_some slots (Some (better_pending found j)) p e in
     let up : NotFirst (better_pending found j) p = ih.other (better_pending found j) refl in
     record {
       from = elim ih.from [
@@ -150,8 +149,7 @@ pub slot_none : (slots : List (Option Pending)) (found : Option Pending) → bes
     ≡ None → (found ≡ None) × ((i : ℕ) (k : Pending) → slice_index_or slots i None ≡ Some k → ⊥)
 slot_none [] found e = (e, λ i k h. (cc))
 slot_none (None ∷ slots) found e =
-    let ih : (found ≡ None) × ((i : ℕ) (k : Pending) → slice_index_or slots i None ≡ Some k → ⊥) =
-    slot_none slots found e in
+    let ih = slot_none slots found e in
     (ih.0, after ih.1)
   where
     after : ((i : ℕ) (k : Pending) → slice_index_or slots i None ≡ Some k → ⊥)
@@ -159,7 +157,5 @@ slot_none (None ∷ slots) found e =
     after h zero k e = cc
     after h (suc i) k e = h i k e
 slot_none (Some j ∷ slots) found e =
-    let ih : (Some (better_pending found j) ≡ None)
-    × ((i : ℕ) (k : Pending) → slice_index_or slots i None ≡ Some k → ⊥) =
-    slot_none slots (Some (better_pending found j)) e in
-    absurd (none-some (better_pending found j) (sym ih.0))
+    absurd (none-some (better_pending found j) (sym (slot_none slots (Some (better_pending found j))
+    e).0))

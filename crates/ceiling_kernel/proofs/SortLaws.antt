@@ -1,10 +1,10 @@
 -- Sorted by time and place, the releases of a list stand in the order of their turns.
 use Rattle.std.proofs.Common.{ℕ, zero, suc, ◌+◌, ◌-◌, ◌<◌, ◌≤◌, ◌≡◌, ◌≢◌, ◌⊎◌, inl, inr, refl, sym}
 use Rattle.std.proofs.Common.{ap, ◌∙◌, subst, arith, List, [], ◌∷◌, ◌++◌, length, take, get_or}
-use Rattle.std.proofs.Common.{Bool, true, false, ◌==◌, eqb, nat_lt, slice_index_or}
+use Rattle.std.proofs.Common.{Bool, true, false, ◌==◌, slice_index_or}
 use Rattle.std.proofs.lemmas.Bool.{cases_eq, cases_lt, true≢false, eq-eqb, ne_eqb, lt-ltb, le-ltb}
 use Rattle.std.proofs.lemmas.List.{take_more, length-take, get_or_default}
-use Rattle.std.specs.List.{AllByRecursion, Contains, All}
+use Rattle.std.specs.List.{AllByRecursion, All}
 use Rattle.std.specs.List.Sorted.{IsPermutation, IsSorted}
 use Rattle.std.specs.Ordering.{nat_cmp, ordering_then, is_lt}
 use Rattle.std.proofs.lemmas.List.Elements.{All-from_recursion, All-get_or}
@@ -101,16 +101,17 @@ not_after : (p q : ℕ × ℕ) → is_lt (ordering_then (nat_cmp q.0 p.0) (nat_c
     → NotAfter p q
 not_after p q h =
     elim (cases_lt q.0 p.0) [
-      | inl less ↦ (let t : nat_lt q.0 p.0 ≡ true = lt-ltb q.0 p.0 less in let f : true ≡ false =
-          rw t at h in absurd (true≢false f))
+      | inl less ↦ (let f : true ≡ false =
+          rw (lt-ltb q.0 p.0 less) at h in absurd (true≢false f))
       | inr more ↦ elim (cases_eq q.0 p.0) [
         | inr differ ↦ inl (omega arith)
         | inl same ↦
-            let f : nat_lt q.0 p.0 ≡ false = le-ltb q.0 p.0 more in
-            let e : eqb q.0 p.0 ≡ true = eq-eqb q.0 p.0 same in
             elim (cases_lt q.1 p.1) [
-              | inl below ↦ (let t : nat_lt q.1 p.1 ≡ true = lt-ltb q.1 p.1 below in
-                  let g : true ≡ false = rw (f, e, t) at h in absurd (true≢false g))
+              | inl below ↦ (let g : true ≡ false = rw (
+                le-ltb q.0 p.0 more,
+                eq-eqb q.0 p.0 same,
+                lt-ltb q.1 p.1 below,
+              ) at h in absurd (true≢false g))
               | inr above ↦ inr (sym same, above)
             ]
       ]
@@ -132,10 +133,8 @@ in_order : (ys : List (ℕ × ℕ))
 in_order ys up m zero e lt = (let z : m ≡ m + 0 = omega arith in subst (λ n. NotAfter
     (slice_index_or ys m e) (slice_index_or ys n e)) z (inr (refl, omega arith)))
 in_order ys up m (suc d) e lt =
-    let before : NotAfter (slice_index_or ys m e) (slice_index_or ys (m + d) e) =
-    in_order ys up m d e (omega arith) in
-    let step : NotAfter (slice_index_or ys (m + d) e) (slice_index_or ys (m + d + 1) e) =
-    not_after (slice_index_or ys (m + d) e) (slice_index_or ys (m + d + 1) e)
+    let before = in_order ys up m d e (omega arith) in
+    let step = not_after (slice_index_or ys (m + d) e) (slice_index_or ys (m + d + 1) e)
     (up (m + d) e (omega arith) (omega arith)) in
     let z : m + d + 1 ≡ m + suc d = omega arith in
     subst (λ n. NotAfter (slice_index_or ys m e) (slice_index_or ys n e)) z
@@ -153,8 +152,7 @@ module _ (U : List Task) (rs : List Release) (ys : List (ℕ × ℕ))
   each_in k (s ∷ ss) at =
       let here : (k + 0 < length rs) × (release_at rs (k + 0) ≡ s) = at 0 (omega arith) in
       let z : k + 0 ≡ k = omega arith in
-      let one : (k < length rs) × (release_at rs k ≡ s) =
-      subst (λ n. (n < length rs) × (release_at rs n ≡ s)) z here in (
+      let one = subst (λ n. (n < length rs) × (release_at rs n ≡ s)) z here in (
         (one.0, ap ready_of (sym one.1)),
         each_in (k + 1) ss
             (λ j lt. (let e : k + suc j ≡ k + 1 + j = omega arith in subst (λ n. (n < length rs)
@@ -186,18 +184,14 @@ module _ (U : List Task) (rs : List Release) (ys : List (ℕ × ℕ))
     timed = timed_in;
     ordered = λ m n mn lt.
         let to : m + (n - m) ≡ n = omega arith in
-        let far : NotAfter (slice_index_or ys m no_turn) (slice_index_or ys (m + (n - m)) no_turn) =
-        in_order ys up m (n - m) no_turn (omega arith) in
-        let far' : NotAfter (slice_index_or ys m no_turn) (slice_index_or ys n no_turn) =
-        subst (λ k. NotAfter (slice_index_or ys m no_turn) (slice_index_or ys k no_turn))
+        let far = in_order ys up m (n - m) no_turn (omega arith) in
+        let far' = subst (λ k. NotAfter (slice_index_or ys m no_turn) (slice_index_or ys k no_turn))
         to far in
-        let apart : same_place (slice_index_or ys m no_turn) (slice_index_or ys n no_turn) ≡ false =
-        places_differ ys m n no_turn (AreDistinct-permutation same_place (λ x. eq-eqb x.1 x.1 refl)
-        same_turned (listed_turns 0 rs) ys moved (listed-distinct 0 rs)) mn lt in
-        let tm : time_in_turn ys m ≡ (job_at (jobs_of U rs) (job_in_turn ys m)).ready =
-        timed_in m (omega arith) in
-        let tn : time_in_turn ys n ≡ (job_at (jobs_of U rs) (job_in_turn ys n)).ready =
-        timed_in n lt in
+        let apart = places_differ ys m n no_turn (AreDistinct-permutation same_place
+        (λ x. eq-eqb x.1 x.1 refl) same_turned (listed_turns 0 rs) ys moved (listed-distinct 0 rs))
+        mn lt in
+        let tm = timed_in m (omega arith) in
+        let tn = timed_in n lt in
         elim far' [
           | inl less ↦ inl (omega arith)
           | inr tied ↦
@@ -209,12 +203,10 @@ module _ (U : List Task) (rs : List Release) (ys : List (ℕ × ℕ))
         let l : length (jobs_of U rs) ≡ length rs = jobs_length U rs in
         let lt' : j < length rs = omega arith in
         let n : length (listed_turns 0 rs) ≡ length rs = listed-length 0 rs in
-        let there : Contains ys (ready_of (release_at rs j), 0 + j) =
-        Contains-permutation (listed_turns 0 rs) ys (ready_of (release_at rs j), 0 + j) moved
-        (j, omega arith, listed-at 0 rs j (ready_of (release_at rs j), 0 + j) lt') in
-        let at : slice_index_or ys there.0 no_turn ≡ (ready_of (release_at rs j), 0 + j) =
-        get_or_default ys there.0 no_turn (ready_of (release_at rs j), 0 + j) there.1
-        ∙ there.2 in
+        let there = Contains-permutation (listed_turns 0 rs) ys (ready_of (release_at rs j), 0 + j)
+        moved (j, omega arith, listed-at 0 rs j (ready_of (release_at rs j), 0 + j) lt') in
+        let at = get_or_default ys there.0 no_turn (ready_of (release_at rs j), 0 + j) there.1 ∙
+        there.2 in
         let z : 0 + j ≡ j = omega arith in
         (there.0, there.1, ap (λ x. x.1) at ∙ z);
   }

@@ -1,6 +1,6 @@
 -- Sums over the numbers below n.
 use Rattle.std.proofs.Common.{ℕ, zero, suc, ◌+◌, ◌<◌, ◌≤◌, ◌≡◌, inl, inr, refl, sym, ap, subst}
-use Rattle.std.proofs.Common.{arith, eqb, if◌then◌else◌, true, false, ◌==◌}
+use Rattle.std.proofs.Common.{arith, eqb, if◌then◌else◌, false, ◌==◌}
 use Rattle.std.proofs.lemmas.Bool.{cases_eq, eq-eqb, ne_eqb}
 use Rattle.task_sheet.specs.Indexes.{sum_below}
 
@@ -32,19 +32,16 @@ total-lt f g (suc n) p lt less h =
     elim (cases_eq p n) [
       | inl e ↦
           let before : total f n ≤ total g n = total-le f g n (λ j below. h j (omega arith)) in
-          let at_n : f n < g n = subst (λ x. f x < g x) e less in
-          omega arith
+          omega (arith, subst (λ x. f x < g x) e less)
       | inr ne ↦
-          let before : total f n < total g n =
-          total-lt f g n p (omega arith) less (λ j below. h j (omega arith)) in
+          let before = total-lt f g n p (omega arith) less (λ j below. h j (omega arith)) in
           omega arith
     ]
 
 pub total-add : (f g : ℕ → ℕ) (n : ℕ) → total (λ j. f j + g j) n ≡ total f n + total g n
 unfolding total
 total-add f g zero = refl
-total-add f g (suc n) = let before : total (λ j. f j + g j) n ≡ total f n + total g n =
-    total-add f g n in omega arith
+total-add f g (suc n) = omega (arith, total-add f g n)
 
 pub total-same : (f g : ℕ → ℕ) (n : ℕ) → ((j : ℕ) → j < n → f j ≡ g j) → total f n ≡ total g n
 unfolding total
@@ -60,7 +57,7 @@ unfolding total
 term-le f zero p lt = absurd (omega arith)
 term-le f (suc n) p lt =
     elim (cases_eq p n) [
-      | inl e ↦ let same : f p ≡ f n = ap f e in omega arith
+      | inl e ↦ omega (arith, ap f e)
       | inr ne ↦ let before : f p ≤ total f n = term-le f n p (omega arith) in omega arith
     ]
 
@@ -82,8 +79,7 @@ total-one f (suc n) b h one =
       | inl none ↦ let before : total f n ≤ b = total-one f n b (λ j lt. h j (omega arith)) one in
           omega arith
       | inr some ↦
-          let rest : total f n ≡ 0 =
-          total-zero f n (λ j lt. elim (cases_eq (f j) 0) [
+          let rest = total-zero f n (λ j lt. elim (cases_eq (f j) 0) [
             | inl z ↦ z
             | inr nz ↦ let same : j ≡ n = one j n (omega arith) (omega arith) in
                 absurd (omega arith)
@@ -99,14 +95,10 @@ total-single c zero t lt = absurd (omega arith)
 total-single c (suc n) t lt =
     elim (cases_eq t n) [
       | inl e ↦
-          let rest : total (λ h. if t == h then c h else 0) n ≡ 0 =
-          total-zero (λ h. if t == h then c h else 0) n
+          let rest = total-zero (λ h. if t == h then c h else 0) n
           (λ j below. let ne : eqb t j ≡ false = ne_eqb t j (λ s. omega arith) in rw ne) in
-          let here : eqb t n ≡ true = eq-eqb t n e in
-          rw (rest, here) (let same : c n ≡ c t = ap c (sym e) in omega arith)
+          rw (rest, eq-eqb t n e) (omega (arith, ap c (sym e)))
       | inr ne ↦
-          let before : total (λ h. if t == h then c h else 0) n ≡ c t =
-          total-single c n t (omega arith) in
-          let here : eqb t n ≡ false = ne_eqb t n ne in
-          rw (before, here) (omega arith)
+          let before = total-single c n t (omega arith) in
+          rw (before, ne_eqb t n ne) (omega arith)
     ]

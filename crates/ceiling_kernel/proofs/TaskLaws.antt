@@ -23,8 +23,7 @@ held_top-is node [] (s ∷ ss) e h = absurd h
 held_top-is node (x ∷ xs) [] e h = absurd h
 held_top-is node (x ∷ xs) (s ∷ ss) e h =
     let one : IsSectionOf node x s = h.0 in
-    let ih : held_top ss e ≡ held_ceiling node xs e = held_top-is node xs ss e h.1 in
-    rw (ih, one.at, one.stop, one.top)
+    rw (held_top-is node xs ss e h.1, one.at, one.stop, one.top)
 
 pub next_change-is : (node : Node) (xs : List CriticalSection) (ss : List NodeSection) (e limit : ℕ)
     → AreSectionsOf node xs ss → next_change ss e limit ≡ change_after xs e limit
@@ -33,15 +32,13 @@ next_change-is node [] (s ∷ ss) e limit h = absurd h
 next_change-is node (x ∷ xs) [] e limit h = absurd h
 next_change-is node (x ∷ xs) (s ∷ ss) e limit h =
     let one : IsSectionOf node x s = h.0 in
-    let ih : next_change ss e limit ≡ change_after xs e limit =
-    next_change-is node xs ss e limit h.1 in
-    rw (ih, one.at, one.stop)
+    rw (next_change-is node xs ss e limit h.1, one.at, one.stop)
 
 pub active-is : (node : Node) (i e top : ℕ) (t : NodeTask) → IsTaskOf node i t
     → top ≡ held_top t.sections.items e → max t.level top ≡ active_at node i e
 active-is node i e top t is held =
-    let h : top ≡ held_ceiling node (task_at node.tasks i).sections e = held
-    ∙ held_top-is node (task_at node.tasks i).sections t.sections.items e is.sections in
+    let h = held ∙ held_top-is node (task_at node.tasks i).sections t.sections.items e
+    is.sections in
     ap₂ max is.level h
 
 pub sections-more : (node : Node) (xs : List CriticalSection) (x : CriticalSection)
@@ -59,12 +56,11 @@ pub sections-next : (node : Node) (secs : List CriticalSection) (k : ℕ) (d : C
     → AreSectionsOf node (take k secs) kept → IsSectionOf node d s
     → AreSectionsOf node (take (k + 1) secs) items
 sections-next node secs k d kept items s lt same e h one =
-    let more : AreSectionsOf node (take k secs ++ d ∷ []) (kept ++ s ∷ []) =
-    sections-more node (take k secs) d kept s h one in
-    let cut : take (k + 1) secs ≡ take k secs ++ d ∷ [] = take_more secs k d lt
+    let cut = take_more secs k d lt
     ∙ ap (λ x. take k secs ++ x ∷ []) (sym same) in
     subst (λ ss. AreSectionsOf node (take (k + 1) secs) ss) (sym e)
-    (subst (λ xs. AreSectionsOf node xs (kept ++ s ∷ [])) (sym cut) more)
+    (subst (λ xs. AreSectionsOf node xs (kept ++ s ∷ [])) (sym cut)
+    (sections-more node (take k secs) d kept s h one))
 
 pub tasks-next : (node : Node) (ts items : List NodeTask) (k : ℕ) (s : NodeTask) → length ts ≡ k
     → items ≡ ts ++ s ∷ [] → AreTasksOf node ts → IsTaskOf node k s → AreTasksOf node items
@@ -76,7 +72,7 @@ tasks-next node ts items k s count e h one i t lt read =
       | inr past ↦
           let n : length (ts ++ s ∷ []) ≡ length ts + 1 = length-append ts (s ∷ []) in
           let here : i ≡ length ts = omega arith in
-          let last : t ≡ s = read'
+          let last = read'
           ∙ (ap (λ x. get_or (ts ++ s ∷ []) x t) here ∙ get_or-append_seam ts s [] t) in
           subst (λ x. IsTaskOf node x t) (sym (here ∙ count))
           (subst (λ x. IsTaskOf node k x) (sym last) one)
@@ -107,8 +103,7 @@ sections_within begin cost (x ∷ xs) h (suc k) d lt =
 pub sections_fit : (t : Task) (xs : List CriticalSection) → xs ≡ t.sections → IsValidSheet t
     → All (λ s. s.at + s.len < 2 ^ 64) xs
 sections_fit t xs same v =
-    let c : t.cost ≤ 10000000 = (let a : t.cost ≤ t.period = v.cost_to in
-    let b : t.period ≤ 10000000 = v.period_to in omega arith) in
+    let c : t.cost ≤ 10000000 = omega (arith, v.cost_to, v.period_to) in
     let all : All (λ s. s.at + s.len < 2 ^ 64) t.sections = λ k d lt.
     (let w = sections_within 0 t.cost t.sections v.sections k d lt in omega (arith, w.0)) in
     let P : List CriticalSection → Type 0 = λ x. All (λ s. s.at + s.len < 2 ^ 64) x in

@@ -1,7 +1,7 @@
 -- How many jobs of one task become ready in a window, and what they cost together.
 use Rattle.std.proofs.Common.{ℕ, zero, suc, ◌+◌, ◌-◌, ◌*◌, ◌/◌, ◌<◌, ◌≤◌, ◌≡◌, ◌⊎◌, inl, inr, refl}
-use Rattle.std.proofs.Common.{sym, ◌∙◌, arith, if◌then◌else◌, Bool, true, false, ◌==◌, ◌&&◌, cond}
-use Rattle.std.proofs.Common.{eqb, ap₂, add-zero}
+use Rattle.std.proofs.Common.{sym, ◌∙◌, arith, if◌then◌else◌, Bool, true, ◌==◌, ◌&&◌, cond}
+use Rattle.std.proofs.Common.{ap₂, add-zero}
 use Rattle.std.proofs.lemmas.Bool.{cases_eq, cases_Bool, eq-eqb, ne_eqb}
 use Rattle.std.proofs.lemmas.Nat.{le-div}
 use Rattle.ceiling_kernel.proofs.SumLaws.{total, total-add, total-same, total-single, total-zero}
@@ -17,8 +17,8 @@ module _ (task arrival : ℕ → ℕ) (counts : ℕ → Bool) where
   of_task_cases h j =
       elim (cases_Bool (counts j)) [
         | inl c ↦ elim (cases_eq (task j) h) [
-          | inl e ↦ (let t : eqb (task j) h ≡ true = eq-eqb (task j) h e in inr (rw (c, t), c, e))
-          | inr ne ↦ (let t : eqb (task j) h ≡ false = ne_eqb (task j) h ne in inl (rw (c, t)))
+          | inl e ↦ inr (rw (c, eq-eqb (task j) h e), c, e)
+          | inr ne ↦ inl (rw (c, ne_eqb (task j) h ne))
         ]
         | inr no_count ↦ inl (rw no_count)
       ]
@@ -64,7 +64,7 @@ module _ (task arrival : ℕ → ℕ) (counts : ℕ → Bool) where
       total (of_task h) n ≤ (w + period - 1) / period
   most_in_window h from w period n some wide starts apart ends =
       elim (spread h from period n (from + w - 1 + period) starts apart
-      (λ j lt c t. let e : arrival j < from + w = ends j lt c t in omega arith)) [
+      (λ j lt c t. omega (arith, ends j lt c t))) [
         | inl none ↦ rw none (omega arith)
         | inr fits ↦ le-div (total (of_task h) n) (w + period - 1) period some (omega arith)
       ]
@@ -76,24 +76,16 @@ module _ (task arrival : ℕ → ℕ) (counts : ℕ → Bool) where
   unfolding total
   by_tasks cost m zero known = sym (total-zero (λ h. 0 * cost h) m (λ h lt. omega arith))
   by_tasks cost m (suc n) known =
-      let before : total (λ j. if counts j then cost (task j) else 0) n
-      ≡ total (λ h. total (of_task h) n * cost h) m =
-      by_tasks cost m n (λ j lt. known j (omega arith)) in
-      let split : total (λ h. (total (of_task h) n + of_task h n) * cost h) m
-      ≡ total (λ h. total (of_task h) n * cost h + of_task h n * cost h) m =
-      total-same (λ h. (total (of_task h) n + of_task h n) * cost h)
+      let before = by_tasks cost m n (λ j lt. known j (omega arith)) in
+      let split = total-same (λ h. (total (of_task h) n + of_task h n) * cost h)
       (λ h. total (of_task h) n * cost h + of_task h n * cost h) m (λ h lt. omega arith) in
-      let parts : total (λ h. total (of_task h) n * cost h + of_task h n * cost h) m
-      ≡ total (λ h. total (of_task h) n * cost h) m + total (λ h. of_task h n * cost h) m =
-      total-add (λ h. total (of_task h) n * cost h) (λ h. of_task h n * cost h) m in
+      let parts = total-add (λ h. total (of_task h) n * cost h) (λ h. of_task h n * cost h) m in
       let last : total (λ h. of_task h n * cost h) m ≡ cond (counts n) (cost (task n)) 0 =
       elim (cases_Bool (counts n)) [
         | inl c ↦
-            let single : total (λ h. if task n == h then cost h else 0) m ≡ cost (task n) =
-            total-single cost m (task n) (known n (omega arith) c) in
-            let same : total (λ h. of_task h n * cost h) m
-            ≡ total (λ h. if task n == h then cost h else 0) m =
-            total-same (λ h. of_task h n * cost h) (λ h. if task n == h then cost h else 0) m
+            let single = total-single cost m (task n) (known n (omega arith) c) in
+            let same = total-same (λ h. of_task h n * cost h)
+            (λ h. if task n == h then cost h else 0) m
             (λ h lt. elim (cases_Bool (task n == h)) [
               | inl t ↦ rw (c, t) (omega arith)
               | inr t ↦ rw (c, t) (omega arith)

@@ -3,7 +3,7 @@ use Rattle.std.proofs.Common.{◌≡◌, ◌∙◌, ℕ, ◌<◌, ◌≤◌, ref
 use Rattle.std.proofs.Common.{List, [], ◌∷◌, length, Option, Some, None}
 use Rattle.std.proofs.lemmas.List.Elements.{All-from_get_or, All-nil, All-push}
 use Rattle.std.proofs.lemmas.List.Quantifiers.{position-Some}
-use Rattle.task_sheet.specs.Sheet.{Task, same_bytes, task_at}
+use Rattle.task_sheet.specs.Sheet.{Task, same_bytes}
 use Rattle.task_sheet.specs.TaskSet.{IsTaskSet}
 use Rattle.task_sheet.proofs.NameLaws.{same_is, same_own}
 use Rattle.assignment.specs.Places.{PlaceData}
@@ -11,7 +11,6 @@ use Rattle.assignment.specs.Placings.{IsBestPlacing, tasks_of_places}
 use Rattle.explain.specs.Accounts.{AreInTime}
 use Rattle.explain.proofs.AccountLaws.{best-in_time}
 use Rattle.ceiling_kernel.specs.Tick.{Node, node_in}
-use Rattle.ceiling_kernel.specs.Releases.{release_at}
 use Rattle.ceiling_kernel.specs.Runs.{no_record}
 use Rattle.ceiling_kernel.specs.declared.trace.JobRecord.{JobRecord}
 use Rattle.ceiling_kernel.specs.declared.trace.Release.{Release}
@@ -44,11 +43,13 @@ module _ (U : List Task) (places : List PlaceData) (rs : List Release) (until : 
       (record_at jobs j).name row.sheet.name ≡ true → is_late frame row (record_at jobs j) ≡ false
   on_time row j of inside own =
       let is_job : j < length rs = omega (arith, inside, jobs_are node rs until trace run.runs) in
-      let soon : (release_at rs j).time < until = arrives node rs until trace run.runs j is_job in
-      let upto : end_of_run until ≤ until = omega (arith, soon) in
-      let named : (task_at U of.0).name ≡ (record_at jobs j).name =
-      sym (ap (λ (t : Task). t.name) of.2)
-      ∙ sym (same_is (record_at jobs j).name row.sheet.name own) in
+      let upto : end_of_run until ≤ until = omega (
+        arith,
+        arrives node rs until trace run.runs j
+            is_job,
+      ) in
+      let named = sym (ap (λ (t : Task). t.name) of.2) ∙ sym
+      (same_is (record_at jobs j).name row.sheet.name own) in
       subst (λ (t : Task). is_late frame (record { sheet = t; bound = row.bound })
       (record_at jobs j) ≡ false) (sym of.2)
       (not_late U places rs until trace run.set run.best run.runs of.0 j (end_of_run until) of.1
@@ -71,8 +72,7 @@ module _ (U : List Task) (places : List PlaceData) (rs : List Release) (until : 
         | Some k ↦ λ at.
             let found =
             position-Some (λ (r : TaskRow). same_bytes r.sheet.name name) rows k no_row at in
-            let own : same_bytes name (row_at rows k).sheet.name ≡ true =
-            ap (λ (n : List ℕ). same_bytes name n)
+            let own = ap (λ (n : List ℕ). same_bytes name n)
             (same_is (row_at rows k).sheet.name name found.1) ∙ same_own name in
             on_time (row_at rows k) j (run.tasks k no_row found.0) inside own
       ] refl
@@ -85,8 +85,8 @@ rows_in : (U : List Task) (places : List PlaceData) → AreInTime U places
     → All (IsRowOf U) (rows_of U (bounds_of places))
 rows_in U [] each = All-nil (IsRowOf U)
 rows_in U (p ∷ places) each =
-    let row : TaskRow = drawn_row U (record { task = p.task; bound = Some p.response }) in
-    All-push (IsRowOf U) (rows_of U (bounds_of places)) row (rows_in U places each.1)
+    All-push (IsRowOf U) (rows_of U (bounds_of places))
+    (drawn_row U (record { task = p.task; bound = Some p.response })) (rows_in U places each.1)
     (p.task, each.0.in_set, refl)
 
 pub best_rows : (U : List Task) (places : List PlaceData) → IsTaskSet U → IsBestPlacing U places

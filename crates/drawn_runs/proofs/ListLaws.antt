@@ -11,8 +11,7 @@ pub kept_most : {X : Type 0} (g : X → ℕ) (p : X → Bool) (xs : List X) (i :
 kept_most g p [] i d lt is = absurd (omega (arith, lt))
 kept_most g p (x ∷ xs) zero d lt is = rw is (omega arith)
 kept_most g p (x ∷ xs) (suc i) d lt is =
-    let rest : g (get_or xs i d) ≤ greatest_of g (filter p xs) =
-    kept_most g p xs i d (omega (arith, lt)) is in
+    let rest = kept_most g p xs i d (omega (arith, lt)) is in
     elim (cases_Bool (p x)) [ inl so ↦ rw so (omega (arith, rest)) | inr not_so ↦ rw not_so rest ]
 
 -- where one passes, one is kept
@@ -33,8 +32,7 @@ kept_two p (x ∷ xs) zero (suc j) d less lt is also =
     let rest : 1 ≤ length (filter p xs) = kept_one p xs j d (omega (arith, lt)) also in
     rw is (omega (arith, rest))
 kept_two p (x ∷ xs) (suc i) (suc j) d less lt is also =
-    let rest : 2 ≤ length (filter p xs) =
-    kept_two p xs i j d (omega (arith, less)) (omega (arith, lt)) is also in
+    let rest = kept_two p xs i j d (omega (arith, less)) (omega (arith, lt)) is also in
     elim (cases_Bool (p x)) [ inl so ↦ rw so (omega (arith, rest)) | inr not_so ↦ rw not_so rest ]
 
 -- where none passes, none is

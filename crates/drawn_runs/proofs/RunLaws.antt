@@ -1,7 +1,7 @@
 -- The jobs of a run in a set's best order: they stand by arrival, and are done by their deadlines.
 use Rattle.std.proofs.Common.{◌≡◌, ◌∙◌, ℕ, suc, ◌+◌, ◌-◌, ◌<◌, ◌≤◌, inl, inr, Bool, true, false}
 use Rattle.std.proofs.Common.{List, [], ◌∷◌, length, Option, Some, None, Ok, is_some, unwrap_or}
-use Rattle.std.proofs.Common.{nat_lt, nat_le, refl, sym, ap, arith, slice_index_or, eqb}
+use Rattle.std.proofs.Common.{refl, sym, ap, arith, slice_index_or}
 use Rattle.std.proofs.lemmas.Bool.{and_from, cases_eq, cases_lt, le-leb, le-ltb, lt-leb, lt-ltb}
 use Rattle.std.proofs.lemmas.Bool.{ne_eqb, true≢false}
 use Rattle.task_sheet.specs.Sheet.{Task, same_bytes, task_at}
@@ -61,8 +61,7 @@ module _ (node : Node) (rs : List Release) (until : ℕ) (trace : Trace)
   -- it arrives before the run ends
   pub arrives : (j : ℕ) → j < length rs → (release_at rs j).time < until
   arrives j lt =
-      let before : nat_le until (ready_of (release_at rs j)) ≡ false =
-      none_passes (is_past until) rs j no_release lt is_accepted.before in
+      let before = none_passes (is_past until) rs j no_release lt is_accepted.before in
       elim (cases_lt (ready_of (release_at rs j)) until) [
         | inl less ↦ omega (arith, less)
         | inr ge ↦ absurd (true≢false (sym (le-leb until (ready_of (release_at rs j)) ge) ∙ before))
@@ -73,13 +72,9 @@ module _ (node : Node) (rs : List Release) (until : ℕ) (trace : Trace)
       → (job i).release ≤ (job j).release
   by_arrival i j le lt =
       let inside : j < length rs = omega (arith, lt, jobs_are) in
-      let first : (job i).release ≡ (release_at rs i).time =
-      ap (λ (x : JobRecord). x.release) (job_is i (omega (arith, le, inside))) in
-      let last : (job j).release ≡ (release_at rs j).time =
-      ap (λ (x : JobRecord). x.release) (job_is j inside) in
-      let sorted : (release_at rs i).time ≤ (release_at rs j).time =
-      sorted_from rs is_accepted.sorted i j le inside in
-      omega (arith, first, last, sorted)
+      let first = ap (λ (x : JobRecord). x.release) (job_is i (omega (arith, le, inside))) in
+      let last = ap (λ (x : JobRecord). x.release) (job_is j inside) in
+      omega (arith, first, last, sorted_from rs is_accepted.sorted i j le inside)
 
 -- ---- what the analysis says of a task
 -- in a run it is kept: a job is done within a response, which is within the deadline
@@ -108,8 +103,7 @@ kept_in U rs until trace i (p ∷ places) done reached in_time has =
             in_time.0.in_time;
       }
       | inr ne ↦
-          let f : eqb p.task i ≡ false = ne_eqb p.task i ne in
-          let rest : among (tasks_of_places places) i ≡ true = rw f at has in
+          let rest : among (tasks_of_places places) i ≡ true = rw (ne_eqb p.task i ne) at has in
           kept_in U rs until trace i places done.1 reached.1 in_time.1 rest
     ]
 
@@ -118,8 +112,7 @@ numbered : (U : List Task) → IsTaskSet U → (i : ℕ) → i < length U → (r
     → r.name ≡ (task_at U i).name → task_number U r ≡ i
 numbered U set i lt r own =
     let at = place_of_name U set.distinct i lt in
-    let small : nat_lt i (length U) ≡ true = lt-ltb i (length U) lt in
-    let found : task_named U (task_at U i).name ≡ Some i = rw (at, small) refl in
+    let found : task_named U (task_at U i).name ≡ Some i = rw (at, lt-ltb i (length U) lt) refl in
     ap (λ (name : List ℕ). unwrap_or (task_named U name) (length U)) own
     ∙ ap (λ o. unwrap_or o (length U)) found
 
@@ -133,11 +126,9 @@ module _ (U : List Task) (places : List PlaceData) (rs : List Release) (until : 
   kept : (i : ℕ) → i < length U → IsKept U rs until trace i
   kept i lt =
       let both = all_within U places rs until trace set best ran in
-      let each : among (tasks_of_places places) ≡ all_of U =
-      IsOrderOf-among (all_of U) (tasks_of_places places) best.best.passing.each_once in
-      let small : nat_lt i (length U) ≡ true = lt-ltb i (length U) lt in
+      let each = IsOrderOf-among (all_of U) (tasks_of_places places) best.best.passing.each_once in
       kept_in U rs until trace i places both.0 both.1 (best-in_time U places set best)
-      (ap (λ (H : ℕ → Bool). H i) each ∙ small)
+      (ap (λ (H : ℕ → Bool). H i) each ∙ (lt-ltb i (length U) lt))
 
   -- no job of a task is late
   pub not_late : (i j end : ℕ) → i < length U → j < length rs → end ≤ until
@@ -147,23 +138,26 @@ module _ (U : List Task) (places : List PlaceData) (rs : List Release) (until : 
   not_late i j end is_task is_job upto own =
       let it : JobRecord = job node rs until trace ran j in
       let k = kept i is_task in
-      let time : it.release ≡ (release_at rs j).time =
-      ap (λ (x : JobRecord). x.release) (job_is node rs until trace ran j is_job) in
-      let name : it.name ≡ (release_at rs j).name =
-      ap (λ (x : JobRecord). x.name) (job_is node rs until trace ran j is_job) in
-      let number : task_number U (release_at rs j) ≡ k.place.task =
-      numbered U set i is_task (release_at rs j) (sym name ∙ sym own) ∙ sym k.task in
-      let deadline : (task_at U k.place.task).deadline ≡ (task_at U i).deadline =
-      ap (λ x. (task_at U x).deadline) k.task in
-      let called : (task_at U k.place.task).name ≡ it.name = ap (λ x. (task_at U x).name) k.task
-      ∙ own in
-      let soon : (release_at rs j).time < until = arrives node rs until trace ran j is_job in
+      let time = ap (λ (x : JobRecord). x.release) (job_is node rs until trace ran j is_job) in
+      let name = ap (λ (x : JobRecord). x.name) (job_is node rs until trace ran j is_job) in
+      let number = numbered U set i is_task (release_at rs j) (sym name ∙ sym own) ∙ sym k.task in
+      let deadline = ap (λ x. (task_at U x).deadline) k.task in
+      let called = ap (λ x. (task_at U x).name) k.task ∙ own in
       let in_time = k.in_time in
       elim it.finish as (λ o. it.finish ≡ o
       → is_behind it.release (task_at U i).deadline end o ≡ false) [
         | None ↦ λ is. elim (cases_lt until ((release_at rs j).time + k.place.response)) [
           | inl past ↦ lt-leb (task_at U i).deadline (end - it.release)
-              (omega (arith, past, time, deadline, in_time, soon, upto))
+              (omega (
+                arith,
+                past,
+                time,
+                deadline,
+                in_time,
+                arrives node rs until trace ran j
+                    is_job,
+                upto,
+              ))
           | inr in_run ↦
               let found = k.done j is_job number in_run in
               let both : ◌≡◌ {A = Option ℕ} (Some found.0) None = sym found.1 ∙ is in
@@ -171,16 +165,13 @@ module _ (U : List Task) (places : List PlaceData) (rs : List Release) (until : 
         ]
         | Some f ↦ λ is.
             let done : is_some it.finish ≡ true = rw is refl in
-            let same : same_bytes it.name (task_at U k.place.task).name ≡ true =
-            ap (λ (n : List ℕ). same_bytes it.name n) called ∙ same_own it.name in
-            let counts : is_done_of (task_at U k.place.task).name it ≡ true = and_from
-            (is_some it.finish) (same_bytes it.name (task_at U k.place.task).name) done same in
-            let most : response_of it
-            ≤ greatest_of response_of (done_of (task_at U k.place.task).name trace.jobs.items) =
-            kept_most response_of (is_done_of (task_at U k.place.task).name) trace.jobs.items j
-            no_record (omega (arith, is_job, jobs_are node rs until trace ran)) counts in
-            let response : response_of it ≡ f - it.release =
-            ap (λ o. unwrap_or o 0 - it.release) is in
+            let same = ap (λ (n : List ℕ). same_bytes it.name n) called ∙ same_own it.name in
+            let counts = and_from (is_some it.finish) (same_bytes it.name
+            (task_at U k.place.task).name) done same in
+            let most = kept_most response_of (is_done_of (task_at U k.place.task).name)
+            trace.jobs.items j no_record (omega (arith, is_job, jobs_are node rs until trace ran))
+            counts in
+            let response = ap (λ o. unwrap_or o 0 - it.release) is in
             let within = k.reached in
             le-ltb (task_at U i).deadline (f - it.release)
             (omega (arith, most, response, within, deadline, in_time))

@@ -1,6 +1,6 @@
 -- Each job stands in one place, and where its box is in the window, that of its place is.
 use Rattle.std.proofs.Common.{◌≡◌, ◌∙◌, ℕ, ◌+◌, ◌-◌, ◌<◌, ◌≤◌, inl, inr, refl, sym, ap, subst}
-use Rattle.std.proofs.Common.{arith, min, Bool, true, false, ◌&&◌, ◌||◌, nat_lt, List, [], length}
+use Rattle.std.proofs.Common.{arith, Bool, true, false, ◌&&◌, ◌||◌, nat_lt, List, [], length}
 use Rattle.std.proofs.Common.{get_or, take, drop, Option}
 use Rattle.std.specs.Prelude.{if◌then◌else◌}
 use Rattle.std.proofs.lemmas.Bool.{and_from, and_parts, cases_Bool, cases_lt, lt-ltb, ltb-false}
@@ -19,7 +19,7 @@ use Rattle.job_boxes.specs.Jobs.{job_text, limit_of, seen_job}
 use Rattle.frames.specs.Frame.{Frame, sees}
 use Rattle.frames.specs.Rows.{in_spot, on_spot, record_at, row_at, spot_at, spot_of}
 use Rattle.drawn_runs.specs.Stand.{AreByArrival, IsSeenAt, StandsOnce, band_at, count_at, drawn_at}
-use Rattle.drawn_runs.specs.Stand.{latest_at, sees_job, sees_place, text_at}
+use Rattle.drawn_runs.specs.Stand.{latest_at, sees_job, sees_place}
 use Rattle.drawn_runs.proofs.ListLaws.{kept_most, kept_two}
 use Rattle.pieces.proofs.PlaceLaws.{Place, place_of, stands_first}
 
@@ -28,11 +28,8 @@ in_stretch : (jobs : List JobRecord) (n d next : ℕ) → n + d < next → n + d
     → (d < length (take (next - n) (drop n jobs)))
     × (get_or (take (next - n) (drop n jobs)) d no_record ≡ job_of jobs (n + d))
 in_stretch jobs n d next below lt =
-    let short : length (take (next - n) (drop n jobs)) ≡ min (next - n) (length (drop n jobs)) =
-    length-take (next - n) (drop n jobs) in
-    let left : length (drop n jobs) ≡ length jobs - n = length-drop n jobs in
     let early : d < next - n = omega (arith, below) in (
-      omega (arith, short, left, below, lt),
+      omega (arith, length-take (next - n) (drop n jobs), length-drop n jobs, below, lt),
       get_or-take (next - n) (drop n jobs) d no_record early ∙ get_or-drop n jobs d no_record,
     )
 
@@ -74,9 +71,8 @@ module _ (gap : ℕ) (jobs : List JobRecord) (j : ℕ) (lt : j < length jobs)
       let z : n + 0 ≡ n = omega arith in
       let at = in_stretch jobs n 0 (next_of gap jobs n) (omega (arith, less, below))
       (omega (arith, less, lt)) in
-      let first : is_of name (get_or stretch 0 no_record) ≡ true =
-      ap (λ (x : JobRecord). is_of name x) (at.1 ∙ ap (λ (k : ℕ). job_of jobs k) z)
-      ∙ same_own name in
+      let first = ap (λ (x : JobRecord). is_of name x) (at.1 ∙ ap (λ (k : ℕ). job_of jobs k) z) ∙
+      same_own name in
       kept_two (is_of name) stretch 0 (j - n) no_record (omega (arith, less)) inside.0 first own
 
   -- where no more than one job stands, it is that one
@@ -104,8 +100,7 @@ module _ (gap : ℕ) (jobs : List JobRecord) (j : ℕ) (lt : j < length jobs)
             let joined : joins gap jobs j ≡ true = elim (cases_Bool (joins gap jobs j)) [
               | inl so ↦ so
               | inr apart ↦
-                  let at : j ≡ n = p.only j (stands_first gap jobs j apart) in
-                  absurd (omega (arith, at, less))
+                  absurd (omega (arith, p.only j (stands_first gap jobs j apart), less))
             ] in
             first_two (nat_lt j (length jobs)) (joins gap jobs j)
             (nat_lt 1 (length (band_of gap jobs j))) some joined
@@ -124,11 +119,13 @@ seen_wider : (f : Frame) (limit release first latest : ℕ) → first ≤ releas
     → sees f release (release + limit) ≡ true → sees f first (latest + limit) ≡ true
 seen_wider f limit release first latest before behind seen =
     let parts = and_parts (nat_lt release f.to) (nat_lt f.from (release + limit)) seen in
-    let start : release < f.to = ltb-true release f.to parts.0 in
-    let stop : f.from < release + limit = ltb-true f.from (release + limit) parts.1 in
     and_from (nat_lt first f.to) (nat_lt f.from (latest + limit))
-    (lt-ltb first f.to (omega (arith, start, before)))
-    (lt-ltb f.from (latest + limit) (omega (arith, stop, behind)))
+    (lt-ltb first f.to (omega (arith, ltb-true release f.to parts.0, before)))
+    (lt-ltb f.from (latest + limit) (omega (
+      arith,
+      ltb-true f.from (release + limit) parts.1,
+      behind,
+    )))
 
 -- what stands at a place whose box is in the window is drawn
 stand_drawn : (f : Frame) (jobs : List JobRecord) (n k : ℕ) (row : TaskRow)
@@ -164,19 +161,17 @@ pub stands_once : (f : Frame) (rows : List TaskRow) (shown : List ℕ) (jobs : L
 stands_once f rows shown jobs j rank k sorted at =
     let p : Place (gap_of f) jobs j = place_of (gap_of f) jobs j at.is_job in
     let row : TaskRow = row_at rows rank in
-    let seen : sees_place f row jobs p.place ≡ true =
-    seen_wider f (limit_of row) (record_at jobs j).release (record_at jobs p.place).release
-    (latest_at f jobs p.place) (sorted p.place j p.from at.is_job)
+    let seen = seen_wider f (limit_of row) (record_at jobs j).release
+    (record_at jobs p.place).release (latest_at f jobs p.place) (sorted p.place j p.from at.is_job)
     (latest (gap_of f) jobs j at.is_job p) at.seen in
     let lone : nat_lt 1 (count_at f jobs p.place) ≡ false
     → sees_job f row (record_at jobs p.place) ≡ true =
     λ few. subst (λ (i : ℕ). sees_job f row (record_at jobs i) ≡ true)
     (sym (alone (gap_of f) jobs j at.is_job p few)) at.seen in
-    let placed : text_at f rows shown jobs p.place ≡ place_text f jobs p.place k row =
-    ap (λ (name : List ℕ). on_spot rows shown name (λ s. place_text f jobs p.place s.k)) p.same
-    ∙ ap (λ (o : Option ℕ). in_spot rows (λ s. place_text f jobs p.place s.k) (spot_of shown o))
-    at.row
-    ∙ ap (λ (o : Option ℕ). in_spot rows (λ s. place_text f jobs p.place s.k) (spot_at rank o))
+    let placed = ap (λ (name : List ℕ). on_spot rows shown name
+    (λ s. place_text f jobs p.place s.k)) p.same ∙ ap (λ (o : Option ℕ). in_spot rows
+    (λ s. place_text f jobs p.place s.k) (spot_of shown o)) at.row ∙ ap
+    (λ (o : Option ℕ). in_spot rows (λ s. place_text f jobs p.place s.k) (spot_at rank o))
     at.shown_at in
     record {
       place = p.place;

@@ -18,9 +18,6 @@ pub record Gathers (text rest : List ℕ) (owners : List Owner) : Type 0 where
   pub gathered : AreGathered text rest sets
   pub are : owners ≡ owners_of sets
 
-pub none_yet : (text : List ℕ) → Gathers text text []
-none_yet text = record { sets = []; gathered = ([], refl, tt); are = refl }
-
 owners_more : (sets : List TeamSetData) (s : TeamSetData)
     → owners_of (sets ++ s ∷ []) ≡ owners_of sets ++ owned_by s.team s.set
 owners_more [] s = append-nil (owned_by s.team s.set)

@@ -19,13 +19,10 @@ abbrev pub is_at : List (List ℕ) → ℕ → List ℕ → Bool
 is_at line place word = is_word word (slice_get line place)
 
 -- a word begins with a digit, as no name does
-abbrev pub begins_number : List ℕ → Bool
-begins_number [] = false
-begins_number (c ∷ cs) = is_ascii_digit c
-
 abbrev pub is_number_word : Option (List ℕ) → Bool
 is_number_word None = false
-is_number_word (Some said) = begins_number said
+is_number_word (Some []) = false
+is_number_word (Some (c ∷ cs)) = is_ascii_digit c
 
 -- the word at a place is a number
 abbrev pub number_at : List (List ℕ) → ℕ → Bool
@@ -72,12 +69,9 @@ team_said None = []
 team_said (Some team) = codes " team " ++ team
 
 -- the words that name the team of a task; none where no team has it
-abbrev pub team_words : List Owner → List ℕ → List ℕ
-team_words owners name = team_said (team_of owners name)
-
 abbrev pub beside : List Owner → Option (List ℕ) → List ℕ
 beside owners None = []
-beside owners (Some name) = team_words owners name
+beside owners (Some name) = team_said (team_of owners name)
 
 -- a line, with the team of the task that it names
 abbrev pub named_line : Naming → List Owner → List ℕ → List ℕ

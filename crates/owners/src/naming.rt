@@ -2,27 +2,14 @@
 ghost use Rattle.std.specs.Prelude.{◌≡◌, ◌++◌, IfOk, OnOk};
 ghost use Rattle.lines.specs.Lines.{lines_of};
 ghost use Rattle.lines.specs.Words.{words};
-ghost use Rattle.owners.specs.NamedLines.{beside, each_named, named_line, named_lines, task_word, team_words};
+ghost use Rattle.owners.specs.NamedLines.{beside, each_named, named_line, named_lines, task_word};
 
 use crate::owner::{Owner, team_of};
 use crate::words::{Naming, task_word};
 use lines::{TextPlace, next_line};
 use std::alloc::{AllocError, Global};
 
-// The words that name the team of a task, where one has it.
-fn push_team(text: &mut Vec<u8>, owners: &[Owner], name: &[u8]) -> Result<(), AllocError>
-    ensures { OnOk result (text.new.items ≡ text.old.items ++ team_words owners.now name.now) }
-{
-    match team_of(owners, name) {
-        Some(team) => {
-            text.extend_from_slice(b" team ")?;
-            text.extend_from_slice(team.bytes())
-        }
-        None => Ok(()),
-    }
-}
-
-// The words that name the team of the task that a line names, where it names one.
+// The words that name the team of the task that a line names, where it names one and a team has it.
 fn push_beside(
     text: &mut Vec<u8>,
     naming: Naming,
@@ -32,10 +19,14 @@ fn push_beside(
     ensures { OnOk result (text.new.items ≡ text.old.items
         ++ beside owners.now (task_word naming (words line.now))) }
 {
-    match task_word(naming, line) {
-        Some(name) => push_team(text, owners, name),
-        None => Ok(()),
-    }
+    let Some(name) = task_word(naming, line) else {
+        return Ok(());
+    };
+    let Some(team) = team_of(owners, name) else {
+        return Ok(());
+    };
+    text.extend_from_slice(b" team ")?;
+    text.extend_from_slice(team.bytes())
 }
 
 // A line, with the team of the task that it names.

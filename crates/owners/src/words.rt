@@ -1,7 +1,7 @@
 //! Which word of a line is the name of a task.
 ghost use Rattle.std.specs.Prelude.{◌≡◌, List, ℕ, None, Some, slice_get, MatchOption};
 ghost use Rattle.lines.specs.Words.{words};
-ghost use Rattle.owners.specs.NamedLines.{begins_number, change_place, is_at, level_place, number_at, part_place, task_place, task_word, time_place};
+ghost use Rattle.owners.specs.NamedLines.{change_place, is_at, level_place, number_at, part_place, task_place, task_word, time_place};
 
 use lines::Words;
 
@@ -40,23 +40,13 @@ fn is_at(line: &[u8], place: usize, word: &[u8]) -> bool
     }
 }
 
-// Whether a word begins with a digit, as no name does.
-fn begins_number(word: &[u8]) -> bool
-    ensures { result ≡ begins_number word.now }
-{
-    match word.first() {
-        Some(byte) => byte.is_ascii_digit(),
-        None => false,
-    }
-}
-
-// Whether the word at a place is a number.
+// Whether the word at a place is a number: it begins with a digit, as no name does.
 fn number_at(line: &[u8], place: usize) -> bool
     ensures { result ≡ number_at (words line.now) place }
 {
     match word_at(line, place) {
-        Some(said) => begins_number(said),
-        None => false,
+        Some([first, ..]) => first.is_ascii_digit(),
+        _ => false,
     }
 }
 

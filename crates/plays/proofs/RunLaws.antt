@@ -42,12 +42,11 @@ led-all : (w : World) (draft : ℕ) (fs : List FindingData) (v : World) → IsBr
 led-all w draft [] v same = led-none w v same
 led-all w draft (f ∷ fs) v is =
     let u = is.0 in
-    let before : IsLedBy w (map (λ f. event.Found draft f) (came fs)) u =
-    led-all w draft fs u is.2 in
     let one : IsLedBy u (event.Found draft f ∷ []) v = (is.1 ∷ [], (v, is.4, refl)) in
     subst (λ (es : List Event). IsLedBy w es v)
     (sym (map_push (λ f. event.Found draft f) (came fs) f)) (led-append w u v
-    (map (λ f. event.Found draft f) (came fs)) (event.Found draft f ∷ []) before one)
+    (map (λ f. event.Found draft f) (came fs)) (event.Found draft f ∷ [])
+    (led-all w draft fs u is.2) one)
 
 -- ---- one row
 abbrev Led : World → Row → World → Type 0

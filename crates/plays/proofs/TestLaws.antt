@@ -44,7 +44,7 @@ live-set (slot ∷ slots) (suc i) l m is = live-set slots i l m is
 live_at-set : (slots : List (Option Live)) (draft : ℕ) (l m : Live) → live_at slots draft ≡ Some l
     → live_at (slice_set slots (draft - 1) (Some m)) draft ≡ Some m
 live_at-set slots draft l m is = elim (cases_Bool (draft == 0)) [
-  | inl none ↦ let gone : None ≡ Some l = (rw none at is) in absurd cc
+  | inl none ↦ let gone : None ≡ Some l = rw none at is in absurd cc
   | inr there ↦ rw there (live-set slots (draft - 1) l m (rw there at is))
 ]
 
@@ -82,12 +82,11 @@ unfolding left_of
 slot-less w v draft None q r is standing went = absurd cc
 slot-less w v draft (Some l) q r is standing went =
     let m = went.0 in
-    let there : live_at v.drafts draft ≡ Some m = ap (λ (x : World). live_at x.drafts draft) went.2
-    ∙ live_at-set w.drafts draft l m is in
+    let there = ap (λ (x : World). live_at x.drafts draft) went.2 ∙ live_at-set w.drafts draft l m
+    is in
     let less = found-less (on_base l.draft) l.found went.1.0 q r standing went.1.1 in
-    let here : left_of (live_at v.drafts draft) ≡ left_on (on_base l.draft) went.1.0 =
-    ap (λ (s : Option Live). left_of s) there
-    ∙ ap (λ (x : Live). left_on (on_base x.draft) x.found) went.1.2 in
+    let here = ap (λ (s : Option Live). left_of s) there ∙ ap
+    (λ (x : Live). left_on (on_base x.draft) x.found) went.1.2 in
     subst (λ n. n < left_on (on_base l.draft) l.found) (sym here) less
 
 -- it was brought one more

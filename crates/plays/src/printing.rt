@@ -113,8 +113,7 @@ fn opened_text(alloc: Global, draft: usize, version: u64) -> Result<String, Allo
     ensures { IfOk result (λ text. string_bytes text ≡ opened_line draft version) }
 {
     let mut text = String::from_str(alloc, "draft ")?;
-    write!(text, "{draft}")?;
-    writeln!(text, " version {version}")?;
+    writeln!(text, "{draft} version {version}")?;
     Ok(text)
 }
 
@@ -123,9 +122,7 @@ fn level_text(alloc: Global, level: usize, name: Name, response: u64) -> Result<
     ensures { IfOk result (λ text. string_bytes text ≡ level_done_line level name response) }
 {
     let mut text = String::from_str(alloc, "level ")?;
-    write!(text, "{level} ")?;
-    write!(text, "{name}")?;
-    writeln!(text, " {response}")?;
+    writeln!(text, "{level} {name} {response}")?;
     Ok(text)
 }
 

@@ -1,6 +1,6 @@
 -- There is a run of the lists.
 use Rattle.std.proofs.Common.{ℕ, zero, suc, ◌<◌, ◌≤◌, ◌≡◌, ◌≢◌, ◌⊎◌, inl, inr, refl, sym, ap, ◌∙◌}
-use Rattle.std.proofs.Common.{subst, arith, true, false, List, [], ◌∷◌, length, Some, None, eqb}
+use Rattle.std.proofs.Common.{subst, arith, true, List, [], ◌∷◌, length, Some, None}
 use Rattle.std.proofs.Common.{if◌then◌else◌, ◌==◌}
 use Rattle.std.proofs.lemmas.Bool.{cases_eq, cases_lt, cases_Bool, true≢false, eq-eqb, ne_eqb}
 use Rattle.std.proofs.lemmas.Option.{none-some}
@@ -15,7 +15,7 @@ use Rattle.posix_lists.specs.ThreadLists.{IsSelected, IsAtRest, Settles, AnyWay,
 use Rattle.posix_lists.specs.ThreadLists.{ticked, IsTick, CanRun}
 use Rattle.posix_lists.proofs.QueueLaws.{In, none_in, empty_from, from_head, to_head, own_head}
 use Rattle.posix_lists.proofs.QueueLaws.{head_here, Rising}
-use Rattle.posix_lists.proofs.TickLaws.{Queued, AllCame, active_same}
+use Rattle.posix_lists.proofs.TickLaws.{AllCame, active_same}
 use Rattle.posix_lists.proofs.ListLaws.{shown_of, Agrees, none_runs, one_runs, move_keeps}
 use Rattle.posix_lists.proofs.ListLaws.{tick_keeps, begins, empty_raised}
 
@@ -67,8 +67,7 @@ module _ (node : Node) (jobs : List Job) (ok : IsNode node) (legal : AreLegalJob
             u,
             w.1,
             λ j lt due some. elim (cases_eq j n) [
-              | inl e ↦ absurd (let r : (job_at jobs j).ready ≡ (job_at jobs n).ready =
-                  ap (λ x. (job_at jobs x).ready) e in omega arith)
+              | inl e ↦ absurd (omega (arith, ap (λ x. (job_at jobs x).ready) e))
               | inr ne ↦ w.2 j (omega arith) due some
             ],
           )
@@ -77,8 +76,7 @@ module _ (node : Node) (jobs : List Job) (ok : IsNode node) (legal : AreLegalJob
               u,
               w.1,
               λ j lt due some. elim (cases_eq j n) [
-                | inl e ↦ absurd (let r : (job_at jobs j).executes ≡ (job_at jobs n).executes =
-                    ap (λ x. (job_at jobs x).executes) e in omega arith)
+                | inl e ↦ absurd (omega (arith, ap (λ x. (job_at jobs x).executes) e))
                 | inr ne ↦ w.2 j (omega arith) due some
               ],
             )
@@ -102,9 +100,9 @@ module _ (node : Node) (jobs : List Job) (ok : IsNode node) (legal : AreLegalJob
                   v,
                   further t s u v w.1 (inl move),
                   λ j lt due some. elim (cases_eq n j) [
-                    | inl e ↦ (let b : eqb n j ≡ true = eq-eqb n j e in rw b)
-                    | inr ne ↦ (let b : eqb n j ≡ false = ne_eqb n j ne in
-                        rw b (w.2 j (let differ : j ≢ n = λ e. ne (sym e) in omega arith) due some))
+                    | inl e ↦ rw (eq-eqb n j e)
+                    | inr ne ↦ rw (ne_eqb n j ne) (w.2 j
+                        (let differ : j ≢ n = λ e. ne (sym e) in omega arith) due some)
                   ],
                 )
           ]
@@ -121,12 +119,8 @@ module _ (node : Node) (jobs : List Job) (ok : IsNode node) (legal : AreLegalJob
     behind u h q k at =
         let l = h.listed q k at in
         let c : (k < length jobs) × ((job_at jobs k).ready ≤ t) = h.came k l.0 in
-        let ek : u.executed k ≡ executed_before node jobs t k = h.executed k in
-        let ak : active_of node jobs u.executed k
-        ≡ active_of node jobs (executed_before node jobs t) k =
-        active_same node jobs u.executed (executed_before node jobs t) k ek in
-        let a : active_of node jobs u.executed p ≡ active_of node jobs (executed_before node jobs t)
-        p = active_same node jobs u.executed (executed_before node jobs t) p (h.executed p) in
+        let ak = active_same node jobs u.executed (executed_before node jobs t) k (h.executed k) in
+        let a = active_same node jobs u.executed (executed_before node jobs t) p (h.executed p) in
         let top : active_of node jobs u.executed k ≡ q = l.2 in
         elim (is.first k c.0 (pending_from node jobs t k c.1 (omega (arith, l.1)))) [
           | inl less ↦ inl (omega arith)
@@ -136,9 +130,7 @@ module _ (node : Node) (jobs : List Job) (ok : IsNode node) (legal : AreLegalJob
     in_line : (u : Threads) → Agrees node jobs t u → AllCame jobs t u.has_come
         → In p (shown_of node jobs u.running u.executed u.list (active_of node jobs u.executed p))
     in_line u h all =
-        let pp : ((job_at jobs p).ready ≤ t)
-        × (executed_before node jobs t p < (job_at jobs p).executes) =
-        pending_parts node jobs t p is.is_pending in
+        let pp = pending_parts node jobs t p is.is_pending in
         let e : u.executed p ≡ executed_before node jobs t p = h.executed p in
         h.complete p (all p is.below pp.0 (omega (arith, pp.1))) (omega (arith, pp.1))
 
@@ -149,8 +141,7 @@ module _ (node : Node) (jobs : List Job) (ok : IsNode node) (legal : AreLegalJob
       all_came = all;
       none_higher = λ j higher r above.
           let same : j ≡ p = cc (r, runs) in
-          let a : active_of node jobs u.executed j ≡ active_of node jobs u.executed p =
-          ap (active_of node jobs u.executed) same in
+          let a = ap (active_of node jobs u.executed) same in
           empty_from (u.list higher) (λ k at. elim (behind u h higher k
           (subst (λ r. In k (shown_of node jobs r u.executed u.list higher)) (sym runs)
           (to_head u.list (active_of node jobs u.executed p) p higher k at))) [
@@ -165,17 +156,15 @@ module _ (node : Node) (jobs : List Job) (ok : IsNode node) (legal : AreLegalJob
         → (v : Threads) × Settles node jobs t s v × Agrees node jobs t v
     select s u r all nobody =
         let h : Agrees node jobs t u = r.agrees in
-        let qd : Queued node jobs t u.executed u.has_come u.list =
-        none_runs node jobs ok legal t u nobody h in
         let a : ℕ = active_of node jobs u.executed p in
-        let at : In p (u.list a) =
-        subst (λ o. In p (shown_of node jobs o u.executed u.list a)) nobody (in_line u h all) in
+        let at = subst (λ o. In p (shown_of node jobs o u.executed u.list a)) nobody
+        (in_line u h all) in
         let after : (q k : ℕ) → In k (u.list q) → (q < a)
         ⊎ ((q ≡ a) × (level_of_job node jobs p ≤ level_of_job node jobs k)) =
         λ q k in_q. behind u h q k
         (subst (λ o. In k (shown_of node jobs o u.executed u.list q)) (sym nobody) in_q) in
-        let head : (rest : List ℕ) × (u.list a ≡ p ∷ rest) =
-        first_of (u.list a) at (qd.rising a) (λ k in_a.
+        let head = first_of (u.list a) at ((none_runs node jobs ok legal t u nobody h).rising a)
+        (λ k in_a.
         elim (after a k in_a) [ inl less ↦ absurd (omega arith) | inr tied ↦ tied.1 ]) in
         let v : Threads = record {
           executed = u.executed;
@@ -202,9 +191,7 @@ module _ (node : Node) (jobs : List Job) (ok : IsNode node) (legal : AreLegalJob
         first_of [] at rising least = absurd at
         first_of (x ∷ xs) at rising least = elim at [
           | inl e ↦ (xs, ap (λ y. y ∷ xs) e)
-          | inr later ↦ absurd (let lt : level_of_job node jobs x < level_of_job node jobs p =
-              rising.0 p later in let le : level_of_job node jobs p ≤ level_of_job node jobs x =
-              least x (inl refl) in omega arith)
+          | inr later ↦ absurd (omega (arith, rising.0 p later, least x (inl refl)))
         ]
 
     settle_busy : (s u : Threads) → Reached t s u → AllCame jobs t u.has_come → (v : Threads)
@@ -219,24 +206,23 @@ module _ (node : Node) (jobs : List Job) (ok : IsNode node) (legal : AreLegalJob
             | inr other ↦
                 let a : ℕ = active_of node jobs u.executed p in
                 let b : ℕ = active_of node jobs u.executed x in
-                let line : In p (with_head u.list b x a) =
-                subst (λ o. In p (shown_of node jobs o u.executed u.list a)) runs
+                let line = subst (λ o. In p (shown_of node jobs o u.executed u.list a)) runs
                 (in_line u h all) in
                 let at : In p (u.list a) = elim (from_head u.list b x a p line) [
                   | inl was ↦ was
                   | inr mine ↦ absurd (other mine.1)
                 ] in
-                let qd : Queued node jobs t u.executed u.has_come (with_head u.list b x) =
-                one_runs node jobs ok legal t u x runs h in
                 let lower : b < a = elim (behind u h b x (subst (λ o. In x
                 (shown_of node jobs o u.executed u.list b)) (sym runs) (own_head u.list b x))) [
                   | inl less ↦ less
                   | inr tied ↦
                       let up = subst (Rising (level_of_job node jobs)) (head_here u.list b x b refl)
-                      (qd.rising b) in
-                      let lt : level_of_job node jobs x < level_of_job node jobs p =
-                      up.0 p (subst (λ q. In p (u.list q)) (sym tied.0) at) in
-                      absurd (omega (arith, tied.1))
+                      ((one_runs node jobs ok legal t u x runs h).rising b) in
+                      absurd (omega (
+                        arith,
+                        up.0 p (subst (λ q. In p (u.list q)) (sym tied.0) at),
+                        tied.1,
+                      ))
                 ] in
                 let v : Threads = record {
                   executed = u.executed;

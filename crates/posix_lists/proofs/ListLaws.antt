@@ -1,11 +1,11 @@
 -- POSIX's lists run whom the tick rule picks.
 use Rattle.std.proofs.Common.{ℕ, zero, suc, ◌<◌, ◌≤◌, ◌≡◌, inl, inr, refl, sym, ap, ◌∙◌, subst}
-use Rattle.std.proofs.Common.{arith, true, false, List, [], ◌∷◌, Option, Some, None, eqb}
+use Rattle.std.proofs.Common.{arith, true, false, List, [], Option, Some, None}
 use Rattle.std.proofs.Common.{if◌then◌else◌, ◌==◌}
 use Rattle.std.proofs.lemmas.Bool.{cases_lt, cases_eq, true≢false, eq-eqb}
 use Rattle.ceiling_kernel.specs.Tick.{Node, Job, job_at, level_of_job, active_of, held_ceiling}
 use Rattle.ceiling_kernel.specs.Tick.{picked}
-use Rattle.ceiling_kernel.specs.Waits.{IsNode, AreLegalJobs, NoOverrunBy, AskAnew, IsFree}
+use Rattle.ceiling_kernel.specs.Waits.{IsNode, AreLegalJobs, NoOverrunBy, AskAnew}
 use Rattle.ceiling_kernel.specs.Waits.{holds_lock, asks_lock}
 use Rattle.ceiling_kernel.specs.Behaviours.{TakeTurns}
 use Rattle.ceiling_kernel.proofs.MachineLaws.{start_of}
@@ -70,12 +70,10 @@ module _ (node : Node) (jobs : List Job) (ok : IsNode node) (legal : AreLegalJob
           | inl pre ↦ subst (Agrees node jobs t) (sym pre.moved)
               (one_runs t s pre.thread pre.was_running h)
           | inr sel ↦
-              let qd : Queued node jobs t s.executed s.has_come s.list =
-              none_runs t s sel.nobody h in
-              let at : In sel.thread (s.list sel.priority) = (let own : In sel.thread
-              (sel.thread ∷ sel.rest) = inl refl in subst (In sel.thread) (sym sel.head) own) in
-              let a : active_of node jobs s.executed sel.thread ≡ sel.priority =
-              (qd.listed sel.priority sel.thread at).2 in
+              let qd = none_runs t s sel.nobody h in
+              let at : In sel.thread (s.list sel.priority) = subst (In sel.thread) (sym sel.head)
+              (inl refl) in
+              let a = (qd.listed sel.priority sel.thread at).2 in
               subst (Agrees node jobs t) (sym sel.moved)
               (queued_same node jobs t s.executed s.has_come s.list (with_head (with_list s.list
               sel.priority sel.rest) (active_of node jobs s.executed sel.thread) sel.thread)
@@ -137,9 +135,7 @@ module _ (node : Node) (jobs : List Job) (ok : IsNode node) (legal : AreLegalJob
                     (ends node jobs ok legal t s.executed s.has_come s.list p (one_runs t s p
                     busy.was_running h) higher (sym pick ∙ busy.was_running) done)
                 | inl left ↦
-                    let kept : Queued node jobs (suc t) (one_on s.executed p) s.has_come
-                    (with_head s.list (active_of node jobs (one_on s.executed p) p) p) =
-                    stays t s p none h rest busy.was_running left in
+                    let kept = stays t s p none h rest busy.was_running left in
                     elim (busy.goes_on left) [
                       | inl on ↦ subst (Agrees node jobs (suc t)) (sym on)
                           (subst (λ r. Queued node jobs (suc t) (one_on s.executed p) s.has_come
@@ -189,15 +185,15 @@ module _ (node : Node) (jobs : List Job) (ok : IsNode node) (legal : AreLegalJob
           record {
             runs = pick;
             nobody_owns = λ p k lock runs asks lt ne.
-                let free : IsFree node jobs t p lock =
-                free_law node jobs ok legal anew t p lock none (sym pick ∙ runs) (subst (λ e.
-                asks_lock (job_at jobs p).sections e lock ≡ true) (h.executed p) asks) in
+                let free = free_law node jobs ok legal anew t p lock none (sym pick ∙ runs)
+                (subst (λ e. asks_lock (job_at jobs p).sections e lock ≡ true) (h.executed p)
+                asks) in
                 subst (λ e. holds_lock (job_at jobs k).sections e lock ≡ false) (sym (h.executed k))
                 (free.is_free k lt);
             within_ceiling = λ p lock runs asks.
-                let free : IsFree node jobs t p lock =
-                free_law node jobs ok legal anew t p lock none (sym pick ∙ runs) (subst (λ e.
-                asks_lock (job_at jobs p).sections e lock ≡ true) (h.executed p) asks) in
+                let free = free_law node jobs ok legal anew t p lock none (sym pick ∙ runs)
+                (subst (λ e. asks_lock (job_at jobs p).sections e lock ≡ true) (h.executed p)
+                asks) in
                 free.within_ceiling;
           }
 
@@ -216,20 +212,17 @@ module _ (node : Node) (jobs : List Job) (ok : IsNode node) (legal : AreLegalJob
       → AnyWay (active_of node jobs s.executed p) (active_of node jobs (one_on s.executed p) p)
       → s.list (active_of node jobs (one_on s.executed p) p) ≡ []
   empty_turns turns t s p h rest none runs changes any =
-      let qd : Queued node jobs t s.executed s.has_come
-      (with_head s.list (active_of node jobs s.executed p) p) = one_runs t s p runs h in
+      let qd = one_runs t s p runs h in
       elim (cases_lt (active_of node jobs s.executed p)
       (active_of node jobs (one_on s.executed p) p)) [
         | inl raised ↦ rest.none_higher p (active_of node jobs (one_on s.executed p) p) runs raised
         | inr no_higher ↦
-            let own : active_of node jobs (one_on s.executed p) p ≡ level_of_job node jobs p =
-            own_after turns t s p changes no_higher in
+            let own = own_after turns t s p changes no_higher in
             empty_from (s.list (active_of node jobs (one_on s.executed p) p)) (λ k at.
-            let lower : level_of_job node jobs p < level_of_job node jobs k = below_on node jobs ok
-            legal t s.executed s.has_come s.list p qd (λ q lt. rest.none_higher p q runs lt)
-            none (active_of node jobs (one_on s.executed p) p) k refl at in
-            let a : active_of node jobs s.executed k ≡ active_of node jobs (one_on s.executed p) p =
-            (qd.listed (active_of node jobs (one_on s.executed p) p) k
+            let lower = below_on node jobs ok legal t s.executed s.has_come s.list p qd
+            (λ q lt. rest.none_higher p q runs lt) none
+            (active_of node jobs (one_on s.executed p) p) k refl at in
+            let a = (qd.listed (active_of node jobs (one_on s.executed p) p) k
             (to_head s.list (active_of node jobs s.executed p) p
             (active_of node jobs (one_on s.executed p) p) k at)).2 in
             omega arith)
@@ -240,16 +233,13 @@ module _ (node : Node) (jobs : List Job) (ok : IsNode node) (legal : AreLegalJob
           → active_of node jobs (one_on s.executed p) p ≤ active_of node jobs s.executed p
           → active_of node jobs (one_on s.executed p) p ≡ level_of_job node jobs p
       own_after turns t s p changes no_higher =
-          let same : eqb p p ≡ true = eq-eqb p p refl in
-          let one : one_on s.executed p p ≡ suc (s.executed p) = rw same (omega arith) in
-          let on : held_ceiling node (job_at jobs p).sections (one_on s.executed p p)
-          ≡ held_ceiling node (job_at jobs p).sections (suc (s.executed p)) =
-          ap (held_ceiling node (job_at jobs p).sections) one in
+          let one : one_on s.executed p p ≡ suc (s.executed p) = rw (eq-eqb p p refl)
+          (omega arith) in
+          let on = ap (held_ceiling node (job_at jobs p).sections) one in
           elim (cases_eq (held_ceiling node (job_at jobs p).sections (s.executed p)) 0) [
             | inl nothing ↦ omega arith
             | inr some ↦
-                let left : held_ceiling node (job_at jobs p).sections (suc (s.executed p)) ≡ 0 =
-                left_after node 0 (job_at jobs p).executes (job_at jobs p).sections
+                let left = left_after node 0 (job_at jobs p).executes (job_at jobs p).sections
                 (s.executed p) (turns_apart jobs turns p) changes (omega arith) in
                 omega arith
           ]

@@ -14,8 +14,7 @@ pub held_start : (node : Node) (ss : List CriticalSection) → held_ceiling node
 held_start node [] = refl
 held_start node (s ∷ ss) =
     let out : is_inside s 0 ≡ false = outside_before s 0 (omega arith) in
-    let ih : held_ceiling node ss 0 ≡ 0 = held_start node ss in
-    rw out (omega arith)
+    rw out (omega (arith, held_start node ss))
 
 -- sections that begin later neither begin nor end in this tick
 later_changes : (begin x : ℕ) (ss : List CriticalSection) (e : ℕ) → AreApart begin ss x → e < begin
@@ -45,8 +44,7 @@ left_after node begin x (s ∷ ss) e apart h some =
               | inr ends ↦
                   let last : s.at + s.len ≡ e + 1 = eqb-true (s.at + s.len) (e + 1) ends in
                   let out : is_inside s (suc e) ≡ false = outside_after s (suc e) (omega arith) in
-                  let none : held_ceiling node ss (suc e) ≡ 0 =
-                  held_before node (s.at + s.len) x ss (suc e) apart.2 (omega arith) in
+                  let none = held_before node (s.at + s.len) x ss (suc e) apart.2 (omega arith) in
                   rw out (omega arith)
             ]
           ]
@@ -54,9 +52,7 @@ left_after node begin x (s ∷ ss) e apart h some =
           let some' : 0 < max 0 (held_ceiling node ss e) = rw outside at some in
           elim (cases_lt (s.at + s.len) e) [
             | inr before ↦
-                let none : held_ceiling node ss e ≡ 0 =
-                held_before node (s.at + s.len) x ss e apart.2 before in
-                absurd (omega arith)
+                absurd (omega (arith, held_before node (s.at + s.len) x ss e apart.2 before))
             | inl past ↦
                 elim (or_cases ((s.at == e) || (s.at + s.len == e + 1)) (changes_locks ss e) h) [
                   | inl here ↦ elim (or_cases (s.at == e) (s.at + s.len == e + 1) here) [
@@ -64,10 +60,8 @@ left_after node begin x (s ∷ ss) e apart h some =
                     | inr ends ↦ absurd (omega (arith, eqb-true (s.at + s.len) (e + 1) ends))
                   ]
                   | inr later ↦
-                      let out : is_inside s (suc e) ≡ false =
-                      outside_after s (suc e) (omega arith) in
-                      let ih : held_ceiling node ss (suc e) ≡ 0 =
-                      left_after node (s.at + s.len) x ss e apart.2 later (omega arith) in
+                      let out = outside_after s (suc e) (omega arith) in
+                      let ih = left_after node (s.at + s.len) x ss e apart.2 later (omega arith) in
                       rw out (omega arith)
                 ]
           ]

@@ -1,6 +1,6 @@
 -- Lists of threads whose own levels rise from head to tail.
-use Rattle.std.proofs.Common.{ℕ, ◌<◌, ◌≡◌, ◌≢◌, ◌⊎◌, inl, inr, refl, sym, ap, ◌∙◌, subst, true}
-use Rattle.std.proofs.Common.{false, ◌==◌, List, [], ◌∷◌, ◌++◌, eqb}
+use Rattle.std.proofs.Common.{ℕ, ◌<◌, ◌≡◌, ◌≢◌, ◌⊎◌, inl, inr, refl, sym, ap, ◌∙◌, subst}
+use Rattle.std.proofs.Common.{◌==◌, List, [], ◌∷◌, ◌++◌}
 use Rattle.std.proofs.lemmas.Bool.{cases_eq, cases_Bool, eq-eqb, ne_eqb}
 use Rattle.posix_lists.specs.ThreadLists.{with_head, with_tail, with_list}
 
@@ -49,7 +49,7 @@ module _ (level : ℕ → ℕ) where
     λ k at. elim (from_longer xs j k at) [
       | inl was ↦ h.0 k was
       | inr e ↦
-          (let lt : level x < level j = below x (inl refl) in subst (λ y. level x < level y) e lt)
+          subst (λ y. level x < level y) e (below x (inl refl))
     ],
     rising_longer xs j h.1 (λ k at. below k (inr at)),
   )
@@ -57,16 +57,16 @@ module _ (level : ℕ → ℕ) where
 -- ---- a thread that comes to the list for priority a, or leaves it
 module _ (list : ℕ → List ℕ) (a j : ℕ) where
   pub head_here : (q : ℕ) → a ≡ q → with_head list a j q ≡ j ∷ list q
-  head_here q e = (let t : eqb a q ≡ true = eq-eqb a q e in rw t)
+  head_here q e = rw (eq-eqb a q e)
 
   pub head_else : (q : ℕ) → a ≢ q → with_head list a j q ≡ list q
-  head_else q ne = (let f : eqb a q ≡ false = ne_eqb a q ne in rw f)
+  head_else q ne = rw (ne_eqb a q ne)
 
   pub tail_here : (q : ℕ) → a ≡ q → with_tail list a j q ≡ list q ++ j ∷ []
-  tail_here q e = (let t : eqb a q ≡ true = eq-eqb a q e in rw t)
+  tail_here q e = rw (eq-eqb a q e)
 
   pub tail_else : (q : ℕ) → a ≢ q → with_tail list a j q ≡ list q
-  tail_else q ne = (let f : eqb a q ≡ false = ne_eqb a q ne in rw f)
+  tail_else q ne = rw (ne_eqb a q ne)
 
   pub from_head : (q k : ℕ) → In k (with_head list a j q) → In k (list q) ⊎ ((a ≡ q) × (j ≡ k))
   from_head q k h = elim (cases_eq a q) [
@@ -76,12 +76,12 @@ module _ (list : ℕ → List ℕ) (a j : ℕ) where
 
   pub to_head : (q k : ℕ) → In k (list q) → In k (with_head list a j q)
   to_head q k h = elim (cases_eq a q) [
-    | inl e ↦ (let more : In k (j ∷ list q) = inr h in subst (In k) (sym (head_here q e)) more)
+    | inl e ↦ subst (In k) (sym (head_here q e)) (inr h)
     | inr ne ↦ subst (In k) (sym (head_else q ne)) h
   ]
 
   pub own_head : In j (with_head list a j a)
-  own_head = (let own : In j (j ∷ list a) = inl refl in subst (In j) (sym (head_here a refl)) own)
+  own_head = subst (In j) (sym (head_here a refl)) (inl refl)
 
   pub from_tail : (q k : ℕ) → In k (with_tail list a j q) → In k (list q) ⊎ ((a ≡ q) × (j ≡ k))
   from_tail q k h = elim (cases_eq a q) [
@@ -115,8 +115,8 @@ module _ (list : ℕ → List ℕ) (a j : ℕ) where
   pub head_back : (rest : List ℕ) → list a ≡ j ∷ rest → (q : ℕ)
       → list q ≡ with_head (with_list list a rest) a j q
   head_back rest head q = elim (cases_eq a q) [
-    | inl e ↦ (let t : eqb a q ≡ true = eq-eqb a q e in rw t (sym (ap list e) ∙ head))
-    | inr ne ↦ (let f : eqb a q ≡ false = ne_eqb a q ne in rw f)
+    | inl e ↦ rw (eq-eqb a q e) (sym (ap list e) ∙ head)
+    | inr ne ↦ rw (ne_eqb a q ne)
   ]
 
 -- one that comes to a tail, and one that stands before a head

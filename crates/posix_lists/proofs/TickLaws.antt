@@ -1,7 +1,7 @@
 -- Lists with the running thread at the head of its own: what they keep from tick to tick, and whom the tick rule picks.
 use Rattle.std.proofs.Common.{ℕ, suc, ◌+◌, ◌<◌, ◌≤◌, ◌≡◌, ◌≢◌, inl, inr, refl, sym, ap, ◌∙◌, subst}
 use Rattle.std.proofs.Common.{arith, Bool, true, false, ◌==◌, if◌then◌else◌, max, List, [], length}
-use Rattle.std.proofs.Common.{Some, None, eqb}
+use Rattle.std.proofs.Common.{Some, None}
 use Rattle.std.proofs.lemmas.Bool.{cases_eq, cases_lt, cases_Bool, cases_order, true≢false, eq-eqb}
 use Rattle.std.proofs.lemmas.Bool.{ne_eqb}
 use Rattle.ceiling_kernel.specs.Tick.{Node, Job, job_at, level_of_job, is_pending, active_of}
@@ -76,8 +76,8 @@ module _ (node : Node) (jobs : List Job) (ok : IsNode node) (legal : AreLegalJob
       → k < length jobs → (job_at jobs k).ready ≤ t → ex k < (job_at jobs k).executes
       → level_of_job node jobs j ≢ level_of_job node jobs k
   apart t ex executed none j k ne jl jr ju kl kr ku same =
-      let task : (job_at jobs j).task ≡ (job_at jobs k).task = valid.levels_differ
-      (job_at jobs j).task (job_at jobs k).task (legal.known j jl) (legal.known k kl) same in
+      let task = valid.levels_differ (job_at jobs j).task (job_at jobs k).task (legal.known j jl)
+      (legal.known k kl) same in
       let ej : ex j ≡ executed_before node jobs t j = executed j in
       let ek : ex k ≡ executed_before node jobs t k = executed k in
       elim (cases_order j k) [
@@ -101,16 +101,15 @@ module _ (node : Node) (jobs : List Job) (ok : IsNode node) (legal : AreLegalJob
     executed = qd.executed;
     came = λ k c. elim (cases_eq j k) [
       | inl e ↦ subst (λ x. (x < length jobs) × ((job_at jobs x).ready ≤ t)) e (lt, due)
-      | inr ne ↦ (let f : eqb j k ≡ false = ne_eqb j k ne in qd.came k (rw f at c))
+      | inr ne ↦ qd.came k (rw (ne_eqb j k ne) at c)
     ];
     fresh = λ k c. elim (cases_eq j k) [
-      | inl e ↦ (let b : eqb j k ≡ true = eq-eqb j k e in let wrong : true ≡ false = rw b at c in
+      | inl e ↦ (let wrong : true ≡ false = rw (eq-eqb j k e) at c in
           absurd (true≢false wrong))
-      | inr ne ↦ (let f : eqb j k ≡ false = ne_eqb j k ne in qd.fresh k (rw f at c))
+      | inr ne ↦ qd.fresh k (rw (ne_eqb j k ne) at c)
     ];
     listed = λ q k at. elim (from_tail list (active_of node jobs ex j) j q k at) [
-      | inl was ↦ (let s : (come k ≡ true) × (ex k < (job_at jobs k).executes)
-          × (active_of node jobs ex k ≡ q) = qd.listed q k was in (still k s.0, s.1, s.2))
+      | inl was ↦ (let s = qd.listed q k was in (still k s.0, s.1, s.2))
       | inr own ↦ subst (λ x. ((if j == x then true else come x) ≡ true)
           × (ex x < (job_at jobs x).executes) × (active_of node jobs ex x ≡ q)) own.1
           (has_come, pending, own.0)
@@ -119,8 +118,8 @@ module _ (node : Node) (jobs : List Job) (ok : IsNode node) (legal : AreLegalJob
       | inl e ↦
           subst (λ x. In x (with_tail list (active_of node jobs ex j) j (active_of node jobs ex x)))
           e (own_tail list (active_of node jobs ex j) j)
-      | inr ne ↦ (let f : eqb j k ≡ false = ne_eqb j k ne in to_tail list (active_of node jobs ex j)
-          j (active_of node jobs ex k) k (qd.complete k (rw f at c) u))
+      | inr ne ↦ to_tail list (active_of node jobs ex j)
+          j (active_of node jobs ex k) k (qd.complete k (rw (ne_eqb j k ne) at c) u)
     ];
     rising = λ q. elim (cases_eq (active_of node jobs ex j) q) [
       | inl e ↦ subst (Rising (level_of_job node jobs))
@@ -132,10 +131,10 @@ module _ (node : Node) (jobs : List Job) (ok : IsNode node) (legal : AreLegalJob
   }
     where
       pending : ex j < (job_at jobs j).executes
-      pending = (let f : ex j ≡ 0 = qd.fresh j blocked in omega arith)
+      pending = omega (arith, qd.fresh j blocked)
 
       has_come : (if j == j then true else come j) ≡ true
-      has_come = (let b : eqb j j ≡ true = eq-eqb j j refl in rw b)
+      has_come = rw (eq-eqb j j refl)
 
       still : (k : ℕ) → come k ≡ true → (if j == k then true else come k) ≡ true
       still k c = elim (cases_Bool (j == k)) [ inl b ↦ rw b | inr b ↦ rw b c ]
@@ -143,27 +142,23 @@ module _ (node : Node) (jobs : List Job) (ok : IsNode node) (legal : AreLegalJob
       -- it holds nothing
       own_level : active_of node jobs ex j ≡ level_of_job node jobs j
       own_level =
-          let e : held_ceiling node (job_at jobs j).sections (ex j)
-          ≡ held_ceiling node (job_at jobs j).sections 0 =
-          ap (held_ceiling node (job_at jobs j).sections) (qd.fresh j blocked) in
-          let h : held_ceiling node (job_at jobs j).sections 0 ≡ 0 =
-          held_start node (job_at jobs j).sections in
-          omega arith
+          omega (
+            arith,
+            ap (held_ceiling node (job_at jobs j).sections) (qd.fresh j blocked),
+            held_start node (job_at jobs j).sections,
+          )
 
       below : (q k : ℕ) → active_of node jobs ex j ≡ q → In k (list q)
           → level_of_job node jobs k < level_of_job node jobs j
       below q k e at =
-          let s : (come k ≡ true) × (ex k < (job_at jobs k).executes)
-          × (active_of node jobs ex k ≡ q) = qd.listed q k at in
+          let s = qd.listed q k at in
           let c : (k < length jobs) × ((job_at jobs k).ready ≤ t) = qd.came k s.0 in
           let other : k ≢ j = λ same. true≢false (sym s.0 ∙ (ap come same ∙ blocked)) in
-          let ne : level_of_job node jobs k ≢ level_of_job node jobs j =
-          apart t ex qd.executed none k j other c.0 c.1 s.1 lt due pending in
           let own : active_of node jobs ex j ≡ level_of_job node jobs j = own_level in
           let top : active_of node jobs ex k ≡ q = s.2 in
           elim (cases_eq (level_of_job node jobs k) (level_of_job node jobs j)) [
             | inl same ↦
-                absurd (ne same)
+                absurd ((apart t ex qd.executed none k j other c.0 c.1 s.1 lt due pending) same)
             | inr differ ↦ omega arith
           ]
 
@@ -177,9 +172,7 @@ module _ (node : Node) (jobs : List Job) (ok : IsNode node) (legal : AreLegalJob
       (λ k lt. elim (cases_Bool (is_pending jobs (executed_before node jobs t) t k)) [
         | inr rests ↦ rests
         | inl waits ↦
-            let pp : ((job_at jobs k).ready ≤ t)
-            × (executed_before node jobs t k < (job_at jobs k).executes) =
-            pending_parts node jobs t k waits in
+            let pp = pending_parts node jobs t k waits in
             let e : ex k ≡ executed_before node jobs t k = qd.executed k in
             let c : come k ≡ true = all k lt pp.0 (omega (arith, pp.1)) in
             absurd (none_in (list (active_of node jobs ex k)) k (empty (active_of node jobs ex k))
@@ -204,11 +197,9 @@ module _ (node : Node) (jobs : List Job) (ok : IsNode node) (legal : AreLegalJob
     -- it stands nowhere else
     nowhere : (q : ℕ) → In p (list q) → ⊥
     nowhere q at =
-        let s : (come p ≡ true) × (ex p < (job_at jobs p).executes)
-        × (active_of node jobs ex p ≡ q) = qd.listed q p (to_head list a p q p at) in
-        let here : In p (list a) = subst (λ x. In p (list x)) (sym s.2) at in
-        let lt : level_of_job node jobs p < level_of_job node jobs p = first.0 p here in
-        omega arith
+        let here : In p (list a) = subst (λ x. In p (list x))
+        (sym (qd.listed q p (to_head list a p q p at)).2) at in
+        omega (arith, first.0 p here)
 
     rest_rising : (q : ℕ) → Rising (level_of_job node jobs) (list q)
     rest_rising q = elim (cases_eq a q) [
@@ -230,22 +221,17 @@ module _ (node : Node) (jobs : List Job) (ok : IsNode node) (legal : AreLegalJob
         (active_of node jobs (executed_before node jobs t)) (level_of_job node jobs)
         (length jobs) p c.0 (pending_from node jobs t p c.1 (omega arith))
         (λ k lt waits other.
-        let pp : ((job_at jobs k).ready ≤ t)
-        × (executed_before node jobs t k < (job_at jobs k).executes) =
-        pending_parts node jobs t k waits in
+        let pp = pending_parts node jobs t k waits in
         let ek : ex k ≡ executed_before node jobs t k = qd.executed k in
         let ck : come k ≡ true = all k lt pp.0 (omega (arith, pp.1)) in
-        let ap_ : active_of node jobs ex p ≡ active_of node jobs (executed_before node jobs t) p =
-        active_same node jobs ex (executed_before node jobs t) p ep in
-        let ak : active_of node jobs ex k ≡ active_of node jobs (executed_before node jobs t) k =
-        active_same node jobs ex (executed_before node jobs t) k ek in
+        let ap_ = active_same node jobs ex (executed_before node jobs t) p ep in
+        let ak = active_same node jobs ex (executed_before node jobs t) k ek in
         elim (from_head list a p (active_of node jobs ex k) k
         (qd.complete k ck (omega (arith, pp.1)))) [
           | inr mine ↦ absurd (other (sym mine.1))
           | inl at ↦ elim (cases_order (active_of node jobs ex k) (active_of node jobs ex p)) [
             | inl tied ↦
-                let lower : level_of_job node jobs p < level_of_job node jobs k =
-                first.0 k (subst (λ x. In k (list x)) tied at) in
+                let lower = first.0 k (subst (λ x. In k (list x)) tied at) in
                 inr (sym ak ∙ (tied ∙ ap_), lower)
             | inr differ ↦ elim differ [
               | inl less ↦ inl (omega arith)
@@ -257,26 +243,24 @@ module _ (node : Node) (jobs : List Job) (ok : IsNode node) (legal : AreLegalJob
 
     -- ---- it executes the tick
     own_tick : one_on ex p p ≡ ex p + 1
-    own_tick = (let b : eqb p p ≡ true = eq-eqb p p refl in rw b)
+    own_tick = rw (eq-eqb p p refl)
 
     other_tick : (j : ℕ) → p ≢ j → one_on ex p j ≡ ex j
-    other_tick j ne = (let b : eqb p j ≡ false = ne_eqb p j ne in rw b)
+    other_tick j ne = rw (ne_eqb p j ne)
 
     executed_on : picked node jobs t ≡ Some p → (j : ℕ)
         → one_on ex p j ≡ executed_before node jobs (suc t) j
     executed_on pick j =
-        let e : ex j ≡ executed_before node jobs t j = qd.executed j in
         elim (cases_eq p j) [
           | inl same ↦
-              let b : eqb p j ≡ true = eq-eqb p j same in
-              let more : executed_before node jobs (suc t) j ≡ suc (executed_before node jobs t j) =
-              subst (λ x. executed_before node jobs (suc t) x
-              ≡ suc (executed_before node jobs t x)) same (own_of node jobs t p pick) in
-              rw b (omega arith)
+              rw (eq-eqb p j same) (omega (
+                arith,
+                subst (λ x. executed_before node jobs (suc t) x
+                    ≡ suc (executed_before node jobs t x)) same (own_of node jobs t p pick),
+              ))
           | inr ne ↦
-              let rests : executed_before node jobs (suc t) j ≡ executed_before node jobs t j =
-              other_of node jobs t p j pick (λ same. ne (sym same)) in
-              other_tick j ne ∙ (e ∙ sym rests)
+              let rests = other_of node jobs t p j pick (λ same. ne (sym same)) in
+              other_tick j ne ∙ ((qd.executed j) ∙ sym rests)
         ]
 
     came_on : (j : ℕ) → come j ≡ true → (j < length jobs) × ((job_at jobs j).ready ≤ suc t)
@@ -293,8 +277,7 @@ module _ (node : Node) (jobs : List Job) (ok : IsNode node) (legal : AreLegalJob
         × (one_on ex p k < (job_at jobs k).executes) × (active_of node jobs (one_on ex p) k ≡ q)
     rest_on q k at =
         let ne : p ≢ k = λ same. nowhere q (subst (λ x. In x (list q)) (sym same) at) in
-        let s : (come k ≡ true) × (ex k < (job_at jobs k).executes)
-        × (active_of node jobs ex k ≡ q) = of_rest q k at in
+        let s = of_rest q k at in
         let e : one_on ex p k ≡ ex k = other_tick k ne in (
           s.0,
           subst (λ n. n < (job_at jobs k).executes) (sym e) s.1,
@@ -306,8 +289,7 @@ module _ (node : Node) (jobs : List Job) (ok : IsNode node) (legal : AreLegalJob
         → In k (list (active_of node jobs (one_on ex p) k))
     other_in k ne c u =
         let e : one_on ex p k ≡ ex k = other_tick k ne in
-        let at : In k (with_head list a p (active_of node jobs ex k)) =
-        qd.complete k c (subst (λ n. n < (job_at jobs k).executes) e u) in
+        let at = qd.complete k c (subst (λ n. n < (job_at jobs k).executes) e u) in
         elim (from_head list a p (active_of node jobs ex k) k at) [
           | inl was ↦ subst (λ q. In k (list q))
               (sym (active_same node jobs (one_on ex p) ex k e)) was
@@ -318,8 +300,7 @@ module _ (node : Node) (jobs : List Job) (ok : IsNode node) (legal : AreLegalJob
     pub below_on : NoOverrunBy node jobs t → (q k : ℕ) → active_of node jobs (one_on ex p) p ≡ q
         → In k (list q) → level_of_job node jobs p < level_of_job node jobs k
     below_on none q k at_q at =
-        let s : (come k ≡ true) × (ex k < (job_at jobs k).executes)
-        × (active_of node jobs ex k ≡ q) = of_rest q k at in
+        let s = of_rest q k at in
         let ne : p ≢ k = λ same. nowhere q (subst (λ x. In x (list q)) (sym same) at) in
         elim (cases_order (active_of node jobs ex p) q) [
           | inl same ↦ first.0 k (subst (λ x. In k (list x)) (sym same) at)
@@ -330,17 +311,15 @@ module _ (node : Node) (jobs : List Job) (ok : IsNode node) (legal : AreLegalJob
               | inr ge ↦
                   let cp : (p < length jobs) × ((job_at jobs p).ready ≤ t) = qd.came p own.0 in
                   let ck : (k < length jobs) × ((job_at jobs k).ready ≤ t) = qd.came k s.0 in
-                  let levels : level_of_job node jobs p ≢ level_of_job node jobs k =
-                  apart t ex qd.executed none p k ne cp.0 cp.1 own.1 ck.0 ck.1 s.1 in
                   let less : level_of_job node jobs k < level_of_job node jobs p =
                   elim (cases_eq (level_of_job node jobs p) (level_of_job node jobs
-                  k)) [ inl e ↦ absurd (levels e) | inr other ↦ omega arith ] in
-                  let hp : held_ceiling node (job_at jobs p).sections (ex p)
-                  ≡ held_ceiling node (job_at jobs p).sections (executed_before node jobs t p) =
-                  ap (held_ceiling node (job_at jobs p).sections) (qd.executed p) in
-                  let hk : held_ceiling node (job_at jobs k).sections (ex k)
-                  ≡ held_ceiling node (job_at jobs k).sections (executed_before node jobs t k) =
-                  ap (held_ceiling node (job_at jobs k).sections) (qd.executed k) in
+                  k)) [
+                    | inl e ↦ absurd ((apart t ex qd.executed none p k ne cp.0 cp.1 own.1 ck.0
+                        ck.1 s.1) e)
+                    | inr other ↦ omega arith
+                  ] in
+                  let hp = ap (held_ceiling node (job_at jobs p).sections) (qd.executed p) in
+                  let hk = ap (held_ceiling node (job_at jobs k).sections) (qd.executed k) in
                   let top : active_of node jobs ex k ≡ q = s.2 in
                   absurd (none_below node jobs valid legal.known (spans_of node jobs legal.within)
                   uses_own t p k less (omega arith) (omega arith))
@@ -387,8 +366,11 @@ module _ (node : Node) (jobs : List Job) (ok : IsNode node) (legal : AreLegalJob
       fresh = fresh_on;
       listed = rest_on;
       complete = λ k c u. elim (cases_eq p k) [
-        | inl e ↦ (let u' : one_on ex p p < (job_at jobs p).executes =
-            subst (λ x. one_on ex p x < (job_at jobs x).executes) (sym e) u in absurd (omega arith))
+        | inl e ↦ absurd (omega (
+          arith,
+          subst (λ x. one_on ex p x < (job_at jobs x).executes)
+              (sym e) u,
+        ))
         | inr ne ↦ other_in k ne c u
       ];
       rising = rest_rising;

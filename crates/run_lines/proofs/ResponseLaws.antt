@@ -1,6 +1,6 @@
 -- The responses of an order bound the jobs of each run in it.
 use Rattle.std.proofs.Common.{◌≡◌, ◌∙◌, All, ℕ, suc, ◌+◌, ◌<◌, ◌≤◌, inl, inr, true, false, List, []}
-use Rattle.std.proofs.Common.{◌∷◌, length, Option, Some, None, Ok, is_some, unwrap_or, nat_lt, refl}
+use Rattle.std.proofs.Common.{◌∷◌, length, Some, None, Ok, is_some, unwrap_or, refl}
 use Rattle.std.proofs.Common.{sym, ap, subst, arith, slice_index_or, eqb}
 use Rattle.std.proofs.lemmas.Bool.{and_parts, cases_Bool, cases_lt, eq-eqb, eqb-true, lt-ltb}
 use Rattle.std.proofs.lemmas.Bool.{true≢false}
@@ -18,7 +18,6 @@ use Rattle.assignment.specs.Placings.{IsBestPlacing, tasks_of_places}
 use Rattle.explain.specs.Accounts.{AreInTime}
 use Rattle.explain.proofs.AccountLaws.{best-in_time}
 use Rattle.ceiling_kernel.specs.Tick.{Job, Node, node_in}
-use Rattle.ceiling_kernel.specs.Trace.{finish_before}
 use Rattle.ceiling_kernel.specs.Waits.{IsNode}
 use Rattle.ceiling_kernel.specs.Bounds.{PassesBy, above_of, after_of, response_by}
 use Rattle.ceiling_kernel.specs.Releases.{jobs_of, release_at, task_named, task_number}
@@ -40,10 +39,10 @@ use Rattle.run_lines.specs.declared.bounds.TaskBound.{TaskBound}
 -- ---- an order
 -- those after the first task
 after_first : (i : ℕ) (above : List ℕ) → after_of (i ∷ above) i ≡ above
-after_first i above = (let e : eqb i i ≡ true = eq-eqb i i refl in rw e refl)
+after_first i above = rw (eq-eqb i i refl) refl
 
 first_among : (i : ℕ) (above : List ℕ) → among (i ∷ above) i ≡ true
-first_among i above = (let e : eqb i i ≡ true = eq-eqb i i refl in rw e refl)
+first_among i above = rw (eq-eqb i i refl) refl
 
 -- those after another
 after_other : (i : ℕ) (above : List ℕ) (x : ℕ) → eqb i x ≡ false
@@ -60,11 +59,8 @@ apart L i above x each has =
     elim (cases_Bool (eqb i x)) [
       | inr f ↦ f
       | inl t ↦
-          let rest : among above ≡ without_index L i =
-          IsOrderOf-among (without_index L i) above (IsOrderOf-rest L i above each) in
-          let same : i ≡ x = eqb-true i x t in
-          let gone : among above x ≡ false = ap (λ (H : Indexes). H x) rest
-          ∙ without-gone L i x (sym same) in
+          let rest = IsOrderOf-among (without_index L i) above (IsOrderOf-rest L i above each) in
+          let gone = ap (λ (H : Indexes). H x) rest ∙ without-gone L i x (sym (eqb-true i x t)) in
           absurd (true≢false (sym has ∙ gone))
     ]
 
@@ -79,8 +75,7 @@ numbered : (U : List Task) → IsTaskSet U → (i : ℕ) → i < length U → (r
     → r.name ≡ name_at U i → task_number U r ≡ i
 numbered U set i lt r own =
     let at = place_of_name U set.distinct i lt in
-    let small : nat_lt i (length U) ≡ true = lt-ltb i (length U) lt in
-    let found : task_named U (task_at U i).name ≡ Some i = rw (at, small) refl in
+    let found : task_named U (task_at U i).name ≡ Some i = rw (at, lt-ltb i (length U) lt) refl in
     ap (λ (name : List ℕ). unwrap_or (task_named U name) (length U)) own
     ∙ ap (λ o. unwrap_or o (length U)) found
 
@@ -136,10 +131,8 @@ module _ (U : List Task) (set : IsTaskSet U) (order : List ℕ) (is_order : IsOr
     done_within j within own in_run =
         let passes = responses_law node place.task place.response response in_time in
         let t : ℕ = passes.0 in
-        let by : PassesBy node (task_number U (release_at rs j)) t =
-        subst (λ i. PassesBy node i t) (sym own) passes.1 in
-        let same : response_by (task_at U (task_number U (release_at rs j))) t ≡ place.response =
-        ap (λ i. response_by (task_at U i) t) own ∙ passes.2 in
+        let by = subst (λ i. PassesBy node i t) (sym own) passes.1 in
+        let same = ap (λ i. response_by (task_at U i) t) own ∙ passes.2 in
         let found = met j t within by (omega (arith, same, in_run)) in
         (found.0, found.1, omega (arith, found.2, same))
 
@@ -150,15 +143,13 @@ module _ (U : List Task) (set : IsTaskSet U) (order : List ℕ) (is_order : IsOr
     never_later j f within own is =
         elim (cases_lt until ((release_at rs j).time + place.response)) [
           | inl past ↦
-              let finish : finish_before node (jobs_of U rs) until j ≡ Some f =
-              sym (ap (λ (x : JobRecord). x.finish) (row j within)) ∙ is in
+              let finish = sym (ap (λ (x : JobRecord). x.finish) (row j within)) ∙ is in
               let ends = finish_is node (jobs_of U rs) j until f
               (some_executes node rs until j ran.0 within) finish in
               omega (arith, past, ends.0)
           | inr in_run ↦
               let found = done_within j within own in_run in
-              let both : ◌≡◌ {A = Option ℕ} (Some found.0) (Some f) = sym found.1 ∙ is in
-              let same : found.0 ≡ f = cc (both) in
+              let same : found.0 ≡ f = cc (sym found.1 ∙ is) in
               omega (arith, same, found.2)
         ]
 
@@ -166,13 +157,11 @@ module _ (U : List Task) (set : IsTaskSet U) (order : List ℕ) (is_order : IsOr
         ≤ place.response
     reach_within =
         greatest_within (name_at U place.task) place.response trace.jobs.items (λ k f within own is.
-        let short : length trace.jobs.items ≡ length rs = ap (λ (x : List JobRecord). length x)
-        ran.2.jobs ∙ records_length node (jobs_of U rs) until 0 rs in
+        let short = ap (λ (x : List JobRecord). length x) ran.2.jobs ∙ records_length node
+        (jobs_of U rs) until 0 rs in
         let inside : k < length rs = omega (arith, within, short) in
-        let name : (release_at rs k).name ≡ name_at U place.task =
-        sym (ap (λ (x : JobRecord). x.name) (row k inside)) ∙ own in
-        let at : (slice_index_or trace.jobs.items k no_record).release ≡ (release_at rs k).time =
-        ap (λ (x : JobRecord). x.release) (row k inside) in
+        let name = sym (ap (λ (x : JobRecord). x.name) (row k inside)) ∙ own in
+        let at = ap (λ (x : JobRecord). x.release) (row k inside) in
         let late =
         never_later k f inside (numbered U set place.task lt (release_at rs k) name) is in
         omega (arith, at, late))
@@ -187,14 +176,12 @@ module _ (U : List Task) (set : IsTaskSet U) (order : List ℕ) (is_order : IsOr
   along L (p ∷ places) each in_time same =
       let above = tasks_of_places places in
       let lt : p.task < length U = in_time.0.in_set in
-      let here : after_of order p.task ≡ above = same p.task (first_among p.task above)
-      ∙ after_first p.task above in
+      let here = same p.task (first_among p.task above) ∙ after_first p.task above in
       let high : among (after_of order p.task) ≡ above_of node p.task =
       λ x h. after_is_above node is_node p.task h lt x in
-      let over : among above ≡ above_of node p.task =
-      subst (λ (o : List ℕ). among o ≡ above_of node p.task) here high in
-      let response : IsResponseOf U p.task (above_of node p.task) p.response =
-      subst (λ (H : Indexes). IsResponseOf U p.task H p.response) over in_time.0.response in
+      let over = subst (λ (o : List ℕ). among o ≡ above_of node p.task) here high in
+      let response = subst (λ (H : Indexes). IsResponseOf U p.task H p.response) over
+      in_time.0.response in
       let rest =
       along (without_index L p.task) places (IsOrderOf-rest L p.task above each) in_time.1
       (λ x has. same x (among_more p.task above x has)
@@ -213,12 +200,10 @@ module _ (U : List Task) (set : IsTaskSet U) (order : List ℕ) (is_order : IsOr
   kept_along L (b ∷ bounds) each small sound same =
       let above = tasks_of_bounds bounds in
       let lt : b.task < length U = small 0 0 (omega arith) in
-      let here : after_of order b.task ≡ above = same b.task (first_among b.task above)
-      ∙ after_first b.task above in
+      let here = same b.task (first_among b.task above) ∙ after_first b.task above in
       let high : among (after_of order b.task) ≡ above_of node b.task =
       λ x h. after_is_above node is_node b.task h lt x in
-      let over : among above ≡ above_of node b.task =
-      subst (λ (o : List ℕ). among o ≡ above_of node b.task) here high in
+      let over = subst (λ (o : List ℕ). among o ≡ above_of node b.task) here high in
       let rest = kept_along (without_index L b.task) bounds (IsOrderOf-rest L b.task above each)
       (λ k d within. small (suc k) d (omega (arith, within))) sound.1
       (λ x has. same x (among_more b.task above x has)
@@ -228,8 +213,7 @@ module _ (U : List Task) (set : IsTaskSet U) (order : List ℕ) (is_order : IsOr
       → IsKeptWithin U b.task o rs until trace) [
         | None ↦ λ _. tt
         | Some r ↦ λ is.
-            let response : IsResponseOf U b.task (above_of node b.task) r =
-            subst (λ (H : Indexes). IsResponseOf U b.task H r) over is.0 in
+            let response = subst (λ (H : Indexes). IsResponseOf U b.task H r) over is.0 in
             let place : PlaceData = record { task = b.task; response = r } in
             (done_within place lt response is.1, reach_within place lt response is.1)
       ] sound.0 in

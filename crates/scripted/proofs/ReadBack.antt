@@ -9,6 +9,7 @@ use Rattle.std.proofs.lemmas.Bool.{le-leb, lt-ltb}
 use Rattle.std.proofs.lemmas.Bool.Decides.{nat_tests}
 use Rattle.std.proofs.Math.Dec.{eqb-suc-zero}
 use Rattle.std.proofs.lemmas.Fmt.{decimal_digit}
+use Rattle.std.proofs.lemmas.List.{append-nil}
 use Rattle.std.proofs.lemmas.List.Elements.{recursion_from_All}
 use Rattle.task_sheet.specs.Name.{IsName, is_name_byte}
 use Rattle.task_sheet.specs.declared.node.Node.{Node}
@@ -68,25 +69,28 @@ each_lacks c (n ∷ ns) other each = (name_lacks c n other each.0, each_lacks c 
 
 -- as they are joined
 joined : (n : List ℕ) (ns : List (List ℕ)) → plus_names (n ∷ ns) ≡ join_with_byte 43 (n ∷ ns)
-joined n [] = nothing n
-  where
-    nothing : (xs : List ℕ) → xs ++ [] ≡ xs
-    nothing [] = refl
-    nothing (x ∷ xs) = ap (λ l. x ∷ l) (nothing xs)
+joined n [] = append-nil n
 joined n (m ∷ ns) = ap (λ l. n ++ 43 ∷ l) (joined m ns)
+
+pluses_lack : (c : ℕ) (ws : List (List ℕ)) → (43 == c) ≡ false → AllByRecursion (λ w. Lacks c w) ws
+    → Lacks c (plus_names ws)
+pluses_lack c [] other each = record { none = tt }
+pluses_lack c (w ∷ ws) other each = subst (λ (l : List ℕ). Lacks c l) (sym (joined w ws))
+    (joined_lacks 43 c (w ∷ ws) other each)
+
+pluses_cut : (w : List ℕ) (ws : List (List ℕ)) → AllByRecursion (λ v. Lacks 43 v) (w ∷ ws)
+    → slice_split (λ b. b == 43) (plus_names (w ∷ ws)) ≡ w ∷ ws
+pluses_cut w ws each = ap (λ (l : List ℕ). slice_split (λ b. b == 43) l) (joined w ws)
+    ∙ joined_again 43 w ws each.0 each.1
 
 plus_again : (n : List ℕ) (ns : List (List ℕ)) → AllByRecursion IsName (n ∷ ns)
     → word_names (slice_split (λ b. b == 43) (plus_names (n ∷ ns))) ≡ Ok (n ∷ ns)
-plus_again n ns each =
-    let lack = each_lacks 43 (n ∷ ns) refl each in
-    ap (λ (l : List ℕ). word_names (slice_split (λ b. b == 43) l)) (joined n ns)
-    ∙ ap word_names (joined_again 43 n ns lack.0 lack.1) ∙ names_each (n ∷ ns) each
+plus_again n ns each = ap word_names (pluses_cut n ns (each_lacks 43 (n ∷ ns) refl each))
+    ∙ names_each (n ∷ ns) each
 
 plus_lacks : (c : ℕ) (names : List (List ℕ)) → (43 == c) ≡ false → is_name_byte c ≡ false
     → AllByRecursion IsName names → Lacks c (plus_names names)
-plus_lacks c [] other letter each = record { none = tt }
-plus_lacks c (n ∷ ns) other letter each = subst (λ (l : List ℕ). Lacks c l) (sym (joined n ns))
-    (joined_lacks 43 c (n ∷ ns) other (each_lacks c (n ∷ ns) letter each))
+plus_lacks c names other letter each = pluses_lack c names other (each_lacks c names letter each)
 
 -- ---- sections
 -- a section with names and numbers that can be spelled
@@ -113,8 +117,8 @@ section_lacks : (c : ℕ) (s : CriticalSection) → IsApart c → IsSpelled s �
 section_lacks c s apart is =
     let len : Lacks c (decimal s.len) = number_lacks c s.len apart.digit (omega (arith, is.len)) in
     let back : Lacks c (58 ∷ decimal s.len) = record { none = (apart.colon, len.none) } in
-    let span : Lacks c (decimal s.at ++ 58 ∷ decimal s.len) = lacks_append c (decimal s.at)
-    (58 ∷ decimal s.len) (number_lacks c s.at apart.digit (omega (arith, is.at))) back in
+    let span = lacks_append c (decimal s.at) (58 ∷ decimal s.len)
+    (number_lacks c s.at apart.digit (omega (arith, is.at))) back in
     let side : Lacks c (64 ∷ (decimal s.at ++ 58 ∷ decimal s.len)) =
     record { none = (apart.sign, span.none) } in
     subst (λ (w : List ℕ). Lacks c w) (sym (section_shape s))
@@ -130,22 +134,16 @@ section_again : (s : CriticalSection) → IsSpelled s → section_in (section_wo
 unfolding section_in
 section_again s is =
     let span : List ℕ = decimal s.at ++ 58 ∷ decimal s.len in
-    let sign : Lacks 64 (decimal s.at ++ 58 ∷ decimal s.len) =
-    lacks_append 64 (decimal s.at) (58 ∷ decimal s.len)
-    (number_lacks 64 s.at refl (omega (arith, is.at)))
-    (record { none = (refl, (number_lacks 64 s.len refl (omega (arith, is.len))).none) }) in
-    let sides : round 64 (section_word s)
-    ≡ Some (plus_names s.locks, decimal s.at ++ 58 ∷ decimal s.len) =
-    ap (λ (w : List ℕ). round 64 w) (section_shape s)
-    ∙ ap pair_of (cut_at 64 (plus_names s.locks) (decimal s.at ++ 58 ∷ decimal s.len)
-    (plus_lacks 64 s.locks refl refl is.named))
-    ∙ ap (λ (l : List (List ℕ)). pair_of (plus_names s.locks ∷ l))
-    (uncut 64 (decimal s.at ++ 58 ∷ decimal s.len) sign) in
-    let halves : round 58 (decimal s.at ++ 58 ∷ decimal s.len)
-    ≡ Some (decimal s.at, decimal s.len) =
-    ap pair_of (cut_at 58 (decimal s.at) (decimal s.len)
-    (number_lacks 58 s.at refl (omega (arith, is.at))))
-    ∙ ap (λ (l : List (List ℕ)). pair_of (decimal s.at ∷ l))
+    let sign = lacks_append 64 (decimal s.at) (58 ∷ decimal s.len)
+    (number_lacks 64 s.at refl (omega (arith, is.at))) (record
+    { none = (refl, (number_lacks 64 s.len refl (omega (arith, is.len))).none) }) in
+    let sides = ap (λ (w : List ℕ). round 64 w) (section_shape s) ∙ ap pair_of
+    (cut_at 64 (plus_names s.locks) (decimal s.at ++ 58 ∷ decimal s.len)
+    (plus_lacks 64 s.locks refl refl is.named)) ∙ ap (λ (l : List (List ℕ)). pair_of
+    (plus_names s.locks ∷ l)) (uncut 64 (decimal s.at ++ 58 ∷ decimal s.len) sign) in
+    let halves = ap pair_of (cut_at 58 (decimal s.at) (decimal s.len)
+    (number_lacks 58 s.at refl (omega (arith, is.at)))) ∙ ap
+    (λ (l : List (List ℕ)). pair_of (decimal s.at ∷ l))
     (uncut 58 (decimal s.len) (number_lacks 58 s.len refl (omega (arith, is.len)))) in
     rw (
       sides,
@@ -313,18 +311,6 @@ over_again (Named (n ∷ ns)) named = rw (
 ) refl
 over_again AllOthers named = refl
 
--- ---- words joined by the sign `+`
-pluses_lack : (c : ℕ) (ws : List (List ℕ)) → IsApart c → AllByRecursion (λ w. Lacks c w) ws
-    → Lacks c (plus_names ws)
-pluses_lack c [] apart each = record { none = tt }
-pluses_lack c (w ∷ ws) apart each = subst (λ (l : List ℕ). Lacks c l) (sym (joined w ws))
-    (joined_lacks 43 c (w ∷ ws) apart.plus each)
-
-pluses_cut : (w : List ℕ) (ws : List (List ℕ)) → Lacks 43 w → AllByRecursion (λ v. Lacks 43 v) ws
-    → slice_split (λ b. b == 43) (plus_names (w ∷ ws)) ≡ w ∷ ws
-pluses_cut w ws lack each = ap (λ (l : List ℕ). slice_split (λ b. b == 43) l) (joined w ws)
-    ∙ joined_again 43 w ws lack each
-
 -- ---- the value of `node`
 -- numbers that can be spelled
 record IsShortNode (node : Node) : Type 0 where
@@ -384,7 +370,7 @@ node_lacks c node apart short = by (same_node node no_overhead)
   where
     by : (b : Bool) → NoneHas c (if b then None else Some (plus_names (node_numbers node)))
     by true = tt
-    by false = pluses_lack c (node_numbers node) apart (numbers_lack c node apart.digit short)
+    by false = pluses_lack c (node_numbers node) apart.plus (numbers_lack c node apart.digit short)
 
 numbers_again : (node : Node) → IsShortNode node → node_of (node_numbers node) ≡ Ok node
 unfolding node_of
@@ -399,14 +385,12 @@ node_again : (node : Node) → IsShortNode node → node_or_none (node_value nod
 unfolding node_value
 node_again node short = by (same_node node no_overhead) refl
   where
-    lack : AllByRecursion (λ w. Lacks 43 w) (node_numbers node)
-    lack = numbers_lack 43 node refl short
-
     by : (b : Bool) → same_node node no_overhead ≡ b
         → node_or_none (if b then None else Some (plus_names (node_numbers node))) ≡ Ok node
     by true same = ap (λ (n : Node). Ok n) (sym (same_none node same))
     by false same = ap node_of (pluses_cut (decimal node.job) (decimal node.lock
-        ∷ decimal node.release ∷ decimal node.late ∷ []) lack.0 lack.1) ∙ numbers_again node short
+        ∷ decimal node.release ∷ decimal node.late ∷ []) (numbers_lack 43 node refl short))
+        ∙ numbers_again node short
 
 -- ---- the value of `irq`
 record IsShortInterrupt (x : Interrupt) : Type 0 where
@@ -453,17 +437,15 @@ interrupts_lack : (c : ℕ) (xs : List Interrupt) → IsApart c → AllByRecursi
     → NoneHas c (interrupt_value xs)
 unfolding interrupt_value
 interrupts_lack c [] apart each = tt
-interrupts_lack c (x ∷ xs) apart each = pluses_lack c (map interrupt_word (x ∷ xs)) apart
+interrupts_lack c (x ∷ xs) apart each = pluses_lack c (map interrupt_word (x ∷ xs)) apart.plus
     (each_lacking c (x ∷ xs) apart.colon apart.digit each)
 
 interrupt_again : (x : Interrupt) → IsShortInterrupt x → interrupt_in (interrupt_word x) ≡ Ok x
 unfolding interrupt_in
 interrupt_again x short =
-    let sides : round 58 (interrupt_word x) ≡ Some (decimal x.period, decimal x.cost) =
-    ap (λ (w : List ℕ). round 58 w) (interrupt_parts x)
-    ∙ ap pair_of (cut_at 58 (decimal x.period) (decimal x.cost)
-    (number_lacks 58 x.period refl (omega (arith, short.period))))
-    ∙ ap (λ (l : List (List ℕ)). pair_of (decimal x.period ∷ l))
+    let sides = ap (λ (w : List ℕ). round 58 w) (interrupt_parts x) ∙ ap pair_of
+    (cut_at 58 (decimal x.period) (decimal x.cost) (number_lacks 58 x.period refl
+    (omega (arith, short.period)))) ∙ ap (λ (l : List (List ℕ)). pair_of (decimal x.period ∷ l))
     (uncut 58 (decimal x.cost) (number_lacks 58 x.cost refl (omega (arith, short.cost)))) in
     rw (sides, number_again x.period short.period, number_again x.cost short.cost) refl
 
@@ -476,10 +458,8 @@ interrupts_again : (xs : List Interrupt) → AllByRecursion IsShortInterrupt xs
     → interrupts_or_none (interrupt_value xs) ≡ Ok xs
 unfolding interrupt_value
 interrupts_again [] each = refl
-interrupts_again (x ∷ xs) each =
-    let lack = each_lacking 43 (x ∷ xs) refl refl each in
-    ap (each_in interrupt_in) (pluses_cut (interrupt_word x) (map interrupt_word xs) lack.0 lack.1)
-    ∙ each_again (x ∷ xs) each
+interrupts_again (x ∷ xs) each = ap (each_in interrupt_in) (pluses_cut (interrupt_word x)
+    (map interrupt_word xs) (each_lacking 43 (x ∷ xs) refl refl each)) ∙ each_again (x ∷ xs) each
 
 -- ---- a sheet
 names_valid : (own : List ℕ) (said : OutranksData) → MayOutrank own said
@@ -558,15 +538,6 @@ more_spaced t =
     let D : List (List ℕ) = field_words (codes "j") (delay_value t.jitter) in
     let O : List (List ℕ) = field_words (codes "over") (over_value t.outranks) in
     let N : List (List ℕ) = field_words (codes "node") (node_value t.node) in
-    let I : List (List ℕ) = field_words (codes "irq") (interrupt_value t.interrupts) in
-    let irq : spaced (interrupt_rest t) ≡ spaced I ++ spaced (section_words t.sections) =
-    spaced_append I (section_words t.sections) in
-    let node : spaced (node_rest t) ≡ spaced N ++ spaced (interrupt_rest t) =
-    spaced_append N (interrupt_rest t) in
-    let over : spaced (over_rest t) ≡ spaced O ++ spaced (node_rest t) =
-    spaced_append O (node_rest t) in
-    let delay : spaced (more_words t) ≡ spaced D ++ spaced (over_rest t) =
-    spaced_append D (over_rest t) in
     rw (
       delay_shape t.jitter,
       over_shape t.outranks,
@@ -574,8 +545,11 @@ more_spaced t =
       interrupt_shape
           t.interrupts,
     )
-    (delay ∙ ap (λ (l : List ℕ). spaced D ++ l)
-    (over ∙ ap (λ (l : List ℕ). spaced O ++ l) (node ∙ ap (λ (l : List ℕ). spaced N ++ l) irq)))
+    ((spaced_append D (over_rest t)) ∙ ap (λ (l : List ℕ). spaced D ++ l)
+    ((spaced_append O (node_rest t)) ∙ ap (λ (l : List ℕ). spaced O ++ l)
+    ((spaced_append N (interrupt_rest t)) ∙ ap (λ (l : List ℕ). spaced N ++ l)
+    (spaced_append (field_words (codes "irq") (interrupt_value t.interrupts))
+    (section_words t.sections)))))
 
 put_shape : (t : Task) → put_line t ≡ codes "put" ++ spaced (put_words t)
 put_shape t =
@@ -657,11 +631,7 @@ sheet_again t is =
 -- ---- a line
 words_again : (w : List ℕ) (ws : List (List ℕ)) → Lacks 32 w → AllByRecursion (λ v. Lacks 32 v) ws
     → words (w ++ spaced ws) ≡ w ∷ ws
-words_again w [] lacks each = ap words (append_nil w) ∙ uncut 32 w lacks
-  where
-    append_nil : (xs : List ℕ) → xs ++ [] ≡ xs
-    append_nil [] = refl
-    append_nil (x ∷ xs) = ap (λ l. x ∷ l) (append_nil xs)
+words_again w [] lacks each = ap words (append-nil w) ∙ uncut 32 w lacks
 words_again w (v ∷ ws) lacks each = cut_at 32 w (v ++ spaced ws) lacks
     ∙ ap (λ (l : List (List ℕ)). w ∷ l) (words_again v ws each.0 each.1)
 
@@ -669,8 +639,7 @@ spaced_lacks : (c : ℕ) (ws : List (List ℕ)) → (32 == c) ≡ false → AllB
     → Lacks c (spaced ws)
 spaced_lacks c [] other each = record { none = tt }
 spaced_lacks c (w ∷ ws) other each =
-    let rest : Lacks c (w ++ spaced ws) =
-    lacks_append c w (spaced ws) each.0 (spaced_lacks c ws other each.1) in
+    let rest = lacks_append c w (spaced ws) each.0 (spaced_lacks c ws other each.1) in
     record { none = (other, rest.none) }
 
 -- a byte that no word has
@@ -707,18 +676,14 @@ module _ (c : ℕ) (gap : IsGap c) where
   put_apart : (t : Task) → IsValidSheet t → AllByRecursion (λ v. Lacks c v) (put_words t)
   put_apart t is =
       let short = short_sheet t is in
-      let irq : AllByRecursion (λ v. Lacks c v) (interrupt_rest t) =
-      field_apart (codes "irq") (interrupt_value t.interrupts) (map section_word t.sections) gap.irq
-      (interrupts_lack c t.interrupts gap.apart short.interrupts)
-      (sections_apart t.sections short.sections) in
-      let node : AllByRecursion (λ v. Lacks c v) (node_rest t) =
-      field_apart (codes "node") (node_value t.node) (interrupt_rest t) gap.node
+      let irq = field_apart (codes "irq") (interrupt_value t.interrupts)
+      (map section_word t.sections) gap.irq (interrupts_lack c t.interrupts gap.apart
+      short.interrupts) (sections_apart t.sections short.sections) in
+      let node = field_apart (codes "node") (node_value t.node) (interrupt_rest t) gap.node
       (node_lacks c t.node gap.apart short.node) irq in
-      let over : AllByRecursion (λ v. Lacks c v) (over_rest t) =
-      field_apart (codes "over") (over_value t.outranks) (node_rest t) gap.over
+      let over = field_apart (codes "over") (over_value t.outranks) (node_rest t) gap.over
       (over_lacks c t.outranks gap.apart short.names) node in
-      let more : AllByRecursion (λ v. Lacks c v) (more_words t) =
-      field_apart (codes "j") (delay_value t.jitter) (over_rest t) gap.delay
+      let more = field_apart (codes "j") (delay_value t.jitter) (over_rest t) gap.delay
       (delay_lacks c t.jitter gap.apart short.jitter) over in (
         gap.one,
         (
@@ -818,18 +783,14 @@ script_again team U from to set =
     let space : Lacks 32 (decimal team) = number_lacks 32 team refl (omega (arith, to)) in
     let shape : script_of team U ≡ (codes "open" ++ spaced (decimal team ∷ [])) ++ 10
     ∷ (put_lines U ++ codes "commit 1\n") = simp append_assoc in
-    let line : Lacks 10 (codes "open" ++ spaced (decimal team ∷ [])) =
-    lacks_append 10 (codes "open") (spaced (decimal team ∷ []))
+    let line = lacks_append 10 (codes "open") (spaced (decimal team ∷ []))
     (record { none = (refl, (refl, (refl, (refl, tt)))) })
     (spaced_lacks 10 (decimal team ∷ []) refl (number, tt)) in
-    let texts : lines_of (script_of team U) ≡ (codes "open" ++ spaced (decimal team ∷ []))
-    ∷ put_texts U =
-    ap lines_of shape ∙ one_more (codes "open" ++ spaced (decimal team ∷ []))
+    let texts = ap lines_of shape ∙ one_more (codes "open" ++ spaced (decimal team ∷ []))
     (put_lines U ++ codes "commit 1\n") line
     ∙ ap (λ (l : List (List ℕ)). (codes "open" ++ spaced (decimal team ∷ [])) ∷ l)
     (texts_again U each) in
-    let row : row_in 0 (words (codes "open" ++ spaced (decimal team ∷ []))) ≡ Ok (Open team) =
-    ap (row_in 0) (words_again (codes "open") (decimal team ∷ [])
+    let row = ap (row_in 0) (words_again (codes "open") (decimal team ∷ [])
     (record { none = (refl, (refl, (refl, (refl, tt)))) }) (space, tt))
     ∙ open_again team from to in
     ap (λ (ls : List (List ℕ)). script_from 0 (kept_from 1 ls)) texts

@@ -72,10 +72,7 @@ cut_at c xs ys lacks = slice_split_at (λ b. b == c) xs c ys (all_lack c xs lack
 pub uncut : (c : ℕ) (xs : List ℕ) → Lacks c xs → slice_split (λ b. b == c) xs ≡ xs ∷ []
 uncut c xs lacks = slice_split_none (λ b. b == c) xs (all_lack c xs lacks)
 
--- words of which none has the byte
-pub record AllLack (c : ℕ) (ws : List (List ℕ)) : Type 0 where
-  pub each : AllByRecursion (λ w. Lacks c w) ws
-
+-- words joined by the byte, of which none has it
 pub joined_again : (c : ℕ) (w : List ℕ) (ws : List (List ℕ)) → Lacks c w → AllByRecursion
     (λ v. Lacks c v) ws → slice_split (λ b. b == c) (join_with_byte c (w ∷ ws)) ≡ w ∷ ws
 joined_again c w [] lacks rest = uncut c w lacks

@@ -1,7 +1,6 @@
 //! The text of a set as a script.
 ghost use Rattle.std.specs.Prelude.{◌≡◌, ◌++◌, OnOk, IfOk, map, string_bytes, codes};
 ghost use Rattle.std.specs.Fmt.{decimal};
-ghost use Rattle.task_sheet.specs.Sheet.{Named};
 ghost use Rattle.task_sheet.specs.SheetFields.{outranks_of};
 ghost use Rattle.scripted.specs.Scripted.{delay_words, fields_of, interrupt_word, interrupt_words, node_words, over_words, plus_names, plus_rest, put_line, put_lines, script_of, section_word, section_words, spaced};
 
@@ -64,25 +63,19 @@ fn push_delay(text: &mut String, jitter: u64) -> Result<(), AllocError>
     write!(text, " j={jitter}")
 }
 
-// `over=NAME+NAME`, where there are names, behind a space.
-fn push_named(text: &mut String, names: &[Name]) -> Result<(), AllocError>
-    ensures { OnOk result (string_bytes text.new
-        ≡ string_bytes text.old ++ spaced (over_words (Named names.now))) }
-{
-    if names.is_empty() {
-        return Ok(());
-    }
-    text.push_str(" over=")?;
-    push_names(text, names)
-}
-
-// The same, or `over=*` for all others.
+// `over=NAME+NAME`, where there are names, or `over=*` for all others, behind a space.
 fn push_over(text: &mut String, outranks: &Outranks) -> Result<(), AllocError>
     ensures { OnOk result (string_bytes text.new
         ≡ string_bytes text.old ++ spaced (over_words (outranks_of outranks.now))) }
 {
     match outranks {
-        Outranks::Named(names) => push_named(text, names),
+        Outranks::Named(names) => {
+            if names.is_empty() {
+                return Ok(());
+            }
+            text.push_str(" over=")?;
+            push_names(text, names)
+        }
         Outranks::AllOthers => text.push_str(" over=*"),
     }
 }
@@ -104,24 +97,14 @@ fn push_node(text: &mut String, node: Node) -> Result<(), AllocError>
     write!(text, " node={job}+{lock}+{release}+{late}")
 }
 
-// An interrupt.
-fn push_interrupt(text: &mut String, interrupt: Interrupt) -> Result<(), AllocError>
-    ensures { OnOk result (string_bytes text.new
-        ≡ string_bytes text.old ++ interrupt_word interrupt) }
-{
-    let period = interrupt.period;
-    let cost = interrupt.cost;
-    write!(text, "{period}:{cost}")
-}
-
 // Interrupts, each behind a sign `+`.
 fn push_more(text: &mut String, interrupts: &[Interrupt]) -> Result<(), AllocError>
     ensures { OnOk result (string_bytes text.new
         ≡ string_bytes text.old ++ plus_rest (map interrupt_word interrupts.now)) }
 {
     for interrupt in interrupts {
-        text.push_str("+")?;
-        push_interrupt(text, *interrupt)?;
+        let Interrupt { period, cost } = *interrupt;
+        write!(text, "+{period}:{cost}")?;
     }
     Ok(())
 }
@@ -134,8 +117,8 @@ fn push_interrupts(text: &mut String, interrupts: &[Interrupt]) -> Result<(), Al
     let Some((first, rest)) = interrupts.split_first() else {
         return Ok(());
     };
-    text.push_str(" irq=")?;
-    push_interrupt(text, *first)?;
+    let Interrupt { period, cost } = *first;
+    write!(text, " irq={period}:{cost}")?;
     push_more(text, rest)
 }
 

@@ -2,7 +2,7 @@ use Rattle.std.proofs.Common.{◌≡◌, true, false, sym, ap, subst, arith, Non
 use Rattle.std.proofs.Common.{slice_index_or, List}
 use Rattle.std.proofs.lemmas.List.{get_or_default}
 use Rattle.task_sheet.specs.Sheet.{Task}
-use Rattle.ceiling_kernel.specs.Releases.{is_too_soon, jobs_of, task_number, release_at, no_release}
+use Rattle.ceiling_kernel.specs.Releases.{is_too_soon, jobs_of, no_release}
 use Rattle.ceiling_kernel.proofs.AcceptLaws.{first_start, first_found, first_more, last_start}
 use Rattle.ceiling_kernel.proofs.AcceptLaws.{last_before, last_next, too_soon_read, known_from}
 use Rattle.ceiling_kernel.proofs.AcceptLaws.{place_in, sorted_from}
@@ -41,12 +41,9 @@ comes_soon-requires c = λ x e.
     let rs = c.args.releases.now in
     let i = place_is c.args.set.now c.args.releases.now c.args.places.now c.loop-k.k
     c.requires.places c.loop-k-test.true in
-    let time : (release_at c.args.releases.now c.loop-k.k).time
-    ≡ (get_or c.args.releases.now c.loop-k.k c.index-releases-k.result).time = ap (λ r. r.time)
-    (get_or_default rs c.loop-k.k no_release c.index-releases-k.result c.loop-k-test.true) in
-    let e' : slice_index_or c.loop-k.last
-    (task_number c.args.set.now (release_at c.args.releases.now c.loop-k.k)) None ≡ Some x =
-    subst (λ z. slice_index_or c.loop-k.last z None ≡ Some x) i e in
+    let time = ap (λ r. r.time) (get_or_default rs c.loop-k.k no_release c.index-releases-k.result
+    c.loop-k-test.true) in
+    let e' = subst (λ z. slice_index_or c.loop-k.last z None ≡ Some x) i e in
     let before = last_before U rs (sorted_from rs c.requires.sorted) c.loop-k.k c.loop-k-test.true
     c.loop-k.last c.loop-k.invariant.last x e' in
     omega (arith, before, time)

@@ -1,4 +1,4 @@
-use Rattle.std.proofs.Common.{◌≡◌, ◌∙◌, ◌==◌, ◌||◌, nat_lt, false, sym, ap, arith, length, get_or}
+use Rattle.std.proofs.Common.{◌∙◌, ◌==◌, ◌||◌, nat_lt, sym, ap, arith, length, get_or}
 use Rattle.std.proofs.Common.{List}
 use Rattle.std.proofs.lemmas.Bool.{ne_eqb}
 use Rattle.task_sheet.specs.Sheet.{Task}
@@ -31,11 +31,10 @@ returns-else-runs-eq0 c =
     let sheet = c.index-sheets-places.is
     ∙ ap (λ (xs : List Task). get_or xs task c.index-sheets-places.result)
     c.sheets.ensures.same in
-    let some : (runs == 0) ≡ false = ne_eqb runs 0 c.if-runs-eq0.false in
     let is = outside_at U rs c.args.k task cost c.index-releases-k.result
     c.index-sheets-places.result c.requires.in_list
     (place_is U rs c.args.places.now c.args.k c.requires.places c.requires.in_list)
     (place_in U rs c.args.places.now c.args.k c.requires.places c.requires.known c.requires.in_list)
     sheet c.cost-cost.ensures in
     sym (is ∙ (ap (λ n. (n == 0) || nat_lt cost n) (sym c.unwrap_or-runs.ensures)
-    ∙ ap (λ b. b || nat_lt cost runs) some))
+    ∙ ap (λ b. b || nat_lt cost runs) (ne_eqb runs 0 c.if-runs-eq0.false)))

@@ -1,5 +1,5 @@
-use Rattle.std.proofs.Common.{◌≡◌, ap, ◌∙◌, length, length-append, ◌+◌, List, subst}
-use Rattle.task_sheet.specs.Sheet.{CriticalSection, task_at}
+use Rattle.std.proofs.Common.{ap, ◌∙◌, length, length-append, ◌+◌, List, subst}
+use Rattle.task_sheet.specs.Sheet.{CriticalSection}
 use Rattle.ceiling_kernel.specs.declared.tasks.NodeTask.{NodeTask}
 use Rattle.ceiling_kernel.specs.Tick.{node_in}
 use Rattle.ceiling_kernel.specs.NodeTasks.{AreSectionsOf}
@@ -23,11 +23,9 @@ sections_of-requires-clause-run c =
 
 pub loop-index-preserved : goal.loop-index-preserved
 loop-index-preserved c =
-    let item : c.sheet-item.result ≡ task_at c.args.set.now c.loop-index.index =
-    item_at c.args.set.now c.sheets-sheet-items.result.now c.loop-index.index c.sheet-item.result
-    c.sheets-sheet-items.ensures.same c.loop-index-test.true c.sheet-item.is in
-    let sections : c.sections.result.now ≡ (task_at c.args.set.now c.loop-index.index).sections =
-    c.sections.ensures ∙ ap (λ t. t.sections) item in
+    let item = item_at c.args.set.now c.sheets-sheet-items.result.now c.loop-index.index
+    c.sheet-item.result c.sheets-sheet-items.ensures.same c.loop-index-test.true c.sheet-item.is in
+    let sections = c.sections.ensures ∙ ap (λ t. t.sections) item in
     record {
       count = ap (λ (ts : List NodeTask). length ts) c.in_ok-push.ensures.items ∙ (length-append
           c.loop-index.kept.items _ ∙ ap (λ n. n + 1) c.loop-index.invariant.count);

@@ -1,5 +1,4 @@
-use Rattle.ceiling_kernel.proofs.LockLaws.{nobody_waits_law}
-use Rattle.ceiling_kernel.proofs.NestLaws.{free_law}
+use Rattle.ceiling_kernel.proofs.NestLaws.{nobody_waits_law, free_law}
 use Rattle.ceiling_kernel.proofs.laws.nobody_waits.Goals as goal
 
 pub returns : goal.returns

@@ -1,7 +1,5 @@
-use Rattle.std.proofs.Common.{◌≡◌, ℕ, List, ◌++◌, ◌∷◌, [], Option, None, ap₂, sym, ◌∙◌}
-use Rattle.std.proofs.Common.{slice_index_or}
+use Rattle.std.proofs.Common.{ℕ, List, ◌++◌, ◌∷◌, [], Option, ap₂, sym, ◌∙◌}
 use Rattle.ceiling_kernel.specs.declared.trace.JobRecord.{JobRecord}
-use Rattle.ceiling_kernel.specs.Trace.{finish_before}
 use Rattle.ceiling_kernel.specs.Releases.{jobs_of}
 use Rattle.ceiling_kernel.proofs.ReleaseLaws.{records-next}
 use Rattle.ceiling_kernel.proofs.run.records_of.Goals as goal
@@ -10,9 +8,7 @@ pub loop-k-preserved : goal.loop-k-preserved
 loop-k-preserved c = λ node t are.
     let next = records-next node (jobs_of node.tasks c.args.releases.now) t c.args.releases.now
     c.loop-k.k c.index-releases-k.result c.loop-k-test.true c.index-releases-k.is in
-    let finish : slice_index_or c.args.finishes.now c.loop-k.k None
-    ≡ finish_before node (jobs_of node.tasks c.args.releases.now) t c.loop-k.k =
-    are.each c.loop-k.k c.loop-k-test.true in
+    let finish = are.each c.loop-k.k c.loop-k-test.true in
     let with_one : List JobRecord → Option ℕ → List JobRecord =
     λ rows f. rows ++ record {
       name = c.index-releases-k.result.name;

@@ -9,12 +9,12 @@ pub loop-k-preserved : goal.loop-k-preserved
 loop-k-preserved c =
     let rs = c.args.releases.now in
     let next = listed-next rs c.loop-k.k c.index-releases-k.result c.loop-k-test.true in
-    let before : List (ℕ × ℕ) = listed_turns 0 (take c.loop-k.k c.args.releases.now) in
     let with_one : List (ℕ × ℕ) → ℕ → List (ℕ × ℕ) =
     λ turns ready. turns ++ (ready, c.loop-k.k) ∷ [] in
     c.in_ok-push.ensures.items
     ∙ (ap (λ x. with_one x (ready_of c.index-releases-k.result)) c.loop-k.invariant
-    ∙ (ap (λ r. with_one before (ready_of r)) c.index-releases-k.is ∙ sym next))
+    ∙ (ap (λ r. with_one (listed_turns 0 (take c.loop-k.k c.args.releases.now)) (ready_of r))
+    c.index-releases-k.is ∙ sym next))
 
 pub returns : goal.returns
 returns c = λ U.

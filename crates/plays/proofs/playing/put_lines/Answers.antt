@@ -23,8 +23,7 @@ loop-line-preserved g c =
     let between = append_known (g.W.Write.contents c.loop-line.out.inner) c.loop-line.held in
     let after = append_known (g.W.Write.contents c.put.new.out.inner) c.put.new.self in
     let ok = sym c.is_err.ensures.value ∙ c.if-is_err.false in
-    let wrote : Appends between after text =
-    subst (λ (bs : List ℕ). Appends between after bs) c.as_bytes.ensures.value
+    let wrote = subst (λ (bs : List ℕ). Appends between after bs) c.as_bytes.ensures.value
     (on_ok (Appends between after c.as_bytes.result.now) c.put.result ok c.put.ensures.sent) in
     record {
       playing = record {
@@ -47,17 +46,14 @@ returns-in-Ok-put-clause-all g c =
     let before = append_known (g.W.Write.contents c.args.out.now.inner) c.args.held.now in
     let between = append_known (g.W.Write.contents c.loop-line.out.inner) c.loop-line.held in
     let after = append_known (g.W.Write.contents c.put-2.new.out.inner) c.put-2.new.self in
-    let all : c.loop-line.yielded ≡ c.args.lines.items =
-    none_left c.loop-line.yielded c.loop-line.line-iterator.rest.items c.args.lines.items
+    let all = none_left c.loop-line.yielded c.loop-line.line-iterator.rest.items c.args.lines.items
     c.loop-line.line-iterator.rest.len so.rest so.counted c.in-None.ensures.steps.0 in
-    let here : c.state.result.now ≡ c.loop-line.core.book.desk = c.state.ensures.now
-    ∙ ap (λ (b : Book). b.desk) c.book.ensures in
-    let book : IsBookText c.loop-line.core.book.desk text =
-    subst (λ (d : MachineState). IsBookText d text) here c.in-Ok-book_text.ensures in
-    let played : ArePlayed start c.args.lines.items c.loop-line.core so.text =
-    subst (λ (ls : List Line). ArePlayed start ls c.loop-line.core so.text) all so.played in
-    let wrote : Appends between after text = subst (λ (bs : List ℕ). Appends between after bs)
-    c.as_bytes-2.ensures.value c.in-Ok-put.ensures.sent in (
+    let here = c.state.ensures.now ∙ ap (λ (b : Book). b.desk) c.book.ensures in
+    let book = subst (λ (d : MachineState). IsBookText d text) here c.in-Ok-book_text.ensures in
+    let played = subst (λ (ls : List Line). ArePlayed start ls c.loop-line.core so.text) all
+    so.played in
+    let wrote = subst (λ (bs : List ℕ). Appends between after bs) c.as_bytes-2.ensures.value
+    c.in-Ok-put.ensures.sent in (
       so.text ++ text,
       (
         c.loop-line.core,

@@ -25,8 +25,7 @@ in_set : (U : List Task) (bounds : List TaskBound) (k : ℕ) → IsOrder U (task
 in_set U bounds k order lt =
     let same = length-map bounds (λ (b : TaskBound). b.task) in
     let within : k < length (tasks_of_bounds bounds) = omega (arith, lt, same) in
-    let at : slice_index_or (tasks_of_bounds bounds) k 0 ≡ (bound_at bounds k).task =
-    get_or-map (λ (b : TaskBound). b.task) bounds k no_bound 0 lt in
+    let at = get_or-map (λ (b : TaskBound). b.task) bounds k no_bound 0 lt in
     let small : slice_index_or (tasks_of_bounds bounds) k 0 < length U =
     ((order_iff (length U) (tasks_of_bounds bounds)).1 order).0 k 0 within in
     omega (arith, small, at)

@@ -1,4 +1,4 @@
-use Rattle.std.proofs.Common.{◌≡◌, subst, sym, arith, length}
+use Rattle.std.proofs.Common.{subst, sym, arith, length}
 use Rattle.task_sheet.specs.Indexes.{below}
 use Rattle.task_sheet.specs.Orders.{IsOrderOf}
 use Rattle.task_sheet.specs.TaskSet.{IsTaskSet}
@@ -26,8 +26,7 @@ tasks_of-requires-clause-few c = omega (
 
 pub invariant_of-result : goal.invariant_of-result
 invariant_of-result c =
-    let order : c.in_ok-order.order.items ≡ c.args.order.now =
-    c.in_ok-order.ensures.items_if_clones_equal (λ y z h. h) in
+    let order = c.in_ok-order.ensures.items_if_clones_equal (λ y z h. h) in
     record {
       node = record {
         tasks = subst IsTaskSet c.of.ensures c.tasks_of.ensures.set;

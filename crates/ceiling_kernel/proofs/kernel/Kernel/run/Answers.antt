@@ -1,7 +1,5 @@
-use Rattle.std.proofs.Common.{◌≡◌, List, refl, sym, ap, ◌∙◌, subst, arith, reverse}
+use Rattle.std.proofs.Common.{◌≡◌, refl, sym, ap, ◌∙◌, subst, arith, reverse}
 use Rattle.std.proofs.lemmas.Result.{err_from_is_err_and}
-use Rattle.ceiling_kernel.specs.declared.trace.Slice.{Slice}
-use Rattle.ceiling_kernel.specs.declared.trace.JobRecord.{JobRecord}
 use Rattle.ceiling_kernel.specs.Tick.{picked}
 use Rattle.ceiling_kernel.specs.Trace.{slices_before}
 use Rattle.ceiling_kernel.specs.Releases.{jobs_of}
@@ -51,8 +49,8 @@ module _ (c : goal.In_ok-jobs) where
       let rs = c.args.releases.now in
       let finishes = subst (λ x. AreFinishes node rs c.loop-simulation.simulation.now x)
       (sym c.deref-3.ensures.value) c.loop-simulation.invariant.running.finishes in
-      c.in_ok-jobs.ensures node c.loop-simulation.simulation.now finishes ∙ ap (λ t. let r : List
-      JobRecord = records_from node (jobs_of node.tasks rs) t 0 rs in r) ended
+      c.in_ok-jobs.ensures node c.loop-simulation.simulation.now finishes ∙ ap
+      (λ t. records_from node (jobs_of node.tasks rs) t 0 rs) ended
 
 pub returns-clause-trace : goal.returns-clause-trace
 returns-clause-trace c =
@@ -66,9 +64,9 @@ returns-clause-trace c =
       no_overrun_then node rs c.args.until s.now (has_come c.deref-2.result.now s.next)
           s.slots.items accepted.0 running.kept c.loop-simulation-test.false,
       record {
-        slices = c.in_ok-slices.ensures ∙ (ap (λ x. let r : List Slice = reverse x in r)
-            running.slices ∙ ap (λ t. let r : List Slice =
-            reverse (slices_before (picked node (jobs_of node.tasks rs)) t) in r) (ended ran));
+        slices = c.in_ok-slices.ensures ∙ (ap (λ x. reverse x)
+            running.slices ∙ ap (λ t. reverse (slices_before (picked node (jobs_of node.tasks rs))
+            t)) (ended ran));
         jobs = recorded ran;
       },
     )

@@ -7,9 +7,10 @@ use Rattle.ceiling_kernel.specs.Turns.{has_come}
 use Rattle.ceiling_kernel.specs.States.{Kept, AreFinishes}
 use Rattle.ceiling_kernel.specs.Lists.{list_at, Queues, IsAlone}
 use Rattle.ceiling_kernel.proofs.ListsLaws.{count_started}
+use Rattle.ceiling_kernel.proofs.KeptLaws.{kept_start}
 use Rattle.ceiling_kernel.proofs.MoveLaws.{queues_start, alone_start}
 use Rattle.ceiling_kernel.proofs.ReleaseLaws.{no_slices}
-use Rattle.ceiling_kernel.proofs.RunLaws.{kept_start, finishes_start}
+use Rattle.ceiling_kernel.proofs.RunLaws.{finishes_start}
 use Rattle.ceiling_kernel.proofs.run.Simulation.start.Goals as goal
 
 pub returns : goal.returns
@@ -25,7 +26,7 @@ returns c = λ rs turns runnable jobs.
     ∙ ap (λ n. let r : List (Option ℕ) = replicate n None in r) (sym jobs) in (
       record {
         kept = subst (λ x. Kept node (jobs_of node.tasks rs) 0 (has_come turns 0) x) (sym slots)
-            (kept_start node rs turns runnable);
+            (kept_start runnable);
         list_count = count_started c.in_ok-lists.lists.items (length c.tasks-count.result.now + 1)
             c.in_ok-lists.ensures ∙ ap (λ n. n + 1) (sym tasks);
         queues = subst (λ x. Queues (λ i. slice_index_or c.in_ok-slots.slots.items i None)
@@ -38,7 +39,7 @@ returns c = λ rs turns runnable jobs.
         slices = no_slices (picked node (jobs_of node.tasks rs));
         tidy = c.new.ensures.items;
         finishes = subst (λ x. AreFinishes node rs 0 x) (sym finishes)
-            (finishes_start node rs turns runnable);
+            (finishes_start runnable);
       },
       refl,
     )
