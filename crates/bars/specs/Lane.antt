@@ -71,14 +71,12 @@ lane_label x right level row =
     if nat_le (66 * length row.sheet.name + 60) (right - x) then lane_word x right row.sheet.name
     else if nat_le (level_room level) (right - x) then lane_word x right (decimal level) else []
 
--- a slice of a row's task, in the window
-abbrev pub seen_lane : Frame → Slice → ℕ → TaskRow → List ℕ
-seen_lane f s k row =
-    lane_bar f s k row ++ lane_label (x_of f s.start) (lane_right f s) (level_of f k) row
-
--- the same of any slice
+-- a slice of a row's task, where it is in the window
 abbrev pub lane_text : Frame → Slice → ℕ → TaskRow → List ℕ
-lane_text f s k row = if sees f s.start s.stop then seen_lane f s k row else []
+lane_text f s k row =
+    if sees f s.start s.stop
+    then lane_bar f s k row ++ lane_label (x_of f s.start) (lane_right f s) (level_of f k) row
+    else []
 
 -- a slice in the lane of the processor, of a job
 abbrev pub lane_by : Frame → List TaskRow → List JobRecord → Slice → List ℕ

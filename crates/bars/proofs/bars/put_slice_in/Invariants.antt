@@ -1,9 +1,9 @@
-use Rattle.std.specs.Prelude.{◌++◌, Ok}
+use Rattle.std.specs.Prelude.{◌++◌}
 use Rattle.frames.specs.Rows.{each}
 use Rattle.frames.specs.Page.{Adds}
 use Rattle.bars.specs.Bars.{bar_text, dark_text}
 use Rattle.bars.specs.Sections.{nth_section}
-use Rattle.bars.proofs.bars.put_whole.Given as goal
+use Rattle.bars.proofs.bars.put_slice_in.Given as goal
 
 abbrev pub invariant-loop-section : goal.invariant-loop-section
 invariant-loop-section l = Adds l.fn.page l.page
