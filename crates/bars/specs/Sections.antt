@@ -8,12 +8,9 @@ use Rattle.frames.specs.Slices.{ticks_of}
 abbrev pub AreUncounted : (ticks : List ℕ) → (jobs : ℕ) → Type 0
 AreUncounted ticks jobs = (length ticks ≡ jobs) × ((j : ℕ) → slice_index ticks j ≡ 0)
 
--- the counts of some jobs after a slice
+-- the counts of some jobs after a slice; one of no job changes none
 abbrev pub counted : List ℕ → Slice → List ℕ
-counted ticks s =
-    if nat_lt s.job (length ticks)
-    then set ticks s.job (min (slice_index ticks s.job) s.start + ticks_of s)
-    else ticks
+counted ticks s = set ticks s.job (min (slice_index ticks s.job) s.start + ticks_of s)
 
 -- where the darker part of a slice begins whose job has executed e ticks before it, in ticks of the slice
 abbrev pub dark_from : CriticalSection → ℕ → ℕ
