@@ -6,7 +6,7 @@ ghost use Rattle.frames.specs.Page.{Adds};
 ghost use Rattle.frames.specs.Boxes.{box_path};
 ghost use Rattle.task_sheet.specs.declared.set.TheConstants.{TASK_LIMIT};
 ghost use Rattle.frames.specs.declared.frame.TheConstants.{RIGHTMOST};
-ghost use Rattle.job_boxes.specs.Bands.{any_on, band_box, band_label, band_with, band_words, gap_of, last_bound, place_text, stand_text, wide_words};
+ghost use Rattle.job_boxes.specs.Bands.{any_on, band_box, band_label, band_with, band_words, gap_of, last_bound, place_text, wide_words};
 
 use crate::jobs::{goes_on, limit_box, limit_of, put_job_in, put_sign, put_signs};
 use crate::marks::is_shown;
@@ -159,20 +159,7 @@ fn put_band(
     put_signs(lane, back, any_on(lane.frame, first.name, jobs), page)
 }
 
-// A job alone, or the band of those of some jobs that are of its task.
-fn put_stand(lane: &Lane<'_>, first: &JobRecord, jobs: &[JobRecord], page: &mut Page)
-    ensures { Adds page.old page.new (stand_text lane.now.frame first.now jobs.now lane.now.spot.k
-        lane.now.row.now) }
-{
-    let band = band_in(jobs, first.name);
-    if band.count > 1 {
-        put_band(lane, first, jobs, band, outcome_of(jobs, first.name), page)
-    } else {
-        put_job_in(lane, first, page)
-    }
-}
-
-// Job i in a row; what joins one before it has been drawn with that.
+// Job i in a row, alone or with those that join it in a band; what joins one before it has been drawn with that.
 pub(crate) fn put_place(lane: &Lane<'_>, jobs: &[JobRecord], i: usize, page: &mut Page)
     requires { i < length jobs.now }
     ensures { Adds page.old page.new (place_text lane.now.frame jobs.now i lane.now.spot.k
@@ -183,7 +170,14 @@ pub(crate) fn put_place(lane: &Lane<'_>, jobs: &[JobRecord], i: usize, page: &mu
         return;
     }
     let first = job_at(jobs, i);
-    put_stand(lane, &first, stretch_of(gap, jobs, i), page)
+    let stretch = stretch_of(gap, jobs, i);
+    let band = band_in(stretch, first.name);
+    if band.count > 1 {
+        let outcome = outcome_of(stretch, first.name);
+        put_band(lane, &first, stretch, band, outcome, page)
+    } else {
+        put_job_in(lane, &first, page)
+    }
 }
 
 /// Puts the greatest response of jobs that are done, or `-` for none.

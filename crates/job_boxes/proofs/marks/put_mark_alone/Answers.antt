@@ -1,12 +1,9 @@
 use Rattle.std.proofs.Common.{ℕ, List}
-use Rattle.ceiling_kernel.specs.Releases.{release_at}
 use Rattle.frames.specs.Frame.{Frame}
 use Rattle.frames.specs.declared.rows.Spot.{Spot}
 use Rattle.frames.specs.declared.rows.TaskRow.{TaskRow}
-use Rattle.frames.proofs.Adds.{adds_same}
 use Rattle.frames.proofs.Lanes.{adds_in_lane, adds_on_spot}
 use Rattle.job_boxes.specs.Marks.{mark_text}
-use Rattle.job_boxes.proofs.BandLaws.{alone_mark}
 use Rattle.job_boxes.proofs.marks.put_mark_alone.Goals as goal
 
 pub returns : goal.returns
@@ -18,9 +15,6 @@ returns c =
     let put = adds_in_lane text chart.rows.now chart.frame spot c.lane.result.frame
     c.lane.result.spot c.lane.result.row.now c.lane.ensures.frame c.lane.ensures.spot
     c.lane.ensures.row c.put_mark_in.ensures in
-    adds_same (λ (text : List ℕ). text)
-    (alone_mark chart.frame chart.rows.now chart.shown.now chart.jobs.now c.args.mark c.args.i
-    (release_at chart.releases.now c.args.i) release c.gap_of.result c.is_banded.result
-    c.gap_of.ensures c.is_banded.ensures c.if-is_banded.false c.release_at-release.ensures)
-    (adds_on_spot (text chart.frame) chart.rows.now chart.shown.now release.name c.spot_of.result
-    spot c.spot_of.ensures.spot c.in-Some.is put)
+    rw (← c.gap_of.ensures, ← c.is_banded.ensures, c.if-is_banded.false,
+    ← c.release_at-release.ensures) (adds_on_spot (text chart.frame) chart.rows.now chart.shown.now
+    release.name c.spot_of.result spot c.spot_of.ensures.spot c.in-Some.is put)
