@@ -5,6 +5,7 @@ ghost use Rattle.bars.specs.Bars.{bar_text, slice_by, slice_text, slices_text};
 ghost use Rattle.bars.specs.Sections.{AreUncounted, counted};
 
 use crate::parts::put_dark;
+use crate::ticks::Times;
 use ceiling_kernel::Slice;
 use frames::{Chart, Lane, Page, bar_of, executed_after, sees, tone_of, x_of};
 
@@ -28,15 +29,12 @@ fn put_bar(slice: Slice, lane: &Lane<'_>, page: &mut Page)
 {
     let start = x_of(lane.frame, slice.start);
     let stop = x_of(lane.frame, slice.stop);
-    write!(
-        page,
-        "<path class=\"e f{}\" d=\"{}\"><title>{} {} to {} us</title></path>\n",
-        tone_of(lane.spot.rank),
-        bar_of(start, stop, lane.spot.k),
-        lane.row.sheet.name(),
-        slice.start,
-        slice.stop
-    )
+    let bar = bar_of(start, stop, lane.spot.k);
+    let tone = tone_of(lane.spot.rank);
+    let name = lane.row.sheet.name();
+    let Slice { start, stop, .. } = slice;
+    let times = Times { start, stop };
+    write!(page, "<path class=\"e f{tone}\" d=\"{bar}\"><title>{name} {times}</title></path>\n")
 }
 
 // A slice and its darker parts, where it is in the window.

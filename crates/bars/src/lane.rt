@@ -4,6 +4,7 @@ ghost use Rattle.frames.specs.Page.{Adds};
 ghost use Rattle.bars.specs.Lane.{busy_from, busy_of, busy_with, edge_class, lane_bar, lane_by, lane_head, lane_label, lane_line, lane_right, lane_text, lane_word, lanes_text, level_room};
 ghost use Rattle.frames.specs.declared.frame.TheConstants.{RIGHTMOST};
 
+use crate::ticks::Times;
 use ceiling_kernel::Slice;
 use frames::{
     Bar, Chart, Frame, Lane, Page, Spot, TaskRow, end_of, find_row, has_room, level_of, sees,
@@ -95,14 +96,14 @@ fn put_lane_bar(slice: Slice, lane: &Lane<'_>, page: &mut Page)
         y: 1_350,
         high: 220,
     };
+    let tone = tone_of(lane.spot.rank);
+    let edge = edge_class(right.saturating_sub(x));
+    let name = lane.row.sheet.name();
+    let Slice { start, stop, .. } = slice;
+    let times = Times { start, stop };
     write!(
         page,
-        "<path class=\"f{}{}\" d=\"{bar}\"><title>{} executes {} to {} us</title></path>\n",
-        tone_of(lane.spot.rank),
-        edge_class(right.saturating_sub(x)),
-        lane.row.sheet.name(),
-        slice.start,
-        slice.stop
+        "<path class=\"f{tone}{edge}\" d=\"{bar}\"><title>{name} executes {times}</title></path>\n"
     )
 }
 

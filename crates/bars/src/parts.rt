@@ -6,7 +6,7 @@ ghost use Rattle.bars.specs.Bars.{dark_text, label_text, names_text, part_box, p
 ghost use Rattle.frames.specs.declared.frame.TheConstants.{RIGHTMOST};
 
 use crate::stripes::put_stripes;
-use crate::ticks::{dark_from, dark_to, fits};
+use crate::ticks::{Times, dark_from, dark_to, fits};
 use ceiling_kernel::Slice;
 use frames::{Bar, Frame, Lane, Page, sees, top_of, x_of};
 use std::fmt;
@@ -81,9 +81,10 @@ fn put_part_box(
     };
     write!(
         page,
-        "<path class=\"h\" d=\"{bar}\"><title>{} holds{} {start} to {stop} us</title></path>\n",
+        "<path class=\"h\" d=\"{bar}\"><title>{} holds{} {}</title></path>\n",
         lane.row.sheet.name(),
-        Names { names }
+        Names { names },
+        Times { start, stop }
     )
 }
 
