@@ -34,7 +34,10 @@ fn put_bar(slice: Slice, lane: &Lane<'_>, page: &mut Page)
     let name = lane.row.sheet.name();
     let Slice { start, stop, .. } = slice;
     let times = Times { start, stop };
-    write!(page, "<path class=\"e f{tone}\" d=\"{bar}\"><title>{name} {times}</title></path>\n")
+    write!(
+        page,
+        "<path class=\"e f{tone}\" d=\"{bar}\"><title>{name} {times}</title></path>\n"
+    )
 }
 
 // A slice and its darker parts, where it is in the window.

@@ -89,14 +89,7 @@ fn put_part_box(
 }
 
 // The same with stripes and names, where it is in the window.
-fn put_part(
-    lane: &Lane<'_>,
-    slice: Slice,
-    names: &[Name],
-    start: u64,
-    stop: u64,
-    page: &mut Page,
-)
+fn put_part(lane: &Lane<'_>, slice: Slice, names: &[Name], start: u64, stop: u64, page: &mut Page)
     ensures { Adds page.old page.new (part_text lane.now.frame lane.now.locks.now slice
         lane.now.spot.k lane.now.row.now
         names.now start stop) }

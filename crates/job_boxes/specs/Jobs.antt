@@ -17,18 +17,19 @@ limit_of row = unwrap_or row.bound row.sheet.deadline
 abbrev pub limit_path : Frame → (k : ℕ) → TaskRow → (first latest : ℕ) → List ℕ
 limit_path f k row first latest = span_text f k first (latest + limit_of row)
 
--- when a job is done, and how long after its arrival
-abbrev pub finish_words : (arrival : ℕ) → Option ℕ → List ℕ
-finish_words arrival (Some finish) =
-    concat (codes "done " ∷ decimal finish ∷ codes ", response " ∷ decimal (finish - arrival) ∷ [])
-finish_words arrival None = codes "not done"
+-- whose job it is, when it arrives and is done, and how long after its arrival
+abbrev pub job_words : (name : List ℕ) → (arrival : ℕ) → Option ℕ → List ℕ
+job_words name arrival (Some finish) =
+    concat (name ∷ codes ": arrival " ∷ decimal arrival ∷ codes ", done " ∷ decimal finish
+    ∷ codes ", response " ∷ decimal (finish - arrival) ∷ [])
+job_words name arrival None =
+    concat (name ∷ codes ": arrival " ∷ decimal arrival ∷ codes ", not done" ∷ [])
 
 -- the box of a job, and what is told of it
 abbrev pub job_box : (path : List ℕ) → (bound : Option ℕ) → (deadline : ℕ) → JobRecord → List ℕ
 job_box path bound deadline job =
-    concat (codes "<path class=\"w\" d=\"" ∷ path ∷ codes "\"><title>" ∷ job.name
-    ∷ codes ": arrival " ∷ decimal job.release ∷ codes ", "
-    ∷ finish_words job.release job.finish ∷ codes ", bound " ∷ known_text bound
+    concat (codes "<path class=\"w\" d=\"" ∷ path ∷ codes "\"><title>"
+    ∷ job_words job.name job.release job.finish ∷ codes ", bound " ∷ known_text bound
     ∷ codes ", deadline " ∷ decimal deadline ∷ codes " us</title></path>\n" ∷ [])
 
 -- a job goes on before the window

@@ -8,7 +8,7 @@ use Rattle.frames.specs.declared.rows.TaskRow.{TaskRow}
 use Rattle.frames.specs.Frame.{Frame, x_of, sees, top_of, ended}
 use Rattle.frames.specs.Rows.{each, row_at, row_named, record_at, spot_in}
 use Rattle.frames.specs.Boxes.{box_path}
-use Rattle.job_boxes.specs.Jobs.{limit_of, finish_words, job_signs}
+use Rattle.job_boxes.specs.Jobs.{limit_of, job_words, job_signs}
 
 -- a job that has to be done so long after its arrival is done later, or isn't done by an end that isn't earlier
 abbrev pub is_behind : (arrival deadline end : ℕ) → Option ℕ → Bool
@@ -57,9 +57,8 @@ hatch_path f k row job =
 -- that, and what is told of it
 abbrev pub hatch_text : (path : List ℕ) → TaskRow → JobRecord → List ℕ
 hatch_text path row job =
-    concat (codes "<path class=\"z\" d=\"" ∷ path ∷ codes "\"><title>" ∷ job.name
-    ∷ codes ": arrival " ∷ decimal job.release ∷ codes ", "
-    ∷ finish_words job.release job.finish ∷ codes ", deadline " ∷ decimal row.sheet.deadline
+    concat (codes "<path class=\"z\" d=\"" ∷ path ∷ codes "\"><title>"
+    ∷ job_words job.name job.release job.finish ∷ codes ", deadline " ∷ decimal row.sheet.deadline
     ∷ codes " us missed</title></path>\n" ∷ [])
 
 -- a job of a row's task misses its deadline in the window

@@ -55,10 +55,7 @@ fn put_band_box(bar: Bar, first: &JobRecord, band: Band, page: &mut Page)
     write!(
         page,
         "<path class=\"l w\" d=\"{bar}\"><title>{}: {} jobs, arrivals {} to {}",
-        first.name,
-        band.count,
-        first.release,
-        band.latest
+        first.name, band.count, first.release, band.latest
     )
 }
 

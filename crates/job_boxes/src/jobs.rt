@@ -6,13 +6,13 @@ ghost use Rattle.frames.specs.declared.frame.TheConstants.{RIGHTMOST};
 ghost use Rattle.frames.specs.Page.{Adds};
 ghost use Rattle.frames.specs.Rows.{on_spot, record_at};
 ghost use Rattle.job_boxes.specs.Bands.{jobs_text, place_text};
-ghost use Rattle.job_boxes.specs.Jobs.{finish_words, goes_back, goes_on, job_box, job_signs, job_text, limit_of, limit_path, sign_text, signs_text};
+ghost use Rattle.job_boxes.specs.Jobs.{goes_back, goes_on, job_box, job_signs, job_text, job_words, limit_of, limit_path, sign_text, signs_text};
 
 use crate::band::put_place;
 use ceiling_kernel::JobRecord;
 use frames::{
-    Bar, Chart, Frame, Known, Lane, Page, TaskRow, bar_of, end_of, ended, name_of, sees_from, start_of,
-    top_of, x_after, x_of,
+    Bar, Chart, Frame, Known, Lane, Page, TaskRow, bar_of, end_of, ended, name_of, sees_from,
+    start_of, top_of, x_after, x_of,
 };
 use std::fmt;
 use std::io::Write;
@@ -41,23 +41,27 @@ pub(crate) fn goes_on(frame: Frame, finish: Option<u64>) -> bool
     }
 }
 
-// When a job is done, and how long after its arrival, if it is.
+// A job as it is told: whose it is, when it arrives and is done, and how long after its arrival.
 #[derive(Clone, Copy)]
-pub(crate) struct Finish {
-    pub(crate) arrival: u64,
-    pub(crate) finish: Option<u64>,
+pub(crate) struct Told {
+    pub(crate) job: JobRecord,
 }
 
-impl fmt::Display for Finish {
-    ghost output = { λ f. Some (finish_words f.arrival f.finish) };
+impl fmt::Display for Told {
+    ghost output = { λ t. Some (job_words t.job.name t.job.release t.job.finish) };
 
     fn fmt<W: fmt::Write>(&self, f: &mut fmt::Formatter<W>) -> fmt::Result {
-        match self.finish {
+        let name = self.job.name;
+        let arrival = self.job.release;
+        match self.job.finish {
             Some(finish) => {
-                let response = finish.saturating_sub(self.arrival);
-                write!(f, "done {finish}, response {response}")
+                let response = finish.saturating_sub(arrival);
+                write!(
+                    f,
+                    "{name}: arrival {arrival}, done {finish}, response {response}"
+                )
             }
-            None => write!(f, "not done"),
+            None => write!(f, "{name}: arrival {arrival}, not done"),
         }
     }
 }
@@ -80,16 +84,11 @@ fn put_box(bar: Bar, bound: Option<u64>, deadline: u64, job: &JobRecord, page: &
     ensures { Adds page.old page.new (job_box (box_path bar.x bar.right bar.y bar.high) bound
         deadline job.now) }
 {
-    let finish = Finish {
-        arrival: job.release,
-        finish: job.finish,
-    };
+    let told = Told { job: *job };
     let bound = Known { bound };
     write!(
         page,
-        "<path class=\"w\" d=\"{bar}\"><title>{}: arrival {}, {finish}, bound {bound}, deadline {deadline} us</title></path>\n",
-        job.name,
-        job.release
+        "<path class=\"w\" d=\"{bar}\"><title>{told}, bound {bound}, deadline {deadline} us</title></path>\n"
     )
 }
 
@@ -119,7 +118,12 @@ pub(crate) fn put_job_signs(lane: &Lane<'_>, job: &JobRecord, page: &mut Page)
     ensures { Adds page.old page.new (job_signs lane.now.frame lane.now.spot.k job.now) }
 {
     let frame = lane.frame;
-    put_signs(lane, goes_back(frame, job), goes_on(frame, job.finish), page)
+    put_signs(
+        lane,
+        goes_back(frame, job),
+        goes_on(frame, job.finish),
+        page,
+    )
 }
 
 // A job in a row, where its box is in the window.

@@ -4,7 +4,7 @@ ghost use Rattle.frames.specs.Page.{Adds};
 ghost use Rattle.frames.specs.Boxes.{box_path};
 ghost use Rattle.job_boxes.specs.Misses.{all_missed, badge_after, badge_text, due_badge, has_badge, hatch_path, hatch_text, is_clear, is_late, is_seen_miss, late_signs, miss_text, missed_in, misses, misses_in, misses_text, row_misses};
 
-use crate::jobs::{Finish, limit_of, put_job_signs};
+use crate::jobs::{Told, limit_of, put_job_signs};
 use ceiling_kernel::JobRecord;
 use frames::{
     Bar, Chart, Frame, Lane, Page, TaskRow, ended, find_row, is_by_end, is_from_start, job_at,
@@ -134,16 +134,11 @@ fn put_hatch(bar: Bar, row: &TaskRow, job: &JobRecord, page: &mut Page)
     ensures { Adds page.old page.new (hatch_text (box_path bar.x bar.right bar.y bar.high) row.now
         job.now) }
 {
-    let finish = Finish {
-        arrival: job.release,
-        finish: job.finish,
-    };
+    let told = Told { job: *job };
+    let deadline = row.sheet.deadline();
     write!(
         page,
-        "<path class=\"z\" d=\"{bar}\"><title>{}: arrival {}, {finish}, deadline {} us missed</title></path>\n",
-        job.name,
-        job.release,
-        row.sheet.deadline()
+        "<path class=\"z\" d=\"{bar}\"><title>{told}, deadline {deadline} us missed</title></path>\n"
     )
 }
 
