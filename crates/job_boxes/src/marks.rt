@@ -3,7 +3,7 @@ ghost use Rattle.std.specs.Prelude.{◌+◌, ◌<◌, ◌≡◌, length};
 ghost use Rattle.ceiling_kernel.specs.Releases.{release_at};
 ghost use Rattle.frames.specs.Page.{Adds};
 ghost use Rattle.frames.specs.Frame.{is_in};
-ghost use Rattle.job_boxes.specs.Marks.{all_marks, bound_text, later_text, mark_alone, mark_text, marks_text, ready_text};
+ghost use Rattle.job_boxes.specs.Marks.{all_marks, later_text, mark_alone, mark_text, marks_text, ready_text};
 
 use crate::band::gap_of;
 use ceiling_kernel::Release;
@@ -63,16 +63,6 @@ fn put_later(frame: Frame, release: Release, len: u64, y: u64, shape: &str, page
     write!(page, "M{x} {y}{shape}")
 }
 
-// A bracket at the bound, where there is one.
-fn put_bound(frame: Frame, release: Release, y: u64, bound: Option<u64>, page: &mut Page)
-    ensures { Adds page.old page.new (bound_text frame release y bound) }
-{
-    match bound {
-        None => {}
-        Some(len) => put_later(frame, release, len, y, "h-35m35 0v40m0 120v40h-35\n", page),
-    }
-}
-
 // The mark of a release in a row.
 fn put_mark_in(mark: Mark, release: Release, lane: &Lane<'_>, page: &mut Page)
     ensures { Adds page.old page.new (mark_text lane.now.frame mark release lane.now.spot.k
@@ -87,7 +77,13 @@ fn put_mark_in(mark: Mark, release: Release, lane: &Lane<'_>, page: &mut Page)
             put_later(frame, release, 0, top + 450, shape, page)
         }
         Mark::Ready => put_ready(frame, release, top + 255, page),
-        Mark::Bound => put_bound(frame, release, top + 155, row.bound, page),
+        Mark::Bound => match row.bound {
+            None => {}
+            Some(len) => {
+                let shape = "h-35m35 0v40m0 120v40h-35\n";
+                put_later(frame, release, len, top + 155, shape, page)
+            }
+        },
         Mark::Deadline => {
             let shape = "v100m0 0l-35-50h70z\n";
             let len = row.sheet.deadline();
