@@ -1,5 +1,5 @@
 -- The slices of jobs, as bars in the rows of their tasks.
-use Rattle.std.specs.Prelude.{ℕ, ◌+◌, ◌-◌, ◌/◌, min, max, nat_lt, if◌then◌else◌, List, [], ◌∷◌, ◌++◌, length, slice_index_or, codes, slice_get}
+use Rattle.std.specs.Prelude.{ℕ, ◌+◌, ◌-◌, ◌/◌, min, max, nat_lt, if◌then◌else◌, List, [], ◌∷◌, ◌++◌, length, flat_map, codes, slice_get}
 use Rattle.std.specs.Fmt.{decimal}
 use Rattle.std.specs.List.{concat}
 use Rattle.task_sheet.specs.Sheet.{CriticalSection}
@@ -11,7 +11,7 @@ use Rattle.frames.specs.Frame.{Frame, x_of, sees, right_of, top_of, tone_of}
 use Rattle.frames.specs.Rows.{each, on_spot, of_job}
 use Rattle.frames.specs.Boxes.{box_path, span_text}
 use Rattle.bars.specs.Stripes.{stripes_text}
-use Rattle.bars.specs.Sections.{dark_from, dark_to, nth_section, fits}
+use Rattle.bars.specs.Sections.{dark_from, dark_to, nth_section, fits, times_text}
 use Rattle.frames.specs.Slices.{slice_at, executed_in}
 
 -- a slice
@@ -20,26 +20,19 @@ bar_text f s spot row =
     concat (codes "<path class=\"e f" ∷ decimal (tone_of spot.rank) ∷ codes "\" d=\""
     ∷ span_text f spot.k s.start s.stop
     ∷ codes "\"><title>" ∷ row.sheet.name ∷ codes " "
-    ∷ decimal s.start ∷ codes " to " ∷ decimal s.stop ∷ codes " us</title></path>\n" ∷ [])
+    ∷ times_text s.start s.stop ∷ codes "</title></path>\n" ∷ [])
 
 -- names, each after one space
 abbrev pub names_text : List (List ℕ) → List ℕ
-names_text names = each (length names) (λ i. codes " " ++ slice_index_or names i [])
+names_text names = flat_map (λ name. codes " " ++ name) names
 
--- what stands before the names in the middle of a part
-abbrev pub label_head : (x right k : ℕ) → List ℕ
-label_head x right k =
-    concat (codes "<text class=\"k\" x=\"" ∷ decimal ((x + right) / 2) ∷ codes "\" y=\""
-    ∷ decimal (top_of k + 293)
-    ∷ codes "\">" ∷ [])
-
--- the names of locks in the middle of a part
-abbrev pub label_in : (x right k : ℕ) → List (List ℕ) → List ℕ
-label_in x right k locks = label_head x right k ++ names_text locks ++ codes "</text>\n"
-
--- the same where there is room
+-- the names of locks in the middle of a part, where there is room
 abbrev pub label_text : (x right k : ℕ) → List (List ℕ) → List ℕ
-label_text x right k locks = if fits ((right - x) / 68) locks then label_in x right k locks else []
+label_text x right k locks =
+    if fits ((right - x) / 68) locks
+    then concat (codes "<text class=\"k\" x=\"" ∷ decimal ((x + right) / 2) ∷ codes "\" y=\""
+    ∷ decimal (top_of k + 293) ∷ codes "\">" ∷ names_text locks ∷ codes "</text>\n" ∷ [])
+    else []
 
 -- where a part of a slice begins, in the slice's bar
 abbrev pub part_left : Frame → Slice → (start : ℕ) → ℕ
@@ -50,25 +43,18 @@ abbrev pub part_right : Frame → Slice → (start stop : ℕ) → ℕ
 part_right f s start stop =
     min (max (x_of f stop) (part_left f s start + 1)) (right_of f s.start s.stop)
 
--- the box of a part, up to the names of its locks
-abbrev pub part_head : ℕ → TaskRow → (x right : ℕ) → List ℕ
-part_head k row x right =
+-- the box of a part in which a job holds locks
+abbrev pub part_box : ℕ → TaskRow → List (List ℕ) → (start stop x right : ℕ) → List ℕ
+part_box k row locks start stop x right =
     concat (codes "<path class=\"h\" d=\"" ∷ box_path x right (top_of k + 165) 180
-    ∷ codes "\"><title>"
-    ∷ row.sheet.name
-    ∷ codes " holds" ∷ [])
+    ∷ codes "\"><title>" ∷ row.sheet.name ∷ codes " holds" ∷ names_text locks ∷ codes " "
+    ∷ times_text start stop ∷ codes "</title></path>\n" ∷ [])
 
--- what stands behind them
-abbrev pub part_end : (start stop : ℕ) → List ℕ
-part_end start stop =
-    concat (codes " " ∷ decimal start ∷ codes " to " ∷ decimal stop ∷ codes " us</title></path>\n"
-    ∷ [])
-
--- a part in which a job holds locks, from a place up to another
+-- the same with stripes and names, from a place up to another
 abbrev pub seen_part : List (List ℕ) → ℕ → TaskRow → List (List ℕ) → (start stop x right : ℕ) → List ℕ
 seen_part all k row locks start stop x right =
-    part_head k row x right ++ names_text locks ++ part_end start stop
-    ++ stripes_text all x right k locks ++ label_text x right k locks
+    part_box k row locks start stop x right ++ stripes_text all x right k locks
+    ++ label_text x right k locks
 
 -- the same of a slice, where it is in the window
 abbrev pub part_text : Frame → List (List ℕ) → Slice → ℕ → TaskRow → List (List ℕ) → (start stop : ℕ) → List ℕ
@@ -84,19 +70,13 @@ dark_text f all e s k row x =
     then part_text f all s k row x.locks (s.start + dark_from x e) (s.start + dark_to x e s)
     else []
 
--- the darker parts of a slice for some sections
-abbrev pub darks_text : Frame → List (List ℕ) → (e : ℕ) → Slice → ℕ → TaskRow → List CriticalSection → List ℕ
-darks_text f all e s k row sections =
-    each (length sections) (λ i. dark_text f all e s k row (nth_section sections i))
-
--- a slice and its darker parts, of a job that has executed e ticks before it
-abbrev pub seen_slice : Frame → List (List ℕ) → (e : ℕ) → Slice → Spot → TaskRow → List ℕ
-seen_slice f all e s spot row =
-    bar_text f s spot row ++ darks_text f all e s spot.k row row.sheet.sections
-
--- the same, where it is in the window
+-- a slice and its darker parts, of a job that has executed e ticks before it, where it is in the window
 abbrev pub slice_text : Frame → List (List ℕ) → (e : ℕ) → Slice → Spot → TaskRow → List ℕ
-slice_text f all e s spot row = if sees f s.start s.stop then seen_slice f all e s spot row else []
+slice_text f all e s spot row =
+    if sees f s.start s.stop
+    then bar_text f s spot row ++ each (length row.sheet.sections)
+    (λ i. dark_text f all e s spot.k row (nth_section row.sheet.sections i))
+    else []
 
 -- a slice in the row of its job's task, of a job that has executed e ticks before it
 abbrev pub slice_by : Frame → List (List ℕ) → List TaskRow → (shown : List ℕ) → List JobRecord → (e : ℕ) → Slice → List ℕ

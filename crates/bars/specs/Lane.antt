@@ -8,6 +8,7 @@ use Rattle.frames.specs.Frame.{Frame, x_of, sees, frame_end, level_of, tone_of}
 use Rattle.pieces.specs.Pieces.{clipped}
 use Rattle.frames.specs.Slices.{ticks_of, slice_at}
 use Rattle.frames.specs.Boxes.{box_path}
+use Rattle.bars.specs.Sections.{times_text}
 use Rattle.ceiling_kernel.specs.declared.trace.JobRecord.{JobRecord}
 use Rattle.frames.specs.Rows.{each, on_row, of_job}
 
@@ -51,9 +52,8 @@ abbrev pub lane_bar : Frame → Slice → ℕ → TaskRow → List ℕ
 lane_bar f s k row =
     concat (codes "<path class=\"f" ∷ decimal (tone_of k) ∷ edge_class (lane_right f s - x_of f s.start)
     ∷ codes "\" d=\"" ∷ box_path (x_of f s.start) (lane_right f s) 1350 220
-    ∷ codes "\"><title>" ∷ row.sheet.name ∷ codes " executes " ∷ decimal s.start ∷ codes " to "
-    ∷ decimal s.stop
-    ∷ codes " us</title></path>\n" ∷ [])
+    ∷ codes "\"><title>" ∷ row.sheet.name ∷ codes " executes "
+    ∷ times_text s.start s.stop ∷ codes "</title></path>\n" ∷ [])
 
 -- a word in the middle of a bar
 abbrev pub lane_word : (x right : ℕ) → List ℕ → List ℕ
@@ -71,14 +71,12 @@ lane_label x right level row =
     if nat_le (66 * length row.sheet.name + 60) (right - x) then lane_word x right row.sheet.name
     else if nat_le (level_room level) (right - x) then lane_word x right (decimal level) else []
 
--- a slice of a row's task, in the window
-abbrev pub seen_lane : Frame → Slice → ℕ → TaskRow → List ℕ
-seen_lane f s k row =
-    lane_bar f s k row ++ lane_label (x_of f s.start) (lane_right f s) (level_of f k) row
-
--- the same of any slice
+-- a slice of a row's task, where it is in the window
 abbrev pub lane_text : Frame → Slice → ℕ → TaskRow → List ℕ
-lane_text f s k row = if sees f s.start s.stop then seen_lane f s k row else []
+lane_text f s k row =
+    if sees f s.start s.stop
+    then lane_bar f s k row ++ lane_label (x_of f s.start) (lane_right f s) (level_of f k) row
+    else []
 
 -- a slice in the lane of the processor, of a job
 abbrev pub lane_by : Frame → List TaskRow → List JobRecord → Slice → List ℕ

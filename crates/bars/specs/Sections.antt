@@ -1,5 +1,7 @@
 -- Which ticks of a slice are darker: those that its job executes inside a section.
-use Rattle.std.specs.Prelude.{◌≡◌, ℕ, ◌+◌, ◌-◌, min, Bool, true, false, nat_lt, if◌then◌else◌, List, [], ◌∷◌, length, set, slice_index, slice_index_or}
+use Rattle.std.specs.Prelude.{◌≡◌, ℕ, ◌+◌, ◌-◌, min, Bool, true, false, nat_lt, if◌then◌else◌, List, [], ◌∷◌, length, set, slice_index, slice_index_or, codes}
+use Rattle.std.specs.Fmt.{decimal}
+use Rattle.std.specs.List.{concat}
 use Rattle.task_sheet.specs.Sheet.{CriticalSection}
 use Rattle.ceiling_kernel.specs.declared.trace.Slice.{Slice}
 use Rattle.frames.specs.Slices.{ticks_of}
@@ -8,12 +10,9 @@ use Rattle.frames.specs.Slices.{ticks_of}
 abbrev pub AreUncounted : (ticks : List ℕ) → (jobs : ℕ) → Type 0
 AreUncounted ticks jobs = (length ticks ≡ jobs) × ((j : ℕ) → slice_index ticks j ≡ 0)
 
--- the counts of some jobs after a slice
+-- the counts of some jobs after a slice; one of no job changes none
 abbrev pub counted : List ℕ → Slice → List ℕ
-counted ticks s =
-    if nat_lt s.job (length ticks)
-    then set ticks s.job (min (slice_index ticks s.job) s.start + ticks_of s)
-    else ticks
+counted ticks s = set ticks s.job (min (slice_index ticks s.job) s.start + ticks_of s)
 
 -- where the darker part of a slice begins whose job has executed e ticks before it, in ticks of the slice
 abbrev pub dark_from : CriticalSection → ℕ → ℕ
@@ -36,3 +35,7 @@ abbrev pub fits : ℕ → List (List ℕ) → Bool
 fits room [] = true
 fits room (name ∷ names) =
     if nat_lt (length name) room then fits (room - length name - 1) names else false
+
+-- from when to when
+abbrev pub times_text : (start stop : ℕ) → List ℕ
+times_text start stop = concat (decimal start ∷ codes " to " ∷ decimal stop ∷ codes " us" ∷ [])

@@ -1,15 +1,16 @@
 //! Slices, as bars.
 ghost use Rattle.std.specs.Prelude.{◌≡◌, length, slice_index};
 ghost use Rattle.frames.specs.Page.{Adds};
-ghost use Rattle.frames.specs.Rows.{on_spot};
-ghost use Rattle.bars.specs.Bars.{bar_text, seen_slice, slice_by, slice_text, slices_text};
+ghost use Rattle.bars.specs.Bars.{bar_text, slice_by, slice_text, slices_text};
 ghost use Rattle.bars.specs.Sections.{AreUncounted, counted};
 
 use crate::parts::put_dark;
-use ceiling_kernel::{JobRecord, Slice};
+use crate::ticks::Times;
+use ceiling_kernel::Slice;
 use frames::{Chart, Lane, Page, bar_of, executed_after, sees, tone_of, x_of};
 
 // Counts the ticks of a slice, and says how many its job executed before; none where there is no such job.
+#[tactic(auto, using(std::proofs::lemmas::List::set_past))]
 fn count_slice(executed: &mut [u64], slice: Slice) -> u64
     ensures before { result ≡ slice_index executed.old slice.job }
     ensures counted { executed.new ≡ counted executed.old slice }
@@ -31,49 +32,30 @@ fn put_bar(slice: Slice, lane: &Lane<'_>, page: &mut Page)
     let bar = bar_of(start, stop, lane.spot.k);
     let tone = tone_of(lane.spot.rank);
     let name = lane.row.sheet.name();
-    let start = slice.start;
-    let stop = slice.stop;
+    let Slice { start, stop, .. } = slice;
+    let times = Times { start, stop };
     write!(
         page,
-        "<path class=\"e f{tone}\" d=\"{bar}\"><title>{name} {start} to {stop} us</title></path>\n"
+        "<path class=\"e f{tone}\" d=\"{bar}\"><title>{name} {times}</title></path>\n"
     )
 }
 
-// A slice and its darker parts.
-fn put_whole(executed: u64, slice: Slice, lane: &Lane<'_>, page: &mut Page)
-    ensures { Adds page.old page.new (seen_slice lane.now.frame lane.now.locks.now executed slice
+// A slice and its darker parts, where it is in the window.
+fn put_slice_in(executed: u64, slice: Slice, lane: &Lane<'_>, page: &mut Page)
+    ensures { Adds page.old page.new (slice_text lane.now.frame lane.now.locks.now executed slice
         lane.now.spot
         lane.now.row.now) }
 {
+    if !sees(lane.frame, slice.start, slice.stop) {
+        return;
+    }
     put_bar(slice, lane, page);
     for section in lane.row.sheet.sections() {
         put_dark(executed, slice, lane, section, page);
     }
 }
 
-// The same, where it is in the window.
-fn put_slice_in(executed: u64, slice: Slice, lane: &Lane<'_>, page: &mut Page)
-    ensures { Adds page.old page.new (slice_text lane.now.frame lane.now.locks.now executed slice
-        lane.now.spot
-        lane.now.row.now) }
-{
-    if sees(lane.frame, slice.start, slice.stop) {
-        put_whole(executed, slice, lane, page)
-    }
-}
-
-// A slice of a job that has executed so long before it, in the row of its task, if that is shown.
-fn put_slice_of(chart: &Chart<'_>, executed: u64, slice: Slice, job: &JobRecord, page: &mut Page)
-    ensures { Adds page.old page.new (on_spot chart.now.rows.now chart.now.shown.now job.now.name
-        (slice_text chart.now.frame chart.now.locks.now executed slice)) }
-{
-    match chart.spot_of(job.name) {
-        None => {}
-        Some(spot) => put_slice_in(executed, slice, &chart.lane(spot), page),
-    }
-}
-
-// A slice in the row of the task of its job; its ticks are counted.
+// A slice in the row of the task of its job, if that is shown; its ticks are counted.
 fn put_slice(chart: &Chart<'_>, executed: &mut [u64], slice: Slice, page: &mut Page)
     ensures put { Adds page.old page.new (slice_by chart.now.frame chart.now.locks.now
         chart.now.rows.now chart.now.shown.now chart.now.jobs.now
@@ -81,10 +63,13 @@ fn put_slice(chart: &Chart<'_>, executed: &mut [u64], slice: Slice, page: &mut P
     ensures counted { executed.new ≡ counted executed.old slice }
 {
     let before = count_slice(executed, slice);
-    match chart.job_of(slice) {
-        None => {}
-        Some(job) => put_slice_of(chart, before, slice, &job, page),
-    }
+    let Some(job) = chart.job_of(slice) else {
+        return;
+    };
+    let Some(spot) = chart.spot_of(job.name) else {
+        return;
+    };
+    put_slice_in(before, slice, &chart.lane(spot), page)
 }
 
 /// Puts each slice into its row, by time. The ticks that each job has executed are counted; none were before.

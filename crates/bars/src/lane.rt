@@ -1,16 +1,16 @@
 //! The lane of the processor.
-ghost use Rattle.std.specs.Fmt.{decimal};
-ghost use Rattle.std.specs.Prelude.{◌*◌, ◌+◌, ◌≡◌, ◌≤◌};
+ghost use Rattle.std.specs.Prelude.{◌*◌, ◌+◌, ◌≡◌, ◌≤◌, IfSome};
 ghost use Rattle.frames.specs.Page.{Adds};
-ghost use Rattle.bars.specs.Lane.{busy_from, busy_of, busy_with, edge_class, lane_bar, lane_by, lane_head, lane_label, lane_line, lane_right, lane_text, lane_word, lanes_text, level_room, seen_lane};
-ghost use Rattle.frames.specs.Rows.{on_row};
+ghost use Rattle.bars.specs.Lane.{busy_from, busy_of, busy_with, edge_class, lane_bar, lane_by, lane_head, lane_label, lane_line, lane_right, lane_text, lane_word, lanes_text, level_room};
 ghost use Rattle.frames.specs.declared.frame.TheConstants.{RIGHTMOST};
 
-use ceiling_kernel::{JobRecord, Slice};
+use crate::ticks::Times;
+use ceiling_kernel::Slice;
 use frames::{
     Bar, Chart, Frame, Lane, Page, Spot, TaskRow, end_of, find_row, has_room, level_of, sees,
     start_of, tone_of, x_of,
 };
+use std::fmt::Display;
 
 // For how long a slice executes in the window, and what was before.
 fn busy_with(frame: Frame, before: u64, slice: Slice) -> u64
@@ -90,45 +90,32 @@ fn put_lane_bar(slice: Slice, lane: &Lane<'_>, page: &mut Page)
 {
     let x = x_of(lane.frame, slice.start);
     let right = lane_right(lane.frame, slice);
-    let tone = tone_of(lane.spot.rank);
-    let edge = edge_class(right.saturating_sub(x));
     let bar = Bar {
         x,
         right,
         y: 1_350,
         high: 220,
     };
+    let tone = tone_of(lane.spot.rank);
+    let edge = edge_class(right.saturating_sub(x));
     let name = lane.row.sheet.name();
-    let start = slice.start;
-    let stop = slice.stop;
+    let Slice { start, stop, .. } = slice;
+    let times = Times { start, stop };
     write!(
         page,
-        "<path class=\"f{tone}{edge}\" d=\"{bar}\"><title>{name} executes {start} to {stop} us</title></path>\n"
+        "<path class=\"f{tone}{edge}\" d=\"{bar}\"><title>{name} executes {times}</title></path>\n"
     )
 }
 
-// A task's name in the middle of a bar.
-fn put_lane_name(x: u64, right: u64, row: &TaskRow, page: &mut Page)
+// A word in the middle of a bar.
+fn put_lane_word<W: Display + Drop>(x: u64, right: u64, word: W, page: &mut Page)
     requires { x + right ≤ 2 * RIGHTMOST + 1 }
-    ensures { Adds page.old page.new (lane_word x right row.now.sheet.name) }
-{
-    let middle = (x + right) / 2;
-    let name = row.sheet.name();
-    write!(
-        page,
-        "<text class=\"u\" x=\"{middle}\" y=\"1498\">{name}</text>\n"
-    )
-}
-
-// A level in the middle of a bar.
-fn put_lane_level(x: u64, right: u64, level: u64, page: &mut Page)
-    requires { x + right ≤ 2 * RIGHTMOST + 1 }
-    ensures { Adds page.old page.new (lane_word x right (decimal level)) }
+    ensures { IfSome (W.output word) (λ text. Adds page.old page.new (lane_word x right text)) }
 {
     let middle = (x + right) / 2;
     write!(
         page,
-        "<text class=\"u\" x=\"{middle}\" y=\"1498\">{level}</text>\n"
+        "<text class=\"u\" x=\"{middle}\" y=\"1498\">{word}</text>\n"
     )
 }
 
@@ -139,59 +126,39 @@ fn put_lane_label(x: u64, right: u64, level: u64, row: &TaskRow, page: &mut Page
 {
     let wide = right.saturating_sub(x);
     if has_room(row.sheet.name(), wide) {
-        put_lane_name(x, right, row, page)
+        put_lane_word(x, right, row.sheet.name(), page)
     } else if wide >= level_room(level) {
-        put_lane_level(x, right, level, page)
+        put_lane_word(x, right, level, page)
     }
 }
 
-// A slice of a row's task, in the window.
-fn put_seen_lane(slice: Slice, lane: &Lane<'_>, page: &mut Page)
-    ensures { Adds page.old page.new (seen_lane lane.now.frame slice lane.now.spot.rank
-        lane.now.row.now) }
-{
-    put_lane_bar(slice, lane, page);
-    let x = x_of(lane.frame, slice.start);
-    let right = lane_right(lane.frame, slice);
-    put_lane_label(
-        x,
-        right,
-        level_of(lane.frame, lane.spot.rank),
-        lane.row,
-        page,
-    )
-}
-
-// The same of any slice.
+// A slice of a row's task, where it is in the window.
 fn put_lane_slice(slice: Slice, lane: &Lane<'_>, page: &mut Page)
     ensures { Adds page.old page.new (lane_text lane.now.frame slice lane.now.spot.rank
         lane.now.row.now) }
 {
-    if sees(lane.frame, slice.start, slice.stop) {
-        put_seen_lane(slice, lane, page)
+    if !sees(lane.frame, slice.start, slice.stop) {
+        return;
     }
+    put_lane_bar(slice, lane, page);
+    let x = x_of(lane.frame, slice.start);
+    let right = lane_right(lane.frame, slice);
+    let level = level_of(lane.frame, lane.spot.rank);
+    put_lane_label(x, right, level, lane.row, page)
 }
 
-// A slice of a job, in the tone of the row of its task.
-fn put_lane_job(chart: &Chart<'_>, slice: Slice, job: &JobRecord, page: &mut Page)
-    ensures { Adds page.old page.new (on_row chart.now.rows.now job.now.name (lane_text
-        chart.now.frame slice)) }
-{
-    match find_row(chart.rows, job.name) {
-        None => {}
-        Some(rank) => put_lane_slice(slice, &chart.lane(Spot { rank, k: rank }), page),
-    }
-}
-
-// A slice of a job, if there is one.
+// A slice of a job, if there is one, in the tone of the row of its task.
 fn put_lane_by(chart: &Chart<'_>, slice: Slice, page: &mut Page)
     ensures { Adds page.old page.new (lane_by chart.now.frame chart.now.rows.now chart.now.jobs.now
         slice) }
 {
-    match chart.job_of(slice) {
-        None => {}
-        Some(job) => put_lane_job(chart, slice, &job, page),
-    }
+    let Some(job) = chart.job_of(slice) else {
+        return;
+    };
+    let Some(rank) = find_row(chart.rows, job.name) else {
+        return;
+    };
+    put_lane_slice(slice, &chart.lane(Spot { rank, k: rank }), page)
 }
 
 /// Puts each slice into it, by time.

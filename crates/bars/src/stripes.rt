@@ -2,7 +2,7 @@
 ghost use Rattle.std.specs.Prelude.{◌*◌, ◌<◌, ◌≡◌, ◌≤◌, length};
 ghost use Rattle.frames.specs.Page.{Adds};
 ghost use Rattle.task_sheet.specs.declared.set.TheConstants.{TASK_LIMIT};
-ghost use Rattle.bars.specs.Stripes.{lock_left, lock_text, lock_texts, lock_upper, locks_group, locks_head, locks_high, per_line, stripe_text, stripe_top, stripes_text};
+ghost use Rattle.bars.specs.Stripes.{lock_text, lock_texts, locks_group, locks_head, locks_high, per_line, stripe_text, stripe_top, stripes_text};
 ghost use Rattle.frames.specs.declared.frame.TheConstants.{RIGHTMOST};
 ghost use Rattle.frames.specs.declared.locks.TheConstants.{LOCKS_LIMIT};
 
@@ -36,24 +36,6 @@ pub fn locks_high(frame: Frame, n: usize) -> u64
         return 0;
     }
     100 + 250 * ((n as u64 - 1) / per_line(frame) + 1)
-}
-
-// Where lock i begins in it.
-fn lock_left(frame: Frame, i: usize) -> u64
-    ensures value { result ≡ lock_left frame i }
-    ensures within { result ≤ 160_500 }
-{
-    900 + 1_900 * (i as u64 % per_line(frame))
-}
-
-// And where its upper edge lies.
-fn lock_upper(frame: Frame, bottom: u64, i: usize) -> u64
-    requires place { i ≤ LOCKS_LIMIT }
-    requires row { bottom ≤ 2 * RIGHTMOST }
-    ensures value { result ≡ lock_upper frame bottom i }
-    ensures within { result ≤ 600_000 }
-{
-    bottom + 250 * (i as u64 / per_line(frame))
 }
 
 // The stripe of a lock, number i of n, over a part of a bar.
@@ -105,19 +87,21 @@ fn put_lock(frame: Frame, bottom: u64, i: usize, name: Name, page: &mut Page)
     requires row { bottom ≤ 2 * RIGHTMOST }
     ensures { Adds page.old page.new (lock_text frame bottom i name) }
 {
-    let tone = i % 6;
-    let x = lock_left(frame, i);
-    let y = lock_upper(frame, bottom, i);
+    let each = per_line(frame);
+    let x = 900 + 1_900 * (i as u64 % each);
+    let y = bottom + 250 * (i as u64 / each);
     let lock = Bar {
         x,
         right: x + 200,
         y,
         high: 180,
     };
-    let (left, base) = (x + 250, y + 128);
     write!(
         page,
-        "<path class=\"k{tone}\" d=\"{lock}\"/><text class=\"c\" x=\"{left}\" y=\"{base}\">{name}</text>\n"
+        "<path class=\"k{}\" d=\"{lock}\"/><text class=\"c\" x=\"{}\" y=\"{}\">{name}</text>\n",
+        i % 6,
+        x + 250,
+        y + 128
     )
 }
 

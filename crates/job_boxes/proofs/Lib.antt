@@ -1,2 +1,1 @@
 mod Badges
-mod BandLaws

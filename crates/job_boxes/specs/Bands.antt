@@ -10,99 +10,59 @@ use Rattle.pieces.specs.Bands.{is_of, all_of, arrival_of, joins, stretch_of}
 use Rattle.frames.specs.declared.rows.TaskRow.{TaskRow}
 use Rattle.frames.specs.Frame.{Frame, x_of, is_in, sees, right_of, top_of}
 use Rattle.frames.specs.Rows.{record_at, each, on_spot}
-use Rattle.frames.specs.Boxes.{span_text}
-use Rattle.frames.specs.Numbers.{millis_text}
-use Rattle.job_boxes.specs.Jobs.{limit_of, limit_words, back_sign, goes_on, on_sign, job_text}
+use Rattle.frames.specs.Numbers.{known_text, millis_text}
+use Rattle.job_boxes.specs.Jobs.{limit_of, limit_path, goes_on, sign_text, signs_text, job_text}
 
 -- how many microseconds 20 pixels are: arrivals of a task that are less apart are too close
 abbrev pub gap_of : Frame → ℕ
 gap_of f = 200 * (f.to - f.from) / f.span
 
--- the box of a band of row k, from its first arrival up to the bound or deadline of the latest
-abbrev pub band_box : Frame → (k : ℕ) → TaskRow → (first latest : ℕ) → List ℕ
-band_box f k row first latest =
-    concat (codes "<path class=\"l w\" d=\"" ∷ span_text f k first (latest + limit_of row)
-    ∷ codes "\"><title>" ∷ [])
+-- the box of a band, how many jobs are in it, and when they arrive
+abbrev pub band_box : (path : List ℕ) → JobRecord → (count latest : ℕ) → List ℕ
+band_box path first count latest =
+    concat (codes "<path class=\"l w\" d=\"" ∷ path ∷ codes "\"><title>" ∷ first.name ∷ codes ": "
+    ∷ decimal count ∷ codes " jobs, arrivals " ∷ decimal first.release ∷ codes " to "
+    ∷ decimal latest ∷ [])
 
--- how many jobs are in it, and when they arrive
-abbrev pub band_words : JobRecord → (count latest : ℕ) → List ℕ
-band_words first count latest =
-    concat (first.name ∷ codes ": " ∷ decimal count ∷ codes " jobs, arrivals "
-    ∷ decimal first.release
-    ∷ codes " to " ∷ decimal latest ∷ codes ", " ∷ [])
+-- how many of them are done, the greatest response among those, their bound and their deadline
+abbrev pub band_words : (done greatest : ℕ) → (bound : Option ℕ) → (deadline : ℕ) → List ℕ
+band_words done greatest bound deadline =
+    concat (codes ", done " ∷ decimal done ∷ codes ", longest response "
+    ∷ greatest_words done greatest ∷ codes ", bound " ∷ known_text bound
+    ∷ codes ", deadline " ∷ decimal deadline ∷ codes " us</title></path>\n" ∷ [])
 
--- how many of them are done, and the greatest response among those
-abbrev pub reached_words : (done greatest : ℕ) → List ℕ
-reached_words done greatest =
-    concat (codes "done " ∷ decimal done ∷ codes ", longest response " ∷ [])
-    ++ greatest_words done greatest ++ codes ", "
-
--- what is told of a band
-abbrev pub band_title : TaskRow → JobRecord → (count latest done greatest : ℕ) → List ℕ
-band_title row first count latest done greatest =
-    band_words first count latest ++ reached_words done greatest ++ limit_words row
-
--- the greatest response in milliseconds, if some job is done
-abbrev pub longest_words : (done greatest : ℕ) → List ℕ
-longest_words done greatest =
-    if done == 0 then [] else concat (codes ", longest " ∷ millis_text greatest ∷ codes " ms" ∷ [])
-
--- behind the number of jobs, where there is room
+-- behind the number of jobs, where there is room: the greatest response in milliseconds, if some job is done
 abbrev pub wide_words : (wide done greatest : ℕ) → List ℕ
 wide_words wide done greatest =
-    if nat_lt wide 1860 then [] else codes " jobs" ++ longest_words done greatest
+    if nat_lt wide 1860 then []
+    else if done == 0 then codes " jobs"
+    else concat (codes " jobs, longest " ∷ millis_text greatest ∷ codes " ms" ∷ [])
 
--- the number of jobs, below a band
-abbrev pub count_word : (x k count : ℕ) → List ℕ
-count_word x k count =
-    concat (codes "<text x=\"" ∷ decimal (x + 20) ∷ codes "\" y=\"" ∷ decimal (top_of k + 455)
-    ∷ codes "\">" ∷ decimal count ∷ [])
-
--- what stands below a band
+-- what stands below a band that reaches from a place up to another
 abbrev pub band_label : (x right k count done greatest : ℕ) → List ℕ
 band_label x right k count done greatest =
-    count_word x k count ++ wide_words (right - x) done greatest ++ codes "</text>\n"
+    concat (codes "<text x=\"" ∷ decimal (x + 20) ∷ codes "\" y=\"" ∷ decimal (top_of k + 455)
+    ∷ codes "\">" ∷ decimal count ∷ wide_words (right - x) done greatest ∷ codes "</text>\n" ∷ [])
 
--- a bracket in row k
-abbrev pub bracket_at : (x k : ℕ) → List ℕ
-bracket_at x k =
-    concat (codes "<path class=\"b\" d=\"M" ∷ decimal x ∷ codes " " ∷ decimal (top_of k + 155)
-    ∷ codes "h-35m35 0v40m0 120v40h-35\"/>\n" ∷ [])
-
--- one at a bound behind the latest arrival, where that is in the picture
-abbrev pub bracket_text : Frame → (k latest bound : ℕ) → List ℕ
-bracket_text f k latest bound =
-    if is_in f (latest + bound) then bracket_at (x_of f (latest + bound)) k else []
-
--- the same, if there is a bound
+-- a bracket at a bound behind the latest arrival, if there is one, where that is in the picture
 abbrev pub last_bound : Frame → (k latest : ℕ) → Option ℕ → List ℕ
 last_bound f k latest None = []
-last_bound f k latest (Some bound) = bracket_text f k latest bound
+last_bound f k latest (Some bound) =
+    sign_text (is_in f (latest + bound)) (codes "b") (x_of f (latest + bound)) (top_of k + 155)
+    (codes "h-35m35 0v40m0 120v40h-35")
 
 -- of some jobs one of the task with a name goes on behind the window
 abbrev pub any_on : Frame → List ℕ → List JobRecord → Bool
 any_on f name jobs = list_any (λ job. is_of name job && goes_on f job.finish) jobs
 
--- a sign at the beginning, before which the first job of a band arrives
-abbrev pub band_back : Frame → (k first : ℕ) → List ℕ
-band_back f k first = if nat_lt first f.from then back_sign f k else []
-
--- one at the end, behind which some job of it goes on
-abbrev pub band_on : Frame → (k : ℕ) → List ℕ → List JobRecord → List ℕ
-band_on f k name jobs = if any_on f name jobs then on_sign f k else []
-
--- what stands below a band, of a first job
-abbrev pub label_of : Frame → (k : ℕ) → TaskRow → JobRecord → (count latest done greatest : ℕ) → List ℕ
-label_of f k row first count latest done greatest =
-    band_label (x_of f first.release) (right_of f first.release (latest + limit_of row)) k count
-    done greatest
-
 -- the band of those of some jobs that are of the first one's task, whose box is in the window
 abbrev pub seen_band : Frame → (k : ℕ) → TaskRow → JobRecord → List JobRecord → (count latest done greatest : ℕ) → List ℕ
 seen_band f k row first jobs count latest done greatest =
-    band_box f k row first.release latest ++ band_title row first count latest done greatest
-    ++ label_of f k row first count latest done greatest ++ last_bound f k latest row.bound
-    ++ band_back f k first.release ++ band_on f k first.name jobs
+    band_box (limit_path f k row first.release latest) first count latest
+    ++ band_words done greatest row.bound row.sheet.deadline
+    ++ band_label (x_of f first.release) (right_of f first.release (latest + limit_of row)) k count
+    done greatest ++ last_bound f k latest row.bound
+    ++ signs_text f k (nat_lt first.release f.from) (any_on f first.name jobs)
 
 -- the same of any band
 abbrev pub band_with : Frame → (k : ℕ) → TaskRow → JobRecord → List JobRecord → (count latest done greatest : ℕ) → List ℕ

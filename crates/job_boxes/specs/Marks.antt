@@ -1,5 +1,5 @@
 -- The marks of releases.
-use Rattle.std.specs.Prelude.{ℕ, ◌+◌, ◌-◌, ◌/◌, ◌&&◌, nat_lt, if◌then◌else◌, Option, Some, None, List, [], ◌∷◌, ◌++◌, length, codes}
+use Rattle.std.specs.Prelude.{ℕ, ◌+◌, ◌&&◌, nat_lt, if◌then◌else◌, Option, Some, None, List, [], ◌∷◌, ◌++◌, length, codes}
 use Rattle.std.specs.Fmt.{decimal}
 use Rattle.std.specs.List.{concat}
 use Rattle.ceiling_kernel.specs.declared.trace.Release.{Release}
@@ -12,14 +12,6 @@ use Rattle.frames.specs.Rows.{each, on_spot}
 use Rattle.ceiling_kernel.specs.Releases.{release_at}
 use Rattle.pieces.specs.Bands.{is_banded}
 use Rattle.job_boxes.specs.Bands.{gap_of}
-
--- an arrow up at an arrival, where that is in the picture
-abbrev pub arrival_text : Frame → Release → (y : ℕ) → List ℕ
-arrival_text f r y =
-    if is_in f r.time
-    then concat (codes "M" ∷ decimal (x_of f r.time) ∷ codes " " ∷ decimal y
-    ∷ codes "v-100m-35 50l35-50 35 50\n" ∷ [])
-    else []
 
 -- a line up to when a job becomes ready, where that is later
 abbrev pub ready_text : Frame → Release → (y : ℕ) → List ℕ
@@ -44,18 +36,12 @@ bound_text f r y (Some bound) = later_text f r bound y (codes "h-35m35 0v40m0 12
 
 -- a mark of a release in row k: an arrow up, a line, a bracket at the bound, an arrow down
 abbrev pub mark_text : Frame → Mark → Release → ℕ → TaskRow → List ℕ
-mark_text f Arrival r k row = arrival_text f r (top_of k + 450)
+mark_text f Arrival r k row =
+    later_text f r 0 (top_of k + 450) (codes "v-100m-35 50l35-50 35 50\n")
 mark_text f Ready r k row = ready_text f r (top_of k + 255)
 mark_text f Bound r k row = bound_text f r (top_of k + 155) row.bound
 mark_text f Deadline r k row =
     later_text f r row.sheet.deadline (top_of k + 60) (codes "v100m0 0l-35-50h70z\n")
-
--- what opens the marks of a kind
-abbrev pub mark_head : Mark → List ℕ
-mark_head Arrival = codes "<path class=\"a\" d=\"\n"
-mark_head Ready = codes "<path class=\"r\" d=\"\n"
-mark_head Bound = codes "<path class=\"b\" d=\"\n"
-mark_head Deadline = codes "<path class=\"d\" d=\"\n"
 
 -- a mark of a kind for release i, whose job stands alone
 abbrev pub mark_alone : Frame → List TaskRow → (shown : List ℕ) → List JobRecord → Mark → (i : ℕ) → Release → List ℕ
@@ -68,13 +54,16 @@ abbrev pub each_mark : Frame → List TaskRow → (shown : List ℕ) → List Jo
 each_mark f rows shown jobs mark rs =
     each (length rs) (λ i. mark_alone f rows shown jobs mark i (release_at rs i))
 
--- the marks of a kind, as one path
-abbrev pub marks_text : Frame → List TaskRow → (shown : List ℕ) → List JobRecord → Mark → List Release → List ℕ
-marks_text f rows shown jobs mark rs =
-    mark_head mark ++ each_mark f rows shown jobs mark rs ++ codes "\"/>\n"
+-- the marks of a kind, as one path of a class
+abbrev pub marks_text : Frame → List TaskRow → (shown : List ℕ) → List JobRecord → Mark → (class : List ℕ) → List Release → List ℕ
+marks_text f rows shown jobs mark class rs =
+    concat (codes "<path class=\"" ∷ class ∷ codes "\" d=\"\n" ∷ [])
+    ++ each_mark f rows shown jobs mark rs ++ codes "\"/>\n"
 
 -- the marks of all kinds
 abbrev pub all_marks : Frame → List TaskRow → (shown : List ℕ) → List JobRecord → List Release → List ℕ
 all_marks f rows shown jobs rs =
-    marks_text f rows shown jobs Ready rs ++ marks_text f rows shown jobs Arrival rs
-    ++ marks_text f rows shown jobs Bound rs ++ marks_text f rows shown jobs Deadline rs
+    marks_text f rows shown jobs Ready (codes "r") rs
+    ++ marks_text f rows shown jobs Arrival (codes "a") rs
+    ++ marks_text f rows shown jobs Bound (codes "b") rs
+    ++ marks_text f rows shown jobs Deadline (codes "d") rs

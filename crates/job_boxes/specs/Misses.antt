@@ -1,5 +1,5 @@
 -- Which jobs miss their deadlines, and how they are drawn.
-use Rattle.std.specs.Prelude.{ℕ, zero, suc, ◌+◌, ◌-◌, max, Bool, true, false, ◌&&◌, nat_le, nat_lt, if◌then◌else◌, Option, Some, None, List, [], ◌∷◌, ◌++◌, length, codes, ◌/◌}
+use Rattle.std.specs.Prelude.{ℕ, zero, suc, ◌+◌, ◌-◌, max, Bool, true, false, ◌&&◌, nat_le, nat_lt, if◌then◌else◌, Option, Some, None, List, [], ◌∷◌, ◌++◌, length, codes}
 use Rattle.std.specs.Fmt.{decimal}
 use Rattle.std.specs.List.{concat, filter}
 use Rattle.task_sheet.specs.Sheet.{same_bytes}
@@ -8,7 +8,7 @@ use Rattle.frames.specs.declared.rows.TaskRow.{TaskRow}
 use Rattle.frames.specs.Frame.{Frame, x_of, sees, top_of, ended}
 use Rattle.frames.specs.Rows.{each, row_at, row_named, record_at, spot_in}
 use Rattle.frames.specs.Boxes.{box_path}
-use Rattle.job_boxes.specs.Jobs.{limit_of, arrival_words, done_words, back_text, on_text}
+use Rattle.job_boxes.specs.Jobs.{limit_of, job_words, job_signs}
 
 -- a job that has to be done so long after its arrival is done later, or isn't done by an end that isn't earlier
 abbrev pub is_behind : (arrival deadline end : ℕ) → Option ℕ → Bool
@@ -54,24 +54,17 @@ hatch_path f k row job =
     (max (x_of f (ended f job)) (x_of f (job.release + row.sheet.deadline) + 20))
     (top_of k + 145) 220
 
--- that, up to what is told of it
-abbrev pub hatch_text : Frame → (k : ℕ) → TaskRow → JobRecord → List ℕ
-hatch_text f k row job =
-    concat (codes "<path class=\"z\" d=\"" ∷ hatch_path f k row job ∷ codes "\"><title>" ∷ [])
+-- that, and what is told of it
+abbrev pub hatch_text : (path : List ℕ) → TaskRow → JobRecord → List ℕ
+hatch_text path row job =
+    concat (codes "<path class=\"z\" d=\"" ∷ path ∷ codes "\"><title>"
+    ∷ job_words job.name job.release job.finish ∷ codes ", deadline " ∷ decimal row.sheet.deadline
+    ∷ codes " us missed</title></path>\n" ∷ [])
 
--- the deadline, behind when the job arrives and is done
-abbrev pub due_words : TaskRow → List ℕ
-due_words row =
-    concat (codes "deadline " ∷ decimal row.sheet.deadline ∷ codes " us missed</title></path>\n" ∷ [])
-
--- of a job that misses its deadline, where that is in the window
-abbrev pub is_seen_late : Frame → TaskRow → JobRecord → Bool
-is_seen_late f row job =
-    is_late f row job && nat_le (job.release + row.sheet.deadline) f.to && nat_lt f.from (ended f job)
-
--- it is one of the row's task
+-- a job of a row's task misses its deadline in the window
 abbrev pub is_seen_miss : Frame → TaskRow → JobRecord → Bool
-is_seen_miss f row job = same_bytes job.name row.sheet.name && is_seen_late f row job
+is_seen_miss f row job =
+    misses_in f row job && nat_le (job.release + row.sheet.deadline) f.to && nat_lt f.from (ended f job)
 
 -- the last badge, if there is one, is 18 pixels before a place
 abbrev pub is_clear : (last : Option ℕ) → (x : ℕ) → Bool
@@ -102,18 +95,15 @@ due_badge f k last due =
 -- signs where the job goes on before and behind the window, of which its box has none that isn't in the window
 abbrev pub late_signs : Frame → (k : ℕ) → TaskRow → JobRecord → List ℕ
 late_signs f k row job =
-    if sees f job.release (job.release + limit_of row) then []
-    else back_text f k job ++ on_text f k job.finish
+    if sees f job.release (job.release + limit_of row) then [] else job_signs f k job
 
--- with a badge at the deadline, and those signs
-abbrev pub missed_text : Frame → (k : ℕ) → TaskRow → (last : Option ℕ) → JobRecord → List ℕ
-missed_text f k row last job =
-    hatch_text f k row job ++ arrival_words job ++ done_words job job.finish ++ due_words row
-    ++ due_badge f k last (job.release + row.sheet.deadline) ++ late_signs f k row job
-
--- how a job is drawn
+-- how a job is drawn: that, a badge at the deadline, and those signs
 abbrev pub miss_text : Frame → (k : ℕ) → TaskRow → (last : Option ℕ) → JobRecord → List ℕ
-miss_text f k row last job = if is_seen_miss f row job then missed_text f k row last job else []
+miss_text f k row last job =
+    if is_seen_miss f row job
+    then hatch_text (hatch_path f k row job) row job ++ due_badge f k last (job.release + row.sheet.deadline)
+    ++ late_signs f k row job
+    else []
 
 -- how those of a row are
 abbrev pub row_misses : Frame → List JobRecord → (k : ℕ) → TaskRow → List ℕ

@@ -1,19 +1,23 @@
 //! Jobs of a task that are too close to be drawn apart.
-ghost use Rattle.std.specs.Prelude.{◌<◌, ◌≡◌, ◌≤◌, length};
+ghost use Rattle.std.specs.Prelude.{◌<◌, ◌≡◌, ◌≤◌, Some, length};
 ghost use Rattle.run_lines.specs.Lines.{greatest_words};
+ghost use Rattle.frames.specs.Numbers.{known_text};
 ghost use Rattle.frames.specs.Page.{Adds};
+ghost use Rattle.frames.specs.Boxes.{box_path};
 ghost use Rattle.task_sheet.specs.declared.set.TheConstants.{TASK_LIMIT};
 ghost use Rattle.frames.specs.declared.frame.TheConstants.{RIGHTMOST};
-ghost use Rattle.job_boxes.specs.Bands.{any_on, band_back, band_box, band_label, band_on, band_title, band_with, band_words, bracket_at, bracket_text, count_word, gap_of, label_of, last_bound, longest_words, place_text, reached_words, seen_band, stand_text, wide_words};
+ghost use Rattle.job_boxes.specs.Bands.{any_on, band_box, band_label, band_with, band_words, gap_of, last_bound, place_text, wide_words};
 
-use crate::jobs::{goes_on, limit_of, put_back_sign, put_job_in, put_limit_words, put_on_sign};
+use crate::jobs::{goes_on, limit_box, limit_of, put_job_in, put_sign, put_signs};
 use crate::marks::is_shown;
 use ceiling_kernel::JobRecord;
 use frames::{
-    Frame, Lane, Millis, Page, bar_of, is_before, job_at, sees_up_to, top_of, x_after, x_of,
+    Bar, Frame, Known, Lane, Millis, Page, is_before, job_at, sees_up_to, top_of, x_after,
 };
 use pieces::{Band, band_in, joins, stretch_of};
 use run_lines::{Outcome, outcome_of};
+use std::fmt;
+use std::io::Write;
 use task_sheet::Name;
 
 // How many microseconds 20 pixels are.
@@ -31,184 +35,102 @@ fn any_on(frame: Frame, name: Name, jobs: &[JobRecord]) -> bool
         .any(|job| job.name == name && goes_on(frame, job.finish))
 }
 
-// The box of a band.
-fn put_band_box(lane: &Lane<'_>, first: u64, latest: u64, page: &mut Page)
-    ensures { Adds page.old page.new (band_box lane.now.frame lane.now.spot.k lane.now.row.now
-        first latest) }
+// The greatest response of jobs that are done, if some are.
+fn greatest_of(outcome: Outcome) -> Known
+    ensures { known_text result.bound ≡ greatest_words outcome.done outcome.greatest }
 {
-    let x = x_of(lane.frame, first);
-    let right = x_after(lane.frame, latest, limit_of(lane.row));
-    let bar = bar_of(x, right, lane.spot.k);
-    write!(page, "<path class=\"l w\" d=\"{bar}\"><title>")
+    let bound = if outcome.done == 0 {
+        None
+    } else {
+        Some(outcome.greatest)
+    };
+    Known { bound }
 }
 
-// How many jobs are in it, and when they arrive.
-fn put_band_words(first: &JobRecord, band: Band, page: &mut Page)
-    ensures { Adds page.old page.new (band_words first.now band.count band.latest) }
+// The box of a band, how many jobs are in it, and when they arrive.
+fn put_band_box(bar: Bar, first: &JobRecord, band: Band, page: &mut Page)
+    ensures { Adds page.old page.new (band_box (box_path bar.x bar.right bar.y bar.high) first.now
+        band.count band.latest) }
 {
-    let name = first.name;
-    let arrival = first.release;
-    let count = band.count;
-    let latest = band.latest;
     write!(
         page,
-        "{name}: {count} jobs, arrivals {arrival} to {latest}, "
+        "<path class=\"l w\" d=\"{bar}\"><title>{}: {} jobs, arrivals {} to {}",
+        first.name, band.count, first.release, band.latest
     )
 }
 
-// How many of them are done, and the greatest response among those.
-fn put_reached(outcome: Outcome, page: &mut Page)
-    ensures { Adds page.old page.new (reached_words outcome.done outcome.greatest) }
+// How many of them are done, the greatest response among those, their bound and their deadline.
+fn put_band_words(outcome: Outcome, bound: Option<u64>, deadline: u64, page: &mut Page)
+    ensures { Adds page.old page.new (band_words outcome.done outcome.greatest bound deadline) }
 {
-    let done = outcome.done;
-    write!(page, "done {done}, longest response ");
-    put_greatest(outcome, page);
-    page.put(b", ")
+    let bound = Known { bound };
+    write!(
+        page,
+        ", done {}, longest response {}, bound {bound}, deadline {deadline} us</title></path>\n",
+        outcome.done,
+        greatest_of(outcome)
+    )
 }
 
-// What is told of a band.
-fn put_band_title(lane: &Lane<'_>, first: &JobRecord, band: Band, outcome: Outcome, page: &mut Page)
-    ensures { Adds page.old page.new (band_title lane.now.row.now first.now band.count band.latest
-        outcome.done
-        outcome.greatest) }
-{
-    put_band_words(first, band, page);
-    put_reached(outcome, page);
-    put_limit_words(lane.row, page)
+// What stands behind the number of jobs of a band so wide.
+#[derive(Clone, Copy)]
+struct Wide {
+    wide: u64,
+    done: usize,
+    greatest: u64,
 }
 
-// The greatest response, if some job is done.
-fn put_longest(outcome: Outcome, page: &mut Page)
-    ensures { Adds page.old page.new (longest_words outcome.done outcome.greatest) }
-{
-    if outcome.done == 0 {
-        return;
+impl fmt::Display for Wide {
+    ghost output = { λ w. Some (wide_words w.wide w.done w.greatest) };
+
+    fn fmt<W: fmt::Write>(&self, f: &mut fmt::Formatter<W>) -> fmt::Result {
+        let greatest = Millis {
+            micros: self.greatest,
+        };
+        if self.wide < 1_860 {
+            Ok(())
+        } else if self.done == 0 {
+            write!(f, " jobs")
+        } else {
+            write!(f, " jobs, longest {greatest} ms")
+        }
     }
-    let greatest = Millis {
-        micros: outcome.greatest,
-    };
-    write!(page, ", longest {greatest} ms")
 }
 
-// Behind the number of jobs, where there is room.
-fn put_wide_words(wide: u64, outcome: Outcome, page: &mut Page)
-    ensures { Adds page.old page.new (wide_words wide outcome.done outcome.greatest) }
-{
-    if wide < 1_860 {
-        return;
-    }
-    page.put(b" jobs");
-    put_longest(outcome, page)
-}
-
-// The number of jobs, below a band.
-fn put_count(x: u64, k: usize, count: usize, page: &mut Page)
-    requires place { x ≤ RIGHTMOST }
-    requires row { k ≤ TASK_LIMIT }
-    ensures { Adds page.old page.new (count_word x k count) }
-{
-    let left = x + 20;
-    let y = top_of(k) + 455;
-    write!(page, "<text x=\"{left}\" y=\"{y}\">{count}")
-}
-
-// What stands below a band from a place up to another.
-fn put_band_label(x: u64, right: u64, k: usize, count: usize, outcome: Outcome, page: &mut Page)
+// What stands below a band that reaches from a place up to another.
+fn put_label(x: u64, right: u64, k: usize, count: usize, outcome: Outcome, page: &mut Page)
     requires place { x ≤ RIGHTMOST }
     requires row { k ≤ TASK_LIMIT }
     ensures { Adds page.old page.new (band_label x right k count outcome.done outcome.greatest) }
 {
-    put_count(x, k, count, page);
-    put_wide_words(right.saturating_sub(x), outcome, page);
-    page.put(b"</text>\n")
-}
-
-// The same of a band with a first job.
-fn put_label_of(lane: &Lane<'_>, first: &JobRecord, band: Band, outcome: Outcome, page: &mut Page)
-    ensures { Adds page.old page.new (label_of lane.now.frame lane.now.spot.k lane.now.row.now
-        first.now band.count band.latest
-        outcome.done outcome.greatest) }
-{
-    let x = x_of(lane.frame, first.release);
-    let end = x_after(lane.frame, band.latest, limit_of(lane.row));
-    let right = bar_of(x, end, lane.spot.k).right;
-    put_band_label(x, right, lane.spot.k, band.count, outcome, page)
-}
-
-// A bracket in row k.
-fn put_bracket_at(x: u64, k: usize, page: &mut Page)
-    requires { k ≤ TASK_LIMIT }
-    ensures { Adds page.old page.new (bracket_at x k) }
-{
-    let y = top_of(k) + 155;
+    let wide = Wide {
+        wide: right.saturating_sub(x),
+        done: outcome.done,
+        greatest: outcome.greatest,
+    };
     write!(
         page,
-        "<path class=\"b\" d=\"M{x} {y}h-35m35 0v40m0 120v40h-35\"/>\n"
+        "<text x=\"{}\" y=\"{}\">{count}{wide}</text>\n",
+        x + 20,
+        top_of(k) + 455
     )
 }
 
-// One at a bound behind the latest arrival, where that is in the picture.
-fn put_bracket(frame: Frame, k: usize, latest: u64, bound: u64, page: &mut Page)
-    requires { k ≤ TASK_LIMIT }
-    ensures { Adds page.old page.new (bracket_text frame k latest bound) }
-{
-    if !is_shown(frame, latest, bound) {
-        return;
-    }
-    put_bracket_at(x_after(frame, latest, bound), k, page)
-}
-
-// The same, if there is a bound.
+// A bracket at a bound behind the latest arrival, if there is one, where that is in the picture.
 fn put_last_bound(lane: &Lane<'_>, latest: u64, page: &mut Page)
     ensures { Adds page.old page.new (last_bound lane.now.frame lane.now.spot.k latest
         lane.now.row.now.bound) }
 {
-    match lane.row.bound {
-        None => {}
-        Some(bound) => put_bracket(lane.frame, lane.spot.k, latest, bound, page),
-    }
+    let Some(bound) = lane.row.bound else {
+        return;
+    };
+    let shown = is_shown(lane.frame, latest, bound);
+    let x = x_after(lane.frame, latest, bound);
+    let y = top_of(lane.spot.k) + 155;
+    put_sign(shown, "b", x, y, "h-35m35 0v40m0 120v40h-35", page)
 }
 
-// A sign at the beginning, before which the first job of a band arrives.
-fn put_band_back(lane: &Lane<'_>, first: u64, page: &mut Page)
-    ensures { Adds page.old page.new (band_back lane.now.frame lane.now.spot.k first) }
-{
-    if is_before(lane.frame, first) {
-        put_back_sign(lane.frame, lane.spot.k, page)
-    }
-}
-
-// One at the end, behind which some job of it goes on.
-fn put_band_on(lane: &Lane<'_>, name: Name, jobs: &[JobRecord], page: &mut Page)
-    ensures { Adds page.old page.new (band_on lane.now.frame lane.now.spot.k name jobs.now) }
-{
-    if any_on(lane.frame, name, jobs) {
-        put_on_sign(lane.frame, lane.spot.k, page)
-    }
-}
-
-// A band whose box is in the window.
-fn put_seen_band(
-    lane: &Lane<'_>,
-    first: &JobRecord,
-    jobs: &[JobRecord],
-    band: Band,
-    outcome: Outcome,
-    page: &mut Page,
-)
-    ensures { Adds page.old page.new (seen_band lane.now.frame lane.now.spot.k lane.now.row.now
-        first.now jobs.now
-        band.count band.latest outcome.done outcome.greatest) }
-{
-    put_band_box(lane, first.release, band.latest, page);
-    put_band_title(lane, first, band, outcome, page);
-    put_label_of(lane, first, band, outcome, page);
-    put_last_bound(lane, band.latest, page);
-    put_band_back(lane, first.release, page);
-    put_band_on(lane, first.name, jobs, page)
-}
-
-// A band.
+// A band, where its box is in the window.
 fn put_band(
     lane: &Lane<'_>,
     first: &JobRecord,
@@ -221,25 +143,20 @@ fn put_band(
         first.now jobs.now
         band.count band.latest outcome.done outcome.greatest) }
 {
-    if sees_up_to(lane.frame, first.release, band.latest, limit_of(lane.row)) {
-        put_seen_band(lane, first, jobs, band, outcome, page)
+    if !sees_up_to(lane.frame, first.release, band.latest, limit_of(lane.row)) {
+        return;
     }
+    let bar = limit_box(lane, first.release, band.latest);
+    let row = lane.row;
+    put_band_box(bar, first, band, page);
+    put_band_words(outcome, row.bound, row.sheet.deadline(), page);
+    put_label(bar.x, bar.right, lane.spot.k, band.count, outcome, page);
+    put_last_bound(lane, band.latest, page);
+    let back = is_before(lane.frame, first.release);
+    put_signs(lane, back, any_on(lane.frame, first.name, jobs), page)
 }
 
-// A job alone, or the band of those of some jobs that are of its task.
-fn put_stand(lane: &Lane<'_>, first: &JobRecord, jobs: &[JobRecord], page: &mut Page)
-    ensures { Adds page.old page.new (stand_text lane.now.frame first.now jobs.now lane.now.spot.k
-        lane.now.row.now) }
-{
-    let band = band_in(jobs, first.name);
-    if band.count > 1 {
-        put_band(lane, first, jobs, band, outcome_of(jobs, first.name), page)
-    } else {
-        put_job_in(lane, first, page)
-    }
-}
-
-// Job i in a row; what joins one before it has been drawn with that.
+// Job i in a row, alone or with those that join it in a band; what joins one before it has been drawn with that.
 pub(crate) fn put_place(lane: &Lane<'_>, jobs: &[JobRecord], i: usize, page: &mut Page)
     requires { i < length jobs.now }
     ensures { Adds page.old page.new (place_text lane.now.frame jobs.now i lane.now.spot.k
@@ -250,17 +167,19 @@ pub(crate) fn put_place(lane: &Lane<'_>, jobs: &[JobRecord], i: usize, page: &mu
         return;
     }
     let first = job_at(jobs, i);
-    put_stand(lane, &first, stretch_of(gap, jobs, i), page)
+    let stretch = stretch_of(gap, jobs, i);
+    let band = band_in(stretch, first.name);
+    if band.count > 1 {
+        let outcome = outcome_of(stretch, first.name);
+        put_band(lane, &first, stretch, band, outcome, page)
+    } else {
+        put_job_in(lane, &first, page)
+    }
 }
 
 /// Puts the greatest response of jobs that are done, or `-` for none.
 pub fn put_greatest(outcome: Outcome, page: &mut Page)
     ensures { Adds page.old page.new (greatest_words outcome.done outcome.greatest) }
 {
-    if outcome.done == 0 {
-        page.put(b"-");
-        return;
-    }
-    let greatest = outcome.greatest;
-    write!(page, "{greatest}")
+    write!(page, "{}", greatest_of(outcome))
 }

@@ -1,17 +1,21 @@
 //! Jobs, from their arrivals up to their bounds.
-ghost use Rattle.std.specs.Prelude.{◌<◌, ◌≡◌, ◌≤◌, length};
+ghost use Rattle.std.specs.Prelude.{◌+◌, ◌<◌, ◌≡◌, ◌≤◌, Some, length};
+ghost use Rattle.frames.specs.Boxes.{box_path};
+ghost use Rattle.frames.specs.Frame.{right_of, x_of};
+ghost use Rattle.frames.specs.declared.frame.TheConstants.{RIGHTMOST};
 ghost use Rattle.frames.specs.Page.{Adds};
-ghost use Rattle.task_sheet.specs.declared.set.TheConstants.{TASK_LIMIT};
 ghost use Rattle.frames.specs.Rows.{on_spot, record_at};
 ghost use Rattle.job_boxes.specs.Bands.{jobs_text, place_text};
-ghost use Rattle.job_boxes.specs.Jobs.{arrival_words, back_sign, back_text, done_words, goes_back, goes_on, job_box, job_text, job_words, limit_of, limit_words, on_sign, on_text, seen_job};
+ghost use Rattle.job_boxes.specs.Jobs.{goes_back, goes_on, job_box, job_signs, job_text, job_words, limit_of, limit_path, sign_text, signs_text};
 
 use crate::band::put_place;
 use ceiling_kernel::JobRecord;
 use frames::{
-    Chart, Frame, Known, Lane, Page, TaskRow, bar_of, end_of, ended, name_of, sees_from, start_of,
-    top_of, x_after, x_of,
+    Bar, Chart, Frame, Known, Lane, Page, TaskRow, bar_of, end_of, ended, name_of, sees_from,
+    start_of, top_of, x_after, x_of,
 };
+use std::fmt;
+use std::io::Write;
 
 // How long after its arrival a job of a row's task is done at the latest, or without a bound has to be.
 pub(crate) fn limit_of(row: &TaskRow) -> u64
@@ -37,123 +41,102 @@ pub(crate) fn goes_on(frame: Frame, finish: Option<u64>) -> bool
     }
 }
 
-// The box of a job.
-fn put_box(lane: &Lane<'_>, job: &JobRecord, page: &mut Page)
-    ensures { Adds page.old page.new (job_box lane.now.frame lane.now.spot.k lane.now.row.now
-        job.now) }
-{
-    let x = x_of(lane.frame, job.release);
-    let right = x_after(lane.frame, job.release, limit_of(lane.row));
-    let bar = bar_of(x, right, lane.spot.k);
-    write!(page, "<path class=\"w\" d=\"{bar}\"><title>")
+// A job as it is told: whose it is, when it arrives and is done, and how long after its arrival.
+#[derive(Clone, Copy)]
+pub(crate) struct Told {
+    pub(crate) job: JobRecord,
 }
 
-// Whose job it is, and when it arrives.
-pub(crate) fn put_arrival_words(job: &JobRecord, page: &mut Page)
-    ensures { Adds page.old page.new (arrival_words job.now) }
-{
-    let name = job.name;
-    let release = job.release;
-    write!(page, "{name}: arrival {release}, ")
-}
+impl fmt::Display for Told {
+    ghost output = { λ t. Some (job_words t.job.name t.job.release t.job.finish) };
 
-// When it is done, and how long after its arrival, if it is.
-pub(crate) fn put_finish_words(job: &JobRecord, page: &mut Page)
-    ensures { Adds page.old page.new (done_words job.now job.now.finish) }
-{
-    match job.finish {
-        Some(finish) => {
-            let response = finish.saturating_sub(job.release);
-            write!(page, "done {finish}, response {response}, ")
+    fn fmt<W: fmt::Write>(&self, f: &mut fmt::Formatter<W>) -> fmt::Result {
+        let name = self.job.name;
+        let arrival = self.job.release;
+        match self.job.finish {
+            Some(finish) => {
+                let response = finish.saturating_sub(arrival);
+                write!(
+                    f,
+                    "{name}: arrival {arrival}, done {finish}, response {response}"
+                )
+            }
+            None => write!(f, "{name}: arrival {arrival}, not done"),
         }
-        None => page.put(b"not done, "),
     }
 }
 
-// How long after its arrival a job is done at the latest, where that is known, and has to be.
-pub(crate) fn put_limit_words(row: &TaskRow, page: &mut Page)
-    ensures { Adds page.old page.new (limit_words row.now) }
+// A box from an arrival up to the bound or deadline of a job that arrives then or later.
+pub(crate) fn limit_box(lane: &Lane<'_>, first: u64, latest: u64) -> Bar
+    ensures path { box_path result.x result.right result.y result.high ≡ limit_path lane.now.frame
+        lane.now.spot.k
+        lane.now.row.now first latest }
+    ensures x { result.x ≡ x_of lane.now.frame first }
+    ensures right { result.right ≡ right_of lane.now.frame first (latest + limit_of lane.now.row.now) }
+    ensures within { result.x ≤ RIGHTMOST }
 {
-    let bound = Known { bound: row.bound };
-    let deadline = row.sheet.deadline();
+    let right = x_after(lane.frame, latest, limit_of(lane.row));
+    bar_of(x_of(lane.frame, first), right, lane.spot.k)
+}
+
+// The box of a job, and what is told of it.
+fn put_box(bar: Bar, bound: Option<u64>, deadline: u64, job: &JobRecord, page: &mut Page)
+    ensures { Adds page.old page.new (job_box (box_path bar.x bar.right bar.y bar.high) bound
+        deadline job.now) }
+{
+    let told = Told { job: *job };
+    let bound = Known { bound };
     write!(
         page,
-        "bound {bound}, deadline {deadline} us</title></path>\n"
+        "<path class=\"w\" d=\"{bar}\"><title>{told}, bound {bound}, deadline {deadline} us</title></path>\n"
     )
 }
 
-// A sign at the beginning.
-pub(crate) fn put_back_sign(frame: Frame, k: usize, page: &mut Page)
-    requires { k ≤ TASK_LIMIT }
-    ensures { Adds page.old page.new (back_sign frame k) }
+// A sign of a class and a shape, where it is wanted.
+pub(crate) fn put_sign(wanted: bool, class: &str, x: u64, y: u64, shape: &str, page: &mut Page)
+    ensures { Adds page.old page.new (sign_text wanted class.now x y shape.now) }
 {
-    let left = start_of(frame);
-    let y = top_of(k) + 195;
-    write!(
-        page,
-        "<path class=\"a\" d=\"M{left} {y}m-20 0l-60 60 60 60m-60-120l-60 60 60 60\"/>\n"
-    )
-}
-
-// The same of a job that goes on before the window.
-pub(crate) fn put_back(lane: &Lane<'_>, job: &JobRecord, page: &mut Page)
-    ensures { Adds page.old page.new (back_text lane.now.frame lane.now.spot.k job.now) }
-{
-    if goes_back(lane.frame, job) {
-        put_back_sign(lane.frame, lane.spot.k, page)
+    if !wanted {
+        return;
     }
+    write!(page, "<path class=\"{class}\" d=\"M{x} {y}{shape}\"/>\n")
 }
 
-// A sign at the end.
-pub(crate) fn put_on_sign(frame: Frame, k: usize, page: &mut Page)
-    requires { k ≤ TASK_LIMIT }
-    ensures { Adds page.old page.new (on_sign frame k) }
+// Signs at the beginning and at the end, for what goes on before the window and behind it.
+pub(crate) fn put_signs(lane: &Lane<'_>, back: bool, on: bool, page: &mut Page)
+    ensures { Adds page.old page.new (signs_text lane.now.frame lane.now.spot.k back on) }
 {
-    let end = end_of(frame);
-    let y = top_of(k) + 195;
-    write!(
+    let y = top_of(lane.spot.k) + 195;
+    let shape = "m-20 0l-60 60 60 60m-60-120l-60 60 60 60";
+    put_sign(back, "a", start_of(lane.frame), y, shape, page);
+    let shape = "m20 0l60 60-60 60m60-120l60 60-60 60";
+    put_sign(on, "a", end_of(lane.frame), y, shape, page)
+}
+
+// Those of a job.
+pub(crate) fn put_job_signs(lane: &Lane<'_>, job: &JobRecord, page: &mut Page)
+    ensures { Adds page.old page.new (job_signs lane.now.frame lane.now.spot.k job.now) }
+{
+    let frame = lane.frame;
+    put_signs(
+        lane,
+        goes_back(frame, job),
+        goes_on(frame, job.finish),
         page,
-        "<path class=\"a\" d=\"M{end} {y}m20 0l60 60-60 60m60-120l60 60-60 60\"/>\n"
     )
 }
 
-// The same of a job that goes on behind the window.
-pub(crate) fn put_on(lane: &Lane<'_>, job: &JobRecord, page: &mut Page)
-    ensures { Adds page.old page.new (on_text lane.now.frame lane.now.spot.k job.now.finish) }
-{
-    if goes_on(lane.frame, job.finish) {
-        put_on_sign(lane.frame, lane.spot.k, page)
-    }
-}
-
-// What is told of a job.
-fn put_job_words(row: &TaskRow, job: &JobRecord, page: &mut Page)
-    ensures { Adds page.old page.new (job_words row.now job.now) }
-{
-    put_arrival_words(job, page);
-    put_finish_words(job, page);
-    put_limit_words(row, page)
-}
-
-// A job whose box is in the window.
-fn put_seen_job(lane: &Lane<'_>, job: &JobRecord, page: &mut Page)
-    ensures { Adds page.old page.new (seen_job lane.now.frame job.now lane.now.spot.k
-        lane.now.row.now) }
-{
-    put_box(lane, job, page);
-    put_job_words(lane.row, job, page);
-    put_back(lane, job, page);
-    put_on(lane, job, page)
-}
-
-// A job in a row.
+// A job in a row, where its box is in the window.
 pub(crate) fn put_job_in(lane: &Lane<'_>, job: &JobRecord, page: &mut Page)
     ensures { Adds page.old page.new (job_text lane.now.frame job.now lane.now.spot.k
         lane.now.row.now) }
 {
-    if sees_from(lane.frame, job.release, limit_of(lane.row)) {
-        put_seen_job(lane, job, page)
+    if !sees_from(lane.frame, job.release, limit_of(lane.row)) {
+        return;
     }
+    let bar = limit_box(lane, job.release, job.release);
+    put_box(bar, lane.row.bound, lane.row.sheet.deadline(), job, page);
+    put_job_signs(lane, job, page)
 }
 
 // Job i in the row of its task, alone or in a band.

@@ -3,18 +3,17 @@ ghost use Rattle.std.specs.Prelude.{◌+◌, ◌<◌, ◌≡◌, length};
 ghost use Rattle.ceiling_kernel.specs.Releases.{release_at};
 ghost use Rattle.frames.specs.Page.{Adds};
 ghost use Rattle.frames.specs.Frame.{is_in};
-ghost use Rattle.frames.specs.Rows.{on_spot};
-ghost use Rattle.job_boxes.specs.Marks.{all_marks, arrival_text, bound_text, later_text, mark_alone, mark_head, mark_text, marks_text, ready_text};
+ghost use Rattle.job_boxes.specs.Marks.{all_marks, later_text, mark_alone, mark_text, marks_text, ready_text};
 
 use crate::band::gap_of;
 use ceiling_kernel::Release;
 use frames::{
-    Chart, Frame, Lane, Page, is_by_end, is_from_start, is_in, sees_from, top_of, x_after, x_of,
+    Chart, Frame, Lane, Page, is_by_end, is_from_start, sees_from, top_of, x_after, x_of,
 };
 use pieces::is_banded;
 
 // The kinds of marks.
-#[derive(Clone, Copy, Debug, PartialEq, Eq)]
+#[derive(Clone, Copy)]
 enum Mark {
     // An arrow up at the arrival.
     Arrival,
@@ -41,17 +40,6 @@ fn release_at(releases: &[Release], i: usize) -> Release
     releases[i]
 }
 
-// An arrow up at the arrival, where that is in the picture.
-fn put_arrival(frame: Frame, release: Release, y: u64, page: &mut Page)
-    ensures { Adds page.old page.new (arrival_text frame release y) }
-{
-    if !is_in(frame, release.time) {
-        return;
-    }
-    let x = x_of(frame, release.time);
-    write!(page, "M{x} {y}v-100m-35 50l35-50 35 50\n")
-}
-
 // A line to when the job becomes ready, where that is later.
 fn put_ready(frame: Frame, release: Release, y: u64, page: &mut Page)
     ensures { Adds page.old page.new (ready_text frame release y) }
@@ -75,16 +63,6 @@ fn put_later(frame: Frame, release: Release, len: u64, y: u64, shape: &str, page
     write!(page, "M{x} {y}{shape}")
 }
 
-// A bracket at the bound, where there is one.
-fn put_bound(frame: Frame, release: Release, y: u64, bound: Option<u64>, page: &mut Page)
-    ensures { Adds page.old page.new (bound_text frame release y bound) }
-{
-    match bound {
-        None => {}
-        Some(len) => put_later(frame, release, len, y, "h-35m35 0v40m0 120v40h-35\n", page),
-    }
-}
-
 // The mark of a release in a row.
 fn put_mark_in(mark: Mark, release: Release, lane: &Lane<'_>, page: &mut Page)
     ensures { Adds page.old page.new (mark_text lane.now.frame mark release lane.now.spot.k
@@ -94,37 +72,23 @@ fn put_mark_in(mark: Mark, release: Release, lane: &Lane<'_>, page: &mut Page)
     let row = lane.row;
     let top = top_of(lane.spot.k);
     match mark {
-        Mark::Arrival => put_arrival(frame, release, top + 450, page),
+        Mark::Arrival => {
+            let shape = "v-100m-35 50l35-50 35 50\n";
+            put_later(frame, release, 0, top + 450, shape, page)
+        }
         Mark::Ready => put_ready(frame, release, top + 255, page),
-        Mark::Bound => put_bound(frame, release, top + 155, row.bound, page),
+        Mark::Bound => match row.bound {
+            None => {}
+            Some(len) => {
+                let shape = "h-35m35 0v40m0 120v40h-35\n";
+                put_later(frame, release, len, top + 155, shape, page)
+            }
+        },
         Mark::Deadline => {
             let shape = "v100m0 0l-35-50h70z\n";
             let len = row.sheet.deadline();
             put_later(frame, release, len, top + 60, shape, page)
         }
-    }
-}
-
-// The mark of a release.
-fn put_mark(chart: &Chart<'_>, mark: Mark, release: Release, page: &mut Page)
-    ensures { Adds page.old page.new (on_spot chart.now.rows.now chart.now.shown.now release.name
-        (λ s row. mark_text chart.now.frame mark release s.k row)) }
-{
-    match chart.spot_of(release.name) {
-        None => {}
-        Some(spot) => put_mark_in(mark, release, &chart.lane(spot), page),
-    }
-}
-
-// What opens the marks of a kind.
-fn put_mark_head(mark: Mark, page: &mut Page)
-    ensures { Adds page.old page.new (mark_head mark) }
-{
-    match mark {
-        Mark::Arrival => page.put(b"<path class=\"a\" d=\"\n"),
-        Mark::Ready => page.put(b"<path class=\"r\" d=\"\n"),
-        Mark::Bound => page.put(b"<path class=\"b\" d=\"\n"),
-        Mark::Deadline => page.put(b"<path class=\"d\" d=\"\n"),
     }
 }
 
@@ -138,16 +102,20 @@ fn put_mark_alone(chart: &Chart<'_>, mark: Mark, i: usize, page: &mut Page)
     if is_banded(gap_of(chart.frame), chart.jobs, i) {
         return;
     }
-    put_mark(chart, mark, release_at(chart.releases, i), page)
+    let release = release_at(chart.releases, i);
+    let Some(spot) = chart.spot_of(release.name) else {
+        return;
+    };
+    put_mark_in(mark, release, &chart.lane(spot), page)
 }
 
-// The marks of a kind, as one path.
-fn put_marks(chart: &Chart<'_>, mark: Mark, page: &mut Page)
+// The marks of a kind, as one path of a class.
+fn put_marks(chart: &Chart<'_>, mark: Mark, class: &str, page: &mut Page)
     ensures { Adds page.old page.new (marks_text chart.now.frame chart.now.rows.now
-        chart.now.shown.now chart.now.jobs.now mark
+        chart.now.shown.now chart.now.jobs.now mark class.now
         chart.now.releases.now) }
 {
-    put_mark_head(mark, page);
+    write!(page, "<path class=\"{class}\" d=\"\n");
     for i in 0..chart.releases.len() {
         put_mark_alone(chart, mark, i, page);
     }
@@ -160,8 +128,8 @@ pub fn put_all_marks(chart: &Chart<'_>, page: &mut Page)
         chart.now.shown.now chart.now.jobs.now
         chart.now.releases.now) }
 {
-    put_marks(chart, Mark::Ready, page);
-    put_marks(chart, Mark::Arrival, page);
-    put_marks(chart, Mark::Bound, page);
-    put_marks(chart, Mark::Deadline, page)
+    put_marks(chart, Mark::Ready, "r", page);
+    put_marks(chart, Mark::Arrival, "a", page);
+    put_marks(chart, Mark::Bound, "b", page);
+    put_marks(chart, Mark::Deadline, "d", page)
 }

@@ -1,10 +1,10 @@
 //! Jobs that miss their deadlines.
-ghost use Rattle.std.specs.Prelude.{◌+◌, ◌≡◌, nat_le};
+ghost use Rattle.std.specs.Prelude.{◌+◌, ◌≡◌};
 ghost use Rattle.frames.specs.Page.{Adds};
-ghost use Rattle.frames.specs.Frame.{top_of, x_of};
-ghost use Rattle.job_boxes.specs.Misses.{all_missed, badge_after, badge_text, due_badge, due_words, has_badge, hatch_text, is_clear, is_late, is_seen_late, is_seen_miss, late_signs, miss_text, missed_in, missed_text, misses, misses_in, misses_text, row_misses};
+ghost use Rattle.frames.specs.Boxes.{box_path};
+ghost use Rattle.job_boxes.specs.Misses.{all_missed, badge_after, badge_text, due_badge, has_badge, hatch_path, hatch_text, is_clear, is_late, is_seen_miss, late_signs, miss_text, missed_in, misses, misses_in, misses_text, row_misses};
 
-use crate::jobs::{limit_of, put_arrival_words, put_back, put_finish_words, put_on};
+use crate::jobs::{Told, limit_of, put_job_signs};
 use ceiling_kernel::JobRecord;
 use frames::{
     Bar, Chart, Frame, Lane, Page, TaskRow, ended, find_row, is_by_end, is_from_start, job_at,
@@ -65,27 +65,13 @@ pub fn all_missed(frame: Frame, rows: &[TaskRow], jobs: &[JobRecord]) -> usize
     count
 }
 
-// Whether the deadline of a job isn't before the window.
-fn is_due_from_start(frame: Frame, row: &TaskRow, job: &JobRecord) -> bool
-    ensures { result ≡ nat_le frame.from (job.now.release + row.now.sheet.deadline) }
-{
-    is_from_start(frame, job.release, row.sheet.deadline())
-}
-
 // Whether a job of a row's task misses its deadline in the window.
-fn is_seen_late(frame: Frame, row: &TaskRow, job: &JobRecord) -> bool
-    ensures { result ≡ is_seen_late frame row.now job.now }
-{
-    is_late(frame, row, job)
-        && is_by_end(frame, job.release, row.sheet.deadline())
-        && frame.from < ended(frame, job)
-}
-
-// Whether it is one of its task, too.
 fn is_seen_miss(frame: Frame, row: &TaskRow, job: &JobRecord) -> bool
     ensures { result ≡ is_seen_miss frame row.now job.now }
 {
-    job.name == row.sheet.name() && is_seen_late(frame, row, job)
+    misses_in(frame, row, job)
+        && is_by_end(frame, job.release, row.sheet.deadline())
+        && frame.from < ended(frame, job)
 }
 
 // Whether the last badge, if there is one, is 18 pixels before a place.
@@ -102,8 +88,9 @@ fn is_clear(last: Option<u64>, x: u64) -> bool
 fn has_badge(frame: Frame, row: &TaskRow, last: Option<u64>, job: &JobRecord) -> bool
     ensures { result ≡ has_badge frame last (job.now.release + row.now.sheet.deadline) }
 {
-    let x = x_after(frame, job.release, row.sheet.deadline());
-    is_due_from_start(frame, row, job) && is_clear(last, x)
+    let deadline = row.sheet.deadline();
+    let x = x_after(frame, job.release, deadline);
+    is_from_start(frame, job.release, deadline) && is_clear(last, x)
 }
 
 // The last badge behind a job.
@@ -128,46 +115,43 @@ pub fn put_badge(x: u64, y: u64, page: &mut Page)
 }
 
 // From the deadline up to the finish, or to the end.
-fn put_hatch(lane: &Lane<'_>, job: &JobRecord, page: &mut Page)
-    ensures { Adds page.old page.new (hatch_text lane.now.frame lane.now.spot.k lane.now.row.now
-        job.now) }
+fn hatch_box(lane: &Lane<'_>, job: &JobRecord) -> Bar
+    ensures { box_path result.x result.right result.y result.high ≡ hatch_path lane.now.frame
+        lane.now.spot.k
+        lane.now.row.now job.now }
 {
     let x = x_after(lane.frame, job.release, lane.row.sheet.deadline());
-    let hatch = Bar {
+    Bar {
         x,
         right: x_of(lane.frame, ended(lane.frame, job)).max(x + 20),
         y: top_of(lane.spot.k) + 145,
         high: 220,
-    };
-    write!(page, "<path class=\"z\" d=\"{hatch}\"><title>")
+    }
 }
 
-// The deadline, behind when the job arrives and is done.
-fn put_due_words(row: &TaskRow, page: &mut Page)
-    ensures { Adds page.old page.new (due_words row.now) }
+// That, and what is told of it.
+fn put_hatch(bar: Bar, row: &TaskRow, job: &JobRecord, page: &mut Page)
+    ensures { Adds page.old page.new (hatch_text (box_path bar.x bar.right bar.y bar.high) row.now
+        job.now) }
 {
+    let told = Told { job: *job };
     let deadline = row.sheet.deadline();
-    write!(page, "deadline {deadline} us missed</title></path>\n")
+    write!(
+        page,
+        "<path class=\"z\" d=\"{bar}\"><title>{told}, deadline {deadline} us missed</title></path>\n"
+    )
 }
 
-// A badge at the deadline.
-fn put_badge_at(lane: &Lane<'_>, job: &JobRecord, page: &mut Page)
-    ensures { Adds page.old page.new (badge_text (x_of lane.now.frame (job.now.release +
-        lane.now.row.now.sheet.deadline))
-        (top_of lane.now.spot.k + 85)) }
-{
-    let x = x_after(lane.frame, job.release, lane.row.sheet.deadline());
-    put_badge(x, top_of(lane.spot.k) + 85, page)
-}
-
-// The same, where that has a badge.
+// A badge at the deadline, where that has one.
 fn put_due_badge(lane: &Lane<'_>, last: Option<u64>, job: &JobRecord, page: &mut Page)
     ensures { Adds page.old page.new (due_badge lane.now.frame lane.now.spot.k last
         (job.now.release + lane.now.row.now.sheet.deadline)) }
 {
-    if has_badge(lane.frame, lane.row, last, job) {
-        put_badge_at(lane, job, page)
+    if !has_badge(lane.frame, lane.row, last, job) {
+        return;
     }
+    let x = x_after(lane.frame, job.release, lane.row.sheet.deadline());
+    put_badge(x, top_of(lane.spot.k) + 85, page)
 }
 
 // Signs where a job goes on before and behind the window, whose box isn't in it.
@@ -178,21 +162,7 @@ fn put_late_signs(lane: &Lane<'_>, job: &JobRecord, page: &mut Page)
     if sees_from(lane.frame, job.release, limit_of(lane.row)) {
         return;
     }
-    put_back(lane, job, page);
-    put_on(lane, job, page)
-}
-
-// That, with what is told of it, a badge at the deadline, and those signs.
-fn put_missed(lane: &Lane<'_>, last: Option<u64>, job: &JobRecord, page: &mut Page)
-    ensures { Adds page.old page.new (missed_text lane.now.frame lane.now.spot.k lane.now.row.now
-        last job.now) }
-{
-    put_hatch(lane, job, page);
-    put_arrival_words(job, page);
-    put_finish_words(job, page);
-    put_due_words(lane.row, page);
-    put_due_badge(lane, last, job, page);
-    put_late_signs(lane, job, page)
+    put_job_signs(lane, job, page)
 }
 
 // A job in a row, if it misses its deadline in the window.
@@ -200,9 +170,12 @@ fn put_miss(lane: &Lane<'_>, last: Option<u64>, job: &JobRecord, page: &mut Page
     ensures { Adds page.old page.new (miss_text lane.now.frame lane.now.spot.k lane.now.row.now
         last job.now) }
 {
-    if is_seen_miss(lane.frame, lane.row, job) {
-        put_missed(lane, last, job, page)
+    if !is_seen_miss(lane.frame, lane.row, job) {
+        return;
     }
+    put_hatch(hatch_box(lane, job), lane.row, job, page);
+    put_due_badge(lane, last, job, page);
+    put_late_signs(lane, job, page)
 }
 
 // Those of a row.

@@ -1,6 +1,14 @@
 use Rattle.bars.proofs.bars.put_slice.Goals as goal
 
-pub returns-in-Some-clause-put : goal.returns-in-Some-clause-put
-returns-in-Some-clause-put c =
-    rw (← c.count_slice-before.ensures.before, ← c.job_of.ensures, c.in-Some.is)
-    c.put_slice_of.ensures
+pub returns-clause-put : goal.returns-clause-put
+returns-clause-put c = rw (
+  ← c.count_slice-before.ensures.before,
+  ← c.job_of.ensures,
+  c.in-Some.is,
+  ← c.spot_of.ensures.spot,
+  c.in-Some-spot_of.is,
+  ← c.lane.ensures.row,
+  ← c.lane.ensures.frame,
+  ← c.lane.ensures.locks,
+  ← c.lane.ensures.spot,
+) c.put_slice_in.ensures

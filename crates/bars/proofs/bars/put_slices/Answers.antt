@@ -1,6 +1,5 @@
-use Rattle.std.proofs.Common.{◌+◌, List, ℕ, subst, sym, refl}
+use Rattle.std.proofs.Common.{◌+◌, List, ℕ, subst, sym}
 use Rattle.frames.specs.Page.{Adds}
-use Rattle.frames.specs.Slices.{slice_at}
 use Rattle.bars.specs.Bars.{slice_in}
 use Rattle.frames.proofs.Adds.{adds_none, adds_one_more}
 use Rattle.bars.proofs.Counts.{AreCounts, none_counted, one_counted, counted_text}
@@ -23,14 +22,12 @@ loop-slice-preserved c =
     let jobs = c.args.chart.now.jobs.now in
     let slices = c.args.chart.now.slices.now in
     let n = c.loop-slice.slice-index in
-    let slice = slice_at slices n in
     record {
       put = adds_one_more (slice_in c.args.chart.now.frame c.args.chart.now.locks.now rows shown
           jobs slices) n c.loop-slice.invariant.put
           (subst puts (counted_text c.args.chart.now.frame c.args.chart.now.locks.now rows shown
-          jobs slices c.loop-slice.executed n slice refl c.loop-slice.invariant.counts)
-          c.put_slice.ensures.put);
+          jobs slices c.loop-slice.executed n c.loop-slice.invariant.counts) c.put_slice.ensures.put);
       counts = subst (λ (ticks : List ℕ). AreCounts ticks jobs slices (n + 1))
           (sym c.put_slice.ensures.counted) (one_counted c.loop-slice.executed jobs slices n
-          slice refl c.loop-slice.invariant.counts);
+          c.loop-slice.invariant.counts);
     }

@@ -1,4 +1,4 @@
-use Rattle.std.specs.Prelude.{Ok, slice_index_or, []}
+use Rattle.std.specs.Prelude.{slice_index_or, []}
 use Rattle.frames.specs.Rows.{each}
 use Rattle.frames.specs.Page.{Adds}
 use Rattle.bars.specs.Stripes.{lock_text}

@@ -1,4 +1,4 @@
-use Rattle.std.specs.Prelude.{Ok, length, slice_index_or, []}
+use Rattle.std.specs.Prelude.{length, slice_index_or, []}
 use Rattle.frames.specs.Rows.{each}
 use Rattle.frames.specs.Page.{Adds}
 use Rattle.bars.specs.Stripes.{stripe_text}

@@ -1,14 +1,33 @@
-use Rattle.std.proofs.Common.{ℕ, List}
-use Rattle.job_boxes.proofs.BandLaws.{apart_text}
-use Rattle.frames.proofs.Adds.{adds_same}
+use Rattle.std.proofs.lemmas.Bool.{lt-ltb, le-ltb}
 use Rattle.job_boxes.proofs.band.put_place.Goals as goal
 
-pub returns : goal.returns
-returns c =
-    let lane = c.args.lane.now in
-    adds_same (λ (text : List ℕ). text)
-    (apart_text lane.frame c.args.jobs.now c.args.i lane.spot.k lane.row.now c.gap_of-gap.result
-    c.joins.result c.job_at-first.result c.stretch_of.result.now
-    c.gap_of-gap.ensures c.joins.ensures c.if-joins.false c.job_at-first.ensures
-    c.stretch_of.ensures)
-    c.put_stand.ensures
+pub returns-then-band-gt1 : goal.returns-then-band-gt1
+returns-then-band-gt1 c =
+    let band = c.band_in-band in
+    let outcome = c.outcome_of-outcome.ensures in
+    rw (
+      ← c.gap_of-gap.ensures,
+      ← c.joins.ensures,
+      c.if-joins.false,
+      ← c.stretch_of-stretch.ensures,
+      ← c.job_at-first.ensures,
+      ← band.ensures.count,
+      ← band.ensures.latest,
+      ← outcome.done,
+      ← outcome.greatest,
+      lt-ltb 1 band.result.count c.if-band-gt1.true,
+    ) c.put_band.ensures
+
+pub returns-else-band-gt1 : goal.returns-else-band-gt1
+returns-else-band-gt1 c =
+    let band = c.band_in-band in
+    rw (
+      ← c.gap_of-gap.ensures,
+      ← c.joins.ensures,
+      c.if-joins.false,
+      ← c.stretch_of-stretch.ensures,
+      ← c.job_at-first.ensures,
+      ← band.ensures.count,
+      le-ltb 1 band.result.count c.if-band-gt1.false,
+    )
+    c.put_job_in.ensures

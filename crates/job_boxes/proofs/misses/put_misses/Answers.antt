@@ -1,12 +1,6 @@
-use Rattle.std.proofs.Common.{ℕ, List}
 use Rattle.job_boxes.specs.Misses.{row_misses}
 use Rattle.frames.specs.Rows.{row_at, spot_in}
-use Rattle.frames.specs.Frame.{Frame}
-use Rattle.frames.specs.declared.rows.Spot.{Spot}
-use Rattle.frames.specs.declared.rows.TaskRow.{TaskRow}
 use Rattle.frames.proofs.Adds.{adds_none, adds_one_more}
-use Rattle.frames.proofs.Lanes.{adds_in_lane}
-use Rattle.frames.proofs.Adds.{adds_same}
 use Rattle.job_boxes.proofs.misses.put_misses.Goals as goal
 
 pub loop-k-init : goal.loop-k-init
@@ -16,15 +10,8 @@ loop-k-init c = adds_none c.args.page.now (λ k. row_misses
 
 pub loop-k-preserved : goal.loop-k-preserved
 loop-k-preserved c =
-    let text : Frame → Spot → TaskRow → List ℕ =
-    λ f s row. row_misses f c.args.chart.now.jobs.now s.k row in
-    let rows = c.args.chart.now.rows.now in
-    let frame = c.args.chart.now.frame in
-    let shown = c.args.chart.now.shown.now in
-    let k = c.loop-k.k in
-    let missed = adds_in_lane text rows frame c.spot.result c.lane.result.frame c.lane.result.spot
-    c.lane.result.row.now c.lane.ensures.frame c.lane.ensures.spot c.lane.ensures.row
-    c.put_row_misses.ensures in
-    adds_one_more (λ k. text frame (spot_in shown k) (row_at rows (spot_in shown k).rank)) k
-    c.loop-k.invariant
-    (adds_same (λ (s : Spot). text frame s (row_at rows s.rank)) c.spot.ensures.spot missed)
+    let chart = c.args.chart.now in
+    adds_one_more (λ k. row_misses chart.frame chart.jobs.now (spot_in chart.shown.now k).k
+    (row_at chart.rows.now (spot_in chart.shown.now k).rank)) c.loop-k.k c.loop-k.invariant
+    (rw (c.lane.ensures.frame, c.lane.ensures.spot, c.lane.ensures.row, c.spot.ensures.spot)
+    at c.put_row_misses.ensures)
