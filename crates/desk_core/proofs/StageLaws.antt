@@ -1,7 +1,8 @@
 -- How far the test of a draft has come, from stage to stage.
 use Rattle.std.proofs.Common.{◌≡◌, ◌∙◌, ◌↔◌, ℕ, zero, suc, ◌<◌, List, [], length, map, None, Result}
-use Rattle.std.proofs.Common.{Ok, Err, Box, Global, IfOk, IsTrue, refl, sym, ap, subst, arith}
+use Rattle.std.proofs.Common.{Ok, Err, Box, Global, IsTrue, refl, sym, ap, subst, arith}
 use Rattle.std.specs.Ordering.{nat_cmp}
+use Rattle.std.specs.Global.{Vec}
 use Rattle.std.specs.declared.sync.Arc.{Arc}
 use Rattle.std.specs.FinSet.{FinSet, contains, empty}
 use Rattle.std.proofs.lemmas.Bool.{lt-ltb}
@@ -13,7 +14,6 @@ use Rattle.task_sheet.specs.Choices.{level_at}
 use Rattle.task_sheet.proofs.MembersIndexes.{indexes_of-all_below, indexes_of-empty}
 use Rattle.drafts.specs.declared.roster.Owned.{Owned}
 use Rattle.drafts.specs.declared.change.Refusal.{Refusal}
-use Rattle.desk_core.specs.declared.events.Standing.{Standing}
 use Rattle.desk_core.specs.declared.events.Standing.TheVariants as standing
 use Rattle.desk_core.specs.declared.notes.Notes.{Notes}
 use Rattle.desk_core.specs.declared.stage.Kept.{Kept}
@@ -21,10 +21,10 @@ use Rattle.desk_core.specs.declared.stage.Stage.{Stage}
 use Rattle.desk_core.specs.declared.stage.Stage.TheVariants.{Trying, Tested}
 use Rattle.drafts.specs.Applied.{set_of}
 use Rattle.desk_core.specs.Trials.{TrialData, names_of}
-use Rattle.desk_core.specs.Findings.{Asked, IsTested}
+use Rattle.desk_core.specs.Findings.{Asked, level_of, IsTested}
 use Rattle.desk_core.specs.World.{IsTestedOn, IsShown}
 use Rattle.desk_core.specs.Stages.{found_of, IsKeptOn, IsStage, IsTrialOn}
-use Rattle.desk_core.specs.Standings.{IsNaming, IsStandingOn, IsQuestionOn}
+use Rattle.desk_core.specs.Standings.{IsStandingOn, IsQuestionOn}
 use Rattle.drafts.specs.Edits.{HasTasks}
 use Rattle.desk_core.proofs.FindingLaws.{fresh-undecided}
 
@@ -93,43 +93,28 @@ trying-rest (Ok tasks) trial set members kept found so of_set tested shown same 
   right tasks (sym so),
 )
 
--- the verdict of a test that is complete, and one kept in its place
+-- the verdict of a test that is complete is right, and so is the stage with another one that is
 pub tested-kept : (outcome : Result (List Owned) Refusal) (stage : Stage)
     (set : Arc (List Task) Global) (members : FinSet nat_cmp) (kept : Kept) (found : Notes)
     → stage ≡ Tested set members kept found → IsStage outcome stage → IsKeptOn outcome kept
+    × ((other : Kept) → IsKeptOn outcome other → IsStage outcome (Tested set members other found))
 tested-kept (Err refusal) stage set members kept found is so =
     absurd (subst (λ (s : Stage). IsStage (Err refusal) s) is so)
 tested-kept (Ok tasks) stage set members kept found is so =
-    (subst (λ (s : Stage). IsStage (Ok tasks) s) is so).3
-
-pub kept-again : (outcome : Result (List Owned) Refusal) (set : Arc (List Task) Global)
-    (members : FinSet nat_cmp) (kept other : Kept) (found : Notes)
-    → (IsKeptOn outcome kept → IsKeptOn outcome other) → IsStage outcome
-    (Tested set members kept found) → IsStage outcome (Tested set members other found)
-kept-again (Err refusal) set members kept other found right so = absurd so
-kept-again (Ok tasks) set members kept other found right so = (so.0, so.1, so.2, right so.3)
+    let now = subst (λ (s : Stage). IsStage (Ok tasks) s) is so in
+    (now.3, λ other right. (now.0, now.1, now.2, right))
 
 -- ---- where it stands
-pub tested-standing : {E : Type 0} (outcome : Result (List Owned) Refusal)
-    (set : Arc (List Task) Global) (members : FinSet nat_cmp) (kept : Kept) (found : Notes)
-    (before : List Asked) (result : Result Standing E)
-    → IsStage outcome (Tested set members kept found) → found.items ≡ before
-    → IfOk result (IsNaming (names_of set.value members))
-    → IfOk result (IsStandingOn outcome before)
-tested-standing (Err refusal) set members kept found before result so same is = absurd so
-tested-standing (Ok tasks) set members kept found before (Err e) so same is = tt
-tested-standing (Ok tasks) set members kept found before (Ok (standing.Tested infeasible)) so
-    same is = (
-      subst (λ xs. IsTested (set_of tasks) xs) same so.1,
-      subst (λ ns. IsShown (set_of tasks) ns)
-          (sym (is ∙ ap (λ U. names_of U members) so.0)) so.2,
-    )
-tested-standing (Ok tasks) set members kept found before (Ok (standing.Asking question)) so same
-    is = absurd is
-tested-standing (Ok tasks) set members kept found before (Ok standing.NoSuchDraft) so same is =
-    absurd is
-tested-standing (Ok tasks) set members kept found before (Ok standing.Untestable) so same is =
-    absurd is
+pub tested-standing : (outcome : Result (List Owned) Refusal) (set : Arc (List Task) Global)
+    (members : FinSet nat_cmp) (kept : Kept) (found : Notes) (before : List Asked)
+    (infeasible : Vec (List ℕ)) → IsStage outcome (Tested set members kept found)
+    → found.items ≡ before → infeasible.items ≡ names_of set.value members
+    → IsStandingOn outcome before (standing.Tested infeasible)
+tested-standing (Err refusal) set members kept found before infeasible so same is = absurd so
+tested-standing (Ok tasks) set members kept found before infeasible so same is = (
+  subst (λ xs. IsTested (set_of tasks) xs) same so.1,
+  subst (λ ns. IsShown (set_of tasks) ns) (sym (is ∙ ap (λ U. names_of U members) so.0)) so.2,
+)
 
 -- a draft that is tested asks nothing
 pub tested-unasked : (outcome : Result (List Owned) Refusal) (found : List Asked) (name : List ℕ)
@@ -144,12 +129,7 @@ unfolding level_at
 untested U some tested =
     let member : IsTrue (contains (all_below (length U)) 0) =
     ap (λ X. X 0) (indexes_of-all_below (length U)) ∙ lt-ltb 0 (length U) some in
-    fresh-undecided (record {
-      set = U;
-      left = all_below (length U);
-      missing =
-          all_below (length U);
-    }) refl 0 member (tested 0)
+    fresh-undecided (level_of U [] 0) refl 0 member (tested 0)
 
 pub fresh-untested : (outcome : Result (List Owned) Refusal) → HasTasks outcome
     → ¬ IsTestedOn outcome []

@@ -1,5 +1,6 @@
 use Rattle.std.proofs.Common.{◌≡◌, ◌<◌, List, Option, IfOk, None, get_or, set, length, ap, subst}
-use Rattle.std.proofs.Common.{arith}
+use Rattle.std.proofs.Common.{arith, ◌∙◌, sym}
+use Rattle.std.proofs.lemmas.List.{get_or_default}
 use Rattle.desk_core.specs.Advances.{IsAdvanced}
 use Rattle.desk_core.specs.World.{World, Live, live_at}
 use Rattle.desk_core.proofs.AdvanceLaws.{core-advanced}
@@ -21,4 +22,5 @@ returns-in-Some-clause-ok c =
       drafts = set a.drafts.items i c.advance.new.self;
     }))) c.self.view_is
     (core-advanced w c.args.draft i slot c.advance.new.self c.advance.result c.in-Some.ensures.0
-    lt at c.index_mut.ensures.value c.advance.ensures.ok)
+    (at ∙ get_or_default a.drafts.items i None slot lt ∙ sym c.index_mut.ensures.value)
+    c.index_mut.ensures.value c.advance.ensures.ok)
