@@ -51,14 +51,12 @@ pub live-advanced : (old l : Live) (r : Option Reply) (found after : List Asked)
     → after ≡ found → IsAdvancedOn (on_base l.draft) l.found found r
     → IsAdvancedIn (Some old) (Some (with_found l after)) r
 live-advanced old l None found after is same so =
-    subst (λ (x : Live). IsAdvancedIn (Some x) (Some (with_found l after)) None) is
-    (so.0, ap (λ xs. Some (with_found l xs)) (same ∙ so.1))
-live-advanced old l (Some r) found after is same so =
-    subst (λ (x : Live). IsAdvancedIn (Some x) (Some (with_found l after)) (Some r)) is (
-      so.0,
-      so.1,
-      (with_found l after, live-brought l l so.0.question r found after refl same so.2, refl),
-    )
+    rw (← is) (so.0, ap (λ xs. Some (with_found l xs)) (same ∙ so.1))
+live-advanced old l (Some r) found after is same so = rw (← is) (
+  so.0,
+  so.1,
+  (with_found l after, live-brought l l so.0.question r found after refl same so.2, refl),
+)
 
 pub slot-advanced : (slot : Option Live) (l m : Live) (result : Result (Option Reply) AllocError)
     → slot ≡ Some l → IfOk result (IsAdvancedIn (Some l) (Some m))

@@ -1,5 +1,5 @@
 -- What is answered to a finding that is brought to a draft.
-use Rattle.std.proofs.Common.{◌≡◌, ◌<◌, List, Result, Ok, Err, length, refl, sym, subst}
+use Rattle.std.proofs.Common.{◌≡◌, List, Result, Ok, Err, length, refl}
 use Rattle.std.proofs.lemmas.Bool.{ltb-true}
 use Rattle.assignment.specs.Questions.{QuestionData}
 use Rattle.drafts.specs.declared.roster.Owned.{Owned}
@@ -11,7 +11,7 @@ use Rattle.desk_core.specs.declared.events.Cause.TheVariants as cause
 use Rattle.desk_core.specs.declared.told.Told.{Told}
 use Rattle.desk_core.specs.declared.told.Told.TheVariants.{Stranger, Twice, Taken, LevelDone}
 use Rattle.desk_core.specs.declared.told.Told.TheVariants.{Tested}
-use Rattle.desk_core.specs.Findings.{Asked, asked_of, IsTold, IsTested, found_after}
+use Rattle.desk_core.specs.Findings.{Asked, asked_of, IsTold, found_after}
 use Rattle.desk_core.specs.Trials.{TrialData}
 use Rattle.desk_core.specs.World.{Live, with_found, IsFound, IsBroughtTo, IsToldReply, IsTestedOn}
 use Rattle.desk_core.specs.Stages.{IsTrialOn}
@@ -27,9 +27,8 @@ telling old new q Taken is same found = tt
 telling old new q (LevelDone level task response) is same found =
     let within =
     ltb-true task (length old.set) (level_at-part old.set is.0 task is.2.chosen.member) in
-    subst (λ U. task < length U) (sym same) within
-telling old new q Tested is same found = subst (λ U. IsTested U new.found) (sym same)
-    (subst (λ xs. IsTested old.set xs) (sym found) is.2)
+    rw same within
+telling old new q Tested is same found = rw (same, found) is.2
 
 -- what a trial of what the changes come to tells of a finding is the answer to it
 pub told-found : (outcome : Result (List Owned) Refusal) (old new : TrialData) (q : QuestionData)
@@ -52,10 +51,4 @@ tested-stranger (Ok tasks) found after q tested same =
 pub live-brought : (old l : Live) (q : QuestionData) (r : Reply) (found after : List Asked)
     → l ≡ old → after ≡ found → IsFound (on_base l.draft) l.found q r found
     → IsBroughtTo old q r (with_found l after)
-live-brought old l q r found after is same so =
-    subst (λ (x : Live). IsBroughtTo x q r (with_found l after)) is (
-      after,
-      subst (λ (xs : List Asked). IsFound (on_base l.draft) l.found q r xs) (sym same)
-          so,
-      refl,
-    )
+live-brought old l q r found after is same so = rw (← is) (after, rw same so, refl)

@@ -44,12 +44,8 @@ pub trying-tested : (outcome : Result (List Owned) Refusal) (trial : TrialData) 
     → IsTrialOn outcome trial → trial.found ≡ found → IsTested trial.set trial.found
     ↔ IsTestedOn outcome found
 trying-tested (Err refusal) trial found so same = absurd so
-trying-tested (Ok tasks) trial found so same = (
-  λ tested. subst (λ xs. IsTested (set_of tasks) xs) same
-      (subst (λ U. IsTested U trial.found) so tested),
-  λ tested. subst (λ U. IsTested U trial.found) (sym so)
-      (subst (λ xs. IsTested (set_of tasks) xs) (sym same) tested),
-)
+trying-tested (Ok tasks) trial found so same =
+    (λ tested. rw (← same, ← so) tested, λ tested. rw (so, same) tested)
 
 pub tested-tested : (outcome : Result (List Owned) Refusal) (set : Arc (List Task) Global)
     (members : FinSet nat_cmp) (kept : Kept) (found : Notes)
@@ -63,21 +59,16 @@ pub tested-stage : (outcome : Result (List Owned) Refusal) (stage : Stage)
     (brought : List Asked) → stage ≡ Tested set members kept found → IsStage outcome stage
     → found_of stage ≡ brought → IsTestedOn outcome brought
 tested-stage outcome stage set members kept found brought is so same =
-    let tested = tested-tested outcome set members kept found
-    (subst (λ (s : Stage). IsStage outcome s) is so) in
-    subst (λ (xs : List Asked). IsTestedOn outcome xs)
-    (sym (ap (λ (s : Stage). found_of s) is) ∙ same) tested
+    subst (IsTestedOn outcome) (sym (ap found_of is) ∙ same)
+    (tested-tested outcome set members kept found (rw is at so))
 
 -- a trial that goes on is one of what the changes come to, with the findings that were brought
 pub trying-stage : (outcome : Result (List Owned) Refusal) (stage : Stage)
     (trial : Box TrialData Global) (now : TrialData) (brought : List Asked) → stage ≡ Trying trial
     → now ≡ trial.value → IsStage outcome stage → found_of stage ≡ brought → IsTrialOn outcome now
     × (now.found ≡ brought)
-trying-stage outcome stage trial now brought is at so same = (
-  subst (λ (t : TrialData). IsTrialOn outcome t) (sym at)
-      (subst (λ (s : Stage). IsStage outcome s) is so),
-  ap (λ (t : TrialData). t.found) at ∙ sym (ap (λ (s : Stage). found_of s) is) ∙ same,
-)
+trying-stage outcome stage trial now brought is at so same =
+    (rw at (rw is at so), ap (λ (t : TrialData). t.found) at ∙ sym (ap found_of is) ∙ same)
 
 pub trying-rest : (outcome : Result (List Owned) Refusal) (trial : TrialData)
     (set : Arc (List Task) Global) (members : FinSet nat_cmp) (kept : Kept) (found : Notes)
@@ -88,8 +79,8 @@ pub trying-rest : (outcome : Result (List Owned) Refusal) (trial : TrialData)
 trying-rest (Err refusal) trial set members kept found so of_set tested shown same right = absurd so
 trying-rest (Ok tasks) trial set members kept found so of_set tested shown same right = (
   of_set ∙ so,
-  subst (λ U. IsTested U found.items) so (subst (λ xs. IsTested trial.set xs) (sym same) tested),
-  subst (λ U. IsShown U (names_of U members)) so shown,
+  rw (same, ← so) tested,
+  rw (← so) shown,
   right tasks (sym so),
 )
 
@@ -99,9 +90,9 @@ pub tested-kept : (outcome : Result (List Owned) Refusal) (stage : Stage)
     → stage ≡ Tested set members kept found → IsStage outcome stage → IsKeptOn outcome kept
     × ((other : Kept) → IsKeptOn outcome other → IsStage outcome (Tested set members other found))
 tested-kept (Err refusal) stage set members kept found is so =
-    absurd (subst (λ (s : Stage). IsStage (Err refusal) s) is so)
+    absurd (rw is at so)
 tested-kept (Ok tasks) stage set members kept found is so =
-    let now = subst (λ (s : Stage). IsStage (Ok tasks) s) is so in
+    let now = rw is at so in
     (now.3, λ other right. (now.0, now.1, now.2, right))
 
 -- ---- where it stands
@@ -111,10 +102,8 @@ pub tested-standing : (outcome : Result (List Owned) Refusal) (set : Arc (List T
     → found.items ≡ before → infeasible.items ≡ names_of set.value members
     → IsStandingOn outcome before (standing.Tested infeasible)
 tested-standing (Err refusal) set members kept found before infeasible so same is = absurd so
-tested-standing (Ok tasks) set members kept found before infeasible so same is = (
-  subst (λ xs. IsTested (set_of tasks) xs) same so.1,
-  subst (λ ns. IsShown (set_of tasks) ns) (sym (is ∙ ap (λ U. names_of U members) so.0)) so.2,
-)
+tested-standing (Ok tasks) set members kept found before infeasible so same is =
+    (rw (← same) so.1, rw (is, so.0) so.2)
 
 -- a draft that is tested asks nothing
 pub tested-unasked : (outcome : Result (List Owned) Refusal) (found : List Asked) (name : List ℕ)

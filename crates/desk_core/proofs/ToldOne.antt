@@ -5,7 +5,6 @@ use Rattle.std.specs.FinSet.{contains}
 use Rattle.std.proofs.lemmas.Bool.{cases_order, both_ways}
 use Rattle.task_sheet.specs.Sheet.{Task}
 use Rattle.task_sheet.specs.Indexes.{Indexes, indexes_of, without_index}
-use Rattle.task_sheet.specs.Demand.{IsResponseOf}
 use Rattle.task_sheet.specs.Levels.{IsChosen}
 use Rattle.task_sheet.proofs.PassingLaws.{IsResponseOf-one}
 use Rattle.assignment.specs.Questions.{QuestionData}
@@ -49,14 +48,13 @@ module _ (U : List Task) (found : List Asked) (q : QuestionData) where
       → IsLevelDone U (found ++ asked_of q ∷ []) k level' task' response'
       → LevelDone level task response ≡ LevelDone level' task' response'
   done-one j k level task response level' task' response' same a b =
-      let first =
-      subst (λ n. IsLevelDone U (found ++ asked_of q ∷ []) n level task response) same a in
+      let first = rw same at a in
       let number : level ≡ level' = first.number ∙ sym b.number in
       let L : Indexes = indexes_of (level_at U k) in
       let chosen : task ≡ task' = chosen-one U L task task' first.chosen b.chosen in
       let right : response ≡ response' =
       IsResponseOf-one U task' (without_index L task') response response'
-      (subst (λ i. IsResponseOf U i (without_index L i) response) chosen first.right) b.right in
+      (rw chosen at first.right) b.right in
       λ i. LevelDone (number i) (chosen i) (right i)
 
   pub told-one : (a b : Told) → IsTold U found q a → IsTold U found q b → a ≡ b

@@ -1,8 +1,5 @@
-use Rattle.std.proofs.Common.{subst, List, IfOk}
 use Rattle.drafts.specs.Edits.{on_base}
-use Rattle.desk_core.specs.Findings.{Asked}
 use Rattle.desk_core.specs.Stages.{found_of}
-use Rattle.desk_core.specs.World.{IsFound}
 use Rattle.desk_core.proofs.BroughtLaws.{tested-stranger}
 use Rattle.desk_core.proofs.StageLaws.{trying-stage, tested-stage}
 use Rattle.desk_core.proofs.live.bring_to.Goals as goal
@@ -13,8 +10,7 @@ returns-in-Trying-clause-found c =
     let on = trying-stage outcome c.begin.new.stage c.in-Trying.trial c.deref_mut.result.now
     (found_of c.args.stage.now) c.in-Trying.is c.deref_mut.ensures.value c.begin.ensures.kept
     c.begin.ensures.found in
-    subst (λ (xs : List Asked). IfOk c.bring.result (λ r. IsFound outcome xs
-    c.args.finding.question r c.bring.new.trial.found)) on.1 (c.bring.ensures.brought outcome on.0)
+    rw on.1 at (c.bring.ensures.brought outcome on.0)
 
 pub returns-in-Tested-clause-found : goal.returns-in-Tested-clause-found
 returns-in-Tested-clause-found c =
