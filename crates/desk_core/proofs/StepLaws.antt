@@ -148,5 +148,4 @@ module _ (a : Inside) (trial : IsTrialKept a) where
       × IsHeld a.set.value climb level (found_after a.found.items (asked_of q) told)
   trial-step going l here q climb level told taken =
       told-step a.set.value a.climb a.found.items trial.held.progress q going climb level told
-      (subst (λ (x : LevelState). IsTakenAt a.climb x q climb level told)
-      (here ∙ trial.held.kept going.goes_on) taken)
+      (rw (here ∙ trial.held.kept going.goes_on) at taken)
