@@ -3,26 +3,21 @@ use Rattle.std.proofs.Common.{◌≡◌, ◌⊎◌, inl, inr, ℕ, List, refl, s
 use Rattle.std.specs.Prelude.{Result, Ok, Err}
 use Rattle.assignment.specs.Questions.{QuestionData}
 use Rattle.candidate_workers.specs.Faults.{IsBadCount}
-use Rattle.drafts.specs.declared.change.Change.{Change}
 use Rattle.drafts.specs.declared.change.Refusal.{Refusal}
 use Rattle.drafts.specs.declared.roster.Owned.{Owned}
 use Rattle.drafts.specs.Applied.{applied}
-use Rattle.drafts.specs.Machine.{MachineState, IsDecision}
-use Rattle.drafts.specs.Books.{Book}
-use Rattle.drafts.specs.Edits.{Draft}
+use Rattle.drafts.specs.Machine.{MachineState}
+use Rattle.drafts.specs.Edits.{Draft, on_base}
 use Rattle.drafts.specs.Proposals.{ProposalData}
-use Rattle.drafts.specs.Edits.{on_base}
 use Rattle.book_lock.specs.Reached.{IsReached}
 use Rattle.book_lock.specs.TeamPass.{Known, receiving}
 use Rattle.book_lock.specs.Asking.{NoneShutApplied, IsUntested}
 use Rattle.book_lock.specs.Settles.{IsReceived, SettlesSome, HoldsSome}
-use Rattle.book_lock.specs.declared.answer.Settlement.TheVariants.{Decided, Stale}
+use Rattle.book_lock.specs.declared.answer.Settlement.TheVariants.{Decided}
 use Rattle.book_lock.specs.Commits.{IsSameChange, IsUntestedOn, IsUndecided, IsLater, Commits}
 use Rattle.book_lock.specs.declared.commit.CommitFault.{CommitFault}
 use Rattle.book_lock.specs.declared.commit.CommitCause.{CommitCause}
 use Rattle.book_lock.specs.declared.commit.CommitCause.TheVariants.{OtherTeam, BadWorkers}
-use Rattle.book_lock.specs.declared.commit.CommitCause.TheVariants.{ThreadRefused, GateShut}
-use Rattle.book_lock.specs.declared.commit.CommitCause.TheVariants.{OutOfMemory}
 
 -- what is settled is a decision on the proposal's changes
 pub received-settled : (p : ProposalData) (old new : Known) (place : ℕ)
@@ -42,30 +37,13 @@ pub received-held : (d : Draft) (old new : Known) (place : ℕ) → HoldsSome d 
 received-held d old new place is =
     record { book = is.book; next = is.next; legal = is.legal; entered = is.holds }
 
--- the state that a stale proposal comes back with
-pub reached-fresh : (p : ProposalData) (old new : Known) (fresh : _) (back : _)
-    → SettlesSome p old (Ok (Stale fresh back)) new → IsReached fresh.value
-reached-fresh p old new fresh back is = record {
-  log = is.book.log;
-  legal = is.legal.legal;
-  replay =
-      is.legal.replay ∙ sym is.settles.1;
-}
-
 -- on the draft's own base, or on a state that the node came to
 abbrev pub IsBaseOf : Draft → MachineState → Type 0
 IsBaseOf d desk = (desk ≡ d.base) ⊎ IsReached desk
 
 untested_on : (may : QuestionData → Type 0) (d e : Draft) (cause : CommitCause) → IsSameChange d e
     → IsBaseOf d e.base → IsUntested may (on_base e) cause → IsUntestedOn may d cause
-untested_on may d e cause same from h =
-    let named : IsUntested may (applied d.team e.base.tasks e.changes) cause =
-    subst (λ (t : ℕ). IsUntested may (applied t e.base.tasks e.changes) cause) same.0 h in (
-      e.base,
-      from,
-      subst (λ (cs : List (List ℕ × Change)). IsUntested may
-          (applied d.team e.base.tasks cs) cause) same.1 named,
-    )
+untested_on may d e cause same from h = (e.base, from, rw (← same.0, ← same.1) h)
 
 pub on_its_base : (d e f : Draft) (base kept : MachineState) → f ≡ e → IsSameChange d e
     → kept ≡ base → (let x : Draft = record { team = f.team; base = kept; changes = f.changes } in
@@ -102,30 +80,23 @@ undecided may workers d p OtherTeam team good h =
     absurd ((untested_never may (applied d.team h.0.tasks d.changes)).0 h.2)
 undecided may workers d p BadWorkers team good h =
     absurd ((untested_never may (applied d.team h.0.tasks d.changes)).1 h.2)
-undecided may workers d p ThreadRefused team good h = (team, good, h)
-undecided may workers d p (GateShut name) team good h = (team, good, h)
-undecided may workers d p OutOfMemory team good h = (team, good, h)
+undecided may workers d p cause team good h = (team, good, h)
 
 -- a decision on the same changes is one on these
 pub received_for : (d back : Draft) (p old new : Known) (place : ℕ) → IsSameChange d back → p ≡ old
     → IsReceived back p place new → IsReceived d old place new
 received_for d back p old new place same pass h =
-    let b : Book = h.book in
     let e = h.entered.0 in
     let is = h.entered.1 in
-    let named = subst (λ (t : ℕ). IsDecision b.desk t back.changes e.decision) same.0 is.3 in
-    let decided = subst (λ (cs : List (List ℕ × Change)). IsDecision b.desk d.team cs e.decision)
-    same.1 named in
     record {
-      book = b;
+      book = h.book;
       next = h.next;
       legal = h.legal;
       entered = (
         e,
-        (is.0, is.1 ∙ same.0, is.2 ∙ same.1, decided),
+        (is.0, is.1 ∙ same.0, is.2 ∙ same.1, rw (← same.0, ← same.1) is.3),
         h.entered.2,
-        h.entered.3
-            ∙ ap (λ (k : Known). receiving k place e) pass,
+        h.entered.3 ∙ ap (λ (k : Known). receiving k place e) pass,
       );
     }
 
@@ -139,19 +110,11 @@ commits_later may always workers d back base old p new (Ok place) team good none
     (team, good, none, received_for d back p old new place same pass h)
 commits_later may always workers d back base old p new (Err fault) team good none same b reached
     pass h =
-    let changes : IsUntested may (applied d.team h.0.0.tasks back.changes) fault.cause =
-    subst (λ (t : ℕ). IsUntested may (applied t h.0.0.tasks back.changes) fault.cause) same.0
-    h.0.2 in
     let from : IsReached h.0.0 =
     elim h.0.1 [ inl e ↦ subst IsReached (sym e) reached | inr r ↦ r ] in
-    let untested : IsUntestedOn may d fault.cause = (
-      h.0.0,
-      inr from,
-      subst (λ (cs : List (List ℕ × Change)). IsUntested may
-          (applied d.team h.0.0.tasks cs) fault.cause) same.1 changes,
-    ) in (
+    let untested : IsUntestedOn may d fault.cause =
+    (h.0.0, inr from, rw (← same.0, ← same.1) h.0.2) in (
       undecided may workers d old fault.cause team good untested,
-      h.1
-          ∙ on_its_base d back back d.base base refl same b,
+      h.1 ∙ on_its_base d back back d.base base refl same b,
       h.2 ∙ pass,
     )

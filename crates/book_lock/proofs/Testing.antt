@@ -1,7 +1,7 @@
 -- What is said of the set that changes come to is said of what they come to.
-use Rattle.std.proofs.Common.{◌≡◌, ◌<◌, ◌≤◌, ℕ, inl, inr, List, length, refl, sym, ◌∙◌, subst}
-use Rattle.std.proofs.Common.{arith}
+use Rattle.std.proofs.Common.{◌≡◌, ◌<◌, ◌≤◌, ℕ, inl, inr, List, refl, sym, subst, arith, Global}
 use Rattle.std.specs.Prelude.{Result, Ok, Err, OnOk, IfErr}
+use Rattle.std.specs.declared.sync.Arc.{Arc}
 use Rattle.task_sheet.specs.Sheet.{Task}
 use Rattle.task_sheet.specs.TaskSet.{IsTaskSet}
 use Rattle.task_sheet.specs.Verdicts.{VerdictData, IsVerdictOf}
@@ -14,36 +14,26 @@ use Rattle.candidate_workers.specs.declared.assaying.AssayFault.{AssayFault}
 use Rattle.candidate_workers.specs.declared.assaying.AssayFault.TheVariants as assay
 use Rattle.drafts.specs.declared.roster.Owned.{Owned}
 use Rattle.drafts.specs.declared.change.Refusal.{Refusal}
-use Rattle.drafts.specs.declared.applying.Applied.{Applied}
-use Rattle.drafts.specs.declared.applying.Applied.TheVariants.{Tasks, Refused}
+use Rattle.drafts.specs.declared.applying.Applied.TheVariants.{Tasks}
 use Rattle.drafts.specs.declared.judging.Judged.{Judged}
 use Rattle.drafts.specs.Applied.{set_of}
 use Rattle.drafts.specs.Outcomes.{IsApplied}
-use Rattle.book_lock.specs.Asking.{NoneShutOf, NoneShutApplied, IsUntestedSet}
-use Rattle.book_lock.specs.Asking.{IsUntested, IsOnTask, IsCauseOf}
+use Rattle.book_lock.specs.Asking.{NoneShutOf, NoneShutApplied, IsUntestedSet, IsUntested}
+use Rattle.book_lock.specs.Asking.{IsCauseOf}
 use Rattle.book_lock.specs.declared.commit.CommitCause.{CommitCause}
 use Rattle.book_lock.specs.declared.commit.CommitCause.TheVariants.{OutOfMemory}
 
 -- ---- faults of the test
-pub on_task : (may : QuestionData → Type 0) (U : List Task) (workers : ℕ) (fault : AssayFault)
-    → NoVerdict may U workers fault → IsOnTask U fault
-on_task may U workers assay.BadWorkers h = tt
-on_task may U workers assay.ThreadRefused h = tt
-on_task may U workers (assay.GateShut task) h = subst (λ (k : ℕ). k < length U) h.on
-    (subst (λ (V : List Task). h.question.task < length V) h.same h.is.task)
-on_task may U workers assay.OutOfMemory h = tt
-
 pub untested_set : (may : QuestionData → Type 0) (U : List Task) (workers : ℕ) (fault : AssayFault)
     (cause : CommitCause) → ¬ IsBadCount workers → NoVerdict may U workers fault
     → IsCauseOf U fault cause → IsUntestedSet may U cause
 untested_set may U workers assay.BadWorkers cause good h is = absurd (good h)
 untested_set may U workers assay.ThreadRefused cause good h is =
-    subst (λ (x : CommitCause). IsUntestedSet may U x) (sym is) tt
+    rw is tt
 untested_set may U workers (assay.GateShut task) cause good h is =
-    subst (λ (x : CommitCause). IsUntestedSet may U x) (sym is)
-    (record { task = task; shut = h; named = refl })
+    rw is (record { task = task; shut = h; named = refl })
 untested_set may U workers assay.OutOfMemory cause good h is =
-    subst (λ (x : CommitCause). IsUntestedSet may U x) (sym is) tt
+    rw is tt
 
 -- no more workers than a good number of them, and some, are a good number
 pub still_good : (n workers : ℕ) → ¬ IsBadCount workers → 0 < n → n ≤ workers → ¬ IsBadCount n
@@ -89,14 +79,8 @@ none_shut_from shut (Ok tasks) U (Ok judged) is h =
 none_shut_from shut (Ok tasks) U (Err cause) is h = h
 none_shut_from shut (Err refusal) U r is h = absurd is
 
--- what is told of tasks
-abbrev pub IsToldSet : Applied → List Task → Type 0
-IsToldSet (Tasks set) U = set.value ≡ U
-IsToldSet (Refused refusal) U = ⊥
-
-pub set_told : (outcome : Result (List Owned) Refusal) (o : Applied) (U : List Task)
-    → IsApplied outcome o → IsToldSet o U → IsSetOf outcome U
-set_told (Ok tasks) (Tasks set) U h e = sym e ∙ h
-set_told (Ok tasks) (Refused refusal) U h e = absurd h
-set_told (Err told) (Tasks set) U h e = absurd h
-set_told (Err told) (Refused refusal) U h e = absurd e
+-- the set of tasks that are told
+pub set_told : (outcome : Result (List Owned) Refusal) (set : Arc (List Task) Global)
+    → IsApplied outcome (Tasks set) → IsSetOf outcome set.value
+set_told (Ok tasks) set h = h
+set_told (Err told) set h = absurd h

@@ -111,61 +111,36 @@ pub IsFreeClimb-placed : (shut : QuestionData → Type 0) (U : List Task) (old n
     (l : LevelState) → IsFreeClimb shut U old → l.set ≡ U → l.left ≡ old.left → NoneShut shut l
     → IsDecided l → old.stuck ≡ false → IsPlaced old new → IsFreeClimb shut U new
 IsFreeClimb-placed shut U old new l so set left none decided goes_on placed =
-    let L = indexes_of old.left in
-    let chosen : IsChosen U L placed.level.task =
-    subst (λ (V : List Task). IsChosen V L placed.level.task) so.set placed.chosen in
-    let at_level : IsChosen l.set (indexes_of l.left) placed.level.task =
-    subst (λ (V : List Task). IsChosen V (indexes_of l.left) placed.level.task) (sym set)
-    (subst (λ (m : members.FinSet nat_cmp). IsChosen U (indexes_of m) placed.level.task)
-    (sym left) chosen) in
-    let free : FreeUpTo shut U L placed.level.task =
-    subst (λ (m : members.FinSet nat_cmp). FreeUpTo shut U (indexes_of m) placed.level.task)
-    left (subst (λ (V : List Task). FreeUpTo shut V (indexes_of l.left) placed.level.task) set
-    (level_free shut l placed.level.task none decided at_level)) in
-    record {
-      set = ap (λ (c : ClimbState). c.set) placed.after ∙ so.set;
-      order = so.order ++ placed.level.task ∷ [];
-      chosen = AllChosen-push U (all_of U) so.order placed.level.task so.chosen
-          (subst (λ X. IsChosen U X placed.level.task) so.rest chosen);
-      rest = ap (λ (c : ClimbState). indexes_of c.left) placed.after ∙ indexes_of-remove old.left
-          placed.level.task ∙ ap (λ X. without_index X placed.level.task) so.rest
-          ∙ sym (left_after-push (all_of U) so.order placed.level.task);
-      free = OrderFree-push shut U (all_of U) so.order placed.level.task so.free
-          (subst (λ X. FreeUpTo shut U X placed.level.task) so.rest free);
-      stuck = λ is. absurd (both_ways new.stuck (ap (λ (c : ClimbState). c.stuck) placed.after) is);
-    }
+    let i = placed.level.task in
+    let at_level : IsChosen l.set (indexes_of l.left) i =
+    rw (set, left) (rw so.set at placed.chosen) in
+    rw placed.after (record {
+      set = so.set;
+      order = so.order ++ i ∷ [];
+      chosen = AllChosen-push U (all_of U) so.order i so.chosen
+          (rw (so.set, so.rest) at placed.chosen);
+      rest = rw (indexes_of-remove old.left i, so.rest, left_after-push (all_of U) so.order i) refl;
+      free = OrderFree-push shut U (all_of U) so.order i so.free
+          (rw (set, left, so.rest) at (level_free shut l i none decided at_level));
+      stuck = λ is. absurd (both_ways false refl is);
+    })
 
 pub IsFreeClimb-ended : (shut : QuestionData → Type 0) (U : List Task) (old new : ClimbState)
     (l : LevelState) → IsFreeClimb shut U old → l.set ≡ U → l.left ≡ old.left → NoneShut shut l
     → IsDecided l → ((k : ℕ) × IsTrue (members.contains old.left k)) → IsEnded old new
     → IsFreeClimb shut U new
 IsFreeClimb-ended shut U old new l so set left none decided some ended =
-    let stuck : NoneStands U (indexes_of old.left) =
-    subst (λ (V : List Task). NoneStands V (indexes_of old.left)) so.set ended.none in
-    let at_level : NoneStands l.set (indexes_of l.left) =
-    subst (λ (V : List Task). NoneStands V (indexes_of l.left)) (sym set)
-    (subst (λ (m : members.FinSet nat_cmp). NoneStands U (indexes_of m)) (sym left) stuck) in
-    let free : AllFree shut U (indexes_of old.left) =
-    subst (λ (m : members.FinSet nat_cmp). AllFree shut U (indexes_of m)) left
-    (subst (λ (V : List Task). AllFree shut V (indexes_of l.left)) set
-    (level_all_free shut l none decided at_level)) in
-    let same : old.left ≡ new.left = sym (ap (λ (c : ClimbState). c.left) ended.after) in
-    record {
-      set = ap (λ (c : ClimbState). c.set) ended.after ∙ so.set;
+    let stuck : NoneStands U (indexes_of old.left) = rw so.set at ended.none in
+    let at_level : NoneStands l.set (indexes_of l.left) = rw (set, left) stuck in
+    rw ended.after (record {
+      set = so.set;
       order = so.order;
       chosen = so.chosen;
-      rest = ap indexes_of (sym same) ∙ so.rest;
+      rest = so.rest;
       free = so.free;
-      stuck = λ is. (
-        subst (λ (m : members.FinSet nat_cmp). NoneStands U (indexes_of m)) same stuck,
-        (
-          some.0,
-          subst (λ (m : members.FinSet nat_cmp). IsTrue (members.contains m some.0)) same
-              some.1,
-        ),
-        subst (λ (m : members.FinSet nat_cmp). AllFree shut U (indexes_of m)) same free,
-      );
-    }
+      stuck = λ is.
+          (stuck, some, rw (set, left) at (level_all_free shut l none decided at_level));
+    })
 
 -- ---- the verdict
 -- what the rising list of L below n names
@@ -213,8 +188,7 @@ admitted_free : (shut : QuestionData → Type 0) (U : List Task) (c : ClimbState
 admitted_free shut U c levels valid so done best q asked bad = elim (cases_Bool c.stuck) [
   | inl stuck ↦
       let h = so.stuck stuck in
-      let stands : NoneStands U (left_after (all_of U) so.order) =
-      subst (λ X. NoneStands U X) so.rest h.0 in
+      let stands = rw so.rest at h.0 in
       let some : left_after (all_of U) so.order h.1.0 ≡ true = ap (λ X. X h.1.0) (sym so.rest)
       ∙ h.1.1 in
       let greatest = AllChosen-obstruction U valid so.order so.chosen h.1.0 some stands in
@@ -225,8 +199,8 @@ admitted_free shut U c levels valid so done best q asked bad = elim (cases_Bool 
       λ k. ap (λ X. X k) (sym so.rest) ∙ not_unfinished c goes_on done k in
       let same : so.order ≡ order_of levels = IsBest-one U so.order (order_of levels)
       (AllChosen-best U so.order so.chosen none) best.best in
-      levels_free shut U (all_of U) levels (subst (λ ns. AllChosen U (all_of U) ns) same so.chosen)
-      best.each (subst (λ ns. OrderFree shut U (all_of U) ns) same so.free) q asked bad
+      levels_free shut U (all_of U) levels (rw same at so.chosen) best.each (rw same at so.free) q
+      asked bad
 ]
 
 infeasible_free : (shut : QuestionData → Type 0) (U : List Task) (c : ClimbState)
@@ -237,7 +211,7 @@ infeasible_free shut U c fails valid so done is q asked bad = elim (cases_Bool c
   | inl stuck ↦
       let h = so.stuck stuck in
       let L = left_after (all_of U) so.order in
-      let stands : NoneStands U L = subst (λ X. NoneStands U X) so.rest h.0 in
+      let stands = rw so.rest at h.0 in
       let some : L h.1.0 ≡ true = ap (λ X. X h.1.0) (sym so.rest) ∙ h.1.1 in
       let greatest = AllChosen-obstruction U valid so.order so.chosen h.1.0 some stands in
       let S = among (tasks_of fails) in
@@ -279,15 +253,14 @@ pub IsFreeClimb-start : (shut : QuestionData → Type 0) (U V : List Task) (c : 
     → c ≡ (let d : ClimbState =
     record { set = V; levels = []; left = all_below (length V); stuck = false } in d)
     → IsFreeClimb shut U c
-IsFreeClimb-start shut U V c same e = record {
-  set = ap (λ (d : ClimbState). d.set) e ∙ same;
+IsFreeClimb-start shut U V c same e = rw (e, same) (record {
+  set = refl;
   order = [];
   chosen = tt;
-  rest = ap (λ (d : ClimbState). indexes_of d.left) e ∙ indexes_of-all_below (length V)
-      ∙ ap (λ (W : List Task). all_of W) same;
+  rest = indexes_of-all_below (length U);
   free = tt;
-  stuck = λ is. absurd (both_ways c.stuck (ap (λ (d : ClimbState). d.stuck) e) is);
-}
+  stuck = λ is. absurd (both_ways false refl is);
+})
 
 pub IsFreeClimb-closed : (shut : QuestionData → Type 0) (U : List Task) (old : ClimbState)
     (l : LevelState) (new : ClimbState) → IsFreeClimb shut U old → l.set ≡ U → l.left ≡ old.left
@@ -304,4 +277,4 @@ pub finished_free : (shut : QuestionData → Type 0) (U : List Task) (c : ClimbS
     → IsOfVerdict U (verdict_of v) q → shut q → ⊥
 finished_free shut U c v valid so done q asked bad =
     verdict_free shut U c (verdict_of v) (AllTasks-from_set U valid) so done.0
-    (subst (λ (V : List Task). IsVerdictOf V (verdict_of v)) so.set done.2) q asked bad
+    (rw so.set at done.2) q asked bad

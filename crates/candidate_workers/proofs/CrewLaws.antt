@@ -49,12 +49,11 @@ work_faults-append (Err fault ∷ hs) more =
 -- ---- the first of the faults
 pub first_of_none : (other : AssayFault) (faults : List AssayFault) → faults ≡ []
     → IsFirstFault (faults ++ other ∷ []) (Some other)
-first_of_none other faults none = subst (λ fs. IsFirstFault (fs ++ other ∷ []) (Some other))
-    (sym none) (
-      (0, omega arith, refl),
-      All-cons (λ x. rank_of other ≤ rank_of x) other []
-          (omega arith) (All-nil (λ x. rank_of other ≤ rank_of x)),
-    )
+first_of_none other faults none = rw none (
+  (0, omega arith, refl),
+  All-cons (λ x. rank_of other ≤ rank_of x) other []
+      (omega arith) (All-nil (λ x. rank_of other ≤ rank_of x)),
+)
 
 pub first_of_later : (fault other : AssayFault) (faults : List AssayFault) → rank_of other < rank_of
     fault → IsFirstFault faults (Some fault) → IsFirstFault (faults ++ other ∷ []) (Some other)

@@ -1,13 +1,13 @@
 -- How often tasks are released, and interrupts come, within a time.
-use Rattle.std.proofs.Common.{ℕ, ◌+◌, ◌*◌, ◌<◌, ◌≤◌, Bool, true, false, cond, List, []}
-use Rattle.std.proofs.Common.{◌∷◌, sum_by, arith}
+use Rattle.std.proofs.Common.{ℕ, ◌+◌, ◌*◌, ◌<◌, ◌≤◌, Bool, true, false, cond, List, [], ◌∷◌, sum_by}
+use Rattle.std.proofs.Common.{arith}
 use Rattle.std.specs.Int.{div_ceil}
 use Rattle.std.proofs.lemmas.Grind.{div_ceil_times}
 use Rattle.std.proofs.lemmas.List.Sums.{sum_by-cons}
 use Rattle.std.proofs.Math.Nat.{mul-le-mul_left}
 use Rattle.task_sheet.specs.declared.node.Interrupt.{Interrupt}
-use Rattle.task_sheet.specs.Sheet.{Task, IsInterrupt, IsValidSheet}
-use Rattle.task_sheet.specs.Demand.{releases_within, later_releases, later_interrupts}
+use Rattle.task_sheet.specs.Sheet.{Task, IsInterrupt}
+use Rattle.task_sheet.specs.Demand.{later_releases, later_interrupts}
 use Rattle.candidate_workers.specs.Threads.{comes_within, events_within}
 
 pub comes-few : (time : ℕ) (x : Interrupt) → IsInterrupt x → time ≤ 10000000
@@ -17,21 +17,6 @@ comes-few time x valid le =
     let jobs = div_ceil (time + 0) x.period in
     let least : jobs * 100 ≤ jobs * x.period = mul-le-mul_left jobs valid.period_from in
     omega (arith, (div_ceil_times (time + 0) x.period some).1, least, valid.period_to)
-
-pub releases-few : (t : Task) (time : ℕ) → IsValidSheet t → time ≤ 10000000
-    → releases_within t time ≤ 30000
-releases-few t time valid le =
-    let some : 0 < t.period = omega (arith, valid.period_from) in
-    let jobs = div_ceil (time + t.jitter) t.period in
-    let least : jobs * 1000 ≤ jobs * t.period = mul-le-mul_left jobs valid.period_from in
-    omega (
-      arith,
-      (div_ceil_times (time + t.jitter) t.period some).1,
-      least,
-      valid.period_to,
-      valid.jitter,
-      valid.deadline_to,
-    )
 
 -- those beyond the first tick are some of all
 later-few : (time : ℕ) (xs : List Interrupt)

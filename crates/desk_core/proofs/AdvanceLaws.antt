@@ -1,25 +1,22 @@
 -- What a draft answers to the finding that it asks for.
-use Rattle.std.proofs.Common.{◌≡◌, ◌∙◌, ℕ, set, get_or, ◌+◌, ◌<◌, List, length, Option, None, Some}
-use Rattle.std.proofs.Common.{Result, Ok, Err, IfOk, refl, sym, ap, subst}
-use Rattle.std.proofs.lemmas.List.{get_or_default}
+use Rattle.std.proofs.Common.{◌≡◌, ◌∙◌, ℕ, set, get_or, ◌+◌, List, Option, None, Some, Result, Ok}
+use Rattle.std.proofs.Common.{Err, IfOk, refl, sym, ap, subst}
 use Rattle.std.specs.declared.alloc.AllocError.{AllocError}
 use Rattle.assignment.specs.Questions.{QuestionData}
 use Rattle.drafts.specs.declared.roster.Owned.{Owned}
 use Rattle.drafts.specs.declared.change.Refusal.{Refusal}
-use Rattle.drafts.specs.Applied.{set_of}
 use Rattle.drafts.specs.Edits.{on_base}
 use Rattle.desk_core.specs.declared.told.Told.{Told}
 use Rattle.desk_core.specs.declared.events.Reply.{Reply}
 use Rattle.desk_core.specs.declared.events.Standing.{Standing}
 use Rattle.desk_core.specs.declared.events.Standing.TheVariants.{Asking}
 use Rattle.desk_core.specs.Advances.{IsTried, IsAdvancedOn, IsAdvancedIn, IsAdvanced}
-use Rattle.desk_core.specs.Asking.{IsNextAsked}
-use Rattle.desk_core.specs.Findings.{Asked, Decides, IsTold}
+use Rattle.desk_core.specs.Findings.{Asked, Decides}
 use Rattle.desk_core.specs.Stages.{IsTrialOn}
 use Rattle.desk_core.specs.Standings.{IsStanding, IsStandingOn}
 use Rattle.desk_core.specs.Trials.{TrialData}
 use Rattle.desk_core.specs.World.{World, Live, live_at, with_found, IsTestedOn, IsToldReply}
-use Rattle.desk_core.proofs.BroughtLaws.{live-brought}
+use Rattle.desk_core.proofs.BroughtLaws.{told-found, live-brought}
 use Rattle.desk_core.proofs.SlotLaws.{set-same, found-moved}
 
 -- a draft that is tested asks nothing
@@ -43,16 +40,10 @@ pub tried-some : (outcome : Result (List Owned) Refusal) (t u : TrialData) (told
 tried-some (Err refusal) t u told r so tried is = absurd so
 tried-some (Ok tasks) t u told r so tried is =
     let f = tried.0 in
-    let on = tried.1 in
-    let same : u.set ≡ set_of tasks = on.same ∙ so in (
+    let on = tried.1 in (
       f,
-      subst (λ U. (k : ℕ) × IsNextAsked U t.found f.question k) so on.asked,
-      (
-        told,
-        subst (λ U. IsTold U t.found f.question told) so on.answer,
-        subst (λ U. IsToldReply U told r) same is,
-        on.found,
-      ),
+      rw (← so) on.asked,
+      told-found (Ok tasks) t u f.question told r so on.answer on.same on.found is,
     )
 
 -- ---- of a live draft
@@ -60,14 +51,12 @@ pub live-advanced : (old l : Live) (r : Option Reply) (found after : List Asked)
     → after ≡ found → IsAdvancedOn (on_base l.draft) l.found found r
     → IsAdvancedIn (Some old) (Some (with_found l after)) r
 live-advanced old l None found after is same so =
-    subst (λ (x : Live). IsAdvancedIn (Some x) (Some (with_found l after)) None) is
-    (so.0, ap (λ xs. Some (with_found l xs)) (same ∙ so.1))
-live-advanced old l (Some r) found after is same so =
-    subst (λ (x : Live). IsAdvancedIn (Some x) (Some (with_found l after)) (Some r)) is (
-      so.0,
-      so.1,
-      (with_found l after, live-brought l l so.0.question r found after refl same so.2, refl),
-    )
+    rw (← is) (so.0, ap (λ xs. Some (with_found l xs)) (same ∙ so.1))
+live-advanced old l (Some r) found after is same so = rw (← is) (
+  so.0,
+  so.1,
+  (with_found l after, live-brought l l so.0.question r found after refl same so.2, refl),
+)
 
 pub slot-advanced : (slot : Option Live) (l m : Live) (result : Result (Option Reply) AllocError)
     → slot ≡ Some l → IfOk result (IsAdvancedIn (Some l) (Some m))
@@ -88,13 +77,13 @@ none-advanced slot new is gone = (
 )
 
 -- ---- of the core
-moved : (w : World) (draft i : ℕ) (slot new : Option Live)
+pub core-advanced : (w : World) (draft i : ℕ) (slot new : Option Live)
     (result : Result (Option Reply) AllocError) → i + 1 ≡ draft → live_at w.drafts draft ≡ slot
     → slot ≡ get_or w.drafts i slot
     → IfOk result (IsAdvancedIn slot new)
     → IfOk result (IsAdvanced w draft (record { book = w.book; drafts = set w.drafts i new }))
-moved w draft i slot new (Err e) next at is so = tt
-moved w draft i slot new (Ok None) next at is so = (
+core-advanced w draft i slot new (Err e) next at is so = tt
+core-advanced w draft i slot new (Ok None) next at is so = (
   λ q asking. so.0 q (subst (λ (o : Option Live). IsStanding o (Asking q)) at asking),
   λ j. let x : World = record {
     book = w.book;
@@ -102,16 +91,8 @@ moved w draft i slot new (Ok None) next at is so = (
         (ap (λ o. set w.drafts i o) so.1 ∙ set-same w.drafts i slot is) j;
   } in x,
 )
-moved w draft i slot new (Ok (Some r)) next at is so = (
+core-advanced w draft i slot new (Ok (Some r)) next at is so = (
   so.0,
   subst (λ (o : Option Live). IsStanding o (Asking so.0.question)) (sym at) so.1,
   found-moved w draft i slot new so.0 r next at is so.2,
 )
-
-pub core-advanced : (w : World) (draft i : ℕ) (slot new : Option Live)
-    (result : Result (Option Reply) AllocError) → i + 1 ≡ draft → i < length w.drafts
-    → live_at w.drafts draft ≡ get_or w.drafts i None → slot ≡ get_or w.drafts i slot
-    → IfOk result (IsAdvancedIn slot new)
-    → IfOk result (IsAdvanced w draft (record { book = w.book; drafts = set w.drafts i new }))
-core-advanced w draft i slot new result next lt at is so = moved w draft i slot new result next
-    (at ∙ get_or_default w.drafts i None slot lt ∙ sym is) is so

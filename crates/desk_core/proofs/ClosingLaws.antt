@@ -1,7 +1,6 @@
 -- What a closed level leads to.
-use Rattle.std.proofs.Common.{◌≡◌, ◌↔◌, ◌+◌, ◌-◌, ◌⊎◌, inl, inr, Bool, true, false, not, List, []}
-use Rattle.std.proofs.Common.{◌∷◌, ◌++◌, length, get_or, None, refl, sym, ◌∙◌, ap, arith, IsTrue}
-use Rattle.std.proofs.Common.{length-append}
+use Rattle.std.proofs.Common.{◌≡◌, ◌+◌, ◌-◌, ◌⊎◌, inl, inr, true, List, [], ◌∷◌, ◌++◌, length}
+use Rattle.std.proofs.Common.{get_or, None, refl, sym, ◌∙◌, ap, arith, length-append}
 use Rattle.std.proofs.lemmas.Bool.{both_ways}
 use Rattle.std.proofs.lemmas.List.{get_or_push}
 use Rattle.task_sheet.specs.Verdicts.{LevelData}
@@ -9,8 +8,7 @@ use Rattle.assignment.specs.Questions.{QuestionData}
 use Rattle.assignment.specs.Levels.{LevelState, IsDecided, with_finding}
 use Rattle.assignment.specs.Climbs.{ClimbState, IsPlaced, IsEnded, IsUnfinished}
 use Rattle.desk_core.specs.declared.told.Told.{Told}
-use Rattle.desk_core.specs.declared.told.Told.TheVariants.{Stranger, Twice, Taken, LevelDone}
-use Rattle.desk_core.specs.declared.told.Told.TheVariants.{Tested}
+use Rattle.desk_core.specs.declared.told.Told.TheVariants.{LevelDone, Tested}
 use Rattle.desk_core.specs.Closing.{IsNew, IsClosing, IsTakenAt}
 
 -- the climb goes on, so the level was one that placed its task
@@ -32,17 +30,10 @@ last-placed old new placed levels read same is =
     is ∙ ap (λ xs. get_or xs (length levels - 1) read) pushed
     ∙ get_or_push old.levels placed.level read (length levels - 1) place
 
-pub not-iff : (P : Type 0) (b : Bool) → (IsTrue b ↔ P) → IsTrue (not b) ↔ (¬ P)
-not-iff P true so =
-    (λ no-such. absurd (both_ways false refl no-such), λ never. absurd (never (so.0 refl)))
-not-iff P false so = (λ yes p. both_ways false refl (so.1 p), λ never. refl)
-
 pub closing-taken : (c : ClimbState) (l : LevelState) (q : QuestionData) (c' : ClimbState)
     (told : Told) → IsNew l q → IsDecided (with_finding l q.task) → IsClosing c c' told
     → IsTakenAt c l q c' None told
-closing-taken c l q c' Twice new decided closing = absurd closing
-closing-taken c l q c' Stranger new decided closing = absurd closing
-closing-taken c l q c' Taken new decided closing = absurd closing
 closing-taken c l q c' (LevelDone level task response) new decided closing =
     (new, decided, refl, closing)
 closing-taken c l q c' Tested new decided closing = (new, decided, refl, closing)
+closing-taken c l q c' told new decided closing = absurd closing

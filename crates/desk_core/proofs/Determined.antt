@@ -1,6 +1,6 @@
 -- Replies are determined by the events, and so is the world that they lead to.
-use Rattle.std.proofs.Common.{◌≡◌, ◌∙◌, ℕ, ◌-◌, ◌⊎◌, inl, inr, List, [], ◌∷◌, map, Option, None}
-use Rattle.std.proofs.Common.{Some, Result, Ok, Err, slice_set, refl, sym, ap, subst}
+use Rattle.std.proofs.Common.{◌≡◌, ◌∙◌, ℕ, ◌-◌, inl, inr, List, [], ◌∷◌, map, Option, None, Some}
+use Rattle.std.proofs.Common.{Result, Ok, Err, slice_set, refl, sym, ap, subst}
 use Rattle.task_sheet.specs.Sheet.{Task, task_at}
 use Rattle.task_sheet.specs.Verdicts.{FailureData, tasks_of}
 use Rattle.task_sheet.proofs.VerdictLaws.{IsStuck-one}
@@ -25,9 +25,10 @@ use Rattle.desk_core.specs.declared.events.Reply.TheVariants as reply
 use Rattle.desk_core.specs.Findings.{Asked, asked_of, found_after}
 use Rattle.desk_core.specs.Said.{Said, said_of}
 use Rattle.desk_core.specs.Said as said
-use Rattle.desk_core.specs.World.{World, Live, live_at, with_slot, with_found, changed, rebased}
-use Rattle.desk_core.specs.World.{cause_of, IsShown, IsTestedReply, IsToldReply, IsEdited, IsFound}
-use Rattle.desk_core.specs.World.{IsBroughtTo, IsStale, IsCommitted, IfLive, IsEdit, Happens, IsRun}
+use Rattle.desk_core.specs.World.{World, Live, live_at, with_slot, with_found, IsShown}
+use Rattle.desk_core.specs.World.{IsTestedReply, IsToldReply, IsEdited, IsFound, IsBroughtTo}
+use Rattle.desk_core.specs.World.{IsCommitted, IfLive, IsEdit, Happens, IsRun}
+use Rattle.desk_core.proofs.LegalLaws.{Commits, commit-said}
 use Rattle.desk_core.proofs.ToldOne.{told-one}
 
 -- ---- verdicts
@@ -42,20 +43,14 @@ shown-one U a b (inr x) (inr y) =
 tested-said : (U : List Task) (r : Reply) → IsTestedReply U r → (names : List (List ℕ))
     × (said_of r ≡ said.Tested names) × IsShown U names
 tested-said U (reply.Tested infeasible) is = (infeasible.items, refl, is)
-tested-said U (reply.Opened draft version) is = absurd is
-tested-said U reply.Done is = absurd is
-tested-said U reply.Taken is = absurd is
-tested-said U (reply.LevelDone level name response) is = absurd is
-tested-said U (reply.Stale version) is = absurd is
-tested-said U (reply.Decided place entry) is = absurd is
-tested-said U (reply.Refused why) is = absurd is
+tested-said U r is = absurd is
 
 told-said : (U : List Task) (t : Told) (r s : Reply) → IsToldReply U t r → IsToldReply U t s
     → said_of r ≡ said_of s
-told-said U told.Stranger r s x y = ap (λ (z : Reply). said_of z) (x ∙ sym y)
-told-said U told.Twice r s x y = ap (λ (z : Reply). said_of z) (x ∙ sym y)
-told-said U told.Taken r s x y = ap (λ (z : Reply). said_of z) (x ∙ sym y)
-told-said U (told.LevelDone level task response) r s x y = ap (λ (z : Reply). said_of z) (x ∙ sym y)
+told-said U told.Stranger r s x y = ap said_of (x ∙ sym y)
+told-said U told.Twice r s x y = ap said_of (x ∙ sym y)
+told-said U told.Taken r s x y = ap said_of (x ∙ sym y)
+told-said U (told.LevelDone level task response) r s x y = ap said_of (x ∙ sym y)
 told-said U told.Tested r s x y =
     let first = tested-said U r x in
     let second = tested-said U s y in
@@ -66,15 +61,11 @@ told-said U told.Tested r s x y =
 abbrev Same : {A : Type 0} → Reply → Reply → A → A → Type 0
 Same r s x y = (said_of r ≡ said_of s) × (x ≡ y)
 
-same-reply : {A : Type 0} (r s t : Reply) (x y z : A) → r ≡ t → s ≡ t → x ≡ z → y ≡ z → Same r s x y
-same-reply r s t x y z first second here there =
-    (ap (λ (u : Reply). said_of u) (first ∙ sym second), here ∙ sym there)
-
 found-one : (outcome : Result (List Owned) Refusal) (found : List Asked) (q : QuestionData)
     (r s : Reply) (xs ys : List Asked) → IsFound outcome found q r xs → IsFound outcome found q s ys
     → Same r s xs ys
 found-one (Err refusal) found q r s xs ys x y =
-    same-reply r s (reply.Refused cause.Untestable) xs ys found x.0 y.0 x.1 y.1
+    (ap said_of (x.0 ∙ sym y.0), x.1 ∙ sym y.1)
 found-one (Ok tasks) found q r s xs ys x y =
     let U = set_of tasks in
     let same : y.0 ≡ x.0 = told-one U found q y.0 x.0 y.1 x.1 in (
@@ -87,10 +78,7 @@ ruling-one : (version : ℕ) (outcome : Result (List Owned) Refusal) (a b : Ruli
     → IsRuling version outcome a → IsRuling version outcome b → a ≡ b
 ruling-one version (Err refusal) (Refused a) (Refused b) x y =
     ap (λ (z : Refusal). Refused z) (x ∙ sym y)
-ruling-one version (Err refusal) (Refused a) (Admitted b) x y = absurd y
-ruling-one version (Err refusal) (Refused a) (Infeasible b) x y = absurd y
-ruling-one version (Err refusal) (Admitted a) b x y = absurd x
-ruling-one version (Err refusal) (Infeasible a) b x y = absurd x
+ruling-one version (Err refusal) (Refused a) b x y = absurd y
 ruling-one version (Ok tasks) (Admitted a) (Admitted b) x y =
     ap (λ (z : ℕ). Admitted z) (x.1 ∙ sym y.1)
 ruling-one version (Ok tasks) (Admitted a) (Infeasible b) x y = absurd (y.0 x.0)
@@ -102,7 +90,7 @@ ruling-one version (Ok tasks) (Infeasible a) (Infeasible b) x y =
     ap (λ (o : ObstructionData). Infeasible o) same
 ruling-one version (Ok tasks) (Infeasible a) (Admitted b) x y = absurd (x.0 y.0)
 ruling-one version (Ok tasks) (Infeasible a) (Refused b) x y = absurd y
-ruling-one version (Ok tasks) (Refused a) b x y = absurd x
+ruling-one version outcome a b x y = absurd x
 
 entry-one : (b : Book) (d : Draft) (place place' : ℕ) (e f : Entry) → IsNextEntry b d place e
     → IsNextEntry b d place' f → e ≡ f
@@ -112,26 +100,6 @@ entry-one b d place place' e f x y =
     let decision : e.decision ≡ f.decision = ruling-one b.desk.version
     (applied d.team b.desk.tasks d.changes) e.decision f.decision x.3 y.3 in
     λ i. record { team = team i; changes = changes i; decision = decision i }
-
--- a commit is stale, or decided
-abbrev Commits : Book → Live → Said → Book → Option Live → Type 0
-Commits b l s book slot =
-    (IsStale b l × (s ≡ said.Stale b.desk.version) × (book ≡ b) × (slot ≡ Some (rebased l b.desk)))
-    ⊎ ((¬ IsStale b l) × ((place : ℕ) × (e : Entry) × IsNextEntry b l.draft place e
-    × (s ≡ said.Decided place e) × (book ≡ logged b e)) × (slot ≡ None))
-
-commit-said : (b : Book) (l : Live) (r : Reply) (book : Book) (slot : Option Live)
-    → IsCommitted b l r book slot → Commits b l (said_of r) book slot
-commit-said b l (reply.Stale version) book slot is =
-    inl (is.0, ap (λ (v : ℕ). said.Stale v) is.1, is.2, is.3)
-commit-said b l (reply.Decided place entry) book slot is =
-    inr (is.0, (place, entry.value, is.1, refl, is.2), is.3)
-commit-said b l (reply.Opened draft version) book slot is = absurd is
-commit-said b l reply.Done book slot is = absurd is
-commit-said b l reply.Taken book slot is = absurd is
-commit-said b l (reply.LevelDone level name response) book slot is = absurd is
-commit-said b l (reply.Tested infeasible) book slot is = absurd is
-commit-said b l (reply.Refused why) book slot is = absurd is
 
 commits-one : (b : Book) (l : Live) (r s : Said) (c d : Book) (i j : Option Live)
     → Commits b l r c i → Commits b l s d j → (r ≡ s) × (c ≡ d) × (i ≡ j)
@@ -152,17 +120,14 @@ commits-one b l r s c d i j (inr x) (inr y) =
 -- ---- events
 edited-one : (l : Live) (outcome : Result (List (List ℕ × Change)) EditRefusal) (r s : Reply)
     (m n : Live) → IsEdited l outcome r m → IsEdited l outcome s n → Same r s m n
-edited-one l (Ok changes) r s m n x y =
-    same-reply r s reply.Done m n (changed l changes) x.0 y.0 x.1 y.1
-edited-one l (Err refusal) r s m n x y =
-    same-reply r s (reply.Refused (cause_of refusal)) m n l x.0 y.0 x.1 y.1
+edited-one l (Ok changes) r s m n x y = (ap said_of (x.0 ∙ sym y.0), x.1 ∙ sym y.1)
+edited-one l (Err refusal) r s m n x y = (ap said_of (x.0 ∙ sym y.0), x.1 ∙ sym y.1)
 
 -- an event on a draft is determined where what comes of it on one that is live is
 live-one : (slot : Option Live) (r s : Reply) (w u v : World) (first second : Live → Type 0)
     → ((l : Live) → first l → second l → Same r s u v) → IfLive slot r (u ≡ w) first
     → IfLive slot s (v ≡ w) second → Same r s u v
-live-one None r s w u v first second one x y =
-    same-reply r s (reply.Refused cause.NoSuchDraft) u v w x.0 y.0 x.1 y.1
+live-one None r s w u v first second one x y = (ap said_of (x.0 ∙ sym y.0), x.1 ∙ sym y.1)
 live-one (Some l) r s w u v first second one x y = one l x y
 
 slot-one : (w u v : World) (draft : ℕ) (r s : Reply) (m n : Live) → u ≡ with_slot w draft (Some m)
@@ -197,7 +162,7 @@ commit-same w u v draft l r s i j a b here there =
 
 happens-one : (w u v : World) (e : Event) (r s : Reply) → Happens w e r u → Happens w e s v
     → Same r s u v
-happens-one w u v (Open team) r s x y = same-reply r s _ u v _ x.0 y.0 x.1 y.1
+happens-one w u v (Open team) r s x y = (ap said_of (x.0 ∙ sym y.0), x.1 ∙ sym y.1)
 happens-one w u v (Put draft sheet) r s x y =
     edit-one w u v draft (λ l. after_put l.draft sheet) r s x y
 happens-one w u v (Remove draft name) r s x y =
@@ -210,26 +175,17 @@ happens-one w u v (Commit draft) r s x y =
     (λ l a b. commit-same w u v draft l r s a.0 b.0 a.1 b.1 a.2 b.2) x y
 happens-one w u v (Abandon draft) r s x y =
     live-one (live_at w.drafts draft) r s w u v _ _
-    (λ l a b. same-reply r s reply.Done u v (with_slot w draft None) a.0 b.0 a.1 b.1) x y
+    (λ l a b. (ap said_of (a.0 ∙ sym b.0), a.1 ∙ sym b.1)) x y
 
 -- ---- runs
-runs-one : (w u v : World) (events : List Event) (rs ss : List Reply) → IsRun w events rs u
+pub runs-one : (w u v : World) (events : List Event) (rs ss : List Reply) → IsRun w events rs u
     → IsRun w events ss v → (map said_of rs ≡ map said_of ss) × (u ≡ v)
 runs-one w u v [] [] [] x y = (refl, x ∙ sym y)
 runs-one w u v [] [] (s ∷ ss) x y = absurd y
-runs-one w u v [] (r ∷ rs) ss x y = absurd x
-runs-one w u v (e ∷ events) [] ss x y = absurd x
 runs-one w u v (e ∷ events) (r ∷ rs) [] x y = absurd y
 runs-one w u v (e ∷ events) (r ∷ rs) (s ∷ ss) x y =
     let first = happens-one w x.0 y.0 e r s x.1 y.1 in
     let rest = runs-one x.0 u v events rs ss x.2
     (subst (λ (z : World). IsRun z events ss v) (sym first.1) y.2) in
     (λ i. first.0 i ∷ rest.0 i, rest.1)
-
-pub replies-one : (w u v : World) (events : List Event) (rs ss : List Reply) → IsRun w events rs u
-    → IsRun w events ss v → map said_of rs ≡ map said_of ss
-replies-one w u v events rs ss x y = (runs-one w u v events rs ss x y).0
-
-pub worlds-one : (w u v : World) (events : List Event) (rs ss : List Reply) → IsRun w events rs u
-    → IsRun w events ss v → u ≡ v
-worlds-one w u v events rs ss x y = (runs-one w u v events rs ss x y).1
+runs-one w u v events rs ss x y = absurd x

@@ -25,22 +25,15 @@ missing_after-push left missing [] a = refl
 missing_after-push left missing (b ∷ found) a =
     missing_after-push left (cond (is_on left b) (members.remove missing b.task) missing) found a
 
-with_missing : List Task → members.FinSet nat_cmp → members.FinSet nat_cmp → LevelState
-with_missing U left missing = record { set = U; left = left; missing = missing }
-
 pub level_of-on : (U : List Task) (found : List Asked) (k : ℕ) (a : Asked) → is_on (level_at U k) a
     ≡ true → level_of U (found ++ a ∷ []) k ≡ with_finding (level_of U found k) a.task
-unfolding with_missing
 level_of-on U found k a on =
-    ap (λ m. with_missing U (level_at U k) m)
-    (missing_after-push (level_at U k) (level_at U k) found a ∙ rw on refl)
+    rw (missing_after-push (level_at U k) (level_at U k) found a, on) refl
 
 pub level_of-off : (U : List Task) (found : List Asked) (k : ℕ) (a : Asked)
     → is_on (level_at U k) a ≡ false → level_of U (found ++ a ∷ []) k ≡ level_of U found k
-unfolding with_missing
 level_of-off U found k a off =
-    ap (λ m. with_missing U (level_at U k) m)
-    (missing_after-push (level_at U k) (level_at U k) found a ∙ rw off refl)
+    rw (missing_after-push (level_at U k) (level_at U k) found a, off) refl
 
 -- ---- the question on a candidate is asked of its level
 back_again : (H : Indexes) (i k : ℕ) → H i ≡ true → with_index (without_index H i) i k ≡ H k

@@ -1,78 +1,181 @@
--- Whatever events come, and whatever replies they get, the book stays legal.
-use Rattle.std.proofs.Common.{◌≡◌, ℕ, ◌-◌, List, [], ◌∷◌, Option, None, Some, slice_set, refl, sym}
-use Rattle.std.proofs.Common.{ap, subst}
+-- Whatever events come, and whatever replies they get, the book stays legal, and each live draft is on a state that
+-- the log came to.
+use Rattle.std.proofs.Common.{◌≡◌, ◌∙◌, ℕ, zero, suc, ◌-◌, ◌==◌, ◌⊎◌, inl, inr, List, [], ◌∷◌, ◌++◌}
+use Rattle.std.proofs.Common.{All, Option, None, Some, Result, Ok, Err, slice_get, slice_set, refl}
+use Rattle.std.proofs.Common.{append-nil, append_assoc, sym, ap, subst}
+use Rattle.std.proofs.lemmas.Bool.{cases_Bool}
+use Rattle.std.proofs.lemmas.List.Elements.{All-nil, All-head, All-tail, All-set, All-push}
+use Rattle.std.proofs.lemmas.List.Elements.{All-weaker}
 use Rattle.drafts.specs.declared.change.Change.{Change}
-use Rattle.drafts.specs.Machine.{empty_desk, IsDecision, IsLegal, replay}
-use Rattle.drafts.specs.Books.{Book, IsLegalBook}
+use Rattle.drafts.specs.declared.draft.EditRefusal.{EditRefusal}
+use Rattle.drafts.specs.Machine.{MachineState, Entry, empty_desk, IsLegal, replay}
+use Rattle.drafts.specs.Books.{Book, logged, IsLegalBook, IsNextEntry}
+use Rattle.drafts.specs.Edits.{after_put, after_remove}
 use Rattle.drafts.proofs.BookLaws.{logged-legal, version-counts}
+use Rattle.desk_core.specs.Bases.{IsPast}
+use Rattle.desk_core.specs.Said.{Said, said_of}
+use Rattle.desk_core.specs.Said as said
 use Rattle.desk_core.specs.declared.events.Event.{Event}
 use Rattle.desk_core.specs.declared.events.Event.TheVariants.{Open, Put, Remove, Found, Commit}
 use Rattle.desk_core.specs.declared.events.Event.TheVariants.{Abandon}
 use Rattle.desk_core.specs.declared.events.Reply.{Reply}
 use Rattle.desk_core.specs.declared.events.Reply.TheVariants as reply
-use Rattle.desk_core.specs.World.{World, Live, live_at, start, IsCommitted, IfLive, Happens, IsRun}
+use Rattle.desk_core.specs.World.{World, Live, if_live, live_at, start, with_slot, opened, rebased}
+use Rattle.desk_core.specs.World.{IsEdited, IsStale, IsCommitted, IfLive, IsEdit, Happens, IsRun}
 
-abbrev pub Legal : Book → Type 0
-Legal b = IsLegal empty_desk b.log × (replay empty_desk b.log ≡ b.desk)
+-- ---- one state
+past-now : (log : List Entry) (desk : MachineState) → replay empty_desk log ≡ desk → IsPast log desk
+past-now log desk is = record { before = log; after = []; split = sym (append-nil log); state = is }
 
--- ---- one commit
-commit-live : (b book : Book) (l : Live) (r : Reply) (slot : Option Live)
-    → IsCommitted b l r book slot → Legal b → Legal book
-commit-live b book l (reply.Stale version) slot is legal = subst Legal (sym is.2) legal
-commit-live b book l (reply.Decided place entry) slot is legal =
-    let e = entry.value in
-    let named =
-    subst (λ (t : ℕ). IsDecision b.desk t l.draft.changes e.decision) (sym is.1.1) is.1.3 in
-    subst Legal (sym is.2)
-    (logged-legal b e legal.0 legal.1 (subst (λ (cs : List (List ℕ × Change)). IsDecision b.desk
-    e.team cs e.decision) (sym is.1.2) named))
-commit-live b book l (reply.Opened draft version) slot is legal = absurd is
-commit-live b book l reply.Done slot is legal = absurd is
-commit-live b book l reply.Taken slot is legal = absurd is
-commit-live b book l (reply.LevelDone level name response) slot is legal = absurd is
-commit-live b book l (reply.Tested infeasible) slot is legal = absurd is
-commit-live b book l (reply.Refused why) slot is legal = absurd is
+past-more : (log : List Entry) (e : Entry) (desk : MachineState) → IsPast log desk
+    → IsPast (log ++ e ∷ []) desk
+past-more log e desk past = record {
+  before = past.before;
+  after = past.after ++ e ∷ [];
+  split = ap (λ (es : List Entry). es ++ e ∷ []) past.split
+      ∙ append_assoc past.before past.after (e ∷ []);
+  state = past.state;
+}
+
+-- ---- all slots
+abbrev IsSlotPast : List Entry → Option Live → Type 0
+IsSlotPast log None = Unit {0}
+IsSlotPast log (Some l) = IsPast log l.draft.base
+
+slot-more : (log : List Entry) (e : Entry) (slot : Option Live) → IsSlotPast log slot
+    → IsSlotPast (log ++ e ∷ []) slot
+slot-more log e None past = tt
+slot-more log e (Some l) past = past-more log e l.draft.base past
+
+past-get : (log : List Entry) (slots : List (Option Live)) (i : ℕ) (l : Live)
+    → All (IsSlotPast log) slots → if_live (slice_get slots i) ≡ Some l → IsPast log l.draft.base
+past-get log [] i l all is = absurd cc
+past-get log (slot ∷ slots) zero l all is =
+    subst (IsSlotPast log) is (All-head (IsSlotPast log) slot slots all)
+past-get log (slot ∷ slots) (suc i) l all is =
+    past-get log slots i l (All-tail (IsSlotPast log) slot slots all) is
+
+past-at : (log : List Entry) (slots : List (Option Live)) (draft : ℕ) (l : Live)
+    → All (IsSlotPast log) slots → live_at slots draft ≡ Some l → IsPast log l.draft.base
+past-at log slots draft l all is = elim (cases_Bool (draft == 0)) [
+  | inl none ↦ let gone : None ≡ Some l = (rw none at is) in absurd cc
+  | inr there ↦ past-get log slots (draft - 1) l all (rw there at is)
+]
+
+-- ---- a world whose book is legal, and whose live drafts are on states of its log
+record IsSound (w : World) : Type 0 where
+  pub legal : IsLegal empty_desk w.book.log
+  pub now : replay empty_desk w.book.log ≡ w.book.desk
+  pub past : All (IsSlotPast w.book.log) w.drafts
+
+-- this in the slot of a draft
+with-sound : (w v : World) (draft : ℕ) (slot : Option Live) → IsSound w
+    → IsSlotPast w.book.log slot → v ≡ with_slot w draft slot → IsSound v
+with-sound w v draft slot sound past is = subst IsSound (sym is) (record {
+  legal = sound.legal;
+  now = sound.now;
+  past = All-set (IsSlotPast w.book.log) w.drafts (draft - 1) slot past sound.past;
+})
+
+-- a draft whose base stays
+based-sound : (w v : World) (draft : ℕ) (l m : Live) → IsSound w → live_at w.drafts draft ≡ Some l
+    → m.draft.base ≡ l.draft.base → v ≡ with_slot w draft (Some m) → IsSound v
+based-sound w v draft l m sound at base is = with-sound w v draft (Some m) sound
+    (subst (IsPast w.book.log) (sym base) (past-at w.book.log w.drafts draft l sound.past at)) is
 
 -- ---- one event
-kept : (w v : World) → v.book ≡ w.book → Legal w.book → Legal v.book
-kept w v same legal = subst Legal (sym same) legal
+-- one on a draft, where what comes of it on one that is live leaves the world sound
+live-sound : (w v : World) (slot : Option Live) (r : Reply) (comes : Live → Type 0) → IsSound w
+    → ((l : Live) → slot ≡ Some l → comes l → IsSound v) → IfLive slot r (v ≡ w) comes → IsSound v
+live-sound w v None r comes sound went is = subst IsSound (sym is.1) sound
+live-sound w v (Some l) r comes sound went is = went l refl is
 
-same-book : (w v : World) (slot : Option Live) (stays : Type 0) (comes : Live → Type 0) (r : Reply)
-    → (stays → v.book ≡ w.book) → ((l : Live) → comes l → v.book ≡ w.book)
-    → IfLive slot r stays comes → v.book ≡ w.book
-same-book w v None stays comes r still went is = still is.1
-same-book w v (Some l) stays comes r still went is = went l is
+edited-base : (l m : Live) (to : Result (List (List ℕ × Change)) EditRefusal) (r : Reply)
+    → IsEdited l to r m → m.draft.base ≡ l.draft.base
+edited-base l m (Ok changes) r is = ap (λ (x : Live). x.draft.base) is.1
+edited-base l m (Err refusal) r is = ap (λ (x : Live). x.draft.base) is.1
 
-commit-there : (w v : World) (draft : ℕ) (slot : Option Live) (r : Reply)
-    → IfLive slot r (v ≡ w) (λ l. (s : Option Live) × IsCommitted w.book l r v.book s
-    × (v.drafts ≡ slice_set w.drafts (draft - 1) s)) → Legal w.book → Legal v.book
-commit-there w v draft None r is legal = kept w v (ap (λ (x : World). x.book) is.1) legal
-commit-there w v draft (Some l) r is legal = commit-live w.book v.book l r is.0 is.1 legal
+edit-sound : (w v : World) (draft : ℕ)
+    (comes_to : Live → Result (List (List ℕ × Change)) EditRefusal) (r : Reply) → IsSound w
+    → IsEdit w draft comes_to r v → IsSound v
+edit-sound w v draft comes_to r sound is = live-sound w v (live_at w.drafts draft) r _ sound
+    (λ l at x. based-sound w v draft l x.0 sound at (edited-base l x.0 (comes_to l) r x.1) x.2) is
 
-pub happens-legal : (w v : World) (e : Event) (r : Reply) → Happens w e r v → Legal w.book
-    → Legal v.book
-happens-legal w v (Open team) r is = kept w v (ap (λ (x : World). x.book) is.1)
-happens-legal w v (Put draft sheet) r is = kept w v (same-book w v (live_at w.drafts draft) (v ≡ w)
-    _ r (λ same. ap (λ (x : World). x.book) same) (λ l so. ap (λ (x : World). x.book) so.2) is)
-happens-legal w v (Remove draft name) r is = kept w v (same-book w v (live_at w.drafts draft) (v
-    ≡ w) _ r (λ same. ap (λ (x : World). x.book) same) (λ l so. ap (λ (x : World). x.book) so.2) is)
-happens-legal w v (Found draft finding) r is = kept w v (same-book w v (live_at w.drafts draft) (v
-    ≡ w) _ r (λ same. ap (λ (x : World). x.book) same) (λ l so. ap (λ (x : World). x.book) so.2) is)
-happens-legal w v (Commit draft) r is = commit-there w v draft (live_at w.drafts draft) r is
-happens-legal w v (Abandon draft) r is = kept w v (same-book w v (live_at w.drafts draft) (v ≡ w) _
-    r (λ same. ap (λ (x : World). x.book) same) (λ l so. ap (λ (x : World). x.book) so.1) is)
+-- a commit is stale, or decided
+abbrev pub Commits : Book → Live → Said → Book → Option Live → Type 0
+Commits b l s book slot =
+    (IsStale b l × (s ≡ said.Stale b.desk.version) × (book ≡ b) × (slot ≡ Some (rebased l b.desk)))
+    ⊎ ((¬ IsStale b l) × ((place : ℕ) × (e : Entry) × IsNextEntry b l.draft place e
+    × (s ≡ said.Decided place e) × (book ≡ logged b e)) × (slot ≡ None))
+
+pub commit-said : (b : Book) (l : Live) (r : Reply) (book : Book) (slot : Option Live)
+    → IsCommitted b l r book slot → Commits b l (said_of r) book slot
+commit-said b l (reply.Stale version) book slot is =
+    inl (is.0, ap (λ (v : ℕ). said.Stale v) is.1, is.2, is.3)
+commit-said b l (reply.Decided place entry) book slot is =
+    inr (is.0, (place, entry.value, is.1, refl, is.2), is.3)
+commit-said b l r book slot is = absurd is
+
+commit-sound : (w v : World) (draft : ℕ) (l : Live) (s : Said) (slot : Option Live) → IsSound w
+    → Commits w.book l s v.book slot → v.drafts ≡ slice_set w.drafts (draft - 1) slot → IsSound v
+commit-sound w v draft l s slot sound (inl stale) is = record {
+  legal = rw stale.2 sound.legal;
+  now = rw stale.2 sound.now;
+  past = rw (stale.2, is, stale.3) (All-set (IsSlotPast w.book.log) w.drafts (draft - 1)
+      (Some (rebased l w.book.desk)) (past-now w.book.log w.book.desk sound.now) sound.past);
+}
+commit-sound w v draft l s slot sound (inr (current, (place, e, next, told, book), gone)) is =
+    let log = w.book.log ++ e ∷ [] in
+    let both = logged-legal w.book e sound.legal sound.now (rw (next.1, next.2) next.3) in
+    record {
+      legal = rw book both.0;
+      now = rw book both.1;
+      past = rw (book, is, gone) (All-set (IsSlotPast log) w.drafts (draft - 1) None tt (All-weaker
+          (IsSlotPast w.book.log) (IsSlotPast log) (slot-more w.book.log e) w.drafts sound.past));
+    }
+
+happens-sound : (w v : World) (e : Event) (r : Reply) → IsSound w → Happens w e r v → IsSound v
+happens-sound w v (Open team) r sound is = subst IsSound (sym is.1) (record {
+  legal = sound.legal;
+  now = sound.now;
+  past = All-push (IsSlotPast w.book.log) w.drafts (Some (opened team w.book.desk)) sound.past
+      (past-now w.book.log w.book.desk sound.now);
+})
+happens-sound w v (Put draft sheet) r sound is =
+    edit-sound w v draft (λ l. after_put l.draft sheet) r sound is
+happens-sound w v (Remove draft name) r sound is =
+    edit-sound w v draft (λ l. after_remove l.draft name) r sound is
+happens-sound w v (Found draft finding) r sound is =
+    live-sound w v (live_at w.drafts draft) r _ sound (λ l at x. based-sound w v draft l x.0 sound
+    at (ap (λ (m : Live). m.draft.base) x.1.2) x.2) is
+happens-sound w v (Commit draft) r sound is =
+    live-sound w v (live_at w.drafts draft) r _ sound (λ l at x. commit-sound w v draft l
+    (said_of r) x.0 sound (commit-said w.book l r v.book x.0 x.1) x.2) is
+happens-sound w v (Abandon draft) r sound is =
+    live-sound w v (live_at w.drafts draft) r _ sound
+    (λ l at x. with-sound w v draft None sound tt x.1) is
 
 -- ---- all events
-run-kept : (w v : World) (events : List Event) (replies : List Reply) → IsRun w events replies v
-    → Legal w.book → Legal v.book
-run-kept w v [] [] run legal = kept w v (ap (λ (x : World). x.book) run) legal
-run-kept w v [] (r ∷ replies) run legal = absurd run
-run-kept w v (e ∷ events) [] run legal = absurd run
-run-kept w v (e ∷ events) (r ∷ replies) run legal =
-    run-kept run.0 v events replies run.2 (happens-legal w run.0 e r run.1 legal)
+run-sound : (w v : World) (events : List Event) (replies : List Reply) → IsSound w
+    → IsRun w events replies v → IsSound v
+run-sound w v [] [] sound run = subst IsSound (sym run) sound
+run-sound w v (e ∷ events) (r ∷ replies) sound run =
+    run-sound run.0 v events replies (happens-sound w run.0 e r sound run.1) run.2
+run-sound w v events replies sound run = absurd run
+
+sound : (events : List Event) (replies : List Reply) (v : World) → IsRun start events replies v
+    → IsSound v
+sound events replies v run =
+    run-sound start v events replies (record { legal = tt; now = refl; past = All-nil _ }) run
 
 pub run-legal : (events : List Event) (replies : List Reply) (v : World)
     → IsRun start events replies v → IsLegalBook v.book
 run-legal events replies v run =
-    let done = run-kept start v events replies run (tt, refl) in
-    record { legal = done.0; replay = done.1; version = version-counts v.book done.0 done.1 }
+    let so = sound events replies v run in
+    record { legal = so.legal; replay = so.now; version = version-counts v.book so.legal so.now }
+
+pub base-past : (events : List Event) (replies : List Reply) (v : World) (draft : ℕ) (l : Live)
+    → IsRun start events replies v → live_at v.drafts draft ≡ Some l
+    → IsPast v.book.log l.draft.base
+base-past events replies v draft l run at =
+    past-at v.book.log v.drafts draft l (sound events replies v run).past at

@@ -1,6 +1,5 @@
 pub mod FindingLaws
 pub mod ProgressLaws
-pub mod ToldLaws
 pub mod ClosingLaws
 pub mod StepLaws
 pub mod StageLaws
@@ -14,4 +13,3 @@ pub mod Determined
 pub mod LevelLaws
 pub mod AdvanceLaws
 pub mod LegalLaws
-pub mod PastLaws

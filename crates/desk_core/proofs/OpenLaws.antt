@@ -14,7 +14,7 @@ use Rattle.task_sheet.specs.Choices.{does_stand, or_last, least_below, chosen_of
 use Rattle.task_sheet.proofs.MembersEdits.{len-set_of, set_of-zero}
 use Rattle.task_sheet.proofs.MembersIndexes.{len-of_member, len-remove_member}
 use Rattle.assignment.specs.Questions.{QuestionData}
-use Rattle.assignment.specs.Levels.{LevelState, IsDecided}
+use Rattle.assignment.specs.Levels.{LevelState}
 use Rattle.desk_core.specs.Findings.{Asked, asked_of, is_on, level_of, missing_after, IsPresent}
 use Rattle.desk_core.specs.Findings.{IsNews, AreNews}
 use Rattle.desk_core.proofs.FindingLaws.{level_of-on, level_of-off, asked-on}
@@ -72,17 +72,11 @@ narrow U (suc k) = elim (narrow U k) [
   | inr stuck ↦ inr (stuck.0, omega (arith, stuck.1), rw (stuck.2, stuck.3) refl, stuck.3)
 ]
 
-level-same : (U : List Task) (found : List Asked) (j k : ℕ) → level_at U j ≡ level_at U k
-    → level_of U found j ≡ level_of U found k
-level-same U found j k same = ap (λ (m : members.FinSet nat_cmp). let x : LevelState =
-    record { set = U; left = m; missing = missing_after m m found } in x) same
-
 present-narrow : (U : List Task) (found : List Asked) (k : ℕ) → IsPresent U found k
     → members.len (level_at U k) + k ≤ length U
 present-narrow U found k present = elim (narrow U k) [
   | inl le ↦ le
-  | inr stuck ↦ absurd (present.undecided (subst (λ (l : LevelState). IsDecided l)
-      (level-same U found stuck.0 k (sym stuck.2)) (present.before stuck.0 stuck.1)))
+  | inr stuck ↦ absurd (present.undecided (rw stuck.2 (present.before stuck.0 stuck.1)))
 ]
 
 -- ---- what a level misses

@@ -1,7 +1,8 @@
 -- How far the test of a draft has come, from stage to stage.
 use Rattle.std.proofs.Common.{◌≡◌, ◌∙◌, ◌↔◌, ℕ, zero, suc, ◌<◌, List, [], length, map, None, Result}
-use Rattle.std.proofs.Common.{Ok, Err, Box, Global, IfOk, IsTrue, refl, sym, ap, subst, arith}
+use Rattle.std.proofs.Common.{Ok, Err, Box, Global, IsTrue, refl, sym, ap, subst, arith}
 use Rattle.std.specs.Ordering.{nat_cmp}
+use Rattle.std.specs.Global.{Vec}
 use Rattle.std.specs.declared.sync.Arc.{Arc}
 use Rattle.std.specs.FinSet.{FinSet, contains, empty}
 use Rattle.std.proofs.lemmas.Bool.{lt-ltb}
@@ -13,7 +14,6 @@ use Rattle.task_sheet.specs.Choices.{level_at}
 use Rattle.task_sheet.proofs.MembersIndexes.{indexes_of-all_below, indexes_of-empty}
 use Rattle.drafts.specs.declared.roster.Owned.{Owned}
 use Rattle.drafts.specs.declared.change.Refusal.{Refusal}
-use Rattle.desk_core.specs.declared.events.Standing.{Standing}
 use Rattle.desk_core.specs.declared.events.Standing.TheVariants as standing
 use Rattle.desk_core.specs.declared.notes.Notes.{Notes}
 use Rattle.desk_core.specs.declared.stage.Kept.{Kept}
@@ -21,10 +21,10 @@ use Rattle.desk_core.specs.declared.stage.Stage.{Stage}
 use Rattle.desk_core.specs.declared.stage.Stage.TheVariants.{Trying, Tested}
 use Rattle.drafts.specs.Applied.{set_of}
 use Rattle.desk_core.specs.Trials.{TrialData, names_of}
-use Rattle.desk_core.specs.Findings.{Asked, IsTested}
+use Rattle.desk_core.specs.Findings.{Asked, level_of, IsTested}
 use Rattle.desk_core.specs.World.{IsTestedOn, IsShown}
 use Rattle.desk_core.specs.Stages.{found_of, IsKeptOn, IsStage, IsTrialOn}
-use Rattle.desk_core.specs.Standings.{IsNaming, IsStandingOn, IsQuestionOn}
+use Rattle.desk_core.specs.Standings.{IsStandingOn, IsQuestionOn}
 use Rattle.drafts.specs.Edits.{HasTasks}
 use Rattle.desk_core.proofs.FindingLaws.{fresh-undecided}
 
@@ -44,12 +44,8 @@ pub trying-tested : (outcome : Result (List Owned) Refusal) (trial : TrialData) 
     → IsTrialOn outcome trial → trial.found ≡ found → IsTested trial.set trial.found
     ↔ IsTestedOn outcome found
 trying-tested (Err refusal) trial found so same = absurd so
-trying-tested (Ok tasks) trial found so same = (
-  λ tested. subst (λ xs. IsTested (set_of tasks) xs) same
-      (subst (λ U. IsTested U trial.found) so tested),
-  λ tested. subst (λ U. IsTested U trial.found) (sym so)
-      (subst (λ xs. IsTested (set_of tasks) xs) (sym same) tested),
-)
+trying-tested (Ok tasks) trial found so same =
+    (λ tested. rw (← same, ← so) tested, λ tested. rw (so, same) tested)
 
 pub tested-tested : (outcome : Result (List Owned) Refusal) (set : Arc (List Task) Global)
     (members : FinSet nat_cmp) (kept : Kept) (found : Notes)
@@ -63,21 +59,16 @@ pub tested-stage : (outcome : Result (List Owned) Refusal) (stage : Stage)
     (brought : List Asked) → stage ≡ Tested set members kept found → IsStage outcome stage
     → found_of stage ≡ brought → IsTestedOn outcome brought
 tested-stage outcome stage set members kept found brought is so same =
-    let tested = tested-tested outcome set members kept found
-    (subst (λ (s : Stage). IsStage outcome s) is so) in
-    subst (λ (xs : List Asked). IsTestedOn outcome xs)
-    (sym (ap (λ (s : Stage). found_of s) is) ∙ same) tested
+    subst (IsTestedOn outcome) (sym (ap found_of is) ∙ same)
+    (tested-tested outcome set members kept found (rw is at so))
 
 -- a trial that goes on is one of what the changes come to, with the findings that were brought
 pub trying-stage : (outcome : Result (List Owned) Refusal) (stage : Stage)
     (trial : Box TrialData Global) (now : TrialData) (brought : List Asked) → stage ≡ Trying trial
     → now ≡ trial.value → IsStage outcome stage → found_of stage ≡ brought → IsTrialOn outcome now
     × (now.found ≡ brought)
-trying-stage outcome stage trial now brought is at so same = (
-  subst (λ (t : TrialData). IsTrialOn outcome t) (sym at)
-      (subst (λ (s : Stage). IsStage outcome s) is so),
-  ap (λ (t : TrialData). t.found) at ∙ sym (ap (λ (s : Stage). found_of s) is) ∙ same,
-)
+trying-stage outcome stage trial now brought is at so same =
+    (rw at (rw is at so), ap (λ (t : TrialData). t.found) at ∙ sym (ap found_of is) ∙ same)
 
 pub trying-rest : (outcome : Result (List Owned) Refusal) (trial : TrialData)
     (set : Arc (List Task) Global) (members : FinSet nat_cmp) (kept : Kept) (found : Notes)
@@ -88,48 +79,31 @@ pub trying-rest : (outcome : Result (List Owned) Refusal) (trial : TrialData)
 trying-rest (Err refusal) trial set members kept found so of_set tested shown same right = absurd so
 trying-rest (Ok tasks) trial set members kept found so of_set tested shown same right = (
   of_set ∙ so,
-  subst (λ U. IsTested U found.items) so (subst (λ xs. IsTested trial.set xs) (sym same) tested),
-  subst (λ U. IsShown U (names_of U members)) so shown,
+  rw (same, ← so) tested,
+  rw (← so) shown,
   right tasks (sym so),
 )
 
--- the verdict of a test that is complete, and one kept in its place
+-- the verdict of a test that is complete is right, and so is the stage with another one that is
 pub tested-kept : (outcome : Result (List Owned) Refusal) (stage : Stage)
     (set : Arc (List Task) Global) (members : FinSet nat_cmp) (kept : Kept) (found : Notes)
     → stage ≡ Tested set members kept found → IsStage outcome stage → IsKeptOn outcome kept
+    × ((other : Kept) → IsKeptOn outcome other → IsStage outcome (Tested set members other found))
 tested-kept (Err refusal) stage set members kept found is so =
-    absurd (subst (λ (s : Stage). IsStage (Err refusal) s) is so)
+    absurd (rw is at so)
 tested-kept (Ok tasks) stage set members kept found is so =
-    (subst (λ (s : Stage). IsStage (Ok tasks) s) is so).3
-
-pub kept-again : (outcome : Result (List Owned) Refusal) (set : Arc (List Task) Global)
-    (members : FinSet nat_cmp) (kept other : Kept) (found : Notes)
-    → (IsKeptOn outcome kept → IsKeptOn outcome other) → IsStage outcome
-    (Tested set members kept found) → IsStage outcome (Tested set members other found)
-kept-again (Err refusal) set members kept other found right so = absurd so
-kept-again (Ok tasks) set members kept other found right so = (so.0, so.1, so.2, right so.3)
+    let now = rw is at so in
+    (now.3, λ other right. (now.0, now.1, now.2, right))
 
 -- ---- where it stands
-pub tested-standing : {E : Type 0} (outcome : Result (List Owned) Refusal)
-    (set : Arc (List Task) Global) (members : FinSet nat_cmp) (kept : Kept) (found : Notes)
-    (before : List Asked) (result : Result Standing E)
-    → IsStage outcome (Tested set members kept found) → found.items ≡ before
-    → IfOk result (IsNaming (names_of set.value members))
-    → IfOk result (IsStandingOn outcome before)
-tested-standing (Err refusal) set members kept found before result so same is = absurd so
-tested-standing (Ok tasks) set members kept found before (Err e) so same is = tt
-tested-standing (Ok tasks) set members kept found before (Ok (standing.Tested infeasible)) so
-    same is = (
-      subst (λ xs. IsTested (set_of tasks) xs) same so.1,
-      subst (λ ns. IsShown (set_of tasks) ns)
-          (sym (is ∙ ap (λ U. names_of U members) so.0)) so.2,
-    )
-tested-standing (Ok tasks) set members kept found before (Ok (standing.Asking question)) so same
-    is = absurd is
-tested-standing (Ok tasks) set members kept found before (Ok standing.NoSuchDraft) so same is =
-    absurd is
-tested-standing (Ok tasks) set members kept found before (Ok standing.Untestable) so same is =
-    absurd is
+pub tested-standing : (outcome : Result (List Owned) Refusal) (set : Arc (List Task) Global)
+    (members : FinSet nat_cmp) (kept : Kept) (found : Notes) (before : List Asked)
+    (infeasible : Vec (List ℕ)) → IsStage outcome (Tested set members kept found)
+    → found.items ≡ before → infeasible.items ≡ names_of set.value members
+    → IsStandingOn outcome before (standing.Tested infeasible)
+tested-standing (Err refusal) set members kept found before infeasible so same is = absurd so
+tested-standing (Ok tasks) set members kept found before infeasible so same is =
+    (rw (← same) so.1, rw (is, so.0) so.2)
 
 -- a draft that is tested asks nothing
 pub tested-unasked : (outcome : Result (List Owned) Refusal) (found : List Asked) (name : List ℕ)
@@ -144,12 +118,7 @@ unfolding level_at
 untested U some tested =
     let member : IsTrue (contains (all_below (length U)) 0) =
     ap (λ X. X 0) (indexes_of-all_below (length U)) ∙ lt-ltb 0 (length U) some in
-    fresh-undecided (record {
-      set = U;
-      left = all_below (length U);
-      missing =
-          all_below (length U);
-    }) refl 0 member (tested 0)
+    fresh-undecided (level_of U [] 0) refl 0 member (tested 0)
 
 pub fresh-untested : (outcome : Result (List Owned) Refusal) → HasTasks outcome
     → ¬ IsTestedOn outcome []

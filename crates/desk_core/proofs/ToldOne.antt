@@ -5,11 +5,9 @@ use Rattle.std.specs.FinSet.{contains}
 use Rattle.std.proofs.lemmas.Bool.{cases_order, both_ways}
 use Rattle.task_sheet.specs.Sheet.{Task}
 use Rattle.task_sheet.specs.Indexes.{Indexes, indexes_of, without_index}
-use Rattle.task_sheet.specs.Demand.{IsResponseOf}
 use Rattle.task_sheet.specs.Levels.{IsChosen}
 use Rattle.task_sheet.proofs.PassingLaws.{IsResponseOf-one}
 use Rattle.assignment.specs.Questions.{QuestionData}
-use Rattle.assignment.specs.Levels.{IsAsked}
 use Rattle.desk_core.specs.declared.told.Told.{Told}
 use Rattle.desk_core.specs.declared.told.Told.TheVariants.{Stranger, Twice, Taken, LevelDone}
 use Rattle.desk_core.specs.declared.told.Told.TheVariants.{Tested}
@@ -28,11 +26,6 @@ chosen-one U L i j first second = elim (cases_order i j) [
 ]
 
 module _ (U : List Task) (found : List Asked) (q : QuestionData) where
-  -- no stranger
-  asks : (k : ℕ) → IsPresent U found k → IsAsked (level_of U found k) q
-      → IsTold U found q Stranger → ⊥
-  asks k present asked stranger = stranger k present asked
-
   -- a candidate without a finding has none at the same level
   twice-news : (j k : ℕ) → IsPresent U found j
       → IsFalse (contains (level_of U found j).missing q.task) → IsNews U found q k → ⊥
@@ -55,34 +48,33 @@ module _ (U : List Task) (found : List Asked) (q : QuestionData) where
       → IsLevelDone U (found ++ asked_of q ∷ []) k level' task' response'
       → LevelDone level task response ≡ LevelDone level' task' response'
   done-one j k level task response level' task' response' same a b =
-      let first =
-      subst (λ n. IsLevelDone U (found ++ asked_of q ∷ []) n level task response) same a in
+      let first = rw same at a in
       let number : level ≡ level' = first.number ∙ sym b.number in
       let L : Indexes = indexes_of (level_at U k) in
       let chosen : task ≡ task' = chosen-one U L task task' first.chosen b.chosen in
       let right : response ≡ response' =
       IsResponseOf-one U task' (without_index L task') response response'
-      (subst (λ i. IsResponseOf U i (without_index L i) response) chosen first.right) b.right in
+      (rw chosen at first.right) b.right in
       λ i. LevelDone (number i) (chosen i) (right i)
 
   pub told-one : (a b : Told) → IsTold U found q a → IsTold U found q b → a ≡ b
   told-one Stranger Stranger x y = refl
-  told-one Stranger Twice x y = absurd (asks y.0 y.1 y.2 x)
-  told-one Stranger Taken x y = absurd (asks y.0 y.1.present y.1.asked x)
-  told-one Stranger (LevelDone level task response) x y = absurd (asks y.0 y.1.present y.1.asked x)
-  told-one Stranger Tested x y = absurd (asks y.0 y.1.present y.1.asked x)
-  told-one Twice Stranger x y = absurd (asks x.0 x.1 x.2 y)
+  told-one Stranger Twice x y = absurd (x y.0 y.1 y.2)
+  told-one Stranger Taken x y = absurd (x y.0 y.1.present y.1.asked)
+  told-one Stranger (LevelDone level task response) x y = absurd (x y.0 y.1.present y.1.asked)
+  told-one Stranger Tested x y = absurd (x y.0 y.1.present y.1.asked)
+  told-one Twice Stranger x y = absurd (y x.0 x.1 x.2)
   told-one Twice Twice x y = refl
   told-one Twice Taken x y = absurd (twice-news x.0 y.0 x.1 x.3 y.1)
   told-one Twice (LevelDone level task response) x y = absurd (twice-news x.0 y.0 x.1 x.3 y.1)
   told-one Twice Tested x y = absurd (twice-news x.0 y.0 x.1 x.3 y.1)
-  told-one Taken Stranger x y = absurd (asks x.0 x.1.present x.1.asked y)
+  told-one Taken Stranger x y = absurd (y x.0 x.1.present x.1.asked)
   told-one Taken Twice x y = absurd (twice-news y.0 x.0 y.1 y.3 x.1)
   told-one Taken Taken x y = refl
   told-one Taken (LevelDone level task response) x y =
       absurd (taken-done x.0 y.0 level task response x.1.present x.2 y.1.present y.2)
   told-one Taken Tested x y = absurd (x.2.undecided (y.2 x.0))
-  told-one (LevelDone level task response) Stranger x y = absurd (asks x.0 x.1.present x.1.asked y)
+  told-one (LevelDone level task response) Stranger x y = absurd (y x.0 x.1.present x.1.asked)
   told-one (LevelDone level task response) Twice x y = absurd (twice-news y.0 x.0 y.1 y.3 x.1)
   told-one (LevelDone level task response) Taken x y =
       absurd (taken-done y.0 x.0 level task response y.1.present y.2 x.1.present x.2)
@@ -90,7 +82,7 @@ module _ (U : List Task) (found : List Asked) (q : QuestionData) where
       done-one x.0 y.0 level task response level' task' response'
       (IsPresent-one U found x.0 y.0 x.1.present y.1.present) x.2 y.2
   told-one (LevelDone level task response) Tested x y = absurd (x.2.next.undecided (y.2 (suc x.0)))
-  told-one Tested Stranger x y = absurd (asks x.0 x.1.present x.1.asked y)
+  told-one Tested Stranger x y = absurd (y x.0 x.1.present x.1.asked)
   told-one Tested Twice x y = absurd (twice-news y.0 x.0 y.1 y.3 x.1)
   told-one Tested Taken x y = absurd (y.2.undecided (x.2 y.0))
   told-one Tested (LevelDone level task response) x y = absurd (y.2.next.undecided (x.2 (suc y.0)))

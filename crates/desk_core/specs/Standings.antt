@@ -5,7 +5,8 @@ use Rattle.assignment.specs.Questions.{QuestionData}
 use Rattle.drafts.specs.declared.roster.Owned.{Owned}
 use Rattle.drafts.specs.declared.change.Refusal.{Refusal}
 use Rattle.desk_core.specs.declared.events.Standing.{Standing}
-use Rattle.desk_core.specs.declared.events.Standing.TheVariants.{NoSuchDraft, Untestable, Asking, Tested}
+use Rattle.desk_core.specs.declared.events.Standing.TheVariants.{NoSuchDraft, Untestable, Asking}
+use Rattle.desk_core.specs.declared.events.Standing.TheVariants.{Tested}
 use Rattle.drafts.specs.Applied.{set_of}
 use Rattle.desk_core.specs.Asking.{IsNextAsked, IsQuestionNamed}
 use Rattle.desk_core.specs.Findings.{Asked, IsTested}
@@ -18,11 +19,6 @@ IsTrying U found (Asking q) = (k : ℕ) × IsNextAsked U found q k
 IsTrying U found (Tested infeasible) = IsTested U found × IsShown U infeasible.items
 IsTrying U found NoSuchDraft = ⊥
 IsTrying U found Untestable = ⊥
-
--- the verdict is complete and shows just these names
-abbrev pub IsNaming : List (List ℕ) → Standing → Type 0
-IsNaming names (Tested infeasible) = infeasible.items ≡ names
-IsNaming names _ = ⊥
 
 -- where a draft stands whose changes come to this
 abbrev pub IsStandingOn : Result (List Owned) Refusal → List Asked → Standing → Type 0

@@ -5,7 +5,7 @@ ghost use Rattle.drafts.specs.Books.{logged, IsNextEntry};
 ghost use Rattle.drafts.specs.Edits.{after_put, after_remove, on_base};
 ghost use Rattle.desk_core.specs.Findings.{asked_of, IsTold};
 ghost use Rattle.desk_core.specs.Advances.{IsAdvancedIn, IsAdvancedOn};
-ghost use Rattle.desk_core.specs.Brought.{IsTelling, IsBrought};
+ghost use Rattle.desk_core.specs.Brought.{IsTelling};
 ghost use Rattle.desk_core.specs.declared.told.Told.{Told};
 ghost use Rattle.desk_core.specs.World.{opened, rebased, IsEdited, IsToldReply, IsFound, IsBroughtTo, IsTestedDraft};
 ghost use Rattle.desk_core.specs.Standings.{IsQuestionOn, IsStandingOn};
@@ -80,7 +80,8 @@ fn reply_to(trial: &Trial, told: Told, names: Vec<Name>) -> Reply
 
 // Brings a finding to a trial.
 fn bring(alloc: Global, trial: &mut Trial, finding: Finding) -> Result<Reply, Finding>
-    ensures brought { IfOk result (λ r. IsBrought trial.old finding.question r trial.new.found) }
+    ensures brought { (outcome : Result (List Owned) Refusal) → IsTrialOn outcome trial.old
+        → IfOk result (λ r. IsFound outcome trial.old.found finding.question r trial.new.found) }
     ensures same { trial.new.set ≡ trial.old.set }
     ensures err { OnErr result (trial.new ≡ trial.old) }
     ensures back { IfErr result (λ back. back ≡ finding) }

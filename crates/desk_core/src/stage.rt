@@ -8,8 +8,7 @@ ghost use Rattle.drafts.specs.Edits.{on_base};
 ghost use Rattle.desk_core.specs.Stages.{found_of, IsKeptOn, IsStage, IsBegun, IsTrialOf};
 ghost use Rattle.desk_core.specs.declared.stage.Kept.TheVariants.{Own};
 ghost use Rattle.desk_core.specs.declared.stage.Stage.TheVariants.{Trying};
-ghost use Rattle.desk_core.specs.Standings.{IsNaming, IsQuestionOn, IsStandingOn, IsTrying};
-ghost use Rattle.desk_core.specs.Trials.{names_of};
+ghost use Rattle.desk_core.specs.Standings.{IsQuestionOn, IsStandingOn, IsTrying};
 ghost use Rattle.desk_core.specs.World.{IsTestedOn};
 
 use crate::events::Standing;
@@ -172,18 +171,6 @@ fn share_kept(alloc: Global, kept: &mut Kept) -> Result<(), AllocError>
     Ok(())
 }
 
-// Shares the verdict of a test, where it is complete.
-fn share_verdict(alloc: Global, stage: &mut Stage) -> Result<(), AllocError>
-    ensures kept { (outcome : Result (List Owned) Refusal) → IsStage outcome stage.old
-        → IsStage outcome stage.new }
-    ensures found { found_of stage.new ≡ found_of stage.old }
-{
-    match stage {
-        Stage::Tested { kept, .. } => share_kept(alloc, kept),
-        _ => Ok(()),
-    }
-}
-
 // Enters a verdict into the book, where it is shared.
 fn enter_kept(
     alloc: Global,
@@ -223,11 +210,12 @@ pub fn enter(
     ensures err { OnErr result (book.new ≡ book.old) }
 {
     put_away(stage);
-    share_verdict(alloc, stage)?;
-    match &*stage {
-        Stage::Fresh => Ok(None),
-        Stage::Trying { .. } => Ok(None),
-        Stage::Tested { kept, .. } => enter_kept(alloc, draft, kept, book),
+    match stage {
+        Stage::Tested { kept, .. } => {
+            share_kept(alloc, kept)?;
+            enter_kept(alloc, draft, kept, book)
+        }
+        _ => Ok(None),
     }
 }
 
@@ -284,20 +272,15 @@ pub fn standing(alloc: Global, draft: &Draft, stage: &mut Stage) -> Result<Stand
     if !begin(alloc, draft, stage)? {
         return Ok(Standing::Untestable);
     }
-    match stage {
+    match &*stage {
         Stage::Fresh => unreachable!(),
         Stage::Trying { trial } => trying(alloc, trial),
-        Stage::Tested { set, members, .. } => tested(alloc, set, *members),
+        Stage::Tested { set, members, .. } => {
+            let room = Vec::with_capacity(alloc, set.len())?;
+            let infeasible = list_names(set, *members, room);
+            Ok(Standing::Tested { infeasible })
+        }
     }
-}
-
-// That a test is complete whose verdict shows the names of these tasks.
-fn tested(alloc: Global, set: &Arc<TaskSet>, members: Members) -> Result<Standing, AllocError>
-    ensures { IfOk result (IsNaming (names_of set.now.value members)) }
-{
-    let room = Vec::with_capacity(alloc, set.len())?;
-    let infeasible = list_names(set, members, room);
-    Ok(Standing::Tested { infeasible })
 }
 
 /// The question on the candidate of a name at a draft's present level.

@@ -1,6 +1,6 @@
 //! The test of a set by findings that come in any order.
 
-ghost use Rattle.std.specs.Prelude.{◌≡◌, ◌↔◌, ◌<◌, ◌≤◌, ◌+◌, [], ◌∷◌, ◌++◌, List, length, map, None, Some, ℕ, IsTrue, IsFalse, MatchOption, IfOk, IfErr, OnOk, OnErr, vec_capacity};
+ghost use Rattle.std.specs.Prelude.{◌≡◌, ◌↔◌, ◌<◌, ◌≤◌, ◌+◌, [], ◌∷◌, ◌++◌, List, length, map, None, Some, ℕ, IsTrue, IsFalse, MatchOption, IfOk, IfErr, OnErr, vec_capacity};
 ghost use Rattle.std.specs.FinSet.{contains, remove};
 ghost use Rattle.desk_core.specs.Asking.{IsAsking, IsQuestionNamed};
 ghost use Rattle.task_sheet.specs.Indexes.{indexes_of, listed_below, IsPart};
@@ -54,16 +54,16 @@ impl Model for Trial {
     ghost invariant = { IsTrialKept };
 }
 
-// Starts the present level where it is not kept yet.
-fn start_level(alloc: Global, climb: &Climb, level: &mut Option<Level>) -> Result<(), AllocError>
+// The present level, which is started where it is not kept yet.
+fn start_level(alloc: Global, climb: &Climb, kept: Option<Level>) -> Result<Level, AllocError>
     requires { IsUnfinished climb.now }
-    ensures ok { OnOk result (level.new ≡ Some (present_of climb.now level.old)) }
-    ensures err { OnErr result (level.new ≡ level.old) }
+    ensures ok { IfOk result (λ level. level ≡ present_of climb.now kept) }
+    ensures err { OnErr result (kept ≡ None) }
 {
-    if level.is_none() {
-        *level = Some(climb.start_level(alloc)?);
+    match kept {
+        Some(level) => Ok(level),
+        None => climb.start_level(alloc),
     }
-    Ok(())
 }
 
 // The task of a closed level, and its response.
@@ -332,11 +332,8 @@ impl Trial {
         if !self.climb.is_unfinished() {
             return Ok(Told::Stranger);
         }
-        if start_level(alloc, &self.climb, &mut self.level).is_err() {
+        let Ok(level) = start_level(alloc, &self.climb, self.level.take()) else {
             return Err(finding);
-        }
-        let Some(level) = self.level.take() else {
-            unreachable!();
         };
         let brought = Snapshot::of(&finding);
         let (told, kept) = take_at(&mut self.climb, level, finding);
@@ -355,13 +352,10 @@ impl Trial {
         if !self.climb.is_unfinished() {
             return Ok(None);
         }
-        start_level(alloc, &self.climb, &mut self.level)?;
-        let Some(level) = &self.level else {
-            unreachable!();
-        };
-        let finding = find_least(alloc, &self.table, level)?;
-        let Some(level) = self.level.take() else {
-            unreachable!();
+        let level = start_level(alloc, &self.climb, self.level.take())?;
+        let Ok(finding) = find_least(alloc, &self.table, &level) else {
+            self.level = Some(level);
+            return Err(AllocError);
         };
         let brought = Snapshot::of(&finding);
         let (told, kept) = accept_at(&mut self.climb, level, finding);

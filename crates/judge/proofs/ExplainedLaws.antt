@@ -1,6 +1,6 @@
 -- The lines of an order's levels, one after the other.
-use Rattle.std.proofs.Common.{◌≡◌, ◌∙◌, ℕ, suc, ◌+◌, ◌<◌, ◌≤◌, List, [], ◌∷◌, ◌++◌, length, All}
-use Rattle.std.proofs.Common.{Option, append_assoc, refl, sym, ap, subst, arith}
+use Rattle.std.proofs.Common.{◌≡◌, ℕ, suc, ◌+◌, ◌<◌, ◌≤◌, List, [], ◌∷◌, ◌++◌, length, All, Option}
+use Rattle.std.proofs.Common.{append_assoc, refl, arith}
 use Rattle.std.proofs.lemmas.List.{get_or-map, length-map}
 use Rattle.task_sheet.specs.Sheet.{Task}
 use Rattle.judge.specs.Explained.{AreAskedLines, AreLevels, is_asked}
@@ -20,13 +20,10 @@ pub levels_next : (parted : Parted) (U : List Task) (asked : Option ℕ) (number
     → AreLevels parted U asked 1 judged (now ++ more)
 levels_next parted U asked number next judged rest above j before level now split counted pushed is
     whole more are =
-    let are' = subst (λ (n : ℕ). AreLevels parted U asked n above more) counted are in
+    let are' = rw counted at are in
     let here : AreLevels parted U asked number (j ∷ above) (level ++ more) =
     (level, more, is, are', refl) in
-    let all = whole (level ++ more) (subst (λ (js : List JudgedTask). AreLevels parted U asked
-    number js (level ++ more)) (sym split) here) in
-    subst (λ (text : List ℕ). AreLevels parted U asked 1 judged text)
-    (sym (ap (λ (t : List ℕ). t ++ more) pushed ∙ append_assoc before level more)) all
+    rw (pushed, append_assoc before level more) (whole (level ++ more) (rw split here))
 
 pub none_left : (parted : Parted) (U : List Task) (asked : Option ℕ) (number : ℕ)
     (judged : List JudgedTask) → length judged ≡ 0 → AreLevels parted U asked number judged []

@@ -1,7 +1,6 @@
 -- The tasks of an order, judged one after the other.
-use Rattle.std.proofs.Common.{◌≡◌, ◌∙◌, ℕ, ◌+◌, ◌<◌, ◌≤◌}
-use Rattle.std.proofs.Common.{List, [], ◌∷◌, ◌++◌, length, get_or, take, drop, append-nil}
-use Rattle.std.proofs.Common.{sym, ap, subst, append_assoc}
+use Rattle.std.proofs.Common.{◌≡◌, ◌∙◌, ℕ, ◌+◌, ◌<◌, ◌≤◌, List, [], ◌∷◌, ◌++◌, length, get_or, take}
+use Rattle.std.proofs.Common.{drop, append-nil, sym, ap, subst, append_assoc}
 use Rattle.std.proofs.lemmas.List.{drop_more, take_more, take_all, map_push}
 use Rattle.std.proofs.Math.ListN.{drop_of_length-le}
 use Rattle.task_sheet.specs.Sheet.{Task}
@@ -26,20 +25,18 @@ judged_step U order place judged judged' j lt so task is pushed = record {
       ∙ ap (λ xs. xs ++ j.task ∷ []) so.tasks ∙ ap (λ i. take place order ++ i ∷ []) task
       ∙ sym (take_more order place 0 lt);
   front = λ rest same all.
-      let here = subst (λ i. IsJudgementOf U i (among (order_judged rest)) j.judgement) (sym task)
-      (subst (λ xs. IsJudgementOf U (get_or order place 0) (among xs) j.judgement)
-      (sym same) is) in
+      let here : IsJudgementOf U j.task (among (order_judged rest)) j.judgement =
+      rw (task, same) is in
       let from : order_judged (j ∷ rest) ≡ drop place order = ap (λ xs. j.task ∷ xs) same
       ∙ ap (λ i. i ∷ drop (place + 1) order) task ∙ sym (drop_more order place 0 lt) in
-      subst (λ xs. AllJudged U xs) (sym (ap (λ xs. xs ++ rest) pushed
-      ∙ append_assoc judged (j ∷ []) rest)) (so.front (j ∷ rest) from (here, all));
+      rw (pushed, append_assoc judged (j ∷ []) rest) (so.front (j ∷ rest) from (here, all));
 }
 
 pub judged_start : (U : List Task) (order : List ℕ) (judged : List JudgedTask) → judged ≡ []
     → IsJudgedTo U order 0 judged
 judged_start U order judged none = record {
   tasks = ap order_judged none;
-  front = λ rest same all. subst (λ xs. AllJudged U (xs ++ rest)) (sym none) all;
+  front = λ rest same all. rw none all;
 }
 
 pub judged_end : (U : List Task) (order : List ℕ) (place : ℕ) (judged : List JudgedTask)

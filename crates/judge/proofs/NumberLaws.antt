@@ -1,22 +1,20 @@
 -- The order that the numbers of threads give.
-use Rattle.std.proofs.Common.{◌≡◌, ◌∙◌, ℕ, zero, suc, ◌+◌, ◌<◌, ◌≤◌, Bool, true, false, not, cond}
-use Rattle.std.proofs.Common.{◌==◌, inl, inr, List, [], ◌∷◌, ◌++◌, map, length, get_or}
-use Rattle.std.proofs.Common.{append_assoc, append-nil, length-append, Some, None, All, refl, sym}
-use Rattle.std.proofs.Common.{ap, subst, arith, count_by}
-use Rattle.std.specs.List.{find, list_any, AllByRecursion}
+use Rattle.std.proofs.Common.{◌≡◌, ◌∙◌, ℕ, zero, suc, ◌+◌, ◌<◌, ◌≤◌, Bool, true, false, cond, ◌==◌}
+use Rattle.std.proofs.Common.{inl, inr, List, [], ◌∷◌, ◌++◌, map, length, get_or, append_assoc}
+use Rattle.std.proofs.Common.{append-nil, length-append, Some, None, All, refl, sym, ap, subst}
+use Rattle.std.proofs.Common.{arith, count_by}
+use Rattle.std.specs.List.{list_any}
 use Rattle.std.specs.List.Sorted.{IsPermutation, IsNonDecreasingBy}
-use Rattle.std.specs.Option.{option_map}
-use Rattle.std.proofs.lemmas.Option.{none-some}
 use Rattle.std.proofs.lemmas.Bool.{cases_Bool, cases_eq, cases_lt, cases_order, both_ways}
 use Rattle.std.proofs.lemmas.Bool.{true≢false, lt-ltb, ltb-true, eq-eqb, and_parts, and_from}
-use Rattle.std.proofs.lemmas.Bool.{or_left, or_right, or_parts, or_cases}
+use Rattle.std.proofs.lemmas.Bool.{or_left, or_right, or_parts}
 use Rattle.std.proofs.lemmas.List.{get_or-map, get_or_append_left, map_push, length-map}
 use Rattle.std.proofs.Math.Seq.{get_or-append_seam}
 use Rattle.std.proofs.lemmas.Slice.Eq.{bytes_eq-Decides}
-use Rattle.std.proofs.lemmas.List.Elements.{All-push}
+use Rattle.std.proofs.lemmas.List.Elements.{All-push, All-from_recursion}
 use Rattle.std.proofs.lemmas.List.Sorted.{All-permutation, IsPermutation-map, sum_by-IsPermutation}
 use Rattle.std.specs.Cmp.Lexicographic.{nat_list_eq_equiv}
-use Rattle.task_sheet.specs.Sheet.{Task, same_bytes, task_at}
+use Rattle.task_sheet.specs.Sheet.{Task, same_bytes, no_task, task_at}
 use Rattle.task_sheet.specs.TaskSet.{IsTaskSet, AreDistinct, same_name}
 use Rattle.task_sheet.specs.Indexes.{Indexes, among, listed_below, without_index}
 use Rattle.task_sheet.specs.Orders.{all_of, IsOrderOf}
@@ -38,34 +36,27 @@ pub numbered_step : (U : List Task) (threads : List Setting) (k : ℕ) (xs xs' :
     → (map (λ n. n.task) xs' ≡ listed_below (k + 1) (with_thread_in U threads))
     × All (λ n. n.number ≡ thread_number U threads n.task) xs'
 numbered_step U threads k xs xs' name lt is tasks numbers pushed =
-    by (is_set threads name) refl (pushed)
-  where
-    P : Numbered → Type 0
-    P n = n.number ≡ thread_number U threads n.task
-
-    here : all_of U k ≡ true
-    here = lt-ltb k (length U) lt
-
-    by : (b : Bool) → is_set threads name ≡ b
-        → xs' ≡ xs ++ cond b (record { number = setting_number threads name; task = k } ∷ []) []
-        → (map (λ n. n.task) xs' ≡ listed_below (k + 1) (with_thread_in U threads)) × All P xs'
-    by true has pushed =
-        let one : Numbered = record { number = setting_number threads name; task = k } in
-        let member : with_thread_in U threads k ≡ true =
-        and_from _ _ here (ap (is_set threads) (sym is) ∙ has) in (
-          ap (λ (ns : List Numbered). map (λ (n : Numbered). n.task) ns) pushed ∙ map_push
-              (λ (n : Numbered). n.task) xs one ∙ ap (λ (ts : List ℕ). ts ++ k ∷ []) tasks
-              ∙ sym (listed_below-member k (with_thread_in U threads) member),
-          subst (λ (ns : List Numbered). All P ns) (sym pushed)
-              (All-push P xs one numbers (ap (setting_number threads) is)),
-        )
-    by false none pushed =
-        let same : xs' ≡ xs = pushed ∙ append-nil xs in
-        let other : with_thread_in U threads k ≡ false = rw (here, ← is, none) refl in (
-          ap (λ (ns : List Numbered). map (λ (n : Numbered). n.task) ns) same ∙ tasks
-              ∙ sym (listed_below-other k (with_thread_in U threads) other),
-          subst (λ (ns : List Numbered). All P ns) (sym same) numbers,
-        )
+    let here : all_of U k ≡ true = lt-ltb k (length U) lt in
+    let task : Numbered → ℕ = λ n. n.task in
+    elim (cases_Bool (is_set threads name)) [
+      | inl has ↦
+          let one : Numbered = record { number = setting_number threads name; task = k } in
+          let more : xs' ≡ xs ++ one ∷ [] = rw has at pushed in
+          let member : with_thread_in U threads k ≡ true =
+          and_from _ _ here (ap (is_set threads) (sym is) ∙ has) in (
+            ap (map task) more ∙ map_push task xs one ∙ ap (λ (ts : List ℕ). ts ++ k ∷ []) tasks
+                ∙ sym (listed_below-member k (with_thread_in U threads) member),
+            rw more (All-push (λ (n : Numbered). n.number ≡ thread_number U threads n.task) xs one
+                numbers (ap (setting_number threads) is)),
+          )
+      | inr none ↦
+          let same : xs' ≡ xs = (rw none at pushed) ∙ append-nil xs in
+          let other : with_thread_in U threads k ≡ false = rw (here, ← is, none) refl in (
+            ap (map task) same ∙ tasks
+                ∙ sym (listed_below-other k (with_thread_in U threads) other),
+            rw same numbers,
+          )
+    ]
 
 -- ---- names and numbers
 -- stands past the end of a list
@@ -78,20 +69,10 @@ number_found : (settings : List Setting) (name : List ℕ) → is_set settings n
     × (setting_number settings name ≡ (get_or settings p no_setting).number)
 number_found [] name h = absurd (true≢false (sym h))
 number_found (s ∷ settings) name h = elim (cases_Bool (same_bytes s.name name)) [
-  | inl here ↦ (0, omega arith, here, ap (λ b. cond b s.number (setting_number settings name)) here)
+  | inl here ↦ (0, omega arith, here, rw here refl)
   | inr other ↦
-      let later : is_set settings name ≡ true =
-      elim (or_cases (same_bytes s.name name) (is_set settings name) h) [
-        | inl here ↦
-            absurd (both_ways (same_bytes s.name name) other here)
-        | inr more ↦ more
-      ] in
-      let found = number_found settings name later in (
-        suc found.0,
-        omega (arith, found.1),
-        found.2,
-        ap (λ b. cond b s.number (setting_number settings name)) other ∙ found.3,
-      )
+      let found = number_found settings name (rw other at h) in
+      (suc found.0, omega (arith, found.1), found.2, rw other found.3)
 ]
 
 -- a test that fails on all of a list fails on each
@@ -108,63 +89,49 @@ apart_at : (alike : Setting → Setting → Bool) (seen xs : List Setting) → l
     → alike (get_or (seen ++ xs) p no_setting) (get_or (seen ++ xs) q no_setting) ≡ false
 apart_at alike seen [] none p q lt from within = absurd (omega (arith, length-append seen []))
 apart_at alike seen (x ∷ xs) none p q lt from within =
-    by (list_any (λ before. alike before x) seen) refl none (apart_at alike (seen ++ x ∷ []) xs)
-  where
-    by : (b : Bool) → list_any (λ before. alike before x) seen ≡ b
-        → cond b (Some x.line) (line_again alike (seen ++ x ∷ []) xs) ≡ None
-        → (line_again alike (seen ++ x ∷ []) xs ≡ None → (p q : ℕ) → p < q
-        → length (seen ++ x ∷ []) ≤ q → q < length ((seen ++ x ∷ []) ++ xs)
-        → alike (get_or ((seen ++ x ∷ []) ++ xs) p no_setting)
-        (get_or ((seen ++ x ∷ []) ++ xs) q no_setting) ≡ false)
-        → alike (get_or (seen ++ x ∷ xs) p no_setting)
-        (get_or (seen ++ x ∷ xs) q no_setting) ≡ false
-    by true e h rest = absurd (none-some x.line (sym h))
-    by false e h rest = elim (cases_eq q (length seen)) [
-      | inl here ↦
-          let last : get_or (seen ++ x ∷ xs) q no_setting ≡ x =
-          ap (λ n. get_or (seen ++ x ∷ xs) n no_setting) here
-          ∙ get_or-append_seam seen x xs no_setting in
-          let first : get_or (seen ++ x ∷ xs) p no_setting ≡ get_or seen p no_setting =
-          get_or_append_left seen (x ∷ xs) no_setting p (omega (arith, here)) in
-          rw (last, first)
-          (any_not (λ before. alike before x) seen p no_setting e (omega (arith, here)))
-      | inr past ↦
-          let same : (seen ++ x ∷ []) ++ xs ≡ seen ++ x ∷ xs = append_assoc seen (x ∷ []) xs in
-          subst (λ (ys : List Setting). alike (get_or ys p no_setting) (get_or ys q no_setting)
-          ≡ false) same
-          (rest h p q lt (omega (arith, length-append seen (x ∷ []), past))
-          (omega (arith, ap (λ (ys : List Setting). length ys) same)))
+    elim (cases_Bool (list_any (λ before. alike before x) seen)) [
+      | inl e ↦ let some : Some x.line ≡ None = (rw e at none) in absurd cc
+      | inr e ↦ elim (cases_eq q (length seen)) [
+        | inl here ↦
+            let last : get_or (seen ++ x ∷ xs) q no_setting ≡ x =
+            ap (λ n. get_or (seen ++ x ∷ xs) n no_setting) here
+            ∙ get_or-append_seam seen x xs no_setting in
+            let first : get_or (seen ++ x ∷ xs) p no_setting ≡ get_or seen p no_setting =
+            get_or_append_left seen (x ∷ xs) no_setting p (omega (arith, here)) in
+            rw (last, first)
+            (any_not (λ before. alike before x) seen p no_setting e (omega (arith, here)))
+        | inr past ↦
+            let same : (seen ++ x ∷ []) ++ xs ≡ seen ++ x ∷ xs = append_assoc seen (x ∷ []) xs in
+            subst (λ (ys : List Setting). alike (get_or ys p no_setting) (get_or ys q no_setting)
+            ≡ false) same
+            (apart_at alike (seen ++ x ∷ []) xs (rw e at none) p q lt
+            (omega (arith, length-append seen (x ∷ []), past))
+            (omega (arith, ap (λ (ys : List Setting). length ys) same)))
+      ]
     ]
 
 -- ---- tasks
-distinct_first : (x : Task) (xs : List Task) (k : ℕ) → AllByRecursion (λ y. same_name x y ≡ false)
-    xs → k < length xs → same_name x (task_at xs k) ≡ false
-distinct_first x [] k h lt = absurd (omega arith)
-distinct_first x (y ∷ xs) zero h lt = h.0
-distinct_first x (y ∷ xs) (suc k) h lt = distinct_first x xs k h.1 (omega arith)
-
 pub distinct_at : (U : List Task) → AreDistinct same_name U → (i j : ℕ) → i < j → j < length U
     → same_name (task_at U i) (task_at U j) ≡ false
-distinct_at [] h i j lt within = absurd (omega arith)
-distinct_at (x ∷ U) h zero zero lt within = absurd (omega arith)
-distinct_at (x ∷ U) h (suc i) zero lt within = absurd (omega arith)
-distinct_at (x ∷ U) h zero (suc j) lt within = distinct_first x U j h.0 (omega arith)
+distinct_at (x ∷ U) h zero (suc j) lt within =
+    All-from_recursion (λ y. same_name x y ≡ false) U h.0 j no_task (omega arith)
 distinct_at (x ∷ U) h (suc i) (suc j) lt within = distinct_at U h.1 i j (omega arith) (omega arith)
+distinct_at U h i j lt within = absurd (omega arith)
+
+all_of_rest : (t : Task) (U : List Task) (threads : List Setting) → is_set threads t.name ≡ true
+    → ((k : ℕ) → k < length U → is_set threads (task_at U k).name ≡ true) → (k : ℕ)
+    → k < length (t ∷ U) → is_set threads (task_at (t ∷ U) k).name ≡ true
+all_of_rest t U threads has rest zero lt = has
+all_of_rest t U threads has rest (suc k) lt = rest k (omega arith)
 
 -- where no task lacks a thread, each has one
 all_threads : (U : List Task) (threads : List Setting) → threadless U threads ≡ None → (k : ℕ)
     → k < length U → is_set threads (task_at U k).name ≡ true
 all_threads [] threads none k lt = absurd (omega arith)
-all_threads (t ∷ U) threads none k lt =
-    by (is_set threads t.name) refl none (all_threads U threads) k lt
-  where
-    by : (b : Bool) → is_set threads t.name ≡ b → option_map (λ x. x.name)
-        (cond (not b) (Some t) (find (λ x. not (is_set threads x.name)) U)) ≡ None
-        → (threadless U threads ≡ None → (k : ℕ) → k < length U → is_set threads (task_at U k).name
-        ≡ true) → (k : ℕ) → k < length (t ∷ U) → is_set threads (task_at (t ∷ U) k).name ≡ true
-    by false e h rest k lt = absurd (none-some t.name (sym h))
-    by true e h rest zero lt = e
-    by true e h rest (suc k) lt = rest h k (omega arith)
+all_threads (t ∷ U) threads none k lt = elim (cases_Bool (is_set threads t.name)) [
+  | inl has ↦ all_of_rest t U threads has (all_threads U threads (rw has at none)) k lt
+  | inr out ↦ let some : Some t.name ≡ None = (rw out at none) in absurd cc
+]
 
 -- where each task has a thread, those that have one are all
 pub all_ordered : (U : List Task) (threads : List Setting) → threadless U threads ≡ None

@@ -1,10 +1,10 @@
 -- How an order is judged: in one way, and as passing where it passes.
-use Rattle.std.proofs.Common.{◌≡◌, ◌∙◌, ℕ, suc, ◌+◌, ◌<◌, ◌≤◌, inl, inr, Bool, true, ◌==◌, Result}
-use Rattle.std.proofs.Common.{Ok, Err, slice_index, List, [], ◌∷◌, map, length, refl, sym, ap}
-use Rattle.std.proofs.Common.{subst, arith}
+use Rattle.std.proofs.Common.{◌≡◌, ◌∙◌, ℕ, suc, ◌+◌, ◌<◌, ◌≤◌, inl, inr, Bool, true, Result, Ok}
+use Rattle.std.proofs.Common.{Err, slice_index, List, [], ◌∷◌, map, length, refl, sym, ap, subst}
+use Rattle.std.proofs.Common.{arith}
 use Rattle.std.specs.List.Sorted.{IsStrictlyIncreasing}
-use Rattle.std.proofs.lemmas.Bool.{both_ways, cases_eq, cases_order, ne_eqb, or_cases, true≢false}
-use Rattle.std.proofs.lemmas.Bool.{and_parts, and_from, ltb-true}
+use Rattle.std.proofs.lemmas.Bool.{both_ways, cases_eq, cases_order, ne_eqb, true≢false, and_parts}
+use Rattle.std.proofs.lemmas.Bool.{and_from, ltb-true}
 use Rattle.task_sheet.specs.Sheet.{Task, AllTasks, task_at}
 use Rattle.task_sheet.specs.Indexes.{Indexes, among, without_index, IsPart}
 use Rattle.task_sheet.specs.Demand.{IsResponseOf, Passes}
@@ -169,11 +169,7 @@ module _ (f : ℕ → ℕ) where
       elim (cases_eq z y) [
         | inl e ↦ subst (λ k. f x < f k) e less
         | inr ne ↦
-            let later : among zs y ≡ true = elim (or_cases (z == y) (among zs y) has) [
-              | inl here ↦
-                  absurd (both_ways (z == y) (ne_eqb z y ne) here)
-              | inr more ↦ more
-            ] in
+            let later : among zs y ≡ true = (rw (ne_eqb z y ne) at has) in
             omega (arith, less, first_less z zs y (rises_rest (f x) (map f (z ∷ zs)) rises) later)
       ]
 

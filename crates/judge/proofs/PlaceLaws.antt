@@ -1,5 +1,5 @@
 -- The places of an order whose tasks all meet their deadlines.
-use Rattle.std.proofs.Common.{◌≡◌, ◌∙◌, ℕ, List, sym, ap, subst}
+use Rattle.std.proofs.Common.{◌≡◌, ◌∙◌, List, ap, subst}
 use Rattle.std.specs.Prelude.{IsTrue}
 use Rattle.task_sheet.specs.Sheet.{Task}
 use Rattle.task_sheet.specs.Orders.{AllStand, IsOrder, IsPassingOrder}
@@ -16,10 +16,8 @@ pub places_pass : (U : List Task) (judged : List JudgedTask) (places : List Plac
 places_pass U judged places each are is =
     let same : order_judged judged ≡ tasks_of_places places =
     ap (λ (js : List JudgedTask). order_judged js) is ∙ judged_tasks places in
-    let meets =
-    subst (λ (js : List JudgedTask). IsTrue (all_meet js)) (sym is) (judged_meet places) in
+    let meets : IsTrue (all_meet judged) = rw is (judged_meet places) in
     record {
-      each_once = subst (λ (order : List ℕ). IsOrder U order) same each;
-      each_stands =
-          subst (λ (order : List ℕ). AllStand U order) same (judged_passing U judged are meets);
+      each_once = subst (IsOrder U) same each;
+      each_stands = subst (AllStand U) same (judged_passing U judged are meets);
     }

@@ -65,15 +65,8 @@ position_any : {X : Type 0} (p : X → Bool) (n : ℕ) (xs : List X) → list_an
     → is_none (position_from p n xs) ≡ false
 position_any p n [] h = absurd (true≢false (sym h))
 position_any p n (x ∷ xs) h = elim (cases_Bool (p x)) [
-  | inl here ↦ ap (λ b. is_none (cond b (Some n) (position_from p (n + 1) xs))) here
-  | inr other ↦
-      let later : list_any p xs ≡ true =
-      elim (or_cases (p x) (list_any p xs) h) [
-        | inl here ↦ absurd (both_ways (p x) other here)
-        | inr more ↦ more
-      ] in
-      ap (λ b. is_none (cond b (Some n) (position_from p (n + 1) xs))) other
-      ∙ position_any p (n + 1) xs later
+  | inl here ↦ rw here refl
+  | inr other ↦ rw other (position_any p (n + 1) xs (rw other at h))
 ]
 
 position_some : {X : Type 0} (p : X → Bool) (xs : List X) → list_any p xs ≡ true
@@ -316,10 +309,7 @@ pub number_lock : (U : List Task) (base : ℕ) (order : List ℕ) (locks : List 
     ≡ ceiling_at U base order lock
 number_lock U base order [] line lock h = absurd (true≢false (sym h))
 number_lock U base order (q ∷ locks) line lock h = elim (cases_Bool (same_bytes q lock)) [
-  | inl here ↦
-      ap (λ b. cond b (ceiling_at U base order q)
-      (setting_number (set_in (line + 1) (mutexes_in U base order locks)) lock)) here
-      ∙ ap (λ name. ceiling_at U base order name) (same_is q lock here)
+  | inl here ↦ rw here (ap (λ name. ceiling_at U base order name) (same_is q lock here))
   | inr other ↦
       let later : list_any (same_bytes lock) locks ≡ true =
       elim (or_cases (same_bytes lock q) (list_any (same_bytes lock) locks) h) [
@@ -327,9 +317,7 @@ number_lock U base order (q ∷ locks) line lock h = elim (cases_Bool (same_byte
             absurd (both_ways (same_bytes q lock) other (turned q lock ∙ same))
         | inr more ↦ more
       ] in
-      ap (λ b. cond b (ceiling_at U base order q)
-      (setting_number (set_in (line + 1) (mutexes_in U base order locks)) lock)) other
-      ∙ number_lock U base order locks (line + 1) lock later
+      rw other (number_lock U base order locks (line + 1) lock later)
 ]
 
 -- where each lock has a mutex, none lacks one
@@ -454,8 +442,7 @@ module _ (U : List Task) (kept : IsTaskSet U) where
       (set_in line (threads_in U level order)) (task_at U (get_or order p 0)).name ≡ level + p
   number_place L [] line level p part each lt = absurd (omega arith)
   number_place L (i ∷ above) line level zero part each lt =
-      ap (λ b. cond b level (setting_number (set_in (line + 1) (threads_in U (level + 1) above))
-      (task_at U i).name)) (same_own (task_at U i).name) ∙ omega arith
+      rw (same_own (task_at U i).name) (omega arith)
   number_place L (i ∷ above) line level (suc p) part each lt =
       let name : List ℕ = (task_at U (get_or above p 0)).name in
       let rest = IsOrderOf-rest L i above each in
@@ -465,10 +452,8 @@ module _ (U : List Task) (kept : IsTaskSet U) where
       names_apart i (get_or above p 0) (in_set L i part (IsOrderOf-head L i above each))
       (in_set L (get_or above p 0) part (without-parts L i (get_or above p 0) member).0)
       (without-parts L i (get_or above p 0) member).1 in
-      ap (λ b. cond b level
-      (setting_number (set_in (line + 1) (threads_in U (level + 1) above)) name)) apart
-      ∙ number_place (without_index L i) above (line + 1) (level + 1) p
-      (without-part_of (length U) L i part) rest (omega arith) ∙ omega arith
+      rw apart (number_place (without_index L i) above (line + 1) (level + 1) p
+      (without-part_of (length U) L i part) rest (omega arith) ∙ omega arith)
 
   entries_named : (order : List ℕ) (level : ℕ) → AllByRecursion (λ i. i < length U) order
       → 1 ≤ level → level + length order ≤ NUMBER_LIMIT + 1

@@ -1,10 +1,7 @@
-use Rattle.std.proofs.Common.{List, subst}
-use Rattle.task_sheet.specs.Sheet.{Task}
+use Rattle.std.proofs.Common.{subst}
 use Rattle.task_sheet.specs.TaskSet.{IsTaskSet}
 use Rattle.assignment.specs.Questions.{QuestionData}
 use Rattle.assignment.specs.Verdict.{verdict_of}
-use Rattle.candidate_workers.specs.Faults.{NoVerdict}
-use Rattle.book_lock.specs.Asking.{IsCauseOf}
 use Rattle.book_lock.proofs.Testing.{still_good, untested_set, none_shut}
 use Rattle.book_lock.proofs.asking.test_set.Goals as goal
 
@@ -13,10 +10,8 @@ returns-clause-fault g c =
     untested_set (λ (q : QuestionData). g.G.Gate.may_shut c.args.gate.now q) c.args.set.value
     c.threads_worth.result c.in-Err.fault c.cause_of.result (still_good c.threads_worth.result
     c.args.workers c.requires c.threads_worth.ensures.from c.threads_worth.ensures.most)
-    (subst (λ (U : List Task). NoVerdict (λ (q : QuestionData). g.G.Gate.may_shut
-    c.args.gate.now q) U c.threads_worth.result c.in-Err.fault) c.in-Ok.ensures.cases
-    c.in-Err.ensures.fault) (subst (λ (U : List Task). IsCauseOf U c.in-Err.fault
-    c.cause_of.result) c.deref-in-Err.ensures c.cause_of.ensures)
+    (rw c.in-Ok.ensures.cases at c.in-Err.ensures.fault)
+    (rw c.deref-in-Err.ensures at c.cause_of.ensures)
 
 pub returns-in-Ok-share-clause-asked : goal.returns-in-Ok-share-clause-asked
 returns-in-Ok-share-clause-asked g c =

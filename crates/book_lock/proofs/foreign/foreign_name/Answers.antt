@@ -1,52 +1,37 @@
-use Rattle.std.proofs.Common.{◌≡◌, ◌∷◌, [], ◌++◌, ℕ, List, Some, Bor, map, sym, subst}
+use Rattle.std.proofs.Common.{List, Bor, map, subst}
 use Rattle.std.proofs.lemmas.Bool.{both_ways}
 use Rattle.std.proofs.lemmas.Iterator.{YieldsList-from_slice}
 use Rattle.std.proofs.lemmas.Iterator.Consumers.{YieldsList-at, YieldsList-end}
 use Rattle.std.proofs.lemmas.Iterator.Consumers.{YieldsList-from_chain}
 use Rattle.std.proofs.lemmas.List.{map_push}
 use Rattle.drafts.specs.declared.roster.Owned.{Owned}
-use Rattle.drafts.specs.Applied.{held}
-use Rattle.book_lock.proofs.ForeignLaws.{IsBefore, IsFound, found-same, found-new, foreign-found}
+use Rattle.book_lock.proofs.ForeignLaws.{IsFound, found-same, found-new, foreign-found}
 use Rattle.book_lock.proofs.foreign.foreign_name.Goals as goal
 
 pub loop-task-preserved-then-not-is_before : goal.loop-task-preserved-then-not-is_before
 loop-task-preserved-then-not-is_before c =
-    let B = c.args.book.now in
-    let P = c.args.pass.now in
-    let first = c.loop-task.first in
-    let e = c.name-name.ensures.same in
-    subst (λ (seen : List Owned). IsFound B P seen first)
-    (sym (map_push (λ (o : Bor Owned). o.now) c.loop-task.yielded c.in-Some.task))
-    (found-same B P (map (λ (o : Bor Owned). o.now) c.loop-task.yielded) c.in-Some.task.now first
+    let seen = map (λ (o : Bor Owned). o.now) c.loop-task.yielded in
+    rw (map_push (λ (o : Bor Owned). o.now) c.loop-task.yielded c.in-Some.task)
+    (found-same c.args.book.now c.args.pass.now seen c.in-Some.task.now c.loop-task.first
     c.loop-task.invariant (λ before. absurd (both_ways _ c.if-not-is_before.true
-    (c.is_before.ensures.1 (subst (λ (n : List ℕ). IsBefore n first) (sym e) before)))))
+    (c.is_before.ensures.1 (rw c.name-name.ensures.same before)))))
 
 pub loop-task-preserved-then-not-agree : goal.loop-task-preserved-then-not-agree
 loop-task-preserved-then-not-agree c =
-    let B = c.args.book.now in
-    let P = c.args.pass.now in
-    let first = c.loop-task.first in
-    let o = c.in-Some.task.now in
     let seen = map (λ (o : Bor Owned). o.now) c.loop-task.yielded in
     let e = c.name-name.ensures.same in
-    subst (λ (all : List Owned). IsFound B P all (Some c.name-name.result))
-    (sym (map_push (λ (o : Bor Owned). o.now) c.loop-task.yielded c.in-Some.task))
-    (subst (λ (n : List ℕ). IsFound B P (seen ++ o ∷ []) (Some n)) (sym e)
-    (found-new B P seen o first c.loop-task.invariant
-    (subst (λ (n : List ℕ). IsBefore n first) e (c.is_before.ensures.0 c.if-not-is_before.false))
-    (λ same. both_ways _ c.if-not-agree.true
-    (c.agree.ensures.1 (subst (λ (n : List ℕ). held n B ≡ held n P) (sym e) same)))))
+    rw (map_push (λ (o : Bor Owned). o.now) c.loop-task.yielded c.in-Some.task, e)
+    (found-new c.args.book.now c.args.pass.now seen c.in-Some.task.now c.loop-task.first
+    c.loop-task.invariant (rw (← e) (c.is_before.ensures.0 c.if-not-is_before.false))
+    (λ same. both_ways _ c.if-not-agree.true (c.agree.ensures.1 (rw e same))))
 
 pub loop-task-preserved : goal.loop-task-preserved
 loop-task-preserved c =
-    let B = c.args.book.now in
-    let P = c.args.pass.now in
-    let first = c.loop-task.first in
-    subst (λ (seen : List Owned). IsFound B P seen first)
-    (sym (map_push (λ (o : Bor Owned). o.now) c.loop-task.yielded c.in-Some.task))
-    (found-same B P (map (λ (o : Bor Owned). o.now) c.loop-task.yielded) c.in-Some.task.now first
-    c.loop-task.invariant (λ _. subst (λ (n : List ℕ). held n B ≡ held n P)
-    c.name-name.ensures.same (c.agree.ensures.0 c.if-not-agree.false)))
+    let seen = map (λ (o : Bor Owned). o.now) c.loop-task.yielded in
+    rw (map_push (λ (o : Bor Owned). o.now) c.loop-task.yielded c.in-Some.task)
+    (found-same c.args.book.now c.args.pass.now seen c.in-Some.task.now c.loop-task.first
+    c.loop-task.invariant
+    (λ _. rw (← c.name-name.ensures.same) (c.agree.ensures.0 c.if-not-agree.false)))
 
 pub returns : goal.returns
 returns c =

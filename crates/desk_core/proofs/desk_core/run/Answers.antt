@@ -1,9 +1,6 @@
-use Rattle.std.proofs.Common.{◌∙◌, List, [], ◌∷◌, ◌++◌, length, sym, ap, subst, arith}
-use Rattle.std.proofs.Common.{append_assoc}
-use Rattle.desk_core.specs.declared.events.Event.{Event}
-use Rattle.desk_core.specs.declared.events.Reply.{Reply}
+use Rattle.std.proofs.Common.{◌∙◌, [], ◌∷◌, ◌++◌, length, sym, ap, subst, arith, append_assoc}
 use Rattle.drafts.specs.Books.{IsLegalBook}
-use Rattle.desk_core.specs.World.{start, IsRun}
+use Rattle.desk_core.specs.World.{start}
 use Rattle.desk_core.proofs.RunLaws.{IsRun-push, all_done}
 use Rattle.desk_core.proofs.desk_core.run.Goals as goal
 
@@ -11,8 +8,7 @@ pub loop-event-init : goal.loop-event-init
 loop-event-init c =
     let gives = c.into_iter-event-iterator.ensures.into_iter_gives in
     record {
-      run = subst (λ (rs : List Reply). IsRun start [] rs c.in_ok-core.core)
-          (sym c.new-replies.ensures.items) c.in_ok-core.ensures;
+      run = rw c.new-replies.ensures.items c.in_ok-core.ensures;
       rest = gives.0;
       counted = omega (arith, ap length gives.0, gives.1, c.args.events.ok.0, c.args.events.ok.1);
     }
@@ -27,8 +23,8 @@ loop-event-preserved c =
     let steps = c.in-Some.ensures.steps in
     let pushed = c.in_ok-push.ensures.items in
     record {
-      run = subst (λ ys. IsRun start (done ++ e ∷ []) ys c.step.new.self) (sym pushed) (IsRun-push
-          start c.loop-event.core c.step.new.self done rs e r so.run c.in-Ok.ensures.ok);
+      run = rw pushed (IsRun-push start c.loop-event.core c.step.new.self done rs e r so.run
+          c.in-Ok.ensures.ok);
       rest = append_assoc done (e ∷ []) c.next.new.self.rest.items
           ∙ ap (λ xs. done ++ xs) (sym steps.0) ∙ so.rest;
       counted = let more = ap length steps.0 in omega (arith, more, steps.1, so.counted);
@@ -40,8 +36,7 @@ returns-clause-run c =
     let all =
     all_done c.loop-event.yielded c.loop-event.event-iterator.rest.items c.args.events.items
     c.loop-event.event-iterator.rest.len so.rest so.counted c.in-None.ensures.steps.0 in
-    subst (λ (es : List Event). IsRun start es c.loop-event.replies.items c.loop-event.core)
-    all so.run
+    rw all at so.run
 
 pub returns-clause-legal : goal.returns-clause-legal
 returns-clause-legal c = subst IsLegalBook c.book.ensures c.state.ensures.legal

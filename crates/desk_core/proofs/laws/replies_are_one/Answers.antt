@@ -1,5 +1,8 @@
-use Rattle.desk_core.proofs.Determined.{replies-one, worlds-one}
+use Rattle.desk_core.proofs.Determined.{runs-one}
 use Rattle.desk_core.proofs.laws.replies_are_one.Goals as goal
 
 pub returns : goal.returns
-returns c = record { said = replies-one; world = worlds-one }
+returns c = record {
+  said = λ w u v events first second x y. (runs-one w u v events first second x y).0;
+  world = λ w u v events first second x y. (runs-one w u v events first second x y).1;
+}

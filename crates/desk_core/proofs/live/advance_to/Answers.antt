@@ -1,7 +1,4 @@
-use Rattle.std.proofs.Common.{subst, List, IfOk}
 use Rattle.drafts.specs.Edits.{on_base}
-use Rattle.desk_core.specs.Findings.{Asked}
-use Rattle.desk_core.specs.Advances.{IsAdvancedOn}
 use Rattle.desk_core.specs.Stages.{found_of}
 use Rattle.desk_core.proofs.AdvanceLaws.{tested-silent}
 use Rattle.desk_core.proofs.StageLaws.{trying-stage, tested-stage}
@@ -13,8 +10,7 @@ returns-in-Trying-clause-ok c =
     let on = trying-stage outcome c.begin.new.stage c.in-Trying.trial c.deref_mut.result.now
     (found_of c.args.stage.now) c.in-Trying.is c.deref_mut.ensures.value c.begin.ensures.kept
     c.begin.ensures.found in
-    subst (λ (xs : List Asked). IfOk c.advance.result (IsAdvancedOn outcome xs
-    c.advance.new.trial.found)) on.1 (c.advance.ensures.ok outcome on.0)
+    rw on.1 at (c.advance.ensures.ok outcome on.0)
 
 pub returns-in-Tested-clause-ok : goal.returns-in-Tested-clause-ok
 returns-in-Tested-clause-ok c =

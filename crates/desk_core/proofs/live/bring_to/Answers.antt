@@ -1,17 +1,16 @@
 use Rattle.drafts.specs.Edits.{on_base}
 use Rattle.desk_core.specs.Stages.{found_of}
-use Rattle.desk_core.proofs.BroughtLaws.{brought-answer, tested-stranger}
+use Rattle.desk_core.proofs.BroughtLaws.{tested-stranger}
 use Rattle.desk_core.proofs.StageLaws.{trying-stage, tested-stage}
 use Rattle.desk_core.proofs.live.bring_to.Goals as goal
 
 pub returns-in-Trying-clause-found : goal.returns-in-Trying-clause-found
 returns-in-Trying-clause-found c =
     let outcome = on_base c.args.draft.now in
-    let found = found_of c.args.stage.now in
-    let on = trying-stage outcome c.begin.new.stage c.in-Trying.trial c.deref_mut.result.now found
-    c.in-Trying.is c.deref_mut.ensures.value c.begin.ensures.kept c.begin.ensures.found in
-    brought-answer outcome c.deref_mut.result.now found c.bring.new.trial.found
-    c.args.finding.question c.bring.result on.0 on.1 c.bring.ensures.brought
+    let on = trying-stage outcome c.begin.new.stage c.in-Trying.trial c.deref_mut.result.now
+    (found_of c.args.stage.now) c.in-Trying.is c.deref_mut.ensures.value c.begin.ensures.kept
+    c.begin.ensures.found in
+    rw on.1 at (c.bring.ensures.brought outcome on.0)
 
 pub returns-in-Tested-clause-found : goal.returns-in-Tested-clause-found
 returns-in-Tested-clause-found c =

@@ -1,6 +1,6 @@
-use Rattle.std.proofs.Common.{ℕ, List, length, IfOk, sym, subst, arith}
+use Rattle.std.proofs.Common.{length, arith}
 use Rattle.assignment.specs.Places.{PlaceData}
-use Rattle.explain.specs.Accounts.{IsInTime, IsResponseAccount}
+use Rattle.explain.specs.Accounts.{IsInTime}
 use Rattle.judge.specs.Judgements.{order_judged}
 use Rattle.judge.proofs.ExplainedLaws.{order_within}
 use Rattle.judge.proofs.explained.account_of.Goals as goal
@@ -16,11 +16,7 @@ response_account-requires c =
       response = c.requires.response;
       in_time = c.requires.in_time;
     } in
-    subst (λ (order : List ℕ). IsInTime U order place) (sym c.in_ok-order.ensures) in_time
+    rw c.in_ok-order.ensures in_time
 
 pub returns : goal.returns
-returns c =
-    let U = c.args.set.now in
-    let place : PlaceData = record { task = c.args.task; response = c.args.response } in
-    subst (λ (order : List ℕ). IfOk c.response_account.result (IsResponseAccount U order place))
-    c.in_ok-order.ensures c.response_account.ensures
+returns c = rw c.in_ok-order.ensures at c.response_account.ensures

@@ -6,10 +6,7 @@ use Rattle.judge.proofs.explained.asked_text.Goals as goal
 
 pub returns-then-not-is_asked : goal.returns-then-not-is_asked
 returns-then-not-is_asked c =
-    subst (λ (b : Bool). AreAskedLines b c.args.parted c.args.set.now
-    (order_judged c.args.above.now) c.args.number c.args.entry (string_bytes c.new.result))
-    (sym (sym c.is_asked.ensures ∙ c.if-not-is_asked.true))
-    c.new.ensures.bytes
+    rw (← c.is_asked.ensures, c.if-not-is_asked.true) c.new.ensures.bytes
 
 pub returns : goal.returns
 returns c =

@@ -1,7 +1,6 @@
-use Rattle.std.proofs.Common.{◌≡◌, ◌∙◌, ◌<◌, ◌+◌, ℕ, List, [], ◌∷◌, ◌++◌, length, All, append-nil}
-use Rattle.std.proofs.Common.{ap, refl, sym, subst, arith, string_bytes}
+use Rattle.std.proofs.Common.{◌≡◌, ◌∙◌, ◌<◌, ◌+◌, ℕ, List, [], ◌∷◌, ◌++◌, length, append-nil, ap}
+use Rattle.std.proofs.Common.{refl, subst, arith, string_bytes}
 use Rattle.judge.specs.Explained.{AreLevels}
-use Rattle.judge.specs.Judgements.{AllJudged}
 use Rattle.judge.specs.declared.judging.JudgedTask.{JudgedTask}
 use Rattle.judge.proofs.ExplainedLaws.{all_behind, levels_next, none_left}
 use Rattle.judge.proofs.TaskLaws.{judged_in_set}
@@ -12,8 +11,7 @@ loop-entry-init c = record {
   each = c.requires.judged;
   within = judged_in_set c.args.set.now c.args.judged.now c.requires.order;
   counted = refl;
-  whole = λ more are. subst (λ (t : List ℕ). AreLevels c.args.parted c.args.set.now c.args.asked 1
-      c.args.judged.now (t ++ more)) (sym c.new-text.ensures.bytes) are;
+  whole = λ more are. rw c.new-text.ensures.bytes are;
 }
 
 pub loop-entry-preserved : goal.loop-entry-preserved
@@ -31,10 +29,9 @@ loop-entry-preserved c =
     let said : string_bytes c.push_str.new.self ≡ before ++ level = c.in_ok-push_str.ensures.bytes
     ∙ ap (λ (t : List ℕ). before ++ t) c.as_str.ensures.value in
     record {
-      each = (subst (λ (js : List JudgedTask). AllJudged U js) split is.each).1;
-      within = all_behind (λ (j : JudgedTask). j.task < length U) entry above
-          (subst (λ (js : List JudgedTask). All (λ (j : JudgedTask). j.task < length U) js) split
-          is.within);
+      each = (rw split at is.each).1;
+      within =
+          all_behind (λ (j : JudgedTask). j.task < length U) entry above (rw split at is.within);
       counted = omega (arith, is.counted, ap (λ (js : List JudgedTask). length js) split);
       whole = levels_next c.args.parted U asked number (number + 1) c.args.judged.now rest above
           entry before level (string_bytes c.push_str.new.self) split refl said

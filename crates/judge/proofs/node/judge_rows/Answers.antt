@@ -14,15 +14,11 @@ in_set : (U : List Task) (order : List ℕ) → IsOrder U order → All (λ i. i
 in_set U order each = ((order_iff (length U) order).1 each).0
 
 pub judge_order-requires : goal.judge_order-requires
-judge_order-requires c =
-    subst (λ (order : List ℕ). All (λ i. i < length c.args.set.now) order)
-    (sym c.deref.ensures.value)
+judge_order-requires c = rw c.deref.ensures.value
     (in_set c.args.set.now c.in_ok-order.order.items c.in_ok-order.ensures.by_numbers.each_once)
 
 pub numbers_of-requires : goal.numbers_of-requires
-numbers_of-requires c =
-    subst (λ (order : List ℕ). All (λ i. i < length c.args.set.now) order)
-    (sym c.deref-2.ensures.value)
+numbers_of-requires c = rw c.deref-2.ensures.value
     (in_set c.args.set.now c.in_ok-order.order.items c.in_ok-order.ensures.by_numbers.each_once)
 
 pub returns-clause-judged : goal.returns-clause-judged

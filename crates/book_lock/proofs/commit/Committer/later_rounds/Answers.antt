@@ -1,8 +1,5 @@
-use Rattle.std.proofs.Common.{◌∙◌, Ok, inl, refl, subst}
+use Rattle.std.proofs.Common.{◌∙◌, inl, refl}
 use Rattle.assignment.specs.Questions.{QuestionData}
-use Rattle.book_lock.specs.Commits.{IsRound}
-use Rattle.book_lock.specs.declared.commit.Round.{Round}
-use Rattle.book_lock.specs.declared.commit.Round.TheVariants.{Decided}
 use Rattle.book_lock.proofs.Rounds.{received-held, received_for, on_its_base, later_fault}
 use Rattle.drafts.specs.Edits.{on_base}
 use Rattle.book_lock.proofs.Testing.{untested_memory}
@@ -10,13 +7,8 @@ use Rattle.book_lock.proofs.commit.Committer.later_rounds.Goals as goal
 
 pub returns-in-Ok-Decided : goal.returns-in-Ok-Decided
 returns-in-Ok-Decided g c =
-    let may : QuestionData → Type 0 = λ q. g.G.Gate.may_shut c.args.self.now.gate.now q in
-    let always : QuestionData → Type 0 = λ q. g.G.Gate.always_shuts c.args.self.now.gate.now q in
     let inv = c.loop-round.invariant in
-    let h : IsRound may always c.loop-round.draft c.loop-round.pass
-    (Ok (Decided c.in-Ok-Decided.place)) c.round.new.pass =
-    subst (λ (x : Round). IsRound may always c.loop-round.draft c.loop-round.pass (Ok x)
-    c.round.new.pass) c.in-Ok-Decided.field-0-is c.in-Ok-Decided.ensures in
+    let h = rw c.in-Ok-Decided.field-0-is at c.in-Ok-Decided.ensures in
     received_for c.args.draft c.loop-round.draft c.loop-round.pass c.args.pass.now c.round.new.pass
     c.in-Ok-Decided.place inv.0 inv.2 h.1
 

@@ -1,11 +1,7 @@
-use Rattle.std.proofs.Common.{◌≡◌, ◌∙◌, ℕ, Ok, Err, sym, ap, subst}
+use Rattle.std.proofs.Common.{◌≡◌, ◌∙◌, ap}
 use Rattle.drafts.specs.Edits.{Draft}
 use Rattle.drafts.specs.Proposals.{ProposalData}
-use Rattle.book_lock.specs.Settles.{IsReceived, AnswersProposal}
-use Rattle.book_lock.specs.declared.answer.Settlement.{Settlement}
-use Rattle.book_lock.specs.declared.answer.Settlement.TheVariants.{Decided}
-use Rattle.book_lock.specs.declared.answer.DeskFault.{DeskFault}
-use Rattle.book_lock.specs.declared.answer.DeskFault.TheVariants.{Stranger}
+use Rattle.book_lock.specs.Settles.{IsReceived}
 use Rattle.book_lock.proofs.Rounds.{received-settled, received-held, received_for}
 use Rattle.book_lock.proofs.commit.Committer.round.Goals as goal
 
@@ -14,16 +10,10 @@ returns-in-Ok-Decided g c =
     let old = c.args.pass.now in
     let new = c.settle.new.pass in
     let place = c.in-Ok-Decided.place in
-    let answers : AnswersProposal c.in-Ok.proposal old (Ok (Decided place)) new =
-    subst (λ (x : Settlement). AnswersProposal c.in-Ok.proposal old (Ok x) new)
-    c.in-Ok-Decided.field-0-is c.in-Ok-Decided.ensures in
+    let answers = rw c.in-Ok-Decided.field-0-is at c.in-Ok-Decided.ensures in
     let received : IsReceived c.args.draft old place new =
-    subst (λ (d : Draft). IsReceived d old place new) c.in-Ok.ensures.ok
-    (received-settled c.in-Ok.proposal old new place answers.1) in (
-      c.in-Ok.ensures.asked,
-      subst (λ (n : ℕ). IsReceived c.args.draft old n new)
-          (sym c.in-Ok-Decided.place-is) received,
-    )
+    rw (← c.in-Ok.ensures.ok) (received-settled c.in-Ok.proposal old new place answers.1) in
+    (c.in-Ok.ensures.asked, rw c.in-Ok-Decided.place-is received)
 
 pub returns-in-Ok-settle_held : goal.returns-in-Ok-settle_held
 returns-in-Ok-settle_held g c =
@@ -31,19 +21,13 @@ returns-in-Ok-settle_held g c =
     let old = c.args.pass.now in
     let kept = c.into_draft-in-Err-Stranger.result in
     let place = c.in-Ok-settle_held.place in
-    let stranger : AnswersProposal p old
-    (Err (Stranger c.in-Err-Stranger.proposal)) c.settle.new.pass =
-    subst (λ (x : DeskFault). AnswersProposal p old (Err x) c.settle.new.pass)
-    c.in-Err-Stranger.field-0-is c.in-Err-Stranger.ensures in
+    let stranger = rw c.in-Err-Stranger.field-0-is at c.in-Err-Stranger.ensures in
     let back : kept ≡ c.args.draft = c.into_draft-in-Err-Stranger.ensures
     ∙ ap (λ (x : ProposalData). x.draft) stranger.1.settles.1 ∙ c.in-Ok.ensures.ok in
     let held = received-held kept c.settle.new.pass c.settle_held.new.pass place
     c.in-Ok-settle_held.ensures in (
       c.in-Ok.ensures.asked,
-      received_for c.args.draft kept c.settle.new.pass old
-          c.settle_held.new.pass place (
-            ap (λ (d : Draft). d.team) back,
-            ap (λ (d : Draft). d.changes)
-                back,
-          ) stranger.1.settles.3 held,
+      received_for c.args.draft kept c.settle.new.pass old c.settle_held.new.pass place
+          (ap (λ (d : Draft). d.team) back, ap (λ (d : Draft). d.changes) back)
+          stranger.1.settles.3 held,
     )

@@ -1,7 +1,5 @@
-use Rattle.std.proofs.Common.{◌≡◌, ◌≤◌, ℕ, List, true, map, sym, ap, subst, ◌∙◌}
+use Rattle.std.proofs.Common.{◌≡◌, ◌≤◌, ℕ, map, sym, ap, subst, ◌∙◌}
 use Rattle.drafts.specs.Books.{Book, IsLegalBook}
-use Rattle.drafts.specs.Machine.{Entry}
-use Rattle.book_lock.specs.TeamPass.{Known, has_team, placed_entries, HaveReceipts}
 use Rattle.book_lock.proofs.desk.Desk.close.Goals as goal
 
 pub returns-clause-ok : goal.returns-clause-ok
@@ -21,11 +19,8 @@ returns-clause-ok g c =
     λ team high. subst (λ (n : ℕ). team ≤ n) (sym c.self.view_is) high in
     record {
       legal = subst IsLegalBook (sym same) c.audit.ensures.legal;
-      there = λ team low high. subst (λ (ps : List Known). has_team team ps ≡ true)
-          c.deref.ensures.value (c.in_default.ensures team low (within team high));
-      receipted = λ team low high.
-          subst (λ (ps : List Known). HaveReceipts team (placed_entries team 1 b.log) ps)
-          c.deref-2.ensures.value (subst (λ (es : List Entry). HaveReceipts team
-          (placed_entries team 1 es) c.deref-2.result.now) (c.log.ensures ∙ sym log)
-          (c.in_default-mismatch.ensures team low (within team high)));
+      there = λ team low high.
+          rw c.deref.ensures.value at (c.in_default.ensures team low (within team high));
+      receipted = λ team low high. rw (c.log.ensures ∙ sym log, c.deref-2.ensures.value) at
+          (c.in_default-mismatch.ensures team low (within team high));
     }

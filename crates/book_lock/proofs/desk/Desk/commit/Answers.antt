@@ -1,9 +1,6 @@
-use Rattle.std.proofs.Common.{◌≡◌, Ok, inl, refl, rules, subst}
+use Rattle.std.proofs.Common.{◌≡◌, inl, refl, rules}
 use Rattle.assignment.specs.Questions.{QuestionData}
 use Rattle.candidate_workers.specs.Faults.{IsBadCount}
-use Rattle.book_lock.specs.Commits.{IsRound}
-use Rattle.book_lock.specs.declared.commit.Round.{Round}
-use Rattle.book_lock.specs.declared.commit.Round.TheVariants.{Overtaken}
 use Rattle.book_lock.proofs.Rounds.{undecided, commits_later}
 use Rattle.book_lock.proofs.desk.Desk.commit.Goals as goal
 
@@ -11,10 +8,7 @@ pub returns-in-Ok-Overtaken : goal.returns-in-Ok-Overtaken
 returns-in-Ok-Overtaken g c =
     let may : QuestionData → Type 0 = λ q. g.G.Gate.may_shut c.args.gate.now q in
     let always : QuestionData → Type 0 = λ q. g.G.Gate.always_shuts c.args.gate.now q in
-    let h : IsRound may always c.args.draft c.args.pass.now
-    (Ok (Overtaken c.in-Ok-Overtaken.draft c.in-Ok-Overtaken.base)) c.round.new.pass =
-    subst (λ (x : Round). IsRound may always c.args.draft c.args.pass.now (Ok x)
-    c.round.new.pass) c.in-Ok-Overtaken.field-0-is c.in-Ok-Overtaken.ensures in
+    let h = rw c.in-Ok-Overtaken.field-0-is at c.in-Ok-Overtaken.ensures in
     let team : c.args.draft.team ≡ c.args.pass.now.team = search rules in
     let good : ¬ IsBadCount c.args.workers = search rules in
     commits_later may always c.args.workers c.args.draft c.in-Ok-Overtaken.draft
