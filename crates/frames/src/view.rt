@@ -1,8 +1,7 @@
 //! What part of a run is drawn, and how.
 ghost use Rattle.std.specs.Prelude.{◌<◌, ◌≡◌, ◌≤◌, All, IfOk, None, OnOk, [], length};
 ghost use Rattle.ceiling_kernel.specs.declared.accept.TheConstants.{HORIZON};
-ghost use Rattle.frames.specs.Frame.{frame_from, frame_to};
-ghost use Rattle.frames.specs.View.{end_of_run, is_among, is_chosen, is_empty, noted_rank, shown_of, window_end};
+ghost use Rattle.frames.specs.View.{end_of_run, is_chosen, is_empty, noted_rank, shown_of, window_end};
 
 use crate::rows::{TaskRow, name_in};
 use ceiling_kernel::HORIZON;
