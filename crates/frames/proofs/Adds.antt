@@ -30,22 +30,6 @@ unfolding each
 adds_none a text =
     record { was = λ whole. whole; adds = λ whole. sym (append-nil a.text.items) }
 
--- one text more
-pub adds_one_more : {a b c : Page} (text : ℕ → List ℕ) (n : ℕ)
-    → Adds a b (each n text) → Adds b c (text n) → Adds a c (each (n + 1) text)
-adds_one_more {a = a} {c = c} text n so_far next =
-    subst (Adds a c) (sym (each_more text n)) (adds_both so_far next)
-
--- one item's text more
-pub adds_item : {a b c : Page} {X : Type 0} (text : ℕ → X → List ℕ) (items : List X) (none : X)
-    (n : ℕ) (x : X)
-    → n < length items → x ≡ get_or items n x
-    → Adds a b (each n (λ i. text i (get_or items i none))) → Adds b c (text n x)
-    → Adds a c (each (n + 1) (λ i. text i (get_or items i none)))
-adds_item {b = b} {c = c} {X = X} text items none n x lt is so_far next =
-    adds_one_more (λ i. text i (get_or items i none)) n so_far
-    (subst (λ (y : X). Adds b c (text n y)) (get_or_read items n x lt is none) next)
-
 -- nothing was put yet behind a first text
 pub adds_head : {a b : Page} {head : List ℕ} (text : ℕ → List ℕ)
     → Adds a b head → Adds a b (head ++ each 0 text)
@@ -60,6 +44,11 @@ adds_one_more_behind {a = a} {c = c} head text n so_far next =
     subst (Adds a c) (append_assoc head (each n text) (text n)
     ∙ ap (λ (l : List ℕ). head ++ l) (sym (each_more text n))) (adds_both so_far next)
 
+-- one text more
+pub adds_one_more : {a b c : Page} (text : ℕ → List ℕ) (n : ℕ)
+    → Adds a b (each n text) → Adds b c (text n) → Adds a c (each (n + 1) text)
+adds_one_more = adds_one_more_behind []
+
 -- one item's text more behind a first text
 pub adds_item_behind : {a b c : Page} {X : Type 0} (head : List ℕ) (text : ℕ → X → List ℕ)
     (items : List X) (none : X) (n : ℕ) (x : X)
@@ -69,3 +58,11 @@ pub adds_item_behind : {a b c : Page} {X : Type 0} (head : List ℕ) (text : ℕ
 adds_item_behind {b = b} {c = c} {X = X} head text items none n x lt is so_far next =
     adds_one_more_behind head (λ i. text i (get_or items i none)) n so_far
     (subst (λ (y : X). Adds b c (text n y)) (get_or_read items n x lt is none) next)
+
+-- one item's text more
+pub adds_item : {a b c : Page} {X : Type 0} (text : ℕ → X → List ℕ) (items : List X) (none : X)
+    (n : ℕ) (x : X)
+    → n < length items → x ≡ get_or items n x
+    → Adds a b (each n (λ i. text i (get_or items i none))) → Adds b c (text n x)
+    → Adds a c (each (n + 1) (λ i. text i (get_or items i none)))
+adds_item = adds_item_behind []

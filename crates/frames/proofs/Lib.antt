@@ -2,4 +2,3 @@ pub mod Adds
 pub mod Lanes
 pub mod Executed
 mod Shown
-mod LockLaws

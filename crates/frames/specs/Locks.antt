@@ -1,5 +1,5 @@
 -- Locks: those of the rows, each once, and their tones.
-use Rattle.std.specs.Prelude.{ℕ, ◌+◌, ◌-◌, ◌%◌, nat_lt, if◌then◌else◌, Option, Some, None, List, [], ◌∷◌, ◌++◌, length, position}
+use Rattle.std.specs.Prelude.{ℕ, ◌%◌, nat_lt, if◌then◌else◌, Option, Some, None, List, [], ◌∷◌, ◌++◌, length, position}
 use Rattle.task_sheet.specs.Sheet.{CriticalSection, same_bytes}
 use Rattle.frames.specs.declared.locks.TheConstants.{LOCKS_LIMIT}
 use Rattle.frames.specs.declared.rows.TaskRow.{TaskRow}

@@ -1,5 +1,5 @@
 -- The rows of the picture, and texts one after the other.
-use Rattle.std.specs.Prelude.{ℕ, zero, suc, ◌==◌, Option, Some, None, List, [], ◌++◌, position, slice_index, slice_index_or, ◌+◌, ◌-◌}
+use Rattle.std.specs.Prelude.{ℕ, zero, suc, ◌==◌, Option, Some, None, List, [], ◌++◌, position, slice_index, slice_index_or}
 use Rattle.task_sheet.specs.Sheet.{no_task, same_bytes}
 use Rattle.ceiling_kernel.specs.declared.trace.JobRecord.{JobRecord}
 use Rattle.ceiling_kernel.specs.Runs.{no_record}

@@ -1,6 +1,6 @@
 -- What part of a run is drawn, and how.
-use Rattle.std.specs.Prelude.{ℕ, zero, suc, min, max, Bool, ◌||◌, ◌==◌, nat_le, if◌then◌else◌, List, [], ◌∷◌, ◌++◌, length}
-use Rattle.std.specs.List.{list_any}
+use Rattle.std.specs.Prelude.{ℕ, min, max, Bool, ◌||◌, ◌==◌, nat_le, if◌then◌else◌, List, [], ◌∷◌, ◌++◌, length}
+use Rattle.std.specs.List.{list_any, filter, range_with_len}
 use Rattle.std.specs.Option.{unwrap_or}
 use Rattle.task_sheet.specs.Sheet.{same_bytes}
 use Rattle.ceiling_kernel.specs.declared.accept.TheConstants.{HORIZON}
@@ -34,12 +34,7 @@ is_chosen names name = (length names == 0) || is_among names name
 abbrev pub noted_rank : List ℕ → (rank : ℕ) → Bool → List ℕ
 noted_rank ranks rank shown = if shown then ranks ++ rank ∷ [] else ranks
 
--- of the first n rows those that are shown, by their ranks from 0
-unfoldable pub shown_below : List (List ℕ) → List TaskRow → ℕ → List ℕ
-shown_below names rows zero = []
-shown_below names rows (suc n) =
-    noted_rank (shown_below names rows n) n (is_chosen names (name_in rows n))
-
--- of all rows
+-- the rows that are shown, by their ranks from 0
 abbrev pub shown_of : List (List ℕ) → List TaskRow → List ℕ
-shown_of names rows = shown_below names rows (length rows)
+shown_of names rows =
+    filter (λ rank. is_chosen names (name_in rows rank)) (range_with_len 0 (length rows))

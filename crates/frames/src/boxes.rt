@@ -11,7 +11,7 @@ use std::io::Write;
 use task_sheet::Name;
 
 /// From where to where a box goes, its upper edge, and how high it is.
-#[derive(Clone, Copy, Debug)]
+#[derive(Clone, Copy)]
 pub struct Bar {
     pub x: u64,
     pub right: u64,
@@ -23,10 +23,7 @@ impl fmt::Display for Bar {
     ghost output = { λ b. Some (box_path b.x b.right b.y b.high) };
 
     fn fmt<W: fmt::Write>(&self, f: &mut fmt::Formatter<W>) -> fmt::Result {
-        let x = self.x;
-        let right = self.right;
-        let y = self.y;
-        let high = self.high;
+        let Bar { x, right, y, high } = *self;
         write!(f, "M{x} {y}H{right}v{high}H{x}z")
     }
 }

@@ -6,7 +6,7 @@ ghost use Rattle.frames.specs.Slices.{rises};
 ghost use Rattle.frames.specs.declared.locks.TheConstants.{LOCKS_LIMIT};
 
 use crate::frame::Frame;
-use crate::rows::{Spot, TaskRow, find_spot, spot_in};
+use crate::rows::{Spot, TaskRow, find_row, place_in};
 use ceiling_kernel::{JobRecord, Release, Slice};
 use task_sheet::Name;
 
@@ -70,7 +70,10 @@ impl Chart<'_> {
         ensures row { result.rank < length self.now.rows.now }
         ensures place { result.k ≤ TASK_LIMIT }
     {
-        spot_in(self.shown, k)
+        Spot {
+            rank: self.shown[k],
+            k,
+        }
     }
 
     /// The job of a slice, if there is one.
@@ -86,6 +89,8 @@ impl Chart<'_> {
         ensures row { IfSome result (λ s. s.rank < length self.now.rows.now) }
         ensures place { IfSome result (λ s. s.k ≤ TASK_LIMIT) }
     {
-        find_spot(self.rows, self.shown, name)
+        let rank = find_row(self.rows, name)?;
+        let k = place_in(self.shown, rank)?;
+        Some(Spot { rank, k })
     }
 }

@@ -3,12 +3,12 @@ ghost use Rattle.std.specs.Prelude.{◌+◌, ◌<◌, ◌≡◌, ◌≤◌, leng
 ghost use Rattle.ceiling_kernel.specs.declared.accept.TheConstants.{HORIZON};
 ghost use Rattle.task_sheet.specs.declared.set.TheConstants.{TASK_LIMIT};
 ghost use Rattle.task_sheet.specs.declared.sheet.TheConstants.{PERIOD_TO};
-ghost use Rattle.frames.specs.Frame.{Frame, IsFrame, decade_of, ended, frame_end, frame_of, is_in, is_wide, least_period, left_of, level_of, longest_name, sees, span_of, step_in, step_of, steps_before, tone_of, top_of, unit_name, unit_of, x_of};
+ghost use Rattle.frames.specs.Frame.{Frame, IsFrame, decade_of, ended, frame_end, frame_of, is_in, is_wide, least_period, left_of, level_of, longest_name, sees, span_of, step_of, steps_before, tone_of, top_of, unit_name, unit_of, x_of};
 ghost use Rattle.frames.specs.declared.frame.TheConstants.{LOWEST_TOP, NARROWEST, RIGHTMOST, WIDEST_DECADE, WIDEST_MARGIN, WIDEST_STEP};
 
 use crate::rows::TaskRow;
-use crate::view::{View, end_of_run, frame_from, frame_to};
-use ceiling_kernel::JobRecord;
+use crate::view::{View, window_end};
+use ceiling_kernel::{HORIZON, JobRecord};
 use std::marker::Model;
 use task_sheet::PERIOD_TO;
 
@@ -113,13 +113,12 @@ pub fn frame_of(rows: &[TaskRow], view: &View, until: u64) -> Frame
 {
     let left = left_of(longest_name(rows));
     let least = least_period(rows).max(1);
-    let end = end_of_run(until);
-    let from = frame_from(view, until);
-    let to = frame_to(view, until);
+    let to = window_end(view, until).max(1);
+    let from = view.from.min(to - 1);
     let span = span_of(view.width, left, least, to - from);
     let count = rows.len() as u64;
     Frame {
-        until: end,
+        until: until.min(HORIZON).max(1),
         from,
         to,
         left,
@@ -266,14 +265,13 @@ fn decade_of(frame: Frame) -> u64
     }
 }
 
-// The first of a power of ten, two of it and five of it that is wide enough.
-fn step_in(frame: Frame, power: u64) -> u64
-    requires some { 0 < power }
-    requires within { power ≤ WIDEST_DECADE }
-    ensures value { result ≡ step_in frame power }
+/// The scale's step.
+pub fn step_of(frame: Frame) -> u64
+    ensures value { result ≡ step_of frame }
     ensures some { 0 < result }
     ensures within { result ≤ WIDEST_STEP }
 {
+    let power = decade_of(frame);
     if is_wide(frame, power) {
         power
     } else if is_wide(frame, 2 * power) {
@@ -281,15 +279,6 @@ fn step_in(frame: Frame, power: u64) -> u64
     } else {
         5 * power
     }
-}
-
-/// The scale's step.
-pub fn step_of(frame: Frame) -> u64
-    ensures value { result ≡ step_of frame }
-    ensures some { 0 < result }
-    ensures within { result ≤ WIDEST_STEP }
-{
-    step_in(frame, decade_of(frame))
 }
 
 /// How many steps lie before the window.

@@ -19,7 +19,9 @@ fn lock_place(locks: &[Name], name: Name) -> Option<usize>
 
 // Notes a lock, where it isn't among some.
 fn note(locks: &mut Vec<Name>, name: Name) -> Result<(), AllocError>
-    ensures { OnOk result (locks.new.items ≡ noted locks.old.items name) }
+    requires { length locks.old.items ≤ LOCKS_LIMIT }
+    ensures noted { OnOk result (locks.new.items ≡ noted locks.old.items name) }
+    ensures few { OnOk result (length locks.new.items ≤ LOCKS_LIMIT) }
 {
     match lock_place(locks, name) {
         Some(_) => Ok(()),
@@ -34,7 +36,9 @@ fn note(locks: &mut Vec<Name>, name: Name) -> Result<(), AllocError>
 
 // Notes those of some names.
 fn note_names(locks: &mut Vec<Name>, names: &[Name]) -> Result<(), AllocError>
-    ensures { OnOk result (locks.new.items ≡ noted_names locks.old.items names.now) }
+    requires { length locks.old.items ≤ LOCKS_LIMIT }
+    ensures noted { OnOk result (locks.new.items ≡ noted_names locks.old.items names.now) }
+    ensures few { OnOk result (length locks.new.items ≤ LOCKS_LIMIT) }
 {
     for name in names {
         note(locks, *name)?;
@@ -44,7 +48,9 @@ fn note_names(locks: &mut Vec<Name>, names: &[Name]) -> Result<(), AllocError>
 
 // Notes those of some sections.
 fn note_sections(locks: &mut Vec<Name>, sections: &[Section]) -> Result<(), AllocError>
-    ensures { OnOk result (locks.new.items ≡ noted_sections locks.old.items sections.now) }
+    requires { length locks.old.items ≤ LOCKS_LIMIT }
+    ensures noted { OnOk result (locks.new.items ≡ noted_sections locks.old.items sections.now) }
+    ensures few { OnOk result (length locks.new.items ≤ LOCKS_LIMIT) }
 {
     for section in sections {
         note_names(locks, &section.locks)?;

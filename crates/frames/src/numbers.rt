@@ -6,7 +6,7 @@ use std::fmt;
 use std::io::Write;
 
 // What stands behind whole milliseconds, of so many microseconds below one.
-#[derive(Clone, Copy, Debug)]
+#[derive(Clone, Copy)]
 struct Rest {
     micros: u64,
 }
@@ -29,7 +29,7 @@ impl fmt::Display for Rest {
 }
 
 /// So many microseconds, in milliseconds.
-#[derive(Clone, Copy, Debug)]
+#[derive(Clone, Copy)]
 pub struct Millis {
     pub micros: u64,
 }
@@ -47,7 +47,7 @@ impl fmt::Display for Millis {
 }
 
 /// A bound, or `-` where none is known.
-#[derive(Clone, Copy, Debug)]
+#[derive(Clone, Copy)]
 pub struct Known {
     pub bound: Option<u64>,
 }

@@ -1,5 +1,5 @@
 //! The document of a picture, while it grows.
-ghost use Rattle.std.specs.Prelude.{◌≡◌, [], true, IfOk, IfSome};
+ghost use Rattle.std.specs.Prelude.{◌≡◌, [], true, false, IfSome, MatchResult};
 ghost use Rattle.frames.specs.Page.{Adds};
 
 use std::alloc::{AllocError, Global};
@@ -46,7 +46,8 @@ impl Page {
 
     /// What is on it, where memory was there for all of it.
     pub fn whole(self) -> Result<Vec<u8>, AllocError>
-        ensures { IfOk result (λ text. (self.is_whole ≡ true) × (text ≡ self.text)) }
+        ensures { MatchResult result (λ text. (self.is_whole ≡ true) × (text ≡ self.text)) (λ _.
+            self.is_whole ≡ false) }
     {
         if self.is_whole {
             Ok(self.text)

@@ -1,6 +1,6 @@
 //! Rows.
 ghost use Rattle.std.specs.Prelude.{◌<◌, ◌≡◌, IfSome, length};
-ghost use Rattle.frames.specs.Rows.{name_in, place_in, record_at, row_named, spot_in, spot_named};
+ghost use Rattle.frames.specs.Rows.{name_in, place_in, record_at, row_named};
 
 use ceiling_kernel::JobRecord;
 use task_sheet::{Name, Sheet};
@@ -49,30 +49,6 @@ pub fn place_in(shown: &[usize], rank: usize) -> Option<usize>
     ensures within { IfSome result (λ k. k < length shown.now) }
 {
     shown.iter().position(|other| *other == rank)
-}
-
-// The spot at a place.
-pub(crate) fn spot_in(shown: &[usize], k: usize) -> Spot
-    requires { k < length shown.now }
-    ensures { result ≡ spot_in shown.now k }
-{
-    let rank = shown[k];
-    Spot { rank, k }
-}
-
-// The spot of the task with a name.
-pub(crate) fn find_spot(rows: &[TaskRow], shown: &[usize], name: Name) -> Option<Spot>
-    ensures spot { result ≡ spot_named rows.now shown.now name }
-    ensures row { IfSome result (λ s. s.rank < length rows.now) }
-    ensures place { IfSome result (λ s. s.k < length shown.now) }
-{
-    let Some(rank) = find_row(rows, name) else {
-        return None;
-    };
-    match place_in(shown, rank) {
-        None => None,
-        Some(k) => Some(Spot { rank, k }),
-    }
 }
 
 /// The job at a place.

@@ -1,8 +1,7 @@
 //! What part of a run is drawn, and how.
 ghost use Rattle.std.specs.Prelude.{◌<◌, ◌≡◌, ◌≤◌, All, IfOk, None, OnOk, [], length};
 ghost use Rattle.ceiling_kernel.specs.declared.accept.TheConstants.{HORIZON};
-ghost use Rattle.frames.specs.Frame.{frame_from, frame_to};
-ghost use Rattle.frames.specs.View.{end_of_run, is_among, is_chosen, is_empty, noted_rank, shown_of, window_end};
+ghost use Rattle.frames.specs.View.{end_of_run, is_chosen, is_empty, noted_rank, shown_of, window_end};
 
 use crate::rows::{TaskRow, name_in};
 use ceiling_kernel::HORIZON;
@@ -50,53 +49,20 @@ impl View {
     }
 }
 
-// When a run ends that a list ends at a time.
-pub(crate) fn end_of_run(until: u64) -> u64
-    ensures value { result ≡ end_of_run until }
-    ensures some { 0 < result }
-    ensures within { result ≤ HORIZON }
-{
-    until.min(HORIZON).max(1)
-}
-
-// Where the window of a view of it ends.
-fn window_end(view: &View, until: u64) -> u64
+// Where the window of a view of a run up to a time ends.
+pub(crate) fn window_end(view: &View, until: u64) -> u64
     ensures value { result ≡ window_end view.now until }
     ensures within { result ≤ end_of_run until }
 {
-    let end = end_of_run(until);
+    let end = until.min(HORIZON).max(1);
     view.to.unwrap_or(end).min(end)
-}
-
-// The same, a microsecond behind the beginning at least.
-pub(crate) fn frame_to(view: &View, until: u64) -> u64
-    ensures value { result ≡ frame_to view.now until }
-    ensures some { 0 < result }
-    ensures within { result ≤ end_of_run until }
-{
-    window_end(view, until).max(1)
-}
-
-// Where it begins.
-pub(crate) fn frame_from(view: &View, until: u64) -> u64
-    ensures value { result ≡ frame_from view.now until }
-    ensures before { result < frame_to view.now until }
-{
-    view.from.min(frame_to(view, until) - 1)
-}
-
-// Whether some names have one among them.
-fn is_among(names: &[Name], name: Name) -> bool
-    ensures { result ≡ is_among names.now name }
-{
-    names.iter().any(|other| *other == name)
 }
 
 // Whether a task has a row.
 fn is_chosen(names: &[Name], name: Name) -> bool
     ensures { result ≡ is_chosen names.now name }
 {
-    names.is_empty() || is_among(names, name)
+    names.is_empty() || names.contains(&name)
 }
 
 // Notes a row that is shown.

@@ -1,5 +1,9 @@
 -- The document of a view.
-use Rattle.std.proofs.Common.{◌≡◌, ℕ, List, refl}
+use Rattle.std.proofs.Common.{◌≡◌, ◌∙◌, ℕ, List, [], Result, true, refl}
+use Rattle.std.specs.Prelude.{IfOk, MatchResult}
+use Rattle.std.specs.Global.{Vec}
+use Rattle.std.specs.declared.alloc.AllocError.{AllocError}
+use Rattle.std.proofs.lemmas.Result.{MatchResult-weaker}
 use Rattle.ceiling_kernel.specs.declared.trace.Release.{Release}
 use Rattle.ceiling_kernel.specs.declared.trace.JobRecord.{JobRecord}
 use Rattle.ceiling_kernel.specs.declared.trace.Slice.{Slice}
@@ -9,6 +13,8 @@ use Rattle.frames.specs.declared.view.View.{View}
 use Rattle.frames.specs.Frame.{Frame, frame_of}
 use Rattle.frames.specs.Locks.{locks_of}
 use Rattle.frames.specs.View.{shown_of}
+use Rattle.frames.specs.Page.{Adds}
+use Rattle.frames.specs.declared.page.Page.{Page}
 use Rattle.picture.specs.Document.{document, framed}
 
 pub document_of : (rows : List TaskRow) (v : View) (until : ℕ) (rs : List Release) (trace : Trace)
@@ -20,3 +26,12 @@ pub document_of : (rows : List TaskRow) (v : View) (until : ℕ) (rs : List Rele
 document_of rows v until rs trace f title locks shown jobs slices frame titled locked chosen
     job slice =
     rw frame (rw titled (rw locked (rw chosen (rw job (rw slice refl)))))
+
+-- what a page that was empty has in the end
+pub whole_of : {a b : Page} {words other : List ℕ}
+    (r : Result (Vec ℕ) AllocError) (Q : AllocError → Type 0)
+    → Adds a b words → a.text.items ≡ [] → words ≡ other
+    → MatchResult r (λ text. (b.is_whole ≡ true) × (text ≡ b.text)) Q
+    → IfOk r (λ text. text.items ≡ other)
+whole_of r Q put empty same whole = MatchResult-weaker r whole
+    (λ text is. rw is.1 (put.adds is.0 ∙ rw empty same)) (λ _ _. tt)

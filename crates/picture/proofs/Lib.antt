@@ -1,3 +1,1 @@
-mod Darker
-mod Widths
 mod Documents

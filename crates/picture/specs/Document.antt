@@ -1,5 +1,5 @@
 -- The document: what stands still, the jobs, the slices by time, and the marks of the releases.
-use Rattle.std.specs.Prelude.{ℕ, ◌+◌, ◌-◌, ◌*◌, ◌/◌, Bool, ◌&&◌, ◌==◌, if◌then◌else◌, List, [], ◌∷◌, ◌++◌, length, codes}
+use Rattle.std.specs.Prelude.{ℕ, ◌+◌, ◌-◌, ◌*◌, ◌/◌, ◌&&◌, ◌==◌, if◌then◌else◌, List, [], ◌∷◌, ◌++◌, length, codes}
 use Rattle.std.specs.Fmt.{decimal}
 use Rattle.std.specs.List.{concat}
 use Rattle.ceiling_kernel.specs.declared.trace.Release.{Release}
@@ -12,7 +12,7 @@ use Rattle.frames.specs.View.{shown_of}
 use Rattle.picture.specs.Titles.{title_head}
 use Rattle.picture.specs.declared.style.TheConstants.{STYLE}
 use Rattle.picture.specs.declared.legend.TheConstants.{LEGEND}
-use Rattle.frames.specs.Frame.{Frame, frame_of, frame_end, step_of, steps_before, top_of}
+use Rattle.frames.specs.Frame.{Frame, frame_of, frame_end, step_of, steps_before, top_of, unit_name}
 use Rattle.frames.specs.Rows.{each, row_at, spot_in}
 use Rattle.frames.specs.Numbers.{millis_text}
 use Rattle.job_boxes.specs.Misses.{all_missed, badge_text, misses_text}
@@ -22,7 +22,7 @@ use Rattle.bars.specs.Stripes.{locks_high, locks_group}
 use Rattle.reasons.specs.WaitTexts.{waits_text}
 use Rattle.bars.specs.Lane.{lane_head, lane_line, lanes_text}
 use Rattle.job_boxes.specs.Bands.{jobs_text}
-use Rattle.picture.specs.Scale.{time_head, tick_text, line_text}
+use Rattle.picture.specs.Scale.{tick_text, line_text}
 use Rattle.bars.specs.Bars.{slices_text}
 use Rattle.job_boxes.specs.Marks.{all_marks}
 
@@ -30,35 +30,21 @@ use Rattle.job_boxes.specs.Marks.{all_marks}
 abbrev pub width_of : Frame → ℕ
 width_of f = frame_end f + 200
 
--- the measures
-abbrev pub measures_text : Frame → (high : ℕ) → List ℕ
-measures_text f high =
-    concat (codes "version=\"1.1\" width=\"" ∷ decimal (width_of f / 10) ∷ codes "\" height=\""
-    ∷ decimal (high / 10)
-    ∷ codes "\" viewBox=\"0 0 " ∷ decimal (width_of f) ∷ codes " " ∷ decimal high ∷ codes "\">\n"
-    ∷ [])
-
--- the title
-abbrev pub title_words : (rows jobs until : ℕ) → List ℕ
-title_words rows jobs until =
-    concat (codes "tasks: " ∷ decimal rows ∷ codes ", jobs: " ∷ decimal jobs
-    ∷ codes ", until " ∷ decimal until
-    ∷ codes " us</title>\n" ∷ [])
-
--- with what was given as a title before it
-abbrev pub title_text : List ℕ → (rows jobs until : ℕ) → List ℕ
-title_text title rows jobs until =
-    codes "<title>" ++ title_head title ++ title_words rows jobs until
-
 -- how high it is, of so many rows and locks
 abbrev pub high_of : Frame → (rows locks : ℕ) → ℕ
 high_of f rows locks = top_of rows + 120 + locks_high f locks
 
--- the first lines
+-- the first lines, and the title, with what was given before it
 abbrev pub document_head : Frame → List ℕ → (locks shown rows jobs until : ℕ) → List ℕ
 document_head f title locks shown rows jobs until =
-    codes "<?xml version=\"1.0\" encoding=\"UTF-8\"?>\n<svg xmlns=\"http://www.w3.org/2000/svg\" "
-    ++ measures_text f (high_of f shown locks) ++ title_text title rows jobs until
+    concat (codes "<?xml version=\"1.0\" encoding=\"UTF-8\"?>\n<svg xmlns=\"http://www.w3.org/2000/svg\" version=\"1.1\" width=\""
+    ∷ decimal (width_of f / 10) ∷ codes "\" height=\"" ∷ decimal (high_of f shown locks / 10)
+    ∷ codes "\" viewBox=\"0 0 " ∷ decimal (width_of f) ∷ codes " " ∷ decimal (high_of f shown locks)
+    ∷ codes "\">\n<title>" ∷ [])
+    ++ title_head title
+    ++ concat (codes "tasks: " ∷ decimal rows ∷ codes ", jobs: " ∷ decimal jobs ∷ codes ", until "
+    ∷ decimal until
+    ∷ codes " us</title>\n" ∷ [])
 
 -- the scale
 abbrev pub ticks_text : Frame → (bottom step : ℕ) → List ℕ
@@ -76,66 +62,45 @@ margins_text f rows shown jobs =
     each (length shown)
     (λ k. margin_text f jobs (spot_in shown k) (row_at rows (spot_in shown k).rank))
 
--- the same as a group, with that of the scale and of the lane of the processor
+-- the same as a group, with the scale's unit and the lane of the processor
 abbrev pub margin_group : Frame → List TaskRow → (shown : List ℕ) → List JobRecord → List Slice → List ℕ
 margin_group f rows shown jobs slices =
-    codes "<g id=\"n\">\n" ++ time_head f ++ lane_head f slices ++ margins_text f rows shown jobs
-    ++ codes "</g>\n"
+    concat (codes "<g id=\"n\">\n<text x=\"500\" y=\"1200\">time in " ∷ unit_name (step_of f)
+    ∷ codes "</text>\n" ∷ [])
+    ++ lane_head f slices ++ margins_text f rows shown jobs ++ codes "</g>\n"
 
--- the scale, the lines of the lane and of the rows, the margin, and the locks
-abbrev pub rows_text : Frame → List (List ℕ) → List TaskRow → (shown : List ℕ) → List JobRecord → List Slice → List ℕ
-rows_text f locks rows shown jobs slices =
-    ticks_text f (top_of (length shown)) (step_of f) ++ lane_line f ++ lines_text f (length shown)
-    ++ margin_group f rows shown jobs slices ++ locks_group f (length shown) locks
-
--- how many deadlines are missed
-abbrev pub missed_verdict : List ℕ → (missed : ℕ) → List ℕ
-missed_verdict title missed =
-    badge_text 190 150 ++ codes "<text class=\"t q\" x=\"320\" y=\"200\">" ++ title_head title
-    ++ concat (codes "deadlines missed: " ∷ decimal missed ∷ codes "</text>\n" ∷ [])
-
--- that none is
-abbrev pub no_missed : List ℕ → List ℕ
-no_missed title =
-    codes "<text class=\"t\" x=\"100\" y=\"200\">" ++ title_head title
-    ++ codes "no deadline missed</text>\n"
-
--- whether a deadline is missed
+-- whether a deadline is missed, and how many are
 abbrev pub verdict_text : List ℕ → (missed : ℕ) → List ℕ
-verdict_text title missed = if missed == 0 then no_missed title else missed_verdict title missed
-
--- the run
-abbrev pub run_words : (rows jobs until : ℕ) → List ℕ
-run_words rows jobs until =
-    concat (codes "<text x=\"100\" y=\"390\">tasks: " ∷ decimal rows ∷ codes ", jobs: " ∷ decimal jobs
-    ∷ codes ", until " ∷ millis_text until
-    ∷ codes " ms" ∷ [])
-
--- all of it is drawn
-abbrev pub is_whole : Frame → Bool
-is_whole f = (f.from == 0) && (f.to == f.until)
+verdict_text title missed =
+    if missed == 0
+    then codes "<text class=\"t\" x=\"100\" y=\"200\">" ++ title_head title
+    ++ codes "no deadline missed</text>\n"
+    else badge_text 190 150 ++ codes "<text class=\"t q\" x=\"320\" y=\"200\">" ++ title_head title
+    ++ concat (codes "deadlines missed: " ∷ decimal missed ∷ codes "</text>\n" ∷ [])
 
 -- what part of it is drawn, where that isn't all
 abbrev pub window_words : Frame → List ℕ
 window_words f =
-    if is_whole f then []
+    if (f.from == 0) && (f.to == f.until) then []
     else concat (codes ", shown: " ∷ millis_text f.from ∷ codes " to " ∷ millis_text f.to ∷ codes " ms" ∷ [])
 
--- what is drawn
+-- the run, and what part of it is drawn
 abbrev pub what_text : Frame → (rows jobs until : ℕ) → List ℕ
-what_text f rows jobs until = run_words rows jobs until ++ window_words f ++ codes "</text>\n"
+what_text f rows jobs until =
+    concat (codes "<text x=\"100\" y=\"390\">tasks: " ∷ decimal rows ∷ codes ", jobs: " ∷ decimal jobs
+    ∷ codes ", until " ∷ millis_text until
+    ∷ codes " ms" ∷ [])
+    ++ window_words f ++ codes "</text>\n"
 
--- how the elements look, whether a deadline is missed, what is drawn, and what the signs mean
-abbrev pub top_text : Frame → List ℕ → List TaskRow → List JobRecord → (until : ℕ) → List ℕ
-top_text f title rows jobs until =
-    STYLE.now ++ verdict_text title (all_missed f rows jobs)
-    ++ what_text f (length rows) (length jobs) until ++ LEGEND.now
-
--- what stands still
+-- what stands still: how the elements look, whether a deadline is missed, what is drawn, what the signs mean, the scale, the
+-- lines of the lane and of the rows, the margin, and the locks
 abbrev pub ground_text : Frame → List ℕ → List (List ℕ) → List TaskRow → (shown : List ℕ) → List JobRecord → List Slice → (until : ℕ) → List ℕ
 ground_text f title locks rows shown jobs slices until =
     document_head f title (length locks) (length shown) (length rows) (length jobs) until
-    ++ top_text f title rows jobs until ++ rows_text f locks rows shown jobs slices
+    ++ STYLE.now ++ verdict_text title (all_missed f rows jobs)
+    ++ what_text f (length rows) (length jobs) until ++ LEGEND.now
+    ++ ticks_text f (top_of (length shown)) (step_of f) ++ lane_line f ++ lines_text f (length shown)
+    ++ margin_group f rows shown jobs slices ++ locks_group f (length shown) locks
 
 -- the document in a frame: what stands still, the lane, the jobs, the marks, why jobs wait, the slices, and what is missed
 abbrev pub framed : Frame → List ℕ → List (List ℕ) → List TaskRow → (shown : List ℕ) → ℕ → List Release → List JobRecord → List Slice → List ℕ

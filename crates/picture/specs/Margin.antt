@@ -21,26 +21,22 @@ level_text f spot =
     ∷ decimal (top_of spot.k + 130)
     ∷ codes "\" width=\"100\" height=\"100\" rx=\"20\"/>\n" ∷ [])
 
--- what the jobs of a row's task came to: how many are done, the greatest response among them, and the row's bound
-abbrev pub outcome_text : TaskRow → List JobRecord → List ℕ
-outcome_text row jobs =
-    concat (codes "<title>done: " ∷ decimal (length (done_of row.sheet.name jobs))
-    ∷ codes ", greatest response: " ∷ [])
-    ++ greatest_words (length (done_of row.sheet.name jobs))
-    (greatest_of response_of (done_of row.sheet.name jobs))
-    ++ concat (codes ", bound: " ∷ known_text row.bound ∷ codes " us</title>" ∷ [])
-
 -- a name is red where a deadline is missed
 abbrev pub name_class : (missed : ℕ) → List ℕ
 name_class missed = if missed == 0 then codes "n" else codes "n q"
 
--- the name of a row, with what its jobs came to as its title
+-- the name of a row, with what its jobs came to as its title: how many are done, the greatest response among them, and the
+-- row's bound
 abbrev pub name_text : (missed : ℕ) → List JobRecord → ℕ → TaskRow → List ℕ
 name_text missed jobs k row =
     concat (codes "<text class=\"" ∷ name_class missed ∷ codes "\" x=\"500\" y=\""
     ∷ decimal (top_of k + 230)
-    ∷ codes "\">" ∷ [])
-    ++ outcome_text row jobs ++ concat (row.sheet.name ∷ codes "</text>\n" ∷ [])
+    ∷ codes "\"><title>done: " ∷ decimal (length (done_of row.sheet.name jobs))
+    ∷ codes ", greatest response: " ∷ [])
+    ++ greatest_words (length (done_of row.sheet.name jobs))
+    (greatest_of response_of (done_of row.sheet.name jobs))
+    ++ concat (codes ", bound: " ∷ known_text row.bound ∷ codes " us</title>" ∷ row.sheet.name
+    ∷ codes "</text>\n" ∷ [])
 
 -- the bound and the deadline, in milliseconds; without a bound the deadline
 abbrev pub limits_text : ℕ → TaskRow → Option ℕ → List ℕ
@@ -53,17 +49,13 @@ limits_text k row None =
     ∷ millis_text row.sheet.deadline
     ∷ codes " ms</text>\n" ∷ [])
 
--- how many deadlines are missed
-abbrev pub missed_words : ℕ → (missed : ℕ) → List ℕ
-missed_words k missed =
-    concat (codes "<text class=\"q\" x=\"500\" y=\"" ∷ decimal (top_of k + 355)
-    ∷ codes "\">deadlines missed: " ∷ decimal missed
-    ∷ codes "</text>\n" ∷ [])
-
--- one of the two
+-- how many deadlines are missed, or those two
 abbrev pub second_line : (missed : ℕ) → ℕ → TaskRow → List ℕ
 second_line missed k row =
-    if missed == 0 then limits_text k row row.bound else missed_words k missed
+    if missed == 0 then limits_text k row row.bound
+    else concat (codes "<text class=\"q\" x=\"500\" y=\"" ∷ decimal (top_of k + 355)
+    ∷ codes "\">deadlines missed: " ∷ decimal missed
+    ∷ codes "</text>\n" ∷ [])
 
 -- a row's part of the margin
 abbrev pub margin_text : Frame → List JobRecord → Spot → TaskRow → List ℕ

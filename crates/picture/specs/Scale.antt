@@ -2,13 +2,7 @@
 use Rattle.std.specs.Prelude.{ℕ, ◌+◌, ◌-◌, ◌/◌, min, nat_lt, if◌then◌else◌, List, [], ◌∷◌, codes}
 use Rattle.std.specs.Fmt.{decimal}
 use Rattle.std.specs.List.{concat}
-use Rattle.frames.specs.Frame.{Frame, x_of, frame_end, top_of, step_of, unit_of, unit_name}
-
--- the scale's unit
-abbrev pub time_head : Frame → List ℕ
-time_head f =
-    concat (codes "<text x=\"500\" y=\"1200\">time in " ∷ unit_name (step_of f)
-    ∷ codes "</text>\n" ∷ [])
+use Rattle.frames.specs.Frame.{Frame, x_of, frame_end, top_of, unit_of}
 
 -- a number stands in the middle of its line; one of seven digits or more, which is wider than the edge, 9 pixels before the
 -- end at the latest

@@ -24,10 +24,7 @@ shown_at bytes i =
     if is_barred bytes i then codes " " else if is_in_barred bytes i then []
     else shown_byte (slice_index bytes i)
 
--- some bytes
-abbrev pub shown_bytes : List ℕ → List ℕ
-shown_bytes bytes = each (length bytes) (shown_at bytes)
-
 -- a title, where it isn't empty
 abbrev pub title_head : List ℕ → List ℕ
-title_head title = if length title == 0 then [] else shown_bytes title ++ codes ": "
+title_head title =
+    if length title == 0 then [] else each (length title) (shown_at title) ++ codes ": "

@@ -1,11 +1,8 @@
 //! The whole picture.
-ghost use Rattle.std.specs.Prelude.{◌<◌, ◌≡◌, ◌≤◌, All, IfOk, length};
+ghost use Rattle.std.specs.Prelude.{◌≡◌, ◌≤◌, IfOk, length};
 ghost use Rattle.task_sheet.specs.declared.set.TheConstants.{TASK_LIMIT};
 ghost use Rattle.bars.specs.Sections.{AreUncounted};
 ghost use Rattle.frames.specs.Page.{Adds};
-ghost use Rattle.frames.specs.Locks.{locks_of};
-ghost use Rattle.frames.specs.View.{shown_of};
-ghost use Rattle.frames.specs.declared.locks.TheConstants.{LOCKS_LIMIT};
 ghost use Rattle.picture.specs.Document.{document, framed};
 
 use crate::ground::put_ground;
@@ -15,14 +12,6 @@ use frames::{Chart, Page, TaskRow, View, frame_of, locks_of, shown_of, starts_ri
 use job_boxes::{put_all_marks, put_jobs, put_misses};
 use reasons::put_waits;
 use std::alloc::{AllocError, Global};
-use task_sheet::Name;
-
-// A count for each of so many jobs, which is 0.
-fn no_ticks(alloc: Global, jobs: usize) -> Result<Vec<u64>, AllocError>
-    ensures { IfOk result (λ ticks. AreUncounted ticks.items jobs) }
-{
-    vec![in alloc; 0; jobs]
-}
 
 // The document, with the counts of the ticks that each job executed.
 fn put_document(chart: &Chart<'_>, executed: &mut [u64], page: &mut Page)
@@ -42,53 +31,6 @@ fn put_document(chart: &Chart<'_>, executed: &mut [u64], page: &mut Page)
     page.put(b"</svg>\n")
 }
 
-// The document, whole.
-fn document_of(alloc: Global, chart: &Chart<'_>) -> Result<Vec<u8>, AllocError>
-    ensures { IfOk result (λ text. text.items ≡ framed chart.now.frame chart.now.title.now
-        chart.now.locks.now chart.now.rows.now chart.now.shown.now chart.now.until
-        chart.now.releases.now chart.now.jobs.now chart.now.slices.now) }
-{
-    let mut executed = no_ticks(alloc, chart.jobs.len())?;
-    let mut page = Page::new(alloc);
-    put_document(chart, &mut executed, &mut page);
-    page.whole()
-}
-
-// The document of rows with these locks, of which these are shown.
-fn document_with(
-    alloc: Global,
-    rows: &[TaskRow],
-    view: &View,
-    locks: &[Name],
-    shown: &[usize],
-    until: u64,
-    releases: &[Release],
-    trace: &Trace,
-) -> Result<Vec<u8>, AllocError>
-    requires rows { length rows.now ≤ TASK_LIMIT }
-    requires locks { locks.now ≡ locks_of rows.now }
-    requires few { length locks.now ≤ LOCKS_LIMIT }
-    requires shown { shown.now ≡ shown_of view.now.tasks.items rows.now }
-    requires ranks { All (λ rank. rank < length rows.now) shown.now }
-    requires few_shown { length shown.now ≤ length rows.now }
-    ensures { IfOk result (λ text. text.items ≡ document rows.now view.now until releases.now
-        trace.now) }
-{
-    let chart = Chart {
-        frame: frame_of(rows, view, until),
-        title: &view.title,
-        rows,
-        shown,
-        until,
-        releases,
-        jobs: &trace.jobs,
-        slices: &trace.slices,
-        rising: starts_rise(&trace.slices),
-        locks,
-    };
-    document_of(alloc, &chart)
-}
-
 /// Returns the picture of a run of these rows, the highest level first, whose trace ends at `until`, in microseconds, as a
 /// view has it: an SVG 1.1 document. A window in which nothing lies is one of a microsecond. Memory is taken for the
 /// document, and for one count of each job, one name of each lock and one number of each row.
@@ -106,5 +48,20 @@ pub fn draw(
 {
     let shown = shown_of(alloc, &view.tasks, rows)?;
     let locks = locks_of(alloc, rows)?;
-    document_with(alloc, rows, view, &locks, &shown, until, releases, trace)
+    let chart = Chart {
+        frame: frame_of(rows, view, until),
+        title: &view.title,
+        rows,
+        shown: &shown,
+        until,
+        releases,
+        jobs: &trace.jobs,
+        slices: &trace.slices,
+        rising: starts_rise(&trace.slices),
+        locks: &locks,
+    };
+    let mut executed = vec![in alloc; 0; trace.jobs.len()]?;
+    let mut page = Page::new(alloc);
+    put_document(&chart, &mut executed, &mut page);
+    page.whole()
 }

@@ -1,14 +1,12 @@
 //! The margin: each row's level, tone and name, and how long its jobs take at most.
-ghost use Rattle.std.specs.Prelude.{◌≡◌, ◌≤◌};
+ghost use Rattle.std.specs.Prelude.{◌≡◌};
 ghost use Rattle.frames.specs.Page.{Adds};
-ghost use Rattle.task_sheet.specs.declared.set.TheConstants.{TASK_LIMIT};
 ghost use Rattle.picture.specs.Document.{margin_group, margins_text};
-ghost use Rattle.picture.specs.Margin.{level_text, limits_text, margin_text, missed_words, name_class, name_text, outcome_text, second_line};
+ghost use Rattle.picture.specs.Margin.{level_text, limits_text, margin_text, name_class, name_text, second_line};
 
-use crate::ground::put_time_head;
 use bars::put_lane_head;
 use ceiling_kernel::JobRecord;
-use frames::{Chart, Known, Lane, Millis, Page, TaskRow, level_of, tone_of, top_of};
+use frames::{Chart, Known, Lane, Millis, Page, level_of, step_of, tone_of, top_of, unit_name};
 use job_boxes::{missed_in, put_greatest};
 use run_lines::outcome_of;
 
@@ -33,28 +31,24 @@ fn put_level(lane: &Lane<'_>, page: &mut Page)
     )
 }
 
-// What the jobs of a row's task came to.
-fn put_outcome(row: &TaskRow, jobs: &[JobRecord], page: &mut Page)
-    ensures { Adds page.old page.new (outcome_text row.now jobs.now) }
-{
-    let outcome = outcome_of(jobs, row.sheet.name());
-    let done = outcome.done;
-    write!(page, "<title>done: {done}, greatest response: ");
-    put_greatest(outcome, page);
-    let bound = Known { bound: row.bound };
-    write!(page, ", bound: {bound} us</title>")
-}
-
-// The name of a row.
+// The name of a row, with what its jobs came to.
 fn put_row_name(missed: usize, lane: &Lane<'_>, jobs: &[JobRecord], page: &mut Page)
     ensures { Adds page.old page.new (name_text missed jobs.now lane.now.spot.k lane.now.row.now) }
 {
     let y = top_of(lane.spot.k) + 230;
     let class = name_class(missed);
     let name = lane.row.sheet.name();
-    write!(page, "<text class=\"{class}\" x=\"500\" y=\"{y}\">");
-    put_outcome(lane.row, jobs, page);
-    write!(page, "{name}</text>\n")
+    let outcome = outcome_of(jobs, name);
+    let done = outcome.done;
+    write!(
+        page,
+        "<text class=\"{class}\" x=\"500\" y=\"{y}\"><title>done: {done}, greatest response: "
+    );
+    put_greatest(outcome, page);
+    let bound = Known {
+        bound: lane.row.bound,
+    };
+    write!(page, ", bound: {bound} us</title>{name}</text>\n")
 }
 
 // The bound and the deadline, in milliseconds; without a bound the deadline.
@@ -80,27 +74,18 @@ fn put_limits(lane: &Lane<'_>, page: &mut Page)
     }
 }
 
-// How many deadlines are missed.
-fn put_missed_words(k: usize, missed: usize, page: &mut Page)
-    requires { k ≤ TASK_LIMIT }
-    ensures { Adds page.old page.new (missed_words k missed) }
-{
-    let y = top_of(k) + 355;
-    write!(
-        page,
-        "<text class=\"q\" x=\"500\" y=\"{y}\">deadlines missed: {missed}</text>\n"
-    )
-}
-
-// One of the two.
+// How many deadlines are missed, or those two.
 fn put_second_line(missed: usize, lane: &Lane<'_>, page: &mut Page)
     ensures { Adds page.old page.new (second_line missed lane.now.spot.k lane.now.row.now) }
 {
     if missed == 0 {
-        put_limits(lane, page)
-    } else {
-        put_missed_words(lane.spot.k, missed, page)
+        return put_limits(lane, page);
     }
+    let y = top_of(lane.spot.k) + 355;
+    write!(
+        page,
+        "<text class=\"q\" x=\"500\" y=\"{y}\">deadlines missed: {missed}</text>\n"
+    )
 }
 
 // A row's part of the margin.
@@ -130,8 +115,11 @@ pub(crate) fn put_group(chart: &Chart<'_>, page: &mut Page)
         chart.now.shown.now chart.now.jobs.now
         chart.now.slices.now) }
 {
-    page.put(b"<g id=\"n\">\n");
-    put_time_head(chart.frame, page);
+    let unit = unit_name(step_of(chart.frame));
+    write!(
+        page,
+        "<g id=\"n\">\n<text x=\"500\" y=\"1200\">time in {unit}</text>\n"
+    );
     put_lane_head(chart, page);
     put_margins(chart, page);
     page.put(b"</g>\n")

@@ -1,7 +1,7 @@
 //! The title, before what a picture says of its run.
 ghost use Rattle.std.specs.Prelude.{◌<◌, ◌≡◌, length, slice_index};
 ghost use Rattle.frames.specs.Page.{Adds};
-ghost use Rattle.picture.specs.Titles.{is_barred, is_in_barred, shown_at, shown_byte, shown_bytes, title_head};
+ghost use Rattle.picture.specs.Titles.{is_barred, is_in_barred, shown_at, title_head};
 
 use frames::Page;
 
@@ -38,10 +38,18 @@ fn is_in_barred(bytes: &[u8], i: usize) -> bool
     (i >= 1 && is_barred(bytes, i - 1)) || (i >= 2 && is_barred(bytes, i - 2))
 }
 
-// A byte as text has it.
-fn put_byte(byte: u8, page: &mut Page)
-    ensures { Adds page.old page.new (shown_byte byte) }
+// The byte at a place, as text has it.
+fn put_byte_at(bytes: &[u8], i: usize, page: &mut Page)
+    requires { i < length bytes.now }
+    ensures { Adds page.old page.new (shown_at bytes.now i) }
 {
+    if is_barred(bytes, i) {
+        return page.put(b" ");
+    }
+    if is_in_barred(bytes, i) {
+        return;
+    }
+    let byte = bytes[i];
     if byte == b'&' {
         page.put(b"&amp;")
     } else if byte == b'<' {
@@ -55,27 +63,6 @@ fn put_byte(byte: u8, page: &mut Page)
     }
 }
 
-// The byte at a place.
-fn put_byte_at(bytes: &[u8], i: usize, page: &mut Page)
-    requires { i < length bytes.now }
-    ensures { Adds page.old page.new (shown_at bytes.now i) }
-{
-    if is_barred(bytes, i) {
-        page.put(b" ")
-    } else if !is_in_barred(bytes, i) {
-        put_byte(bytes[i], page)
-    }
-}
-
-// Some bytes.
-fn put_bytes(bytes: &[u8], page: &mut Page)
-    ensures { Adds page.old page.new (shown_bytes bytes.now) }
-{
-    for i in 0..bytes.len() {
-        put_byte_at(bytes, i, page);
-    }
-}
-
 // A title, where it isn't empty.
 pub(crate) fn put_title_head(title: &[u8], page: &mut Page)
     ensures { Adds page.old page.new (title_head title.now) }
@@ -83,6 +70,8 @@ pub(crate) fn put_title_head(title: &[u8], page: &mut Page)
     if title.is_empty() {
         return;
     }
-    put_bytes(title, page);
+    for i in 0..title.len() {
+        put_byte_at(title, i, page);
+    }
     page.put(b": ")
 }

@@ -1,19 +1,16 @@
 -- Slices in which a job doesn't wait.
-use Rattle.std.proofs.Common.{◌≡◌, ◌⊎◌, inl, inr, ℕ, ◌<◌, ◌≤◌, List, [], ◌∷◌, length, Option, None}
-use Rattle.std.proofs.Common.{Bool, true, false, nat_lt, min, max, refl, sym, ◌∙◌, arith}
-use Rattle.std.proofs.Common.{append-nil}
-use Rattle.std.specs.Prelude.{zero, suc, nat_le, ◌==◌, if◌then◌else◌}
+use Rattle.std.proofs.Common.{◌≡◌, ◌∙◌, ◌⊎◌, inl, inr, ℕ, ◌<◌, ◌≤◌, List, [], ◌∷◌, length, None, true}
+use Rattle.std.proofs.Common.{refl, sym, arith, append-nil}
+use Rattle.std.specs.Prelude.{zero, suc, nat_le}
 use Rattle.std.proofs.lemmas.Bool.{and_parts, cases_lt, leb-true}
 use Rattle.std.proofs.lemmas.Option.{slice_get-get_or}
-use Rattle.ceiling_kernel.specs.declared.trace.JobRecord.{JobRecord}
 use Rattle.ceiling_kernel.specs.declared.trace.Slice.{Slice}
-use Rattle.pieces.specs.Pieces.{piece_in, wait_in}
+use Rattle.pieces.specs.Pieces.{wait_in}
 use Rattle.frames.specs.declared.rows.Spot.{Spot}
-use Rattle.frames.specs.declared.rows.TaskRow.{TaskRow}
 use Rattle.reasons.specs.declared.waits.Stay.{Stay}
-use Rattle.frames.specs.Frame.{Frame}
 use Rattle.frames.specs.Rows.{each}
 use Rattle.frames.specs.Slices.{no_slice, slice_at, rises}
+use Rattle.reasons.specs.Waits.{Scene}
 use Rattle.reasons.specs.WaitTexts.{nth_wait_text}
 
 -- ---- slices that begin one after the other
@@ -45,42 +42,20 @@ rises_between (s ∷ slices) before (suc n) (suc m) h le lt =
     (omega (arith, le)) (omega (arith, lt))
 
 -- ---- no wait
-no_piece : (from to : ℕ) (s : Slice) → (s.stop ≤ from) ⊎ (to ≤ s.start)
-    → nat_lt (max s.start from) (min s.stop to) ≡ false
-no_piece from to s (inl le) = grind (arith, le)
-no_piece from to s (inr le) = grind (arith, le)
-
-either_none : (o : Option Slice) (b : Bool) → o ≡ None → (if b then None else o) ≡ None
-either_none o true none = refl
-either_none o false none = none
-
-piece_none : (from to : ℕ) (s : Slice) → (s.stop ≤ from) ⊎ (to ≤ s.start)
-    → piece_in from to s ≡ None
-piece_none from to s out = rw (no_piece from to s out) refl
-
 wait_none : (job from to : ℕ) (s : Slice) → (s.stop ≤ from) ⊎ (to ≤ s.start)
     → wait_in job from to s ≡ None
-wait_none job from to s out =
-    either_none (piece_in from to s) (s.job == job) (piece_none from to s out)
+wait_none job from to s (inl le) = grind (arith, le)
+wait_none job from to s (inr le) = grind (arith, le)
 
 -- a job doesn't wait in a slice that ends before it is ready, or begins when it is done
-pub quiet : (f : Frame) (locks : List (List ℕ)) (rows : List TaskRow) (shown : List ℕ)
-    (jobs : List JobRecord) (slices : List Slice) (stay : Stay) (spot : Spot) (n : ℕ)
-    → n < length slices
-    → ((slice_at slices n).stop ≤ stay.from) ⊎ (stay.to ≤ (slice_at slices n).start)
-    → nth_wait_text f locks rows shown jobs slices stay spot n ≡ []
-quiet f locks rows shown jobs slices stay spot n lt out =
-    rw (slice_get-get_or slices n no_slice lt)
-    (rw (wait_none stay.job stay.from stay.to (slice_at slices n) out) refl)
+pub quiet : (c : Scene) (stay : Stay) (spot : Spot) (n : ℕ) → n < length c.slices
+    → ((slice_at c.slices n).stop ≤ stay.from) ⊎ (stay.to ≤ (slice_at c.slices n).start)
+    → nth_wait_text c stay spot n ≡ []
+quiet c stay spot n lt out =
+    rw (slice_get-get_or c.slices n no_slice lt)
+    (rw (wait_none stay.job stay.from stay.to (slice_at c.slices n) out) refl)
 
 -- ---- texts of nothing
--- before some
-pub each_none : (text : ℕ → List ℕ) (n : ℕ) → ((m : ℕ) → m < n → text m ≡ []) → each n text ≡ []
-unfolding each
-each_none text zero none = refl
-each_none text (suc n) none =
-    rw (each_none text n (λ m lt. none m (omega (arith, lt)))) (rw (none n (omega arith)) refl)
-
 rest_more : (text : ℕ → List ℕ) (n k : ℕ) → n ≤ suc k → ((m : ℕ) → n ≤ m → m < suc k → text m ≡ [])
     → (n < suc k) ⊎ (suc k ≤ n)
     → (n < suc k → each n text ≡ each k text) → each n text ≡ each (suc k) text
@@ -90,7 +65,7 @@ rest_more text n k le none (inl lt) before = before lt
 rest_more text n k le none (inr ge) before = let same : n ≡ suc k = omega (arith, le, ge) in
     rw same refl
 
--- and behind some
+-- behind some
 pub each_rest : (text : ℕ → List ℕ) (n k : ℕ) → n ≤ k → ((m : ℕ) → n ≤ m → m < k → text m ≡ [])
     → each n text ≡ each k text
 each_rest text n zero le none = let same : n ≡ 0 = omega (arith, le) in rw same refl

@@ -19,14 +19,11 @@ lock_inside rows k e [] = None
 lock_inside rows k e (x ∷ sections) =
     if is_inside x e then find (is_raised rows k) x.locks else lock_inside rows k e sections
 
--- how many ticks a job has executed at a time in a slice of it, of which e before it
-abbrev pub executed_by : (e : ℕ) → Slice → (time : ℕ) → ℕ
-executed_by e s time = min e s.start + (time - s.start)
-
--- how many ticks the job of slice n has executed at a time in it
+-- how many ticks the job of slice n has executed at a time in it: no more before it than passed until then
 abbrev pub executed_at : List Slice → (n time : ℕ) → ℕ
 executed_at slices n time =
-    executed_by (executed_in slices n (slice_at slices n).job) (slice_at slices n) time
+    min (executed_in slices n (slice_at slices n).job) (slice_at slices n).start
+    + (time - (slice_at slices n).start)
 
 -- the lock by which the job of slice n, of row m, blocks row k from a time on
 abbrev pub blocking_lock : List TaskRow → List Slice → (k n time m : ℕ) → Option (List ℕ)

@@ -2,27 +2,22 @@
 ghost use Rattle.std.specs.List.{find};
 ghost use Rattle.std.specs.Prelude.{◌<◌, ◌≡◌, ◌≤◌, length};
 ghost use Rattle.ceiling_kernel.specs.Tick.{is_inside};
-ghost use Rattle.task_sheet.specs.Locks.{names_lock, uses};
-ghost use Rattle.frames.specs.Rows.{row_at};
+ghost use Rattle.task_sheet.specs.Locks.{uses};
 ghost use Rattle.frames.specs.Slices.{executed_in};
-ghost use Rattle.reasons.specs.Blocking.{blocking_lock, executed_at, executed_by, is_raised, lock_inside};
+ghost use Rattle.reasons.specs.Blocking.{blocking_lock, is_raised, lock_inside};
 
 use ceiling_kernel::Slice;
 use frames::{TaskRow, executed_with, slice_at};
 use task_sheet::{Name, Section, Sheet};
 
-// Whether a section names a lock.
-fn names(section: &Section, lock: Name) -> bool
-    ensures { result ≡ names_lock section.now lock }
-{
-    section.locks.iter().any(|name| *name == lock)
-}
-
 // Whether some section of a task names a lock.
 fn uses(sheet: &Sheet, lock: Name) -> bool
     ensures { result ≡ uses sheet.now lock }
 {
-    sheet.sections().iter().any(|section| names(section, lock))
+    sheet
+        .sections()
+        .iter()
+        .any(|section| section.locks.contains(&lock))
 }
 
 // Whether a task from row k up uses a lock.
@@ -78,31 +73,6 @@ fn executed_in(slices: &[Slice], n: usize, job: usize) -> u64
     executed
 }
 
-// How many ticks a job has executed at a time in a slice of it.
-fn executed_by(executed: u64, slice: Slice, time: u64) -> u64
-    ensures { result ≡ executed_by executed slice time }
-{
-    executed.min(slice.start) + time.saturating_sub(slice.start)
-}
-
-// How many ticks the job of slice n has executed at a time in it.
-fn executed_at(slices: &[Slice], n: usize, time: u64) -> u64
-    requires { n < length slices.now }
-    ensures { result ≡ executed_at slices.now n time }
-{
-    let slice = slice_at(slices, n);
-    let executed = executed_in(slices, n, slice.job);
-    executed_by(executed, slice, time)
-}
-
-// The sections of the task of a row.
-fn sections_in(rows: &[TaskRow], m: usize) -> &[Section]
-    requires { m < length rows.now }
-    ensures { result.now ≡ (row_at rows.now m).sheet.sections }
-{
-    rows[m].sheet.sections()
-}
-
 // The lock by which the job of slice n, of row m, blocks row k from a time on.
 pub(crate) fn blocking_lock(
     rows: &[TaskRow],
@@ -117,7 +87,8 @@ pub(crate) fn blocking_lock(
     requires place { n < length slices.now }
     ensures { result ≡ blocking_lock rows.now slices.now k n time m }
 {
-    let executed = executed_at(slices, n, time);
-    let sections = sections_in(rows, m);
-    lock_inside(rows, k, executed, sections)
+    let slice = slice_at(slices, n);
+    let before = executed_in(slices, n, slice.job);
+    let executed = before.min(slice.start) + time.saturating_sub(slice.start);
+    lock_inside(rows, k, executed, rows[m].sheet.sections())
 }

@@ -1,10 +1,10 @@
 //! Why a job doesn't execute while it is ready.
 ghost use Rattle.std.specs.Prelude.{◌<◌, ◌≡◌, ◌≤◌, IfSome, length, slice_get, true};
 ghost use Rattle.frames.specs.Slices.{rises, slice_at};
-ghost use Rattle.reasons.specs.Waits.{EndBy, are_close, is_gathered, is_short, ready_at, ready_in, row_of, stay_of, touches, wait_at, wait_before, wait_during, wait_for};
+ghost use Rattle.reasons.specs.Waits.{EndBy, are_close, is_gathered, is_short, ready_at, scene_of, stay_of, wait_at, wait_before, wait_during};
 
-use ceiling_kernel::{JobRecord, Release, Slice};
-use frames::{Chart, Frame, TaskRow, ended, find_row, job_at, slice_at, x_of};
+use ceiling_kernel::{Release, Slice};
+use frames::{Chart, Frame, ended, find_row, job_at, slice_at, x_of};
 use pieces::wait_in;
 
 // A job by its place, and from when to when it is ready and not done.
@@ -23,27 +23,20 @@ pub(crate) struct Wait {
     pub(crate) row: usize,
 }
 
-// When the job of a release is ready.
-fn ready_in(frame: Frame, release: Release) -> u64
-    ensures { result ≡ ready_in frame release }
-{
-    release.time.min(frame.until) + release.late.min(frame.until)
-}
-
 // When the job at a place is ready; at the beginning, where there is none.
 fn ready_at(frame: Frame, releases: &[Release], job: usize) -> u64
     ensures { result ≡ ready_at frame (slice_get releases.now job) }
 {
     match releases.get(job) {
         None => 0,
-        Some(release) => ready_in(frame, *release),
+        Some(release) => release.time.min(frame.until) + release.late.min(frame.until),
     }
 }
 
 // From when to when a job is ready and not done.
 pub(crate) fn stay_of(chart: &Chart<'_>, job: usize) -> Stay
     requires { job < length chart.now.jobs.now }
-    ensures { result ≡ stay_of chart.now.frame chart.now.releases.now chart.now.jobs.now job }
+    ensures { result ≡ stay_of (scene_of chart.now) job }
 {
     Stay {
         job,
@@ -74,33 +67,22 @@ fn ended_by(slices: &[Slice], count: usize, time: u64) -> usize
     slices.len()
 }
 
-// How many end by a time: where that isn't earlier than the last one, it is known of some.
-fn past_by(slices: &[Slice], past: Past, time: u64) -> Past
-    requires within { past.count ≤ length slices.now }
-    requires ended { EndBy slices.now past.count past.time }
-    ensures within { result.count ≤ length slices.now }
-    ensures ended { EndBy slices.now result.count result.time }
-    ensures time { result.time ≡ time }
-{
-    let count = if time < past.time { 0 } else { past.count };
-    Past {
-        count: ended_by(slices, count, time),
-        time,
-    }
-}
-
-// How many end before a job is ready.
+// How many end before a job is ready: where that isn't earlier than the last one, it is known of some.
 pub(crate) fn past_before(chart: &Chart<'_>, j: usize, past: Past) -> Past
     requires job { j < length chart.now.jobs.now }
     requires within { past.count ≤ length chart.now.slices.now }
     requires ended { EndBy chart.now.slices.now past.count past.time }
     ensures within { result.count ≤ length chart.now.slices.now }
     ensures ended { EndBy chart.now.slices.now result.count result.time }
-    ensures before { result.time ≤ (stay_of chart.now.frame chart.now.releases.now
-        chart.now.jobs.now j).from }
+    ensures before { result.time ≤ (stay_of (scene_of chart.now) j).from }
 {
     let arrival = job_at(chart.jobs, j).release;
-    past_by(chart.slices, past, arrival.min(stay_of(chart, j).from))
+    let time = arrival.min(stay_of(chart, j).from);
+    let count = if time < past.time { 0 } else { past.count };
+    Past {
+        count: ended_by(chart.slices, count, time),
+        time,
+    }
 }
 
 // Whether slice n and those behind it begin when a job is done.
@@ -112,60 +94,35 @@ pub(crate) fn is_behind(chart: &Chart<'_>, stay: Stay, n: usize) -> bool
     chart.rising && stay.to <= slice_at(chart.slices, n).start
 }
 
-// The row of the task of a job, if there is one.
-fn row_of(rows: &[TaskRow], jobs: &[JobRecord], job: usize) -> Option<usize>
-    ensures place { result ≡ row_of rows.now (slice_get jobs.now job) }
-    ensures within { IfSome result (λ k. k < length rows.now) }
+// From when to when a job waits in a slice, and for which row.
+fn wait_during(chart: &Chart<'_>, stay: Stay, slice: Slice) -> Option<Wait>
+    ensures wait { result ≡ wait_during (scene_of chart.now) stay slice }
+    ensures within { IfSome result (λ w. w.row < length chart.now.rows.now) }
 {
-    match jobs.get(job) {
-        None => None,
-        Some(record) => find_row(rows, record.name),
-    }
+    let piece = wait_in(stay.job, stay.from, stay.to, slice)?;
+    let job = chart.job_of(slice)?;
+    let row = find_row(chart.rows, job.name)?;
+    Some(Wait {
+        start: piece.start,
+        stop: piece.stop,
+        row,
+    })
 }
 
-// From when to when a job waits in slice n, and for which row.
+// The same in slice n, where there is one.
 pub(crate) fn wait_at(chart: &Chart<'_>, stay: Stay, n: usize) -> Option<Wait>
-    ensures wait { result ≡ wait_at chart.now.rows.now chart.now.jobs.now chart.now.slices.now stay
-        n }
+    ensures wait { result ≡ wait_at (scene_of chart.now) stay n }
     ensures within { IfSome result (λ w. w.row < length chart.now.rows.now) }
 {
     match chart.slices.get(n) {
         None => None,
-        Some(slice) => wait_in_slice(chart, stay, *slice),
-    }
-}
-
-// The same of the slice.
-fn wait_in_slice(chart: &Chart<'_>, stay: Stay, slice: Slice) -> Option<Wait>
-    ensures wait { result ≡ wait_during chart.now.rows.now chart.now.jobs.now stay slice }
-    ensures within { IfSome result (λ w. w.row < length chart.now.rows.now) }
-{
-    match wait_in(stay.job, stay.from, stay.to, slice) {
-        None => None,
-        Some(piece) => wait_for(chart, piece, slice.job),
-    }
-}
-
-// A piece in which another job executes, with the row of its task.
-fn wait_for(chart: &Chart<'_>, piece: Slice, job: usize) -> Option<Wait>
-    ensures wait { result ≡ wait_for piece
-        (row_of chart.now.rows.now (slice_get chart.now.jobs.now job)) }
-    ensures within { IfSome result (λ w. w.row < length chart.now.rows.now) }
-{
-    match row_of(chart.rows, chart.jobs, job) {
-        None => None,
-        Some(row) => Some(Wait {
-            start: piece.start,
-            stop: piece.stop,
-            row,
-        }),
+        Some(slice) => wait_during(chart, stay, *slice),
     }
 }
 
 // The wait in the slice before slice n.
 fn wait_before(chart: &Chart<'_>, stay: Stay, n: usize) -> Option<Wait>
-    ensures { result ≡ wait_before chart.now.rows.now chart.now.jobs.now chart.now.slices.now stay
-        n }
+    ensures { result ≡ wait_before (scene_of chart.now) stay n }
 {
     if n == 0 {
         return None;
@@ -181,32 +138,21 @@ fn is_short(frame: Frame, k: usize, wait: Wait) -> bool
     wait.row <= k && wide < 40
 }
 
-// Whether two of them touch.
-fn touches(frame: Frame, k: usize, first: Wait, second: Wait) -> bool
-    ensures { result ≡ touches frame k first second }
-{
-    let (one, other) = (is_short(frame, k, first), is_short(frame, k, second));
-    one && other && first.stop == second.start
-}
-
-// The same of waits that may not be there.
+// Whether two of them touch, if both are there.
 fn are_close(frame: Frame, k: usize, first: Option<Wait>, second: Option<Wait>) -> bool
     ensures { result ≡ are_close frame k first second }
 {
-    match first {
-        None => false,
-        Some(first) => match second {
-            None => false,
-            Some(second) => touches(frame, k, first, second),
-        },
-    }
+    let (Some(first), Some(second)) = (first, second) else {
+        return false;
+    };
+    let (one, other) = (is_short(frame, k, first), is_short(frame, k, second));
+    one && other && first.stop == second.start
 }
 
 // Whether the wait in slice n touches the one before it or the one behind it.
 pub(crate) fn is_gathered(chart: &Chart<'_>, stay: Stay, k: usize, n: usize) -> bool
     requires { n < length chart.now.slices.now }
-    ensures { result ≡ is_gathered chart.now.frame chart.now.rows.now chart.now.jobs.now
-        chart.now.slices.now stay k n }
+    ensures { result ≡ is_gathered (scene_of chart.now) stay k n }
 {
     // (there are no more slices than a `usize` counts)
     let _count = chart.slices.len();

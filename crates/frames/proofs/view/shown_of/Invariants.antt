@@ -1,6 +1,9 @@
 use Rattle.std.proofs.Common.{◌≡◌}
-use Rattle.frames.specs.View.{shown_below}
+use Rattle.std.specs.List.{filter, range_with_len}
+use Rattle.frames.specs.Rows.{name_in}
+use Rattle.frames.specs.View.{is_chosen}
 use Rattle.frames.proofs.view.shown_of.Given as goal
 
 abbrev pub invariant-loop-rank : goal.invariant-loop-rank
-invariant-loop-rank l = l.shown.items ≡ shown_below l.names l.rows l.rank
+invariant-loop-rank l = l.shown.items
+    ≡ filter (λ rank. is_chosen l.names (name_in l.rows rank)) (range_with_len 0 l.rank)

@@ -1,8 +1,7 @@
 use Rattle.std.proofs.Common.{ℕ, ◌+◌, ◌*◌}
 use Rattle.picture.specs.Scale.{tick_text}
 use Rattle.frames.specs.Frame.{steps_before}
-use Rattle.frames.proofs.Adds.{adds_none, adds_one_more}
-use Rattle.frames.proofs.Adds.{adds_same}
+use Rattle.frames.proofs.Adds.{adds_none, adds_one_more, adds_same}
 use Rattle.picture.proofs.ground.put_ticks.Goals as goal
 
 pub loop-i-init : goal.loop-i-init

@@ -1,5 +1,5 @@
-use Rattle.picture.proofs.Darker.{held_law}
+use Rattle.std.proofs.Common.{arith}
 use Rattle.picture.proofs.laws.held_between.Goals as goal
 
 pub returns : goal.returns
-returns c = held_law
+returns c = λ x. (grind arith, λ e. grind arith)

@@ -1,5 +1,8 @@
-use Rattle.picture.proofs.Darker.{ticks_dark}
+use Rattle.std.proofs.Common.{arith}
 use Rattle.picture.proofs.laws.ticks_are_dark.Goals as goal
 
 pub returns : goal.returns
-returns c = ticks_dark
+returns c = λ x e s n within. (
+  λ both. grind (arith, both.0, both.1),
+  λ inside. (grind (arith, inside), grind (arith, inside, within)),
+)

@@ -1,7 +1,6 @@
 use Rattle.std.proofs.Common.{ℕ}
-use Rattle.frames.proofs.Adds.{adds_both}
+use Rattle.frames.proofs.Adds.{adds_both, adds_same}
 use Rattle.picture.specs.Margin.{name_text, second_line}
-use Rattle.frames.proofs.Adds.{adds_same}
 use Rattle.picture.proofs.margin.put_margin.Goals as goal
 
 pub returns : goal.returns

@@ -4,9 +4,8 @@ use Rattle.frames.specs.Rows.{row_at, spot_in}
 use Rattle.frames.specs.Frame.{Frame}
 use Rattle.frames.specs.declared.rows.Spot.{Spot}
 use Rattle.frames.specs.declared.rows.TaskRow.{TaskRow}
-use Rattle.frames.proofs.Adds.{adds_none, adds_one_more}
+use Rattle.frames.proofs.Adds.{adds_none, adds_one_more, adds_same}
 use Rattle.frames.proofs.Lanes.{adds_in_lane}
-use Rattle.frames.proofs.Adds.{adds_same}
 use Rattle.picture.proofs.margin.put_margins.Goals as goal
 
 pub loop-k-init : goal.loop-k-init

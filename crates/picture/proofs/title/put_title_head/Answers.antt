@@ -1,13 +1,18 @@
-use Rattle.std.proofs.Common.{Bool, [], ◌++◌, sym, ◌∙◌, if◌then◌else◌}
-use Rattle.std.specs.Prelude.{codes}
-use Rattle.frames.proofs.Adds.{adds_both}
-use Rattle.picture.specs.Titles.{shown_bytes}
-use Rattle.frames.proofs.Adds.{adds_same}
+use Rattle.std.proofs.Common.{◌≡◌, arith, length}
+use Rattle.frames.proofs.Adds.{adds_both, adds_none, adds_one_more}
+use Rattle.picture.specs.Titles.{shown_at}
 use Rattle.picture.proofs.title.put_title_head.Goals as goal
+
+pub loop-i-init : goal.loop-i-init
+loop-i-init c = adds_none c.args.page.now (shown_at c.args.title.now)
+
+pub loop-i-preserved : goal.loop-i-preserved
+loop-i-preserved c = adds_one_more (shown_at c.args.title.now) c.loop-i.i c.loop-i.invariant
+    c.put_byte_at.ensures
 
 pub returns : goal.returns
 returns c =
-    let title = c.args.title.now in
-    adds_same (λ (b : Bool). if b then [] else shown_bytes title ++ codes ": ")
-    (sym c.if-is_empty.false ∙ c.is_empty.ensures)
-    (adds_both c.put_bytes.ensures c.put.ensures)
+    let all : c.loop-i.i ≡ length c.args.title.now =
+    omega (arith, c.loop-i.auto.i-end, c.loop-i-test.false) in
+    rw (← c.is_empty.ensures, c.if-is_empty.false)
+    (adds_both (rw all at c.loop-i.invariant) c.put.ensures)

@@ -2,6 +2,9 @@ use Rattle.frames.proofs.Adds.{adds_both}
 use Rattle.reasons.proofs.why.put_above.Goals as goal
 
 pub returns : goal.returns
-returns c =
-    adds_both (adds_both (adds_both (adds_both c.put.ensures c.put_ink.ensures)
-    c.put_wait_line.ensures) c.put_wait_words.ensures) c.put_wait_end.ensures
+returns c = rw (
+  ← c.x_of-x.ensures.value,
+  ← c.x_of.ensures.value,
+  ← c.max-right.ensures,
+  ← c.tone_of-tone.ensures,
+) (adds_both c.put_path.ensures c.put_title.ensures)

@@ -3,7 +3,7 @@ use Rattle.frames.specs.declared.rows.Spot.{Spot}
 use Rattle.frames.specs.declared.rows.TaskRow.{TaskRow}
 use Rattle.reasons.specs.declared.waits.Stay.{Stay}
 use Rattle.frames.specs.Rows.{spot_named, record_at}
-use Rattle.reasons.specs.Waits.{stay_of}
+use Rattle.reasons.specs.Waits.{scene_of, stay_of}
 use Rattle.reasons.specs.WaitTexts.{stay_text}
 use Rattle.frames.proofs.Lanes.{adds_on_spot}
 use Rattle.frames.proofs.Adds.{adds_same}
@@ -11,15 +11,11 @@ use Rattle.reasons.proofs.why.put_job_waits.Goals as goal
 
 pub returns-in-Some : goal.returns-in-Some
 returns-in-Some c =
-    let chart = c.args.chart.now in
-    let rows = chart.rows.now in
-    let shown = chart.shown.now in
+    let chart = scene_of c.args.chart.now in
     let spot = c.in-Some.spot in
-    let text : Stay → Spot → List ℕ = λ stay s. stay_text chart.frame chart.locks.now rows shown
-    chart.jobs.now chart.slices.now stay s in
-    let stay = stay_of chart.frame chart.releases.now chart.jobs.now c.args.j in
     let named = c.spot_of.ensures.spot
-    ∙ ap (λ (name : List ℕ). spot_named rows shown name) c.name_of-name.ensures in
-    adds_on_spot (λ (s : Spot) (row : TaskRow). text stay s) rows shown
-    (record_at chart.jobs.now c.args.j).name c.spot_of.result spot named c.in-Some.is
-    (adds_same (λ (s : Stay). text s spot) c.stay_of.ensures c.put_stay.ensures)
+    ∙ ap (λ (name : List ℕ). spot_named chart.rows chart.shown name) c.name_of-name.ensures in
+    adds_on_spot (λ (s : Spot) (row : TaskRow). stay_text chart (stay_of chart c.args.j) s)
+    chart.rows chart.shown (record_at chart.jobs c.args.j).name c.spot_of.result spot named
+    c.in-Some.is (adds_same (λ (s : Stay). stay_text chart s spot) c.stay_of.ensures
+    c.put_stay.ensures)

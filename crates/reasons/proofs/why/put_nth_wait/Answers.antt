@@ -1,12 +1,10 @@
-use Rattle.std.proofs.Common.{Option, sym, ◌∙◌}
-use Rattle.reasons.specs.declared.waits.Wait.{Wait}
-use Rattle.reasons.specs.WaitTexts.{wait_text}
-use Rattle.frames.proofs.Adds.{adds_same}
+use Rattle.std.proofs.Common.{sym, ◌∙◌}
+use Rattle.frames.proofs.Adds.{adds_both}
 use Rattle.reasons.proofs.why.put_nth_wait.Goals as goal
 
-pub returns-in-Some : goal.returns-in-Some
-returns-in-Some c =
-    let chart = c.args.chart.now in
-    adds_same (λ (w : Option Wait). wait_text chart.frame chart.locks.now chart.rows.now
-    chart.shown.now chart.jobs.now chart.slices.now c.args.stay c.args.spot c.args.n w)
-    (sym c.in-Some.is ∙ c.wait_at.ensures.wait) c.put_wait.ensures
+pub returns-then-sees : goal.returns-then-sees
+returns-then-sees c = rw (
+  ← c.wait_at.ensures.wait,
+  c.in-Some.is,
+  sym c.sees.ensures ∙ c.if-sees.true,
+) (adds_both c.put_why.ensures c.put_who.ensures)

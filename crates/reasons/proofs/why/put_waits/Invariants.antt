@@ -1,15 +1,13 @@
 use Rattle.std.proofs.Common.{◌≤◌, length}
 use Rattle.frames.specs.Rows.{each}
 use Rattle.frames.specs.Page.{Adds}
-use Rattle.reasons.specs.Waits.{EndBy}
+use Rattle.reasons.specs.Waits.{EndBy, scene_of}
 use Rattle.reasons.specs.WaitTexts.{job_waits}
 use Rattle.reasons.proofs.why.put_waits.Given as goal
 
 abbrev pub invariant-loop-j : goal.invariant-loop-j
 invariant-loop-j l = record {
-  put : Adds l.fn.page l.page
-      (each l.j (job_waits l.fn.chart.frame l.fn.chart.locks.now l.fn.chart.rows.now
-      l.fn.chart.shown.now l.fn.chart.releases.now l.fn.chart.jobs.now l.fn.chart.slices.now));
+  put : Adds l.fn.page l.page (each l.j (job_waits (scene_of l.fn.chart)));
   within : l.past.count ≤ length l.fn.chart.slices.now;
   ended : EndBy l.fn.chart.slices.now l.past.count l.past.time;
 }

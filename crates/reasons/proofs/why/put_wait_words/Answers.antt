@@ -1,4 +1,0 @@
-use Rattle.reasons.proofs.why.put_wait_words.Goals as goal
-
-pub returns : goal.returns
-returns c = rw (← c.name_in-name.ensures) (rw (← c.name_in-other.ensures) c.write.ensures)
