@@ -1,6 +1,6 @@
--- How many numbers a climb has.
+-- How many numbers a walk has.
 use Rattle.std.proofs.Common.{◌≡◌, ℕ, zero, suc, ◌+◌, ◌-◌, ◌*◌, ◌<◌, ◌≤◌, ◌⊎◌, inl, inr, cond, List}
-use Rattle.std.proofs.Common.{[], ◌∷◌, length, get_or, sum_by, nat_lt, add-one, refl, ap, arith}
+use Rattle.std.proofs.Common.{[], ◌∷◌, length, sum_by, nat_lt, refl, ap, arith}
 use Rattle.std.proofs.Math.Nat.{mul-zero}
 use Rattle.std.proofs.lemmas.Bool.Decides.{nat_tests}
 use Rattle.std.proofs.lemmas.List.Sums.{sum_by-cons}
@@ -8,13 +8,13 @@ use Rattle.std.proofs.lemmas.Bool.{cases_Bool, cases_eq, cases_lt, or_parts}
 use Rattle.task_sheet.specs.declared.node.Interrupt.{Interrupt}
 use Rattle.task_sheet.specs.Sheet.{Task, AllTasks, no_task, task_at}
 use Rattle.task_sheet.specs.Indexes.{Indexes, sum_below}
+use Rattle.task_sheet.specs.Responses.{iterate}
 use Rattle.task_sheet.specs.Demand.{demand_of, jobs_within, releases_within, interrupt_within}
 use Rattle.task_sheet.specs.Demand.{interrupts_of, interrupts_within, counts, later_releases}
 use Rattle.task_sheet.specs.Demand.{later_interrupts, evaluation_bound}
 use Rattle.task_sheet.proofs.Below.{sum_below-le}
 use Rattle.task_sheet.proofs.Releases.{div_ceil-mono, releases-mono}
 use Rattle.task_sheet.proofs.Exchange.{term}
-use Rattle.task_sheet.proofs.Trails.{IsClimb, AllWithinLimit}
 
 -- a sum of other terms rises, or these are the same
 sum_below-rises : (n : ℕ) (f g p q : ℕ → ℕ)
@@ -154,35 +154,32 @@ module _ (U : List Task) (valid : AllTasks U) (i : ℕ) (H : Indexes) where
       let second = sum_below-both (length U) (term U s H) (λ k. interrupts_of s (task_at U k)) in
       elim either [ inl lt ↦ lt | inr same ↦ absurd (omega (arith, same.1, first, second)) ]
 
-  module _ (limit : ℕ) (numbers : List ℕ) (climb : IsClimb (demand_of U i H) numbers)
-      (within : AllWithinLimit limit numbers) where
-    climb-positive : (k : ℕ) → k < length numbers → 1 ≤ get_or numbers k 0
-    climb-positive zero lt = omega (arith, climb.first)
-    climb-positive (suc k) lt = rw (← add-one k) (omega (arith, climb.rises k (omega arith)))
+  -- the first n iterates, which rise within the limit
+  module _ (limit n : ℕ)
+      (rises : (k : ℕ) → k + 1 < n → iterate (demand_of U i H) k < iterate (demand_of U i H) (suc k))
+      (within : (k : ℕ) → k < n → iterate (demand_of U i H) k ≤ limit) where
+    positive : (k : ℕ) → k < n → 1 ≤ iterate (demand_of U i H) k
+    positive zero lt = omega arith
+    positive (suc k) lt = omega (arith, rises k (omega arith))
 
-    climb-later : (k : ℕ) → k + 1 < length numbers
-        → k ≤ sum_below (length U) (later U (get_or numbers k 0) H)
-    climb-later zero lt = omega arith
-    climb-later (suc k) lt =
-        let before : k ≤ sum_below (length U) (later U (get_or numbers k 0) H) =
-        climb-later k (omega arith) in
-        let here : k + 1 < length numbers = omega arith in
-        let next : k + 1 + 1 < length numbers = omega arith in
-        let rises = later-rises (get_or numbers k 0) (get_or numbers (k + 1) 0)
-        (climb-positive k (omega arith)) (omega (arith, climb.rises k here))
-        (omega (arith, climb.full k here, climb.full (k + 1) next, climb.rises (k + 1) next)) in
-        rw (← add-one k) (omega arith)
+    walk-later : (k : ℕ) → k + 1 < n
+        → k ≤ sum_below (length U) (later U (iterate (demand_of U i H) k) H)
+    walk-later zero lt = omega arith
+    walk-later (suc k) lt = omega (
+      arith,
+      walk-later k (omega arith),
+      later-rises _ _ (positive k (omega arith)) (omega (arith, rises k (omega arith)))
+          (rises (suc k) (omega arith)),
+    )
 
-    pub climb-short : length numbers ≤ evaluation_bound U H limit
-    climb-short =
-        elim (cases_lt 1 (length numbers)) [
-          | inl long ↦
-              let k = length numbers - 2 in
-              omega (
-                arith,
-                climb-later k (omega arith),
-                later-mono (get_or numbers k 0) limit
-                    (climb-positive k (omega arith)) (within k (omega arith)),
-              )
-          | inr short ↦ omega arith
-        ]
+    pub walk-short : n ≤ evaluation_bound U H limit
+    walk-short = elim (cases_lt 1 n) [
+      | inl long ↦
+          let k = n - 2 in
+          let t = iterate (demand_of U i H) k in omega (
+            arith,
+            walk-later k (omega arith),
+            later-mono t limit (positive k (omega arith)) (within k (omega arith)),
+          )
+      | inr short ↦ omega arith
+    ]
