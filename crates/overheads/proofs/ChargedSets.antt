@@ -11,6 +11,7 @@ use Rattle.task_sheet.specs.SheetsFault.{sheets_fault}
 use Rattle.task_sheet.specs.declared.node.Interrupt.{Interrupt}
 use Rattle.task_sheet.proofs.SetLaws.{by_rank_one, no_fault}
 use Rattle.overheads.specs.Padding.{charged}
+use Rattle.overheads.proofs.MappedSets.{IsByRank-is}
 use Rattle.overheads.proofs.PaddedTasks.{valid-other}
 
 pub count-charged : (U : List Task) (xs : List Interrupt) → length (charged xs U) ≡ length U
@@ -52,13 +53,7 @@ set-charged U xs set limits = record {
 pub IsByRank-charged : (U V : List Task) (xs : List Interrupt) → IsTaskSet U
     → IsByRank (charged xs U) V → V ≡ charged xs U
 IsByRank-charged U V xs set by_rank =
-    let sheets = charged xs U in
-    let own : IsByRank sheets sheets = record {
-      permutation = IsPermutation-refl sheets;
-      ranked =
-          ranked-charged U xs set.ranked;
-    } in
-    by_rank_one sheets sheets V sheets (IsPermutation-refl sheets) by_rank own
+    IsByRank-is (charged xs U) V (ranked-charged U xs set.ranked) by_rank
 
 -- the sheets are no fault
 pub no_fault-charged : (U : List Task) (xs : List Interrupt) → IsTaskSet U

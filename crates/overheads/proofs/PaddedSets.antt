@@ -29,10 +29,6 @@ module _ (node : Node) where
       → V ≡ padded node U
   IsByRank-padded U V set by_rank = IsByRank-mapped (padded_task node) keeps-padded U V set by_rank
 
-  -- the sheets are no fault
-  pub no_fault-padded : (U : List Task) → IsTaskSet U → sheets_fault (padded node U) ≡ None
-  no_fault-padded U set = no_fault-mapped (padded_task node) keeps-padded U set
-
   -- the task at an index
   pub padded-at : (U : List Task) (k : ℕ) → k < length U
       → task_at (padded node U) k ≡ padded_task node (task_at U k)
@@ -97,24 +93,3 @@ fault-none U set = room-each U (recursion_from_All IsValidSheet U set.valid)
 pub lightest : (node : Node) → IsLighter no_overhead node
 lightest node =
     record { job = omega arith; lock = omega arith; release = omega arith; late = omega arith }
-
--- ---- one sheet more
-pub padded-more : (node : Node) (U xs ys : List Task) (i : ℕ) (x y : Task) → i < length U
-    → x ≡ get_or U i x → y ≡ padded_task node x → xs ≡ map (padded_task node) (take i U)
-    → ys ≡ xs ++ y ∷ [] → ys ≡ map (padded_task node) (take (i + 1) U)
-padded-more node U xs ys i x y lt is pads before pushed =
-    mapped-more (padded_task node) U xs ys i x y lt is pads before pushed
-
-pub fault-step : (node : Node) (U : List Task) (i : ℕ) (x : Task) → i < length U → x ≡ get_or U i x
-    → task_fault node x ≡ None → padding_fault node (drop i U) ≡ padding_fault node (drop (i + 1) U)
-fault-step node U i x lt is none =
-    ap (padding_fault node) (drop_more U i x lt)
-    ∙ ap (λ (o : Option PadFault). option_or o (padding_fault node (drop (i + 1) U)))
-    (ap (task_fault node) (sym is) ∙ none)
-
-pub fault-here : (node : Node) (U : List Task) (i : ℕ) (x : Task) (e : PadFault) → i < length U
-    → x ≡ get_or U i x → task_fault node x ≡ Some e → padding_fault node (drop i U) ≡ Some e
-fault-here node U i x e lt is fails =
-    ap (padding_fault node) (drop_more U i x lt)
-    ∙ ap (λ (o : Option PadFault). option_or o (padding_fault node (drop (i + 1) U)))
-    (ap (task_fault node) (sym is) ∙ fails)
