@@ -21,10 +21,7 @@ pub sum_below-le : (n : ℕ) (f g : ℕ → ℕ) → ((k : ℕ) → k < n → f 
     → sum_below n f ≤ sum_below n g
 sum_below-le zero f g le = omega arith
 sum_below-le (suc n) f g le =
-    let rest : sum_below n f ≤ sum_below n g =
-    sum_below-le n f g (λ k lt. let lt' : k < suc n = omega arith in le k lt') in
-    let last : n < suc n = omega arith in
-    omega (arith, le n last)
+    omega (arith, sum_below-le n f g (λ k lt. le k (omega arith)), le n (omega arith))
 
 -- a term that the smaller sum lacks
 pub sum_below-gap : (n : ℕ) (f g : ℕ → ℕ) (k : ℕ) → ((k : ℕ) → f k ≤ g k) → k < n → f k ≡ 0
@@ -36,18 +33,13 @@ sum_below-gap (suc n) f g k le lt none =
           let here : f n ≡ 0 = rw (← e) none in
           let same : g k ≡ g n = rw e in
           omega (arith, sum_below-le n f g (λ k lt. le k))
-      | inr ne ↦
-          let lt' : k < n = omega arith in
-          omega (arith, sum_below-gap n f g k le lt' none, le n)
+      | inr ne ↦ omega (arith, sum_below-gap n f g k le (omega arith) none, le n)
     ]
 
 pub sum_below-fits : (n m : ℕ) (f : ℕ → ℕ) → ((k : ℕ) → k < n → f k ≤ m) → sum_below n f ≤ n * m
 sum_below-fits zero m f le = omega arith
 sum_below-fits (suc n) m f le =
-    let rest : sum_below n f ≤ n * m =
-    sum_below-fits n m f (λ k lt. let lt' : k < suc n = omega arith in le k lt') in
-    let last : n < suc n = omega arith in
-    omega (arith, le n last)
+    omega (arith, sum_below-fits n m f (λ k lt. le k (omega arith)), le n (omega arith))
 
 pub sum_below-le-term : (n : ℕ) (f : ℕ → ℕ) (k : ℕ) → k < n → f k ≤ sum_below n f
 sum_below-le-term zero f k lt = absurd (omega arith)
@@ -56,6 +48,11 @@ sum_below-le-term (suc n) f k lt =
       | inl e ↦ let same : f k ≡ f n = rw e in omega arith
       | inr ne ↦ omega (arith, sum_below-le-term n f k (omega arith))
     ]
+
+pub sum_below-both : (n : ℕ) (f g : ℕ → ℕ)
+    → sum_below n (λ k. f k + g k) ≡ sum_below n f + sum_below n g
+sum_below-both zero f g = refl
+sum_below-both (suc n) f g = omega (arith, sum_below-both n f g)
 
 -- a loop's step
 pub sum_step : (n : ℕ) (f : ℕ → ℕ) (total more next : ℕ) → total ≡ sum_below n f → f n ≡ more
@@ -68,17 +65,14 @@ pub greatest_below-le : (n : ℕ) (f : ℕ → ℕ) (m : ℕ) → ((k : ℕ) →
     → greatest_below n f ≤ m
 greatest_below-le zero f m le = omega arith
 greatest_below-le (suc n) f m le =
-    let rest : greatest_below n f ≤ m =
-    greatest_below-le n f m (λ k lt. let lt' : k < suc n = omega arith in le k lt') in
-    let last : n < suc n = omega arith in
-    omega (arith, le n last)
+    omega (arith, greatest_below-le n f m (λ k lt. le k (omega arith)), le n (omega arith))
 
 pub le-greatest_below : (n : ℕ) (f : ℕ → ℕ) (k : ℕ) → k < n → f k ≤ greatest_below n f
 le-greatest_below zero f k lt = absurd (omega arith)
 le-greatest_below (suc n) f k lt =
     elim (cases_eq k n) [
       | inl e ↦ let same : f k ≡ f n = rw e in omega arith
-      | inr ne ↦ let lt' : k < n = omega arith in omega (arith, le-greatest_below n f k lt')
+      | inr ne ↦ omega (arith, le-greatest_below n f k (omega arith))
     ]
 
 pub greatest_below-some : (n : ℕ) (f : ℕ → ℕ) → (greatest_below n f ≡ 0)
@@ -127,7 +121,7 @@ greatest_of-some f (y ∷ xs) =
       | inr le ↦ inr (y, (zero, omega arith, refl), omega arith)
     ]
 
-greatest_of-push : {X : Type 0} (f : X → ℕ) (xs : List X) (y : X)
+pub greatest_of-push : {X : Type 0} (f : X → ℕ) (xs : List X) (y : X)
     → greatest_of f (xs ++ y ∷ []) ≡ max (greatest_of f xs) (f y)
 greatest_of-push f [] y = omega arith
 greatest_of-push f (x ∷ xs) y = omega (arith, greatest_of-push f xs y)
