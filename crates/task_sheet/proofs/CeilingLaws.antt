@@ -3,8 +3,9 @@ use Rattle.std.proofs.Common.{◌≡◌, ◌↔◌, ℕ, zero, suc, ◌+◌, ◌
 use Rattle.std.proofs.Common.{cond, Option, Some, None, List, [], ◌∷◌, length, get_or, refl, sym}
 use Rattle.std.proofs.Common.{◌∙◌, ap, subst, arith}
 use Rattle.std.specs.Option.{option_or}
-use Rattle.std.proofs.lemmas.Bool.{cases_order, both_ways, or_cases, or_left, or_right, eqb-true}
-use Rattle.std.proofs.lemmas.Bool.{eq-eqb, ltb-true, lt-ltb}
+use Rattle.std.proofs.lemmas.Bool.{cases_order, both_ways, or_cases, eqb-true, eq-eqb, ltb-true}
+use Rattle.std.proofs.lemmas.Bool.{lt-ltb}
+use Rattle.std.proofs.lemmas.List.Folds.{list_any_at}
 use Rattle.task_sheet.specs.Sheet.{Task, task_at}
 use Rattle.task_sheet.specs.Indexes.{among}
 use Rattle.task_sheet.specs.Locks.{uses, ceiling_from, ceiling_of, IsHighestUser}
@@ -21,9 +22,7 @@ among-place (x ∷ xs) k is = elim (or_cases (x == k) (among xs k) is) [
 ]
 
 place-among : (xs : List ℕ) (j : ℕ) → j < length xs → among xs (get_or xs j 0) ≡ true
-place-among [] j lt = absurd (omega arith)
-place-among (x ∷ xs) zero lt = or_left _ _ (eq-eqb x x refl)
-place-among (x ∷ xs) (suc j) lt = or_right _ _ (place-among xs j (omega arith))
+place-among xs j lt = list_any_at (λ x. x == get_or xs j 0) xs j 0 lt (eq-eqb _ _ refl)
 
 module _ (U : List Task) (lock : List ℕ) where
   abbrev NoUser : List ℕ → Type 0

@@ -76,16 +76,12 @@ without-fewer n L i lt member =
     let g : ℕ → ℕ = λ k. cond (L k) 1 0 in
     let none : f i ≡ 0 = cond-false {A = ℕ} (without_index L i i) 1 0 (without-gone L i i refl) in
     let one : g i ≡ 1 = cond-true {A = ℕ} (L i) 1 0 member in
-    omega (
-      arith,
-      sum_below-gap n f g i (λ k. elim (cases_Bool (without_index L i k)) [
-        | inl so ↦ let here : f k ≡ 1 = cond-true {A = ℕ} (without_index L i k) 1 0 so in
-            let there : g k ≡ 1 = cond-true {A = ℕ} (L k) 1 0 (without-parts L i k so).0 in
-            omega arith
-        | inr so ↦ let here : f k ≡ 0 = cond-false {A = ℕ} (without_index L i k) 1 0 so in
-            omega arith
-      ]) lt none,
-    )
+    omega (arith, sum_below-gap n f g i (λ k. fewer (L k) (not (k == i))) lt none)
+  where
+    fewer : (a b : Bool) → cond (a && b) 1 0 ≤ cond a 1 0
+    fewer true true = omega arith
+    fewer true false = omega arith
+    fewer false b = omega arith
 
 -- ---- how often a list names an index
 pub count-cons : (i k : ℕ) (xs : List ℕ)

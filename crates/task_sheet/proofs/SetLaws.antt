@@ -9,10 +9,13 @@ use Rattle.std.specs.Ordering.{nat_cmp, is_lt, is_eq, ordering_then, ordering_re
 use Rattle.std.specs.Cmp.{IsTotalOrder, IsStrictWeakOrder, then_total, on_total, nat_cmp_total}
 use Rattle.std.specs.Cmp.Lexicographic.{slice_cmp, nat_list_cmp_total, nat_list_eq_equiv}
 use Rattle.std.specs.Cmp.Lexicographic.{texts_ties}
+use Rattle.std.proofs.Math.Bool.{or-false}
 use Rattle.std.proofs.lemmas.Bool.{false≢true, le-ltb, or_parts}
 use Rattle.std.proofs.lemmas.List.{append-nil, drop_more, take_more}
 use Rattle.std.proofs.lemmas.List.Folds.{list_any-append}
-use Rattle.std.proofs.lemmas.List.Elements.{recursion_from_All, All-push, All-filter, filter_more}
+use Rattle.std.proofs.lemmas.List.Sums.{length-filter, count_by-le-length}
+use Rattle.std.proofs.lemmas.List.Elements.{recursion_from_All, All-from_recursion, All-push, All-filter}
+use Rattle.std.proofs.lemmas.List.Elements.{filter_more}
 use Rattle.std.proofs.lemmas.List.Sorted.{All-permutation, length_permutation, IsPermutation-sym}
 use Rattle.std.proofs.lemmas.List.Sorted.{IsPermutation-trans, ranks_by, sorted_far}
 use Rattle.task_sheet.specs.Sheet.{Task, IsValidSheet, same_bytes}
@@ -120,13 +123,8 @@ strictly (x ∷ xs) up apart = (each xs up.0 apart.0, strictly xs up.1 apart.1)
 
 any_last : (p : Task → Bool) (xs : List Task) (x : Task) → list_any p (xs ++ x ∷ []) ≡ false
     → (list_any p xs ≡ false) × (p x ≡ false)
-any_last p [] x h = (refl, grind arith)
-any_last p (y ∷ ys) x h =
-    elim (p y) as (λ b. (b || list_any p (ys ++ x ∷ [])) ≡ false → ((b || list_any p ys) ≡ false)
-    × (p x ≡ false)) [
-      | true ↦ λ e. absurd (false≢true (sym e))
-      | false ↦ λ e. any_last p ys x e
-    ] h
+any_last p xs x h = or_parts (list_any p xs) (p x) (sym (list_any-append p xs (x ∷ [])
+    ∙ ap (λ b. list_any p xs || b) (or-false (p x))) ∙ h)
 
 -- no element of some has the name of one that is seen
 abbrev Unseen : List Task → List Task → Type 0
@@ -237,13 +235,8 @@ sheets_more xs x set valid new room = record {
 
 pub passing : (P : Task → Type 0) (p : Task → Bool) (xs : List Task) → AllByRecursion P xs
     → AllByRecursion P (filter p xs)
-passing P p [] h = tt
-passing P p (x ∷ xs) h =
-    elim (p x) as (λ b. AllByRecursion P (cond b (x ∷ filter p xs) (filter p xs))) [
-      | true ↦
-          (h.0, passing P p xs h.1)
-      | false ↦ passing P p xs h.1
-    ]
+passing P p xs h =
+    recursion_from_All P (filter p xs) (All-filter p P xs (All-from_recursion P xs h))
 
 pub distinct_less : (p : Task → Bool) (xs : List Task) → AreDistinct same_name xs
     → AreDistinct same_name (filter p xs)
@@ -254,11 +247,6 @@ distinct_less p (x ∷ xs) h =
       | false ↦ distinct_less p xs h.1
     ]
 
-shorter : (p : Task → Bool) (xs : List Task) → length (filter p xs) ≤ length xs
-shorter p [] = omega arith
-shorter p (x ∷ xs) = elim (p x) as (λ b. length (cond b (x ∷ filter p xs) (filter p xs))
-    ≤ length (x ∷ xs)) [ true ↦ omega (arith, shorter p xs) | false ↦ omega (arith, shorter p xs) ]
-
 pub set_less : (xs : List Task) (name : List ℕ) → IsTaskSet xs → IsTaskSet (others_of xs name)
 set_less xs name set =
     let p : Task → Bool = λ x. not (same_bytes x.name name) in
@@ -266,7 +254,7 @@ set_less xs name set =
       valid = All-filter p IsValidSheet xs set.valid;
       ranked = IsStrictlySortedBy-filter rank_cmp p xs set.ranked;
       distinct = distinct_less p xs set.distinct;
-      few = omega (arith, set.few, shorter p xs);
+      few = omega (arith, set.few, length-filter p xs, count_by-le-length p xs);
     }
 
 -- ---- one more sheet of which the others are kept
