@@ -147,19 +147,6 @@ greatest_step p f xs i x b best next lt is test h e =
     ∙ sym (greatest_of-step (λ y. cond (p y) (f y) 0) xs i x lt))
 
 -- ---- some number below n
-pub find_below : (n : ℕ) (p : ℕ → Bool) → ((k : ℕ) × (k < n) × (p k ≡ true))
-    ⊎ ((k : ℕ) → k < n → p k ≡ false)
-find_below zero p = inr (λ k lt. absurd (omega arith))
-find_below (suc n) p =
-    elim (find_below n p) [
-      | inl found ↦ inl (found.0, omega (arith, found.1), found.2)
-      | inr none ↦ elim (cases_Bool (p n)) [
-        | inl so ↦ inl (n, omega arith, so)
-        | inr out ↦
-            inr (λ k lt. elim (cases_eq k n) [ inl e ↦ rw e out | inr ne ↦ none k (omega arith) ])
-      ]
-    ]
-
 pub some_below-at : (n : ℕ) (p : ℕ → Bool) (k : ℕ) → k < n → p k ≡ true → some_below n p ≡ true
 some_below-at zero p k lt so = absurd (omega arith)
 some_below-at (suc n) p k lt so =
@@ -168,25 +155,18 @@ some_below-at (suc n) p k lt so =
       | inr ne ↦ or_left _ _ (some_below-at n p k (omega arith) so)
     ]
 
-pub some_below-witness : (n : ℕ) (p : ℕ → Bool) → some_below n p ≡ true → (k : ℕ) × (k < n)
-    × (p k ≡ true)
-some_below-witness zero p h = cc
-some_below-witness (suc n) p h =
-    elim (or_cases (some_below n p) (p n) h) [
-      | inl before ↦ let at = some_below-witness n p before in (at.0, omega (arith, at.1), at.2)
-      | inr here ↦ (n, omega arith, here)
-    ]
-
 pub some_below-none : (n : ℕ) (p : ℕ → Bool) → ((k : ℕ) → k < n → p k ≡ false)
     → some_below n p ≡ false
 some_below-none zero p none = refl
 some_below-none (suc n) p none =
     rw (some_below-none n p (λ k lt. none k (omega arith)), none n (omega arith))
 
-pub some_below-mono : (n : ℕ) (p q : ℕ → Bool) → ((k : ℕ) → p k ≡ true → q k ≡ true)
-    → some_below n p ≡ true → some_below n q ≡ true
-some_below-mono n p q more h =
-    let at = some_below-witness n p h in some_below-at n q at.0 at.1 (more at.0 at.2)
+-- where none passes, each fails
+none_below : (n : ℕ) (p : ℕ → Bool) → some_below n p ≡ false → (k : ℕ) → k < n → p k ≡ false
+none_below n p none k lt = elim (cases_Bool (p k)) [
+  | inl so ↦ absurd (both_ways _ none (some_below-at n p k lt so))
+  | inr out ↦ out
+]
 
 -- the least of the numbers below n that pass
 pub least_below_at : (n : ℕ) (p : ℕ → Bool) → some_below n p ≡ true → (k : ℕ) × (k < n)
@@ -202,9 +182,22 @@ least_below_at (suc n) p h =
           | inl before ↦ absurd (both_ways _ none before)
           | inr here ↦ here
         ],
-        λ j lt. elim (cases_Bool (p j)) [
-          | inl so ↦ absurd (both_ways _ none (some_below-at n p j lt so))
-          | inr out ↦ out
-        ],
+        none_below n p none,
       )
     ]
+
+pub some_below-witness : (n : ℕ) (p : ℕ → Bool) → some_below n p ≡ true → (k : ℕ) × (k < n)
+    × (p k ≡ true)
+some_below-witness n p h = let at = least_below_at n p h in (at.0, at.1, at.2)
+
+pub some_below-mono : (n : ℕ) (p q : ℕ → Bool) → ((k : ℕ) → p k ≡ true → q k ≡ true)
+    → some_below n p ≡ true → some_below n q ≡ true
+some_below-mono n p q more h =
+    let at = some_below-witness n p h in some_below-at n q at.0 at.1 (more at.0 at.2)
+
+pub find_below : (n : ℕ) (p : ℕ → Bool) → ((k : ℕ) × (k < n) × (p k ≡ true))
+    ⊎ ((k : ℕ) → k < n → p k ≡ false)
+find_below n p = elim (cases_Bool (some_below n p)) [
+  | inl some ↦ inl (some_below-witness n p some)
+  | inr none ↦ inr (none_below n p none)
+]

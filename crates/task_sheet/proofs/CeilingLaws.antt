@@ -1,6 +1,6 @@
 -- The ceiling of a lock is the level of its highest user.
-use Rattle.std.proofs.Common.{◌≡◌, ◌↔◌, ℕ, zero, suc, ◌+◌, ◌<◌, inl, inr, Bool, true, false, ◌==◌}
-use Rattle.std.proofs.Common.{cond, Option, Some, None, List, [], ◌∷◌, length, get_or, refl, sym}
+use Rattle.std.proofs.Common.{◌≡◌, ◌↔◌, ℕ, zero, suc, ◌+◌, ◌<◌, ◌≤◌, inl, inr, Bool, true, false}
+use Rattle.std.proofs.Common.{◌==◌, cond, Option, Some, None, List, [], ◌∷◌, length, get_or, refl, sym}
 use Rattle.std.proofs.Common.{◌∙◌, ap, subst, arith}
 use Rattle.std.specs.Option.{option_or}
 use Rattle.std.proofs.lemmas.Bool.{cases_order, both_ways, or_cases, eqb-true, eq-eqb, ltb-true}
@@ -33,31 +33,29 @@ module _ (U : List Task) (lock : List ℕ) where
   none_more i order out none zero lt = out
   none_more i order out none (suc k) lt = none k (omega arith)
 
+  -- no later one uses it, one place further
+  none_from : (i : ℕ) (order : List ℕ) (from : ℕ)
+      → ((k : ℕ) → from ≤ k → k < length order → uses (task_at U (get_or order k 0)) lock ≡ false)
+      → (k : ℕ) → from < k → k < length (i ∷ order)
+      → uses (task_at U (get_or (i ∷ order) k 0)) lock ≡ false
+  none_from i order from none zero above lt = absurd (omega arith)
+  none_from i order from none (suc k) above lt = none k (omega arith) (omega arith)
+
   highest_later : (i : ℕ) (order : List ℕ) (place : ℕ) → IsHighestUser U order lock place
       → IsHighestUser U (i ∷ order) lock (suc place)
   highest_later i order place h = record {
     in_order = omega (arith, h.in_order);
     user = h.user;
-    none_above = above;
+    none_above = none_from i order (suc place) h.none_above;
   }
-    where
-      above : (k : ℕ) → suc place < k → k < length (i ∷ order)
-          → uses (task_at U (get_or (i ∷ order) k 0)) lock ≡ false
-      above zero lt lt' = absurd (omega arith)
-      above (suc k) lt lt' = h.none_above k (omega arith) (omega arith)
 
   highest_here : (i : ℕ) (order : List ℕ) → uses (task_at U i) lock ≡ true → NoUser order
       → IsHighestUser U (i ∷ order) lock 0
   highest_here i order user none = record {
     in_order = omega arith;
     user = user;
-    none_above = above;
+    none_above = none_from i order 0 (λ k from lt. none k lt);
   }
-    where
-      above : (k : ℕ) → 0 < k → k < length (i ∷ order)
-          → uses (task_at U (get_or (i ∷ order) k 0)) lock ≡ false
-      above zero lt lt' = absurd (omega arith)
-      above (suc k) lt lt' = none k (omega arith)
 
   -- what the ceiling from a level says
   abbrev Says : ℕ → List ℕ → Option ℕ → Type 0

@@ -1,6 +1,6 @@
 -- Every set has a verdict: the climb from the lowest level up leads to one.
 use Rattle.std.proofs.Common.{◌≡◌, ℕ, zero, suc, ◌<◌, ◌≤◌, ◌⊎◌, inl, inr, Bool, true, false, cond, ◌&&◌}
-use Rattle.std.proofs.Common.{List, [], ◌∷◌, ◌++◌, length, refl, ◌∙◌, ap, subst, arith}
+use Rattle.std.proofs.Common.{List, [], ◌∷◌, ◌++◌, length, refl, ◌∙◌, ap, arith}
 use Rattle.std.proofs.lemmas.Bool.{cases_Bool, both_ways, cond-true, ltb-true, and_parts, and_from}
 use Rattle.std.proofs.lemmas.List.{map-append}
 use Rattle.task_sheet.specs.Sheet.{Task, AllTasks}
@@ -35,11 +35,15 @@ find_chosen U L n =
       | inl some ↦
           let at = least_below_at n p some in
           let both = and_parts (L at.0) _ at.2 in
-          inl (at.0, at.1, record {
-            member = both.0;
-            stands = (does_stand-iff U at.0 (without_index L at.0)).0 both.1;
-            first = λ j lt member stands. both_ways _ (at.3 j lt) (passes j member stands);
-          })
+          inl (
+            at.0,
+            at.1,
+            record {
+              member = both.0;
+              stands = (does_stand-iff U at.0 (without_index L at.0)).0 both.1;
+              first = λ j lt member stands. both_ways _ (at.3 j lt) (passes j member stands);
+            },
+          )
       | inr none ↦ inr (λ j lt member stands.
           both_ways _ none (some_below-at n p j lt (passes j member stands)))
     ]

@@ -110,29 +110,23 @@ among-count (x ∷ xs) k =
     ]
 
 -- ---- lists that name each index of a set once
+one_told : (b : Bool) → 1 ≤ cond b 1 0 → b ≡ true
+one_told true h = refl
+one_told false h = absurd (omega arith)
+
+none_told : (b : Bool) → cond b 1 0 ≤ 0 → b ≡ false
+none_told true h = absurd (omega arith)
+none_told false h = refl
+
 pub IsOrderOf-among : (L : Indexes) (order : List ℕ) → IsOrderOf L order → among order ≡ L
-IsOrderOf-among L order each = fun_ext (λ k.
-    let once = each k in
-    elim (cases_Bool (L k)) [
-      | inl member ↦ let c = cond-true {A = ℕ} (L k) 1 0 member in
-          elim (among-count order k) [
-            | inl is ↦ is.0 ∙ sym member
-            | inr out ↦ absurd (omega (arith, out.1))
-          ]
-      | inr outside ↦ let c = cond-false {A = ℕ} (L k) 1 0 outside in
-          elim (among-count order k) [
-            | inl is ↦ absurd (omega (arith, is.1))
-            | inr out ↦ out.0 ∙ sym outside
-          ]
-    ])
+IsOrderOf-among L order each = fun_ext (λ k. elim (among-count order k) [
+  | inl is ↦ is.0 ∙ sym (one_told (L k) (omega (arith, each k, is.1)))
+  | inr out ↦ out.0 ∙ sym (none_told (L k) (omega (arith, each k, out.1)))
+])
 
 pub IsOrderOf-head : (L : Indexes) (i : ℕ) (above : List ℕ) → IsOrderOf L (i ∷ above) → L i ≡ true
 IsOrderOf-head L i above each =
-    elim (cases_Bool (L i)) [
-      | inl member ↦ member
-      | inr outside ↦ let c = cond-false {A = ℕ} (L i) 1 0 outside in
-          absurd (omega (arith, each i, count-same i i above refl))
-    ]
+    one_told (L i) (omega (arith, each i, count-same i i above refl))
 
 pub IsOrderOf-rest : (L : Indexes) (i : ℕ) (above : List ℕ) → IsOrderOf L (i ∷ above)
     → IsOrderOf (without_index L i) above
@@ -140,10 +134,7 @@ IsOrderOf-rest L i above each k =
     let once = each k in
     elim (cases_eq k i) [
       | inl e ↦
-          let at_most : cond (L k) 1 0 ≤ 1 = elim (cases_Bool (L k)) [
-            | inl so ↦ rw so (omega arith)
-            | inr so ↦ rw so (omega arith)
-          ] in
+          let at_most = cond-le (L k) 1 0 1 (omega arith) (omega arith) in
           rw (without-gone L i k e) (omega (arith, count-same i k above (sym e)))
       | inr ne ↦ rw (without-kept L i k ne) (omega (arith, count-other i k above (λ e. ne (sym e))))
     ]

@@ -1,6 +1,6 @@
 -- Responses and chains of a demand that does not fall.
 use Rattle.std.proofs.Common.{◌≡◌, ℕ, zero, suc, ◌+◌, ◌<◌, ◌≤◌, ◌⊎◌, inl, inr, ◌↔◌, List, [], ◌∷◌}
-use Rattle.std.proofs.Common.{refl, sym, ◌∙◌, ap, subst, arith, Bool, true, nat_le, ◌&&◌}
+use Rattle.std.proofs.Common.{refl, sym, ◌∙◌, arith, Bool, true, nat_le, ◌&&◌}
 use Rattle.std.proofs.lemmas.Bool.{cases_lt, both_ways, and_parts, and_from, leb-true, le-leb}
 use Rattle.task_sheet.proofs.Below.{find_below, some_below-at, least_below_at}
 use Rattle.task_sheet.specs.Responses.{Covers, IsResponse, ChainFrom, IsChain, FullFrom}
@@ -92,11 +92,10 @@ FullFrom-one W limit a [] [] first full second full' = refl
 FullFrom-one W limit a [] (c ∷ cs) first full second full' = absurd (omega (arith, first, second.0))
 FullFrom-one W limit a (b ∷ bs) [] first full second full' = absurd (omega (arith, first.0, second))
 FullFrom-one W limit a (b ∷ bs) (c ∷ cs) first full second full' =
-    let same : b ≡ c = full.0 ∙ sym full'.0 in
-    let second' = subst (λ n. ChainFrom W limit n cs) (sym same) second.3 in
-    let rest = FullFrom-one W limit b bs cs first.3 full.1 second'
-    (subst (λ n. FullFrom W n cs) (sym same) full'.1) in
-    ap (λ n. n ∷ bs) same ∙ ap (λ ns. c ∷ ns) rest
+    let same : c ≡ b = full'.0 ∙ sym full.0 in
+    let rest = FullFrom-one W limit b bs cs first.3 full.1 (rw same at second.3)
+    (rw same at full'.1) in
+    λ i. sym same i ∷ rest i
 
 pub IsFullChain-one : (W : ℕ → ℕ) (limit : ℕ) (xs ys : List ℕ) → IsFullChain W limit xs
     → IsFullChain W limit ys → xs ≡ ys
@@ -104,10 +103,9 @@ IsFullChain-one W limit [] ys first second = absurd first.chain
 IsFullChain-one W limit (a ∷ bs) [] first second = absurd second.chain
 IsFullChain-one W limit (a ∷ bs) (c ∷ cs) first second =
     let same : c ≡ a = second.chain.0 ∙ sym first.chain.0 in
-    let chain = subst (λ n. ChainFrom W limit n cs) same second.chain.1 in
-    let full = subst (λ n. FullFrom W n cs) same second.full in
-    ap (λ ns. a ∷ ns) (FullFrom-one W limit a bs cs first.chain.1 first.full chain full)
-    ∙ ap (λ n. n ∷ cs) (sym same)
+    let rest = FullFrom-one W limit a bs cs first.chain.1 first.full (rw same at second.chain.1)
+    (rw same at second.full) in
+    λ i. sym same i ∷ rest i
 
 -- ---- where no time covers its demand, there is a full chain
 -- the iterates from a on, of which there are at most so many up to the limit

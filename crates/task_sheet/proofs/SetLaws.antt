@@ -1,12 +1,12 @@
 -- Sheets and the first that repeats a name; sheets sorted by rank are a set.
-use Rattle.std.proofs.Common.{◌≡◌, ℕ, suc, ◌+◌, ◌<◌, ◌≤◌, Bool, true, false, cond, ◌||◌, List, []}
+use Rattle.std.proofs.Common.{◌≡◌, ℕ, ◌+◌, ◌<◌, ◌≤◌, Bool, true, false, cond, ◌||◌, List, []}
 use Rattle.std.proofs.Common.{◌∷◌, ◌++◌, length, get_or, take, drop, Option, Some, None, Ordering}
-use Rattle.std.proofs.Common.{Less, Equal, Greater, refl, sym, ◌∙◌, ap, subst, arith, not}
+use Rattle.std.proofs.Common.{Less, Equal, Greater, refl, sym, ◌∙◌, ap, arith, not}
 use Rattle.std.proofs.Common.{length-append}
 use Rattle.std.specs.List.{list_any, filter, AllByRecursion, All}
 use Rattle.std.specs.List.Sorted.{IsPermutation, IsSortedBy, IsStrictlySortedBy}
 use Rattle.std.specs.Ordering.{nat_cmp, is_lt, is_eq, ordering_then, ordering_reverse}
-use Rattle.std.specs.Cmp.{IsTotalOrder, IsStrictWeakOrder, then_total, on_total, nat_cmp_total}
+use Rattle.std.specs.Cmp.{IsTotalOrder, then_total, on_total, nat_cmp_total}
 use Rattle.std.specs.Cmp.Lexicographic.{slice_cmp, nat_list_cmp_total, nat_list_eq_equiv}
 use Rattle.std.specs.Cmp.Lexicographic.{texts_ties}
 use Rattle.std.proofs.Math.Bool.{or-false}
@@ -17,13 +17,14 @@ use Rattle.std.proofs.lemmas.List.Sums.{length-filter, count_by-le-length}
 use Rattle.std.proofs.lemmas.List.Elements.{recursion_from_All, All-from_recursion, All-push, All-filter}
 use Rattle.std.proofs.lemmas.List.Elements.{filter_more}
 use Rattle.std.proofs.lemmas.List.Sorted.{All-permutation, length_permutation, IsPermutation-sym}
-use Rattle.std.proofs.lemmas.List.Sorted.{IsPermutation-trans, ranks_by, sorted_far}
-use Rattle.task_sheet.specs.Sheet.{Task, IsValidSheet, same_bytes}
+use Rattle.std.proofs.lemmas.List.Sorted.{IsPermutation-trans}
+use Rattle.std.proofs.lemmas.Map.Keys.{sorted_from_all_adjacent, apart_from_distinct}
+use Rattle.task_sheet.specs.Sheet.{Task, IsValidSheet, no_task, same_bytes}
 use Rattle.task_sheet.specs.Rank.{rank_cmp, IsByRank}
 use Rattle.task_sheet.specs.TaskSet.{first_repeat, has_name, others_of, same_name, AreDistinct}
 use Rattle.task_sheet.specs.TaskSet.{IsTaskSet}
 use Rattle.task_sheet.specs.SheetsFault.{set_cause, sheets_fault}
-use Rattle.task_sheet.proofs.Distinct.{AreDistinct-permutation}
+use Rattle.task_sheet.proofs.Distinct.{std_distinct, AreDistinct-permutation}
 use Rattle.task_sheet.proofs.Unique.{sorted_unique}
 use Rattle.std.proofs.lemmas.List.Kept.{IsStrictlySortedBy-filter}
 
@@ -88,36 +89,12 @@ below x y h apart = by (rank_cmp x y) refl
     by Greater e =
         absurd (false≢true (sym h ∙ ap is_lt (rank_total.antisymm y x ∙ ap ordering_reverse e)))
 
--- each element is not after a later one
-abbrev AreInOrder : List Task → Type 0
-AreInOrder [] = Unit {0}
-AreInOrder (x ∷ xs) = AllByRecursion (λ y. is_lt (rank_cmp y x) ≡ false) xs × AreInOrder xs
-
-in_order : (xs : List Task) → IsSortedBy (λ x y. is_lt (rank_cmp x y)) xs → AreInOrder xs
-in_order [] up = tt
-in_order (x ∷ xs) up =
-    let P : Task → Type 0 = λ y. is_lt (rank_cmp y x) ≡ false in
-    let weak : IsStrictWeakOrder (λ x y. is_lt (rank_cmp x y)) = ranks_by rank_total (λ s. s) in
-    let far : All P xs = λ k d h. sorted_far (λ x y. is_lt (rank_cmp x y)) weak (x ∷ xs) up 0
-    (suc k) d (omega arith) (omega arith) in (
-      recursion_from_All P xs far,
-      in_order xs (λ k d l h.
-          let e : suc k + 1 ≡ suc (k + 1) = omega arith in
-          let Q : ℕ → Type 0 =
-          λ n. is_lt (rank_cmp (get_or (x ∷ xs) n d) (get_or xs k d)) ≡ false in
-          subst Q e (up (suc k) d (omega arith) (omega arith))),
-    )
-
-strictly : (xs : List Task) → AreInOrder xs → AreDistinct same_name xs
-    → IsStrictlySortedBy rank_cmp xs
-unfolding IsStrictlySortedBy
-strictly [] up apart = tt
-strictly (x ∷ xs) up apart = (each xs up.0 apart.0, strictly xs up.1 apart.1)
-  where
-    each : (ys : List Task) → AllByRecursion (λ y. is_lt (rank_cmp y x) ≡ false) ys → AllByRecursion
-        (λ y. same_name x y ≡ false) ys → AllByRecursion (λ y. rank_cmp x y ≡ Less) ys
-    each [] a b = tt
-    each (y ∷ ys) a b = (below x y a.0 b.0, each ys a.1 b.1)
+strictly : (xs : List Task) → IsSortedBy (λ x y. is_lt (rank_cmp x y)) xs
+    → AreDistinct same_name xs → IsStrictlySortedBy rank_cmp xs
+strictly xs up apart = sorted_from_all_adjacent rank_total xs no_task (λ k lt.
+    below (get_or xs k no_task) (get_or xs (k + 1) no_task) (up k no_task (omega arith) lt)
+    (apart_from_distinct same_name xs k (k + 1) no_task (std_distinct same_name xs apart)
+    (omega arith) lt))
 
 -- ---- no repeat
 
@@ -192,7 +169,7 @@ sorted_set xs ys valid distinct few p up =
     let apart = AreDistinct-permutation same_name same_own same_turned xs ys p distinct in
     record {
       valid = All-permutation IsValidSheet xs ys p valid;
-      ranked = strictly ys (in_order ys up) apart;
+      ranked = strictly ys up apart;
       distinct = apart;
       few = omega (arith, length_permutation xs ys p);
     }

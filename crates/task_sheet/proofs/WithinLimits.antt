@@ -1,5 +1,5 @@
 -- What a document says of its node and of interrupts is within the limits.
-use Rattle.std.proofs.Common.{◌≡◌, ℕ, ◌+◌, ◌≤◌, min, Bool, true, false, ◌&&◌, inl, inr, nat_le}
+use Rattle.std.proofs.Common.{◌≡◌, ℕ, ◌+◌, ◌≤◌, min, Bool, true, false, inl, inr, nat_le}
 use Rattle.std.proofs.Common.{List, [], ◌∷◌, map, length, Option, Some, None, IfSome, option_map}
 use Rattle.std.proofs.Common.{option_and_then, unwrap_or, is_some, refl, arith}
 use Rattle.std.proofs.lemmas.Bool.{cases_Bool, and_parts, leb-true}

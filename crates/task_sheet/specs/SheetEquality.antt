@@ -1,7 +1,7 @@
 -- Equality of sections and of sheets as a test: an equivalence that holds of equal values alone.
 use Rattle.std.specs.Prelude.{◌≡◌, Bool, true}
 use Rattle.std.proofs.Common.{refl, ap, subst, Decides}
-use Rattle.std.specs.Cmp.{IsPartialEquivalence, IsEquivalence, and_equiv, on_equiv, partial_equiv_from_equiv, nat_eq_equiv}
+use Rattle.std.specs.Cmp.{both_ways, IsPartialEquivalence, IsEquivalence, and_equiv, on_equiv, partial_equiv_from_equiv, nat_eq_equiv}
 use Rattle.std.specs.Cmp.Lexicographic.{pointwise, lists_equiv, nat_list_eq_equiv}
 use Rattle.std.proofs.lemmas.Bool.{and_parts, false≢true}
 use Rattle.std.proofs.lemmas.Bool.Decides.{Decides-eqb}
@@ -17,25 +17,30 @@ section_equiv = and_equiv (on_equiv (λ s. s.locks) (lists_equiv nat_list_eq_equ
 names_equiv : IsEquivalence (pointwise same_bytes)
 names_equiv = lists_equiv nat_list_eq_equiv
 
+-- a test that holds of each value itself, and of equal ones alone, is an equivalence
+pub equivalence_of : {X : Type 0} (E : X → X → Bool) → ((x : X) → E x x ≡ true)
+    → ((x y : X) → E x y ≡ true → x ≡ y) → IsEquivalence E
+equivalence_of {X} E own told = record {
+  refl = own;
+  symm = λ x y. both_ways _ _ (turned x y) (turned y x);
+  congr = λ x y z h. ap (λ v. E v z) (told x y h);
+}
+  where
+    turned : (x y : X) → E x y ≡ true → E y x ≡ true
+    turned x y h = let P : X → Type 0 = λ v. E v x ≡ true in subst P (told x y h) (own x)
+
+told : (x y : OutranksData) → same_outranks x y ≡ true → x ≡ y
+told (Named xs) (Named ys) same = ap Named ((slice_eq-Decides bytes_eq-Decides xs ys _ refl).0 same)
+told (Named xs) AllOthers same = absurd (false≢true same)
+told AllOthers (Named ys) same = absurd (false≢true same)
+told AllOthers AllOthers same = refl
+
 outranks_equiv : IsEquivalence same_outranks
-outranks_equiv = record { refl = itself; symm = turned; congr = alike }
+outranks_equiv = equivalence_of same_outranks itself told
   where
     itself : (x : OutranksData) → same_outranks x x ≡ true
     itself (Named xs) = names_equiv.refl xs
     itself AllOthers = refl
-
-    turned : (x y : OutranksData) → same_outranks x y ≡ same_outranks y x
-    turned (Named xs) (Named ys) = names_equiv.symm xs ys
-    turned (Named xs) AllOthers = refl
-    turned AllOthers (Named ys) = refl
-    turned AllOthers AllOthers = refl
-
-    alike : (x y z : OutranksData) → same_outranks x y ≡ true → same_outranks x z ≡ same_outranks y z
-    alike (Named xs) (Named ys) (Named zs) same = names_equiv.congr xs ys zs same
-    alike (Named xs) (Named ys) AllOthers same = refl
-    alike (Named xs) AllOthers z same = absurd (false≢true same)
-    alike AllOthers (Named ys) z same = absurd (false≢true same)
-    alike AllOthers AllOthers z same = refl
 
 node_equiv : IsEquivalence same_node
 node_equiv =
@@ -81,12 +86,6 @@ same_section-Decides x y = decides same_section section_equiv x y (λ h.
       at = (Decides-eqb x.at y.at).0 times.0 i;
       len = (Decides-eqb x.len y.len).0 times.1 i;
     })
-
-told : (x y : OutranksData) → same_outranks x y ≡ true → x ≡ y
-told (Named xs) (Named ys) same = ap Named ((slice_eq-Decides bytes_eq-Decides xs ys _ refl).0 same)
-told (Named xs) AllOthers same = absurd (false≢true same)
-told AllOthers (Named ys) same = absurd (false≢true same)
-told AllOthers AllOthers same = refl
 
 pub same_outranks-Decides : (x y : OutranksData) → Decides (same_outranks x y) (x ≡ y)
 same_outranks-Decides x y = decides same_outranks outranks_equiv x y (told x y)
