@@ -3,13 +3,12 @@ use Rattle.std.proofs.Common.{◌≡◌, ◌<◌, None, List, [], ◌∷◌, len
 use Rattle.std.specs.List.{All, insert, remove}
 use Rattle.std.specs.List.Sorted.{IsStrictlySortedBy}
 use Rattle.std.proofs.lemmas.List.Elements.{All-from_recursion, recursion_from_All}
-use Rattle.std.proofs.lemmas.List.Sorted.{IsPermutation-refl}
 use Rattle.task_sheet.specs.Sheet.{Task, AreInterrupts, IsValidSheet, interrupted}
 use Rattle.task_sheet.specs.Rank.{rank_cmp, IsByRank}
 use Rattle.task_sheet.specs.TaskSet.{same_name, AreDistinct, IsTaskSet}
 use Rattle.task_sheet.specs.SheetsFault.{sheets_fault}
 use Rattle.task_sheet.specs.declared.node.Interrupt.{Interrupt}
-use Rattle.task_sheet.proofs.SetLaws.{by_rank_one, no_fault}
+use Rattle.task_sheet.proofs.SetLaws.{no_fault}
 use Rattle.overheads.specs.Padding.{charged}
 use Rattle.overheads.proofs.MappedSets.{IsByRank-is}
 use Rattle.overheads.proofs.PaddedTasks.{valid-other}

@@ -1,20 +1,18 @@
 -- A set with what the node takes has the same ranks, and is a set where there is room for it.
-use Rattle.std.proofs.Common.{◌≡◌, ℕ, ◌+◌, ◌<◌, ◌≤◌, Option, Some, None, IfSome, List, [], ◌∷◌}
-use Rattle.std.proofs.Common.{◌++◌, length, get_or, take, drop, refl, sym, ◌∙◌, ap, arith, map}
+use Rattle.std.proofs.Common.{◌≡◌, ℕ, ◌<◌, ◌≤◌, Option, Some, None, IfSome, List, [], ◌∷◌}
+use Rattle.std.proofs.Common.{length, refl, ◌∙◌, ap, arith}
 use Rattle.std.specs.List.{AllByRecursion}
 use Rattle.std.specs.Option.{option_or}
-use Rattle.std.proofs.lemmas.List.{drop_more}
 use Rattle.std.proofs.lemmas.List.Elements.{All-from_recursion, recursion_from_All}
 use Rattle.task_sheet.specs.Sheet.{Task, AreOverheads, IsValidSheet, no_overhead, no_task, task_at}
 use Rattle.task_sheet.specs.Rank.{IsByRank}
 use Rattle.task_sheet.specs.TaskSet.{IsTaskSet}
-use Rattle.task_sheet.specs.SheetsFault.{sheets_fault}
 use Rattle.task_sheet.specs.declared.node.Node.{Node}
 use Rattle.overheads.specs.Padding.{padded_task, padded, task_fault, padding_fault, padded_by}
 use Rattle.overheads.specs.Padding.{fault_by, IsUnpadded, IsLighter}
 use Rattle.overheads.specs.declared.padding.PadFault.{PadFault}
 use Rattle.overheads.proofs.MappedSets.{KeepsRanks, count-mapped, mapped-at, mapped-past}
-use Rattle.overheads.proofs.MappedSets.{mapped-more, IsByRank-mapped, no_fault-mapped, set-mapped}
+use Rattle.overheads.proofs.MappedSets.{IsByRank-mapped, set-mapped}
 use Rattle.overheads.proofs.PaddedTasks.{room_of, valid-padded, room-lighter, task-none, room-none}
 
 -- ---- ranks

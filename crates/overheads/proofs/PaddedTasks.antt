@@ -1,6 +1,6 @@
 -- Tasks with what the node takes: valid where there is room for it, and as they were where it takes nothing.
 use Rattle.std.proofs.Common.{◌≡◌, ℕ, zero, suc, ◌+◌, ◌-◌, ◌*◌, ◌<◌, ◌≤◌, min, inl, inr, nat_lt}
-use Rattle.std.proofs.Common.{List, Some, None, refl, sym, ◌∙◌, ap, arith}
+use Rattle.std.proofs.Common.{List, Some, None, refl, sym, arith}
 use Rattle.std.proofs.Math.Nat.{mul-le-mul_left}
 use Rattle.std.proofs.lemmas.Bool.{cases_Bool, ltb-false, ltb-true, le-ltb, lt-ltb}
 use Rattle.task_sheet.specs.Sheet.{CriticalSection, Task, AreInterrupts, AreOverheads, IsValidSheet}

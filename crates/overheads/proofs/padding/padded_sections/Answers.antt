@@ -1,4 +1,4 @@
-use Rattle.std.proofs.Common.{rules, ◌≡◌, ◌∙◌, ◌+◌, ◌-◌, ◌*◌, ◌++◌, ◌∷◌, [], ℕ, List, length, ap}
+use Rattle.std.proofs.Common.{rules, ◌≡◌, ◌+◌, ◌-◌, ◌*◌, ◌++◌, ◌∷◌, [], length, ap}
 use Rattle.std.proofs.Common.{arith}
 use Rattle.task_sheet.specs.Sheet.{CriticalSection}
 use Rattle.task_sheet.specs.Overheads.{calls}
