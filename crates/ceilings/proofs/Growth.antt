@@ -1,6 +1,7 @@
 -- What a table has after one user more, after a section's and after a task's.
 use Rattle.std.proofs.Common.{◌≡◌, ℕ, ◌+◌, Bool, true, false, ◌||◌, ◌&&◌, cond, List, [], ◌∷◌, ◌++◌}
 use Rattle.std.proofs.Common.{refl, sym, ◌∙◌, ap, subst}
+use Rattle.std.proofs.Math.Bool.{or_comm, or_assoc, or-false, and-or_distrib_right}
 use Rattle.std.proofs.lemmas.Bool.{false≢true}
 use Rattle.std.proofs.lemmas.List.Sums.{fold-append}
 use Rattle.std.specs.Cmp.{nat_cmp_total}
@@ -62,16 +63,6 @@ users_inserted (e ∷ table) name users lock =
 abbrev is_user : Table → List ℕ → ℕ → Bool
 is_user table lock k = set.contains (users_in table lock) k
 
-one_more : (b c d : Bool) → (c || d) ≡ (d || (true && c))
-one_more b true true = refl
-one_more b true false = refl
-one_more b false true = refl
-one_more b false false = refl
-
-no_more : (d c : Bool) → d ≡ (d || (false && c))
-no_more true c = refl
-no_more false c = refl
-
 user_added : (index : ℕ) (table : Table) (name lock : List ℕ) (k : ℕ)
     → is_user (with_user index table name) lock k
     ≡ (is_user table lock k || (same_bytes name lock && eq_by_cmp nat_cmp k index))
@@ -84,26 +75,19 @@ user_added index table name lock k = ap (λ s. set.contains s k)
         ≡ (is_user table lock k || (same_bytes name lock && eq_by_cmp nat_cmp k index))
     by true h = set.contains-insert nat_cmp_total (users_in table name) index k
         ∙ rw (nat_list_eq_equiv.symm name lock, h, same_is lock name h)
-        (one_more true (eq_by_cmp nat_cmp k index) (is_user table name k))
+        (or_comm (eq_by_cmp nat_cmp k index) (is_user table name k))
     by false h = rw (nat_list_eq_equiv.symm name lock, h)
-        (no_more (is_user table lock k) (eq_by_cmp nat_cmp k index))
+        (sym (or-false (is_user table lock k)))
 
 joined : (a b c d : Bool) → ((a || (b && d)) || (c && d)) ≡ (a || ((b || c) && d))
-joined true b c d = refl
-joined false true true true = refl
-joined false true false true = refl
-joined false false true true = refl
-joined false false false true = refl
-joined false true true false = refl
-joined false true false false = refl
-joined false false true false = refl
-joined false false false false = refl
+joined a b c d = or_assoc a (b && d) (c && d)
+    ∙ ap (λ x. a || x) (sym (and-or_distrib_right b c d))
 
 -- one user more of each of some locks
 names_added : (index : ℕ) (names : List (List ℕ)) (table : Table) (lock : List ℕ) (k : ℕ)
     → is_user (fold (with_user index) table names) lock k ≡ (is_user table lock k
     || (list_any (λ name. same_bytes name lock) names && eq_by_cmp nat_cmp k index))
-names_added index [] table lock k = no_more (is_user table lock k) (eq_by_cmp nat_cmp k index)
+names_added index [] table lock k = sym (or-false (is_user table lock k))
 names_added index (name ∷ names) table lock k =
     names_added index names (with_user index table name) lock k
     ∙ ap (λ b. b || (list_any (λ n. same_bytes n lock) names && eq_by_cmp nat_cmp k index))
@@ -115,7 +99,7 @@ sections_added : (index : ℕ) (sections : List CriticalSection) (table : Table)
     (lock : List ℕ) (k : ℕ)
     → is_user (fold (with_section index) table sections) lock k ≡ (is_user table lock k
     || (list_any (λ s. names_lock s lock) sections && eq_by_cmp nat_cmp k index))
-sections_added index [] table lock k = no_more (is_user table lock k) (eq_by_cmp nat_cmp k index)
+sections_added index [] table lock k = sym (or-false (is_user table lock k))
 sections_added index (s ∷ sections) table lock k =
     sections_added index sections (with_section index table s) lock k
     ∙ ap (λ b. b || (list_any (λ x. names_lock x lock) sections && eq_by_cmp nat_cmp k index))

@@ -9,19 +9,15 @@ use Rattle.std.specs.List.{list_any}
 use Rattle.std.specs.Ordering.{nat_cmp}
 use Rattle.task_sheet.specs.Indexes.{indexes_of, meet, greatest_below}
 use Rattle.task_sheet.specs.Demand.{greatest_of}
+use Rattle.task_sheet.proofs.Below.{greatest_of-push}
 use Rattle.ceilings.specs.Table.{Table, users_in, some_uses}
 use Rattle.ceilings.specs.Holds.{HoldData, TaskHoldsData, is_reached, longest_of, longest_from}
 use Rattle.ceilings.specs.Holds.{longest_held}
 
-greatest-push : {X : Type 0} (f : X → ℕ) (xs : List X) (y : X)
-    → greatest_of f (xs ++ y ∷ []) ≡ max (greatest_of f xs) (f y)
-greatest-push f [] y = omega arith
-greatest-push f (x ∷ xs) y = omega (arith, greatest-push f xs y)
-
 -- one element more
 pub greatest-more : {X : Type 0} (f : X → ℕ) (xs : List X) (k : ℕ) (x : X) → k < length xs
     → x ≡ get_or xs k x → greatest_of f (take (k + 1) xs) ≡ max (greatest_of f (take k xs)) (f x)
-greatest-more f xs k x lt is = rw (take_more xs k x lt, ← is) (greatest-push f (take k xs) x)
+greatest-more f xs k x lt is = rw (take_more xs k x lt, ← is) (greatest_of-push f (take k xs) x)
 
 pub greatest-next : {X : Type 0} (f : X → ℕ) (xs : List X) (k : ℕ) (x : X) (now next : ℕ)
     → k < length xs → x ≡ get_or xs k x
@@ -41,7 +37,7 @@ hold_is users users' len len' same long = λ j. hold_of (same j) (long j)
 pub hold-push : (holds : List HoldData) (h : HoldData) (members : set.FinSet nat_cmp)
     → longest_of (holds ++ h ∷ []) members
     ≡ max (longest_of holds members) (cond (is_reached members h) h.len 0)
-hold-push holds h members = greatest-push (λ x. cond (is_reached members x) x.len 0) holds h
+hold-push holds h members = greatest_of-push (λ x. cond (is_reached members x) x.len 0) holds h
 
 pub some_uses-more : (table : Table) (members : set.FinSet nat_cmp) (locks : List (List ℕ)) (i : ℕ)
     (lock : List ℕ) → i < length locks → lock ≡ get_or locks i lock
@@ -69,7 +65,7 @@ reached-le false len = omega arith
 pub held-push : (tasks : List TaskHoldsData) (t : TaskHoldsData) (members : set.FinSet nat_cmp)
     → longest_held (tasks ++ t ∷ []) members
     ≡ max (longest_held tasks members) (longest_from members t)
-held-push tasks t members = greatest-push (longest_from members) tasks t
+held-push tasks t members = greatest_of-push (longest_from members) tasks t
 
 pub task-more : (n : ℕ) (f : ℕ → ℕ) (now next : ℕ) → now ≡ greatest_below n f → next ≡ max now (f n)
     → next ≡ greatest_below (n + 1) f

@@ -1,49 +1,42 @@
 -- The tasks that are named, and those above which each task must stand, gathered by rank.
-use Rattle.std.proofs.Common.{◌≡◌, ℕ, ◌+◌, ◌<◌, ◌≤◌, Bool, false, List, [], length, replicate, set}
-use Rattle.std.proofs.Common.{get_or, IsTrue, IsFalse, inl, inr, sym, ◌∙◌, ap, arith}
+use Rattle.std.proofs.Common.{◌≡◌, ℕ, ◌+◌, ◌<◌, ◌≤◌, Bool, true, false, ◌&&◌, ◌||◌, ◌==◌, nat_lt}
+use Rattle.std.proofs.Common.{List, [], length, replicate, set, get_or, IsTrue, IsFalse, inl, inr}
+use Rattle.std.proofs.Common.{◌∙◌, ap, arith}
 use Rattle.std.specs.Ordering.{nat_cmp}
 use Rattle.std.specs.FinSet as members
-use Rattle.std.proofs.lemmas.Bool.{cases_eq, cases_lt, ne_eqb, eq-eqb}
+use Rattle.std.proofs.lemmas.Bool.{cases_eq, cases_lt}
+use Rattle.std.proofs.lemmas.Bool.Decides.{nat_tests}
 use Rattle.std.proofs.lemmas.List.{length-set, get_or-set_same, get_or-set_other, get_or-replicate}
 use Rattle.std.proofs.lemmas.List.{get_or_past, length-replicate}
 use Rattle.task_sheet.specs.Sheet.{Named, Task, task_at}
-use Rattle.task_sheet.specs.Indexes.{indexes_of, with_index}
+use Rattle.task_sheet.specs.Indexes.{indexes_of}
 use Rattle.task_sheet.specs.Orders.{must_outrank}
 use Rattle.task_sheet.proofs.MembersIndexes.{indexes_of-empty, indexes_of-insert}
+use Rattle.ceilings.proofs.WholeTable.{nothing_below}
 
 -- of the indexes below n those that pass, and no other
-pub record AreBelow (p : ℕ → Bool) (found : members.FinSet nat_cmp) (n : ℕ) : Type 0 where
-  pub seen : (k : ℕ) → k < n → indexes_of found k ≡ p k
-  pub rest : (k : ℕ) → n ≤ k → indexes_of found k ≡ false
+abbrev pub AreBelow : (ℕ → Bool) → members.FinSet nat_cmp → ℕ → Type 0
+AreBelow p found n = (k : ℕ) → indexes_of found k ≡ (nat_lt k n && p k)
+
+one_more : (k n : ℕ) (q : Bool) → (k ≡ n → q ≡ true)
+    → ((k == n) || (nat_lt k n && q)) ≡ (nat_lt k (n + 1) && q)
+one_more k n q passes = grind (arith, nat_tests)
+
+none_more : (k n : ℕ) (q : Bool) → (k ≡ n → q ≡ false)
+    → (nat_lt k n && q) ≡ (nat_lt k (n + 1) && q)
+none_more k n q fails = grind (arith, nat_tests)
 
 pub AreBelow-none : (p : ℕ → Bool) → AreBelow p members.empty 0
-AreBelow-none p =
-    record { seen = λ k lt. absurd (omega arith); rest = λ k le. ap (λ H. H k) indexes_of-empty }
+AreBelow-none p k = ap (λ H. H k) indexes_of-empty ∙ nothing_below k (p k)
 
 pub AreBelow-with : (p : ℕ → Bool) (found : members.FinSet nat_cmp) (n : ℕ) → AreBelow p found n
     → IsTrue (p n) → AreBelow p (members.insert found n) (n + 1)
-AreBelow-with p found n so passes =
-    let is : (k : ℕ) → indexes_of (members.insert found n) k ≡ with_index (indexes_of found) n k =
-    λ k. ap (λ H. H k) (indexes_of-insert found n) in
-    record {
-      seen = λ k lt. elim (cases_eq k n) [
-        | inl e ↦ is k ∙ rw (eq-eqb k n e) (sym (ap p e ∙ passes))
-        | inr ne ↦ is k ∙ rw (ne_eqb k n ne) (so.seen k (omega arith))
-      ];
-      rest = λ k le.
-          let ne : k ≡ n → ⊥ = λ e. omega arith in
-          is k ∙ rw (ne_eqb k n ne) (so.rest k (omega arith));
-    }
+AreBelow-with p found n so passes k = ap (λ H. H k) (indexes_of-insert found n)
+    ∙ ap (λ b. (k == n) || b) (so k) ∙ one_more k n (p k) (λ e. ap p e ∙ passes)
 
 pub AreBelow-skip : (p : ℕ → Bool) (found : members.FinSet nat_cmp) (n : ℕ) → AreBelow p found n
     → IsFalse (p n) → AreBelow p found (n + 1)
-AreBelow-skip p found n so fails = record {
-  seen = λ k lt. elim (cases_eq k n) [
-    | inl e ↦ so.rest k (omega arith) ∙ sym (ap p e ∙ fails)
-    | inr ne ↦ so.seen k (omega arith)
-  ];
-  rest = λ k le. so.rest k (omega arith);
-}
+AreBelow-skip p found n so fails k = so k ∙ none_more k n (p k) (λ e. ap p e ∙ fails)
 
 -- the rows of the first n tasks, and none for the others
 pub record AreRowsOf (U : List Task) (rows : List (members.FinSet nat_cmp)) (n : ℕ) : Type 0 where
@@ -71,22 +64,13 @@ pub AreRowsOf-row : (U : List Task) (rows rows' : List (members.FinSet nat_cmp))
 AreRowsOf-row U rows rows' n row so lt is right = record {
   count = ap length is ∙ length-set rows n row ∙ so.count;
   done = λ i k before within. elim (cases_eq i n) [
-    | inl e ↦
-        let here : get_or rows' i members.empty ≡ row =
-        ap (λ (rs : List (members.FinSet nat_cmp)). get_or rs i members.empty) is
-        ∙ ap (λ j. get_or (set rows n row) j members.empty) e
-        ∙ get_or-set_same rows n row members.empty (omega (arith, so.count)) in
-        ap (λ (m : members.FinSet nat_cmp). indexes_of m k) here ∙ right k within
-        ∙ ap (λ j. must_outrank U j k) (sym e)
+    | inl e ↦ rw (is, e, get_or-set_same rows n row members.empty (omega (arith, so.count)))
+        (right k within)
     | inr ne ↦
-        ap (λ (rs : List (members.FinSet nat_cmp)). indexes_of (get_or rs i members.empty) k) is
-        ∙ ap (λ (m : members.FinSet nat_cmp). indexes_of m k)
-        (get_or-set_other rows n i row members.empty ne) ∙ so.done i k (omega arith) within
+        rw (is, get_or-set_other rows n i row members.empty ne) (so.done i k (omega arith) within)
   ];
-  rest = λ i le.
-      let ne : i ≡ n → ⊥ = λ e. omega arith in
-      ap (λ (rs : List (members.FinSet nat_cmp)). get_or rs i members.empty) is
-      ∙ get_or-set_other rows n i row members.empty ne ∙ so.rest i (omega arith);
+  rest = λ i le. rw (is, get_or-set_other rows n i row members.empty (λ e. omega arith))
+      (so.rest i (omega arith));
 }
 
 -- a task that names none

@@ -1,8 +1,8 @@
 -- A section is reached by the members where one of its locks has a user among them.
 use Rattle.std.proofs.Common.{◌≡◌, ℕ, zero, suc, ◌≤◌, inl, inr, Bool, true, false, ◌||◌, ◌&&◌, List}
 use Rattle.std.proofs.Common.{[], ◌∷◌, length, refl, sym, ◌∙◌, ap, arith}
-use Rattle.std.proofs.Math.Bool.{and_comm, or-false}
-use Rattle.std.proofs.lemmas.Bool.{cases_eq}
+use Rattle.std.proofs.Math.Bool.{and_comm, or-false, and-or_distrib_left}
+use Rattle.std.proofs.lemmas.Bool.{cases_eq, and_right}
 use Rattle.std.specs.FinSet as set
 use Rattle.std.specs.List.{list_any}
 use Rattle.std.specs.Ordering.{nat_cmp}
@@ -41,14 +41,6 @@ some_below-further n (suc m) p le none =
           rw last (or-false (some_below m p) ∙ some_below-further n m p (omega arith) none)
     ]
 
-both_or : (x a b : Bool) → (x && (a || b)) ≡ ((x && a) || (x && b))
-both_or true a b = refl
-both_or false a b = refl
-
-none_of : (x b : Bool) → b ≡ false → (x && b) ≡ false
-none_of true b e = e
-none_of false b e = refl
-
 -- some of these members is among the users of a lock
 pub meet_users : (U : List Task) (users members : set.FinSet nat_cmp) (lock : List ℕ)
     → ((k : ℕ) → indexes_of users k ≡ uses (task_at U k) lock) → length U ≤ 32
@@ -61,7 +53,7 @@ meet_users U users members lock are few =
     (λ k lt. ap (λ b. b && indexes_of members k) (are k)
     ∙ and_comm (uses (task_at U k) lock) (indexes_of members k))
     ∙ some_below-further (length U) 32 one few
-    (λ k le. none_of (indexes_of members k) (uses (task_at U k) lock) (past_none U k lock le))
+    (λ k le. and_right (indexes_of members k) (uses (task_at U k) lock) (past_none U k lock le))
 
 module _ (U : List Task) (table : Table) (is_table : AreUsersOf U table)
     (members : set.FinSet nat_cmp) where
@@ -79,14 +71,14 @@ module _ (U : List Task) (table : Table) (is_table : AreUsersOf U table)
   some_uses-is : (locks : List (List ℕ))
       → some_uses table members locks ≡ some_below (length U) (uses_one locks)
   some_uses-is [] = sym (some_below-none (length U) (uses_one [])
-      (λ k lt. none_of (indexes_of members k) false refl))
+      (λ k lt. and_right (indexes_of members k) false refl))
   some_uses-is (lock ∷ locks) =
       ap (λ b. b || some_uses table members locks) (meet_is lock)
       ∙ ap (λ b. some_below (length U) (member_uses lock) || b) (some_uses-is locks)
       ∙ sym (some_below-or (length U) (member_uses lock) (uses_one locks))
       ∙ some_below-congr (length U) (λ k. member_uses lock k || uses_one locks k)
       (uses_one (lock ∷ locks))
-      (λ k lt. sym (both_or (indexes_of members k) (uses (task_at U k) lock)
+      (λ k lt. sym (and-or_distrib_left (indexes_of members k) (uses (task_at U k) lock)
       (list_any (λ l. uses (task_at U k) l) locks)))
 
   pub reached : (s : CriticalSection)

@@ -22,7 +22,7 @@ pub record IsTableOfFirst (U : List Task) (n : ℕ) (table : Table) : Type 0 whe
   pub users : (lock : List ℕ) (k : ℕ)
       → indexes_of (users_in table lock) k ≡ (nat_lt k n && uses (task_at U k) lock)
 
-nothing_below : (k : ℕ) (p : Bool) → false ≡ (nat_lt k 0 && p)
+pub nothing_below : (k : ℕ) (p : Bool) → false ≡ (nat_lt k 0 && p)
 nothing_below k p = grind (arith, nat_tests)
 
 pub none_noted : (U : List Task) → IsTableOfFirst U 0 []

@@ -1,7 +1,7 @@
 -- The responses of an order, each with its parts.
 use Rattle.std.proofs.Common.{◌≡◌, ℕ, ◌<◌, ◌≤◌, List}
-use Rattle.std.proofs.Common.{[], ◌∷◌, ◌++◌, length, All, append_assoc, sym}
-use Rattle.std.proofs.Common.{◌∙◌, ap, subst, arith}
+use Rattle.std.proofs.Common.{[], ◌∷◌, length, All, sym}
+use Rattle.std.proofs.Common.{subst, arith}
 use Rattle.std.proofs.lemmas.Bool.{ltb-true}
 use Rattle.std.proofs.lemmas.List.Elements.{All-from_recursion}
 use Rattle.task_sheet.specs.Sheet.{Task, AllTasks}
@@ -15,8 +15,7 @@ use Rattle.task_sheet.proofs.PassingLaws.{IsResponseOf-one, Passes-iff_response}
 use Rattle.task_sheet.proofs.TaskLaws.{AllTasks-from_set}
 use Rattle.assignment.specs.Places.{PlaceData}
 use Rattle.assignment.specs.Placings.{tasks_of_places, AllRespond, IsBestPlacing}
-use Rattle.explain.specs.Accounts.{AreInTime, IsResponseAccount, AreResponseAccounts}
-use Rattle.explain.specs.declared.accounts.Account.{Account}
+use Rattle.explain.specs.Accounts.{AreInTime}
 
 -- each response of an order that passes is in time
 module _ (U : List Task) (valid : AllTasks U) where
@@ -59,17 +58,3 @@ best-in_time U places set best =
 pub tasks-within : (n m : ℕ) (tasks : List ℕ) → n ≤ m → All (λ k. k < n) tasks
     → All (λ k. k < m) tasks
 tasks-within n m tasks le all k d lt = omega (arith, le, all k d lt)
-
--- ---- one account after the other
-pub AreResponseAccounts-next : (U : List Task) (places rest after : List PlaceData) (p : PlaceData)
-    (before now : List Account) (a : Account) → rest ≡ p ∷ after → now ≡ before ++ a ∷ []
-    → IsResponseAccount U (tasks_of_places after) p a → ((accounts : List Account)
-    → AreResponseAccounts U rest accounts → AreResponseAccounts U places (before ++ accounts))
-    → (accounts : List Account) → AreResponseAccounts U after accounts
-    → AreResponseAccounts U places (now ++ accounts)
-AreResponseAccounts-next U places rest after p before now a split pushed is whole accounts are =
-    let one_more = whole (a ∷ accounts) (subst (λ (ps : List PlaceData). AreResponseAccounts U ps
-    (a ∷ accounts)) (sym split) (is, are)) in
-    subst (λ (all : List Account). AreResponseAccounts U places all)
-    (sym (ap (λ (some : List Account). some ++ accounts) pushed
-    ∙ append_assoc before (a ∷ []) accounts)) one_more

@@ -1,17 +1,16 @@
 -- The first of the sections that block longest.
-use Rattle.std.proofs.Common.{◌≡◌, ◌≢◌, ℕ, ◌+◌, ◌<◌, inl, inr, Bool, true, false, cond, ◌&&◌, List}
-use Rattle.std.proofs.Common.{[], ◌∷◌, length, slice_get, Some, None, refl, sym, ◌∙◌, ap, subst}
-use Rattle.std.proofs.Common.{arith}
+use Rattle.std.proofs.Common.{◌≡◌, ◌≢◌, ℕ, zero, suc, ◌+◌, ◌<◌, inl, inr, Bool, true, false, ◌&&◌}
+use Rattle.std.proofs.Common.{◌||◌, List, [], ◌∷◌, length, slice_get, Some, None, is_some, refl, sym}
+use Rattle.std.proofs.Common.{◌∙◌, ap, subst, arith}
 use Rattle.std.specs.List.{find, list_any}
-use Rattle.std.proofs.lemmas.Bool.{cases_Bool, cases_eq, both_ways, and_parts, and_from, or_cases}
-use Rattle.std.proofs.lemmas.Bool.{or_left, or_right}
-use Rattle.std.proofs.lemmas.Option.{none-some, same_Some, slice_get_within, slice_get-get_or}
+use Rattle.std.proofs.lemmas.Bool.{cases_Bool, cases_eq, both_ways, and_right}
+use Rattle.std.proofs.lemmas.Option.{same_Some, slice_get_within, slice_get-get_or}
 use Rattle.std.proofs.lemmas.Option.{get_or_from_slice_get}
 use Rattle.task_sheet.specs.Sheet.{CriticalSection, Task, task_at}
 use Rattle.task_sheet.specs.Indexes.{Indexes, with_index, some_below}
 use Rattle.task_sheet.specs.Locks.{uses, reaches}
 use Rattle.task_sheet.specs.Demand.{blocking_of, Blocks}
-use Rattle.task_sheet.proofs.Below.{some_below-at, some_below-witness}
+use Rattle.task_sheet.proofs.Below.{some_below-none}
 use Rattle.task_sheet.proofs.BlockingLaws.{blocking-above, blocking-some}
 use Rattle.explain.specs.Blocking.{BlockerData, has_user, reached_lock, BlocksAt, IsFirstBlocker}
 use Rattle.explain.specs.Blocking.{HasNoneBefore, IsFirstOf}
@@ -21,62 +20,39 @@ module _ (U : List Task) (X : Indexes) where
   abbrev reach : List (List ℕ) → Bool
   reach locks = some_below (length U) (λ k. X k && list_any (λ lock. uses (task_at U k) lock) locks)
 
-  reach-at : (locks : List (List ℕ)) (k : ℕ) → k < length U → X k ≡ true
-      → list_any (λ lock. uses (task_at U k) lock) locks ≡ true → reach locks ≡ true
-  reach-at locks k lt member used =
-      some_below-at (length U) (λ k. X k && list_any (λ lock. uses (task_at U k) lock) locks) k lt
-      (and_from _ _ member used)
+  -- one lock more: the tasks that use it, and those that use one of the others
+  reach-more : (lock : List ℕ) (locks : List (List ℕ)) (n : ℕ)
+      → some_below n (λ k. X k && list_any (λ l. uses (task_at U k) l) (lock ∷ locks))
+      ≡ (some_below n (λ k. X k && uses (task_at U k) lock)
+      || some_below n (λ k. X k && list_any (λ l. uses (task_at U k) l) locks))
+  reach-more lock locks zero = refl
+  reach-more lock locks (suc n) = rw (reach-more lock locks n) (split
+      (some_below n (λ k. X k && uses (task_at U k) lock))
+      (some_below n (λ k. X k && list_any (λ l. uses (task_at U k) l) locks)) (X n)
+      (uses (task_at U n) lock) (list_any (λ l. uses (task_at U n) l) locks))
+    where
+      split : (s r x u v : Bool) → ((s || r) || (x && (u || v))) ≡ ((s || (x && u)) || (r || (x && v)))
+      split true r x u v = refl
+      split false r false u v = refl
+      split false true true true v = refl
+      split false true true false v = refl
+      split false false true u v = refl
 
-  found-reach : (locks : List (List ℕ)) (lock : List ℕ) → find (has_user U X) locks ≡ Some lock
-      → reach locks ≡ true
-  found-reach [] lock found = absurd (none-some lock found)
-  found-reach (l ∷ locks) lock found = elim (cases_Bool (has_user U X l)) [
-    | inl used ↦
-        let at = some_below-witness (length U) (λ k. X k && uses (task_at U k) l) used in
-        let both = and_parts (X at.0) (uses (task_at U at.0) l) at.2 in
-        reach-at (l ∷ locks) at.0 at.1 both.0 (or_left _ _ both.1)
-    | inr unused ↦
-        let rest = found-reach locks lock
-        (sym (ap (λ b. cond b (Some l) (find (has_user U X) locks)) unused) ∙ found) in
-        let at = some_below-witness (length U)
-        (λ k. X k && list_any (λ lock. uses (task_at U k) lock) locks) rest in
-        let both = and_parts (X at.0) (list_any (λ lock. uses (task_at U at.0) lock) locks) at.2 in
-        reach-at (l ∷ locks) at.0 at.1 both.0 (or_right _ _ both.1)
-  ]
-
-  none-reach : (locks : List (List ℕ)) → find (has_user U X) locks ≡ None → ¬ (reach locks ≡ true)
-  none-reach [] none reached =
-      let at = some_below-witness (length U)
-      (λ k. X k && list_any (λ lock. uses (task_at U k) lock) []) reached in
-      both_ways false refl (and_parts (X at.0) false at.2).1
-  none-reach (l ∷ locks) none reached = elim (cases_Bool (has_user U X l)) [
-    | inl used ↦ none-some l (sym none ∙ ap (λ b. cond b (Some l) (find (has_user U X) locks)) used)
-    | inr unused ↦
-        let rest = none-reach locks
-        (sym (ap (λ b. cond b (Some l) (find (has_user U X) locks)) unused) ∙ none) in
-        let at = some_below-witness (length U)
-        (λ k. X k && list_any (λ lock. uses (task_at U k) lock) (l ∷ locks)) reached in
-        let both =
-        and_parts (X at.0) (list_any (λ lock. uses (task_at U at.0) lock) (l ∷ locks)) at.2 in
-        elim (or_cases _ _ both.1) [
-          | inl here ↦ both_ways (has_user U X l) unused (some_below-at (length U)
-              (λ k. X k && uses (task_at U k) l) at.0 at.1 (and_from _ _ both.0 here))
-          | inr later ↦ rest (reach-at locks at.0 at.1 both.0 later)
-        ]
+  reach-found : (locks : List (List ℕ)) → reach locks ≡ is_some (find (has_user U X) locks)
+  reach-found [] = some_below-none (length U) _ (λ k lt. and_right (X k) false refl)
+  reach-found (l ∷ locks) = reach-more l locks (length U) ∙ elim (cases_Bool (has_user U X l)) [
+    | inl used ↦ rw used refl
+    | inr unused ↦ rw unused (reach-found locks)
   ]
 
   pub lock-reaches : (s : CriticalSection) (lock : List ℕ) → reached_lock U X s ≡ Some lock
       → reaches U X s ≡ true
-  lock-reaches s lock found = found-reach s.locks lock found
+  lock-reaches s lock found = reach-found s.locks ∙ ap is_some found
 
   pub no_lock-reaches : (s : CriticalSection) → reached_lock U X s ≡ None → ¬ (reaches U X s ≡ true)
-  no_lock-reaches s none = none-reach s.locks none
+  no_lock-reaches s none = both_ways _ (reach-found s.locks ∙ ap is_some none)
 
 -- ---- the sections of a task, one after the other
-pub HasNoneBefore-start : (U : List Task) (X : Indexes) (task len : ℕ)
-    → HasNoneBefore U X task len 0
-HasNoneBefore-start U X task len = λ place s lt. absurd (omega arith)
-
 -- one more, which is shorter or isn't reached
 pub HasNoneBefore-more : (U : List Task) (X : Indexes) (task len place : ℕ) (s : CriticalSection)
     → HasNoneBefore U X task len place → slice_get (task_at U task).sections place ≡ Some s
@@ -153,7 +129,7 @@ first-blocks U i H owner b lt outside before is =
 none-blocks : (U : List Task) (i : ℕ) (H : Indexes)
     → NoneAmong U (with_index H i) (blocking_of U i H) (length U) → blocking_of U i H ≡ 0
 none-blocks U i H none = elim (blocking-some U i H) [
-  | inl zero ↦ zero
+  | inl nothing ↦ nothing
   | inr some ↦
       let s = some.0 in
       let b = some.1 in

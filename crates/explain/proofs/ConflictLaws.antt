@@ -98,21 +98,17 @@ IsThin-stays U S L n thin none = record {
   ];
 }
 
-pub IsThin-step : (U : List Task) (S L M : Indexes) (n : ℕ) → IsThin U S n L → IsGoneThrough U n L M
-    → IsThin U S (suc n) M
-IsThin-step U S L M n thin (inl replaced) = IsThin-replaced U S L M n thin replaced.1
-IsThin-step U S L M n thin (inr stays) =
-    subst (λ X. IsThin U S (suc n) X) (sym stays.1) (IsThin-stays U S L n thin stays.0)
-
-pub IsThin-start : (U : List Task) (S : Indexes) → IsObstruction U S → IsThin U S 0 S
-IsThin-start U S o =
-    record { obstruction = o; part = λ k h. h; spared = λ j lt. absurd (omega arith) }
-
 pub IsThin-left : (U : List Task) (S : Indexes) (n : ℕ) (M : Indexes) → IsObstruction U S
     → IsLeftOf U S n M → IsThin U S n M
-IsThin-left U S zero M o left = subst (λ X. IsThin U S 0 X) (sym left) (IsThin-start U S o)
+IsThin-left U S zero M o left = subst (λ X. IsThin U S 0 X) (sym left)
+    (record { obstruction = o; part = λ k h. h; spared = λ j lt. absurd (omega arith) })
 IsThin-left U S (suc n) M o left =
-    IsThin-step U S left.0 M n (IsThin-left U S n left.0 o left.1) left.2
+    let thin = IsThin-left U S n left.0 o left.1 in
+    elim left.2 [
+      | inl replaced ↦ IsThin-replaced U S left.0 M n thin replaced.1
+      | inr stays ↦ subst (λ X. IsThin U S (suc n) X) (sym stays.1)
+          (IsThin-stays U S left.0 n thin stays.0)
+    ]
 
 pub IsThin-least : (U : List Task) (S M : Indexes) → IsThin U S (length U) M → IsLeastConflict U M
 IsThin-least U S M thin = record {

@@ -3,14 +3,14 @@ use Rattle.std.proofs.Common.{◌≡◌, ◌<◌, None, List, [], ◌∷◌, len
 use Rattle.std.specs.List.{All, insert, remove}
 use Rattle.std.specs.List.Sorted.{IsStrictlySortedBy}
 use Rattle.std.proofs.lemmas.List.Elements.{All-from_recursion, recursion_from_All}
-use Rattle.std.proofs.lemmas.List.Sorted.{IsPermutation-refl}
 use Rattle.task_sheet.specs.Sheet.{Task, AreInterrupts, IsValidSheet, interrupted}
 use Rattle.task_sheet.specs.Rank.{rank_cmp, IsByRank}
 use Rattle.task_sheet.specs.TaskSet.{same_name, AreDistinct, IsTaskSet}
 use Rattle.task_sheet.specs.SheetsFault.{sheets_fault}
 use Rattle.task_sheet.specs.declared.node.Interrupt.{Interrupt}
-use Rattle.task_sheet.proofs.SetLaws.{by_rank_one, no_fault}
+use Rattle.task_sheet.proofs.SetLaws.{no_fault}
 use Rattle.overheads.specs.Padding.{charged}
+use Rattle.overheads.proofs.MappedSets.{IsByRank-is}
 use Rattle.overheads.proofs.PaddedTasks.{valid-other}
 
 pub count-charged : (U : List Task) (xs : List Interrupt) → length (charged xs U) ≡ length U
@@ -52,13 +52,7 @@ set-charged U xs set limits = record {
 pub IsByRank-charged : (U V : List Task) (xs : List Interrupt) → IsTaskSet U
     → IsByRank (charged xs U) V → V ≡ charged xs U
 IsByRank-charged U V xs set by_rank =
-    let sheets = charged xs U in
-    let own : IsByRank sheets sheets = record {
-      permutation = IsPermutation-refl sheets;
-      ranked =
-          ranked-charged U xs set.ranked;
-    } in
-    by_rank_one sheets sheets V sheets (IsPermutation-refl sheets) by_rank own
+    IsByRank-is (charged xs U) V (ranked-charged U xs set.ranked) by_rank
 
 -- the sheets are no fault
 pub no_fault-charged : (U : List Task) (xs : List Interrupt) → IsTaskSet U

@@ -12,6 +12,13 @@ use Rattle.task_sheet.specs.TaskSet.{same_name, AreDistinct, IsTaskSet}
 use Rattle.task_sheet.specs.SheetsFault.{sheets_fault}
 use Rattle.task_sheet.proofs.SetLaws.{by_rank_one, no_fault}
 
+-- sheets that stand by rank are what they are by rank
+pub IsByRank-is : (sheets V : List Task) → IsStrictlySortedBy rank_cmp sheets → IsByRank sheets V
+    → V ≡ sheets
+IsByRank-is sheets V ranked by_rank =
+    let own = IsPermutation-refl sheets in
+    by_rank_one sheets sheets V sheets own by_rank (record { permutation = own; ranked = ranked })
+
 -- tasks keep their ranks and names
 pub record KeepsRanks (g : Task → Task) : Type 0 where
   pub ranks : (x y : Task) → rank_cmp (g x) (g y) ≡ rank_cmp x y
@@ -52,13 +59,7 @@ module _ (g : Task → Task) where
     )
 
     pub IsByRank-mapped : (U V : List Task) → IsTaskSet U → IsByRank (map g U) V → V ≡ map g U
-    IsByRank-mapped U V set by_rank =
-        let sheets = map g U in
-        let own : IsByRank sheets sheets = record {
-          permutation = IsPermutation-refl sheets;
-          ranked = ranked-mapped U set.ranked;
-        } in
-        by_rank_one sheets sheets V sheets (IsPermutation-refl sheets) by_rank own
+    IsByRank-mapped U V set by_rank = IsByRank-is (map g U) V (ranked-mapped U set.ranked) by_rank
 
     distinct-mapped : (U : List Task) → AreDistinct same_name U → AreDistinct same_name (map g U)
     distinct-mapped [] h = tt

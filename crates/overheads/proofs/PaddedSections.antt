@@ -3,20 +3,13 @@ use Rattle.std.proofs.Common.{◌≡◌, ℕ, zero, suc, ◌+◌, ◌-◌, ◌<�
 use Rattle.std.proofs.Common.{get_or, take, refl, sym, ◌∙◌, ap, subst, arith}
 use Rattle.std.proofs.Math.Nat.{mul-le-mul_right, zero-mul}
 use Rattle.std.proofs.lemmas.List.{take_more}
-use Rattle.std.proofs.lemmas.List.Sums.{sum_by-cons, sum_by_more, sum_by_more_le}
+use Rattle.std.proofs.lemmas.List.Sums.{sum_by-cons, sum_by_more_le}
 use Rattle.task_sheet.specs.Sheet.{CriticalSection, Task, AreSections, IsValidSheet, no_overhead}
 use Rattle.task_sheet.specs.Overheads.{calls, calls_in}
 use Rattle.task_sheet.specs.declared.node.Node.{Node}
 use Rattle.overheads.specs.Padding.{padded_section, padded_sections, padded_cost}
 
 -- ---- the calls
-pub calls-more : (node : Node) (xs : List CriticalSection) (i : ℕ) (x : CriticalSection)
-    → i < length xs → x ≡ get_or xs i x
-    → calls_in node (take (i + 1) xs) ≡ calls_in node (take i xs) + calls node x
-calls-more node xs i x lt is =
-    sum_by_more (calls node) xs i x lt
-    ∙ ap (λ (y : CriticalSection). calls_in node (take i xs) + calls node y) (sym is)
-
 pub calls-within : (node : Node) (xs : List CriticalSection) (i : ℕ) (x : CriticalSection)
     → i < length xs → x ≡ get_or xs i x
     → calls_in node (take i xs) + calls node x ≤ calls_in node xs
@@ -79,8 +72,7 @@ section-none : (before : ℕ) (x : CriticalSection) → before ≡ 0
 section-none before x none =
     let at : x.at + before ≡ x.at = omega (arith, none) in
     let len : x.len + calls no_overhead x ≡ x.len = omega (arith, calls-none x) in
-    ap (λ a. record x { at = a; len = x.len + calls no_overhead x }) at
-    ∙ ap (λ n. record x { len = n }) len
+    λ i. record x { at = at i; len = len i }
 
 pub sections-none : (before : ℕ) (xs : List CriticalSection) → before ≡ 0
     → padded_sections no_overhead before xs ≡ xs

@@ -1,20 +1,18 @@
 -- A set with what the node takes has the same ranks, and is a set where there is room for it.
-use Rattle.std.proofs.Common.{◌≡◌, ℕ, ◌+◌, ◌<◌, ◌≤◌, Option, Some, None, IfSome, List, [], ◌∷◌}
-use Rattle.std.proofs.Common.{◌++◌, length, get_or, take, drop, refl, sym, ◌∙◌, ap, arith, map}
+use Rattle.std.proofs.Common.{◌≡◌, ℕ, ◌<◌, ◌≤◌, Option, Some, None, IfSome, List, [], ◌∷◌}
+use Rattle.std.proofs.Common.{length, refl, ◌∙◌, ap, arith}
 use Rattle.std.specs.List.{AllByRecursion}
 use Rattle.std.specs.Option.{option_or}
-use Rattle.std.proofs.lemmas.List.{drop_more}
 use Rattle.std.proofs.lemmas.List.Elements.{All-from_recursion, recursion_from_All}
 use Rattle.task_sheet.specs.Sheet.{Task, AreOverheads, IsValidSheet, no_overhead, no_task, task_at}
 use Rattle.task_sheet.specs.Rank.{IsByRank}
 use Rattle.task_sheet.specs.TaskSet.{IsTaskSet}
-use Rattle.task_sheet.specs.SheetsFault.{sheets_fault}
 use Rattle.task_sheet.specs.declared.node.Node.{Node}
 use Rattle.overheads.specs.Padding.{padded_task, padded, task_fault, padding_fault, padded_by}
 use Rattle.overheads.specs.Padding.{fault_by, IsUnpadded, IsLighter}
 use Rattle.overheads.specs.declared.padding.PadFault.{PadFault}
 use Rattle.overheads.proofs.MappedSets.{KeepsRanks, count-mapped, mapped-at, mapped-past}
-use Rattle.overheads.proofs.MappedSets.{mapped-more, IsByRank-mapped, no_fault-mapped, set-mapped}
+use Rattle.overheads.proofs.MappedSets.{IsByRank-mapped, set-mapped}
 use Rattle.overheads.proofs.PaddedTasks.{room_of, valid-padded, room-lighter, task-none, room-none}
 
 -- ---- ranks
@@ -28,10 +26,6 @@ module _ (node : Node) where
   pub IsByRank-padded : (U V : List Task) → IsTaskSet U → IsByRank (padded node U) V
       → V ≡ padded node U
   IsByRank-padded U V set by_rank = IsByRank-mapped (padded_task node) keeps-padded U V set by_rank
-
-  -- the sheets are no fault
-  pub no_fault-padded : (U : List Task) → IsTaskSet U → sheets_fault (padded node U) ≡ None
-  no_fault-padded U set = no_fault-mapped (padded_task node) keeps-padded U set
 
   -- the task at an index
   pub padded-at : (U : List Task) (k : ℕ) → k < length U
@@ -97,24 +91,3 @@ fault-none U set = room-each U (recursion_from_All IsValidSheet U set.valid)
 pub lightest : (node : Node) → IsLighter no_overhead node
 lightest node =
     record { job = omega arith; lock = omega arith; release = omega arith; late = omega arith }
-
--- ---- one sheet more
-pub padded-more : (node : Node) (U xs ys : List Task) (i : ℕ) (x y : Task) → i < length U
-    → x ≡ get_or U i x → y ≡ padded_task node x → xs ≡ map (padded_task node) (take i U)
-    → ys ≡ xs ++ y ∷ [] → ys ≡ map (padded_task node) (take (i + 1) U)
-padded-more node U xs ys i x y lt is pads before pushed =
-    mapped-more (padded_task node) U xs ys i x y lt is pads before pushed
-
-pub fault-step : (node : Node) (U : List Task) (i : ℕ) (x : Task) → i < length U → x ≡ get_or U i x
-    → task_fault node x ≡ None → padding_fault node (drop i U) ≡ padding_fault node (drop (i + 1) U)
-fault-step node U i x lt is none =
-    ap (padding_fault node) (drop_more U i x lt)
-    ∙ ap (λ (o : Option PadFault). option_or o (padding_fault node (drop (i + 1) U)))
-    (ap (task_fault node) (sym is) ∙ none)
-
-pub fault-here : (node : Node) (U : List Task) (i : ℕ) (x : Task) (e : PadFault) → i < length U
-    → x ≡ get_or U i x → task_fault node x ≡ Some e → padding_fault node (drop i U) ≡ Some e
-fault-here node U i x e lt is fails =
-    ap (padding_fault node) (drop_more U i x lt)
-    ∙ ap (λ (o : Option PadFault). option_or o (padding_fault node (drop (i + 1) U)))
-    (ap (task_fault node) (sym is) ∙ fails)

@@ -1,6 +1,6 @@
 -- Tasks with what the node takes: valid where there is room for it, and as they were where it takes nothing.
 use Rattle.std.proofs.Common.{◌≡◌, ℕ, zero, suc, ◌+◌, ◌-◌, ◌*◌, ◌<◌, ◌≤◌, min, inl, inr, nat_lt}
-use Rattle.std.proofs.Common.{List, Some, None, refl, sym, ◌∙◌, ap, arith}
+use Rattle.std.proofs.Common.{List, Some, None, refl, sym, arith}
 use Rattle.std.proofs.Math.Nat.{mul-le-mul_left}
 use Rattle.std.proofs.lemmas.Bool.{cases_Bool, ltb-false, ltb-true, le-ltb, lt-ltb}
 use Rattle.task_sheet.specs.Sheet.{CriticalSection, Task, AreInterrupts, AreOverheads, IsValidSheet}
@@ -39,18 +39,6 @@ faultless node t cost jitter = rw (
   le-ltb t.period (whole_cost node t) cost,
   lt-ltb
       (t.jitter + node.late) t.deadline jitter,
-) refl
-
-pub past_period : (node : Node) (t : Task) → t.period < whole_cost node t
-    → task_fault node t ≡ Some (CostPastPeriod t.name)
-past_period node t past = rw (lt-ltb t.period (whole_cost node t) past) refl
-
-pub past_deadline : (node : Node) (t : Task) → whole_cost node t ≤ t.period
-    → t.deadline ≤ t.jitter + node.late → task_fault node t ≡ Some (JitterPastDeadline t.name)
-past_deadline node t cost late = rw (
-  le-ltb t.period (whole_cost node t) cost,
-  le-ltb
-      (t.jitter + node.late) t.deadline late,
 ) refl
 
 -- the timer comes to what the padded cost is short of
@@ -145,21 +133,12 @@ cost-none t = omega (arith, calls_in-none t.sections)
 pub task-none : (t : Task) → t.node ≡ no_overhead → padded_task no_overhead t ≡ t
 task-none t none =
     let jitter : t.jitter + 0 ≡ t.jitter = omega arith in
-    ap (λ n. record t {
-      cost = n;
-      sections = padded_sections no_overhead 0 t.sections;
-      jitter =
-          t.jitter + 0;
-      node = no_overhead;
-    }) (cost-none t)
-    ∙ ap (λ (ss : List CriticalSection). record t {
-      sections = ss;
-      jitter = t.jitter + 0;
-      node =
-          no_overhead;
-    }) (sections-none 0 t.sections refl)
-    ∙ ap (λ n. record t { jitter = n; node = no_overhead }) jitter
-    ∙ ap (λ (n : Node). record t { node = n }) (sym none)
+    λ i. record t {
+      cost = cost-none t i;
+      sections = sections-none 0 t.sections refl i;
+      jitter = jitter i;
+      node = sym none i;
+    }
 
 pub room-none : (t : Task) → IsValidSheet t → task_fault no_overhead t ≡ None
 room-none t valid = faultless no_overhead t (omega (arith, calls_in-none t.sections, valid.cost_to))

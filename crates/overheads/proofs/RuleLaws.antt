@@ -11,6 +11,7 @@ use Rattle.task_sheet.specs.Sheet.{Task, no_task, task_at}
 use Rattle.task_sheet.specs.Indexes.{Indexes, sum_below}
 use Rattle.task_sheet.specs.Demand.{releases_within, interrupt_within, interference_of}
 use Rattle.task_sheet.specs.Demand.{interrupts_of, interrupts_within, demand_of}
+use Rattle.task_sheet.proofs.Below.{sum_below-both, sum_below-fits}
 use Rattle.task_sheet.proofs.TaskLaws.{valid_at}
 use Rattle.overheads.specs.Padding.{padded_cost, whole_cost, padded_task, padded, charged}
 use Rattle.overheads.specs.Rule.{taken_of, demand_by_rule, IsRuled}
@@ -44,14 +45,6 @@ sum_below-one (suc n) f g i c lt here others = elim (cases_eq n i) [
         (omega (arith, lt, ne)) here (λ k below. others k (omega arith)),
   )
 ]
-
-sum_below-two : (n : ℕ) (f g : ℕ → ℕ) → sum_below n (λ k. f k + g k) ≡ sum_below n f + sum_below n g
-sum_below-two zero f g = refl
-sum_below-two (suc n) f g = omega (arith, sum_below-two n f g)
-
-sum_below-none : (n : ℕ) → sum_below n (λ k. 0) ≡ 0
-sum_below-none zero = refl
-sum_below-none (suc n) = omega (arith, sum_below-none n)
 
 -- the interrupts on the account of a task, by its index
 abbrev account : List Interrupt → ℕ → List Interrupt
@@ -158,7 +151,7 @@ module _ (node : Node) (xs : List Interrupt) (U : List Task) (i : ℕ) (H : Inde
   -- the interrupts are on one account
   charges : sum_below (length U) own ≡ sum_by (interrupt_within t) xs
   charges =
-      let none = sum_below-none (length U) in
+      let none = sum_below-fits (length U) 0 (λ k. 0) (λ k lt. omega arith) in
       let first : 0 < length U = omega (arith, ruled.inside) in
       omega (
         arith,
@@ -179,7 +172,7 @@ module _ (node : Node) (xs : List Interrupt) (U : List Task) (i : ℕ) (H : Inde
       let jobs =
       ap (λ n. sum_below n (λ k. cond (H k) (interference_of (task_at V k) t) 0)) count in
       let taken = ap (λ n. sum_below n (λ k. interrupts_of t (task_at V k))) count in
-      let both = sum_below-two (length U) (λ k. cond (H k) (interference_of (task_at V k) t) 0)
+      let both = sum_below-both (length U) (λ k. cond (H k) (interference_of (task_at V k) t) 0)
       (λ k. interrupts_of t (task_at V k)) in
       let all = sum_below-one (length U) takes (λ k. rules k + own k) i node.release ruled.inside
       itself other in
@@ -190,7 +183,7 @@ module _ (node : Node) (xs : List Interrupt) (U : List Task) (i : ℕ) (H : Inde
         taken,
         both,
         all,
-        sum_below-two (length U) rules own,
+        sum_below-both (length U) rules own,
         charges,
         whole i,
       )

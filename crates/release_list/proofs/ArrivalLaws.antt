@@ -1,9 +1,9 @@
 -- The arrivals of one stream.
 use Rattle.std.proofs.Common.{◌≡◌, ℕ, ◌+◌, ◌-◌, ◌*◌, ◌/◌, ◌%◌, ◌<◌, ◌≤◌, inl, inr, true, false}
-use Rattle.std.proofs.Common.{◌==◌, nat_le, sym, ◌∙◌, ap, arith}
+use Rattle.std.proofs.Common.{◌==◌, nat_le, refl, sym, ◌∙◌, ap, arith}
 use Rattle.std.proofs.Math.Nat.{mul-le-mul_left, mul-mod_left, div-add-mod}
-use Rattle.std.proofs.lemmas.Bool.{and_parts, and_from, and_left, and_right, cases_eq, cases_lt}
-use Rattle.std.proofs.lemmas.Bool.{leb-true, le-leb, lt-leb, eqb-true, eq-eqb, ne_eqb}
+use Rattle.std.proofs.lemmas.Bool.{and_parts, and_from, and_right, cases_eq, cases_lt}
+use Rattle.std.proofs.lemmas.Bool.{leb-true, le-leb, eqb-true, eq-eqb, ne_eqb}
 use Rattle.release_list.specs.declared.stream.Stream.{Stream}
 use Rattle.release_list.specs.Streams.{arrives, arrival_of}
 
@@ -49,12 +49,7 @@ arrives_from time t a =
     and_from (nat_le (t.first) time) (((time - t.first) % t.period) == 0)
     (le-leb (t.first) time a.from) (eq-eqb ((time - t.first) % t.period) 0 a.whole)
 
--- before the first none arrives
-pub none_early : (time u : ℕ) (t : Stream) → u < t.first → arrives u t ≡ false
-none_early time u t lt =
-    and_left (nat_le (t.first) u) (((u - t.first) % t.period) == 0) (lt-leb (t.first) u lt)
-
--- nor between a time and what the next multiple is
+-- between a time and what the next multiple is none arrives
 pub none_between : (time u : ℕ) (t : Stream) → 0 < t.period → t.first ≤ time → time < u
     → u < time + (t.period - (time - t.first) % t.period) → arrives u t ≡ false
 none_between time u t some from less more =
@@ -72,39 +67,32 @@ arrivals_apart a b t some less x y =
     omega (arith, x.from, y.from)
 
 -- ---- the number of an arrival
+-- the first has the number 0
+first_is : (first period k time : ℕ) → 0 < period → time ≡ first + k * period
+    → (time == first) ≡ (k == 0)
+first_is first period k time some is = elim (cases_eq k 0) [
+  | inl none ↦
+      let nothing : k * period ≡ 0 * period = ap (λ x. x * period) none in
+      eq-eqb time first (omega arith) ∙ sym (eq-eqb k 0 none)
+  | inr later ↦
+      let more : period * 1 ≤ period * k = mul-le-mul_left period (omega arith) in
+      let ne : time ≡ first → ⊥ = λ same. omega arith in
+      ne_eqb time first ne ∙ sym (ne_eqb k 0 later)
+]
+
 pub number_of : (time : ℕ) (t : Stream) → 0 < t.period → IsArrival time t → (k : ℕ)
     × (time ≡ arrival_of t k) × ((time == t.first) ≡ (k == 0))
 number_of time t some a =
     let d : ℕ = time - t.first in
     let e : t.period * (d / t.period) + d % t.period ≡ d = div-add-mod d t.period in
     let w : d % t.period ≡ 0 = a.whole in
-    let is : time ≡ t.first + (d / t.period) * t.period = omega (arith, a.from) in (
-      d / t.period,
-      is,
-      elim (cases_eq (d / t.period) 0) [
-        | inl first ↦
-            let none : (d / t.period) * t.period ≡ 0 * t.period = ap (λ x. x * t.period) first in
-            eq-eqb time (t.first) (omega arith) ∙ sym (eq-eqb (d / t.period) 0 first)
-        | inr later ↦
-            let more : t.period * 1 ≤ t.period * (d / t.period) =
-            mul-le-mul_left t.period (omega arith) in
-            let ne : time ≡ t.first → ⊥ = λ same. omega arith in
-            ne_eqb time (t.first) ne ∙ sym (ne_eqb (d / t.period) 0 later)
-      ],
-    )
+    let is : time ≡ t.first + (d / t.period) * t.period = omega (arith, a.from) in
+    (d / t.period, is, first_is t.first t.period (d / t.period) time some is)
 
 pub numbered : (t : Stream) (k : ℕ) → 0 < t.period → IsArrival (arrival_of t k) t
     × ((arrival_of t k == t.first) ≡ (k == 0))
 numbered t k some =
     let back : arrival_of t k - t.first ≡ k * t.period = omega arith in (
       record { from = omega arith; whole = ap (λ x. x % t.period) back ∙ mul-mod_left k t.period },
-      elim (cases_eq k 0) [
-        | inl first ↦
-            let none : k * t.period ≡ 0 * t.period = ap (λ x. x * t.period) first in
-            eq-eqb (arrival_of t k) (t.first) (omega arith) ∙ sym (eq-eqb k 0 first)
-        | inr later ↦
-            let more : t.period * 1 ≤ t.period * k = mul-le-mul_left t.period (omega arith) in
-            let ne : arrival_of t k ≡ t.first → ⊥ = λ same. omega arith in
-            ne_eqb (arrival_of t k) (t.first) ne ∙ sym (ne_eqb k 0 later)
-      ],
+      first_is t.first t.period k (arrival_of t k) some refl,
     )

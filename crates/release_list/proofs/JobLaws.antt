@@ -1,5 +1,5 @@
 -- What the list of some streams holds, and in which order.
-use Rattle.std.proofs.Common.{◌≡◌, ℕ, zero, suc, ◌+◌, ◌-◌, ◌<◌, ◌≤◌, ◌⊎◌, inl, inr, Bool, true}
+use Rattle.std.proofs.Common.{◌≡◌, ℕ, zero, suc, ◌+◌, ◌-◌, ◌<◌, ◌≤◌, ◌⊎◌, inl, inr, Bool, true, subst₂}
 use Rattle.std.proofs.Common.{nat_lt, None, List, ◌++◌, length, sym, ◌∙◌, ap, ap₂, subst}
 use Rattle.std.proofs.Common.{if◌then◌else◌, arith}
 use Rattle.std.proofs.Math.ListN.{get_or-append}
@@ -14,7 +14,6 @@ use Rattle.release_list.specs.Streams.{is_listed, releases_at, releases_before, 
 use Rattle.release_list.specs.Streams.{job_release}
 use Rattle.release_list.proofs.ArrivalLaws.{IsArrival, arrival, arrives_from, number_of, numbered}
 use Rattle.release_list.proofs.ListLaws.{Comes, comes_from, come_in_order, all_come}
-use Rattle.release_list.proofs.TimeLaws.{before_start, before_step}
 
 -- a release is that of a listed job of the stream at a place
 pub record IsOf (U : List Stream) (until : ℕ) (r : Release) (i : ℕ) : Type 0 where
@@ -68,16 +67,13 @@ IsBefore U until time r = (i : ℕ) × IsOf U until r i × (r.time < time)
 
 pub before_from : (U : List Stream) (until time n : ℕ) → n < length (releases_before U time until)
     → IsBefore U until time (release_at (releases_before U time until) n)
-before_from U until zero n lt = absurd (let e : length (releases_before U 0 until) ≡ 0 =
-    ap length (before_start U until) in omega arith)
+unfolding releases_before
+before_from U until zero n lt = absurd (omega arith)
 before_from U until (suc time) n lt =
     let xs : List Release = releases_before U time until in
     let ys : List Release = releases_at U time until in
-    let step : releases_before U (suc time) until ≡ xs ++ ys = before_step U time until in
-    let long : length (releases_before U (suc time) until) ≡ length xs + length ys = ap length step
-    ∙ length-append xs ys in
-    subst (λ rs. IsBefore U until (suc time) (release_at rs n)) (sym step) (elim (cases_lt n
-    (length xs)) as (λ _. IsBefore U until (suc time) (release_at (xs ++ ys) n)) [
+    let long = length-append xs ys in
+    elim (cases_lt n (length xs)) [
       | inl early ↦
           let b = before_from U until time n early in
           subst (λ r. IsBefore U until (suc time) r) (sym (front_at xs ys n early))
@@ -86,7 +82,7 @@ before_from U until (suc time) n lt =
           let a = at_from U until time (n - length xs) (omega arith) in
           subst (λ r. IsBefore U until (suc time) r) (sym (back_at xs ys n late))
           (a.0, a.1, omega (arith, a.2))
-    ])
+    ]
 
 -- of two releases the first comes before, in time or in the order of the streams
 abbrev InOrder : (U : List Stream) (until : ℕ) → Release → Release → Type 0
@@ -97,40 +93,30 @@ pub before_order : (U : List Stream) (until time m n : ℕ) → m < n
     → n < length (releases_before U time until)
     → InOrder U until (release_at (releases_before U time until) m)
     (release_at (releases_before U time until) n)
-before_order U until zero m n less lt = absurd (let e : length (releases_before U 0 until) ≡ 0 =
-    ap length (before_start U until) in omega arith)
+unfolding releases_before
+before_order U until zero m n less lt = absurd (omega arith)
 before_order U until (suc time) m n less lt =
     let xs : List Release = releases_before U time until in
     let ys : List Release = releases_at U time until in
-    let step : releases_before U (suc time) until ≡ xs ++ ys = before_step U time until in
-    let long : length (releases_before U (suc time) until) ≡ length xs + length ys = ap length step
-    ∙ length-append xs ys in
-    subst (λ rs. InOrder U until (release_at rs m) (release_at rs n)) (sym step) (elim (cases_lt n
-    (length xs)) as (λ _. InOrder U until (release_at (xs ++ ys) m) (release_at (xs ++ ys) n)) [
-      | inl early ↦
-          let b = before_order U until time m n less early in
-          subst (λ r. InOrder U until r (release_at (xs ++ ys) n))
-          (sym (front_at xs ys m (omega arith)))
-          (subst (λ r. InOrder U until (release_at xs m) r) (sym (front_at xs ys n early)) b)
-      | inr late ↦
-          subst (λ r. InOrder U until (release_at (xs ++ ys) m) r) (sym (back_at xs ys n late))
-          (elim (cases_lt m (length xs)) as
-          (λ _. InOrder U until (release_at (xs ++ ys) m) (release_at ys (n - length xs))) [
-            | inl first ↦
-                let b = before_from U until time m first in
-                let a = at_from U until time (n - length xs) (omega arith) in
-                subst (λ r. InOrder U until r (release_at ys (n - length xs)))
-                (sym (front_at xs ys m first))
-                (b.0, a.0, b.1, a.1, inl (omega (arith, b.2, a.2)))
-            | inr both ↦
-                let c = come_in_order (test U until time) (make U until time) no_stream no_release U
-                (m - length xs) (n - length xs) (omega arith) (omega arith) in
-                let a = of U until time (m - length xs) c.0 c.3 in
-                let b = of U until time (n - length xs) c.1 c.4 in
-                subst (λ r. InOrder U until r (release_at ys (n - length xs)))
-                (sym (back_at xs ys m both)) (c.0, c.1, a.0, b.0, inr (a.1 ∙ sym b.1, c.2))
-          ])
-    ])
+    let long = length-append xs ys in
+    elim (cases_lt n (length xs)) [
+      | inl early ↦ subst₂ (InOrder U until) (sym (front_at xs ys m (omega arith)))
+          (sym (front_at xs ys n early)) (before_order U until time m n less early)
+      | inr late ↦ elim (cases_lt m (length xs)) [
+        | inl first ↦
+            let b = before_from U until time m first in
+            let a = at_from U until time (n - length xs) (omega arith) in
+            subst₂ (InOrder U until) (sym (front_at xs ys m first)) (sym (back_at xs ys n late))
+            (b.0, a.0, b.1, a.1, inl (omega (arith, b.2, a.2)))
+        | inr both ↦
+            let c = come_in_order (test U until time) (make U until time) no_stream no_release U
+            (m - length xs) (n - length xs) (omega arith) (omega arith) in
+            let a = of U until time (m - length xs) c.0 c.3 in
+            let b = of U until time (n - length xs) c.1 c.4 in
+            subst₂ (InOrder U until) (sym (back_at xs ys m both)) (sym (back_at xs ys n late))
+            (c.0, c.1, a.0, b.0, inr (a.1 ∙ sym b.1, c.2))
+      ]
+    ]
 
 -- ---- each job that is listed is there
 abbrev pub IsIn : List Release → Release → Type 0
@@ -139,14 +125,13 @@ IsIn rs r = (n : ℕ) × (n < length rs) × (release_at rs n ≡ r)
 pub before_all : (U : List Stream) (until bound time i : ℕ) → time < bound → i < length U
     → is_listed time until (stream_at U i) ≡ true
     → IsIn (releases_before U bound until) (release_of time (stream_at U i))
+unfolding releases_before
 before_all U until zero time i less lt on = absurd (omega arith)
 before_all U until (suc bound) time i less lt on =
     let xs : List Release = releases_before U bound until in
     let ys : List Release = releases_at U bound until in
-    let step : releases_before U (suc bound) until ≡ xs ++ ys = before_step U bound until in
-    let long : length (xs ++ ys) ≡ length xs + length ys = length-append xs ys in
-    subst (λ rs. IsIn rs (release_of time (stream_at U i))) (sym step)
-    (elim (cases_eq time bound) as (λ _. IsIn (xs ++ ys) (release_of time (stream_at U i))) [
+    let long = length-append xs ys in
+    elim (cases_eq time bound) [
       | inl same ↦
           let on' : is_listed bound until (stream_at U i) ≡ true =
           subst (λ t. is_listed t until (stream_at U i) ≡ true) same on in
@@ -160,7 +145,7 @@ before_all U until (suc bound) time i less lt on =
       | inr other ↦
           let b = before_all U until bound time i (omega arith) lt on in
           (b.0, omega (arith, b.1), front_at xs ys b.0 b.1 ∙ b.2)
-    ])
+    ]
 
 -- ---- of streams with periods
 module _ (U : List Stream) (until : ℕ)

@@ -5,20 +5,12 @@ use Rattle.std.proofs.Common.{◌∙◌, ap, ap₂, subst, arith}
 use Rattle.std.specs.List.{filter}
 use Rattle.std.specs.List.Sorted.{ties}
 use Rattle.std.specs.Ordering.{is_lt, nat_cmp}
-use Rattle.std.proofs.lemmas.Bool.{cases_Bool, cases_eq, cases_order, eq-eqb, eqb-true, ne_eqb}
+use Rattle.std.proofs.lemmas.Bool.{cases_Bool, cases_eq, cases_lt, eq-eqb, eqb-true, ne_eqb}
 use Rattle.std.proofs.lemmas.Bool.{lt-ltb, le-ltb}
+use Rattle.std.proofs.lemmas.Bool.Decides.{nat_tests}
 use Rattle.ceiling_kernel.specs.declared.trace.Release.{Release}
 use Rattle.ceiling_kernel.specs.Releases.{no_release, release_at}
 use Rattle.release_list.specs.Random.{by_time}
-
-pub by_start : (rs : List Release) → by_time rs 0 ≡ []
-unfolding by_time
-by_start rs = refl
-
-pub by_step : (rs : List Release) (t : ℕ)
-    → by_time rs (suc t) ≡ by_time rs t ++ filter (λ r. r.time == t) rs
-unfolding by_time
-by_step rs t = refl
 
 -- ---- what stands in a list
 abbrev pub In : Release → List Release → Type 0
@@ -134,33 +126,33 @@ module _ (p : Release → Bool) where
   all_pass (z ∷ zs) h = kept z zs (h z (inl refl))
       ∙ ap (λ ys. z ∷ ys) (all_pass zs (λ x at. h x (inr at)))
 
-pub filter_same : (p q : Release → Bool) (xs : List Release) → ((x : Release) → p x ≡ q x)
-    → filter p xs ≡ filter q xs
+pub filter_same : (p q : Release → Bool) (xs : List Release)
+    → ((x : Release) → In x xs → p x ≡ q x) → filter p xs ≡ filter q xs
 filter_same p q [] h = refl
-filter_same p q (z ∷ zs) h = (let e : p z ≡ q z = h z in let ih : filter p zs ≡ filter q zs =
-    filter_same p q zs h in rw (e, ih) refl)
+filter_same p q (z ∷ zs) h =
+    rw (h z (inl refl), filter_same p q zs (λ x at. h x (inr at))) refl
 
 -- ---- a list by time
 pub in_by_time : (rs : List Release) (n : ℕ) (x : Release) → In x (by_time rs n) → In x rs
     × (x.time < n)
-in_by_time rs zero x h = absurd (subst (In x) (by_start rs) h)
-in_by_time rs (suc n) x h = elim (in_either x (by_time rs n) (filter (λ r. r.time == n) rs)
-    (subst (In x) (by_step rs n) h)) [
-      | inl before ↦
-          (let ih : In x rs × (x.time < n) = in_by_time rs n x before in
-          (ih.0, omega (arith, ih.1)))
-      | inr here ↦ (let f : In x rs × ((x.time == n) ≡ true) =
-          from_filter (λ r. r.time == n) x rs here in (f.0, omega (arith, eqb-true x.time n f.1)))
-    ]
+unfolding by_time
+in_by_time rs zero x h = absurd h
+in_by_time rs (suc n) x h = elim (in_either x (by_time rs n) (filter (λ r. r.time == n) rs) h) [
+  | inl before ↦ let ih = in_by_time rs n x before in (ih.0, omega (arith, ih.1))
+  | inr here ↦
+      let f = from_filter (λ r. r.time == n) x rs here in
+      (f.0, omega (arith, eqb-true x.time n f.1))
+]
 
 -- two releases of it stand as in the list where their times are one, and else by their times
 pairs_by_time : (P Q : Release → Release → Type 0) (rs : List Release) → Pairs P rs
     → ((x y : Release) → x.time ≡ y.time → P x y → Q x y)
     → ((x y : Release) → In x rs → In y rs → x.time < y.time → Q x y) → (n : ℕ)
     → Pairs Q (by_time rs n)
-pairs_by_time P Q rs h same less zero = subst (Pairs Q) (sym (by_start rs)) tt
-pairs_by_time P Q rs h same less (suc n) = subst (Pairs Q) (sym (by_step rs n))
-    (pairs_append Q (by_time rs n) (filter (λ r. r.time == n) rs)
+unfolding by_time
+pairs_by_time P Q rs h same less zero = tt
+pairs_by_time P Q rs h same less (suc n) =
+    pairs_append Q (by_time rs n) (filter (λ r. r.time == n) rs)
     (pairs_by_time P Q rs h same less n)
     (pairs_with P Q (filter (λ r. r.time == n) rs) (pairs_filter (λ r. r.time == n) P rs h)
     (λ x y a b p.
@@ -168,10 +160,10 @@ pairs_by_time P Q rs h same less (suc n) = subst (Pairs Q) (sym (by_step rs n))
     let ey : y.time ≡ n = eqb-true y.time n (from_filter (λ r. r.time == n) y rs b).1 in
     same x y (ex ∙ sym ey) p))
     (λ x y a b.
-    let fx : In x rs × (x.time < n) = in_by_time rs n x a in
-    let fy : In y rs × ((y.time == n) ≡ true) = from_filter (λ r. r.time == n) y rs b in
+    let fx = in_by_time rs n x a in
+    let fy = from_filter (λ r. r.time == n) y rs b in
     let ey : y.time ≡ n = eqb-true y.time n fy.1 in
-    less x y fx.0 fy.0 (omega (arith, fx.1))))
+    less x y fx.0 fy.0 (omega (arith, fx.1)))
 
 -- of two releases of one task the second comes a period later, by some number and some period of it
 module _ (number period : Release → ℕ) where
@@ -213,68 +205,46 @@ before_and_at : (ys : List Release) (n : ℕ) → Pairs Rises ys → filter (λ 
     ++ filter (λ r. r.time == n) ys ≡ filter (λ r. nat_lt r.time (suc n)) ys
 before_and_at [] n h = refl
 before_and_at (y ∷ ys) n h =
-    let ih : filter (λ r. nat_lt r.time n) ys ++ filter (λ r. r.time == n) ys
-    ≡ filter (λ r. nat_lt r.time (suc n)) ys = before_and_at ys n h.1 in
-    elim (cases_order y.time n) [
-      | inl same ↦
-          let a : nat_lt y.time n ≡ false = le-ltb y.time n (omega arith) in
-          let b : (y.time == n) ≡ true = eq-eqb y.time n same in
-          let c : nat_lt y.time (suc n) ≡ true = lt-ltb y.time (suc n) (omega arith) in
-          let none : filter (λ r. nat_lt r.time n) ys ≡ [] = none_pass (λ r. nat_lt r.time n) ys
-          (λ x at. le-ltb x.time n (omega (arith, h.0 x at))) in
-          rw (a, b, c) (ap (λ zs. zs ++ y ∷ filter (λ r. r.time == n) ys) none
-          ∙ ap (λ zs. y ∷ zs) (sym (ap (λ zs. zs ++ filter (λ r. r.time == n) ys) none) ∙ ih))
-      | inr differ ↦ elim differ [
-        | inl less ↦
-            let a : nat_lt y.time n ≡ true = lt-ltb y.time n less in
-            let b : (y.time == n) ≡ false = ne_eqb y.time n (λ e. omega arith) in
-            let c : nat_lt y.time (suc n) ≡ true = lt-ltb y.time (suc n) (omega arith) in
-            rw (a, b, c) (ap (λ zs. y ∷ zs) ih)
-        | inr more ↦
-            let a : nat_lt y.time n ≡ false = le-ltb y.time n (omega arith) in
-            let b : (y.time == n) ≡ false = ne_eqb y.time n (λ e. omega arith) in
-            let c : nat_lt y.time (suc n) ≡ false = le-ltb y.time (suc n) (omega arith) in
-            rw (a, b, c) ih
-      ]
+    elim (cases_lt y.time n) [
+      | inl less ↦
+          let here = ne_eqb y.time n (λ e. omega arith) in
+          rw (lt-ltb y.time n less, here, lt-ltb y.time (suc n) (omega arith))
+          (ap (λ zs. y ∷ zs) (before_and_at ys n h.1))
+      | inr from ↦
+          let all : (x : Release) → In x (y ∷ ys) → n ≤ x.time =
+          λ x at. elim at [
+            | inl e ↦ subst (λ r. n ≤ r.time) e from
+            | inr later ↦
+                omega (arith, h.0 x later)
+          ] in
+          ap (λ zs. zs ++ filter (λ r. r.time == n) (y ∷ ys))
+          (none_pass (λ r. nat_lt r.time n) (y ∷ ys) (λ x at. le-ltb x.time n (all x at)))
+          ∙ filter_same (λ r. r.time == n) (λ r. nat_lt r.time (suc n)) (y ∷ ys)
+          (λ x at. next_is x.time n (all x at))
     ]
+  where
+    next_is : (a n : ℕ) → n ≤ a → (a == n) ≡ nat_lt a (suc n)
+    next_is a n le = grind (arith, nat_tests)
 
 by_time_is : (ys : List Release) → Pairs Rises ys → (n : ℕ)
     → by_time ys n ≡ filter (λ r. nat_lt r.time n) ys
-by_time_is ys h zero = by_start ys
-    ∙ sym (none_pass (λ r. nat_lt r.time 0) ys (λ x at. le-ltb x.time 0 (omega arith)))
-by_time_is ys h (suc n) = by_step ys n
-    ∙ (ap (λ zs. zs ++ filter (λ r. r.time == n) ys) (by_time_is ys h n) ∙ before_and_at ys n h)
+unfolding by_time
+by_time_is ys h zero =
+    sym (none_pass (λ r. nat_lt r.time 0) ys (λ x at. le-ltb x.time 0 (omega arith)))
+by_time_is ys h (suc n) =
+    ap (λ zs. zs ++ filter (λ r. r.time == n) ys) (by_time_is ys h n) ∙ before_and_at ys n h
 
 by_time_same : (xs ys : List Release)
     → ((t : ℕ) → filter (λ r. r.time == t) ys ≡ filter (λ r. r.time == t) xs) → (n : ℕ)
     → by_time ys n ≡ by_time xs n
-by_time_same xs ys h zero = by_start ys ∙ sym (by_start xs)
-by_time_same xs ys h (suc n) = by_step ys n
-    ∙ (ap₂ (λ a b. a ++ b) (by_time_same xs ys h n) (h n) ∙ sym (by_step xs n))
+unfolding by_time
+by_time_same xs ys h zero = refl
+by_time_same xs ys h (suc n) = ap₂ (λ a b. a ++ b) (by_time_same xs ys h n) (h n)
 
 -- a tie is one time
-tie_is : (t : ℕ) (r : Release)
-    → (not (is_lt (nat_cmp t r.time)) && not (is_lt (nat_cmp r.time t))) ≡ (r.time == t)
-tie_is t r = elim (cases_order t r.time) [
-  | inl same ↦
-      let a : nat_lt t r.time ≡ false = le-ltb t r.time (omega arith) in
-      let b : nat_lt r.time t ≡ false = le-ltb r.time t (omega arith) in
-      let c : (r.time == t) ≡ true = eq-eqb r.time t (sym same) in
-      let d : (t == r.time) ≡ true = eq-eqb t r.time same in
-      rw (a, b, c, d) refl
-  | inr differ ↦ elim differ [
-    | inl less ↦
-        let a : nat_lt t r.time ≡ true = lt-ltb t r.time less in
-        let c : (r.time == t) ≡ false = ne_eqb r.time t (λ e. omega arith) in
-        rw (a, c) refl
-    | inr more ↦
-        let a : nat_lt t r.time ≡ false = le-ltb t r.time (omega arith) in
-        let b : nat_lt r.time t ≡ true = lt-ltb r.time t more in
-        let c : (r.time == t) ≡ false = ne_eqb r.time t (λ e. omega arith) in
-        let d : (t == r.time) ≡ false = ne_eqb t r.time (λ e. omega arith) in
-        rw (a, b, c, d) refl
-  ]
-]
+tie_is : (t time : ℕ)
+    → (not (is_lt (nat_cmp t time)) && not (is_lt (nat_cmp time t))) ≡ (time == t)
+tie_is t time = grind (arith, nat_tests)
 
 pub sorted_is : (xs ys : List Release) (until : ℕ) → ((x : Release) → In x xs → x.time < until)
     → Pairs Rises ys
@@ -285,9 +255,9 @@ sorted_is xs ys until small rises stable =
     let same : (t : ℕ) → filter (λ r. r.time == t) ys ≡ filter (λ r. r.time == t) xs = λ t.
     let x : Release = record { time = t; name = []; late = 0; runs = None } in
     sym (filter_same (ties (λ a b. is_lt (nat_cmp a.time b.time)) x) (λ r. r.time == t) ys
-    (tie_is t))
+    (λ r at. tie_is t r.time))
     ∙ (stable x ∙ filter_same (ties (λ a b. is_lt (nat_cmp a.time b.time)) x) (λ r. r.time == t) xs
-    (tie_is t)) in
+    (λ r at. tie_is t r.time)) in
     let within : (x : Release) → In x ys → nat_lt x.time until ≡ true = λ x at.
     let own : (x.time == x.time) ≡ true = eq-eqb x.time x.time refl in
     let there : In x (filter (λ r. r.time == x.time) xs) =
@@ -310,14 +280,14 @@ rises_from (y ∷ ys) h = (
 -- ---- a list by time holds all, by time, and those of one time in their order
 pub to_by_time : (rs : List Release) (n : ℕ) (x : Release) → In x rs → x.time < n
     → In x (by_time rs n)
+unfolding by_time
 to_by_time rs zero x at lt = absurd (omega arith)
-to_by_time rs (suc n) x at lt =
-    subst (In x) (sym (by_step rs n)) (elim (cases_eq x.time n) [
-      | inl here ↦ in_back x (by_time rs n) (filter (λ r. r.time == n) rs)
-          (to_filter (λ r. r.time == n) x rs at (eq-eqb x.time n here))
-      | inr other ↦ in_front x (by_time rs n) (filter (λ r. r.time == n) rs)
-          (to_by_time rs n x at (omega arith))
-    ])
+to_by_time rs (suc n) x at lt = elim (cases_eq x.time n) [
+  | inl here ↦ in_back x (by_time rs n) (filter (λ r. r.time == n) rs)
+      (to_filter (λ r. r.time == n) x rs at (eq-eqb x.time n here))
+  | inr other ↦ in_front x (by_time rs n) (filter (λ r. r.time == n) rs)
+      (to_by_time rs n x at (omega arith))
+]
 
 module _ (number : Release → ℕ) where
   -- by number, and those of one number by time

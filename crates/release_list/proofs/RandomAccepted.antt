@@ -1,6 +1,6 @@
 -- A kernel refuses no random list.
 use Rattle.std.proofs.Common.{◌≡◌, ℕ, zero, suc, ◌+◌, ◌<◌, ◌≤◌, inl, inr, false, ◌==◌, nat_lt, Some}
-use Rattle.std.proofs.Common.{None, List, length, refl, sym, ◌∙◌, ap, ap₂, subst, arith}
+use Rattle.std.proofs.Common.{None, List, length, refl, ◌∙◌, ap, ap₂, arith}
 use Rattle.std.specs.Prelude.{is_none, unwrap_or}
 use Rattle.std.proofs.lemmas.Bool.{cases_Bool, le-ltb, ne_eqb, or_from}
 use Rattle.task_sheet.specs.Sheet.{Task, IsValidSheet, no_task, task_at}
@@ -17,8 +17,8 @@ use Rattle.release_list.proofs.TaskNumbers.{found}
 use Rattle.release_list.proofs.Unrefused.{unrefused}
 use Rattle.release_list.proofs.OrderLaws.{Pairs, in_at, pairs_at, pairs_append, in_by_time, Spaced}
 use Rattle.release_list.proofs.OrderLaws.{InTime, in_time}
-use Rattle.release_list.proofs.RandomLaws.{drawn_below, in_within, within_spaced, rank_start}
-use Rattle.release_list.proofs.RandomLaws.{rank_step, IsDrawn, in_rank}
+use Rattle.release_list.proofs.RandomLaws.{drawn_below, in_within, within_spaced, IsDrawn}
+use Rattle.release_list.proofs.RandomLaws.{in_rank}
 
 -- for how long a job executes
 pub runs_within : (t : Task) (x : ℕ) → 0 < t.cost → (0 < unwrap_or (runs_after t x) t.cost)
@@ -57,10 +57,10 @@ module _ (U : List Task) (until seed : ℕ) (set : IsTaskSet U) where
 
   spaced_by_rank : (n : ℕ) → n ≤ length U
       → Pairs (Spaced number period) (jobs_by_rank U until seed n)
-  spaced_by_rank zero le = subst (Pairs (Spaced number period)) (sym (rank_start U until seed)) tt
+  unfolding jobs_by_rank
+  spaced_by_rank zero le = tt
   spaced_by_rank (suc n) le =
-      subst (Pairs (Spaced number period)) (sym (rank_step U until seed n))
-      (pairs_append (Spaced number period) (jobs_by_rank U until seed n) (jobs_within (task_at U n)
+      pairs_append (Spaced number period) (jobs_by_rank U until seed n) (jobs_within (task_at U n)
       (word_before seed n) until until) (spaced_by_rank n (omega arith))
       (within_spaced number period (task_at U n) (λ x k. ap (λ i. (task_at U i).period)
       (number_is n x k (omega arith))) (word_before seed n) until until)
@@ -71,7 +71,7 @@ module _ (U : List Task) (until seed : ℕ) (set : IsTaskSet U) where
       ∙ number_is before.0 (word_before seed before.0) before.2 (omega (arith, before.1)) in
       let ns : number s ≡ n = ap number here.2
       ∙ number_is n (word_before seed n) here.0 (omega arith) in
-      absurd (omega (arith, before.1))))
+      absurd (omega (arith, before.1)))
 
   ordered : Pairs (InTime number period) rs
   ordered =

@@ -1,9 +1,9 @@
 -- What the rule of random lists draws, and the jobs that come of it.
 use Rattle.std.proofs.Common.{◌≡◌, ℕ, zero, suc, ◌+◌, ◌-◌, ◌*◌, ◌/◌, ◌%◌, ◌^◌, ◌<◌, ◌≤◌, inl, inr}
-use Rattle.std.proofs.Common.{true, false, nat_lt, None, List, [], ◌∷◌, ◌++◌, length, refl, sym}
+use Rattle.std.proofs.Common.{false, nat_lt, None, List, [], ◌∷◌, ◌++◌, length, refl, sym}
 use Rattle.std.proofs.Common.{◌∙◌, ap, ap₂, subst, arith, append_assoc}
 use Rattle.std.proofs.Math.Nat.{mod-lt, mul-lt-mul_of_pos_right}
-use Rattle.std.proofs.lemmas.Bool.{cases_lt, cases_eq, le-ltb, lt-ltb, ltb-true, cases_Bool}
+use Rattle.std.proofs.lemmas.Bool.{cases_eq, le-ltb, ltb-true, cases_Bool}
 use Rattle.std.proofs.lemmas.List.{append-nil, length-append}
 use Rattle.task_sheet.specs.Sheet.{Task, task_at}
 use Rattle.ceiling_kernel.specs.declared.trace.Release.{Release}
@@ -13,7 +13,7 @@ use Rattle.ceiling_kernel.specs.Releases.{ready_of, refuse_if, IsRefusal}
 use Rattle.release_list.specs.Random.{word_after, word_before, drawn, late_after, runs_after}
 use Rattle.release_list.specs.Random.{third_after, gap_after, word_of, arrival_at, random_release}
 use Rattle.release_list.specs.Random.{if_ready, jobs_within, jobs_by_rank, all_jobs, random_refusal}
-use Rattle.release_list.proofs.TimeLaws.{nothing_else}
+use Rattle.release_list.proofs.TimeLaws.{refusal_grows}
 use Rattle.release_list.proofs.OrderLaws.{In, Pairs, in_either, pairs_append, Spaced}
 
 -- ---- words
@@ -41,26 +41,9 @@ drawn_below x b some =
     omega arith
 
 -- ---- arrivals
-pub word_start : (x : ℕ) → word_of x 0 ≡ word_after x
-unfolding word_of
-word_start x = refl
-
-pub word_step : (x k : ℕ) → word_of x (suc k) ≡ word_after (word_after (third_after (word_of x k)))
-unfolding word_of
-word_step x k = refl
-
-pub arrival_start : (t : Task) (x : ℕ) → arrival_at t x 0 ≡ drawn (word_after x) t.period
-unfolding arrival_at
-arrival_start t x = refl
-
-pub arrival_step : (t : Task) (x k : ℕ)
-    → arrival_at t x (suc k) ≡ arrival_at t x k + gap_after t (third_after (word_of x k))
-unfolding arrival_at
-arrival_step t x k = refl
-
 next_arrival : (t : Task) (x k : ℕ) → arrival_at t x k + t.period ≤ arrival_at t x (suc k)
-next_arrival t x k = (let e : arrival_at t x (suc k) ≡ arrival_at t x k + gap_after t
-    (third_after (word_of x k)) = arrival_step t x k in omega arith)
+unfolding arrival_at
+next_arrival t x k = omega arith
 
 pub arrivals_spaced : (t : Task) (x j k : ℕ) → j < k
     → arrival_at t x j + t.period ≤ arrival_at t x k
@@ -82,15 +65,6 @@ arrival_from t x (suc k) some =
     omega arith
 
 -- ---- the jobs of a task
-pub within_start : (t : Task) (x until : ℕ) → jobs_within t x until 0 ≡ []
-unfolding jobs_within
-within_start t x until = refl
-
-pub within_step : (t : Task) (x until n : ℕ) → jobs_within t x until (suc n)
-    ≡ jobs_within t x until n ++ if_ready until (random_release t x n)
-unfolding jobs_within
-within_step t x until n = refl
-
 pub not_ready : (until : ℕ) (r : Release) → until ≤ ready_of r → if_ready until r ≡ []
 not_ready until r late =
     (let f : nat_lt (ready_of r) until ≡ false = le-ltb (ready_of r) until late in rw f)
@@ -98,7 +72,10 @@ not_ready until r late =
 -- from the first that arrives at the end on, none is ready before it
 within_ends : (t : Task) (x until k d : ℕ) → 0 < t.period → until ≤ arrival_at t x k
     → jobs_within t x until (d + k) ≡ jobs_within t x until k
-within_ends t x until k zero some past = ap (jobs_within t x until) (omega arith)
+unfolding jobs_within
+within_ends t x until k zero some past =
+    let e : 0 + k ≡ k = omega arith in
+    ap (jobs_within t x until) e
 within_ends t x until k (suc d) some past =
     let one : suc d + k ≡ suc (d + k) = omega arith in
     let later : arrival_at t x k ≤ arrival_at t x (d + k) = elim (cases_eq d 0) [
@@ -110,8 +87,8 @@ within_ends t x until k (suc d) some past =
     let none : if_ready until (random_release t x (d + k)) ≡ [] =
     not_ready until (random_release t x (d + k)) (omega arith) in
     ap (jobs_within t x until) one
-    ∙ (within_step t x until (d + k) ∙ (ap (λ ys. jobs_within t x until (d + k) ++ ys) none
-    ∙ (append-nil (jobs_within t x until (d + k)) ∙ within_ends t x until k d some past)))
+    ∙ (ap (λ ys. jobs_within t x until (d + k) ++ ys) none
+    ∙ (append-nil (jobs_within t x until (d + k)) ∙ within_ends t x until k d some past))
 
 pub within_all : (t : Task) (x until k : ℕ) → 0 < t.period → k ≤ until → until ≤ arrival_at t x k
     → jobs_within t x until k ≡ jobs_within t x until until
@@ -137,8 +114,9 @@ longer list more step k (suc n) le =
 -- fewer jobs are no longer a list
 pub within_longer : (t : Task) (x until k n : ℕ) → k ≤ n
     → length (jobs_within t x until k) ≤ length (jobs_within t x until n)
-within_longer t x until = longer (jobs_within t x until)
-    (λ n. if_ready until (random_release t x n)) (within_step t x until)
+unfolding jobs_within
+within_longer t x until =
+    longer (jobs_within t x until) (λ n. if_ready until (random_release t x n)) (λ n. refl)
 
 -- what stands among them
 pub in_ready : (until : ℕ) (r x : Release) → In x (if_ready until r) → (r ≡ x)
@@ -151,9 +129,10 @@ in_ready until r x h = elim (cases_Bool (nat_lt (ready_of r) until)) [
 
 pub in_within : (t : Task) (x until n : ℕ) (r : Release) → In r (jobs_within t x until n) → (k : ℕ)
     × (k < n) × (r ≡ random_release t x k) × (ready_of r < until)
-in_within t x until zero r h = absurd (subst (In r) (within_start t x until) h)
+unfolding jobs_within
+in_within t x until zero r h = absurd h
 in_within t x until (suc n) r h = elim (in_either r (jobs_within t x until n)
-    (if_ready until (random_release t x n)) (subst (In r) (within_step t x until n) h)) [
+    (if_ready until (random_release t x n)) h) [
       | inl before ↦
           (let ih = in_within t x until n r before in (ih.0, omega (arith, ih.1), ih.2, ih.3))
       | inr here ↦ (let i : (random_release t x n ≡ r) × (ready_of (random_release t x n) < until) =
@@ -165,11 +144,10 @@ in_within t x until (suc n) r h = elim (in_either r (jobs_within t x until n)
 pub within_spaced : (number period : Release → ℕ) (t : Task)
     → ((x k : ℕ) → period (random_release t x k) ≡ t.period) → (x until n : ℕ)
     → Pairs (Spaced number period) (jobs_within t x until n)
-within_spaced number period t own x until zero =
-    subst (Pairs (Spaced number period)) (sym (within_start t x until)) tt
+unfolding jobs_within
+within_spaced number period t own x until zero = tt
 within_spaced number period t own x until (suc n) =
-    subst (Pairs (Spaced number period)) (sym (within_step t x until n))
-    (pairs_append (Spaced number period) (jobs_within t x until n)
+    pairs_append (Spaced number period) (jobs_within t x until n)
     (if_ready until (random_release t x n)) (within_spaced number period t own x until n) alone
     (λ r s a b same.
     let before = in_within t x until n r a in
@@ -180,7 +158,7 @@ within_spaced number period t own x until (suc n) =
     let tr : r.time ≡ arrival_at t x before.0 = ap (λ y. y.time) before.2 in
     let ts : arrival_at t x n ≡ s.time = ap (λ y. y.time) here.0 in
     let p : period s ≡ t.period = sym (ap period here.0) ∙ own x n in
-    omega arith))
+    omega arith)
   where
     alone : Pairs (Spaced number period) (if_ready until (random_release t x n))
     alone = elim (cases_Bool (nat_lt (ready_of (random_release t x n)) until)) [
@@ -193,15 +171,11 @@ pub rank_start : (U : List Task) (until seed : ℕ) → jobs_by_rank U until see
 unfolding jobs_by_rank
 rank_start U until seed = refl
 
-pub rank_step : (U : List Task) (until seed n : ℕ) → jobs_by_rank U until seed (suc n)
-    ≡ jobs_by_rank U until seed n ++ jobs_within (task_at U n) (word_before seed n) until until
-unfolding jobs_by_rank
-rank_step U until seed n = refl
-
 pub rank_longer : (U : List Task) (until seed k n : ℕ) → k ≤ n
     → length (jobs_by_rank U until seed k) ≤ length (jobs_by_rank U until seed n)
+unfolding jobs_by_rank
 rank_longer U until seed = longer (jobs_by_rank U until seed)
-    (λ n. jobs_within (task_at U n) (word_before seed n) until until) (rank_step U until seed)
+    (λ n. jobs_within (task_at U n) (word_before seed n) until until) (λ n. refl)
 
 -- a release is that of job k of the task at an index, and ready before the end
 pub record IsDrawn (U : List Task) (until seed : ℕ) (r : Release) (i k : ℕ) : Type 0 where
@@ -210,29 +184,15 @@ pub record IsDrawn (U : List Task) (until seed : ℕ) (r : Release) (i k : ℕ) 
 
 pub in_rank : (U : List Task) (until seed n : ℕ) (r : Release) → In r (jobs_by_rank U until seed n)
     → (i : ℕ) × (i < n) × (k : ℕ) × IsDrawn U until seed r i k
-in_rank U until seed zero r h = absurd (subst (In r) (rank_start U until seed) h)
-in_rank U until seed (suc n) r h = elim (in_either r (jobs_by_rank U until seed n) (jobs_within
-    (task_at U n) (word_before seed n) until until) (subst (In r) (rank_step U until seed n) h)) [
+unfolding jobs_by_rank
+in_rank U until seed zero r h = absurd h
+in_rank U until seed (suc n) r h = elim (in_either r (jobs_by_rank U until seed n)
+    (jobs_within (task_at U n) (word_before seed n) until until) h) [
       | inl before ↦
           (let ih = in_rank U until seed n r before in (ih.0, omega (arith, ih.1), ih.2, ih.3))
       | inr here ↦ (let w = in_within (task_at U n) (word_before seed n) until until r here in
           (n, omega arith, w.0, record { is = w.2; before = w.3 }))
     ]
-
--- ---- refusals
--- a list that is longer is refused as well
-pub refusal_grows : (e : RunFault) (m n : ℕ) → m ≤ n
-    → IsRefusal e (refuse_if (nat_lt 10000 m) fault.TooMany)
-    → IsRefusal e (refuse_if (nat_lt 10000 n) fault.TooMany)
-refusal_grows e m n le h = elim (cases_lt 10000 m) [
-  | inl many ↦
-      let a : nat_lt 10000 m ≡ true = lt-ltb 10000 m many in
-      let b : nat_lt 10000 n ≡ true = lt-ltb 10000 n (omega arith) in
-      rw b (rw a at h)
-  | inr few ↦
-      let a : nat_lt 10000 m ≡ false = le-ltb 10000 m few in
-      nothing_else e (refuse_if (nat_lt 10000 n) fault.TooMany) (rw a at h)
-]
 
 -- ---- the jobs of a task, one by one
 -- so many of them have been taken: the next arrives at a time, and its words come after a word
@@ -253,12 +213,13 @@ random_is t x k time word et ew = ap₂
 module _ (t : Task) (x until time word : ℕ) (old now : List Release) where
   pub taken_first : time ≡ drawn (word_after x) t.period → word ≡ word_after x → now ≡ old
       → length old ≤ 10000 → AreTaken t x until time word old now
+  unfolding arrival_at word_of jobs_within
   taken_first et ew same few = record {
     taken = 0;
     in_time = omega arith;
-    next = et ∙ sym (arrival_start t x);
-    stands = ew ∙ sym (word_start x);
-    holds = same ∙ sym (ap (λ ys. old ++ ys) (within_start t x until) ∙ append-nil old);
+    next = et;
+    stands = ew;
+    holds = same ∙ sym (append-nil old);
     few = (let e : length now ≡ length old = ap length same in omega arith);
   }
 
@@ -271,13 +232,13 @@ module _ (t : Task) (x until time word : ℕ) (old now : List Release) where
     more_is : (r : Release) → r
         ≡ record { time = time; name = t.name; late = late_after t word; runs = runs_after t word }
         → now ++ if_ready until r ≡ old ++ jobs_within t x until (suc are.taken)
+    unfolding jobs_within
     more_is r is =
         let e : r ≡ random_release t x are.taken = is
         ∙ random_is t x are.taken time word are.next are.stands in
         ap₂ (λ ys s. ys ++ if_ready until s) are.holds e
-        ∙ (append_assoc old (jobs_within t x until are.taken)
+        ∙ append_assoc old (jobs_within t x until are.taken)
         (if_ready until (random_release t x are.taken))
-        ∙ ap (λ ys. old ++ ys) (sym (within_step t x until are.taken)))
 
     pub taken_next : (r : Release) (then : List Release) (third next gap : ℕ) → time < until
         → r ≡ record {
@@ -290,14 +251,14 @@ module _ (t : Task) (x until time word : ℕ) (old now : List Release) where
         → then ≡ now ++ if_ready until r → length then ≤ 10000
         → third ≡ third_after word → gap ≡ gap_after t third → next ≡ word_after (word_after third)
         → AreTaken t x until (time + gap) next old then
+    unfolding arrival_at word_of
     taken_next r then third next gap lt is pushed small et eg en = record {
       taken = suc are.taken;
       in_time = below lt;
       next = ap₂ (λ a g. a + g) are.next
-          (eg ∙ (ap (gap_after t) et ∙ ap (λ w. gap_after t (third_after w)) are.stands))
-          ∙ sym (arrival_step t x are.taken);
-      stands = en ∙ (ap (λ w. word_after (word_after w)) et ∙ (ap (λ w. word_after
-          (word_after (third_after w))) are.stands ∙ sym (word_step x are.taken)));
+          (eg ∙ (ap (gap_after t) et ∙ ap (λ w. gap_after t (third_after w)) are.stands));
+      stands = en ∙ (ap (λ w. word_after (word_after w)) et
+          ∙ ap (λ w. word_after (word_after (third_after w))) are.stands);
       holds = pushed ∙ more_is r is;
       few = small;
     }
@@ -332,10 +293,11 @@ module _ (U : List Task) (until seed n : ℕ) (now : List Release) (t : Task) (w
     (sofar : now ≡ jobs_by_rank U until seed n) (own : t ≡ task_at U n)
     (stands : word ≡ word_before seed n) where
   pub rank_next : now ++ jobs_within t word until until ≡ jobs_by_rank U until seed (suc n)
+  unfolding jobs_by_rank
   rank_next =
       let w : jobs_within t word until until ≡ jobs_within (task_at U n) (word_before seed n) until
       until = ap₂ (λ s x. jobs_within s x until until) own stands in
-      ap₂ (λ ys zs. ys ++ zs) sofar w ∙ sym (rank_step U until seed n)
+      ap₂ (λ ys zs. ys ++ zs) sofar w
 
   pub rank_refused : (e : RunFault) → n < length U → IsRefusal e
       (refuse_if (nat_lt 10000 (length (now ++ jobs_within t word until until))) fault.TooMany)

@@ -12,15 +12,15 @@ use Rattle.release_list.specs.Random.{IsRandomList}
 use Rattle.release_list.proofs.OrderLaws.{In, Pairs, place_of, in_front, in_back, pairs_at}
 use Rattle.release_list.proofs.OrderLaws.{pairs_append, pairs_with, to_by_time, Spaced, ByNumber}
 use Rattle.release_list.proofs.OrderLaws.{ByTime, ordered_by_time}
-use Rattle.release_list.proofs.RandomLaws.{arrival_from, within_step, in_within, within_spaced}
-use Rattle.release_list.proofs.RandomLaws.{rank_start, rank_step, in_rank}
+use Rattle.release_list.proofs.RandomLaws.{arrival_from, in_within, within_spaced, in_rank}
 use Rattle.release_list.proofs.RandomAccepted.{number_is, job_at_place}
 
 to_within : (t : Task) (x until n k : ℕ) → k < n → ready_of (random_release t x k) < until
     → In (random_release t x k) (jobs_within t x until n)
+unfolding jobs_within
 to_within t x until zero k lt before = absurd (omega arith)
 to_within t x until (suc n) k lt before =
-    subst (In (random_release t x k)) (sym (within_step t x until n)) (elim (cases_eq k n) [
+    elim (cases_eq k n) [
       | inl same ↦
           let on : nat_lt (ready_of (random_release t x k)) until ≡ true =
           lt-ltb (ready_of (random_release t x k)) until before in
@@ -31,7 +31,7 @@ to_within t x until (suc n) k lt before =
           (if_ready until (random_release t x m))) same own)
       | inr other ↦ in_front (random_release t x k) (jobs_within t x until n)
           (if_ready until (random_release t x n)) (to_within t x until n k (omega arith) before)
-    ])
+    ]
 
 module _ (U : List Task) (until seed : ℕ) (set : IsTaskSet U) where
   abbrev number : Release → ℕ
@@ -46,9 +46,10 @@ module _ (U : List Task) (until seed : ℕ) (set : IsTaskSet U) where
 
   to_rank : (n i k : ℕ) → n ≤ length U → i < n → ready_of (job i k) < until
       → In (job i k) (jobs_by_rank U until seed n)
+  unfolding jobs_by_rank
   to_rank zero i k le lt before = absurd (omega arith)
   to_rank (suc n) i k le lt before =
-      subst (In (job i k)) (sym (rank_step U until seed n)) (elim (cases_eq i n) [
+      elim (cases_eq i n) [
         | inl same ↦
             let from : k ≤ arrival_at (task_at U i) (word_before seed i) k =
             arrival_from (task_at U i) (word_before seed i) k (some_period i (omega arith)) in
@@ -60,14 +61,14 @@ module _ (U : List Task) (until seed : ℕ) (set : IsTaskSet U) where
             same own)
         | inr other ↦ in_front (job i k) (jobs_by_rank U until seed n) (jobs_within (task_at U n)
             (word_before seed n) until until) (to_rank n i k (omega arith) (omega arith) before)
-      ])
+      ]
 
   -- by rank, and those of one rank by time
   by_number : (n : ℕ) → n ≤ length U → Pairs (ByNumber number) (jobs_by_rank U until seed n)
-  by_number zero le = subst (Pairs (ByNumber number)) (sym (rank_start U until seed)) tt
+  unfolding jobs_by_rank
+  by_number zero le = tt
   by_number (suc n) le =
-      subst (Pairs (ByNumber number)) (sym (rank_step U until seed n))
-      (pairs_append (ByNumber number) (jobs_by_rank U until seed n)
+      pairs_append (ByNumber number) (jobs_by_rank U until seed n)
       (jobs_within (task_at U n) (word_before seed n) until until) (by_number n (omega arith))
       (pairs_with (Spaced number (λ r. (task_at U (task_number U r)).period)) (ByNumber number)
       (jobs_within (task_at U n) (word_before seed n) until until)
@@ -87,7 +88,7 @@ module _ (U : List Task) (until seed : ℕ) (set : IsTaskSet U) where
       let nr : number r ≡ before.0 = ap number before.3.is ∙ number_is U until seed set before.0
       (word_before seed before.0) before.2 (omega (arith, before.1)) in
       let ns : number s ≡ n = of_rank n (omega arith) s b in
-      inl (omega (arith, before.1))))
+      inl (omega (arith, before.1)))
     where
       of_rank : (n : ℕ) → n < length U → (r : Release)
           → In r (jobs_within (task_at U n) (word_before seed n) until until) → number r ≡ n

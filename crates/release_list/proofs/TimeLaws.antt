@@ -1,10 +1,10 @@
 -- The list of streams, from one time to the next.
 use Rattle.std.proofs.Common.{◌≡◌, ℕ, zero, suc, ◌+◌, ◌-◌, ◌<◌, ◌≤◌, inl, inr, true, false, nat_lt}
 use Rattle.std.proofs.Common.{Option, Some, None, List, [], ◌∷◌, ◌++◌, length, map, take, get_or}
-use Rattle.std.proofs.Common.{refl, sym, ◌∙◌, ap, ap₂, subst, append_assoc, arith}
+use Rattle.std.proofs.Common.{refl, sym, ◌∙◌, ap, ap₂, append_assoc, arith}
 use Rattle.std.specs.List.{filter}
 use Rattle.std.proofs.lemmas.List.{length-append, append-nil}
-use Rattle.std.proofs.lemmas.Bool.{and_left, cases_lt, lt-ltb, le-ltb}
+use Rattle.std.proofs.lemmas.Bool.{and_left, cases_eq, cases_lt, lt-ltb, le-ltb}
 use Rattle.std.proofs.lemmas.Option.{none-some}
 use Rattle.release_list.specs.declared.stream.Stream.{Stream}
 use Rattle.ceiling_kernel.specs.declared.trace.Release.{Release}
@@ -20,11 +20,6 @@ pub before_start : (U : List Stream) (until : ℕ) → releases_before U 0 until
 unfolding releases_before
 before_start U until = refl
 
-pub before_step : (U : List Stream) (time until : ℕ)
-    → releases_before U (suc time) until ≡ releases_before U time until ++ releases_at U time until
-unfolding releases_before
-before_step U time until = refl
-
 -- where no job arrives there is no release
 pub none_at : (U : List Stream) (time until : ℕ)
     → ((i : ℕ) → i < length U → arrives time (stream_at U i) ≡ false)
@@ -38,13 +33,15 @@ none_at U time until h =
 before_quiet : (U : List Stream) (time d until : ℕ)
     → ((t : ℕ) → time < t → t < suc time + d → releases_at U t until ≡ [])
     → releases_before U (suc time + d) until ≡ releases_before U (suc time) until
-before_quiet U time zero until h = ap (λ n. releases_before U n until) (omega arith)
+unfolding releases_before
+before_quiet U time zero until h =
+    let e : suc time + 0 ≡ suc time = omega arith in
+    ap (λ n. releases_before U n until) e
 before_quiet U time (suc d) until h =
     let s : suc time + suc d ≡ suc (suc time + d) = omega arith in
     let quiet : releases_at U (suc time + d) until ≡ [] =
     h (suc time + d) (omega arith) (omega arith) in
     ap (λ n. releases_before U n until) s
-    ∙ before_step U (suc time + d) until
     ∙ ap (λ rs. releases_before U (suc time + d) until ++ rs) quiet
     ∙ append-nil (releases_before U (suc time + d) until)
     ∙ before_quiet U time d until (λ t less more. h t less (omega arith))
@@ -53,39 +50,27 @@ before_quiet U time (suc d) until h =
 pub before_leap : (U : List Stream) (time next until : ℕ) → time < next
     → ((t : ℕ) → time < t → t < next → releases_at U t until ≡ [])
     → releases_before U next until ≡ releases_before U time until ++ releases_at U time until
+unfolding releases_before
 before_leap U time next until less h =
     let s : next ≡ suc time + (next - suc time) = omega arith in
     ap (λ n. releases_before U n until) s
     ∙ before_quiet U time (next - suc time) until (λ t a b. h t a (omega arith))
-    ∙ before_step U time until
 
 -- there are never less
-before_more : (U : List Stream) (time d until : ℕ)
-    → length (releases_before U time until) ≤ length (releases_before U (time + d) until)
-before_more U time zero until =
-    let e : length (releases_before U (time + 0) until) ≡ length (releases_before U time until) =
-    ap (λ n. length (releases_before U n until)) (omega arith) in
-    omega arith
-before_more U time (suc d) until =
-    let e : length (releases_before U (time + suc d) until)
-    ≡ length (releases_before U (time + d) until ++ releases_at U (time + d) until) =
-    ap (λ n. length (releases_before U n until)) (omega arith)
-    ∙ ap length (before_step U (time + d) until) in
-    omega (
-      arith,
-      e,
-      length-append (releases_before U (time + d) until)
-          (releases_at U (time + d) until),
-      before_more U time d until,
-    )
-
 pub before_grows : (U : List Stream) (time later until : ℕ) → time ≤ later
     → length (releases_before U time until) ≤ length (releases_before U later until)
-before_grows U time later until le =
-    let s : length (releases_before U (time + (later - time)) until)
-    ≡ length (releases_before U later until) =
-    ap (λ n. length (releases_before U n until)) (omega arith) in
-    omega (arith, s, before_more U time (later - time) until)
+unfolding releases_before
+before_grows U time zero until le =
+    let e : time ≡ 0 = omega arith in
+    rw e (omega arith)
+before_grows U time (suc later) until le = elim (cases_eq time (suc later)) [
+  | inl e ↦ rw e (omega arith)
+  | inr ne ↦ omega (
+    arith,
+    length-append (releases_before U later until) (releases_at U later until),
+    before_grows U time later until (omega arith),
+  )
+]
 
 -- ---- what the code does with the releases of a time
 -- the releases of a time from the first streams
@@ -139,43 +124,35 @@ module _ (xs : List Stream) (time until : ℕ) (old items : List Release) (i : �
 -- out of memory may come where nothing is refused, and nothing else
 pub nothing_else : (e : RunFault) (o : Option RunFault) → IsRefusal e None → IsRefusal e o
 nothing_else fault.OutOfMemory o h = tt
-nothing_else (fault.Unsorted k) o h = absurd (none-some (fault.Unsorted k) h)
-nothing_else (fault.UnknownTask k) o h = absurd (none-some (fault.UnknownTask k) h)
-nothing_else (fault.TooSoon k) o h = absurd (none-some (fault.TooSoon k) h)
-nothing_else (fault.TooLate k) o h = absurd (none-some (fault.TooLate k) h)
-nothing_else (fault.OutsideCost k) o h = absurd (none-some (fault.OutsideCost k) h)
-nothing_else fault.PastHorizon o h = absurd (none-some fault.PastHorizon h)
-nothing_else fault.TooMany o h = absurd (none-some fault.TooMany h)
-nothing_else (fault.Overrun name time) o h = absurd (none-some (fault.Overrun name time) h)
+nothing_else e o h = absurd (none-some e h)
+
+-- a list that is longer is refused as well
+pub refusal_grows : (e : RunFault) (m n : ℕ) → m ≤ n
+    → IsRefusal e (refuse_if (nat_lt 10000 m) fault.TooMany)
+    → IsRefusal e (refuse_if (nat_lt 10000 n) fault.TooMany)
+refusal_grows e m n le h = elim (cases_lt 10000 m) [
+  | inl many ↦
+      let a : nat_lt 10000 m ≡ true = lt-ltb 10000 m many in
+      let b : nat_lt 10000 n ≡ true = lt-ltb 10000 n (omega arith) in
+      rw b (rw a at h)
+  | inr few ↦
+      let a : nat_lt 10000 m ≡ false = le-ltb 10000 m few in
+      nothing_else e (refuse_if (nat_lt 10000 n) fault.TooMany) (rw a at h)
+]
 
 -- too many before some time are too many
 pub refused_early : (U : List Stream) (items : List Release) (time until : ℕ) (e : RunFault)
     → time < until → items ≡ releases_before U time until
     → IsRefusal e (refuse_if (nat_lt 10000 (length (items ++ releases_at U time until)))
     fault.TooMany) → IsRefusal e (count_refusal U until)
+unfolding releases_before
 refused_early U items time until e less is h =
-    elim (cases_lt 10000 (length (items ++ releases_at U time until))) [
-      | inl many ↦
-          let grown : length (releases_before U (suc time) until) ≤ length (list_of U until) =
-          before_grows U (suc time) until until (omega arith) in
-          let step : length (releases_before U (suc time) until)
-          ≡ length (items ++ releases_at U time until) =
-          ap length (before_step U time until)
-          ∙ ap (λ x. length (x ++ releases_at U time until)) (sym is) in
-          let here : nat_lt 10000 (length (items ++ releases_at U time until)) ≡ true =
-          lt-ltb 10000 (length (items ++ releases_at U time until)) many in
-          let all : nat_lt 10000 (length (list_of U until)) ≡ true =
-          lt-ltb 10000 (length (list_of U until)) (omega arith) in
-          let to : refuse_if (nat_lt 10000 (length (items ++ releases_at U time until)))
-          fault.TooMany ≡ count_refusal U until =
-          ap (λ b. refuse_if b fault.TooMany) (here ∙ sym all) in
-          subst (λ o. IsRefusal e o) to h
-      | inr few ↦
-          let here : nat_lt 10000 (length (items ++ releases_at U time until)) ≡ false =
-          le-ltb 10000 (length (items ++ releases_at U time until)) few in
-          nothing_else e (count_refusal U until)
-          (subst (λ o. IsRefusal e o) (ap (λ b. refuse_if b fault.TooMany) here) h)
-    ]
+    let grown = before_grows U (suc time) until until (omega arith) in
+    let step : length (releases_before U (suc time) until)
+    ≡ length (items ++ releases_at U time until) =
+    ap (λ x. length (x ++ releases_at U time until)) (sym is) in
+    refusal_grows e (length (items ++ releases_at U time until)) (length (list_of U until))
+    (omega arith) h
 
 -- what the reason to refuse the list says of its length
 pub few_from : (U : List Stream) (until : ℕ) → count_refusal U until ≡ None

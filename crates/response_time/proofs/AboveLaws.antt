@@ -1,13 +1,16 @@
 -- What the tasks above execute within a window, of the set's first ones.
-use Rattle.std.proofs.Common.{◌≡◌, ℕ, ◌+◌, ◌≤◌, true, false, cond, List, length, refl, sym, arith}
+use Rattle.std.proofs.Common.{◌≡◌, ℕ, ◌+◌, ◌≤◌, Bool, true, false, cond, List, length, refl, sym}
+use Rattle.std.proofs.Common.{◌∙◌, ap, arith}
 use Rattle.std.proofs.lemmas.Bool.{cond-true, cond-false}
 use Rattle.task_sheet.specs.Sheet.{Task, task_at, IsValidSheet}
 use Rattle.task_sheet.specs.Indexes.{Indexes, sum_below}
 use Rattle.task_sheet.specs.Demand.{interference_of, blocking_of, interrupts_within, demand_of}
+use Rattle.task_sheet.specs.Demand.{has_interrupts}
 use Rattle.task_sheet.proofs.Below.{sum_step}
+use Rattle.task_sheet.proofs.InterruptLaws.{interrupts-none, uninterrupted-iff}
 use Rattle.task_sheet.proofs.Releases.{cost-le-interference}
 use Rattle.task_sheet.proofs.TaskLaws.{IsTask-from_valid}
-use Rattle.response_time.specs.Workload.{work_of}
+use Rattle.response_time.specs.Workload.{work_of, demand_with}
 
 -- of the first n tasks of U those among H
 abbrev pub interference_first : List Task → Indexes → ℕ → ℕ → ℕ
@@ -51,7 +54,20 @@ pub demand-parts : (U : List Task) (i : ℕ) (H : Indexes) (time : ℕ)
 unfolding demand_of
 demand-parts U i H time = refl
 
+-- with those of the set it is the demand
+pub with-is : (U : List Task) (i : ℕ) (H : Indexes) (interrupted : Bool) (time : ℕ)
+    → interrupted ≡ has_interrupts U → demand_with interrupted U i H time ≡ demand_of U i H time
+with-is U i H true time is = sym (demand-parts U i H time)
+with-is U i H false time is = omega (
+  arith,
+  demand-parts U i H time,
+  interrupts-none U time ((uninterrupted-iff U).0 (sym is)),
+)
+
 -- the next number of a walk is the demand
-pub next-is : (U : List Task) (i : ℕ) (H : Indexes) (time next work : ℕ) → next
-    ≡ work + interrupts_within U time → work ≡ work_of U i H time → next ≡ demand_of U i H time
-next-is U i H time next work is same = omega (arith, is, same, demand-parts U i H time)
+pub next-is : (U : List Task) (i : ℕ) (H : Indexes) (time next work : ℕ) (interrupted : Bool)
+    → next ≡ work + cond interrupted (interrupts_within U time) 0
+    → interrupted ≡ has_interrupts U → work ≡ work_of U i H time → next ≡ demand_of U i H time
+next-is U i H time next work interrupted is some same = is
+    ∙ ap (λ w. w + cond interrupted (interrupts_within U time) 0) same
+    ∙ with-is U i H interrupted time some

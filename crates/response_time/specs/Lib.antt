@@ -1,3 +1,4 @@
 pub mod Answers
 pub mod Workload
+pub mod WorkloadFields
 pub mod Starts

@@ -1,15 +1,27 @@
 -- The work of a task in a window, which is its demand but for timers and interrupts, from its parts, and how it is
 -- carried from a window to a longer one.
-use Rattle.std.specs.Prelude.{◌≡◌, ℕ, ◌+◌, ◌-◌, ◌*◌, ◌<◌, ◌≤◌, List, All, sum_by}
+use Rattle.std.specs.Prelude.{◌≡◌, ℕ, ◌+◌, ◌-◌, ◌*◌, ◌<◌, ◌≤◌, Bool, List, All, sum_by, if◌then◌else◌}
 use Rattle.std.specs.Int.{div_ceil}
 use Rattle.task_sheet.specs.Sheet.{Task, task_at}
 use Rattle.task_sheet.specs.Indexes.{Indexes}
-use Rattle.task_sheet.specs.Demand.{jobs_within, blocking_of, interference_within}
+use Rattle.task_sheet.specs.Demand.{jobs_within, blocking_of, interference_within, interrupts_within, limit_of}
 use Rattle.response_time.specs.declared.workload.TheConstants.{WINDOW_LIMIT}
 
 -- the work of a task i of the set U with the tasks H above it: its cost, its blocking, and their interference
 abbrev pub work_of : List Task → ℕ → Indexes → ℕ → ℕ
 work_of U i H time = (task_at U i).cost + blocking_of U i H + interference_within U H time
+
+-- with it what timers and interrupts take, where they count: with those of the set, the demand
+abbrev pub demand_with : Bool → List Task → ℕ → Indexes → ℕ → ℕ
+demand_with interrupted U i H time =
+    work_of U i H time + (if interrupted then interrupts_within U time else 0)
+
+-- the first window that covers it, within the limit
+pub record IsFirstCover (U : List Task) (i : ℕ) (H : Indexes) (interrupted : Bool) (window : ℕ) : Type 0 where
+  pub positive : 1 ≤ window
+  pub within : window ≤ limit_of (task_at U i)
+  pub covers : demand_with interrupted U i H window ≤ window
+  pub first : (s : ℕ) → 1 ≤ s → demand_with interrupted U i H s ≤ s → window ≤ s
 
 -- how often a task above comes, how late at most, what it takes each time, and the longest window
 -- within which no job is released but those that are counted

@@ -2,15 +2,15 @@
 //! microseconds.
 #![tactic(auto)]
 
-ghost use Rattle.std.specs.Prelude.{◌≡◌, ◌+◌, ◌≤◌, ◌<◌, ◌↔◌, ℕ, List, length, IsTrue, IfOk, IfSome, IfNone};
+ghost use Rattle.std.specs.Prelude.{◌≡◌, ◌+◌, ◌≤◌, ◌<◌, ◌↔◌, ℕ, List, length, IsTrue, IfOk, IfSome, IfNone, if◌then◌else◌};
 ghost use Rattle.task_sheet.specs.Sheet.{task_at};
 ghost use Rattle.task_sheet.specs.TaskSet.{IsTaskSet};
 ghost use Rattle.response_time.specs.declared.workload.TheConstants.{WINDOW_LIMIT};
 ghost use Rattle.task_sheet.specs.Indexes.{indexes_of};
-ghost use Rattle.task_sheet.specs.Responses.{IsTrail};
-ghost use Rattle.task_sheet.specs.Demand.{has_interrupts, interrupts_within, demand_of, limit_of, IsResponseOf, Passes, evaluation_bound};
+ghost use Rattle.task_sheet.specs.Responses.{Covers, IsTrail};
+ghost use Rattle.task_sheet.specs.Demand.{interrupts_within, demand_of, limit_of, IsResponseOf, Passes, evaluation_bound};
 ghost use Rattle.response_time.specs.Answers.{IsAnswer};
-ghost use Rattle.response_time.specs.Workload.{work_within};
+ghost use Rattle.response_time.specs.Workload.{work_within, demand_with, IsFirstCover};
 
 mod interrupts;
 pub mod laws;
@@ -73,21 +73,47 @@ pub fn demand(set: &Tabled<'_>, task: usize, above: Members, time: u64) -> u64
     work + interrupts_within(set, time)
 }
 
-// The demand in a window that is no shorter than the last one: the work, and what timers and interrupts take where the
-// set has some.
-fn next_demand(set: &Tabled<'_>, work: &mut Workload, has_some: bool, time: u64) -> u64
+// The work in a window that is no shorter than the last one, and with it what timers and interrupts take, where they count.
+fn next_demand(set: &Tabled<'_>, work: &mut Workload, interrupted: bool, time: u64) -> u64
     requires time { time ≤ WINDOW_LIMIT }
     requires longer { work.old.time ≤ time }
-    requires some { has_some ≡ has_interrupts set.now }
-    ensures is { result ≡ work_within time work.old + interrupts_within set.now time }
+    ensures is { result ≡ work_within time work.old
+        + (if interrupted then interrupts_within set.now time else 0) }
     ensures same { (t : ℕ) → work_within t work.new ≡ work_within t work.old }
     ensures time { work.new.time ≡ time }
 {
     let next = work.advance(time);
-    if !has_some {
+    if !interrupted {
         return next;
     }
     next + interrupts_within(set, time)
+}
+
+// The first window that covers the work of a task with these above it, and with that what timers and interrupts take, where
+// they count; none where no window up to the limit does. The iteration starts at a window below which none covers the
+// work, in place of 1.
+pub(crate) fn first_cover(
+    set: &Tabled<'_>,
+    task: usize,
+    above: Members,
+    interrupted: bool,
+) -> Option<u64>
+    requires { task < length set.now }
+    ensures some { IfSome result (λ window. IsFirstCover set.now task (indexes_of above) interrupted window) }
+    ensures none { IfNone result (¬ Covers (demand_with interrupted set.now task (indexes_of above))
+        (limit_of (task_at set.now task))) }
+{
+    let limit = limit_of(set, task);
+    let mut work = Workload::new(set, task, above, 1, limit);
+    let mut window = work.first_window(limit);
+    while window <= limit {
+        let next = next_demand(set, &mut work, interrupted, window);
+        if next <= window {
+            return Some(window);
+        }
+        window = next;
+    }
+    None
 }
 
 // What a task and those above it execute once, in microseconds. Each window has at least this demand.
@@ -115,21 +141,13 @@ pub fn response_in_time(set: &Tabled<'_>, task: usize, above: Members) -> Option
     ensures passes { IfSome result (λ _. Passes set.now task (indexes_of above)) }
     ensures none { IfNone result (¬ Passes set.now task (indexes_of above)) }
 {
-    let limit = limit_of(set, task);
-    if least_demand(set, task, above) > limit {
+    if least_demand(set, task, above) > limit_of(set, task) {
         return None;
     }
-    let has_some = has_interrupts(set);
-    let mut work = Workload::new(set, task, above, 1, limit);
-    let mut window = work.first_window(limit);
-    while window <= limit {
-        let next = next_demand(set, &mut work, has_some, window);
-        if next <= window {
-            return Some(window + jitter_of(set, task));
-        }
-        window = next;
+    match first_cover(set, task, above, has_interrupts(set)) {
+        Some(window) => Some(window + jitter_of(set, task)),
+        None => None,
     }
-    None
 }
 
 /// Whether a task passes with these above it: some window within what its jitter leaves of its deadline covers its
@@ -161,13 +179,13 @@ pub fn respond(
         ≤ evaluation_bound set.now (indexes_of above) (limit_of (task_at set.now task))) }
 {
     let limit = limit_of(set, task);
-    let has_some = has_interrupts(set);
+    let interrupted = has_interrupts(set);
     let mut work = Workload::new(set, task, above, 1, limit);
     let mut numbers = Vec::new(alloc);
     let mut time = 1;
     while time <= limit {
         numbers.push(time)?;
-        let next = next_demand(set, &mut work, has_some, time);
+        let next = next_demand(set, &mut work, interrupted, time);
         if next == time {
             let response = time + jitter_of(set, task);
             return Ok(Response {

@@ -6,8 +6,7 @@ ghost use Rattle.task_sheet.specs.Demand.{limit_of};
 ghost use Rattle.task_sheet.specs.Responses.{Covers};
 ghost use Rattle.response_time.specs.Workload.{work_of};
 
-use crate::limit_of;
-use crate::workload::Workload;
+use crate::first_cover;
 use ceilings::Tabled;
 use task_sheet::Members;
 
@@ -18,15 +17,5 @@ pub fn passes_uninterrupted(set: &Tabled<'_>, task: usize, above: Members) -> bo
     ensures { IsTrue result ↔ Covers (work_of set.now task (indexes_of above))
         (limit_of (task_at set.now task)) }
 {
-    let limit = limit_of(set, task);
-    let mut work = Workload::new(set, task, above, 1, limit);
-    let mut window = work.first_window(limit);
-    while window <= limit {
-        let next = work.advance(window);
-        if next <= window {
-            return true;
-        }
-        window = next;
-    }
-    false
+    first_cover(set, task, above, false).is_some()
 }

@@ -1,11 +1,11 @@
 //! The work of one task below others, carried from a window to a longer one.
-ghost use Rattle.std.specs.Prelude.{◌≡◌, ◌+◌, ◌*◌, ◌<◌, ◌≤◌, [], ℕ, length, map, sum_by, take};
+ghost use Rattle.std.specs.Prelude.{◌≡◌, ◌+◌, ◌*◌, ◌<◌, ◌≤◌, [], ℕ, length, map, sum_by};
 ghost use Rattle.task_sheet.specs.Sheet.{IsValidSheet};
 ghost use Rattle.task_sheet.specs.declared.set.TheConstants.{TASK_LIMIT};
 ghost use Rattle.task_sheet.specs.Indexes.{indexes_of};
 ghost use Rattle.task_sheet.specs.Demand.{interference_of};
 ghost use Rattle.response_time.specs.declared.workload.TheConstants.{WHOLE, WINDOW_LIMIT};
-ghost use Rattle.response_time.specs.Workload.{share_within, work_within, work_of, further_work, counted_to, IsCountedTo, ShareData, IsShare, WorkloadData, IsCarried};
+ghost use Rattle.response_time.specs.Workload.{share_within, work_within, work_of, further_work, counted_to, IsCountedTo, ShareData, IsShare};
 
 use blocking::blocking;
 use ceilings::Tabled;
@@ -144,23 +144,15 @@ pub(crate) struct Workload {
 }
 
 impl Model for Workload {
+    ghost use Rattle.response_time.specs.Workload.{WorkloadData};
+
     ghost Value = { WorkloadData };
 
-    ghost view = { λ w. record {
-      always = w.always;
-      shares = take w.count w.shares;
-      time = w.time;
-      total = w.total;
-    } };
+    ghost use Rattle.response_time.specs.WorkloadFields.{workload_of, IsKept};
 
-    ghost invariant = { λ w. (w.count ≤ TASK_LIMIT)
-        × (w.always ≤ (2 + 3 * TASK_LIMIT) * WINDOW_LIMIT) × (w.time ≤ WINDOW_LIMIT)
-        × IsCarried record {
-          always = w.always;
-          shares = take w.count w.shares;
-          time = w.time;
-          total = w.total;
-        } };
+    ghost view = { workload_of };
+
+    ghost invariant = { IsKept };
 }
 
 impl Workload {

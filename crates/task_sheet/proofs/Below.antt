@@ -21,10 +21,7 @@ pub sum_below-le : (n : ℕ) (f g : ℕ → ℕ) → ((k : ℕ) → k < n → f 
     → sum_below n f ≤ sum_below n g
 sum_below-le zero f g le = omega arith
 sum_below-le (suc n) f g le =
-    let rest : sum_below n f ≤ sum_below n g =
-    sum_below-le n f g (λ k lt. let lt' : k < suc n = omega arith in le k lt') in
-    let last : n < suc n = omega arith in
-    omega (arith, le n last)
+    omega (arith, sum_below-le n f g (λ k lt. le k (omega arith)), le n (omega arith))
 
 -- a term that the smaller sum lacks
 pub sum_below-gap : (n : ℕ) (f g : ℕ → ℕ) (k : ℕ) → ((k : ℕ) → f k ≤ g k) → k < n → f k ≡ 0
@@ -36,18 +33,13 @@ sum_below-gap (suc n) f g k le lt none =
           let here : f n ≡ 0 = rw (← e) none in
           let same : g k ≡ g n = rw e in
           omega (arith, sum_below-le n f g (λ k lt. le k))
-      | inr ne ↦
-          let lt' : k < n = omega arith in
-          omega (arith, sum_below-gap n f g k le lt' none, le n)
+      | inr ne ↦ omega (arith, sum_below-gap n f g k le (omega arith) none, le n)
     ]
 
 pub sum_below-fits : (n m : ℕ) (f : ℕ → ℕ) → ((k : ℕ) → k < n → f k ≤ m) → sum_below n f ≤ n * m
 sum_below-fits zero m f le = omega arith
 sum_below-fits (suc n) m f le =
-    let rest : sum_below n f ≤ n * m =
-    sum_below-fits n m f (λ k lt. let lt' : k < suc n = omega arith in le k lt') in
-    let last : n < suc n = omega arith in
-    omega (arith, le n last)
+    omega (arith, sum_below-fits n m f (λ k lt. le k (omega arith)), le n (omega arith))
 
 pub sum_below-le-term : (n : ℕ) (f : ℕ → ℕ) (k : ℕ) → k < n → f k ≤ sum_below n f
 sum_below-le-term zero f k lt = absurd (omega arith)
@@ -56,6 +48,11 @@ sum_below-le-term (suc n) f k lt =
       | inl e ↦ let same : f k ≡ f n = rw e in omega arith
       | inr ne ↦ omega (arith, sum_below-le-term n f k (omega arith))
     ]
+
+pub sum_below-both : (n : ℕ) (f g : ℕ → ℕ)
+    → sum_below n (λ k. f k + g k) ≡ sum_below n f + sum_below n g
+sum_below-both zero f g = refl
+sum_below-both (suc n) f g = omega (arith, sum_below-both n f g)
 
 -- a loop's step
 pub sum_step : (n : ℕ) (f : ℕ → ℕ) (total more next : ℕ) → total ≡ sum_below n f → f n ≡ more
@@ -68,17 +65,14 @@ pub greatest_below-le : (n : ℕ) (f : ℕ → ℕ) (m : ℕ) → ((k : ℕ) →
     → greatest_below n f ≤ m
 greatest_below-le zero f m le = omega arith
 greatest_below-le (suc n) f m le =
-    let rest : greatest_below n f ≤ m =
-    greatest_below-le n f m (λ k lt. let lt' : k < suc n = omega arith in le k lt') in
-    let last : n < suc n = omega arith in
-    omega (arith, le n last)
+    omega (arith, greatest_below-le n f m (λ k lt. le k (omega arith)), le n (omega arith))
 
 pub le-greatest_below : (n : ℕ) (f : ℕ → ℕ) (k : ℕ) → k < n → f k ≤ greatest_below n f
 le-greatest_below zero f k lt = absurd (omega arith)
 le-greatest_below (suc n) f k lt =
     elim (cases_eq k n) [
       | inl e ↦ let same : f k ≡ f n = rw e in omega arith
-      | inr ne ↦ let lt' : k < n = omega arith in omega (arith, le-greatest_below n f k lt')
+      | inr ne ↦ omega (arith, le-greatest_below n f k (omega arith))
     ]
 
 pub greatest_below-some : (n : ℕ) (f : ℕ → ℕ) → (greatest_below n f ≡ 0)
@@ -127,7 +121,7 @@ greatest_of-some f (y ∷ xs) =
       | inr le ↦ inr (y, (zero, omega arith, refl), omega arith)
     ]
 
-greatest_of-push : {X : Type 0} (f : X → ℕ) (xs : List X) (y : X)
+pub greatest_of-push : {X : Type 0} (f : X → ℕ) (xs : List X) (y : X)
     → greatest_of f (xs ++ y ∷ []) ≡ max (greatest_of f xs) (f y)
 greatest_of-push f [] y = omega arith
 greatest_of-push f (x ∷ xs) y = omega (arith, greatest_of-push f xs y)
@@ -153,19 +147,6 @@ greatest_step p f xs i x b best next lt is test h e =
     ∙ sym (greatest_of-step (λ y. cond (p y) (f y) 0) xs i x lt))
 
 -- ---- some number below n
-pub find_below : (n : ℕ) (p : ℕ → Bool) → ((k : ℕ) × (k < n) × (p k ≡ true))
-    ⊎ ((k : ℕ) → k < n → p k ≡ false)
-find_below zero p = inr (λ k lt. absurd (omega arith))
-find_below (suc n) p =
-    elim (find_below n p) [
-      | inl found ↦ inl (found.0, omega (arith, found.1), found.2)
-      | inr none ↦ elim (cases_Bool (p n)) [
-        | inl so ↦ inl (n, omega arith, so)
-        | inr out ↦
-            inr (λ k lt. elim (cases_eq k n) [ inl e ↦ rw e out | inr ne ↦ none k (omega arith) ])
-      ]
-    ]
-
 pub some_below-at : (n : ℕ) (p : ℕ → Bool) (k : ℕ) → k < n → p k ≡ true → some_below n p ≡ true
 some_below-at zero p k lt so = absurd (omega arith)
 some_below-at (suc n) p k lt so =
@@ -174,25 +155,18 @@ some_below-at (suc n) p k lt so =
       | inr ne ↦ or_left _ _ (some_below-at n p k (omega arith) so)
     ]
 
-pub some_below-witness : (n : ℕ) (p : ℕ → Bool) → some_below n p ≡ true → (k : ℕ) × (k < n)
-    × (p k ≡ true)
-some_below-witness zero p h = cc
-some_below-witness (suc n) p h =
-    elim (or_cases (some_below n p) (p n) h) [
-      | inl before ↦ let at = some_below-witness n p before in (at.0, omega (arith, at.1), at.2)
-      | inr here ↦ (n, omega arith, here)
-    ]
-
 pub some_below-none : (n : ℕ) (p : ℕ → Bool) → ((k : ℕ) → k < n → p k ≡ false)
     → some_below n p ≡ false
 some_below-none zero p none = refl
 some_below-none (suc n) p none =
     rw (some_below-none n p (λ k lt. none k (omega arith)), none n (omega arith))
 
-pub some_below-mono : (n : ℕ) (p q : ℕ → Bool) → ((k : ℕ) → p k ≡ true → q k ≡ true)
-    → some_below n p ≡ true → some_below n q ≡ true
-some_below-mono n p q more h =
-    let at = some_below-witness n p h in some_below-at n q at.0 at.1 (more at.0 at.2)
+-- where none passes, each fails
+none_below : (n : ℕ) (p : ℕ → Bool) → some_below n p ≡ false → (k : ℕ) → k < n → p k ≡ false
+none_below n p none k lt = elim (cases_Bool (p k)) [
+  | inl so ↦ absurd (both_ways _ none (some_below-at n p k lt so))
+  | inr out ↦ out
+]
 
 -- the least of the numbers below n that pass
 pub least_below_at : (n : ℕ) (p : ℕ → Bool) → some_below n p ≡ true → (k : ℕ) × (k < n)
@@ -208,9 +182,22 @@ least_below_at (suc n) p h =
           | inl before ↦ absurd (both_ways _ none before)
           | inr here ↦ here
         ],
-        λ j lt. elim (cases_Bool (p j)) [
-          | inl so ↦ absurd (both_ways _ none (some_below-at n p j lt so))
-          | inr out ↦ out
-        ],
+        none_below n p none,
       )
     ]
+
+pub some_below-witness : (n : ℕ) (p : ℕ → Bool) → some_below n p ≡ true → (k : ℕ) × (k < n)
+    × (p k ≡ true)
+some_below-witness n p h = let at = least_below_at n p h in (at.0, at.1, at.2)
+
+pub some_below-mono : (n : ℕ) (p q : ℕ → Bool) → ((k : ℕ) → p k ≡ true → q k ≡ true)
+    → some_below n p ≡ true → some_below n q ≡ true
+some_below-mono n p q more h =
+    let at = some_below-witness n p h in some_below-at n q at.0 at.1 (more at.0 at.2)
+
+pub find_below : (n : ℕ) (p : ℕ → Bool) → ((k : ℕ) × (k < n) × (p k ≡ true))
+    ⊎ ((k : ℕ) → k < n → p k ≡ false)
+find_below n p = elim (cases_Bool (some_below n p)) [
+  | inl some ↦ inl (some_below-witness n p some)
+  | inr none ↦ inr (none_below n p none)
+]

@@ -1,10 +1,11 @@
 -- The ceiling of a lock is the level of its highest user.
-use Rattle.std.proofs.Common.{◌≡◌, ◌↔◌, ℕ, zero, suc, ◌+◌, ◌<◌, inl, inr, Bool, true, false, ◌==◌}
-use Rattle.std.proofs.Common.{cond, Option, Some, None, List, [], ◌∷◌, length, get_or, refl, sym}
+use Rattle.std.proofs.Common.{◌≡◌, ◌↔◌, ℕ, zero, suc, ◌+◌, ◌<◌, ◌≤◌, inl, inr, Bool, true, false}
+use Rattle.std.proofs.Common.{◌==◌, cond, Option, Some, None, List, [], ◌∷◌, length, get_or, refl, sym}
 use Rattle.std.proofs.Common.{◌∙◌, ap, subst, arith}
 use Rattle.std.specs.Option.{option_or}
-use Rattle.std.proofs.lemmas.Bool.{cases_order, both_ways, or_cases, or_left, or_right, eqb-true}
-use Rattle.std.proofs.lemmas.Bool.{eq-eqb, ltb-true, lt-ltb}
+use Rattle.std.proofs.lemmas.Bool.{cases_order, both_ways, or_cases, eqb-true, eq-eqb, ltb-true}
+use Rattle.std.proofs.lemmas.Bool.{lt-ltb}
+use Rattle.std.proofs.lemmas.List.Folds.{list_any_at}
 use Rattle.task_sheet.specs.Sheet.{Task, task_at}
 use Rattle.task_sheet.specs.Indexes.{among}
 use Rattle.task_sheet.specs.Locks.{uses, ceiling_from, ceiling_of, IsHighestUser}
@@ -21,9 +22,7 @@ among-place (x ∷ xs) k is = elim (or_cases (x == k) (among xs k) is) [
 ]
 
 place-among : (xs : List ℕ) (j : ℕ) → j < length xs → among xs (get_or xs j 0) ≡ true
-place-among [] j lt = absurd (omega arith)
-place-among (x ∷ xs) zero lt = or_left _ _ (eq-eqb x x refl)
-place-among (x ∷ xs) (suc j) lt = or_right _ _ (place-among xs j (omega arith))
+place-among xs j lt = list_any_at (λ x. x == get_or xs j 0) xs j 0 lt (eq-eqb _ _ refl)
 
 module _ (U : List Task) (lock : List ℕ) where
   abbrev NoUser : List ℕ → Type 0
@@ -34,31 +33,29 @@ module _ (U : List Task) (lock : List ℕ) where
   none_more i order out none zero lt = out
   none_more i order out none (suc k) lt = none k (omega arith)
 
+  -- no later one uses it, one place further
+  none_from : (i : ℕ) (order : List ℕ) (from : ℕ)
+      → ((k : ℕ) → from ≤ k → k < length order → uses (task_at U (get_or order k 0)) lock ≡ false)
+      → (k : ℕ) → from < k → k < length (i ∷ order)
+      → uses (task_at U (get_or (i ∷ order) k 0)) lock ≡ false
+  none_from i order from none zero above lt = absurd (omega arith)
+  none_from i order from none (suc k) above lt = none k (omega arith) (omega arith)
+
   highest_later : (i : ℕ) (order : List ℕ) (place : ℕ) → IsHighestUser U order lock place
       → IsHighestUser U (i ∷ order) lock (suc place)
   highest_later i order place h = record {
     in_order = omega (arith, h.in_order);
     user = h.user;
-    none_above = above;
+    none_above = none_from i order (suc place) h.none_above;
   }
-    where
-      above : (k : ℕ) → suc place < k → k < length (i ∷ order)
-          → uses (task_at U (get_or (i ∷ order) k 0)) lock ≡ false
-      above zero lt lt' = absurd (omega arith)
-      above (suc k) lt lt' = h.none_above k (omega arith) (omega arith)
 
   highest_here : (i : ℕ) (order : List ℕ) → uses (task_at U i) lock ≡ true → NoUser order
       → IsHighestUser U (i ∷ order) lock 0
   highest_here i order user none = record {
     in_order = omega arith;
     user = user;
-    none_above = above;
+    none_above = none_from i order 0 (λ k from lt. none k lt);
   }
-    where
-      above : (k : ℕ) → 0 < k → k < length (i ∷ order)
-          → uses (task_at U (get_or (i ∷ order) k 0)) lock ≡ false
-      above zero lt lt' = absurd (omega arith)
-      above (suc k) lt lt' = none k (omega arith)
 
   -- what the ceiling from a level says
   abbrev Says : ℕ → List ℕ → Option ℕ → Type 0

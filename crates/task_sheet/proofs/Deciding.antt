@@ -1,19 +1,20 @@
 -- Every set has a verdict: the climb from the lowest level up leads to one.
-use Rattle.std.proofs.Common.{◌≡◌, ℕ, zero, suc, ◌<◌, ◌≤◌, ◌⊎◌, inl, inr, Bool, true, false, cond}
-use Rattle.std.proofs.Common.{List, [], ◌∷◌, ◌++◌, length, refl, ◌∙◌, ap, subst, arith}
-use Rattle.std.proofs.lemmas.Bool.{cases_Bool, cases_eq, both_ways, cond-true, ltb-true}
+use Rattle.std.proofs.Common.{◌≡◌, ℕ, zero, suc, ◌<◌, ◌≤◌, ◌⊎◌, inl, inr, Bool, true, false, cond, ◌&&◌}
+use Rattle.std.proofs.Common.{List, [], ◌∷◌, ◌++◌, length, refl, ◌∙◌, ap, arith}
+use Rattle.std.proofs.lemmas.Bool.{cases_Bool, both_ways, cond-true, ltb-true, and_parts, and_from}
 use Rattle.std.proofs.lemmas.List.{map-append}
 use Rattle.task_sheet.specs.Sheet.{Task, AllTasks}
-use Rattle.task_sheet.specs.Indexes.{Indexes, IsPart, without_index, listed_below}
+use Rattle.task_sheet.specs.Indexes.{Indexes, IsPart, without_index, listed_below, some_below}
+use Rattle.task_sheet.specs.Choices.{does_stand}
 use Rattle.task_sheet.specs.Orders.{all_of, Stands, IsFeasible, IsBest}
 use Rattle.task_sheet.specs.Levels.{IsObstruction, IsGreatestObstruction, IsChosen, left_after}
 use Rattle.task_sheet.specs.Levels.{AllChosen}
 use Rattle.task_sheet.specs.Verdicts.{FailureData, LevelData, VerdictData, Admitted, Infeasible}
 use Rattle.task_sheet.specs.Verdicts.{tasks_of, order_of, AllFailures, IsLevel, AllLevels}
 use Rattle.task_sheet.specs.Verdicts.{IsVerdictOf}
-use Rattle.task_sheet.proofs.Below.{find_below, sum_below-le-term}
+use Rattle.task_sheet.proofs.Below.{find_below, sum_below-le-term, some_below-at, least_below_at}
 use Rattle.task_sheet.proofs.IndexLaws.{without-parts, count_below, without-fewer}
-use Rattle.task_sheet.proofs.PassingLaws.{Passes-iff_response, decide_stands, find_reason}
+use Rattle.task_sheet.proofs.PassingLaws.{Passes-iff_response, does_stand-iff, find_reason}
 use Rattle.task_sheet.proofs.ObstructionLaws.{IsObstruction-fails}
 use Rattle.task_sheet.proofs.VerdictLaws.{AllFailures-push, IsVerdictOf-admitted}
 use Rattle.task_sheet.proofs.VerdictLaws.{IsVerdictOf-infeasible}
@@ -26,24 +27,25 @@ NoneBelow U L n = (j : ℕ) → j < n → L j ≡ true → ¬ Stands U j (withou
 pub find_chosen : (U : List Task) (L : Indexes) (n : ℕ) → ((i : ℕ) × (i < n) × IsChosen U L i)
     ⊎ NoneBelow U L n
 unfolding NoneBelow
-find_chosen U L zero = inr (λ j lt. absurd (omega arith))
-find_chosen U L (suc n) =
-    elim (find_chosen U L n) [
-      | inl found ↦ inl (found.0, omega (arith, found.1), found.2)
-      | inr none ↦ elim (cases_Bool (L n)) [
-        | inl member ↦ elim (decide_stands U n (without_index L n)) [
-          | inl stands ↦
-              inl (n, omega arith, record { member = member; stands = stands; first = none })
-          | inr fails ↦ inr (λ j lt is stands. elim (cases_eq j n) [
-            | inl e ↦ fails (subst (λ i. Stands U i (without_index L i)) e stands)
-            | inr ne ↦ none j (omega arith) is stands
-          ])
-        ]
-        | inr out ↦ inr (λ j lt is stands. elim (cases_eq j n) [
-          | inl e ↦ both_ways (L n) out (rw e at is)
-          | inr ne ↦ none j (omega arith) is stands
-        ])
-      ]
+find_chosen U L n =
+    let p : ℕ → Bool = λ j. L j && does_stand U j (without_index L j) in
+    let passes : (j : ℕ) → L j ≡ true → Stands U j (without_index L j) → p j ≡ true =
+    λ j member stands. and_from _ _ member ((does_stand-iff U j (without_index L j)).1 stands) in
+    elim (cases_Bool (some_below n p)) [
+      | inl some ↦
+          let at = least_below_at n p some in
+          let both = and_parts (L at.0) _ at.2 in
+          inl (
+            at.0,
+            at.1,
+            record {
+              member = both.0;
+              stands = (does_stand-iff U at.0 (without_index L at.0)).0 both.1;
+              first = λ j lt member stands. both_ways _ (at.3 j lt) (passes j member stands);
+            },
+          )
+      | inr none ↦ inr (λ j lt member stands.
+          both_ways _ none (some_below-at n p j lt (passes j member stands)))
     ]
 
 -- ---- the reasons of those that fail

@@ -76,16 +76,12 @@ without-fewer n L i lt member =
     let g : ℕ → ℕ = λ k. cond (L k) 1 0 in
     let none : f i ≡ 0 = cond-false {A = ℕ} (without_index L i i) 1 0 (without-gone L i i refl) in
     let one : g i ≡ 1 = cond-true {A = ℕ} (L i) 1 0 member in
-    omega (
-      arith,
-      sum_below-gap n f g i (λ k. elim (cases_Bool (without_index L i k)) [
-        | inl so ↦ let here : f k ≡ 1 = cond-true {A = ℕ} (without_index L i k) 1 0 so in
-            let there : g k ≡ 1 = cond-true {A = ℕ} (L k) 1 0 (without-parts L i k so).0 in
-            omega arith
-        | inr so ↦ let here : f k ≡ 0 = cond-false {A = ℕ} (without_index L i k) 1 0 so in
-            omega arith
-      ]) lt none,
-    )
+    omega (arith, sum_below-gap n f g i (λ k. fewer (L k) (not (k == i))) lt none)
+  where
+    fewer : (a b : Bool) → cond (a && b) 1 0 ≤ cond a 1 0
+    fewer true true = omega arith
+    fewer true false = omega arith
+    fewer false b = omega arith
 
 -- ---- how often a list names an index
 pub count-cons : (i k : ℕ) (xs : List ℕ)
@@ -114,29 +110,23 @@ among-count (x ∷ xs) k =
     ]
 
 -- ---- lists that name each index of a set once
+one_told : (b : Bool) → 1 ≤ cond b 1 0 → b ≡ true
+one_told true h = refl
+one_told false h = absurd (omega arith)
+
+none_told : (b : Bool) → cond b 1 0 ≤ 0 → b ≡ false
+none_told true h = absurd (omega arith)
+none_told false h = refl
+
 pub IsOrderOf-among : (L : Indexes) (order : List ℕ) → IsOrderOf L order → among order ≡ L
-IsOrderOf-among L order each = fun_ext (λ k.
-    let once = each k in
-    elim (cases_Bool (L k)) [
-      | inl member ↦ let c = cond-true {A = ℕ} (L k) 1 0 member in
-          elim (among-count order k) [
-            | inl is ↦ is.0 ∙ sym member
-            | inr out ↦ absurd (omega (arith, out.1))
-          ]
-      | inr outside ↦ let c = cond-false {A = ℕ} (L k) 1 0 outside in
-          elim (among-count order k) [
-            | inl is ↦ absurd (omega (arith, is.1))
-            | inr out ↦ out.0 ∙ sym outside
-          ]
-    ])
+IsOrderOf-among L order each = fun_ext (λ k. elim (among-count order k) [
+  | inl is ↦ is.0 ∙ sym (one_told (L k) (omega (arith, each k, is.1)))
+  | inr out ↦ out.0 ∙ sym (none_told (L k) (omega (arith, each k, out.1)))
+])
 
 pub IsOrderOf-head : (L : Indexes) (i : ℕ) (above : List ℕ) → IsOrderOf L (i ∷ above) → L i ≡ true
 IsOrderOf-head L i above each =
-    elim (cases_Bool (L i)) [
-      | inl member ↦ member
-      | inr outside ↦ let c = cond-false {A = ℕ} (L i) 1 0 outside in
-          absurd (omega (arith, each i, count-same i i above refl))
-    ]
+    one_told (L i) (omega (arith, each i, count-same i i above refl))
 
 pub IsOrderOf-rest : (L : Indexes) (i : ℕ) (above : List ℕ) → IsOrderOf L (i ∷ above)
     → IsOrderOf (without_index L i) above
@@ -144,10 +134,7 @@ IsOrderOf-rest L i above each k =
     let once = each k in
     elim (cases_eq k i) [
       | inl e ↦
-          let at_most : cond (L k) 1 0 ≤ 1 = elim (cases_Bool (L k)) [
-            | inl so ↦ rw so (omega arith)
-            | inr so ↦ rw so (omega arith)
-          ] in
+          let at_most = cond-le (L k) 1 0 1 (omega arith) (omega arith) in
           rw (without-gone L i k e) (omega (arith, count-same i k above (sym e)))
       | inr ne ↦ rw (without-kept L i k ne) (omega (arith, count-other i k above (λ e. ne (sym e))))
     ]

@@ -2,12 +2,10 @@
 use Rattle.std.proofs.Common.{◌≡◌, ◌↔◌, ℕ, zero, suc, ◌+◌, ◌*◌, ◌<◌, ◌≤◌, false, List, [], ◌∷◌}
 use Rattle.std.proofs.Common.{length, sum_by, nat_lt, refl, arith}
 use Rattle.std.specs.Int.{div_ceil}
-use Rattle.std.specs.List.{AllByRecursion}
 use Rattle.std.proofs.lemmas.Grind.{div_ceil_times}
 use Rattle.std.proofs.lemmas.Bool.{or_parts}
 use Rattle.std.proofs.lemmas.Bool.Decides.{nat_tests}
-use Rattle.std.proofs.lemmas.List.Elements.{recursion_from_All}
-use Rattle.std.proofs.lemmas.List.Sums.{sum_by-cons}
+use Rattle.std.proofs.lemmas.List.Sums.{sum_by-le, sum_by-le-sum_by}
 use Rattle.std.proofs.Math.Nat.{mul-le-mul_left, mul-le-mul_right, mul-zero}
 use Rattle.task_sheet.specs.declared.node.Interrupt.{Interrupt}
 use Rattle.task_sheet.specs.Sheet.{Task, IsTask, AllTasks, IsInterrupt, IsValidSheet, no_task}
@@ -18,7 +16,7 @@ use Rattle.task_sheet.specs.Demand.{releases_within, blocking_of, interference_w
 use Rattle.task_sheet.specs.Demand.{interrupt_within, interrupts_of, interrupts_within}
 use Rattle.task_sheet.specs.Demand.{interrupts_some, has_interrupts, IsUninterrupted, demand_of}
 use Rattle.task_sheet.proofs.Below.{sum_below-le, sum_below-fits}
-use Rattle.task_sheet.proofs.Releases.{div_ceil-mono, releases-mono}
+use Rattle.task_sheet.proofs.Releases.{div_ceil-mono, releases-mono, jobs-fits}
 use Rattle.task_sheet.proofs.TaskLaws.{valid_at}
 
 -- ---- a longer window
@@ -26,27 +24,14 @@ pub interrupt-mono : (x : Interrupt) (t s : ℕ) → t ≤ s → interrupt_withi
 interrupt-mono x t s le =
     mul-le-mul_right x.cost (div_ceil-mono (t + 0) (s + 0) x.period (omega arith))
 
-interrupt_sum-mono : (xs : List Interrupt) (t s : ℕ) → t ≤ s
-    → sum_by (interrupt_within t) xs ≤ sum_by (interrupt_within s) xs
-interrupt_sum-mono [] t s le = omega arith
-interrupt_sum-mono (x ∷ xs) t s le =
-    omega (
-      arith,
-      interrupt-mono x t s le,
-      interrupt_sum-mono xs t s le,
-      sum_by-cons
-          (interrupt_within t) x xs,
-      sum_by-cons (interrupt_within s) x xs,
-    )
-
 pub interrupts_of-mono : (x : Task) (t s : ℕ) → IsTask x → t ≤ s
     → interrupts_of t x ≤ interrupts_of s x
 interrupts_of-mono x t s valid le =
     omega (
       arith,
       mul-le-mul_right x.node.release (releases-mono x t s valid le),
-      interrupt_sum-mono
-          x.interrupts t s le,
+      sum_by-le-sum_by (interrupt_within t) (interrupt_within s) x.interrupts
+          (λ y. interrupt-mono y t s le),
     )
 
 pub interrupts-mono : (U : List Task) → AllTasks U → (t s : ℕ) → t ≤ s
@@ -69,44 +54,16 @@ interrupt-fits x t valid le =
       valid.period_to,
     )
 
-interrupt_sum-fits : (xs : List Interrupt) (t : ℕ) → AllByRecursion IsInterrupt xs → t ≤ 10000000
-    → sum_by (interrupt_within t) xs ≤ length xs * 20000000
-interrupt_sum-fits [] t valid le = omega arith
-interrupt_sum-fits (x ∷ xs) t valid le =
-    omega (
-      arith,
-      interrupt-fits x t valid.0 le,
-      interrupt_sum-fits xs t valid.1 le,
-      sum_by-cons
-          (interrupt_within t) x xs,
-    )
-
-timer-fits : (x : Task) (t : ℕ) → IsValidSheet x → t ≤ 10000000
-    → releases_within x t * x.node.release ≤ 30000000
-timer-fits x t valid le =
-    let some : 0 < x.period = omega (arith, valid.period_from) in
-    let jobs = div_ceil (t + x.jitter) x.period in
-    let short : x.node.release ≤ x.period =
-    omega (arith, valid.period_from, valid.overheads.release) in
-    omega (
-      arith,
-      (div_ceil_times (t + x.jitter) x.period some).1,
-      mul-le-mul_left jobs short,
-      valid.period_to,
-      valid.jitter,
-      valid.deadline_to,
-    )
-
 pub interrupts_of-fits : (x : Task) (t : ℕ) → IsValidSheet x → t ≤ 10000000
     → interrupts_of t x ≤ 190000000
-interrupts_of-fits x t valid le =
-    omega (
-      arith,
-      timer-fits x t valid le,
-      interrupt_sum-fits x.interrupts t (recursion_from_All
-          IsInterrupt x.interrupts valid.interrupts.valid) le,
-      valid.interrupts.few,
-    )
+interrupts_of-fits x t valid le = omega (
+  arith,
+  jobs-fits x t x.node.release valid le
+      (omega (arith, valid.period_from, valid.overheads.release)),
+  sum_by-le (interrupt_within t) 20000000 x.interrupts
+      (λ k d lt. interrupt-fits _ t (valid.interrupts.valid k d lt) le),
+  valid.interrupts.few,
+)
 
 pub interrupts-fits : (U : List Task) → IsTaskSet U → (t : ℕ) → t ≤ 10000000
     → interrupts_within U t ≤ 6080000000

@@ -3,7 +3,7 @@ use Rattle.std.proofs.Common.{◌≡◌, ℕ, zero, suc, ◌+◌, ◌^◌, ◌%�
 use Rattle.std.proofs.Common.{not, nat_lt, nat_eq, cond, min, bit_and, refl, sym, ◌∙◌, ap, arith}
 use Rattle.std.specs.Int.{bit_at}
 use Rattle.std.proofs.lemmas.Nat.Bits.{bit_at_and, bit_at-lt}
-use Rattle.std.proofs.lemmas.Nat.{and_le_l}
+use Rattle.std.proofs.lemmas.Nat.{and_le_l, pow_pos}
 use Rattle.std.proofs.lemmas.Bool.Decides.{nat_tests}
 use Rattle.task_sheet.specs.Indexes.{indexes_of, some_below, meet}
 use Rattle.task_sheet.specs.Members.{number_of_bits, has_bit, places}
@@ -21,16 +21,12 @@ some_step : (s b : Bool) (p n : ℕ) → 0 < p → s ≡ not (nat_eq n 0)
 some_step s true p n pos e = grind (arith, nat_tests)
 some_step s false p n pos e = grind (arith, nat_tests)
 
-pow_positive : (k : ℕ) → 0 < 2 ^ k
-pow_positive zero = omega arith
-pow_positive (suc k) = omega (arith, pow_positive k)
-
 -- a number is 0 where it has no bit
 some_bit : (f : ℕ → Bool) (w : ℕ) → some_below w f ≡ not (nat_eq (number_of_bits f w) 0)
 unfolding number_of_bits
 some_bit f zero = refl
 some_bit f (suc w) =
-    some_step (some_below w f) (f w) (2 ^ w) (number_of_bits f w) (pow_positive w) (some_bit f w)
+    some_step (some_below w f) (f w) (2 ^ w) (number_of_bits f w) (pow_pos w) (some_bit f w)
 
 both_bits : (k x y z : ℕ) (p q : Bool) → k < 32 → x < 2 → y < 2 → z ≡ min x y
     → p ≡ (nat_lt k 32 && nat_eq x 1) → q ≡ (nat_lt k 32 && nat_eq y 1) → nat_eq z 1 ≡ (p && q)

@@ -1,8 +1,7 @@
 -- When a task passes, and when it may stand: the test, the response, the chains, and fewer tasks above.
-use Rattle.std.proofs.Common.{◌≡◌, ◌↔◌, ℕ, ◌+◌, ◌-◌, ◌<◌, ◌≤◌, sym, subst, true, false, nat_le}
-use Rattle.std.proofs.Common.{◌&&◌, not, ◌⊎◌, inl, inr, List, length, IsTrue, ap, arith}
+use Rattle.std.proofs.Common.{◌≡◌, ◌↔◌, ℕ, ◌+◌, ◌-◌, ◌<◌, ◌≤◌, sym, subst, true, false}
+use Rattle.std.proofs.Common.{◌&&◌, not, inl, inr, List, length, IsTrue, ap, arith}
 use Rattle.std.proofs.lemmas.Bool.{cases_Bool, cases_order, both_ways, and_parts, and_from}
-use Rattle.std.proofs.lemmas.Bool.{leb-true, le-leb}
 use Rattle.task_sheet.specs.Sheet.{Task, AllTasks, task_at}
 use Rattle.task_sheet.specs.Indexes.{Indexes, IsPart}
 use Rattle.task_sheet.specs.Responses.{IsResponse, IsChain, IsFullChain}
@@ -15,7 +14,8 @@ use Rattle.task_sheet.specs.Choices.{does_stand}
 use Rattle.task_sheet.proofs.Below.{some_below-at, some_below-witness, some_below-mono}
 use Rattle.task_sheet.proofs.Below.{least_below_at}
 use Rattle.task_sheet.proofs.Exchange.{demand-part}
-use Rattle.task_sheet.proofs.ResponseLaws.{IsResponse-one, Covers-iff_response, decide_covers}
+use Rattle.task_sheet.proofs.ResponseLaws.{IsResponse-one, Covers-iff_response, covers}
+use Rattle.task_sheet.proofs.ResponseLaws.{covers-from, covers-parts}
 use Rattle.task_sheet.proofs.ResponseLaws.{IsChain-fails, find_full_chain, IsFullChain-one}
 use Rattle.task_sheet.proofs.DemandLaws.{demand-mono, demand_does_not_fall}
 
@@ -23,12 +23,11 @@ pub does_pass-iff : (U : List Task) (i : ℕ) (H : Indexes) → (does_pass U i H
 unfolding does_pass
 does_pass-iff U i H = (
   λ h.
-      let found = some_below-witness (limit_of (task_at U i) + 1)
-      (λ t. nat_le 1 t && nat_le (demand_of U i H t) t) h in
-      let both = and_parts _ _ found.2 in
-      (found.0, leb-true _ _ both.0, omega (arith, found.1), leb-true _ _ both.1),
-  λ p. some_below-at (limit_of (task_at U i) + 1) (λ t. nat_le 1 t && nat_le (demand_of U i H t) t)
-      p.0 (omega (arith, p.2)) (and_from _ _ (le-leb _ _ p.1) (le-leb _ _ p.3)),
+      let found = some_below-witness (limit_of (task_at U i) + 1) (covers (demand_of U i H)) h in
+      let both = covers-parts (demand_of U i H) found.0 found.2 in
+      (found.0, both.0, omega (arith, found.1), both.1),
+  λ p. some_below-at (limit_of (task_at U i) + 1) (covers (demand_of U i H)) p.0
+      (omega (arith, p.2)) (covers-from (demand_of U i H) p.0 p.1 p.3),
 )
 
 -- a time that is its own demand, with the jitter
@@ -161,15 +160,6 @@ pub Refutes-from_reason : (U : List Task) (i : ℕ) (H : Indexes) (reason : Reas
     → IsReason U i H reason → Refutes U i H reason
 Refutes-from_reason U i H (Chain numbers) reason = reason.1.chain
 Refutes-from_reason U i H (Over other) reason = (reason.in_set, reason.above, reason.named)
-
-pub decide_stands : (U : List Task) (i : ℕ) (H : Indexes) → Stands U i H ⊎ ¬ Stands U i H
-decide_stands U i H = elim (cases_Bool (is_bound U i H)) [
-  | inl bound ↦ inr (λ stands. both_ways _ stands.1 bound)
-  | inr free ↦ elim (decide_covers (demand_of U i H) (limit_of (task_at U i))) [
-    | inl passes ↦ inl (passes, free)
-    | inr fails ↦ inr (λ stands. fails stands.0)
-  ]
-]
 
 -- a task that may not stand has a reason
 pub find_reason : (U : List Task) (i : ℕ) (H : Indexes) → ¬ Stands U i H → (reason : ReasonData)

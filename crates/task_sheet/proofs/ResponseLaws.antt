@@ -1,7 +1,8 @@
 -- Responses and chains of a demand that does not fall.
 use Rattle.std.proofs.Common.{◌≡◌, ℕ, zero, suc, ◌+◌, ◌<◌, ◌≤◌, ◌⊎◌, inl, inr, ◌↔◌, List, [], ◌∷◌}
-use Rattle.std.proofs.Common.{refl, sym, ◌∙◌, ap, subst, arith}
-use Rattle.std.proofs.lemmas.Bool.{cases_lt, cases_eq}
+use Rattle.std.proofs.Common.{refl, sym, ◌∙◌, arith, Bool, true, nat_le, ◌&&◌}
+use Rattle.std.proofs.lemmas.Bool.{cases_lt, both_ways, and_parts, and_from, leb-true, le-leb}
+use Rattle.task_sheet.proofs.Below.{find_below, some_below-at, least_below_at}
 use Rattle.task_sheet.specs.Responses.{Covers, IsResponse, ChainFrom, IsChain, FullFrom}
 use Rattle.task_sheet.specs.Responses.{IsFullChain}
 
@@ -10,56 +11,24 @@ pub record DoesNotFall (W : ℕ → ℕ) : Type 0 where
   pub positive : (t : ℕ) → 1 ≤ W t
   pub rises : (t s : ℕ) → t ≤ s → W t ≤ W s
 
--- the least positive number up to n that covers its demand
-record IsFirstCover (W : ℕ → ℕ) (n t : ℕ) : Type 0 where
-  positive : 1 ≤ t
-  within : t ≤ n
-  covers : W t ≤ t
-  first : (s : ℕ) → 1 ≤ s → s < t → s < W s
+-- a positive number that covers its demand, as a test
+abbrev pub covers : (ℕ → ℕ) → ℕ → Bool
+covers W t = nat_le 1 t && nat_le (W t) t
 
-NoneCovers : (ℕ → ℕ) → ℕ → Type 0
-NoneCovers W n = (s : ℕ) → 1 ≤ s → s ≤ n → s < W s
+pub covers-from : (W : ℕ → ℕ) (t : ℕ) → 1 ≤ t → W t ≤ t → covers W t ≡ true
+covers-from W t pos le = and_from _ _ (le-leb 1 t pos) (le-leb (W t) t le)
 
-find_cover : (W : ℕ → ℕ) (n : ℕ) → ((t : ℕ) × IsFirstCover W n t) ⊎ NoneCovers W n
-unfolding NoneCovers
-find_cover W zero = inr (λ s pos le. absurd (omega arith))
-find_cover W (suc n) =
-    elim (find_cover W n) [
-      | inl found ↦ inl (
-        found.0,
-        record {
-          positive = found.1.positive;
-          within =
-              omega (arith, found.1.within);
-          covers = found.1.covers;
-          first = found.1.first;
-        },
-      )
-      | inr none ↦ elim (cases_lt (suc n) (W (suc n))) [
-        | inl short ↦ inr (λ s pos le. elim (cases_eq s (suc n)) [
-          | inl e ↦ rw e short
-          | inr ne ↦ none s pos (omega arith)
-        ])
-        | inr covers ↦ inl (
-          suc n,
-          record {
-            positive = omega arith;
-            within = omega arith;
-            covers =
-                covers;
-            first = λ s pos lt. none s pos (omega arith);
-          },
-        )
-      ]
-    ]
+pub covers-parts : (W : ℕ → ℕ) (t : ℕ) → covers W t ≡ true → (1 ≤ t) × (W t ≤ t)
+covers-parts W t h = let both = and_parts _ _ h in (leb-true 1 t both.0, leb-true (W t) t both.1)
 
 pub decide_covers : (W : ℕ → ℕ) (limit : ℕ) → Covers W limit ⊎ ¬ Covers W limit
-unfolding NoneCovers
-decide_covers W limit =
-    elim (find_cover W limit) [
-      | inl found ↦ inl (found.0, found.1.positive, found.1.within, found.1.covers)
-      | inr none ↦ inr (λ c. let short = none c.0 c.1 c.2 in omega (arith, short, c.3))
-    ]
+decide_covers W limit = elim (find_below (limit + 1) (covers W)) [
+  | inl found ↦
+      let both = covers-parts W found.0 found.2 in
+      inl (found.0, both.0, omega (arith, found.1), both.1)
+  | inr none ↦
+      inr (λ c. both_ways _ (none c.0 (omega (arith, c.2))) (covers-from W c.0 c.1 c.3))
+]
 
 -- two responses are one
 pub IsResponse-one : (W : ℕ → ℕ) (r s : ℕ) → IsResponse W r → IsResponse W s → r ≡ s
@@ -70,30 +39,36 @@ IsResponse-one W r s first second = omega (
 )
 
 module _ (W : ℕ → ℕ) (steady : DoesNotFall W) where
-  response_of_cover : (n t : ℕ) → IsFirstCover W n t → IsResponse W t
-  response_of_cover n t found = record {
-    positive = found.positive;
-    fixed = elim (cases_lt (W t) t) [
-      | inl lt ↦
-          let short = found.first (W t) (steady.positive t) lt in
-          absurd (omega (arith, short, steady.rises (W t) t (omega arith)))
-      | inr le ↦ omega (arith, found.covers)
-    ];
-    least = λ s pos e. elim (cases_lt s t) [
-      | inl lt ↦ absurd (omega (arith, found.first s pos lt))
-      | inr le ↦ le
-    ];
-  }
+  -- the least time that covers its demand is the response
+  response_of_cover : (limit : ℕ) → Covers W limit → (r : ℕ) × IsResponse W r × (r ≤ limit)
+  response_of_cover limit c =
+      let at = least_below_at (limit + 1) (covers W) (some_below-at (limit + 1) (covers W) c.0
+      (omega (arith, c.2)) (covers-from W c.0 c.1 c.3)) in
+      let both = covers-parts W at.0 at.2 in
+      let first : (s : ℕ) → 1 ≤ s → s < at.0 → s < W s = λ s pos lt. elim (cases_lt s (W s)) [
+        | inl short ↦ short
+        | inr le ↦ absurd (both_ways _ (at.3 s lt) (covers-from W s pos le))
+      ] in (
+        at.0,
+        record {
+          positive = both.0;
+          fixed = elim (cases_lt (W at.0) at.0) [
+            | inl lt ↦
+                let short = first (W at.0) (steady.positive at.0) lt in
+                absurd (omega (arith, short, steady.rises (W at.0) at.0 (omega arith)))
+            | inr le ↦ omega (arith, both.1)
+          ];
+          least = λ s pos e. elim (cases_lt s at.0) [
+            | inl lt ↦ absurd (omega (arith, first s pos lt))
+            | inr le ↦ le
+          ];
+        },
+        omega (arith, at.1),
+      )
 
   pub Covers-iff_response : (limit : ℕ) → Covers W limit ↔ ((r : ℕ) × IsResponse W r × (r ≤ limit))
-  unfolding NoneCovers
-  Covers-iff_response limit = (
-    λ c. elim (find_cover W limit) [
-      | inl found ↦ (found.0, response_of_cover limit found.0 found.1, found.1.within)
-      | inr none ↦ absurd (omega (arith, none c.0 c.1 c.2, c.3))
-    ],
-    λ r. (r.0, r.1.positive, r.2, omega (arith, r.1.fixed)),
-  )
+  Covers-iff_response limit =
+      (response_of_cover limit, λ r. (r.0, r.1.positive, r.2, omega (arith, r.1.fixed)))
 
 -- ---- chains
 module _ (W : ℕ → ℕ) (rises : (t s : ℕ) → t ≤ s → W t ≤ W s) where
@@ -117,11 +92,10 @@ FullFrom-one W limit a [] [] first full second full' = refl
 FullFrom-one W limit a [] (c ∷ cs) first full second full' = absurd (omega (arith, first, second.0))
 FullFrom-one W limit a (b ∷ bs) [] first full second full' = absurd (omega (arith, first.0, second))
 FullFrom-one W limit a (b ∷ bs) (c ∷ cs) first full second full' =
-    let same : b ≡ c = full.0 ∙ sym full'.0 in
-    let second' = subst (λ n. ChainFrom W limit n cs) (sym same) second.3 in
-    let rest = FullFrom-one W limit b bs cs first.3 full.1 second'
-    (subst (λ n. FullFrom W n cs) (sym same) full'.1) in
-    ap (λ n. n ∷ bs) same ∙ ap (λ ns. c ∷ ns) rest
+    let same : c ≡ b = full'.0 ∙ sym full.0 in
+    let rest = FullFrom-one W limit b bs cs first.3 full.1 (rw same at second.3)
+    (rw same at full'.1) in
+    λ i. sym same i ∷ rest i
 
 pub IsFullChain-one : (W : ℕ → ℕ) (limit : ℕ) (xs ys : List ℕ) → IsFullChain W limit xs
     → IsFullChain W limit ys → xs ≡ ys
@@ -129,10 +103,9 @@ IsFullChain-one W limit [] ys first second = absurd first.chain
 IsFullChain-one W limit (a ∷ bs) [] first second = absurd second.chain
 IsFullChain-one W limit (a ∷ bs) (c ∷ cs) first second =
     let same : c ≡ a = second.chain.0 ∙ sym first.chain.0 in
-    let chain = subst (λ n. ChainFrom W limit n cs) same second.chain.1 in
-    let full = subst (λ n. FullFrom W n cs) same second.full in
-    ap (λ ns. a ∷ ns) (FullFrom-one W limit a bs cs first.chain.1 first.full chain full)
-    ∙ ap (λ n. n ∷ cs) (sym same)
+    let rest = FullFrom-one W limit a bs cs first.chain.1 first.full (rw same at second.chain.1)
+    (rw same at second.full) in
+    λ i. sym same i ∷ rest i
 
 -- ---- where no time covers its demand, there is a full chain
 -- the iterates from a on, of which there are at most so many up to the limit

@@ -1,26 +1,30 @@
 -- Sheets and the first that repeats a name; sheets sorted by rank are a set.
-use Rattle.std.proofs.Common.{◌≡◌, ℕ, suc, ◌+◌, ◌<◌, ◌≤◌, Bool, true, false, cond, ◌||◌, List, []}
+use Rattle.std.proofs.Common.{◌≡◌, ℕ, ◌+◌, ◌<◌, ◌≤◌, Bool, true, false, cond, ◌||◌, List, []}
 use Rattle.std.proofs.Common.{◌∷◌, ◌++◌, length, get_or, take, drop, Option, Some, None, Ordering}
-use Rattle.std.proofs.Common.{Less, Equal, Greater, refl, sym, ◌∙◌, ap, subst, arith, not}
+use Rattle.std.proofs.Common.{Less, Equal, Greater, refl, sym, ◌∙◌, ap, arith, not}
 use Rattle.std.proofs.Common.{length-append}
 use Rattle.std.specs.List.{list_any, filter, AllByRecursion, All}
 use Rattle.std.specs.List.Sorted.{IsPermutation, IsSortedBy, IsStrictlySortedBy}
 use Rattle.std.specs.Ordering.{nat_cmp, is_lt, is_eq, ordering_then, ordering_reverse}
-use Rattle.std.specs.Cmp.{IsTotalOrder, IsStrictWeakOrder, then_total, on_total, nat_cmp_total}
+use Rattle.std.specs.Cmp.{IsTotalOrder, then_total, on_total, nat_cmp_total}
 use Rattle.std.specs.Cmp.Lexicographic.{slice_cmp, nat_list_cmp_total, nat_list_eq_equiv}
 use Rattle.std.specs.Cmp.Lexicographic.{texts_ties}
+use Rattle.std.proofs.Math.Bool.{or-false}
 use Rattle.std.proofs.lemmas.Bool.{false≢true, le-ltb, or_parts}
 use Rattle.std.proofs.lemmas.List.{append-nil, drop_more, take_more}
 use Rattle.std.proofs.lemmas.List.Folds.{list_any-append}
-use Rattle.std.proofs.lemmas.List.Elements.{recursion_from_All, All-push, All-filter, filter_more}
+use Rattle.std.proofs.lemmas.List.Sums.{length-filter, count_by-le-length}
+use Rattle.std.proofs.lemmas.List.Elements.{recursion_from_All, All-from_recursion, All-push, All-filter}
+use Rattle.std.proofs.lemmas.List.Elements.{filter_more}
 use Rattle.std.proofs.lemmas.List.Sorted.{All-permutation, length_permutation, IsPermutation-sym}
-use Rattle.std.proofs.lemmas.List.Sorted.{IsPermutation-trans, ranks_by, sorted_far}
-use Rattle.task_sheet.specs.Sheet.{Task, IsValidSheet, same_bytes}
+use Rattle.std.proofs.lemmas.List.Sorted.{IsPermutation-trans}
+use Rattle.std.proofs.lemmas.Map.Keys.{sorted_from_all_adjacent, apart_from_distinct}
+use Rattle.task_sheet.specs.Sheet.{Task, IsValidSheet, no_task, same_bytes}
 use Rattle.task_sheet.specs.Rank.{rank_cmp, IsByRank}
 use Rattle.task_sheet.specs.TaskSet.{first_repeat, has_name, others_of, same_name, AreDistinct}
 use Rattle.task_sheet.specs.TaskSet.{IsTaskSet}
 use Rattle.task_sheet.specs.SheetsFault.{set_cause, sheets_fault}
-use Rattle.task_sheet.proofs.Distinct.{AreDistinct-permutation}
+use Rattle.task_sheet.proofs.Distinct.{std_distinct, AreDistinct-permutation}
 use Rattle.task_sheet.proofs.Unique.{sorted_unique}
 use Rattle.std.proofs.lemmas.List.Kept.{IsStrictlySortedBy-filter}
 
@@ -85,48 +89,19 @@ below x y h apart = by (rank_cmp x y) refl
     by Greater e =
         absurd (false≢true (sym h ∙ ap is_lt (rank_total.antisymm y x ∙ ap ordering_reverse e)))
 
--- each element is not after a later one
-abbrev AreInOrder : List Task → Type 0
-AreInOrder [] = Unit {0}
-AreInOrder (x ∷ xs) = AllByRecursion (λ y. is_lt (rank_cmp y x) ≡ false) xs × AreInOrder xs
-
-in_order : (xs : List Task) → IsSortedBy (λ x y. is_lt (rank_cmp x y)) xs → AreInOrder xs
-in_order [] up = tt
-in_order (x ∷ xs) up =
-    let P : Task → Type 0 = λ y. is_lt (rank_cmp y x) ≡ false in
-    let weak : IsStrictWeakOrder (λ x y. is_lt (rank_cmp x y)) = ranks_by rank_total (λ s. s) in
-    let far : All P xs = λ k d h. sorted_far (λ x y. is_lt (rank_cmp x y)) weak (x ∷ xs) up 0
-    (suc k) d (omega arith) (omega arith) in (
-      recursion_from_All P xs far,
-      in_order xs (λ k d l h.
-          let e : suc k + 1 ≡ suc (k + 1) = omega arith in
-          let Q : ℕ → Type 0 =
-          λ n. is_lt (rank_cmp (get_or (x ∷ xs) n d) (get_or xs k d)) ≡ false in
-          subst Q e (up (suc k) d (omega arith) (omega arith))),
-    )
-
-strictly : (xs : List Task) → AreInOrder xs → AreDistinct same_name xs
-    → IsStrictlySortedBy rank_cmp xs
-unfolding IsStrictlySortedBy
-strictly [] up apart = tt
-strictly (x ∷ xs) up apart = (each xs up.0 apart.0, strictly xs up.1 apart.1)
-  where
-    each : (ys : List Task) → AllByRecursion (λ y. is_lt (rank_cmp y x) ≡ false) ys → AllByRecursion
-        (λ y. same_name x y ≡ false) ys → AllByRecursion (λ y. rank_cmp x y ≡ Less) ys
-    each [] a b = tt
-    each (y ∷ ys) a b = (below x y a.0 b.0, each ys a.1 b.1)
+strictly : (xs : List Task) → IsSortedBy (λ x y. is_lt (rank_cmp x y)) xs
+    → AreDistinct same_name xs → IsStrictlySortedBy rank_cmp xs
+strictly xs up apart = sorted_from_all_adjacent rank_total xs no_task (λ k lt.
+    below (get_or xs k no_task) (get_or xs (k + 1) no_task) (up k no_task (omega arith) lt)
+    (apart_from_distinct same_name xs k (k + 1) no_task (std_distinct same_name xs apart)
+    (omega arith) lt))
 
 -- ---- no repeat
 
 any_last : (p : Task → Bool) (xs : List Task) (x : Task) → list_any p (xs ++ x ∷ []) ≡ false
     → (list_any p xs ≡ false) × (p x ≡ false)
-any_last p [] x h = (refl, grind arith)
-any_last p (y ∷ ys) x h =
-    elim (p y) as (λ b. (b || list_any p (ys ++ x ∷ [])) ≡ false → ((b || list_any p ys) ≡ false)
-    × (p x ≡ false)) [
-      | true ↦ λ e. absurd (false≢true (sym e))
-      | false ↦ λ e. any_last p ys x e
-    ] h
+any_last p xs x h = or_parts (list_any p xs) (p x) (sym (list_any-append p xs (x ∷ [])
+    ∙ ap (λ b. list_any p xs || b) (or-false (p x))) ∙ h)
 
 -- no element of some has the name of one that is seen
 abbrev Unseen : List Task → List Task → Type 0
@@ -194,7 +169,7 @@ sorted_set xs ys valid distinct few p up =
     let apart = AreDistinct-permutation same_name same_own same_turned xs ys p distinct in
     record {
       valid = All-permutation IsValidSheet xs ys p valid;
-      ranked = strictly ys (in_order ys up) apart;
+      ranked = strictly ys up apart;
       distinct = apart;
       few = omega (arith, length_permutation xs ys p);
     }
@@ -237,13 +212,8 @@ sheets_more xs x set valid new room = record {
 
 pub passing : (P : Task → Type 0) (p : Task → Bool) (xs : List Task) → AllByRecursion P xs
     → AllByRecursion P (filter p xs)
-passing P p [] h = tt
-passing P p (x ∷ xs) h =
-    elim (p x) as (λ b. AllByRecursion P (cond b (x ∷ filter p xs) (filter p xs))) [
-      | true ↦
-          (h.0, passing P p xs h.1)
-      | false ↦ passing P p xs h.1
-    ]
+passing P p xs h =
+    recursion_from_All P (filter p xs) (All-filter p P xs (All-from_recursion P xs h))
 
 pub distinct_less : (p : Task → Bool) (xs : List Task) → AreDistinct same_name xs
     → AreDistinct same_name (filter p xs)
@@ -254,11 +224,6 @@ distinct_less p (x ∷ xs) h =
       | false ↦ distinct_less p xs h.1
     ]
 
-shorter : (p : Task → Bool) (xs : List Task) → length (filter p xs) ≤ length xs
-shorter p [] = omega arith
-shorter p (x ∷ xs) = elim (p x) as (λ b. length (cond b (x ∷ filter p xs) (filter p xs))
-    ≤ length (x ∷ xs)) [ true ↦ omega (arith, shorter p xs) | false ↦ omega (arith, shorter p xs) ]
-
 pub set_less : (xs : List Task) (name : List ℕ) → IsTaskSet xs → IsTaskSet (others_of xs name)
 set_less xs name set =
     let p : Task → Bool = λ x. not (same_bytes x.name name) in
@@ -266,7 +231,7 @@ set_less xs name set =
       valid = All-filter p IsValidSheet xs set.valid;
       ranked = IsStrictlySortedBy-filter rank_cmp p xs set.ranked;
       distinct = distinct_less p xs set.distinct;
-      few = omega (arith, set.few, shorter p xs);
+      few = omega (arith, set.few, length-filter p xs, count_by-le-length p xs);
     }
 
 -- ---- one more sheet of which the others are kept

@@ -10,7 +10,6 @@ use Rattle.task_sheet.specs.Sheet.{repeats, same_bytes}
 use Rattle.task_sheet.specs.SheetFault.{section_fault, sections_fault, numbers_fault, list_fault}
 use Rattle.task_sheet.specs.SheetFault.{sheet_fault, names_fault, outranks_fault}
 use Rattle.task_sheet.specs.declared.sheet.SheetCause.{SheetCause}
-use Rattle.task_sheet.specs.declared.sheet.OutranksCause.{OutranksCause}
 
 -- one more name of a list, and whether one of the rest equals it
 
@@ -67,7 +66,3 @@ pub outranks_valid : (own : List ℕ) (outranks : OutranksData) → MayOutrank o
     → outranks_fault own outranks ≡ None
 outranks_valid own (Named names) h = names_valid own names h
 outranks_valid own AllOthers h = refl
-
-pub never_outranked : (own : List ℕ) (outranks : OutranksData) (c : OutranksCause)
-    → outranks_fault own outranks ≡ Some c → MayOutrank own outranks → ⊥
-never_outranked own outranks c h valid = let none = outranks_valid own outranks valid in cc

@@ -1,13 +1,15 @@
 -- Valid sheets have what the laws of the analysis need, and a task of a set is found by its name.
-use Rattle.std.proofs.Common.{◌≡◌, ℕ, zero, suc, ◌+◌, ◌<◌, ◌≤◌, false, List, [], ◌∷◌, length}
+use Rattle.std.proofs.Common.{◌≡◌, ℕ, ◌+◌, ◌<◌, ◌≤◌, false, List, [], ◌∷◌, length}
 use Rattle.std.proofs.Common.{get_or, ap, ◌∙◌, arith}
 use Rattle.std.specs.List.{AllByRecursion, position_or_len}
 use Rattle.std.proofs.lemmas.List.{get_or_read}
 use Rattle.std.proofs.lemmas.List.Elements.{All-from_recursion}
 use Rattle.std.proofs.lemmas.List.Sums.{position_or_len_is}
+use Rattle.std.proofs.lemmas.Map.Keys.{apart_from_distinct}
 use Rattle.task_sheet.specs.Sheet.{CriticalSection, Task, AreSections, IsValidSheet, IsTask}
 use Rattle.task_sheet.specs.Sheet.{AllTasks, no_task, task_at, same_bytes}
 use Rattle.task_sheet.specs.TaskSet.{IsTaskSet, AreDistinct, same_name}
+use Rattle.task_sheet.proofs.Distinct.{std_distinct}
 use Rattle.task_sheet.proofs.NameLaws.{same_own}
 
 sections-end : (from cost : ℕ) (ss : List CriticalSection) → AreSections from cost ss
@@ -38,11 +40,8 @@ task_read U V k x same lt is = get_or_read U k x lt (is ∙ ap (λ W. get_or W k
 
 distinct-names : (U : List Task) → AreDistinct same_name U → (j k : ℕ) → j < k → k < length U
     → same_bytes (task_at U j).name (task_at U k).name ≡ false
-distinct-names (x ∷ xs) d zero (suc k) lt within =
-    All-from_recursion (λ y. same_name x y ≡ false) xs d.0 k no_task (omega arith)
-distinct-names (x ∷ xs) d (suc j) (suc k) lt within =
-    distinct-names xs d.1 j k (omega arith) (omega arith)
-distinct-names U d j k lt within = absurd (omega arith)
+distinct-names U d j k lt within =
+    apart_from_distinct same_name U j k no_task (std_distinct same_name U d) lt within
 
 -- the first task that has the name of the task at an index is that task
 pub place_of_name : (U : List Task) → AreDistinct same_name U → (k : ℕ) → k < length U

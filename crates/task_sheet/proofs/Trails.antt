@@ -1,169 +1,169 @@
--- The numbers 1, W(1), W(W(1)), .. as a list that grows at its end.
-use Rattle.std.proofs.Common.{◌≡◌, ℕ, zero, suc, ◌+◌, ◌-◌, ◌<◌, ◌≤◌, ◌⊎◌, inl, inr, List, [], ◌∷◌}
-use Rattle.std.proofs.Common.{◌++◌, length, get_or, add-one, refl, ap, sym, ◌∙◌, arith}
-use Rattle.std.specs.List.Sorted.{IsStrictlyIncreasing}
+-- The walk 1, W(1), W(W(1)), .. as a list that grows at its end, and the next number.
+use Rattle.std.proofs.Common.{◌≡◌, ℕ, zero, suc, ◌+◌, ◌<◌, ◌≤◌, inl, inr, List, [], ◌∷◌, ◌++◌, length}
+use Rattle.std.proofs.Common.{get_or, add-one, refl, ap, ap₂, sym, ◌∙◌, arith}
 use Rattle.std.proofs.lemmas.Bool.{cases_eq, cases_lt}
-use Rattle.std.proofs.lemmas.List.{get_or_past, get_or_default, get_or_append_left, get_or_push}
-use Rattle.std.proofs.lemmas.List.{length_push}
 use Rattle.task_sheet.specs.Responses.{ChainFrom, IsFullChain, FullFrom, iterate, IsTrail}
 use Rattle.task_sheet.proofs.ResponseLaws.{DoesNotFall}
 
--- the last number of a list
-abbrev pub last_of : List ℕ → ℕ
-last_of numbers = get_or numbers (length numbers - 1) 0
+module _ (W : ℕ → ℕ) where
+  -- the number after n steps from a, and the n numbers before it
+  abbrev pub step_from : ℕ → ℕ → ℕ
+  step_from a zero = a
+  step_from a (suc n) = step_from (W a) n
 
--- the first iterates, which rise
-pub record IsClimb (W : ℕ → ℕ) (numbers : List ℕ) : Type 0 where
-  pub first : get_or numbers 0 0 ≡ 1
-  pub rises : IsStrictlyIncreasing numbers
-  pub full : (k : ℕ) → k + 1 < length numbers → get_or numbers (k + 1) 0 ≡ W (get_or numbers k 0)
+  abbrev pub walk_from : ℕ → ℕ → List ℕ
+  walk_from a zero = []
+  walk_from a (suc n) = a ∷ walk_from (W a) n
 
-abbrev pub AllWithinLimit : ℕ → List ℕ → Type 0
-AllWithinLimit limit numbers = (k : ℕ) → k < length numbers → get_or numbers k 0 ≤ limit
+  step-last : (a n : ℕ) → step_from a (suc n) ≡ W (step_from a n)
+  step-last a zero = refl
+  step-last a (suc n) = step-last (W a) n
 
-pub some_first : (numbers : List ℕ) → get_or numbers 0 0 ≡ 1 → 0 < length numbers
-some_first numbers first = elim (cases_eq (length numbers) 0) [
-  | inl e ↦ absurd (omega (arith, first, get_or_past numbers 0 0 (omega arith)))
-  | inr ne ↦ omega arith
-]
+  step-iterate : (n : ℕ) → step_from 1 n ≡ iterate W n
+  step-iterate zero = refl
+  step-iterate (suc n) = step-last 1 n ∙ ap W (step-iterate n)
 
-pub last_of-push : (numbers : List ℕ) (t : ℕ) → last_of (numbers ++ t ∷ []) ≡ t
-last_of-push numbers t =
-    let long = length_push numbers t in
-    get_or_push numbers t 0 (length (numbers ++ t ∷ []) - 1) (omega arith)
+  pub walk-length : (a n : ℕ) → length (walk_from a n) ≡ n
+  walk-length a zero = refl
+  walk-length a (suc n) = omega (arith, walk-length (W a) n)
 
--- a climb that ends past the limit, and not before, is a full chain
-module _ (W : ℕ → ℕ) (limit : ℕ) where
-  record Leads (a : ℕ) (bs : List ℕ) : Type 0 where
-    rises : IsStrictlyIncreasing (a ∷ bs)
-    full : (k : ℕ) → k + 1 < length (a ∷ bs) → get_or (a ∷ bs) (k + 1) 0 ≡ W (get_or (a ∷ bs) k 0)
-    within : (k : ℕ) → k + 1 < length (a ∷ bs) → get_or (a ∷ bs) k 0 ≤ limit
-    past : limit < get_or (a ∷ bs) (length bs) 0
+  walk-at : (a n k d : ℕ) → k < n → get_or (walk_from a n) k d ≡ step_from a k
+  walk-at a zero k d lt = absurd (omega arith)
+  walk-at a (suc n) zero d lt = refl
+  walk-at a (suc n) (suc k) d lt = walk-at (W a) n k d (omega arith)
 
-  leads_on : (a b : ℕ) (bs : List ℕ) → Leads a (b ∷ bs) → Leads b bs
-  leads_on a b bs l =
-      let next : (k : ℕ) → suc k + 1 ≡ suc (k + 1) = λ k. omega arith in
+  walk-push : (a n : ℕ) → walk_from a n ++ step_from a n ∷ [] ≡ walk_from a (suc n)
+  walk-push a zero = refl
+  walk-push a (suc n) = ap (λ ns. a ∷ ns) (walk-push (W a) n)
+
+  -- up to the first number past the limit it is a full chain
+  chain_of : (limit n a : ℕ)
+      → ((k : ℕ) → k < n → (step_from a k ≤ limit) × (step_from a k < step_from a (suc k)))
+      → limit < step_from a n → ChainFrom W limit a (walk_from (W a) n)
+      × FullFrom W a (walk_from (W a) n)
+  chain_of limit zero a up past = (past, tt)
+  chain_of limit (suc n) a up past =
+      let here = up 0 (omega arith) in
+      let rest = chain_of limit n (W a) (λ k lt. up (suc k) (omega arith)) past in
+      ((here.0, here.1, omega arith, rest.0), (refl, rest.1))
+
+  -- the numbers so far, which rise within the limit, and the next one
+  pub record IsWalk (limit : ℕ) (numbers : List ℕ) (t : ℕ) : Type 0 where
+    pub count : ℕ
+    pub are : numbers ≡ walk_from 1 count
+    pub next : t ≡ iterate W count
+    pub rises : (k : ℕ) → k < count → iterate W k < iterate W (suc k)
+    pub within : (k : ℕ) → k < count → iterate W k ≤ limit
+
+  pub walk_start : (limit : ℕ) → IsWalk limit [] 1
+  walk_start limit = record {
+    count = 0;
+    are = refl;
+    next = refl;
+    rises = λ k lt. absurd (omega arith);
+    within = λ k lt. absurd (omega arith);
+  }
+
+  -- where each later iterate within the limit is one of the first n, these are a trail
+  trail_of : (limit n : ℕ) → ((k : ℕ) → k + 1 < n → iterate W k < iterate W (suc k))
+      → ((k : ℕ) → k < n → iterate W k ≤ limit)
+      → ((k : ℕ) → n ≤ k → iterate W k ≤ limit → (j : ℕ) × (j < n) × (iterate W j ≡ iterate W k))
+      → IsTrail W limit (walk_from 1 n)
+  trail_of limit n rises within later =
+      let long = walk-length 1 n in
+      let at : (k d : ℕ) → k < n → get_or (walk_from 1 n) k d ≡ iterate W k =
+      λ k d lt. walk-at 1 n k d lt ∙ step-iterate k in
       record {
-        rises = λ k lt. rw (next k) at (l.rises (suc k) (omega arith));
-        full = λ k lt. rw (next k) at (l.full (suc k) (omega arith));
-        within = λ k lt. l.within (suc k) (omega arith);
-        past = l.past;
+        rises = λ k lt. omega (
+          arith,
+          rises k (omega arith),
+          at k 0 (omega arith),
+          at (k + 1) 0 (omega arith) ∙ ap (iterate W) (add-one k),
+        );
+        all = λ x. (
+          λ has.
+              let same = sym (at has.0 x (omega (arith, has.1))) ∙ has.2 in
+              (omega (arith, within has.0 (omega (arith, has.1)), same), (has.0, same)),
+          λ is. elim (cases_lt is.1.0 n) [
+            | inl lt ↦ (is.1.0, omega arith, at is.1.0 x lt ∙ is.1.1)
+            | inr far ↦
+                let first = later is.1.0 far (omega (arith, is.0, is.1.1)) in
+                (first.0, omega (arith, first.1), at first.0 x first.1 ∙ first.2 ∙ is.1.1)
+          ],
+        );
       }
 
-  chain_of : (a : ℕ) (bs : List ℕ) → Leads a bs → ChainFrom W limit a bs × FullFrom W a bs
-  chain_of a [] l = (l.past, tt)
-  chain_of a (b ∷ bs) l =
-      let rest = chain_of b bs (leads_on a b bs l) in
-      let here : b ≡ W a = l.full 0 (omega arith) in (
-        (
-          l.within 0 (omega arith),
-          omega (arith, l.rises 0 (omega arith)),
-          omega (arith, here),
-          rest.0,
-        ),
-        (here, rest.1),
-      )
+  module _ (limit : ℕ) (numbers : List ℕ) (t : ℕ) (walk : IsWalk limit numbers t) where
+    pushed : numbers ++ t ∷ [] ≡ walk_from 1 (suc walk.count)
+    pushed = ap₂ (λ ns n. ns ++ n ∷ []) walk.are (walk.next ∙ sym (step-iterate walk.count))
+        ∙ walk-push 1 walk.count
 
-  pub full_chain : (numbers : List ℕ) → IsClimb W numbers
-      → ((k : ℕ) → k + 1 < length numbers → get_or numbers k 0 ≤ limit) → limit < last_of numbers
-      → IsFullChain W limit numbers
-  full_chain [] climb within past = absurd (omega (arith, climb.first))
-  full_chain (a ∷ bs) climb within past =
-      let at_last : length (a ∷ bs) - 1 ≡ length bs = omega arith in
-      let both = chain_of a bs (record {
-        rises = climb.rises;
-        full = climb.full;
-        within = within;
-        past = rw at_last at past;
-      }) in
-      record { chain = (climb.first, both.0); full = both.1 }
+    pub walk-count : (length numbers ≡ walk.count) × (length (numbers ++ t ∷ []) ≡ walk.count + 1)
+    walk-count = (
+      ap length walk.are ∙ walk-length 1 walk.count,
+      ap length pushed ∙ omega (arith, walk-length 1 (suc walk.count)),
+    )
 
-module _ (W : ℕ → ℕ) (numbers : List ℕ) where
-  -- the last number is fixed, or leads past the limit
-  abbrev Ends : ℕ → Type 0
-  Ends limit = (W (last_of numbers) ≡ last_of numbers) ⊎ (limit < W (last_of numbers))
+    pub walk-within : t ≤ limit → (k : ℕ) → k < walk.count + 1 → iterate W k ≤ limit
+    walk-within le k lt = elim (cases_eq k walk.count) [
+      | inl e ↦ rw e (omega (arith, walk.next))
+      | inr ne ↦ walk.within k (omega arith)
+    ]
 
-  pub climb-iterate : IsClimb W numbers → (k : ℕ) → k < length numbers
-      → get_or numbers k 0 ≡ iterate W k
-  climb-iterate climb zero lt = climb.first
-  climb-iterate climb (suc k) lt =
-      let here : get_or numbers k 0 ≡ iterate W k = climb-iterate climb k (omega arith) in
-      let step : get_or numbers (k + 1) 0 ≡ W (get_or numbers k 0) = climb.full k (omega arith) in
-      rw add-one at step ∙ ap W here
+    pub walk_next : (next : ℕ) → next ≡ W t → t < next → t ≤ limit
+        → IsWalk limit (numbers ++ t ∷ []) next
+    walk_next next is more le = record {
+      count = suc walk.count;
+      are = pushed;
+      next = is ∙ ap W walk.next;
+      rises = λ k lt. elim (cases_eq k walk.count) [
+        | inl e ↦ rw e (omega (arith, walk.next, is ∙ ap W walk.next))
+        | inr ne ↦ walk.rises k (omega arith)
+      ];
+      within = λ k lt. walk-within le k (omega arith);
+    }
 
-  pub climb_push : IsClimb W numbers → (w : ℕ) → w ≡ W (last_of numbers) → last_of numbers < w
-      → IsClimb W (numbers ++ w ∷ [])
-  climb_push climb w is more =
-      let some = some_first numbers climb.first in
-      let long = length_push numbers w in
-      let before = get_or_append_left numbers (w ∷ []) 0 in
-      let there = get_or_push numbers w 0 (length numbers) refl in
-      let last = before (length numbers - 1) (omega arith) in
-      record {
-        first = before 0 some ∙ climb.first;
-        rises = λ k lt. elim (cases_lt (k + 1) (length numbers)) [
-          | inl in' ↦ omega (arith, climb.rises k in', before k (omega arith), before (k + 1) in')
-          | inr out ↦
-              let at' : k + 1 ≡ length numbers = omega arith in
-              let at_last : k ≡ length numbers - 1 = omega arith in
-              rw at' (rw at_last (omega arith))
-        ];
-        full = λ k lt. elim (cases_lt (k + 1) (length numbers)) [
-          | inl in' ↦ before (k + 1) in' ∙ climb.full k in' ∙ ap W (sym (before k (omega arith)))
-          | inr out ↦
-              let at' : k + 1 ≡ length numbers = omega arith in
-              let at_last : k ≡ length numbers - 1 = omega arith in
-              rw at' (rw at_last (there ∙ is ∙ ap W (sym last)))
-        ];
-      }
+    module _ (steady : DoesNotFall W) where
+      iterate-rises : (k : ℕ) → iterate W k ≤ iterate W (suc k)
+      iterate-rises zero = steady.positive 1
+      iterate-rises (suc k) = steady.rises _ _ (iterate-rises k)
 
-  pub within_push : (limit w : ℕ) → AllWithinLimit limit numbers → w ≤ limit
-      → AllWithinLimit limit (numbers ++ w ∷ [])
-  within_push limit w within le k lt =
-      let long = length_push numbers w in
-      elim (cases_lt k (length numbers)) [
-        | inl in' ↦ omega (arith, within k in', get_or_append_left numbers (w ∷ []) 0 k in')
-        | inr out ↦ let at' : k ≡ length numbers = omega arith in
-            rw at' (omega (arith, get_or_push numbers w 0 (length numbers) refl))
+      pub next_is_no_less : t ≤ W t
+      next_is_no_less = omega (arith, iterate-rises walk.count, walk.next, ap W walk.next)
+
+      iterate-mono : (n k : ℕ) → n ≤ k → iterate W n ≤ iterate W k
+      iterate-mono n k le = elim (cases_eq n k) [
+        | inl e ↦ rw e (omega arith)
+        | inr ne ↦ further k (omega arith)
+      ]
+        where
+          further : (k : ℕ) → n < k → iterate W n ≤ iterate W k
+          further zero lt = absurd (omega arith)
+          further (suc k) lt = elim (cases_eq n k) [
+            | inl e ↦ rw e (iterate-rises k)
+            | inr ne ↦ omega (arith, further k (omega arith), iterate-rises k)
+          ]
+
+      stays : W t ≡ t → (k : ℕ) → walk.count ≤ k → t ≡ iterate W k
+      stays fixed zero le = let e : walk.count ≡ 0 = omega arith in walk.next ∙ ap (iterate W) e
+      stays fixed (suc k) le = elim (cases_eq walk.count (suc k)) [
+        | inl e ↦ walk.next ∙ ap (iterate W) e
+        | inr ne ↦ sym fixed ∙ ap W (stays fixed k (omega arith))
       ]
 
-  module _ (steady : DoesNotFall W) where
-    pub iterate-rises : (k : ℕ) → iterate W k ≤ iterate W (suc k)
-    iterate-rises zero = steady.positive 1
-    iterate-rises (suc k) = steady.rises _ _ (iterate-rises k)
+      pub walk_passes : W t ≡ t → t ≤ limit → IsTrail W limit (numbers ++ t ∷ [])
+      walk_passes fixed le = rw pushed (trail_of limit (suc walk.count)
+          (λ k lt. walk.rises k (omega arith)) (λ k lt. walk-within le k (omega arith))
+          (λ k far _. (walk.count, omega arith, sym walk.next ∙ stays fixed k (omega arith))))
 
-    -- where it ends, the climb holds each iterate within the limit
-    climb-holds : (limit : ℕ) → IsClimb W numbers → AllWithinLimit limit numbers
-        → Ends limit → (k : ℕ) → iterate W k ≤ limit
-        → (j : ℕ) × (j < length numbers) × (get_or numbers j 0 ≡ iterate W k)
-    climb-holds limit climb within end zero le = (0, some_first numbers climb.first, climb.first)
-    climb-holds limit climb within end (suc k) le =
-        let before = climb-holds limit climb within end k (omega (arith, iterate-rises k)) in
-        let j = before.0 in
-        elim (cases_lt (j + 1) (length numbers)) [
-          | inl in' ↦ (j + 1, in', climb.full j in' ∙ ap W before.2)
-          | inr out ↦
-              let at_last : length numbers - 1 ≡ j = omega (arith, before.1) in
-              let here : W (last_of numbers) ≡ iterate W (suc k) = rw at_last (ap W before.2) in
-              elim end [
-                | inl fixed ↦ (j, before.1, rw at_last at (sym fixed) ∙ ap W before.2)
-                | inr past ↦ absurd (omega arith)
-              ]
-        ]
-
-    pub IsTrail-from_climb : (limit : ℕ) → IsClimb W numbers → AllWithinLimit limit numbers
-        → Ends limit → IsTrail W limit numbers
-    IsTrail-from_climb limit climb within end = record {
-      rises = climb.rises;
-      all = λ x. (
-        λ has.
-            let same : get_or numbers has.0 0 ≡ x = get_or_default numbers has.0 0 x has.1
-            ∙ has.2 in (
-              omega (arith, within has.0 has.1),
-              (has.0, sym (climb-iterate climb has.0 has.1) ∙ same),
-            ),
-        λ is.
-            let has = climb-holds limit climb within end is.1.0 (omega (arith, is.1.1)) in
-            (has.0, has.1, get_or_default numbers has.0 x 0 has.1 ∙ has.2 ∙ is.1.1),
-      );
-    }
+      pub walk_fails : limit < t → IsFullChain W limit (numbers ++ t ∷ []) × IsTrail W limit numbers
+      walk_fails past =
+          let same = step-iterate in
+          let chain = chain_of limit walk.count 1 (λ k lt. (
+            omega (arith, walk.within k lt, same k),
+            omega (arith, walk.rises k lt, same k, same (suc k)),
+          )) (omega (arith, walk.next, same walk.count)) in (
+            rw pushed (record { chain = (refl, chain.0); full = chain.1 }),
+            rw walk.are (trail_of limit walk.count (λ k lt. walk.rises k (omega arith)) walk.within
+                (λ k far le. absurd (omega (arith, iterate-mono walk.count k far, walk.next)))),
+          )

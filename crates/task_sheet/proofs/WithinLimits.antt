@@ -1,5 +1,5 @@
 -- What a document says of its node and of interrupts is within the limits.
-use Rattle.std.proofs.Common.{◌≡◌, ℕ, ◌+◌, ◌≤◌, min, Bool, true, false, ◌&&◌, inl, inr, nat_le}
+use Rattle.std.proofs.Common.{◌≡◌, ℕ, ◌+◌, ◌≤◌, min, Bool, true, false, inl, inr, nat_le}
 use Rattle.std.proofs.Common.{List, [], ◌∷◌, map, length, Option, Some, None, IfSome, option_map}
 use Rattle.std.proofs.Common.{option_and_then, unwrap_or, is_some, refl, arith}
 use Rattle.std.proofs.lemmas.Bool.{cases_Bool, and_parts, leb-true}
@@ -79,12 +79,9 @@ interrupt_is x is =
 
 interrupt_said : (ms : Members) → says_interrupt ms ≡ true → IsInterrupt (interrupt_at ms)
 interrupt_said ms says =
-    let limits = is_interrupt (interrupt_at ms) in
-    let cost = is_some (number_at key.Cost ms) && limits in
-    let keys =
-    and_parts (only_keys interrupt_keys ms) (is_some (number_at key.Period ms) && cost) says in
-    let period = and_parts (is_some (number_at key.Period ms)) cost keys.1 in
-    interrupt_is (interrupt_at ms) (and_parts (is_some (number_at key.Cost ms)) limits period.1).1
+    let keys = and_parts (only_keys interrupt_keys ms) _ says in
+    let period = and_parts (is_some (number_at key.Period ms)) _ keys.1 in
+    interrupt_is (interrupt_at ms) (and_parts (is_some (number_at key.Cost ms)) _ period.1).1
 
 each_within : (place : ℕ) (mss : List Members) → bad_interrupt place mss ≡ None
     → AllByRecursion IsInterrupt (map interrupt_at mss)
@@ -119,23 +116,17 @@ tables_within (Some mss) none =
 pub tree_within : (ms : Members) → tree_fault ms ≡ None
     → AreWithinLimits (tree_node ms) (tree_interrupts ms)
 tree_within ms none =
-    let sets = option_or (tasks_fault 1 (unwrap_or (tables_at key.Task ms) []))
-    (option_or (option_map of_set (sheets_fault (tree_sheets ms))) None) in
-    let interrupts = interrupts_fault (tables_at key.Interrupt ms) in
-    let node = overheads_fault (value_at key.Node ms) in
-    let prefer = option_or (prefer_fault (value_at key.Prefer ms))
-    (option_or node (option_or interrupts sets)) in
-    let tasks = option_or (unless (is_some (tables_at key.Task ms)) (fault.WrongKind 0 0 key.Task))
-    prefer in
-    let known = passed (only_keys root_keys ms) (fault.UnknownKey 0 0) tasks none in
+    let known = passed (only_keys root_keys ms) (fault.UnknownKey 0 0) _ none in
     let tables =
-    passed (is_some (tables_at key.Task ms)) (fault.WrongKind 0 0 key.Task) prefer known.1 in
-    let behind = neither (prefer_fault (value_at key.Prefer ms))
-    (option_or node (option_or interrupts sets)) tables.1 in
-    let said = neither node (option_or interrupts sets) behind.1 in
+    passed (is_some (tables_at key.Task ms)) (fault.WrongKind 0 0 key.Task) _ known.1 in
+    let behind = neither (prefer_fault (value_at key.Prefer ms)) _ tables.1 in
+    let said = neither (overheads_fault (value_at key.Node ms)) _ behind.1 in
+    let tasks = option_or (tasks_fault 1 (unwrap_or (tables_at key.Task ms) []))
+    (option_or (option_map of_set (sheets_fault (tree_sheets ms))) None) in
+    let rest = neither (interrupts_fault (tables_at key.Interrupt ms)) tasks said.1 in
     record {
       node = overheads_within (value_at key.Node ms) said.0;
-      interrupts = tables_within (tables_at key.Interrupt ms) (neither interrupts sets said.1).0;
+      interrupts = tables_within (tables_at key.Interrupt ms) rest.0;
     }
 
 pub says_within : (text : List ℕ) (U : List Task) (prefers : Option Preference) (said : Option Node)

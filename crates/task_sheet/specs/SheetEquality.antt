@@ -1,7 +1,7 @@
 -- Equality of sections and of sheets as a test: an equivalence that holds of equal values alone.
 use Rattle.std.specs.Prelude.{◌≡◌, Bool, true}
 use Rattle.std.proofs.Common.{refl, ap, subst, Decides}
-use Rattle.std.specs.Cmp.{IsPartialEquivalence, IsEquivalence, and_equiv, on_equiv, partial_equiv_from_equiv, nat_eq_equiv}
+use Rattle.std.specs.Cmp.{both_ways, IsPartialEquivalence, IsEquivalence, and_equiv, on_equiv, partial_equiv_from_equiv, nat_eq_equiv}
 use Rattle.std.specs.Cmp.Lexicographic.{pointwise, lists_equiv, nat_list_eq_equiv}
 use Rattle.std.proofs.lemmas.Bool.{and_parts, false≢true}
 use Rattle.std.proofs.lemmas.Bool.Decides.{Decides-eqb}
@@ -17,25 +17,30 @@ section_equiv = and_equiv (on_equiv (λ s. s.locks) (lists_equiv nat_list_eq_equ
 names_equiv : IsEquivalence (pointwise same_bytes)
 names_equiv = lists_equiv nat_list_eq_equiv
 
+-- a test that holds of each value itself, and of equal ones alone, is an equivalence
+pub equivalence_of : {X : Type 0} (E : X → X → Bool) → ((x : X) → E x x ≡ true)
+    → ((x y : X) → E x y ≡ true → x ≡ y) → IsEquivalence E
+equivalence_of {X} E own told = record {
+  refl = own;
+  symm = λ x y. both_ways _ _ (turned x y) (turned y x);
+  congr = λ x y z h. ap (λ v. E v z) (told x y h);
+}
+  where
+    turned : (x y : X) → E x y ≡ true → E y x ≡ true
+    turned x y h = let P : X → Type 0 = λ v. E v x ≡ true in subst P (told x y h) (own x)
+
+told : (x y : OutranksData) → same_outranks x y ≡ true → x ≡ y
+told (Named xs) (Named ys) same = ap Named ((slice_eq-Decides bytes_eq-Decides xs ys _ refl).0 same)
+told (Named xs) AllOthers same = absurd (false≢true same)
+told AllOthers (Named ys) same = absurd (false≢true same)
+told AllOthers AllOthers same = refl
+
 outranks_equiv : IsEquivalence same_outranks
-outranks_equiv = record { refl = itself; symm = turned; congr = alike }
+outranks_equiv = equivalence_of same_outranks itself told
   where
     itself : (x : OutranksData) → same_outranks x x ≡ true
     itself (Named xs) = names_equiv.refl xs
     itself AllOthers = refl
-
-    turned : (x y : OutranksData) → same_outranks x y ≡ same_outranks y x
-    turned (Named xs) (Named ys) = names_equiv.symm xs ys
-    turned (Named xs) AllOthers = refl
-    turned AllOthers (Named ys) = refl
-    turned AllOthers AllOthers = refl
-
-    alike : (x y z : OutranksData) → same_outranks x y ≡ true → same_outranks x z ≡ same_outranks y z
-    alike (Named xs) (Named ys) (Named zs) same = names_equiv.congr xs ys zs same
-    alike (Named xs) (Named ys) AllOthers same = refl
-    alike (Named xs) AllOthers z same = absurd (false≢true same)
-    alike AllOthers (Named ys) z same = absurd (false≢true same)
-    alike AllOthers AllOthers z same = refl
 
 node_equiv : IsEquivalence same_node
 node_equiv =
@@ -76,16 +81,11 @@ pub same_section-Decides : (x y : CriticalSection) → Decides (same_section x y
 same_section-Decides x y = decides same_section section_equiv x y (λ h.
     let all = and_parts _ _ h in
     let times = and_parts _ _ all.1 in
-    let locks : x.locks ≡ y.locks = (slice_eq-Decides bytes_eq-Decides x.locks y.locks _ refl).0 all.0 in
-    let at : x.at ≡ y.at = (Decides-eqb x.at y.at).0 times.0 in
-    let len : x.len ≡ y.len = (Decides-eqb x.len y.len).0 times.1 in
-    λ i. record { locks = locks i; at = at i; len = len i })
-
-told : (x y : OutranksData) → same_outranks x y ≡ true → x ≡ y
-told (Named xs) (Named ys) same = ap Named ((slice_eq-Decides bytes_eq-Decides xs ys _ refl).0 same)
-told (Named xs) AllOthers same = absurd (false≢true same)
-told AllOthers (Named ys) same = absurd (false≢true same)
-told AllOthers AllOthers same = refl
+    λ i. record {
+      locks = (slice_eq-Decides bytes_eq-Decides x.locks y.locks _ refl).0 all.0 i;
+      at = (Decides-eqb x.at y.at).0 times.0 i;
+      len = (Decides-eqb x.len y.len).0 times.1 i;
+    })
 
 pub same_outranks-Decides : (x y : OutranksData) → Decides (same_outranks x y) (x ≡ y)
 same_outranks-Decides x y = decides same_outranks outranks_equiv x y (told x y)
@@ -95,18 +95,20 @@ same_node-Decides x y = decides same_node node_equiv x y (λ h.
     let a = and_parts _ _ h in
     let b = and_parts _ _ a.1 in
     let c = and_parts _ _ b.1 in
-    let job : x.job ≡ y.job = (Decides-eqb x.job y.job).0 a.0 in
-    let lock : x.lock ≡ y.lock = (Decides-eqb x.lock y.lock).0 b.0 in
-    let late : x.late ≡ y.late = (Decides-eqb x.late y.late).0 c.0 in
-    let release : x.release ≡ y.release = (Decides-eqb x.release y.release).0 c.1 in
-    λ i. record { job = job i; lock = lock i; late = late i; release = release i })
+    λ i. record {
+      job = (Decides-eqb x.job y.job).0 a.0 i;
+      lock = (Decides-eqb x.lock y.lock).0 b.0 i;
+      late = (Decides-eqb x.late y.late).0 c.0 i;
+      release = (Decides-eqb x.release y.release).0 c.1 i;
+    })
 
 pub same_interrupt-Decides : (x y : Interrupt) → Decides (same_interrupt x y) (x ≡ y)
 same_interrupt-Decides x y = decides same_interrupt interrupt_equiv x y (λ h.
     let both = and_parts _ _ h in
-    let period : x.period ≡ y.period = (Decides-eqb x.period y.period).0 both.0 in
-    let cost : x.cost ≡ y.cost = (Decides-eqb x.cost y.cost).0 both.1 in
-    λ i. record { period = period i; cost = cost i })
+    λ i. record {
+      period = (Decides-eqb x.period y.period).0 both.0 i;
+      cost = (Decides-eqb x.cost y.cost).0 both.1 i;
+    })
 
 pub same_sheet-Decides : (x y : Task) → Decides (same_sheet x y) (x ≡ y)
 same_sheet-Decides x y = decides same_sheet sheet_equiv x y (λ h.
@@ -119,27 +121,16 @@ same_sheet-Decides x y = decides same_sheet sheet_equiv x y (λ h.
     let g = and_parts _ _ f.1 in
     let k = and_parts _ _ g.1 in
     let n = and_parts _ _ k.1 in
-    let name : x.name ≡ y.name = (bytes_eq-Decides x.name y.name).0 a.0 in
-    let weight : x.weight ≡ y.weight = (Decides-eqb x.weight y.weight).0 b.0 in
-    let period : x.period ≡ y.period = (Decides-eqb x.period y.period).0 c.0 in
-    let deadline : x.deadline ≡ y.deadline = (Decides-eqb x.deadline y.deadline).0 d.0 in
-    let cost : x.cost ≡ y.cost = (Decides-eqb x.cost y.cost).0 e.0 in
-    let sections : x.sections ≡ y.sections =
-    (slice_eq-Decides same_section-Decides x.sections y.sections _ refl).0 g.0 in
-    let jitter : x.jitter ≡ y.jitter = (Decides-eqb x.jitter y.jitter).0 f.0 in
-    let outranks : x.outranks ≡ y.outranks = (same_outranks-Decides x.outranks y.outranks).0 k.0 in
-    let node : x.node ≡ y.node = (same_node-Decides x.node y.node).0 n.0 in
-    let interrupts : x.interrupts ≡ y.interrupts =
-    (slice_eq-Decides same_interrupt-Decides x.interrupts y.interrupts _ refl).0 n.1 in
     λ i. record {
-      name = name i;
-      weight = weight i;
-      period = period i;
-      deadline = deadline i;
-      cost = cost i;
-      sections = sections i;
-      jitter = jitter i;
-      outranks = outranks i;
-      node = node i;
-      interrupts = interrupts i;
+      name = (bytes_eq-Decides x.name y.name).0 a.0 i;
+      weight = (Decides-eqb x.weight y.weight).0 b.0 i;
+      period = (Decides-eqb x.period y.period).0 c.0 i;
+      deadline = (Decides-eqb x.deadline y.deadline).0 d.0 i;
+      cost = (Decides-eqb x.cost y.cost).0 e.0 i;
+      sections = (slice_eq-Decides same_section-Decides x.sections y.sections _ refl).0 g.0 i;
+      jitter = (Decides-eqb x.jitter y.jitter).0 f.0 i;
+      outranks = (same_outranks-Decides x.outranks y.outranks).0 k.0 i;
+      node = (same_node-Decides x.node y.node).0 n.0 i;
+      interrupts =
+          (slice_eq-Decides same_interrupt-Decides x.interrupts y.interrupts _ refl).0 n.1 i;
     })

@@ -1,8 +1,7 @@
 //! The values at a table's keys, where they are of the right kind.
-ghost use Rattle.std.specs.Prelude.{◌≡◌, None, Some, true, MatchOption, option_map, is_some, if◌then◌else◌};
+ghost use Rattle.std.specs.Prelude.{◌≡◌, None, Some, true, MatchOption, option_map, is_some};
 ghost use Rattle.toml.specs.View.{view, table_view, items_view};
-ghost use Rattle.task_sheet.specs.Sheet.{AllOthers, same_bytes};
-ghost use Rattle.task_sheet.specs.Tree.{value_at, number_of, number_at, number_or, number_or_zero, text_at, all_strings, strings_in, strings_of, strings_at, all_word, outranks_in, outranks_or_none, said_of, all_tables, tables_in, tables_at};
+ghost use Rattle.task_sheet.specs.Tree.{value_at, number_of, number_at, number_or, number_or_zero, text_at, all_strings, strings_in, strings_of, strings_at, outranks_in, outranks_or_none, said_of, all_tables, tables_in, tables_at};
 
 use crate::keys::{Key, value_at};
 use toml::{Table, Value};
@@ -109,31 +108,13 @@ pub(crate) enum Said<'a> {
     All,
 }
 
-// How all others are written.
-fn all_word() -> &'static str
-    ensures { result.now ≡ all_word }
-{
-    "all"
-}
-
-// What a string says: all others.
-fn word_said<'a>(word: &str) -> Option<Said<'a>>
-    ensures { option_map said_of result
-        ≡ (if same_bytes all_word word.now then Some AllOthers else None) }
-{
-    if all_word() == word {
-        Some(Said::All)
-    } else {
-        None
-    }
-}
-
 // What a value says: the word of all others, or an array of strings.
 fn said_in<'a>(value: &'a Value) -> Option<Said<'a>>
     ensures { option_map said_of result ≡ outranks_in (view value.now) }
 {
     match value.as_str() {
-        Some(word) => word_said(word),
+        Some(word) if "all" == word => Some(Said::All),
+        Some(_) => None,
         None => match strings_of(value) {
             Some(items) => Some(Said::Strings(items)),
             None => None,

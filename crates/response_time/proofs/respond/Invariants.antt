@@ -1,8 +1,8 @@
-use Rattle.std.proofs.Common.{◌≡◌, ◌+◌, ◌-◌, ◌≤◌, ℕ, ◌++◌, ◌∷◌, []}
+use Rattle.std.proofs.Common.{◌≡◌, ◌+◌, ◌-◌, ◌≤◌, ℕ}
 use Rattle.task_sheet.specs.Sheet.{task_at}
 use Rattle.task_sheet.specs.Indexes.{indexes_of}
 use Rattle.task_sheet.specs.Demand.{demand_of, limit_of}
-use Rattle.task_sheet.proofs.Trails.{IsClimb, AllWithinLimit}
+use Rattle.task_sheet.proofs.Trails.{IsWalk}
 use Rattle.response_time.specs.Workload.{work_within, work_of}
 use Rattle.response_time.proofs.respond.Given as goal
 
@@ -13,8 +13,8 @@ invariant-loop-time l = record {
       → work_within t l.work ≡ work_of l.set l.task (indexes_of l.fn.above) t;
   carried : l.work.time ≤ l.time;
   positive : 1 ≤ l.time;
-  climb : IsClimb (demand_of l.set l.task (indexes_of l.fn.above)) (l.numbers.items ++ l.time ∷ []);
-  within : AllWithinLimit (limit_of (task_at l.set l.task)) l.numbers.items;
+  walk : IsWalk (demand_of l.set l.task (indexes_of l.fn.above)) (limit_of (task_at l.set l.task))
+      l.numbers.items l.time;
   first : (s : ℕ) → 1 ≤ s → demand_of l.set l.task (indexes_of l.fn.above) s ≤ s → l.time ≤ s;
 }
 

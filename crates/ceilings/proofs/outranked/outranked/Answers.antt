@@ -1,4 +1,5 @@
 use Rattle.std.proofs.Common.{◌≡◌, ◌<◌, List, length, sym, ◌∙◌, ap, arith}
+use Rattle.std.proofs.lemmas.Bool.{lt-ltb}
 use Rattle.task_sheet.specs.Sheet.{Task, outranks_task, task_at}
 use Rattle.task_sheet.proofs.TaskLaws.{task_read}
 use Rattle.ceilings.proofs.OutrankedLaws.{AreBelow-none, AreBelow-with, AreBelow-skip}
@@ -32,4 +33,4 @@ returns c = λ k lt.
       lt,
       ap (λ (U : List Task). length U) c.sheets-other-items.ensures.same,
     ) in
-    c.loop-index.invariant.seen k all
+    c.loop-index.invariant k ∙ rw (lt-ltb k c.loop-index.index all)

@@ -1,6 +1,5 @@
-use Rattle.std.proofs.Common.{◌≡◌, ℕ, List, refl, subst, length, arith}
-use Rattle.task_sheet.specs.Sheet.{Task}
-use Rattle.task_sheet.specs.Indexes.{Indexes, indexes_of}
+use Rattle.std.proofs.Common.{◌≡◌, refl, subst, length, arith}
+use Rattle.task_sheet.specs.Indexes.{indexes_of}
 use Rattle.explain.specs.Conflict.{IsLeftOf}
 use Rattle.explain.proofs.ConflictLaws.{IsThin-left, left-least, left-more}
 use Rattle.explain.proofs.conflict.least_conflict.Goals as goal
@@ -19,26 +18,12 @@ loop-task-preserved c =
     (indexes_of c.gone_through-conflict.result) c.loop-task.task
     c.loop-task.invariant c.gone_through-conflict.ensures
 
--- all have been gone through
-at_end : (U : List Task) (S M : Indexes) (k : ℕ) → k ≡ length U → IsLeftOf U S k M
-    → IsLeftOf U S (length U) M
-at_end U S M k all left = subst (λ n. IsLeftOf U S n M) all left
-
-pub returns-clause-least : goal.returns-clause-least
-returns-clause-least c =
+pub returns : goal.returns
+returns c =
+    let U = c.args.set.now in
     let S = indexes_of c.args.obstruction in
     let C = indexes_of c.loop-task.conflict in
-    (left-least c.args.set.now S C c.requires (at_end c.args.set.now S C
-    c.loop-task.task (omega (arith, c.len-task-end.ensures.count)) c.loop-task.invariant)).0
-
-pub returns-clause-part : goal.returns-clause-part
-returns-clause-part c =
-    let S = indexes_of c.args.obstruction in
-    let C = indexes_of c.loop-task.conflict in
-    (left-least c.args.set.now S C c.requires (at_end c.args.set.now S C
-    c.loop-task.task (omega (arith, c.len-task-end.ensures.count)) c.loop-task.invariant)).1
-
-pub returns-clause-way : goal.returns-clause-way
-returns-clause-way c =
-    at_end c.args.set.now (indexes_of c.args.obstruction) (indexes_of c.loop-task.conflict)
-    c.loop-task.task (omega (arith, c.len-task-end.ensures.count)) c.loop-task.invariant
+    let all : c.loop-task.task ≡ length U = omega (arith, c.len-task-end.ensures.count) in
+    let way = subst (λ n. IsLeftOf U S n C) all c.loop-task.invariant in
+    let least = left-least U S C c.requires way in
+    record { least = least.0; part = least.1; way = way }

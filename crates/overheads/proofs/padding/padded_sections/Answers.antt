@@ -1,9 +1,10 @@
-use Rattle.std.proofs.Common.{rules, ◌≡◌, ◌∙◌, ◌+◌, ◌-◌, ◌*◌, ◌++◌, ◌∷◌, [], ℕ, List, length, ap}
+use Rattle.std.proofs.Common.{rules, ◌≡◌, ◌+◌, ◌-◌, ◌*◌, ◌++◌, ◌∷◌, [], length, ap}
 use Rattle.std.proofs.Common.{arith}
 use Rattle.task_sheet.specs.Sheet.{CriticalSection}
 use Rattle.task_sheet.specs.Overheads.{calls}
+use Rattle.task_sheet.proofs.OverheadLaws.{calls-more}
 use Rattle.overheads.specs.Padding.{padded_section}
-use Rattle.overheads.proofs.PaddedSections.{calls-more, sections-step, section-fits}
+use Rattle.overheads.proofs.PaddedSections.{sections-step, section-fits}
 use Rattle.overheads.proofs.padding.padded_sections.Goals as goal
 
 pub overflow_add-at : goal.overflow_add-at
@@ -47,12 +48,11 @@ loop-section-preserved c =
           c.section.inside.at + before;
       len = c.section.inside.len + node.lock * c.len.result;
     } in
-    let pads : y ≡ padded_section node before x =
-    ap (λ (l : List (List ℕ)). record y { locks = l }) locks
-    ∙ ap (λ n. record y { locks = x.locks; at = n + before }) at
-    ∙ ap (λ n. record y { locks = x.locks; at = x.at + before; len = n + node.lock * c.len.result })
-    len
-    ∙ ap (λ n. record y { locks = x.locks; at = x.at + before; len = x.len + n }) time in
+    let pads : y ≡ padded_section node before x = λ i. record {
+      locks = locks i;
+      at = at i + before;
+      len = len i + time i;
+    } in
     let pushed : c.push.new.self.items ≡ c.loop-section.others.items ++ y ∷ [] = search rules in
     record {
       before = omega (

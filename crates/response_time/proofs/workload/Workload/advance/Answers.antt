@@ -3,6 +3,8 @@ use Rattle.std.proofs.Common.{ap, sym, subst, arith}
 use Rattle.std.proofs.lemmas.List.{length-take, length-take-le, take-append-le, take_all}
 use Rattle.response_time.specs.Workload.{ShareData, WorkloadData, IsCarried, work_within}
 use Rattle.response_time.specs.Workload.{further_work, share_within}
+use Rattle.response_time.specs.WorkloadFields.{workload_of, IsKept}
+use Rattle.response_time.specs.declared.workload.Workload.TheInside.{Inside}
 use Rattle.response_time.proofs.Shares.{sum-further, sum-counted, sum-fits, IsCarried-further}
 use Rattle.response_time.proofs.workload.Workload.advance.Goals as goal
 
@@ -12,55 +14,38 @@ total-is : (w : WorkloadData) (time work : ℕ) → IsCarried w → w.time ≤ t
 total-is w time work h le is =
     omega (arith, h.total, is, sum-further w.time time le w.shares h.counted)
 
-total-fits : (w : WorkloadData) (time work : ℕ) → IsCarried w → w.time ≤ time → time ≤ 10000000
-    → length w.shares ≤ 32 → w.always ≤ 980000000
-    → work ≡ sum_by (further_work time) w.shares → w.total + work ≤ 1940000000
-total-fits w time work h le short few once is =
-    omega (arith, total-is w time work h le is, sum-fits w.time time w.shares short h.counted)
+total-fits : (a : Inside) (v : WorkloadData) (time work : ℕ) → IsKept a → workload_of a ≡ v
+    → v.time ≤ time → time ≤ 10000000 → work ≡ sum_by (further_work time) (workload_of a).shares
+    → a.total + work ≤ 1940000000
+total-fits a v time work kept view longer short is =
+    let w = workload_of a in
+    let le : w.time ≤ time = omega (arith, ap (λ (x : WorkloadData). x.time) view) in
+    omega (
+      arith,
+      total-is w time work kept.3 le is,
+      sum-fits w.time time w.shares short kept.3.counted,
+      length-take a.count a.shares,
+      kept.0,
+      kept.1,
+    )
 
 pub overflow_add-self : goal.overflow_add-self
-overflow_add-self c =
-    let w : WorkloadData = record {
-      always = c.self.inside.always;
-      shares = take c.self.inside.count
-          c.self.inside.shares;
-      time = c.self.inside.time;
-      total = c.self.inside.total;
-    } in
-    let longer : w.time ≤ c.args.time =
-    subst (λ (v : WorkloadData). v.time ≤ c.args.time) (sym c.self.view_is) c.requires.longer in
-    let few : length w.shares ≤ 32 =
-    omega (arith, length-take c.self.inside.count c.self.inside.shares, c.self.invariant.0) in
-    let fits = total-fits w c.args.time c.count_all-work.result c.self.invariant.3 longer
-    c.requires.time few c.self.invariant.1 c.count_all-work.ensures.work in
-    omega (arith, fits)
+overflow_add-self c = omega (
+  arith,
+  total-fits c.self.inside c.args.self.now c.args.time c.count_all-work.result c.self.invariant
+      c.self.view_is c.requires.longer c.requires.time c.count_all-work.ensures.work,
+)
 
 pub returns-clause-fits : goal.returns-clause-fits
-returns-clause-fits c =
-    let w : WorkloadData = record {
-      always = c.self.inside.always;
-      shares = take c.self.inside.count
-          c.self.inside.shares;
-      time = c.self.inside.time;
-      total = c.self.inside.total;
-    } in
-    let longer : w.time ≤ c.args.time =
-    subst (λ (v : WorkloadData). v.time ≤ c.args.time) (sym c.self.view_is) c.requires.longer in
-    let few : length w.shares ≤ 32 =
-    omega (arith, length-take c.self.inside.count c.self.inside.shares, c.self.invariant.0) in
-    let fits = total-fits w c.args.time c.count_all-work.result c.self.invariant.3 longer
-    c.requires.time few c.self.invariant.1 c.count_all-work.ensures.work in
-    omega (arith, fits)
+returns-clause-fits c = omega (
+  arith,
+  total-fits c.self.inside c.args.self.now c.args.time c.count_all-work.result c.self.invariant
+      c.self.view_is c.requires.longer c.requires.time c.count_all-work.ensures.work,
+)
 
 pub returns-clause-is : goal.returns-clause-is
 returns-clause-is c =
-    let w : WorkloadData = record {
-      always = c.self.inside.always;
-      shares = take c.self.inside.count
-          c.self.inside.shares;
-      time = c.self.inside.time;
-      total = c.self.inside.total;
-    } in
+    let w = workload_of c.self.inside in
     let longer : w.time ≤ c.args.time =
     subst (λ (v : WorkloadData). v.time ≤ c.args.time) (sym c.self.view_is) c.requires.longer in
     subst (λ (v : WorkloadData). c.self.inside.total + c.count_all-work.result
@@ -76,13 +61,7 @@ written count new rest long = take-append-le count new rest (omega (arith, long)
 
 pub invariant_of-self : goal.invariant_of-self
 invariant_of-self c =
-    let w : WorkloadData = record {
-      always = c.self.inside.always;
-      shares = take c.self.inside.count
-          c.self.inside.shares;
-      time = c.self.inside.time;
-      total = c.self.inside.total;
-    } in
+    let w = workload_of c.self.inside in
     let longer : w.time ≤ c.args.time =
     subst (λ (v : WorkloadData). v.time ≤ c.args.time) (sym c.self.view_is) c.requires.longer in
     let shares = take c.self.inside.count
