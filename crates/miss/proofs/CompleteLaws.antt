@@ -24,7 +24,6 @@ use Rattle.ceiling_kernel.proofs.NodeLaws.{IsSound, sound, after_is_above}
 use Rattle.ceiling_kernel.proofs.SectionLaws.{inside_from}
 use Rattle.ceiling_kernel.proofs.ReleaseLaws.{job_is, jobs_length}
 use Rattle.ceiling_kernel.proofs.EndLaws.{legal_from}
-use Rattle.ceiling_kernel.proofs.FinishLaws.{grows_by}
 use Rattle.ceiling_kernel.proofs.BoundLaws.{bound_law}
 use Rattle.ceiling_kernel.proofs.CutLaws.{whole_law}
 use Rattle.explain.specs.Blocking.{BlockerData, IsBlockerOf}
@@ -42,7 +41,7 @@ use Rattle.release_list.proofs.JobLaws.{job_in}
 use Rattle.release_list.proofs.FitLaws.{IsFit, AreFit, some_period, number_is, none_refused}
 use Rattle.miss.proofs.DenseLaws.{dense}
 use Rattle.miss.proofs.MemberLaws.{member_in, above_place}
-use Rattle.miss.proofs.LeadLaws.{leads}
+use Rattle.miss.proofs.LeadLaws.{done_grows, leads}
 use Rattle.miss.proofs.ReachLaws.{ceiling_reaches}
 use Rattle.miss.proofs.WorstLaws.{misses_law}
 use Rattle.miss.proofs.ExactLaws.{exact_law}
@@ -278,6 +277,20 @@ module _ (node : Node) (ok : IsNode node) (i : ℕ) (lt : i < length node.tasks)
         | inr later ↦ omega (arith, later, f.first_is, f.period_is, f.short)
       ]
 
+  -- a job is ready then, or is the blocker's
+  late_or_blocker : (p : ℕ) → p < length rs → (start ≤ (job_at jobs p).ready)
+      ⊎ ((job_at jobs p).task ≡ index (length members))
+  late_or_blocker p small =
+      let o : (q : ℕ) × OfStream p q = of_stream p small in
+      elim (which U members start until b o.0 o.1.is_of.in_set) [
+        | inl m ↦ inl (omega (
+          arith,
+          (arrival_is p small).1,
+          ready_late p o.0 (get_or members o.0 0) o.1 (member_facts o.0 m),
+        ))
+        | inr m ↦ inr (task_is p o.0 o.1 ∙ ap index m.place)
+      ]
+
   -- ---- the job that misses
   small_0 : 0 < length ss
   small_0 = omega (arith, streams_length U members start until b)
@@ -389,6 +402,22 @@ module _ (node : Node) (ok : IsNode node) (i : ℕ) (lt : i < length node.tasks)
             ]
       ]
 
+  -- a job of a task below is the only one of it
+  only_below : (j k : ℕ) → j < length rs → k < length rs → k ≢ j
+      → (job_at jobs k).task ≡ (job_at jobs j).task
+      → level_in_order node (job_at jobs j).task < level_in_order node i → ⊥
+  only_below j k jin kin other same low =
+      let not_above : above_of node i (job_at jobs j).task ≡ true → ⊥ = λ on. omega (
+        arith,
+        low,
+        ltb-true (level_in_order node i) (level_in_order node (job_at jobs j).task) on,
+      ) in
+      not_above (elim (cases_lt k j) [
+        | inl less ↦ (let s : Second k j = second_of k j less jin same in
+            subst (λ x. above_of node i x ≡ true) same s.above)
+        | inr more ↦ (let s : Second j k = second_of j k (omega arith) kin (sym same) in s.above)
+      ])
+
   -- ---- the blocker
   abbrev left : ℕ
   left = blocking_of U i (above_of node i) - 1
@@ -446,35 +475,14 @@ module _ (node : Node) (ok : IsNode node) (i : ℕ) (lt : i < length node.tasks)
             (let l : level_in_order node (job_at jobs kb).task
             ≡ level_in_order node m.blocker.task = ap (λ k. level_in_order node k) task in
             omega (arith, l, p.lower)) in
+            let own : (job_at jobs kb).task ≡ index q = task ∙ sym m.index in
             let others : (k : ℕ) → k < length jobs → k ≢ kb
             → (job_at jobs kb).ready + lead ≤ (job_at jobs k).ready = λ k below other.
             let within : k < length rs = omega (arith, long) in
-            let o : (r : ℕ) × OfStream k r = of_stream k within in
-            let r_is : (job_at jobs k).ready ≡ ready_of (release_at rs k) =
-            (arrival_is k within).1 in
-            elim (which U members start until b o.0 o.1.is_of.in_set) [
-              | inl mm ↦ omega (
-                arith,
-                ready_late k o.0 (get_or members o.0 0) o.1
-                    (member_facts o.0 mm),
-                r_is,
-              )
-              | inr bb' ↦
-                  let tasks : (job_at jobs k).task ≡ (job_at jobs kb).task = task_is k o.0 o.1
-                  ∙ (ap index bb'.place ∙ sym (task ∙ sym m.index)) in
-                  let not_above : above_of node i (job_at jobs kb).task ≡ true → ⊥ = λ on.
-                  omega (
-                    arith,
-                    lower,
-                    ltb-true (level_in_order node i)
-                        (level_in_order node (job_at jobs kb).task) on,
-                  ) in
-                  absurd (not_above (elim (cases_lt k kb) [
-                    | inl less ↦ (let s : Second k kb = second_of k kb less found_at.1 tasks in
-                        subst (λ x. above_of node i x ≡ true) tasks s.above)
-                    | inr more ↦ (let s : Second kb k = second_of kb k (omega arith) within
-                        (sym tasks) in s.above)
-                  ]))
+            elim (late_or_blocker k within) [
+              | inl late ↦ omega (arith, late, ready')
+              | inr theirs ↦
+                  absurd (only_below kb k found_at.1 within other (theirs ∙ sym own) lower)
             ] in
             let runs : executed_before node jobs ((job_at jobs kb).ready + lead) kb ≡ lead =
             leads node jobs kb lead (omega (arith, found_at.1, long))
@@ -566,14 +574,7 @@ module _ (node : Node) (ok : IsNode node) (i : ℕ) (lt : i < length node.tasks)
       bound_law node jobs ok legal j pass.0 (omega (arith, over.1, below)) by in
       let soon : end ≤ (job_at jobs k).ready =
       omega (arith, pass.2, aj, rk, s.apart, v.jitter, v.deadline_to) in
-      let grown : executed_before node jobs end j
-      ≤ executed_before node jobs (end + ((job_at jobs k).ready - end)) j =
-      grows_by node jobs j end ((job_at jobs k).ready - end) in
-      let at : end + ((job_at jobs k).ready - end) ≡ (job_at jobs k).ready = omega arith in
-      let grown' : executed_before node jobs end j
-      ≤ executed_before node jobs (job_at jobs k).ready j =
-      subst (λ x. executed_before node jobs end j ≤ executed_before node jobs x j) at grown in
-      omega (arith, over.3, fin, grown')
+      omega (arith, over.3, fin, done_grows node jobs j end (job_at jobs k).ready soon)
 
   misses : MustMiss node i → executed_before node jobs until j0 < (job_at jobs j0).executes
   misses must =
@@ -621,7 +622,7 @@ module _ (node : Node) (ok : IsNode node) (i : ℕ) (lt : i < length node.tasks)
 pub case_law : (node : Node) → IsNode node → (i : ℕ) (rs : List Release) (until : ℕ)
     → i < length node.tasks → IsWorstCase node.tasks i (after_of node.order i) rs until
     → length rs ≤ 10000 → CaseFacts node i rs until
-case_law node ok i rs until lt case few =
+case_law node ok i list until lt case few =
     subst (λ (x : List Release). CaseFacts node i x until) (sym case.listed)
     (the_facts node ok i lt case.blocker case.blocks until case.ends
     (subst (λ (x : List Release). length x ≤ 10000) case.listed few))

@@ -19,7 +19,7 @@ use Rattle.ceiling_kernel.specs.Releases.{task_number, jobs_of, release_at, read
 use Rattle.ceiling_kernel.specs.Runs.{no_record, records_from, IsOverrun, IsFirstOverrun, Runs}
 use Rattle.ceiling_kernel.proofs.ReleaseLaws.{read_at, job_is, jobs_length}
 use Rattle.ceiling_kernel.proofs.EndLaws.{some_executes, records_at}
-use Rattle.ceiling_kernel.proofs.FinishLaws.{grows_by, finish_none, finish_some, finish_is}
+use Rattle.ceiling_kernel.proofs.FinishLaws.{finish_none, finish_some, finish_is}
 use Rattle.ceiling_kernel.proofs.FinishLaws.{unfinished_is}
 use Rattle.miss.specs.declared.reaching.WorstRun.{WorstRun}
 use Rattle.miss.specs.Exact.{EndsLow}
@@ -27,6 +27,7 @@ use Rattle.miss.specs.Misses.{IsRunOf, IsMissOf, IsWorstCase, MustMiss}
 use Rattle.miss.specs.Shown.{AboveAllPass, IsStopped, IsDoneInTime, ShowsNone}
 use Rattle.miss.specs.Reached.{IsLeastCover, IsFinishIn, IsWorstRun}
 use Rattle.miss.proofs.CompleteLaws.{CaseFacts, case_law}
+use Rattle.miss.proofs.LeadLaws.{done_grows}
 
 records_length : (node : Node) (jobs : List Job) (t k : ℕ) (rs : List Release)
     → length (records_from node jobs t k rs) ≡ length rs
@@ -47,18 +48,25 @@ each_more P k before here j lt = elim (cases_eq j k) [
 ]
 
 module _ (node : Node) (jobs : List Job) (j : ℕ) where
-  done_grows : (f g : ℕ) → f ≤ g → executed_before node jobs f j ≤ executed_before node jobs g j
-  done_grows f g le = (let at : f + (g - f) ≡ g = omega arith in
-      subst (λ t. executed_before node jobs f j ≤ executed_before node jobs t j) at
-      (grows_by node jobs j f (g - f)))
-
   finish_once : (f g : ℕ) → IsFinishAt node jobs j f → IsFinishAt node jobs j g → f ≡ g
   finish_once f g first second =
       elim (cases_eq f g) [
         | inl same ↦ same
         | inr other ↦ absurd (elim (cases_lt f g) [
-          | inl less ↦ omega (arith, first.after, second.before, done_grows f (g - 1) (omega arith))
-          | inr more ↦ omega (arith, second.after, first.before, done_grows g (f - 1) (omega arith))
+          | inl less ↦ omega (
+            arith,
+            first.after,
+            second.before,
+            done_grows node jobs j f (g - 1)
+                (omega arith),
+          )
+          | inr more ↦ omega (
+            arith,
+            second.after,
+            first.before,
+            done_grows node jobs j g (f - 1)
+                (omega arith),
+          )
         ])
       ]
 

@@ -1,5 +1,6 @@
 //! Why the worst case of a task that doesn't pass is no run in which it misses its deadline.
 ghost use Rattle.std.specs.Prelude.{◌≡◌, ◌<◌, ◌&&◌, length, IfSome, IfNone};
+ghost use Rattle.std.specs.List.{list_any};
 ghost use Rattle.task_sheet.specs.Indexes.{indexes_of};
 ghost use Rattle.task_sheet.specs.Locks.{reaches};
 ghost use Rattle.task_sheet.specs.Orders.{IsOrder};
@@ -28,6 +29,16 @@ fn is_raised(set: &Tabled<'_>, section: &Section, executed: u64, above: Members)
     set.reaches(section, above)
 }
 
+// The same of one of some sections.
+fn is_raised_in(set: &Tabled<'_>, sections: &[Section], executed: u64, above: Members) -> bool
+    ensures { result ≡ list_any (λ s. is_inside s executed
+        && reaches set.now (indexes_of above) s) sections.now }
+{
+    sections
+        .iter()
+        .any(|section| is_raised(set, section, executed, above))
+}
+
 // A job of a task that executes its cost executes the last tick inside a section that one of these reaches.
 fn ends_inside(set: &Tabled<'_>, task: usize, above: Members) -> bool
     requires { task < length set.now }
@@ -35,12 +46,7 @@ fn ends_inside(set: &Tabled<'_>, task: usize, above: Members) -> bool
 {
     let sheet = &set.sheets()[task];
     let last = sheet.cost().saturating_sub(1);
-    for section in sheet.sections() {
-        if is_raised(set, section, last, above) {
-            return true;
-        }
-    }
-    false
+    is_raised_in(set, sheet.sections(), last, above)
 }
 
 /// The tasks above one in an order.
