@@ -1,12 +1,10 @@
 -- What another value of a number does to a set.
-use Rattle.std.proofs.Common.{◌≡◌, ◌↔◌, ℕ, zero, suc, ◌<◌, ◌≤◌, inl, inr, min, max, cond, List, []}
+use Rattle.std.proofs.Common.{◌≡◌, ◌↔◌, ℕ, zero, suc, ◌<◌, ◌≤◌, inl, inr, min, max, List, []}
 use Rattle.std.proofs.Common.{◌∷◌, length, slice_set, refl, sym, ◌∙◌, ap, subst, arith}
 use Rattle.std.proofs.lemmas.Bool.{cases_eq, cases_lt}
 use Rattle.std.proofs.lemmas.List.{length-set, set-get_or}
 use Rattle.task_sheet.specs.Sheet.{CriticalSection, Task, AllTasks, IsValidSheet, no_task, task_at}
 use Rattle.task_sheet.specs.TaskSet.{IsTaskSet}
-use Rattle.task_sheet.specs.Orders.{IsOrder}
-use Rattle.task_sheet.specs.Indexes.{below}
 use Rattle.task_sheet.proofs.TaskLaws.{valid_at}
 use Rattle.headroom.proofs.CostLaws.{placed-other, placed-same}
 use Rattle.limits.specs.declared.number.Number.{Number}
@@ -119,11 +117,6 @@ pub may-own : (U : List Task) (i : ℕ) (number : Number) → IsTaskSet U → i 
 may-own U i number set inside =
     let valid = valid_at U i set inside in
     subst IsValidSheet (sym (number-own number (task_at U i) valid)) valid
-
-pub IsOrder-numbered : (U : List Task) (i : ℕ) (number : Number) (value : ℕ) (order : List ℕ)
-    → IsOrder U order → IsOrder (numbered U i number value) order
-IsOrder-numbered U i number value order each k = each k
-    ∙ ap (λ n. cond (below n k) 1 0) (sym (length-set U i (with_number number (task_at U i) value)))
 
 -- ---- what the furthest says, in a sense in which a set that asks less is feasible too
 same-far : (number : Number) (first second : ℕ) → IsNoFurther number first second
