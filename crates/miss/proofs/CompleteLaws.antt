@@ -425,6 +425,68 @@ module _ (node : Node) (ok : IsNode node) (i : ℕ) (lt : i < length node.tasks)
   same_above : among (after_of node.order i) ≡ above_of node i
   same_above x h = after_is_above node ok i h lt x
 
+  -- the job of its stream has executed the first tick of its section then
+  held_by : (q kb lead : ℕ) (m : IsBlocker U members start until b q)
+      (p : IsPlacedBlocker node ok i lt b is_b until m.blocker) → q < length ss → kb < length rs
+      → release_at rs kb ≡ job_release (stream_at ss q) 0 → lead ≡ p.section.at + 1
+      → (stream_at ss q).first + lead ≡ start → (stream_at ss q).late ≡ 0 → left ≢ 0
+      → IsHeldUp node jobs start (level_in_order node i) left
+  held_by q kb lead m p small kin is lead_is first_is late_is some =
+      let job : job_at jobs kb ≡ job_of U (job_release (stream_at ss q) 0) =
+      job_is_of kb (job_release (stream_at ss q) 0) kin is in
+      let own : (job_at jobs kb).task ≡ index q = ap (λ (x : Job). x.task) job
+      ∙ number_of_stream q 0 small in
+      let task : (job_at jobs kb).task ≡ m.blocker.task = own ∙ m.index in
+      let ready : (job_at jobs kb).ready ≡ ready_of (job_release (stream_at ss q) 0) =
+      ap (λ (x : Job). x.ready) job in
+      let ready' : (job_at jobs kb).ready + lead ≡ start =
+      omega (arith, ready, first_is, late_is) in
+      let whole : IsWhole (job_task node jobs kb) (job_at jobs kb) = whole_job kb kin in
+      let cost_is : (job_task node jobs kb).cost ≡ (task_at U m.blocker.task).cost =
+      ap (λ k. (task_at U k).cost) task in
+      let sections_are : (job_task node jobs kb).sections ≡ (task_at U m.blocker.task).sections =
+      ap (λ k. (task_at U k).sections) task in
+      let level : level_in_order node (job_at jobs kb).task ≡ level_in_order node m.blocker.task =
+      ap (λ k. level_in_order node k) task in
+      let lower : level_in_order node (job_at jobs kb).task < level_in_order node i =
+      omega (arith, level, p.lower) in
+      let others : (k : ℕ) → k < length jobs → k ≢ kb
+      → (job_at jobs kb).ready + lead ≤ (job_at jobs k).ready = λ k below other.
+      let within : k < length rs = omega (arith, long) in
+      elim (late_or_blocker k within) [
+        | inl late ↦ omega (arith, late, ready')
+        | inr theirs ↦ absurd (only_below kb k kin within other
+            (theirs ∙ (ap index (sym m.place) ∙ sym own)) lower)
+      ] in
+      let runs : executed_before node jobs ((job_at jobs kb).ready + lead) kb ≡ lead =
+      leads node jobs kb lead (omega (arith, kin, long))
+      (omega (arith, whole.executes, cost_is, p.within, p.runs, lead_is)) others lead
+      (omega arith) in
+      let runs' : executed_before node jobs start kb ≡ lead =
+      subst (λ t. executed_before node jobs t kb ≡ lead) ready' runs in
+      let inside : is_inside p.section lead ≡ true =
+      inside_from p.section lead (omega (arith, lead_is)) (omega (arith, lead_is, p.long)) in
+      let reached : reaches U (with_index (above_of node i) i) p.section ≡ true =
+      subst (λ H. reaches U (with_index H i) p.section ≡ true) same_above p.blocks.reached in
+      let in_sections : Contains (task_at U m.blocker.task).sections p.section = (
+        m.blocker.place,
+        slice_get_within (task_at U m.blocker.task).sections m.blocker.place p.section
+            p.blocks.section,
+        get_or_from_slice_get (task_at U m.blocker.task).sections m.blocker.place p.section
+            p.section p.blocks.section,
+      ) in
+      record {
+        job = kb;
+        is_job = omega (arith, kin, long);
+        lower = lower;
+        section = p.section;
+        of_job = subst (λ (xs : List CriticalSection). Contains xs p.section)
+            (sym (whole.sections ∙ sections_are)) in_sections;
+        reaches = ceiling_reaches node ok i p.section reached;
+        inside = subst (λ x. is_inside p.section x ≡ true) (sym runs') inside;
+        to_go = omega (arith, runs', lead_is, p.long);
+      }
+
   held_up : (o : Option BlockerData) → b ≡ o → (left ≡ 0)
       ⊎ IsHeldUp node jobs start (level_in_order node i) left
   held_up None e =
@@ -450,69 +512,13 @@ module _ (node : Node) (ok : IsNode node) (i : ℕ) (lt : i < length node.tasks)
             let lead_is : lead_of U b ≡ lead = ap (lead_of U) m.is in
             let at_is : (section_of U m.blocker).at ≡ p.section.at =
             ap (λ (x : CriticalSection). x.at) p.is in
-            let lead_within : lead ≤ start = omega (arith, lead_is) in
             let first_is : (stream_at ss q).first ≡ start - lead =
             ap (λ (s : Stream). s.first) m.stream in
             let late_is : (stream_at ss q).late ≡ 0 = ap (λ (s : Stream). s.late) m.stream in
             let found_at : IsIn rs (job_release (stream_at ss q) 0) = job_in ss until periods q 0
             small (omega (arith, first_is, late_is, limits.0, ends)) in
-            let kb : ℕ = found_at.0 in
-            let job : job_at jobs kb ≡ job_of U (job_release (stream_at ss q) 0) =
-            job_is_of kb (job_release (stream_at ss q) 0) found_at.1 found_at.2 in
-            let task : (job_at jobs kb).task ≡ m.blocker.task = ap (λ (x : Job). x.task) job
-            ∙ (number_of_stream q 0 small ∙ m.index) in
-            let ready : (job_at jobs kb).ready ≡ ready_of (job_release (stream_at ss q) 0) =
-            ap (λ (x : Job). x.ready) job in
-            let ready' : (job_at jobs kb).ready + lead ≡ start =
-            omega (arith, ready, first_is, late_is, lead_within) in
-            let whole : IsWhole (job_task node jobs kb) (job_at jobs kb) =
-            whole_job kb found_at.1 in
-            let cost_is : (job_task node jobs kb).cost ≡ (task_at U m.blocker.task).cost =
-            ap (λ k. (task_at U k).cost) task in
-            let sections_are : (job_task node jobs kb).sections
-            ≡ (task_at U m.blocker.task).sections = ap (λ k. (task_at U k).sections) task in
-            let lower : level_in_order node (job_at jobs kb).task < level_in_order node i =
-            (let l : level_in_order node (job_at jobs kb).task
-            ≡ level_in_order node m.blocker.task = ap (λ k. level_in_order node k) task in
-            omega (arith, l, p.lower)) in
-            let own : (job_at jobs kb).task ≡ index q = task ∙ sym m.index in
-            let others : (k : ℕ) → k < length jobs → k ≢ kb
-            → (job_at jobs kb).ready + lead ≤ (job_at jobs k).ready = λ k below other.
-            let within : k < length rs = omega (arith, long) in
-            elim (late_or_blocker k within) [
-              | inl late ↦ omega (arith, late, ready')
-              | inr theirs ↦
-                  absurd (only_below kb k found_at.1 within other (theirs ∙ sym own) lower)
-            ] in
-            let runs : executed_before node jobs ((job_at jobs kb).ready + lead) kb ≡ lead =
-            leads node jobs kb lead (omega (arith, found_at.1, long))
-            (omega (arith, whole.executes, cost_is, p.within, p.runs, at_is)) others lead
-            (omega arith) in
-            let runs' : executed_before node jobs start kb ≡ lead =
-            subst (λ t. executed_before node jobs t kb ≡ lead) ready' runs in
-            let inside : is_inside p.section lead ≡ true =
-            inside_from p.section lead (omega (arith, at_is)) (omega (arith, at_is, p.long)) in
-            let reached : reaches U (with_index (above_of node i) i) p.section ≡ true =
-            subst (λ H. reaches U (with_index H i) p.section ≡ true) same_above
-            p.blocks.reached in
-            let in_sections : Contains (task_at U m.blocker.task).sections p.section = (
-              m.blocker.place,
-              slice_get_within (task_at U m.blocker.task).sections
-                  m.blocker.place p.section p.blocks.section,
-              get_or_from_slice_get (task_at U
-                  m.blocker.task).sections m.blocker.place p.section p.section p.blocks.section,
-            ) in
-            inr (record {
-              job = kb;
-              is_job = omega (arith, found_at.1, long);
-              lower = lower;
-              section = p.section;
-              of_job = subst (λ (xs : List CriticalSection). Contains xs p.section)
-                  (sym (whole.sections ∙ sections_are)) in_sections;
-              reaches = ceiling_reaches node ok i p.section reached;
-              inside = subst (λ x. is_inside p.section x ≡ true) (sym runs') inside;
-              to_go = omega (arith, runs', at_is, p.long);
-            })
+            inr (held_by q found_at.0 lead m p small found_at.1 found_at.2 (omega (arith, at_is))
+            (omega (arith, first_is, lead_is)) late_is some)
       ]
 
   -- the task has one job
