@@ -1,18 +1,14 @@
 -- A set beside itself: no task has a line.
-use Rattle.std.proofs.Common.{◌≡◌, ◌∙◌, ◌<◌, ◌&&◌, ◌||◌, ℕ, zero, suc, inl, inr, Bool, true, false}
-use Rattle.std.proofs.Common.{nat_lt, List, [], ◌∷◌, length, Option, Some, None, position, refl, ap}
-use Rattle.std.proofs.Common.{arith}
-use Rattle.std.specs.List.{position_or_len}
+use Rattle.std.proofs.Common.{◌≡◌, ◌∙◌, ◌<◌, ◌&&◌, ◌||◌, ℕ, zero, suc, Bool, true, false, nat_lt}
+use Rattle.std.proofs.Common.{List, [], length, Option, Some, None, refl, ap, arith}
 use Rattle.std.specs.Cmp.{nat_eq_equiv}
-use Rattle.std.specs.Cmp.Lexicographic.{nat_list_eq_equiv}
-use Rattle.std.proofs.lemmas.Bool.{both_ways, cases_Bool, le-ltb, lt-ltb}
-use Rattle.std.proofs.lemmas.List.Elements.{All-from_recursion}
-use Rattle.std.proofs.lemmas.List.Quantifiers.{position-Some}
+use Rattle.std.proofs.lemmas.Bool.{le-ltb, lt-ltb}
 use Rattle.std.proofs.lemmas.Slice.Eq.{slice_eq-Decides}
-use Rattle.task_sheet.specs.Sheet.{Task, same_bytes, task_at, no_task}
+use Rattle.task_sheet.specs.Sheet.{Task, task_at}
 use Rattle.task_sheet.specs.SheetEquality.{same_section-Decides, same_outranks-Decides}
 use Rattle.task_sheet.specs.SheetEquality.{same_node-Decides, same_interrupt-Decides}
 use Rattle.task_sheet.specs.TaskSet.{AreDistinct, same_name}
+use Rattle.task_sheet.proofs.TaskLaws.{place_of_name}
 use Rattle.assignment.specs.declared.placing.Placing.{Placing}
 use Rattle.diff.specs.Keys.{is_changed}
 use Rattle.diff.specs.Seats.{seat_of}
@@ -43,40 +39,9 @@ unchanged weighs t =
     neither false = refl
 
 -- ---- a task's name is its own
-reached : (p : Task → Bool) (xs : List Task) (i : ℕ) → i < length xs → p (task_at xs i) ≡ true
-    → position_or_len p xs < length xs
-reached p [] i lt h = absurd (omega arith)
-reached p (x ∷ xs) zero lt h = rw h (omega arith)
-reached p (x ∷ xs) (suc i) lt h =
-    elim (cases_Bool (p x)) [
-      | inl here ↦ rw here (omega arith)
-      | inr later ↦ let rest = reached p xs i (omega arith) h in rw later (omega arith)
-    ]
-
-one_name : (U : List Task) → AreDistinct same_name U → (i j : ℕ) → i < length U → j < length U
-    → same_bytes (task_at U i).name (task_at U j).name ≡ true → i ≡ j
-one_name [] apart i j lt below same = absurd (omega arith)
-one_name (x ∷ xs) apart zero zero lt below same = refl
-one_name (x ∷ xs) apart zero (suc j) lt below same =
-    absurd (both_ways (same_bytes x.name (task_at xs j).name) (All-from_recursion
-    (λ y. same_bytes x.name y.name ≡ false) xs apart.0 j no_task (omega arith)) same)
-one_name (x ∷ xs) apart (suc i) zero lt below same =
-    absurd (both_ways (same_bytes x.name (task_at xs i).name) (All-from_recursion
-    (λ y. same_bytes x.name y.name ≡ false) xs apart.0 i no_task (omega arith))
-    (nat_list_eq_equiv.symm x.name (task_at xs i).name ∙ same))
-one_name (x ∷ xs) apart (suc i) (suc j) lt below same =
-    ap (λ n. suc n) (one_name xs apart.1 i j (omega arith) (omega arith) same)
-
 own_index : (U : List Task) → AreDistinct same_name U → (i : ℕ) → i < length U
     → index_in U U i ≡ Some i
-own_index U apart i lt =
-    let p : Task → Bool = λ s. same_bytes s.name (task_at U i).name in
-    let at : position_or_len p U < length U =
-    reached p U i lt (nat_list_eq_equiv.refl (task_at U i).name) in
-    let found : position p U ≡ Some (position_or_len p U) =
-    rw (lt-ltb (position_or_len p U) (length U) at) refl in
-    let is = position-Some p U (position_or_len p U) no_task found in
-    found ∙ ap Some (one_name U apart (position_or_len p U) i at lt is.1)
+own_index U apart i lt = rw (place_of_name U apart i lt, lt-ltb i (length U) lt) refl
 
 -- ---- so no line is left
 no_effect : (effect : Effect) (s : Seat) → effect_of effect s s ≡ None

@@ -26,6 +26,14 @@ no_back : (xs ys : List ℕ) → xs ++ ys ≡ [] → ys ≡ []
 no_back [] ys e = e
 no_back (x ∷ xs) ys e = absurd (cc)
 
+-- where four texts come to nothing, each does
+four : (a b c d : List ℕ) → ((a ++ b) ++ c) ++ d ≡ []
+    → (a ≡ []) × (b ≡ []) × (c ≡ []) × (d ≡ [])
+four a b c d e =
+    let abc : (a ++ b) ++ c ≡ [] = no_front ((a ++ b) ++ c) d e in
+    let ab : a ++ b ≡ [] = no_front (a ++ b) c abc in
+    (no_front a b ab, no_back a b ab, no_back (a ++ b) c abc, no_back ((a ++ b) ++ c) d e)
+
 -- a line is something
 some_line : (xs : List ℕ) → xs ++ codes "\n" ≡ [] → ⊥
 some_line xs e = let never : codes "\n" ≡ [] = no_back xs (codes "\n") e in cc
@@ -121,34 +129,22 @@ module _ (weighs : Bool) (U : List Task) (P : Placing) (V : List Task) (Q : Plac
   abbrev levels : List ℕ
   levels = lines_below (length V) (rest_line OnLevel weighs U P V Q)
 
-  no_removals : removals ≡ []
-  no_removals = no_front removals edits
-      (no_front (removals ++ edits) bounds (no_front ((removals ++ edits) ++ bounds) levels silent))
-
-  no_edits : edits ≡ []
-  no_edits = no_back removals edits
-      (no_front (removals ++ edits) bounds (no_front ((removals ++ edits) ++ bounds) levels silent))
-
-  no_bounds : bounds ≡ []
-  no_bounds =
-      no_back (removals ++ edits) bounds (no_front ((removals ++ edits) ++ bounds) levels silent)
-
-  no_levels : levels ≡ []
-  no_levels = no_back ((removals ++ edits) ++ bounds) levels silent
+  none : (removals ≡ []) × (edits ≡ []) × (bounds ≡ []) × (levels ≡ [])
+  none = four removals edits bounds levels silent
 
   kept_at : (k before : ℕ) → index_in U V k ≡ Some before → k < length V → IsKept weighs U P V Q k
   kept_at k before at lt =
       let edit : edit_from weighs U P (Some before) V Q k ≡ [] =
       ap (λ o. edit_from weighs U P o V Q k) (sym at)
-      ∙ no_line (length V) (edit_line weighs U P V Q) no_edits k lt in
+      ∙ no_line (length V) (edit_line weighs U P V Q) none.1 k lt in
       let sheet : is_changed weighs (task_at U before) (task_at V k) ≡ false =
       says_same weighs U P V Q before k edit in
       let bound : kept_line OnBound weighs U P before V Q k ≡ [] =
       ap (λ o. rest_from OnBound weighs U P o V Q k) (sym at)
-      ∙ no_line (length V) (rest_line OnBound weighs U P V Q) no_bounds k lt in
+      ∙ no_line (length V) (rest_line OnBound weighs U P V Q) none.2 k lt in
       let level : kept_line OnLevel weighs U P before V Q k ≡ [] =
       ap (λ o. rest_from OnLevel weighs U P o V Q k) (sym at)
-      ∙ no_line (length V) (rest_line OnLevel weighs U P V Q) no_levels k lt in
+      ∙ no_line (length V) (rest_line OnLevel weighs U P V Q) none.3 k lt in
       record {
         before = before;
         index = at;
@@ -160,9 +156,9 @@ module _ (weighs : Bool) (U : List Task) (P : Placing) (V : List Task) (Q : Plac
   pub silent_is_unchanged : IsUnchanged weighs U P V Q
   silent_is_unchanged = record {
     none_gone = λ k lt. still_there U P k (index_in V U k)
-        (no_line (length U) (removed_line U P V) no_removals k lt);
+        (no_line (length U) (removed_line U P V) none.0 k lt);
     all_kept = λ k lt.
         let before = was_there weighs U P V Q k (index_in U V k)
-        (no_line (length V) (edit_line weighs U P V Q) no_edits k lt) in
+        (no_line (length V) (edit_line weighs U P V Q) none.1 k lt) in
         kept_at k before.0 before.1 lt;
   }

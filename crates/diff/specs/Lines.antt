@@ -61,16 +61,12 @@ removed_line U P V task = gone_line U P task (index_in V U task)
 abbrev pub added_line : List Task → Placing → ℕ → List ℕ
 added_line V Q task = start_words Added V task None (seat_of V Q task) ++ codes "\n"
 
--- the line of a task whose sheet says something else
-abbrev pub other_line : Bool → List Task → ℕ → Task → Task → Option Seat → Option Seat → List ℕ
-other_line weighs V task s t old new =
-    start_words Changed V task old new ++ keys_words weighs s t ++ codes "\n"
-
 -- the line of a task that was there before, where its sheet says something else
 abbrev pub changed_line : Bool → List Task → Placing → ℕ → List Task → Placing → ℕ → List ℕ
 changed_line weighs U P before V Q task =
     if is_changed weighs (task_at U before) (task_at V task) then
-    other_line weighs V task (task_at U before) (task_at V task) (seat_of U P before) (seat_of V Q task)
+    start_words Changed V task (seat_of U P before) (seat_of V Q task)
+    ++ keys_words weighs (task_at U before) (task_at V task) ++ codes "\n"
     else []
 
 -- what becomes of the bound of a task whose sheet says the same, or of its level where the bound stays, where anything

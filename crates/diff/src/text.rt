@@ -2,14 +2,14 @@
 ghost use Rattle.std.specs.Prelude.{◌≡◌, ◌++◌, ◌<◌, length, OnOk, IfOk, Some, None, option_map, string_bytes};
 ghost use Rattle.task_sheet.specs.Sheet.{task_at};
 ghost use Rattle.diff.specs.Seats.{seat_of};
-ghost use Rattle.diff.specs.Lines.{added_line, change_lines, changed_line, edit_line, effect_line, effect_of, index_in, kept_line, lines_below, other_line, pair_words, removed_line, rest_line, seats_words, some_words, start_words, word_of};
+ghost use Rattle.diff.specs.Lines.{added_line, change_lines, changed_line, edit_line, effect_line, effect_of, index_in, kept_line, lines_below, pair_words, removed_line, rest_line, seats_words, some_words, start_words, word_of};
 
 use crate::keys::{is_changed, push_keys};
 use crate::seats::{Seat, seat_of};
 use crate::side::Side;
 use lines::push_name;
 use std::alloc::{AllocError, Global};
-use task_sheet::{Sheet, TaskSet};
+use task_sheet::TaskSet;
 
 // What becomes of a task.
 #[derive(Clone, Copy)]
@@ -180,23 +180,6 @@ fn push_added(text: &mut String, new: &Side<'_>, task: usize) -> Result<(), Allo
     text.push_str("\n")
 }
 
-// The line of a task whose sheet says something else.
-fn push_other(
-    text: &mut String,
-    weighs: bool,
-    set: &TaskSet,
-    task: usize,
-    sheets: (&Sheet, &Sheet),
-    seats: (Option<Seat>, Option<Seat>),
-) -> Result<(), AllocError>
-    ensures { OnOk result (string_bytes text.new ≡ string_bytes text.old
-        ++ other_line weighs set.now task sheets.entry.0.now sheets.entry.1.now seats.0 seats.1) }
-{
-    push_start(text, Kind::Changed, set, task, seats.0, seats.1)?;
-    push_keys(text, weighs, sheets.0, sheets.1)?;
-    text.push_str("\n")
-}
-
 // The line of a new task that was there before, where its sheet says something else.
 fn push_changed(
     text: &mut String,
@@ -212,12 +195,16 @@ fn push_changed(
         ++ changed_line weighs old.now.set.now old.now.placing.now before
         new.now.set.now new.now.placing.now task) }
 {
-    let sheets = (&old.set.sheets()[before], &new.set.sheets()[task]);
-    if !is_changed(weighs, sheets.0, sheets.1) {
+    let was = &old.set.sheets()[before];
+    let is = &new.set.sheets()[task];
+    if !is_changed(weighs, was, is) {
         return Ok(());
     }
-    let seats = (seat_of(old, before), seat_of(new, task));
-    push_other(text, weighs, new.set, task, sheets, seats)
+    let from = seat_of(old, before);
+    let to = seat_of(new, task);
+    push_start(text, Kind::Changed, new.set, task, from, to)?;
+    push_keys(text, weighs, was, is)?;
+    text.push_str("\n")
 }
 
 // The line of a new task that was there before, where its sheet says the same and its seat is another.

@@ -1,42 +1,31 @@
 -- A set with each task scaled has the same ranks, and asks no more with a lesser factor.
-use Rattle.std.proofs.Common.{◌≡◌, ◌↔◌, ℕ, zero, suc, ◌+◌, inl, inr, ◌<◌, ◌≤◌, None, List, [], ◌∷◌}
-use Rattle.std.proofs.Common.{◌++◌, length, get_or, take, cond, refl, sym, ◌∙◌, ap, subst, arith}
-use Rattle.std.proofs.Common.{map}
+use Rattle.std.proofs.Common.{◌≡◌, ◌↔◌, ℕ, zero, suc, inl, inr, ◌<◌, ◌≤◌, List, [], ◌∷◌, length}
+use Rattle.std.proofs.Common.{get_or, cond, Bool, IsTrue, refl, sym, ◌∙◌, ap, subst, arith}
 use Rattle.std.specs.List.{AllByRecursion}
 use Rattle.std.proofs.lemmas.Bool.{cases_lt}
 use Rattle.std.proofs.lemmas.List.{get_or_default}
 use Rattle.std.proofs.lemmas.List.Elements.{recursion_from_All}
-use Rattle.task_sheet.specs.Sheet.{Task, IsValidSheet, no_task, task_at}
-use Rattle.task_sheet.specs.Rank.{IsByRank}
+use Rattle.task_sheet.specs.Sheet.{Task, AllTasks, IsValidSheet, no_task, task_at}
 use Rattle.task_sheet.specs.TaskSet.{IsTaskSet}
-use Rattle.task_sheet.specs.SheetsFault.{sheets_fault}
 use Rattle.task_sheet.specs.Indexes.{below}
-use Rattle.task_sheet.specs.Orders.{IsOrder, IsPassingOrder, IsFeasible}
+use Rattle.task_sheet.specs.Orders.{IsOrder, IsFeasible}
 use Rattle.task_sheet.proofs.TaskLaws.{AllTasks-from_set, valid_at}
-use Rattle.overheads.proofs.MappedSets.{KeepsRanks, count-mapped, mapped-at, mapped-past}
-use Rattle.overheads.proofs.MappedSets.{mapped-more, IsByRank-mapped, no_fault-mapped, set-mapped}
+use Rattle.overheads.proofs.MappedSets.{KeepsRanks, count-mapped, mapped-at, mapped-past, set-mapped}
 use Rattle.limits.specs.Easier.{AreEasier}
-use Rattle.limits.proofs.EasierLaws.{IsPassingOrder-easier, IsFeasible-easier}
+use Rattle.limits.proofs.EasierLaws.{IsFeasible-easier}
 use Rattle.limits.proofs.NumberLaws.{easier-same}
-use Rattle.factor.specs.Factors.{scaled_task, scaled, MayScale, Scales, IsFactor, HasNoFactor}
-use Rattle.factor.specs.Factors.{ScalesIn, IsFactorIn}
+use Rattle.factor.specs.Factors.{scaled_task, scaled, MayScale, ScalesFor, IsFactorFor, IsFactor}
+use Rattle.factor.specs.Factors.{HasNoFactor, IsFactorIn}
 use Rattle.factor.proofs.ScaledTasks.{scaled_task-same, within-same, within-less, valid-scaled}
 use Rattle.factor.proofs.ScaledTasks.{few-scaled, easier-scaled}
 
 -- ---- one factor
 module _ (f : ℕ) where
-  keeps-ranks : KeepsRanks (scaled_task f)
+  pub keeps-ranks : KeepsRanks (scaled_task f)
   keeps-ranks = record { ranks = λ x y. refl; names = λ x y. refl }
 
   pub count-scaled : (U : List Task) → length (scaled f U) ≡ length U
   count-scaled U = count-mapped (scaled_task f) U
-
-  pub IsByRank-scaled : (U V : List Task) → IsTaskSet U → IsByRank (scaled f U) V → V ≡ scaled f U
-  IsByRank-scaled U V set by_rank = IsByRank-mapped (scaled_task f) keeps-ranks U V set by_rank
-
-  -- the sheets are no fault
-  pub no_fault-scaled : (U : List Task) → IsTaskSet U → sheets_fault (scaled f U) ≡ None
-  no_fault-scaled U set = no_fault-mapped (scaled_task f) keeps-ranks U set
 
   -- the task at an index
   pub scaled-at : (U : List Task) (k : ℕ) → k < length U
@@ -66,13 +55,6 @@ keeps-scaled of kept [] factor k = refl
 keeps-scaled of kept (t ∷ ts) factor zero = kept factor t
 keeps-scaled of kept (t ∷ ts) factor (suc k) = keeps-scaled of kept ts factor k
 
--- one sheet more
-pub scaled-more : (f : ℕ) (U xs ys : List Task) (i : ℕ) (x y : Task) → i < length U
-    → x ≡ get_or U i x → y ≡ scaled_task f x → xs ≡ map (scaled_task f) (take i U)
-    → ys ≡ xs ++ y ∷ [] → ys ≡ map (scaled_task f) (take (i + 1) U)
-scaled-more f U xs ys i x y lt is scales before pushed =
-    mapped-more (scaled_task f) U xs ys i x y lt is scales before pushed
-
 -- ---- two factors
 pub AreEasier-scaled : (U : List Task) (low high : ℕ) → low ≤ high
     → AreEasier (scaled low U) (scaled high U)
@@ -90,33 +72,6 @@ pub may-less : (U : List Task) (low high : ℕ) → 1 ≤ low → low ≤ high �
 may-less U low high some le may = record {
   some = some;
   within = λ k d lt. within-less low high (get_or U k d) le (may.within k d lt);
-}
-
-pub IsFeasible-scaled : (U : List Task) (low high : ℕ) → IsTaskSet U → low ≤ high → MayScale U high
-    → IsFeasible (scaled high U) → IsFeasible (scaled low U)
-IsFeasible-scaled U low high set le may =
-    IsFeasible-easier (scaled low U) (scaled high U) (AreEasier-scaled U low high le)
-    (AllTasks-from_set (scaled high U) (set-scaled high U set may))
-
-pub Scales-less : (U : List Task) (low high : ℕ) → IsTaskSet U → 1 ≤ low → low ≤ high
-    → Scales U high → Scales U low
-Scales-less U low high set some le scales = record {
-  may = may-less U low high some le scales.may;
-  feasible = IsFeasible-scaled U low high set le scales.may scales.feasible;
-}
-
-pub IsPassingOrder-scaled : (U : List Task) (low high : ℕ) (order : List ℕ) → IsTaskSet U
-    → low ≤ high → MayScale U high → IsPassingOrder (scaled high U) order
-    → IsPassingOrder (scaled low U) order
-IsPassingOrder-scaled U low high order set le may =
-    IsPassingOrder-easier (scaled low U) (scaled high U) (AreEasier-scaled U low high le)
-    (AllTasks-from_set (scaled high U) (set-scaled high U set may)) order
-
-pub ScalesIn-less : (U : List Task) (order : List ℕ) (low high : ℕ) → IsTaskSet U → 1 ≤ low
-    → low ≤ high → ScalesIn U order high → ScalesIn U order low
-ScalesIn-less U order low high set some le scales = record {
-  may = may-less U low high some le scales.may;
-  passes = IsPassingOrder-scaled U low high order set le scales.may scales.passes;
 }
 
 pub IsOrder-scaled : (U : List Task) (factor : ℕ) (order : List ℕ) → IsOrder U order
@@ -144,70 +99,63 @@ may-same : (U : List Task) → IsTaskSet U → MayScale U 1000
 may-same U set =
     record { some = omega arith; within = λ k d lt. within-same (get_or U k d) (set.valid k d lt) }
 
--- an order that passes does so with 1000
-pub ScalesIn-same : (U : List Task) (order : List ℕ) → IsTaskSet U → IsPassingOrder U order
-    → ScalesIn U order 1000
-ScalesIn-same U order set passing = record {
-  may = may-same U set;
-  passes = subst (λ (V : List Task). IsPassingOrder V order) (sym (scaled-same U set)) passing;
-}
+-- ---- what a factor says, in a sense in which a set that asks less is feasible too
+module _ (P : List Task → Type 0) (eased : (V U : List Task) → AreEasier V U → AllTasks U → P U → P V)
+    (U : List Task) (set : IsTaskSet U) where
+  pub feasible-less : (low high : ℕ) → low ≤ high → MayScale U high → P (scaled high U)
+      → P (scaled low U)
+  feasible-less low high le may =
+      eased (scaled low U) (scaled high U) (AreEasier-scaled U low high le)
+      (AllTasks-from_set (scaled high U) (set-scaled high U set may))
 
--- ---- what a factor says
-pub factor-each : (U : List Task) (most factor : ℕ) → IsTaskSet U → IsFactor U most
-    → MayScale U factor → IsFeasible (scaled factor U) ↔ (factor ≤ most)
-factor-each U most factor set is may = (
-  λ feasible. elim (cases_lt most factor) [
-    | inl lt ↦ absurd (is.greatest factor lt may feasible)
-    | inr le ↦ le
-  ],
-  λ le. IsFeasible-scaled U factor most set le is.may is.feasible,
-)
+  pub scales-less : (low high : ℕ) → 1 ≤ low → low ≤ high → ScalesFor P U high → ScalesFor P U low
+  scales-less low high some le scales = record {
+    may = may-less U low high some le scales.may;
+    feasible = feasible-less low high le scales.may scales.feasible;
+  }
 
-pub factor-own : (U : List Task) (most : ℕ) → IsTaskSet U → IsFactor U most → IsFeasible U
-    ↔ (1000 ≤ most)
-factor-own U most set is =
-    subst (λ (V : List Task). IsFeasible V ↔ (1000 ≤ most)) (scaled-same U set)
-    (factor-each U most 1000 set is (may-same U set))
+  -- a test of the scaled set says whether the factor may be taken and the set is feasible with it
+  pub scales-tested : (factor : ℕ) (V : List Task) (b : Bool) → V ≡ scaled factor U
+      → MayScale U factor → IsTrue b ↔ P V → IsTrue b ↔ ScalesFor P U factor
+  scales-tested factor V b same may tested = (
+    λ yes. record { may = may; feasible = subst (λ (W : List Task). P W) same (tested.0 yes) },
+    λ scales. tested.1 (subst (λ (W : List Task). P W) (sym same) scales.feasible),
+  )
 
-pub factor-one : (U : List Task) (first second : ℕ) → IsTaskSet U → IsFactor U first
-    → IsFactor U second → first ≡ second
-factor-one U first second set f s = omega (
-  arith,
-  (factor-each U first second set f s.may).0
-      s.feasible,
-  (factor-each U second first set s f.may).0 f.feasible,
-)
+  -- feasible as it is, it is so with 1000
+  pub scales-same : P U → ScalesFor P U 1000
+  scales-same feasible = record {
+    may = may-same U set;
+    feasible = subst (λ (V : List Task). P V) (sym (scaled-same U set)) feasible;
+  }
+
+  pub factor-each : (most factor : ℕ) → IsFactorFor P U most → MayScale U factor
+      → P (scaled factor U) ↔ (factor ≤ most)
+  factor-each most factor is may = (
+    λ feasible. elim (cases_lt most factor) [
+      | inl lt ↦ absurd (is.greatest factor lt may feasible)
+      | inr le ↦ le
+    ],
+    λ le. feasible-less factor most le is.may is.feasible,
+  )
+
+  pub factor-own : (most : ℕ) → IsFactorFor P U most → P U ↔ (1000 ≤ most)
+  factor-own most is = subst (λ (V : List Task). P V ↔ (1000 ≤ most)) (scaled-same U set)
+      (factor-each most 1000 is (may-same U set))
+
+  pub factor-one : (first second : ℕ) → IsFactorFor P U first → IsFactorFor P U second
+      → first ≡ second
+  factor-one first second f s = omega (
+    arith,
+    (factor-each first second f s.may).0 s.feasible,
+    (factor-each second first s f.may).0 f.feasible,
+  )
 
 pub factor-none : (U : List Task) → IsTaskSet U → HasNoFactor U → ¬ IsFeasible U
 factor-none U set none =
     subst (λ (V : List Task). ¬ IsFeasible V) (scaled-same U set) (none 1000 (may-same U set))
 
--- ---- the same of an order
-pub factor-in-each : (U : List Task) (order : List ℕ) (most factor : ℕ) → IsTaskSet U → IsFactorIn U
-    order most → MayScale U factor → IsPassingOrder (scaled factor U) order ↔ (factor ≤ most)
-factor-in-each U order most factor set is may = (
-  λ passes. elim (cases_lt most factor) [
-    | inl lt ↦ absurd (is.greatest factor lt may passes)
-    | inr le ↦ le
-  ],
-  λ le. IsPassingOrder-scaled U factor most order set le is.may is.passes,
-)
-
-pub factor-in-own : (U : List Task) (order : List ℕ) (most : ℕ) → IsTaskSet U
-    → IsFactorIn U order most → IsPassingOrder U order ↔ (1000 ≤ most)
-factor-in-own U order most set is =
-    subst (λ (V : List Task). IsPassingOrder V order ↔ (1000 ≤ most)) (scaled-same U set)
-    (factor-in-each U order most 1000 set is (may-same U set))
-
-pub factor-in-one : (U : List Task) (order : List ℕ) (first second : ℕ) → IsTaskSet U
-    → IsFactorIn U order first → IsFactorIn U order second → first ≡ second
-factor-in-one U order first second set f s =
-    omega (
-      arith,
-      (factor-in-each U order first second set f s.may).0 s.passes,
-      (factor-in-each U order second first set s f.may).0 f.passes,
-    )
-
 pub factor-in-any : (U : List Task) (order : List ℕ) (own most : ℕ) → IsTaskSet U
     → IsFactorIn U order own → IsFactor U most → own ≤ most
-factor-in-any U order own most set o m = (factor-each U most own set m o.may).0 (order, o.passes)
+factor-in-any U order own most set o m =
+    (factor-each IsFeasible IsFeasible-easier U set most own m o.may).0 (order, o.feasible)

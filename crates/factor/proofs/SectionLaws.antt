@@ -29,13 +29,6 @@ thousandths-some factor n some pos =
     let times : 1 * n ≤ factor * n = mul-le-mul_right n some in
     omega (arith, times, thousand-covers (factor * n))
 
--- so many thousandths of a time are at most as much
-pub thousandths-short : (factor n : ℕ) → factor ≤ 10000000001 → n ≤ 10000000
-    → thousandths factor n ≤ 200000000000000
-thousandths-short factor n few le =
-    let times : factor * n ≤ 10000000001 * 10000000 = mul-le-mul few le in
-    thousand-least (factor * n) 200000000000000 (omega (arith, times))
-
 -- thousandths of 1 or more that are within a period are within the greatest factor
 pub thousandths-few : (factor n period : ℕ) → 0 < n → thousandths factor n ≤ period
     → period ≤ 10000000 → factor ≤ 10000000000

@@ -75,16 +75,24 @@ pub record MayScale (U : List Task) (factor : ℕ) : Type 0 where
   pub some : 1 ≤ factor
   pub within : All (IsWithin factor) U
 
--- the factor may be taken, and some order passes with it
-pub record Scales (U : List Task) (factor : ℕ) : Type 0 where
+-- the factor may be taken, and the set is feasible with it in some sense
+pub record ScalesFor (Feasible : List Task → Type 0) (U : List Task) (factor : ℕ) : Type 0 where
   pub may : MayScale U factor
-  pub feasible : IsFeasible (scaled factor U)
+  pub feasible : Feasible (scaled factor U)
+
+-- the greatest factor with which it is
+pub record IsFactorFor (Feasible : List Task → Type 0) (U : List Task) (factor : ℕ) : Type 0 where
+  pub may : MayScale U factor
+  pub feasible : Feasible (scaled factor U)
+  pub greatest : (more : ℕ) → factor < more → MayScale U more → ¬ Feasible (scaled more U)
+
+-- the factor may be taken, and some order passes with it
+abbrev pub Scales : List Task → ℕ → Type 0
+Scales U factor = ScalesFor IsFeasible U factor
 
 -- the greatest factor with which some order passes
-pub record IsFactor (U : List Task) (factor : ℕ) : Type 0 where
-  pub may : MayScale U factor
-  pub feasible : IsFeasible (scaled factor U)
-  pub greatest : (more : ℕ) → factor < more → MayScale U more → ¬ IsFeasible (scaled more U)
+abbrev pub IsFactor : List Task → ℕ → Type 0
+IsFactor U factor = IsFactorFor IsFeasible U factor
 
 -- no factor helps
 abbrev pub HasNoFactor : List Task → Type 0
@@ -97,13 +105,9 @@ AnswersFactor U None = HasNoFactor U
 
 -- ---- in a given order
 -- the factor may be taken, and the order passes with it as it stands
-pub record ScalesIn (U : List Task) (order : List ℕ) (factor : ℕ) : Type 0 where
-  pub may : MayScale U factor
-  pub passes : IsPassingOrder (scaled factor U) order
+abbrev pub ScalesIn : List Task → List ℕ → ℕ → Type 0
+ScalesIn U order factor = ScalesFor (λ V. IsPassingOrder V order) U factor
 
 -- the greatest factor with which the order passes as it stands
-pub record IsFactorIn (U : List Task) (order : List ℕ) (factor : ℕ) : Type 0 where
-  pub may : MayScale U factor
-  pub passes : IsPassingOrder (scaled factor U) order
-  pub greatest : (more : ℕ) → factor < more → MayScale U more
-      → ¬ IsPassingOrder (scaled more U) order
+abbrev pub IsFactorIn : List Task → List ℕ → ℕ → Type 0
+IsFactorIn U order factor = IsFactorFor (λ V. IsPassingOrder V order) U factor

@@ -30,24 +30,18 @@ all-placed P x [] i kept h = tt
 all-placed P x (y ∷ ys) zero kept h = (kept h.0, h.1)
 all-placed P x (y ∷ ys) (suc i) kept h = (h.0, all-placed P x ys i kept h.1)
 
-rank-after : (x y z : Task) → IsNamesake x y → rank_cmp z y ≡ Less → rank_cmp z x ≡ Less
-rank-after x y z same before = rw (same.name, same.weight) before
-
-rank-before : (x y z : Task) → IsNamesake x y → rank_cmp y z ≡ Less → rank_cmp x z ≡ Less
-rank-before x y z same before = rw (same.name, same.weight) before
-
 ranked-placed : (U : List Task) (i : ℕ) (x : Task) → IsNamesake x (task_at U i)
     → IsStrictlySortedBy rank_cmp U → IsStrictlySortedBy rank_cmp (slice_set U i x)
 unfolding IsStrictlySortedBy
 ranked-placed [] i x same h = tt
 ranked-placed (y ∷ ys) zero x same h = (
   all-turned (λ z. rank_cmp y z ≡ Less)
-      (λ z. rank_cmp x z ≡ Less) (λ z. rank-before x y z same) ys h.0,
+      (λ z. rank_cmp x z ≡ Less) (λ z before. rw (same.name, same.weight) before) ys h.0,
   h.1,
 )
 ranked-placed (y ∷ ys) (suc i) x same h = (
   all-placed (λ z. rank_cmp y z ≡ Less) x ys i
-      (rank-after x (task_at ys i) y same) h.0,
+      (λ before. rw (same.name, same.weight) before) h.0,
   ranked-placed ys i x same h.1,
 )
 
@@ -62,23 +56,17 @@ IsByRank-placed U i x V same valid by_rank =
     } in
     by_rank_one sheets sheets V sheets (IsPermutation-refl sheets) by_rank own
 
-named-after : (x y z : Task) → IsNamesake x y → same_name z y ≡ false → same_name z x ≡ false
-named-after x y z same apart = rw (same.name) apart
-
-named-before : (x y z : Task) → IsNamesake x y → same_name y z ≡ false → same_name x z ≡ false
-named-before x y z same apart = rw (same.name) apart
-
 distinct-placed : (U : List Task) (i : ℕ) (x : Task) → IsNamesake x (task_at U i)
     → AreDistinct same_name U → AreDistinct same_name (slice_set U i x)
 distinct-placed [] i x same h = tt
 distinct-placed (y ∷ ys) zero x same h = (
   all-turned (λ z. same_name y z ≡ false)
-      (λ z. same_name x z ≡ false) (λ z. named-before x y z same) ys h.0,
+      (λ z. same_name x z ≡ false) (λ z apart. rw (same.name) apart) ys h.0,
   h.1,
 )
 distinct-placed (y ∷ ys) (suc i) x same h = (
   all-placed (λ z. same_name y z ≡ false) x ys i
-      (named-after x (task_at ys i) y same) h.0,
+      (λ apart. rw (same.name) apart) h.0,
   distinct-placed ys i x same h.1,
 )
 

@@ -1,6 +1,6 @@
 -- The lines of a task's numbers, one after the other.
-use Rattle.std.proofs.Common.{◌≡◌, ℕ, zero, suc, ◌+◌, ◌<◌, ◌++◌, List, length, Option, Some, None}
-use Rattle.std.proofs.Common.{IfSome, refl, sym, subst, arith}
+use Rattle.std.proofs.Common.{◌≡◌, ℕ, suc, ◌+◌, ◌++◌, List, Option, Some, None, IfSome, refl, sym}
+use Rattle.std.proofs.Common.{subst, arith}
 use Rattle.task_sheet.specs.Sheet.{Task}
 use Rattle.task_sheet.specs.Orders.{IsFeasible}
 use Rattle.assignment.specs.Places.{PlaceData}
@@ -8,7 +8,7 @@ use Rattle.assignment.specs.Placings.{IsPlacingOf, tasks_of_places}
 use Rattle.assignment.specs.declared.placing.Placing.{Placing}
 use Rattle.assignment.specs.declared.placing.Placing.TheVariants.{Best, Stuck}
 use Rattle.limits.specs.declared.number.Number.{Number}
-use Rattle.limits.specs.Numbers.{HasNumber, MayHave, numbered}
+use Rattle.limits.specs.Numbers.{MayHave, numbered}
 use Rattle.limit_lines.specs.Lines.{HasPassing, number_at, AnswersIn, IsNumberLine, AreNumberLines}
 
 -- the best order passes
@@ -24,14 +24,6 @@ lines_more U places i k front line lines is =
     let next : suc k ≡ k + 1 = omega arith in
     subst (λ n. AreNumberLines U places i n (front ++ line)) next (front, line, lines, is, refl)
 
--- the first numbers of a task are those that it has
-pub has-at : (t : Task) (k : ℕ) → k < 4 + length t.sections → HasNumber t (number_at k)
-has-at t zero lt = tt
-has-at t (suc zero) lt = tt
-has-at t (suc (suc zero)) lt = tt
-has-at t (suc (suc (suc zero))) lt = tt
-has-at t (suc (suc (suc (suc k)))) lt = omega arith
-
 -- with the furthest value in the order the sheet is valid, and some order passes: that one
 pub may_in : (U : List Task) (places : Option (List PlaceData)) (i : ℕ) (number : Number)
     (own : Option ℕ) → AnswersIn U places i number own → IfSome own (MayHave U i number)
@@ -42,7 +34,7 @@ may_in U None i number own is = subst (λ (o : Option ℕ). IfSome o (MayHave U 
 pub passes_in : (U : List Task) (places : Option (List PlaceData)) (i : ℕ) (number : Number)
     (own : Option ℕ) → AnswersIn U places i number own
     → IfSome own (λ value. IsFeasible (numbered U i number value))
-passes_in U (Some places) i number (Some value) is = (tasks_of_places places, is.passes)
+passes_in U (Some places) i number (Some value) is = (tasks_of_places places, is.feasible)
 passes_in U (Some places) i number None is = tt
 passes_in U None i number own is =
     subst (λ (o : Option ℕ). IfSome o (λ value. IsFeasible (numbered U i number value))) (sym is) tt

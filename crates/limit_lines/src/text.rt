@@ -3,10 +3,9 @@ ghost use Rattle.std.specs.Prelude.{◌≡◌, ◌++◌, ◌<◌, ℕ, length, I
 ghost use Rattle.task_sheet.specs.Sheet.{IsValidSheet, task_at};
 ghost use Rattle.task_sheet.specs.Orders.{IsFeasible};
 ghost use Rattle.task_sheet.specs.declared.sheet.TheConstants.{SECTION_LIMIT};
-ghost use Rattle.task_sheet.specs.TaskSet.{IsTaskSet};
 ghost use Rattle.factor.specs.Factors.{AnswersFactor};
 ghost use Rattle.limits.specs.Numbers.{AnswersFurthest, HasNumber, MayHave, numbered};
-ghost use Rattle.limit_lines.specs.Lines.{AnswersFactorIn, AnswersIn, AreTaskLines, HasPassing, IsFactorLine, IsLast, IsNumberLine, label_of, leaves_own, less_of, node_part, number_at, number_line, order_in, places_in, slack_in, slack_line, slack_of, some_words, values_line};
+ghost use Rattle.limit_lines.specs.Lines.{AnswersFactorIn, AnswersIn, AreTaskLines, HasPassing, IsFactorLine, IsLast, IsNumberLine, label_of, leaves_own, less_of, node_part, number_at, number_line, order_in, places_in, slack_in, slack_line, slack_of, some_words};
 
 use assignment::{Place, Placing};
 use ceilings::Tabled;
@@ -95,29 +94,6 @@ fn leaves_own(number: Number, part: u64, value: u64) -> bool
     }
 }
 
-// The line of a number of a task with these values.
-fn push_values(
-    text: &mut String,
-    set: &TaskSet,
-    task: usize,
-    number: Number,
-    value: u64,
-    own: Option<u64>,
-    most: u64,
-) -> Result<(), AllocError>
-    requires task { task < length set.now }
-    requires has { HasNumber (task_at set.now task) number }
-    requires kept { IsTaskSet set.now }
-    ensures { OnOk result (string_bytes text.new ≡ string_bytes text.old
-        ++ values_line set.now task number value own most) }
-{
-    push_name(text, set, task)?;
-    push_label(text, number)?;
-    write!(text, "{value} ")?;
-    push_some(text, own)?;
-    write!(text, " {most}\n")
-}
-
 // The line of a number of a task; nothing where no value helps, or none that leaves the task one of its own.
 fn push_number(
     text: &mut String,
@@ -141,16 +117,12 @@ fn push_number(
         return Ok(());
     }
     let value = value_of(sheet, number).saturating_sub(part);
-    let own = less_of(part, own);
-    push_values(
-        text,
-        set,
-        task,
-        number,
-        value,
-        own,
-        most.saturating_sub(part),
-    )
+    let most = most.saturating_sub(part);
+    push_name(text, set, task)?;
+    push_label(text, number)?;
+    write!(text, "{value} ")?;
+    push_some(text, less_of(part, own))?;
+    write!(text, " {most}\n")
 }
 
 // The furthest value of a number with which the order of a placing passes; none after a no.

@@ -226,7 +226,7 @@ module _ (U : List Task) (light heavy : Node) (set : IsTaskSet U) (is : IsLighte
         AllStand-padded (without_index L i) above (without-part_of (length U) L i part) rest all.1,
       )
 
-  order-padded : (order : List ℕ) → IsPassingOrder W order → IsPassingOrder V order
+  pub order-padded : (order : List ℕ) → IsPassingOrder W order → IsPassingOrder V order
   order-padded order passing =
       let each : IsOrderOf (all_of U) order = λ k. passing.each_once k
       ∙ ap (λ n. cond (below n k) 1 0) (count-padded heavy U) in
@@ -235,19 +235,11 @@ module _ (U : List Task) (light heavy : Node) (set : IsTaskSet U) (is : IsLighte
         each_stands = AllStand-padded (all_of U) order (λ k h. h) each passing.each_stands;
       }
 
-pub IsPassingOrder-padded : (U : List Task) (light heavy : Node) (order : List ℕ) → IsTaskSet U
-    → IsLighter light heavy → padding_fault heavy U ≡ None → IsPassingOrder (padded heavy U) order
-    → IsPassingOrder (padded light U) order
-IsPassingOrder-padded U light heavy order set is room passing =
-    order-padded U light heavy set is order passing
-
-pub IsFeasible-padded : (U : List Task) (light heavy : Node) → IsTaskSet U → IsLighter light heavy
-    → padding_fault heavy U ≡ None → IsFeasible (padded heavy U) → IsFeasible (padded light U)
-IsFeasible-padded U light heavy set is room feasible =
-    (feasible.0, order-padded U light heavy set is feasible.0 feasible.1)
+  pub feasible-padded : IsFeasible W → IsFeasible V
+  feasible-padded feasible = (feasible.0, order-padded feasible.0 feasible.1)
 
 pub IsFeasible-plain : (U : List Task) (node : Node) → IsTaskSet U → IsUnpadded U
     → padding_fault node U ≡ None → IsFeasible (padded node U) → IsFeasible U
 IsFeasible-plain U node set none room feasible =
     subst (λ (V : List Task). IsFeasible V) (padded-none U none)
-    (IsFeasible-padded U no_overhead node set (lightest node) room feasible)
+    (feasible-padded U no_overhead node set (lightest node) feasible)

@@ -1,22 +1,22 @@
 -- What another value of a number does to a set.
-use Rattle.std.proofs.Common.{◌≡◌, ◌↔◌, ℕ, zero, suc, ◌<◌, ◌≤◌, inl, inr, min, max, cond, List, []}
+use Rattle.std.proofs.Common.{◌≡◌, ◌↔◌, ℕ, zero, suc, ◌<◌, ◌≤◌, inl, inr, min, max, List, []}
 use Rattle.std.proofs.Common.{◌∷◌, length, slice_set, refl, sym, ◌∙◌, ap, subst, arith}
-use Rattle.std.proofs.lemmas.Bool.{cases_eq}
+use Rattle.std.proofs.lemmas.Bool.{cases_eq, cases_lt}
 use Rattle.std.proofs.lemmas.List.{length-set, set-get_or}
-use Rattle.task_sheet.specs.Sheet.{CriticalSection, Task, IsValidSheet, no_task, task_at}
+use Rattle.task_sheet.specs.Sheet.{CriticalSection, Task, AllTasks, IsValidSheet, no_task, task_at}
 use Rattle.task_sheet.specs.TaskSet.{IsTaskSet}
-use Rattle.task_sheet.specs.Orders.{IsOrder, IsPassingOrder, IsFeasible}
-use Rattle.task_sheet.specs.Indexes.{below}
 use Rattle.task_sheet.proofs.TaskLaws.{valid_at}
 use Rattle.headroom.proofs.CostLaws.{placed-other, placed-same}
 use Rattle.limits.specs.declared.number.Number.{Number}
 use Rattle.limits.specs.declared.number.Number.TheVariants.{Cost, Period, Deadline, Jitter, Len}
 use Rattle.limits.specs.Easier.{AreShorter, IsEasier, AreEasier}
 use Rattle.limits.specs.Numbers.{no_section, with_len, value_of, with_number, IsNoFurther, numbered}
-use Rattle.limits.specs.Numbers.{MayHave, IsFurthest, NoneHelps}
+use Rattle.limits.specs.Numbers.{MayHave, IsFurthestFor, IsFurthest, IsSpan, at_distance}
+use Rattle.limits.specs.Numbers.{distance}
 use Rattle.limits.specs.InOrder.{IsFurthestIn}
-use Rattle.limits.proofs.EasierLaws.{AreCheaper-refl, IsPassingOrder-easier, IsFeasible-easier}
+use Rattle.limits.proofs.EasierLaws.{AreCheaper-refl}
 use Rattle.limits.proofs.NearLaws.{AreShorter-refl}
+use Rattle.limits.proofs.SpanLaws.{far-known}
 use Rattle.headroom.proofs.PlacedLaws.{IsNamesake, AllTasks-placed}
 
 pub namesake : (number : Number) (t : Task) (value : ℕ) → IsNamesake (with_number number t value) t
@@ -33,83 +33,49 @@ shorter-len [] k low high le = tt
 shorter-len (x ∷ xs) zero low high le = (refl, le, AreShorter-refl xs)
 shorter-len (x ∷ xs) (suc k) low high le = (refl, omega arith, shorter-len xs k low high le)
 
--- a task asks no more than itself
-pub easier-same : (x easy hard : Task) → easy ≡ x → hard ≡ x → IsEasier easy hard
-easier-same x easy hard e f = rw (e, f) record {
+-- a task asks no more than one with longer times and sections, a shorter period and an earlier deadline
+easier-parts : (t : Task) (c p d j c' p' d' j' : ℕ) (ss ss' : List CriticalSection) → c ≤ c' → p' ≤ p
+    → d' ≤ d → j ≤ j' → AreShorter ss ss'
+    → IsEasier (record t { cost = c; period = p; deadline = d; jitter = j; sections = ss })
+    (record t { cost = c'; period = p'; deadline = d'; jitter = j'; sections = ss' })
+easier-parts t c p d j c' p' d' j' ss ss' cost period deadline jitter sections = record {
   name = refl;
   outranks = refl;
-  cost = omega arith;
-  jitter = omega arith;
-  period = omega arith;
-  deadline = omega arith;
-  sections = AreShorter-refl x.sections;
+  cost = cost;
+  jitter = jitter;
+  period = period;
+  deadline = deadline;
+  sections = sections;
   release = omega arith;
-  interrupts = AreCheaper-refl x.interrupts;
+  interrupts = AreCheaper-refl t.interrupts;
 }
+
+pub easier-same : (x easy hard : Task) → easy ≡ x → hard ≡ x → IsEasier easy hard
+easier-same x easy hard e f = rw (e, f)
+    (easier-parts x x.cost x.period x.deadline x.jitter x.cost x.period x.deadline x.jitter
+    x.sections x.sections (omega arith) (omega arith) (omega arith) (omega arith)
+    (AreShorter-refl x.sections))
 
 easier-number : (number : Number) (t : Task) (low high : ℕ) → IsNoFurther number low high
     → IsEasier (with_number number t low) (with_number number t high)
-easier-number Cost t low high le = record {
-  name = refl;
-  outranks = refl;
-  cost = le;
-  jitter =
-      omega arith;
-  period = omega arith;
-  deadline = omega arith;
-  sections =
-      AreShorter-refl t.sections;
-  release = omega arith;
-  interrupts = AreCheaper-refl t.interrupts;
-}
-easier-number Period t low high le = record {
-  name = refl;
-  outranks = refl;
-  cost = omega arith;
-  jitter = omega arith;
-  period = le;
-  deadline = omega (arith, le);
-  sections =
-      AreShorter-refl t.sections;
-  release = omega arith;
-  interrupts = AreCheaper-refl t.interrupts;
-}
-easier-number Deadline t low high le = record {
-  name = refl;
-  outranks = refl;
-  cost = omega arith;
-  jitter = omega arith;
-  period = omega (arith, le);
-  deadline = le;
-  sections =
-      AreShorter-refl t.sections;
-  release = omega arith;
-  interrupts = AreCheaper-refl t.interrupts;
-}
-easier-number Jitter t low high le = record {
-  name = refl;
-  outranks = refl;
-  cost = omega arith;
-  jitter = le;
-  period = omega arith;
-  deadline = omega arith;
-  sections =
-      AreShorter-refl t.sections;
-  release = omega arith;
-  interrupts = AreCheaper-refl t.interrupts;
-}
-easier-number (Len k) t low high le = record {
-  name = refl;
-  outranks = refl;
-  cost = omega arith;
-  jitter = omega arith;
-  period = omega arith;
-  deadline = omega arith;
-  sections = shorter-len
-      t.sections k low high le;
-  release = omega arith;
-  interrupts = AreCheaper-refl t.interrupts;
-}
+easier-number Cost t low high le =
+    easier-parts t low t.period t.deadline t.jitter high t.period t.deadline t.jitter t.sections
+    t.sections le (omega arith) (omega arith) (omega arith) (AreShorter-refl t.sections)
+easier-number Period t low high le =
+    easier-parts t t.cost low (min t.deadline low) t.jitter t.cost high (min t.deadline high)
+    t.jitter t.sections t.sections (omega arith) le (omega (arith, le)) (omega arith)
+    (AreShorter-refl t.sections)
+easier-number Deadline t low high le =
+    easier-parts t t.cost (max t.period low) low t.jitter t.cost (max t.period high) high t.jitter
+    t.sections t.sections (omega arith) (omega (arith, le)) le (omega arith)
+    (AreShorter-refl t.sections)
+easier-number Jitter t low high le =
+    easier-parts t t.cost t.period t.deadline low t.cost t.period t.deadline high t.sections
+    t.sections (omega arith) (omega arith) (omega arith) le (AreShorter-refl t.sections)
+easier-number (Len k) t low high le =
+    easier-parts t t.cost t.period t.deadline t.jitter t.cost t.period t.deadline t.jitter
+    (with_len t.sections k low) (with_len t.sections k high) (omega arith) (omega arith)
+    (omega arith) (omega arith) (shorter-len t.sections k low high le)
 
 pub AreEasier-numbered : (U : List Task) (i : ℕ) (number : Number) (low high : ℕ) → i < length U
     → IsNoFurther number low high → AreEasier (numbered U i number low) (numbered U i number high)
@@ -127,15 +93,6 @@ AreEasier-numbered U i number low high inside le =
             (easier-number number (task_at U i) low high le)))
       ];
     }
-
--- a set that passes with a value passes with each that is no further
-pub IsFeasible-nearer : (U : List Task) (i : ℕ) (number : Number) (low high : ℕ) → IsTaskSet U
-    → i < length U → MayHave U i number high → IsNoFurther number low high
-    → IsFeasible (numbered U i number high) → IsFeasible (numbered U i number low)
-IsFeasible-nearer U i number low high set inside may le =
-    IsFeasible-easier (numbered U i number low) (numbered U i number high)
-    (AreEasier-numbered U i number low high inside le)
-    (AllTasks-placed U i (with_number number (task_at U i) high) set inside may)
 
 -- ---- with its own value a task is as it was
 number-own : (number : Number) (t : Task) → IsValidSheet t
@@ -161,25 +118,7 @@ may-own U i number set inside =
     let valid = valid_at U i set inside in
     subst IsValidSheet (sym (number-own number (task_at U i) valid)) valid
 
--- ---- what the furthest says
-pub furthest-each : (U : List Task) (i : ℕ) (number : Number) (most value : ℕ) → IsTaskSet U
-    → i < length U → IsFurthest U i number most → MayHave U i number value
-    → IsFeasible (numbered U i number value) ↔ IsNoFurther number value most
-furthest-each U i number most value set inside is may = (
-  is.furthest value may,
-  λ le. IsFeasible-nearer U i number value most set inside is.may le
-      is.feasible,
-)
-
-pub furthest-own : (U : List Task) (i : ℕ) (number : Number) (most : ℕ) → IsTaskSet U → i < length U
-    → IsFurthest U i number most
-    → IsFeasible U ↔ IsNoFurther number (value_of number (task_at U i)) most
-furthest-own U i number most set inside is =
-    subst (λ (V : List Task). IsFeasible V ↔ IsNoFurther number (value_of number (task_at U i))
-    most) (numbered-own U i number set inside)
-    (furthest-each U i number most (value_of number (task_at U i)) set inside is
-    (may-own U i number set inside))
-
+-- ---- what the furthest says, in a sense in which a set that asks less is feasible too
 same-far : (number : Number) (first second : ℕ) → IsNoFurther number first second
     → IsNoFurther number second first → first ≡ second
 same-far Cost first second le ge = omega (arith, le, ge)
@@ -188,60 +127,78 @@ same-far Deadline first second le ge = omega (arith, le, ge)
 same-far Jitter first second le ge = omega (arith, le, ge)
 same-far (Len k) first second le ge = omega (arith, le, ge)
 
-pub furthest-one : (U : List Task) (i : ℕ) (number : Number) (first second : ℕ)
-    → IsFurthest U i number first → IsFurthest U i number second → first ≡ second
-furthest-one U i number first second f s = same-far number first second
+pub furthest-one : (P : List Task → Type 0) (U : List Task) (i : ℕ) (number : Number)
+    (first second : ℕ) → IsFurthestFor P U i number first → IsFurthestFor P U i number second
+    → first ≡ second
+furthest-one P U i number first second f s = same-far number first second
     (s.furthest first f.may f.feasible) (f.furthest second s.may s.feasible)
 
-pub furthest-none : (U : List Task) (i : ℕ) (number : Number) → IsTaskSet U → i < length U
-    → NoneHelps U i number → ¬ IsFeasible U
-furthest-none U i number set inside none =
-    subst (λ (V : List Task). ¬ IsFeasible V) (numbered-own U i number set inside)
-    (none (value_of number (task_at U i)) (may-own U i number set inside))
+module _ (P : List Task → Type 0) (eased : (V U : List Task) → AreEasier V U → AllTasks U → P U → P V)
+    (U : List Task) (i : ℕ) (number : Number) (set : IsTaskSet U) (inside : i < length U) where
+  -- feasible with a value it is so with each that is no further
+  pub nearer : (low high : ℕ) → MayHave U i number high → IsNoFurther number low high
+      → P (numbered U i number high) → P (numbered U i number low)
+  nearer low high may le =
+      eased (numbered U i number low) (numbered U i number high)
+      (AreEasier-numbered U i number low high inside le)
+      (AllTasks-placed U i (with_number number (task_at U i) high) set inside may)
 
--- ---- a given order
-pub IsPassingOrder-nearer : (U : List Task) (i : ℕ) (number : Number) (low high : ℕ)
-    (order : List ℕ) → IsTaskSet U → i < length U → MayHave U i number high
-    → IsNoFurther number low high
-    → IsPassingOrder (numbered U i number high) order
-    → IsPassingOrder (numbered U i number low) order
-IsPassingOrder-nearer U i number low high order set inside may le =
-    IsPassingOrder-easier (numbered U i number low) (numbered U i number high)
-    (AreEasier-numbered U i number low high inside le)
-    (AllTasks-placed U i (with_number number (task_at U i) high) set inside may) order
+  pub furthest-each : (most value : ℕ) → IsFurthestFor P U i number most → MayHave U i number value
+      → P (numbered U i number value) ↔ IsNoFurther number value most
+  furthest-each most value is may =
+      (is.furthest value may, λ le. nearer value most is.may le is.feasible)
 
-pub IsOrder-numbered : (U : List Task) (i : ℕ) (number : Number) (value : ℕ) (order : List ℕ)
-    → IsOrder U order → IsOrder (numbered U i number value) order
-IsOrder-numbered U i number value order each k = each k
-    ∙ ap (λ n. cond (below n k) 1 0) (sym (length-set U i (with_number number (task_at U i) value)))
+  pub furthest-own : (most : ℕ) → IsFurthestFor P U i number most
+      → P U ↔ IsNoFurther number (value_of number (task_at U i)) most
+  furthest-own most is =
+      subst (λ (V : List Task). P V ↔ IsNoFurther number (value_of number (task_at U i)) most)
+      (numbered-own U i number set inside)
+      (furthest-each most (value_of number (task_at U i)) is (may-own U i number set inside))
 
--- ---- what the furthest in an order says
-pub in_order-each : (U : List Task) (order : List ℕ) (i : ℕ) (number : Number) (most value : ℕ)
-    → IsTaskSet U → i < length U → IsFurthestIn U order i number most → MayHave U i number value
-    → IsPassingOrder (numbered U i number value) order ↔ IsNoFurther number value most
-in_order-each U order i number most value set inside is may = (
-  is.furthest value may,
-  λ le. IsPassingOrder-nearer U i number value most order set inside is.may le
-      is.passes,
-)
+  pub furthest-none : ((value : ℕ) → MayHave U i number value → ¬ P (numbered U i number value))
+      → ¬ P U
+  furthest-none none = subst (λ (V : List Task). ¬ P V) (numbered-own U i number set inside)
+      (none (value_of number (task_at U i)) (may-own U i number set inside))
 
-pub in_order-own : (U : List Task) (order : List ℕ) (i : ℕ) (number : Number) (most : ℕ)
-    → IsTaskSet U → i < length U → IsFurthestIn U order i number most
-    → IsPassingOrder U order ↔ IsNoFurther number (value_of number (task_at U i)) most
-in_order-own U order i number most set inside is =
-    subst (λ (V : List Task). IsPassingOrder V order
-    ↔ IsNoFurther number (value_of number (task_at U i)) most) (numbered-own U i number set inside)
-    (in_order-each U order i number most (value_of number (task_at U i)) set inside is
-    (may-own U i number set inside))
+  -- ---- a search over the values of a sheet
+  module _ (easiest long : ℕ) (span : IsSpan (task_at U i) number easiest long) where
+    abbrev passes : ℕ → Type 0
+    passes far = P (numbered U i number (at_distance number easiest far))
 
-pub in_order-one : (U : List Task) (order : List ℕ) (i : ℕ) (number : Number) (first second : ℕ)
-    → IsFurthestIn U order i number first → IsFurthestIn U order i number second
-    → first ≡ second
-in_order-one U order i number first second f s = same-far number first second
-    (s.furthest first f.may f.passes) (f.furthest second s.may s.passes)
+    -- not feasible so far from the easiest it isn't so further on
+    pub further : (near far : ℕ) → near ≤ far → far ≤ long → passes far → passes near
+    further near far le within = nearer (at_distance number easiest near)
+        (at_distance number easiest far) (span.may far within) (span.rises near far le)
+
+    -- a value that it may have passes at its distance
+    pub known-far : (value far : ℕ) → MayHave U i number value → far ≡ distance number easiest value
+        → P (numbered U i number value) → (far ≤ long) × passes far
+    known-far value far may is here =
+        let known = far-known (task_at U i) number easiest long value span may in (
+          omega (arith, is, known.0),
+          subst (λ v. P (numbered U i number v))
+              (sym (ap (λ f. at_distance number easiest f) is ∙ known.1)) here,
+        )
+
+    -- the last that passes is the furthest
+    pub last-passing : (far : ℕ) → far ≤ long → passes far
+        → ((more : ℕ) → far < more → more ≤ long → ¬ passes more)
+        → IsFurthestFor P U i number (at_distance number easiest far)
+    last-passing far within here fails = record {
+      may = span.may far within;
+      feasible = here;
+      furthest = λ other may feasible.
+          let there = span.all other may in
+          elim (cases_lt far there.0) [
+            | inl lt ↦ absurd (fails there.0 lt there.1
+                (subst (λ v. P (numbered U i number v)) there.2 feasible))
+            | inr le ↦ subst (λ v. IsNoFurther number v (at_distance number easiest far))
+                (sym there.2) (span.rises there.0 far le)
+          ];
+    }
 
 pub in_order-within : (U : List Task) (order : List ℕ) (i : ℕ) (number : Number) (most any : ℕ)
     → IsFurthestIn U order i number most → IsFurthest U i number any
     → IsNoFurther number most any
 in_order-within U order i number most any is other =
-    other.furthest most is.may (order, is.passes)
+    other.furthest most is.may (order, is.feasible)

@@ -1,6 +1,6 @@
 -- Which values a number of a valid sheet may have.
-use Rattle.std.proofs.Common.{◌≡◌, ℕ, zero, suc, ◌+◌, ◌-◌, ◌<◌, ◌≤◌, max, List, [], ◌∷◌, length}
-use Rattle.std.proofs.Common.{get_or, refl, sym, ◌∙◌, ap, subst, arith}
+use Rattle.std.proofs.Common.{◌≡◌, ℕ, zero, suc, ◌+◌, ◌-◌, ◌<◌, ◌≤◌, max, min, List, [], ◌∷◌}
+use Rattle.std.proofs.Common.{length, get_or, refl, sym, ◌∙◌, ap, subst, arith}
 use Rattle.std.proofs.lemmas.List.{length-set, get_or_read}
 use Rattle.task_sheet.specs.Sheet.{CriticalSection, Task, AreSections, IsValidSheet}
 use Rattle.headroom.specs.Costs.{with_cost, last_end}
@@ -27,28 +27,37 @@ IsSpan-cost t easiest length valid from to =
       rises = λ near far le. omega (arith, le);
     }
 
+-- a sheet stays valid with another period, deadline and jitter within their limits
+valid-timed : (t : Task) (period deadline jitter : ℕ) → IsValidSheet t → 1000 ≤ period
+    → period ≤ 10000000 → deadline ≤ period → t.cost ≤ period → jitter < deadline
+    → IsValidSheet (record t { period = period; deadline = deadline; jitter = jitter })
+valid-timed t period deadline jitter valid from to within room late = record {
+  named = valid.named;
+  weight = valid.weight;
+  period_from = from;
+  period_to = to;
+  deadline_from = omega (arith, late);
+  deadline_to = within;
+  cost_from = valid.cost_from;
+  cost_to = room;
+  few = valid.few;
+  sections = valid.sections;
+  jitter = late;
+  outranked = valid.outranked;
+  overheads = valid.overheads;
+  interrupts = valid.interrupts;
+}
+
 pub IsSpan-period : (t : Task) (least length : ℕ) → IsValidSheet t → least ≡ max
     (max t.cost (t.jitter + 1)) 1000 → length ≡ 10000000 - least → IsSpan t Period 10000000 length
 IsSpan-period t least length valid from to =
     let fits : least ≤ 10000000 =
     omega (arith, from, valid.cost_to, valid.jitter, valid.deadline_to, valid.period_to) in
     record {
-      may = λ far le. record {
-        named = valid.named;
-        weight = valid.weight;
-        period_from = omega (arith, le, from, to, fits);
-        period_to = omega arith;
-        deadline_from = omega (arith, le, from, to, fits, valid.deadline_from);
-        deadline_to = omega arith;
-        cost_from = valid.cost_from;
-        cost_to = omega (arith, le, from, to, fits);
-        few = valid.few;
-        sections = valid.sections;
-        jitter = omega (arith, le, from, to, fits, valid.jitter);
-        outranked = valid.outranked;
-        overheads = valid.overheads;
-        interrupts = valid.interrupts;
-      };
+      may = λ far le. valid-timed t (10000000 - far) (min t.deadline (10000000 - far)) t.jitter valid
+          (omega (arith, le, from, to, fits)) (omega arith) (omega arith)
+          (omega (arith, le, from, to, fits))
+          (omega (arith, le, from, to, fits, valid.jitter));
       all = λ value may. (
         10000000 - value,
         omega (
@@ -70,22 +79,9 @@ IsSpan-deadline t length valid to =
     let fits : t.jitter + 1 ≤ 10000000 =
     omega (arith, valid.jitter, valid.deadline_to, valid.period_to) in
     record {
-      may = λ far le. record {
-        named = valid.named;
-        weight = valid.weight;
-        period_from = omega (arith, valid.period_from);
-        period_to = omega (arith, valid.period_to);
-        deadline_from = omega (arith, le, to, fits);
-        deadline_to = omega arith;
-        cost_from = valid.cost_from;
-        cost_to = omega (arith, valid.cost_to);
-        few = valid.few;
-        sections = valid.sections;
-        jitter = omega (arith, le, to, fits);
-        outranked = valid.outranked;
-        overheads = valid.overheads;
-        interrupts = valid.interrupts;
-      };
+      may = λ far le. valid-timed t (max t.period (10000000 - far)) (10000000 - far) t.jitter valid
+          (omega (arith, valid.period_from)) (omega (arith, valid.period_to)) (omega arith)
+          (omega (arith, valid.cost_to)) (omega (arith, le, to, fits));
       all = λ value may.
           (10000000 - value, omega (arith, to, may.jitter), omega (arith, may.period_to));
       rises = λ near far le. omega (arith, le);
@@ -94,22 +90,8 @@ IsSpan-deadline t length valid to =
 pub IsSpan-jitter : (t : Task) (length : ℕ) → IsValidSheet t → length ≡ t.deadline - 1
     → IsSpan t Jitter 0 length
 IsSpan-jitter t length valid to = record {
-  may = λ far le. record {
-    named = valid.named;
-    weight = valid.weight;
-    period_from = valid.period_from;
-    period_to = valid.period_to;
-    deadline_from = valid.deadline_from;
-    deadline_to = valid.deadline_to;
-    cost_from = valid.cost_from;
-    cost_to = valid.cost_to;
-    few = valid.few;
-    sections = valid.sections;
-    jitter = omega (arith, le, to, valid.deadline_from);
-    outranked = valid.outranked;
-    overheads = valid.overheads;
-    interrupts = valid.interrupts;
-  };
+  may = λ far le. valid-timed t t.period t.deadline (0 + far) valid valid.period_from
+      valid.period_to valid.deadline_to valid.cost_to (omega (arith, le, to, valid.deadline_from));
   all = λ value may. (value, omega (arith, to, may.jitter), omega arith);
   rises = λ near far le. omega (arith, le);
 }

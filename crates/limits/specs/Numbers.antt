@@ -60,12 +60,17 @@ numbered U i number value = slice_set U i (with_number number (task_at U i) valu
 abbrev pub MayHave : List Task → ℕ → Number → ℕ → Type 0
 MayHave U i number value = IsValidSheet (with_number number (task_at U i) value)
 
--- the furthest value with which some order of the set passes, all else equal
-pub record IsFurthest (U : List Task) (i : ℕ) (number : Number) (value : ℕ) : Type 0 where
+-- the furthest value with which the set is feasible in some sense, all else equal
+pub record IsFurthestFor (Feasible : List Task → Type 0) (U : List Task) (i : ℕ) (number : Number)
+    (value : ℕ) : Type 0 where
   pub may : MayHave U i number value
-  pub feasible : IsFeasible (numbered U i number value)
-  pub furthest : (other : ℕ) → MayHave U i number other → IsFeasible (numbered U i number other)
+  pub feasible : Feasible (numbered U i number value)
+  pub furthest : (other : ℕ) → MayHave U i number other → Feasible (numbered U i number other)
       → IsNoFurther number other value
+
+-- with which some order of the set passes
+abbrev pub IsFurthest : List Task → ℕ → Number → ℕ → Type 0
+IsFurthest U i number value = IsFurthestFor IsFeasible U i number value
 
 -- no value helps
 abbrev pub NoneHelps : List Task → ℕ → Number → Type 0

@@ -5,7 +5,7 @@ use Rattle.std.proofs.Common.{refl, sym, ◌∙◌, ap, subst, arith}
 use Rattle.std.specs.Prelude.{slice_get}
 use Rattle.std.proofs.Math.ListN.{get_or-append}
 use Rattle.std.proofs.Math.Seq.{get_or-append_right}
-use Rattle.std.proofs.lemmas.List.{length-append, length-map}
+use Rattle.std.proofs.lemmas.List.{length-append, length-map, get_or_default}
 use Rattle.std.proofs.lemmas.Option.{get_or_from_slice_get, none-some}
 use Rattle.std.proofs.lemmas.Bool.{cases_lt, cases_eq, eq-eqb, true≢false, or_parts}
 use Rattle.task_sheet.specs.Sheet.{Task, CriticalSection, IsValidSheet, IsSection, AreSections}
@@ -13,6 +13,7 @@ use Rattle.task_sheet.specs.Sheet.{no_task, task_at}
 use Rattle.task_sheet.specs.TaskSet.{IsTaskSet}
 use Rattle.task_sheet.specs.Indexes.{with_index, among}
 use Rattle.task_sheet.specs.Demand.{greatest_of, blocking_of}
+use Rattle.task_sheet.proofs.Below.{le-greatest_of}
 use Rattle.ceiling_kernel.specs.Tick.{Node, level_in_order}
 use Rattle.ceiling_kernel.specs.Waits.{IsNode, lateness_of}
 use Rattle.ceiling_kernel.specs.Bounds.{above_of, after_of}
@@ -31,12 +32,6 @@ map_at : (f : ℕ → Stream) (xs : List ℕ) (q : ℕ) → q < length xs
 map_at f [] q lt = absurd (omega arith)
 map_at f (x ∷ xs) zero lt = refl
 map_at f (x ∷ xs) (suc q) lt = map_at f xs q (omega arith)
-
-pub greatest_at : (f : ℕ → ℕ) (xs : List ℕ) (q : ℕ) → q < length xs
-    → f (get_or xs q 0) ≤ greatest_of f xs
-greatest_at f [] q lt = absurd (omega arith)
-greatest_at f (x ∷ xs) zero lt = omega arith
-greatest_at f (x ∷ xs) (suc q) lt = omega (arith, greatest_at f xs q (omega arith))
 
 greatest_most : (f : ℕ → ℕ) (xs : List ℕ) (m : ℕ) → ((k : ℕ) → f k ≤ m) → greatest_of f xs ≤ m
 greatest_most f [] m h = omega arith
@@ -240,7 +235,8 @@ module _ (node : Node) (ok : IsNode node) (i : ℕ) (lt : i < length node.tasks)
   member_late q small =
       let g : lateness_of (task_at U (get_or members q 0))
       ≤ greatest_of (λ k. lateness_of (task_at U k)) members =
-      greatest_at (λ k. lateness_of (task_at U k)) members q small in
+      le-greatest_of (λ k. lateness_of (task_at U k)) members q (get_or members q 0) small
+      (sym (get_or_default members q 0 (get_or members q 0) small)) in
       omega arith
 
   pub fit : AreFit U ss index

@@ -11,7 +11,7 @@ use Rattle.task_sheet.specs.Indexes.{with_index, among}
 use Rattle.task_sheet.specs.Locks.{reaches}
 use Rattle.task_sheet.specs.Demand.{limit_of, blocking_of, releases_within, Passes}
 use Rattle.ceiling_kernel.specs.declared.trace.Release.{Release}
-use Rattle.ceiling_kernel.specs.Tick.{Node, Job, job_at, job_task, level_in_order, level_of_job}
+use Rattle.ceiling_kernel.specs.Tick.{Node, Job, job_at, job_task, level_in_order}
 use Rattle.ceiling_kernel.specs.Tick.{is_inside, executed_before}
 use Rattle.ceiling_kernel.specs.Behaviours.{cut_at}
 use Rattle.ceiling_kernel.specs.Waits.{IsNode, AreLegalJobs, lateness_of, Overruns, NoOverrun}
@@ -24,7 +24,6 @@ use Rattle.ceiling_kernel.proofs.NodeLaws.{IsSound, sound, after_is_above}
 use Rattle.ceiling_kernel.proofs.SectionLaws.{inside_from}
 use Rattle.ceiling_kernel.proofs.ReleaseLaws.{job_is, jobs_length}
 use Rattle.ceiling_kernel.proofs.EndLaws.{legal_from}
-use Rattle.ceiling_kernel.proofs.FinishLaws.{grows_by}
 use Rattle.ceiling_kernel.proofs.BoundLaws.{bound_law}
 use Rattle.ceiling_kernel.proofs.CutLaws.{whole_law}
 use Rattle.explain.specs.Blocking.{BlockerData, IsBlockerOf}
@@ -32,8 +31,8 @@ use Rattle.release_list.proofs.TaskNumbers.{found}
 use Rattle.release_list.specs.declared.stream.Stream.{Stream}
 use Rattle.release_list.specs.Streams.{stream_at, late_at, list_of, arrival_of, job_release}
 use Rattle.miss.specs.Exact.{IsWhole, IsHeldUp, IsWorst, EndsLow, NoneCovers}
-use Rattle.miss.specs.Misses.{section_of, lead_of, instant_of, worst_streams, IsWorstCase, IsRunOf}
-use Rattle.miss.specs.Misses.{HasMiss, MustMiss, WorstCaseMisses}
+use Rattle.miss.specs.Misses.{section_of, lead_of, instant_of, worst_streams, IsWorstCase}
+use Rattle.miss.specs.Misses.{MustMiss, WorstCaseMisses}
 use Rattle.miss.specs.Shown.{AboveAllPass}
 use Rattle.miss.specs.Reached.{IsLeastCover, WorstCaseReaches}
 use Rattle.release_list.proofs.ArrivalLaws.{IsArrival, arrivals_apart, numbered}
@@ -42,7 +41,7 @@ use Rattle.release_list.proofs.JobLaws.{job_in}
 use Rattle.release_list.proofs.FitLaws.{IsFit, AreFit, some_period, number_is, none_refused}
 use Rattle.miss.proofs.DenseLaws.{dense}
 use Rattle.miss.proofs.MemberLaws.{member_in, above_place}
-use Rattle.miss.proofs.LeadLaws.{leads}
+use Rattle.miss.proofs.LeadLaws.{done_grows, leads}
 use Rattle.miss.proofs.ReachLaws.{ceiling_reaches}
 use Rattle.miss.proofs.WorstLaws.{misses_law}
 use Rattle.miss.proofs.ExactLaws.{exact_law}
@@ -50,12 +49,24 @@ use Rattle.miss.proofs.CaseLaws.{tasks_of, IsMember, IsBlocker, member_at, block
 use Rattle.miss.proofs.CaseLaws.{streams_length, which, index_of, IsPlacedBlocker, placed}
 use Rattle.miss.proofs.CaseLaws.{instant_small, member_late, fit}
 
--- a job of the worst case of task i, which a kernel takes: its deadline is the end
-pub record IsCaseJob (node : Node) (i : ℕ) (rs : List Release) (until j : ℕ) : Type 0 where
+-- what is known of the worst case of task i, of which one job is the task's
+pub record CaseFacts (node : Node) (i : ℕ) (rs : List Release) (until : ℕ) : Type 0 where
   pub accepted : refusal_of node.tasks rs until ≡ None
-  pub is_job : j < length rs
-  pub of_task : task_number node.tasks (release_at rs j) ≡ i
-  pub due : (release_at rs j).time + (task_at node.tasks i).deadline ≡ until
+  pub job : ℕ
+  pub is_job : job < length rs
+  pub of_task : task_number node.tasks (release_at rs job) ≡ i
+  pub due : (release_at rs job).time + (task_at node.tasks i).deadline ≡ until
+  pub ready : ready_of (release_at rs job) + limit_of (task_at node.tasks i) ≡ until
+  pub only : (k : ℕ) → k < length rs → task_number node.tasks (release_at rs k) ≡ i → k ≡ job
+  -- a job that overruns the one before it is of a task above, and none does below tasks that pass
+  pub overrun_above : (k : ℕ) → k < length (jobs_of node.tasks rs)
+      → Overruns node (jobs_of node.tasks rs) k
+      → above_of node i (job_at (jobs_of node.tasks rs) k).task ≡ true
+  pub no_overrun : AboveAllPass node i → NoOverrun node (jobs_of node.tasks rs)
+  pub late : MustMiss node i → executed_before node (jobs_of node.tasks rs) until job
+      < (job_at (jobs_of node.tasks rs) job).executes
+  pub reaches : EndsLow node i → (r : ℕ) → IsLeastCover node i r
+      → IsFinishAt node (jobs_of node.tasks rs) job (ready_of (release_at rs job) + r)
 
 module _ (node : Node) (ok : IsNode node) (i : ℕ) (lt : i < length node.tasks) (b : Option
     BlockerData) (is_b : IsBlockerOf node.tasks i (among (after_of node.order i)) b) (until : ℕ)
@@ -266,6 +277,20 @@ module _ (node : Node) (ok : IsNode node) (i : ℕ) (lt : i < length node.tasks)
         | inr later ↦ omega (arith, later, f.first_is, f.period_is, f.short)
       ]
 
+  -- a job is ready then, or is the blocker's
+  late_or_blocker : (p : ℕ) → p < length rs → (start ≤ (job_at jobs p).ready)
+      ⊎ ((job_at jobs p).task ≡ index (length members))
+  late_or_blocker p small =
+      let o : (q : ℕ) × OfStream p q = of_stream p small in
+      elim (which U members start until b o.0 o.1.is_of.in_set) [
+        | inl m ↦ inl (omega (
+          arith,
+          (arrival_is p small).1,
+          ready_late p o.0 (get_or members o.0 0) o.1 (member_facts o.0 m),
+        ))
+        | inr m ↦ inr (task_is p o.0 o.1 ∙ ap index m.place)
+      ]
+
   -- ---- the job that misses
   small_0 : 0 < length ss
   small_0 = omega (arith, streams_length U members start until b)
@@ -314,146 +339,6 @@ module _ (node : Node) (ok : IsNode node) (i : ℕ) (lt : i < length node.tasks)
       f'.first_is t some (omega (arith, ends, within)) in
       subst (λ k. releases_within (task_at U k) t ≤ ready_within jobs k start t) index_h d
 
-  -- ---- the blocker
-  abbrev left : ℕ
-  left = blocking_of U i (above_of node i) - 1
-
-  same_above : among (after_of node.order i) ≡ above_of node i
-  same_above x h = after_is_above node ok i h lt x
-
-  held_up : (o : Option BlockerData) → b ≡ o → (left ≡ 0)
-      ⊎ IsHeldUp node jobs start (level_in_order node i) left
-  held_up None e =
-      let none : blocking_of U i (among (after_of node.order i)) ≡ 0 =
-      subst (λ x. IsBlockerOf U i (among (after_of node.order i)) x) e is_b in
-      let none' : blocking_of U i (above_of node i) ≡ 0 =
-      subst (λ H. blocking_of U i H ≡ 0) same_above none in
-      inl (omega arith)
-  held_up (Some bb) e =
-      elim (cases_eq left 0) [
-        | inl none ↦ inl none
-        | inr some ↦
-            let q : ℕ = length members in
-            let m : IsBlocker U members start until b q =
-            subst (λ x. IsBlocker U members start until x (length members)) (sym e)
-            (blocker_at U members start until bb) in
-            let p : IsPlacedBlocker node ok i lt b is_b until m.blocker =
-            placed node ok i lt b is_b until m.blocker m.is in
-            let one : length (tasks_of b) ≡ 1 = ap (λ x. length (tasks_of x)) e in
-            let small : q < length ss =
-            omega (arith, streams_length U members start until b, one) in
-            let lead : ℕ = lead_of U (Some m.blocker) in
-            let lead_is : lead_of U b ≡ lead = ap (lead_of U) m.is in
-            let at_is : (section_of U m.blocker).at ≡ p.section.at =
-            ap (λ (x : CriticalSection). x.at) p.is in
-            let lead_within : lead ≤ start = omega (arith, lead_is) in
-            let first_is : (stream_at ss q).first ≡ start - lead =
-            ap (λ (s : Stream). s.first) m.stream in
-            let late_is : (stream_at ss q).late ≡ 0 = ap (λ (s : Stream). s.late) m.stream in
-            let period_is : (stream_at ss q).period ≡ until + (task_at U m.blocker.task).period =
-            ap (λ (s : Stream). s.period) m.stream in
-            let found_at : IsIn rs (job_release (stream_at ss q) 0) = job_in ss until periods q 0
-            small (omega (arith, first_is, late_is, limits.0, ends)) in
-            let kb : ℕ = found_at.0 in
-            let job : job_at jobs kb ≡ job_of U (job_release (stream_at ss q) 0) =
-            job_is_of kb (job_release (stream_at ss q) 0) found_at.1 found_at.2 in
-            let task : (job_at jobs kb).task ≡ m.blocker.task = ap (λ (x : Job). x.task) job
-            ∙ (number_of_stream q 0 small ∙ m.index) in
-            let ready : (job_at jobs kb).ready ≡ ready_of (job_release (stream_at ss q) 0) =
-            ap (λ (x : Job). x.ready) job in
-            let ready' : (job_at jobs kb).ready + lead ≡ start =
-            omega (arith, ready, first_is, late_is, lead_within) in
-            let time : (release_at rs kb).time ≡ (stream_at ss q).first =
-            ap (λ (r : Release). r.time) found_at.2 ∙ omega arith in
-            let whole : IsWhole (job_task node jobs kb) (job_at jobs kb) =
-            whole_job kb found_at.1 in
-            let cost_is : (job_task node jobs kb).cost ≡ (task_at U m.blocker.task).cost =
-            ap (λ k. (task_at U k).cost) task in
-            let sections_are : (job_task node jobs kb).sections
-            ≡ (task_at U m.blocker.task).sections = ap (λ k. (task_at U k).sections) task in
-            let others : (k : ℕ) → k < length jobs → k ≢ kb
-            → (job_at jobs kb).ready + lead ≤ (job_at jobs k).ready = λ k below other.
-            let within : k < length rs = omega (arith, long) in
-            let o : (r : ℕ) × OfStream k r = of_stream k within in
-            let r_is : (job_at jobs k).ready ≡ ready_of (release_at rs k) =
-            (arrival_is k within).1 in
-            elim (which U members start until b o.0 o.1.is_of.in_set) [
-              | inl mm ↦ omega (
-                arith,
-                ready_late k o.0 (get_or members o.0 0) o.1
-                    (member_facts o.0 mm),
-                r_is,
-              )
-              | inr bb' ↦
-                  let same : o.0 ≡ q = bb'.place in
-                  let o' : OfStream k q = subst (λ r. OfStream k r) same o.1 in
-                  let oq : OfStream kb q =
-                  record {
-                    in_list = found_at.1;
-                    is_of = own_stream kb q found_at.1
-                        (ap (λ (x : Job). x.task) job ∙ number_of_stream q 0 small) small;
-                  } in
-                  let tasks : (job_at jobs k).task ≡ (job_at jobs kb).task = task_is k q o'
-                  ∙ sym (task_is kb q oq) in
-                  let before : ready_of (release_at rs k) < until = ends_before k within in
-                  let before' : ready_of (release_at rs kb) < until = ends_before kb found_at.1 in
-                  absurd (elim (cases_lt k kb) [
-                    | inl less ↦
-                        let a : Apart k kb = apart_of k kb less found_at.1 tasks in
-                        let s : a.stream ≡ q = fits.distinct a.stream q a.first.is_of.in_set small
-                        (sym (task_is k a.stream a.first) ∙ task_is k q o') in
-                        let ps : (stream_at ss a.stream).period ≡ (stream_at ss q).period =
-                        ap (λ x. (stream_at ss x).period) s in
-                        omega (arith, a.apart, ps, period_is, before')
-                    | inr more ↦
-                        let a : Apart kb k = apart_of kb k (omega arith) within (sym tasks) in
-                        let s : a.stream ≡ q = fits.distinct a.stream q a.second.is_of.in_set small
-                        (sym (task_is k a.stream a.second) ∙ task_is k q o') in
-                        let ps : (stream_at ss a.stream).period ≡ (stream_at ss q).period =
-                        ap (λ x. (stream_at ss x).period) s in
-                        omega (arith, a.apart, ps, period_is, before)
-                  ])
-            ] in
-            let runs : executed_before node jobs ((job_at jobs kb).ready + lead) kb ≡ lead =
-            leads node jobs kb lead (omega (arith, found_at.1, long))
-            (omega (arith, whole.executes, cost_is, p.within, p.runs, at_is)) others lead
-            (omega arith) in
-            let runs' : executed_before node jobs start kb ≡ lead =
-            subst (λ t. executed_before node jobs t kb ≡ lead) ready' runs in
-            let inside : is_inside p.section lead ≡ true =
-            inside_from p.section lead (omega (arith, at_is)) (omega (arith, at_is, p.long)) in
-            let reached : reaches U (with_index (above_of node i) i) p.section ≡ true =
-            subst (λ H. reaches U (with_index H i) p.section ≡ true) same_above
-            p.blocks.reached in
-            let in_sections : Contains (task_at U m.blocker.task).sections p.section = (
-              m.blocker.place,
-              slice_get_within (task_at U m.blocker.task).sections
-                  m.blocker.place p.section p.blocks.section,
-              get_or_from_slice_get (task_at U
-                  m.blocker.task).sections m.blocker.place p.section p.section p.blocks.section,
-            ) in
-            inr (record {
-              job = kb;
-              is_job = omega (arith, found_at.1, long);
-              lower = (let l : level_of_job node jobs kb ≡ level_in_order node m.blocker.task =
-                  ap (λ k. level_in_order node k) task in omega (arith, l, p.lower));
-              section = p.section;
-              of_job = subst (λ (xs : List CriticalSection). Contains xs p.section)
-                  (sym (whole.sections ∙ sections_are)) in_sections;
-              reaches = ceiling_reaches node ok i p.section reached;
-              inside = subst (λ x. is_inside p.section x ≡ true) (sym runs') inside;
-              to_go = omega (arith, runs', at_is, p.long);
-            })
-      ]
-    where
-      own_stream : (p q : ℕ) → (small : p < length rs) → (job_at jobs p).task ≡ index q
-          → q < length ss → IsOf ss until (release_at rs p) q
-      own_stream p q small e sq =
-          let o : (r : ℕ) × OfStream p r = of_stream p small in
-          let same : o.0 ≡ q =
-          fits.distinct o.0 q o.1.is_of.in_set sq (sym (task_is p o.0 o.1) ∙ e) in
-          subst (λ r. IsOf ss until (release_at rs p) r) same o.1.is_of
-
   -- ---- of which task there is a second job
   -- of a task of which a second job comes, it is above; that comes a period later
   pub record Second (j k : ℕ) : Type 0 where
@@ -484,17 +369,14 @@ module _ (node : Node) (ok : IsNode node) (i : ℕ) (lt : i < length node.tasks)
                   ap (λ x. (task_at U x).deadline) same in
                   let l : lateness_of (task_at U h) ≡ lateness_of (task_at U i) =
                   ap (λ x. lateness_of (task_at U x)) same in
-                  let from : (stream_at ss q).first ≤ (release_at rs j).time =
-                  elim (times_of j q a.first) [
-                    | inl first ↦ omega (arith, first.0)
-                    | inr later ↦ omega (arith, later)
-                  ] in
+                  let arrives : IsArrival (release_at rs j).time (stream_at ss q) =
+                  arrived ss until periods (release_at rs j) q a.first.is_of in
                   absurd (omega (
                     arith,
                     a.apart,
                     f.period_is,
                     f.first_is,
-                    from,
+                    arrives.from,
                     before,
                     ends,
                     limits.1,
@@ -520,12 +402,124 @@ module _ (node : Node) (ok : IsNode node) (i : ℕ) (lt : i < length node.tasks)
             ]
       ]
 
-  -- a job that overruns the one before it is of a task above
-  pub overrun_above : (k : ℕ) → k < length jobs → Overruns node jobs k
-      → above_of node i (job_at jobs k).task ≡ true
-  overrun_above k below over =
-      let s : Second over.0 k = second_of over.0 k over.1 (omega (arith, below, long)) over.2 in
-      subst (λ x. above_of node i x ≡ true) over.2 s.above
+  -- a job of a task below is the only one of it
+  only_below : (j k : ℕ) → j < length rs → k < length rs → k ≢ j
+      → (job_at jobs k).task ≡ (job_at jobs j).task
+      → level_in_order node (job_at jobs j).task < level_in_order node i → ⊥
+  only_below j k jin kin other same low =
+      let not_above : above_of node i (job_at jobs j).task ≡ true → ⊥ = λ on. omega (
+        arith,
+        low,
+        ltb-true (level_in_order node i) (level_in_order node (job_at jobs j).task) on,
+      ) in
+      not_above (elim (cases_lt k j) [
+        | inl less ↦ (let s : Second k j = second_of k j less jin same in
+            subst (λ x. above_of node i x ≡ true) same s.above)
+        | inr more ↦ (let s : Second j k = second_of j k (omega arith) kin (sym same) in s.above)
+      ])
+
+  -- ---- the blocker
+  abbrev left : ℕ
+  left = blocking_of U i (above_of node i) - 1
+
+  same_above : among (after_of node.order i) ≡ above_of node i
+  same_above x h = after_is_above node ok i h lt x
+
+  -- the job of its stream has executed the first tick of its section then
+  held_by : (q kb lead : ℕ) (m : IsBlocker U members start until b q)
+      (p : IsPlacedBlocker node ok i lt b is_b until m.blocker) → q < length ss → kb < length rs
+      → release_at rs kb ≡ job_release (stream_at ss q) 0 → lead ≡ p.section.at + 1
+      → (stream_at ss q).first + lead ≡ start → (stream_at ss q).late ≡ 0 → left ≢ 0
+      → IsHeldUp node jobs start (level_in_order node i) left
+  held_by q kb lead m p small kin is lead_is first_is late_is some =
+      let job : job_at jobs kb ≡ job_of U (job_release (stream_at ss q) 0) =
+      job_is_of kb (job_release (stream_at ss q) 0) kin is in
+      let own : (job_at jobs kb).task ≡ index q = ap (λ (x : Job). x.task) job
+      ∙ number_of_stream q 0 small in
+      let task : (job_at jobs kb).task ≡ m.blocker.task = own ∙ m.index in
+      let ready : (job_at jobs kb).ready ≡ ready_of (job_release (stream_at ss q) 0) =
+      ap (λ (x : Job). x.ready) job in
+      let ready' : (job_at jobs kb).ready + lead ≡ start =
+      omega (arith, ready, first_is, late_is) in
+      let whole : IsWhole (job_task node jobs kb) (job_at jobs kb) = whole_job kb kin in
+      let cost_is : (job_task node jobs kb).cost ≡ (task_at U m.blocker.task).cost =
+      ap (λ k. (task_at U k).cost) task in
+      let sections_are : (job_task node jobs kb).sections ≡ (task_at U m.blocker.task).sections =
+      ap (λ k. (task_at U k).sections) task in
+      let level : level_in_order node (job_at jobs kb).task ≡ level_in_order node m.blocker.task =
+      ap (λ k. level_in_order node k) task in
+      let lower : level_in_order node (job_at jobs kb).task < level_in_order node i =
+      omega (arith, level, p.lower) in
+      let others : (k : ℕ) → k < length jobs → k ≢ kb
+      → (job_at jobs kb).ready + lead ≤ (job_at jobs k).ready = λ k below other.
+      let within : k < length rs = omega (arith, long) in
+      elim (late_or_blocker k within) [
+        | inl late ↦ omega (arith, late, ready')
+        | inr theirs ↦ absurd (only_below kb k kin within other
+            (theirs ∙ (ap index (sym m.place) ∙ sym own)) lower)
+      ] in
+      let runs : executed_before node jobs ((job_at jobs kb).ready + lead) kb ≡ lead =
+      leads node jobs kb lead (omega (arith, kin, long))
+      (omega (arith, whole.executes, cost_is, p.within, p.runs, lead_is)) others lead
+      (omega arith) in
+      let runs' : executed_before node jobs start kb ≡ lead =
+      subst (λ t. executed_before node jobs t kb ≡ lead) ready' runs in
+      let inside : is_inside p.section lead ≡ true =
+      inside_from p.section lead (omega (arith, lead_is)) (omega (arith, lead_is, p.long)) in
+      let reached : reaches U (with_index (above_of node i) i) p.section ≡ true =
+      subst (λ H. reaches U (with_index H i) p.section ≡ true) same_above p.blocks.reached in
+      let in_sections : Contains (task_at U m.blocker.task).sections p.section = (
+        m.blocker.place,
+        slice_get_within (task_at U m.blocker.task).sections m.blocker.place p.section
+            p.blocks.section,
+        get_or_from_slice_get (task_at U m.blocker.task).sections m.blocker.place p.section
+            p.section p.blocks.section,
+      ) in
+      record {
+        job = kb;
+        is_job = omega (arith, kin, long);
+        lower = lower;
+        section = p.section;
+        of_job = subst (λ (xs : List CriticalSection). Contains xs p.section)
+            (sym (whole.sections ∙ sections_are)) in_sections;
+        reaches = ceiling_reaches node ok i p.section reached;
+        inside = subst (λ x. is_inside p.section x ≡ true) (sym runs') inside;
+        to_go = omega (arith, runs', lead_is, p.long);
+      }
+
+  held_up : (o : Option BlockerData) → b ≡ o → (left ≡ 0)
+      ⊎ IsHeldUp node jobs start (level_in_order node i) left
+  held_up None e =
+      let none : blocking_of U i (among (after_of node.order i)) ≡ 0 =
+      subst (λ x. IsBlockerOf U i (among (after_of node.order i)) x) e is_b in
+      let none' : blocking_of U i (above_of node i) ≡ 0 =
+      subst (λ H. blocking_of U i H ≡ 0) same_above none in
+      inl (omega arith)
+  held_up (Some bb) e =
+      elim (cases_eq left 0) [
+        | inl none ↦ inl none
+        | inr some ↦
+            let q : ℕ = length members in
+            let m : IsBlocker U members start until b q =
+            subst (λ x. IsBlocker U members start until x (length members)) (sym e)
+            (blocker_at U members start until bb) in
+            let p : IsPlacedBlocker node ok i lt b is_b until m.blocker =
+            placed node ok i lt b is_b until m.blocker m.is in
+            let one : length (tasks_of b) ≡ 1 = ap (λ x. length (tasks_of x)) e in
+            let small : q < length ss =
+            omega (arith, streams_length U members start until b, one) in
+            let lead : ℕ = lead_of U (Some m.blocker) in
+            let lead_is : lead_of U b ≡ lead = ap (lead_of U) m.is in
+            let at_is : (section_of U m.blocker).at ≡ p.section.at =
+            ap (λ (x : CriticalSection). x.at) p.is in
+            let first_is : (stream_at ss q).first ≡ start - lead =
+            ap (λ (s : Stream). s.first) m.stream in
+            let late_is : (stream_at ss q).late ≡ 0 = ap (λ (s : Stream). s.late) m.stream in
+            let found_at : IsIn rs (job_release (stream_at ss q) 0) = job_in ss until periods q 0
+            small (omega (arith, first_is, late_is, limits.0, ends)) in
+            inr (held_by q found_at.0 lead m p small found_at.1 found_at.2 (omega (arith, at_is))
+            (omega (arith, first_is, lead_is)) late_is some)
+      ]
 
   -- the task has one job
   not_second : (j k : ℕ) → j < k → k < length rs → (job_at jobs j).task ≡ i
@@ -536,33 +530,16 @@ module _ (node : Node) (ok : IsNode node) (i : ℕ) (lt : i < length node.tasks)
       (level_in_order node i) (subst (λ x. above_of node i x ≡ true) first s.above) in
       omega arith
 
-  pub only_job : (j k : ℕ) → j < length rs → k < length rs → task_number U (release_at rs j) ≡ i
-      → task_number U (release_at rs k) ≡ i → j ≡ k
-  only_job j k jin kin first second =
-      let task_j : (job_at jobs j).task ≡ i = ap (λ (x : Job). x.task) (job_is U rs j jin)
-      ∙ first in
-      let task_k : (job_at jobs k).task ≡ i = ap (λ (x : Job). x.task) (job_is U rs k kin)
-      ∙ second in
-      elim (cases_eq j k) [
+  only_job : (k : ℕ) → k < length rs → task_number U (release_at rs k) ≡ i → k ≡ j0
+  only_job k kin mine =
+      let task : (job_at jobs k).task ≡ i = ap (λ (x : Job). x.task) (job_is U rs k kin) ∙ mine in
+      elim (cases_eq k j0) [
         | inl same ↦ same
-        | inr other ↦ absurd (elim (cases_lt j k) [
-          | inl less ↦ not_second j k less kin task_j task_k
-          | inr more ↦ not_second k j (omega arith) jin task_k task_j
+        | inr other ↦ absurd (elim (cases_lt k j0) [
+          | inl less ↦ not_second k j0 less the_job.1 task task_0
+          | inr more ↦ not_second j0 k (omega arith) kin task_0 task
         ])
       ]
-
-  -- it is taken, and has its deadline at the end
-  number_0 : task_number U (release_at rs j0) ≡ i
-  number_0 = (let number : (job_at jobs j0).task ≡ task_number U (release_at rs j0) =
-      ap (λ (x : Job). x.task) (job_is U rs j0 the_job.1) in sym number ∙ task_0)
-
-  due_0 : (release_at rs j0).time + (task_at U i).deadline ≡ until
-  due_0 = (let arrives : (job_at jobs j0).arrival ≡ (release_at rs j0).time =
-      (arrival_is j0 the_job.1).0 in omega (arith, arrival_0, arrives, limits.1, ends))
-
-  pub the_case_job : (j : ℕ) × IsCaseJob node i rs until j
-  the_case_job =
-      (j0, record { accepted = accepted; is_job = the_job.1; of_task = number_0; due = due_0 })
 
   -- ---- the worst case of the analysis
   worst : IsWorst node jobs j0 left
@@ -584,177 +561,101 @@ module _ (node : Node) (ok : IsNode node) (i : ℕ) (lt : i < length node.tasks)
         (held_up b refl));
   }
 
-  -- ---- below tasks that pass
-  module _ (pass_above : AboveAllPass node i) where
-    -- no job overruns the one before it
-    no_overrun : NoOverrun node jobs
-    no_overrun k below over =
-        let j : ℕ = over.0 in
-        let kin : k < length rs = omega (arith, long) in
-        let s : Second j k = second_of j k over.1 kin over.2 in
-        let h : ℕ = (job_at jobs j).task in
-        let rk : (job_at jobs k).ready ≡ ready_of (release_at rs k) = (arrival_is k kin).1 in
-        let aj : (job_at jobs j).arrival ≡ (release_at rs j).time =
-        (arrival_is j (omega (arith, over.1, kin))).0 in
-        let v : IsValidSheet (task_at U h) = valid h s.in_set in
-        let pass : Passes U h (above_of node h) = pass_above h s.in_set s.above in
-        let by : PassesBy node h pass.0 =
-        record { from_one = omega (arith, pass.1); in_time = pass.2; enough = pass.3 } in
-        let end : ℕ = (job_at jobs j).arrival + response_by (job_task node jobs j) pass.0 in
-        let fin : (job_at jobs j).executes ≤ executed_before node jobs end j =
-        bound_law node jobs ok legal j pass.0 (omega (arith, over.1, below)) by in
-        let soon : end ≤ (job_at jobs k).ready =
-        omega (arith, pass.2, aj, rk, s.apart, v.jitter, v.deadline_to) in
-        let grown : executed_before node jobs end j
-        ≤ executed_before node jobs (end + ((job_at jobs k).ready - end)) j =
-        grows_by node jobs j end ((job_at jobs k).ready - end) in
-        let at : end + ((job_at jobs k).ready - end) ≡ (job_at jobs k).ready = omega arith in
-        let grown' : executed_before node jobs end j
-        ≤ executed_before node jobs (job_at jobs k).ready j =
-        subst (λ x. executed_before node jobs end j ≤ executed_before node jobs x j) at grown in
-        omega (arith, over.3, fin, grown')
+  -- below tasks that pass no job overruns the one before it
+  no_overrun : AboveAllPass node i → NoOverrun node jobs
+  no_overrun pass_above k below over =
+      let j : ℕ = over.0 in
+      let kin : k < length rs = omega (arith, long) in
+      let s : Second j k = second_of j k over.1 kin over.2 in
+      let h : ℕ = (job_at jobs j).task in
+      let rk : (job_at jobs k).ready ≡ ready_of (release_at rs k) = (arrival_is k kin).1 in
+      let aj : (job_at jobs j).arrival ≡ (release_at rs j).time =
+      (arrival_is j (omega (arith, over.1, kin))).0 in
+      let v : IsValidSheet (task_at U h) = valid h s.in_set in
+      let pass : Passes U h (above_of node h) = pass_above h s.in_set s.above in
+      let by : PassesBy node h pass.0 =
+      record { from_one = omega (arith, pass.1); in_time = pass.2; enough = pass.3 } in
+      let end : ℕ = (job_at jobs j).arrival + response_by (job_task node jobs j) pass.0 in
+      let fin : (job_at jobs j).executes ≤ executed_before node jobs end j =
+      bound_law node jobs ok legal j pass.0 (omega (arith, over.1, below)) by in
+      let soon : end ≤ (job_at jobs k).ready =
+      omega (arith, pass.2, aj, rk, s.apart, v.jitter, v.deadline_to) in
+      omega (arith, over.3, fin, done_grows node jobs j end (job_at jobs k).ready soon)
 
-    pub misses : MustMiss node i → HasMiss node rs until i
-    misses must =
-        let deadline_is : (job_task node jobs j0).deadline ≡ (task_at U i).deadline =
-        ap (λ x. (task_at U x).deadline) task_0 in
-        let ends_low : EndsLow node (job_at jobs j0).task =
-        subst (λ x. EndsLow node x) (sym task_0) must.ends_low in
-        let none : NoneCovers node (job_at jobs j0).task left (limit_of (job_task node jobs j0)) =
-        subst (λ x. NoneCovers node x left (limit_of (task_at U x))) (sym task_0)
-        must.none_covers in
-        let late : executed_before node jobs
-        ((job_at jobs j0).arrival + (job_task node jobs j0).deadline) j0
-        < (job_at jobs j0).executes =
-        misses_law node jobs ok legal j0 left worst ends_low none in
-        let due : (job_at jobs j0).arrival + (job_task node jobs j0).deadline ≡ until =
-        omega (arith, arrival_0, deadline_is, limits.1, ends) in
-        let late' : executed_before node jobs until j0 < (job_at jobs j0).executes =
-        subst (λ t. executed_before node jobs t j0 < (job_at jobs j0).executes) due late in (
-          j0,
-          record {
-            accepted = accepted;
-            no_overrun = no_overrun;
-            is_job = the_job.1;
-            of_task =
-                number_0;
-            due = due_0;
-            late = late';
-          },
-        )
+  misses : MustMiss node i → executed_before node jobs until j0 < (job_at jobs j0).executes
+  misses must =
+      let deadline_is : (job_task node jobs j0).deadline ≡ (task_at U i).deadline =
+      ap (λ x. (task_at U x).deadline) task_0 in
+      let due : (job_at jobs j0).arrival + (job_task node jobs j0).deadline ≡ until =
+      omega (arith, arrival_0, deadline_is, limits.1, ends) in
+      subst (λ t. executed_before node jobs t j0 < (job_at jobs j0).executes) due
+      (misses_law node jobs ok legal j0 left worst
+      (subst (λ x. EndsLow node x) (sym task_0) must.ends_low)
+      (subst (λ x. NoneCovers node x left (limit_of (task_at U x))) (sym task_0) must.none_covers))
 
-    -- the run
-    pub runs_case : (j : ℕ) × IsRunOf node rs until i j
-    runs_case = (
-      j0,
+  -- the finish
+  reaches_at : EndsLow node i → (r : ℕ) → IsLeastCover node i r
+      → IsFinishAt node jobs j0 ((job_at jobs j0).ready + r)
+  reaches_at low r least =
+      exact_law node jobs ok legal j0 r
+      (subst (λ x. IsWorst node jobs j0 (blocking_of U x (above_of node x) - 1)) (sym task_0) worst)
+      (subst (λ x. EndsLow node x) (sym task_0) low)
+      (subst (λ x. CoversBy node x r) (sym task_0) least.covers)
+      (subst (λ x. (u : ℕ) → 0 < u → u < r → u
+      < work_of node x (blocking_of U x (above_of node x) - 1) u) (sym task_0) least.least)
+
+  pub the_facts : CaseFacts node i rs until
+  the_facts =
+      let a : ((job_at jobs j0).arrival ≡ (release_at rs j0).time)
+      × ((job_at jobs j0).ready ≡ ready_of (release_at rs j0)) = arrival_is j0 the_job.1 in
       record {
         accepted = accepted;
-        no_overrun = no_overrun;
+        job = j0;
         is_job = the_job.1;
-        of_task = number_0;
+        of_task = sym (ap (λ (x : Job). x.task) (job_is U rs j0 the_job.1)) ∙ task_0;
+        due = omega (arith, arrival_0, a.0, limits.1, ends);
+        ready = omega (arith, ready_0, a.1, ends);
+        only = only_job;
+        overrun_above = λ k below over.
+            (let s : Second over.0 k = second_of over.0 k over.1 (omega (arith, below, long)) over.2
+            in subst (λ x. above_of node i x ≡ true) over.2 s.above);
+        no_overrun = no_overrun;
+        late = misses;
+        reaches = λ low r least.
+            subst (λ t. IsFinishAt node jobs j0 (t + r)) a.1 (reaches_at low r least);
+      }
+
+pub case_law : (node : Node) → IsNode node → (i : ℕ) (rs : List Release) (until : ℕ)
+    → i < length node.tasks → IsWorstCase node.tasks i (after_of node.order i) rs until
+    → length rs ≤ 10000 → CaseFacts node i rs until
+case_law node ok i list until lt case few =
+    subst (λ (x : List Release). CaseFacts node i x until) (sym case.listed)
+    (the_facts node ok i lt case.blocker case.blocks until case.ends
+    (subst (λ (x : List Release). length x ≤ 10000) case.listed few))
+
+pub complete_law : (node : Node) → IsNode node → WorstCaseMisses node
+complete_law node ok i rs until lt case few must =
+    let f : CaseFacts node i rs until = case_law node ok i rs until lt case few in (
+      f.job,
+      record {
+        accepted = f.accepted;
+        no_overrun = f.no_overrun must.above_pass;
+        is_job = f.is_job;
+        of_task = f.of_task;
+        due = f.due;
+        late = f.late must;
       },
     )
 
-    -- the finish
-    pub reaches_at : EndsLow node i → (r : ℕ) → IsLeastCover node i r → (j : ℕ)
-        × IsRunOf node rs until i j × IsFinishAt node jobs j (ready_of (release_at rs j) + r)
-    reaches_at low r least =
-        let ends_low : EndsLow node (job_at jobs j0).task =
-        subst (λ x. EndsLow node x) (sym task_0) low in
-        let covers : CoversBy node (job_at jobs j0).task r =
-        subst (λ x. CoversBy node x r) (sym task_0) least.covers in
-        let none : (u : ℕ) → 0 < u → u < r → u < work_of node (job_at jobs j0).task
-        (blocking_of U (job_at jobs j0).task (above_of node (job_at jobs j0).task) - 1) u =
-        subst (λ x. (u : ℕ) → 0 < u → u < r → u
-        < work_of node x (blocking_of U x (above_of node x) - 1) u) (sym task_0) least.least in
-        let worst' : IsWorst node jobs j0
-        (blocking_of U (job_at jobs j0).task (above_of node (job_at jobs j0).task) - 1) =
-        subst (λ x. IsWorst node jobs j0 (blocking_of U x (above_of node x) - 1)) (sym task_0)
-        worst in
-        let done : IsFinishAt node jobs j0 ((job_at jobs j0).ready + r) =
-        exact_law node jobs ok legal j0 r worst' ends_low covers none in
-        let ready : (job_at jobs j0).ready ≡ ready_of (release_at rs j0) =
-        (arrival_is j0 the_job.1).1 in (
-          j0,
-          record {
-            accepted = accepted;
-            no_overrun = no_overrun;
-            is_job = the_job.1;
-            of_task =
-                number_0;
-          },
-          subst (λ t. IsFinishAt node jobs j0 (t + r)) ready done,
-        )
-
-pub complete_law : (node : Node) → IsNode node → WorstCaseMisses node
-complete_law node ok i list until lt case few must =
-    let few' : length (list_of
-    (worst_streams node.tasks (i ∷ after_of node.order i) case.blocker until) until) ≤ 10000 =
-    subst (λ (x : List Release). length x ≤ 10000) case.listed few in
-    let m : HasMiss node (list_of
-    (worst_streams node.tasks (i ∷ after_of node.order i) case.blocker until) until) until i =
-    misses node ok i lt case.blocker case.blocks until case.ends few' must.above_pass must in
-    subst (λ (x : List Release). HasMiss node x until i) (sym case.listed) m
-
 pub reaches_law : (node : Node) → IsNode node → WorstCaseReaches node
-reaches_law node ok i list until r lt case few pass low least =
-    let few' : length (list_of
-    (worst_streams node.tasks (i ∷ after_of node.order i) case.blocker until) until) ≤ 10000 =
-    subst (λ (x : List Release). length x ≤ 10000) case.listed few in
-    subst (λ (x : List Release). (j : ℕ) × IsRunOf node x until i j × IsFinishAt node
-    (jobs_of node.tasks x) j (ready_of (release_at x j) + r)) (sym case.listed)
-    (reaches_at node ok i lt case.blocker case.blocks until case.ends few' pass low r least)
-
--- below tasks that pass the worst case is run to its end
-pub runs_law : (node : Node) → IsNode node → (i : ℕ) (list : List Release) (until : ℕ)
-    → i < length node.tasks → IsWorstCase node.tasks i (after_of node.order i) list until
-    → length list ≤ 10000 → AboveAllPass node i
-    → (j : ℕ) × IsRunOf node list until i j
-runs_law node ok i list until lt case few pass =
-    let few' : length (list_of
-    (worst_streams node.tasks (i ∷ after_of node.order i) case.blocker until) until) ≤ 10000 =
-    subst (λ (x : List Release). length x ≤ 10000) case.listed few in
-    subst (λ (x : List Release). (j : ℕ) × IsRunOf node x until i j) (sym case.listed)
-    (runs_case node ok i lt case.blocker case.blocks until case.ends few' pass)
-
--- the job of the worst case
-pub job_law : (node : Node) → IsNode node → (i : ℕ) (list : List Release) (until : ℕ)
-    → i < length node.tasks → IsWorstCase node.tasks i (after_of node.order i) list until
-    → length list ≤ 10000
-    → (j : ℕ) × IsCaseJob node i list until j
-job_law node ok i list until lt case few =
-    let few' : length (list_of
-    (worst_streams node.tasks (i ∷ after_of node.order i) case.blocker until) until) ≤ 10000 =
-    subst (λ (x : List Release). length x ≤ 10000) case.listed few in
-    subst (λ (x : List Release). (j : ℕ) × IsCaseJob node i x until j) (sym case.listed)
-    (the_case_job node ok i lt case.blocker case.blocks until case.ends few')
-
--- is the only one of the task
-pub only_law : (node : Node) → IsNode node → (i : ℕ) (list : List Release) (until : ℕ)
-    → i < length node.tasks → IsWorstCase node.tasks i (after_of node.order i) list until
-    → length list ≤ 10000
-    → (j k : ℕ) → j < length list → k < length list → task_number node.tasks (release_at list j) ≡ i
-    → task_number node.tasks (release_at list k) ≡ i → j ≡ k
-only_law node ok i list until lt case few =
-    let few' : length (list_of
-    (worst_streams node.tasks (i ∷ after_of node.order i) case.blocker until) until) ≤ 10000 =
-    subst (λ (x : List Release). length x ≤ 10000) case.listed few in
-    subst (λ (x : List Release). (j k : ℕ) → j < length x → k < length x
-    → task_number node.tasks (release_at x j) ≡ i → task_number node.tasks (release_at x k) ≡ i
-    → j ≡ k) (sym case.listed)
-    (only_job node ok i lt case.blocker case.blocks until case.ends few')
-
--- a job that overruns is of a task above
-pub overrun_law : (node : Node) → IsNode node → (i : ℕ) (list : List Release) (until : ℕ)
-    → i < length node.tasks → IsWorstCase node.tasks i (after_of node.order i) list until
-    → length list ≤ 10000
-    → (k : ℕ) → k < length (jobs_of node.tasks list) → Overruns node (jobs_of node.tasks list) k
-    → above_of node i (job_at (jobs_of node.tasks list) k).task ≡ true
-overrun_law node ok i list until lt case few =
-    let few' : length (list_of
-    (worst_streams node.tasks (i ∷ after_of node.order i) case.blocker until) until) ≤ 10000 =
-    subst (λ (x : List Release). length x ≤ 10000) case.listed few in
-    subst (λ (x : List Release). (k : ℕ) → k < length (jobs_of node.tasks x)
-    → Overruns node (jobs_of node.tasks x) k
-    → above_of node i (job_at (jobs_of node.tasks x) k).task ≡ true) (sym case.listed)
-    (overrun_above node ok i lt case.blocker case.blocks until case.ends few')
+reaches_law node ok i rs until r lt case few pass low least =
+    let f : CaseFacts node i rs until = case_law node ok i rs until lt case few in (
+      f.job,
+      record {
+        accepted = f.accepted;
+        no_overrun = f.no_overrun pass;
+        is_job = f.is_job;
+        of_task = f.of_task;
+      },
+      f.reaches low r least,
+    )

@@ -60,19 +60,8 @@ module _ (U : List Task) where
 
   -- tasks that hold no obstruction have an order
   order_within : (fuel : ℕ) (L : Indexes) → IsPart L (below (length U))
-      → count_below (length U) L ≤ fuel → (HoldsObstruction U L → ⊥) → Ordered U L
-  order_within zero L part few free =
-      elim (find_chosen U L (length U)) [
-        | inr none ↦ elim (none_or_some (length U) L) [
-          | inl some ↦ absurd (free (L, stuck L part none some.0 some.1, λ k on. on))
-          | inr off ↦ ([], empty_order L part off, tt)
-        ]
-        | inl found ↦
-            let chosen : IsChosen U L found.0 = found.2 in
-            let fewer : count_below (length U) (without_index L found.0) < count_below (length U)
-            L = without-fewer (length U) L found.0 found.1 chosen.member in
-            absurd (omega arith)
-      ]
+      → count_below (length U) L < fuel → (HoldsObstruction U L → ⊥) → Ordered U L
+  order_within zero L part few free = absurd (omega (arith, few))
   order_within (suc fuel) L part few free =
       elim (find_chosen U L (length U)) [
         | inr none ↦ elim (none_or_some (length U) L) [
@@ -194,7 +183,7 @@ conflict_law U set C i least on =
     (let o : IsObstruction U C = least.obstruction in o.within) in
     let L : Indexes = without_index C i in
     let free : HoldsObstruction U L → ⊥ = none_spared U C i least on in
-    let above : Ordered U L = order_within U (count_below (length U) L) L
+    let above : Ordered U L = order_within U (suc (count_below (length U) L)) L
     (without-part_of (length U) C i within) (omega arith) free in
     let top : List ℕ = i ∷ above.0 in
     let named : IsOrderOf C top = IsOrderOf-cons C i above.0 on above.1 in

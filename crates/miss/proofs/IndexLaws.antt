@@ -1,77 +1,16 @@
 -- Members by their indexes, and how late tasks may be.
 use Rattle.std.proofs.Common.{◌≡◌, ◌∙◌, ℕ, zero, suc, ◌+◌, ◌<◌, ◌≤◌, Option, Some, None}
-use Rattle.std.proofs.Common.{List, [], ◌∷◌, ◌++◌, length, map}
-use Rattle.std.proofs.Common.{get_or, take, drop, sym, ap, subst, max, arith}
-use Rattle.std.proofs.lemmas.List.{take_more, drop_more, get_or_default, map-append}
+use Rattle.std.proofs.Common.{List, [], ◌∷◌, length}
+use Rattle.std.proofs.Common.{get_or, sym, ap, subst, arith}
+use Rattle.task_sheet.proofs.TaskLaws.{task_read}
 use Rattle.task_sheet.specs.Sheet.{Task, CriticalSection, IsSection, AreSections, IsValidSheet}
 use Rattle.task_sheet.specs.Sheet.{no_task, task_at}
 use Rattle.task_sheet.specs.TaskSet.{IsTaskSet}
-use Rattle.task_sheet.specs.Demand.{greatest_of, limit_of}
+use Rattle.task_sheet.specs.Demand.{limit_of}
 use Rattle.task_sheet.specs.Indexes.{Indexes}
-use Rattle.ceiling_kernel.specs.Waits.{lateness_of}
 use Rattle.std.proofs.lemmas.Option.{slice_get_within}
 use Rattle.explain.specs.Blocking.{BlockerData, BlocksAt, IsFirstBlocker, IsBlockerOf}
-use Rattle.release_list.specs.Densest.{stream_of}
-use Rattle.release_list.specs.declared.stream.Stream.{Stream}
-use Rattle.miss.specs.Misses.{IsInSet, member_stream}
-
-pub late_most : (U : List Task) → IsTaskSet U → (k : ℕ) → k < length U
-    → lateness_of (task_at U k) ≤ 10000000
-late_most U tasks k lt = (let v : IsValidSheet (task_at U k) = tasks.valid k no_task lt in
-    omega (arith, v.jitter, v.deadline_to, v.period_to))
-
--- one element more
-pub greatest_more : (f : ℕ → ℕ) (xs : List ℕ) (k : ℕ) → k < length xs
-    → greatest_of f (drop k xs) ≡ max (f (get_or xs k 0)) (greatest_of f (drop (k + 1) xs))
-greatest_more f xs k lt = ap (greatest_of f) (drop_more xs k 0 lt)
-
--- what is read of a sheet at an index
-read_sheet : (U sheets : List Task) (k : ℕ) (sheet : Task) → sheets ≡ U → k < length U
-    → sheet ≡ get_or sheets k sheet → sheet ≡ task_at U k
-read_sheet U sheets k sheet same lt is = is ∙ ap (λ xs. get_or xs k sheet) same
-    ∙ get_or_default U k sheet no_task lt
-
--- the instant after one member more
-pub instant_step : (U : List Task) → IsTaskSet U
-    → (sheets : List Task) (xs : List ℕ) (k instant instant' jitter all : ℕ) (sheet : Task)
-    → sheets ≡ U → k < length xs → get_or xs k 0 < length U
-    → sheet ≡ get_or sheets (get_or xs k 0) sheet → jitter ≡ sheet.jitter
-    → instant' ≡ max instant jitter
-    → (max instant (greatest_of (λ i. lateness_of (task_at U i)) (drop k xs)) ≡ all)
-    × (instant ≤ 10000000)
-    → (max instant' (greatest_of (λ i. lateness_of (task_at U i)) (drop (k + 1) xs)) ≡ all)
-    × (instant' ≤ 10000000)
-instant_step U tasks sheets xs k instant instant' jitter all sheet same lt known is j i so =
-    let own : jitter ≡ lateness_of (task_at U (get_or xs k 0)) = j
-    ∙ ap (λ (t : Task). t.jitter) (read_sheet U sheets (get_or xs k 0) sheet same known is) in
-    let most : lateness_of (task_at U (get_or xs k 0)) ≤ 10000000 =
-    late_most U tasks (get_or xs k 0) known in
-    let more : greatest_of (λ i. lateness_of (task_at U i)) (drop k xs)
-    ≡ max (lateness_of (task_at U (get_or xs k 0)))
-    (greatest_of (λ i. lateness_of (task_at U i)) (drop (k + 1) xs)) =
-    greatest_more (λ i. lateness_of (task_at U i)) xs k lt in
-    (omega (arith, so.0), omega (arith, so.1))
-
--- the streams after one member more
-pub streams_step : (U sheets : List Task) (task : ℕ) (xs : List ℕ) (k instant : ℕ)
-    (streams more : List Stream)
-    (sheet : Task) (stream : Stream)
-    → sheets ≡ U → k < length xs → get_or xs k 0 < length U
-    → sheet ≡ get_or sheets (get_or xs k 0) sheet
-    → stream ≡ stream_of instant sheet → more ≡ streams ++ stream ∷ []
-    → streams ≡ map (member_stream U instant) (task ∷ take k xs)
-    → more ≡ map (member_stream U instant) (task ∷ take (k + 1) xs)
-streams_step U sheets task xs k instant streams more sheet stream same lt known is own grown so =
-    let next : stream ≡ member_stream U instant (get_or xs k 0) =
-    own ∙ ap (stream_of instant) (read_sheet U sheets (get_or xs k 0) sheet same known is) in
-    let cut : take (k + 1) xs ≡ take k xs ++ get_or xs k 0 ∷ [] = take_more xs k 0 lt in
-    let apart : map (member_stream U instant) (task ∷ take (k + 1) xs)
-    ≡ map (member_stream U instant) (task ∷ take k xs)
-    ++ member_stream U instant (get_or xs k 0) ∷ [] =
-    ap (λ ks. map (member_stream U instant) (task ∷ ks)) cut
-    ∙ map-append (member_stream U instant) (task ∷ take k xs) (get_or xs k 0 ∷ []) in
-    grown ∙ ap (λ s. s ++ stream ∷ []) so
-    ∙ ap (λ s. map (member_stream U instant) (task ∷ take k xs) ++ s ∷ []) next ∙ sym apart
+use Rattle.miss.specs.Misses.{IsInSet}
 
 section_within : (from cost : ℕ) (ss : List CriticalSection) (p : ℕ) (s d : CriticalSection)
     → AreSections from cost ss → p < length ss → s ≡ get_or ss p d → s.at + 1 ≤ cost
@@ -93,7 +32,7 @@ section_small U tasks sheets t p t' p' sheet ss s same et ep placed is sections 
     let v : IsValidSheet (task_at U t') = tasks.valid t' no_task placed.0 in
     let is' : sheet ≡ get_or sheets t' sheet = is ∙ ap (λ k. get_or sheets k sheet) et in
     let own : ss ≡ (task_at U t').sections = sections
-    ∙ ap (λ (x : Task). x.sections) (read_sheet U sheets t' sheet same placed.0 is') in
+    ∙ ap (λ (x : Task). x.sections) (task_read U sheets t' sheet same placed.0 is') in
     let at' : s ≡ get_or (task_at U t').sections p' s = at
     ∙ ap (λ (xs : List CriticalSection). get_or xs p s) own
     ∙ ap (λ k. get_or (task_at U t').sections k s) ep in
@@ -118,5 +57,5 @@ pub limit_small : (U : List Task) → IsTaskSet U → (sheets : List Task) (k : 
     → sheets ≡ U → k < length U → sheet ≡ get_or sheets k sheet → limit_of sheet ≤ 10000000
 limit_small U tasks sheets k sheet same known is =
     let v : IsValidSheet (task_at U k) = tasks.valid k no_task known in
-    let e : sheet ≡ task_at U k = read_sheet U sheets k sheet same known is in
+    let e : sheet ≡ task_at U k = task_read U sheets k sheet same known is in
     subst (λ t. limit_of t ≤ 10000000) (sym e) (omega (arith, v.deadline_to, v.period_to))

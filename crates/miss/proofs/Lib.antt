@@ -8,12 +8,8 @@ pub mod ReachLaws
 pub mod CompleteLaws
 pub mod IndexLaws
 pub mod StreamLaws
-pub mod OrderLaws
-pub mod FoundLaws
 pub mod ShownLaws
-pub mod PlaceLaws
 pub mod ExactLaws
 pub mod NoLaws
 pub mod ConflictOrders
-pub mod ReachedLaws
-pub mod NoneLaws
+pub mod RanLaws

@@ -1,14 +1,18 @@
 -- A task and those above it in an order.
-use Rattle.std.proofs.Common.{◌≡◌, ℕ, zero, suc, ◌+◌, ◌<◌, ◌≤◌, inl, inr, true, ◌==◌, nat_lt, cond}
-use Rattle.std.proofs.Common.{List, [], ◌∷◌, length, get_or, refl, sym, ◌∙◌, ap, arith}
+use Rattle.std.proofs.Common.{◌≡◌, ◌≢◌, ℕ, zero, suc, ◌+◌, ◌<◌, ◌≤◌, inl, inr, true, ◌==◌, nat_lt, cond}
+use Rattle.std.proofs.Common.{List, [], ◌∷◌, length, get_or, drop, All, refl, sym, ◌∙◌, ap}
+use Rattle.std.proofs.Common.{◌-◌, subst, arith}
 use Rattle.std.proofs.lemmas.Bool.{cases_Bool, eq-eqb, eqb-true, ltb-true, true≢false, or_cases}
-use Rattle.std.proofs.lemmas.Bool.{or_left, or_right}
+use Rattle.std.proofs.lemmas.Bool.{or_left, or_right, ne_eqb}
+use Rattle.std.proofs.lemmas.List.{get_or_default, get_or-drop, length-drop}
+use Rattle.task_sheet.specs.TaskSet.{IsTaskSet}
 use Rattle.task_sheet.specs.Indexes.{among}
-use Rattle.ceiling_kernel.specs.Tick.{Node, level_in_order}
+use Rattle.ceiling_kernel.specs.Tick.{Node, level_from, level_in_order}
 use Rattle.ceiling_kernel.specs.Waits.{IsNode}
 use Rattle.ceiling_kernel.specs.Bounds.{above_of, after_of}
 use Rattle.ceiling_kernel.proofs.NodeLaws.{times, times-here, times-grow, level_past}
 use Rattle.ceiling_kernel.proofs.NodeLaws.{after_is_above}
+use Rattle.miss.specs.Shown.{PassesThere, IsLowestFailing, AboveAllPass}
 
 pub among_at : (xs : List ℕ) (q : ℕ) → q < length xs → among xs (get_or xs q 0) ≡ true
 among_at [] q lt = absurd (omega arith)
@@ -32,28 +36,28 @@ times_at (x ∷ xs) zero lt = omega (arith, times-here x x xs (eq-eqb x x refl))
 times_at (x ∷ xs) (suc q) lt =
     omega (arith, times_at xs q (omega arith), times-grow (get_or xs q 0) x xs)
 
-once-distinct : (xs : List ℕ) → ((k : ℕ) → times k xs ≤ 1) → (q r : ℕ) → q < length xs
-    → r < length xs → get_or xs q 0 ≡ get_or xs r 0 → q ≡ r
-once-distinct [] once q r lq lr e = absurd (omega arith)
-once-distinct (x ∷ xs) once zero zero lq lr e = refl
-once-distinct (x ∷ xs) once zero (suc r) lq lr e =
-    let here : times (get_or xs r 0) (x ∷ xs) ≡ 1 + times (get_or xs r 0) xs =
-    times-here (get_or xs r 0) x xs (eq-eqb x (get_or xs r 0) e) in
-    absurd (omega (arith, here, times_at xs r (omega arith), once (get_or xs r 0)))
-once-distinct (x ∷ xs) once (suc q) zero lq lr e =
-    let here : times (get_or xs q 0) (x ∷ xs) ≡ 1 + times (get_or xs q 0) xs =
-    times-here (get_or xs q 0) x xs (eq-eqb x (get_or xs q 0) (sym e)) in
-    absurd (omega (arith, here, times_at xs q (omega arith), once (get_or xs q 0)))
-once-distinct (x ∷ xs) once (suc q) (suc r) lq lr e =
-    ap suc (once-distinct xs (λ k. omega (arith, once k, times-grow k x xs)) q r (omega arith)
-    (omega arith) e)
+-- the levels of an order rise by one from place to place
+level_at : (l : ℕ) (xs : List ℕ) (q : ℕ) → ((k : ℕ) → times k xs ≤ 1) → q < length xs
+    → level_from l xs (get_or xs q 0) ≡ l + q
+level_at l [] q once lt = absurd (omega arith)
+level_at l (x ∷ xs) zero once lt = rw (eq-eqb x x refl) (omega arith)
+level_at l (x ∷ xs) (suc q) once lt =
+    let inner : q < length xs = omega arith in
+    let differ : x ≢ get_or xs q 0 = λ e. (let here : times (get_or xs q 0) (x ∷ xs)
+    ≡ 1 + times (get_or xs q 0) xs = times-here (get_or xs q 0) x xs (eq-eqb x (get_or xs q 0) e) in
+    omega (arith, here, times_at xs q inner, once (get_or xs q 0))) in
+    let rest : level_from (l + 1) xs (get_or xs q 0) ≡ l + 1 + q =
+    level_at (l + 1) xs q (λ k. omega (arith, once k, times-grow k x xs)) inner in
+    rw (ne_eqb x (get_or xs q 0) differ) (omega (arith, rest))
 
-times-after : (order : List ℕ) (i k : ℕ) → times k (after_of order i) ≤ times k order
-times-after [] i k = omega arith
-times-after (x ∷ order) i k =
+-- those after a task are the end of the order
+after_drop : (order : List ℕ) (i : ℕ) → (p : ℕ) × (after_of order i ≡ drop p order)
+after_drop [] i = (0, refl)
+after_drop (x ∷ order) i =
     elim (cases_Bool (x == i)) [
-      | inl here ↦ rw here (times-grow k x order)
-      | inr not ↦ rw not (omega (arith, times-after order i k, times-grow k x order))
+      | inl here ↦ (1, rw here refl)
+      | inr not ↦ (let r : (p : ℕ) × (after_of order i ≡ drop p order) = after_drop order i in
+          (suc r.0, rw not r.1))
     ]
 
 module _ (node : Node) (ok : IsNode node) where
@@ -104,6 +108,17 @@ module _ (node : Node) (ok : IsNode node) where
         higher q (omega arith) in
         (has_level (get_or above q 0) (omega arith), omega arith)
 
+    level_above : (q : ℕ) → q < length above
+        → level_in_order node (get_or above q 0) ≡ 1 + (after_drop node.order i).0 + q
+    level_above q small =
+        let d : (p : ℕ) × (after_of node.order i ≡ drop p node.order) = after_drop node.order i in
+        let long : length above ≡ length node.order - d.0 =
+        ap length d.1 ∙ length-drop d.0 node.order in
+        let same : get_or above q 0 ≡ get_or node.order (d.0 + q) 0 =
+        ap (λ xs. get_or xs q 0) d.1 ∙ get_or-drop d.0 node.order q 0 in
+        ap (λ k. level_in_order node k) same
+        ∙ (level_at 1 node.order (d.0 + q) at_most_once (omega arith) ∙ omega arith)
+
     pub members_differ : (q r : ℕ) → q < length members → r < length members
         → get_or members q 0 ≡ get_or members r 0 → q ≡ r
     members_differ zero zero lq lr e = refl
@@ -120,8 +135,9 @@ module _ (node : Node) (ok : IsNode node) where
         ap (λ k. level_in_order node k) e in
         absurd (omega arith)
     members_differ (suc q) (suc r) lq lr e =
-        ap suc (once-distinct above (λ k. omega (arith, times-after node.order i k, at_most_once k))
-        q r (omega arith) (omega arith) e)
+        let same : level_in_order node (get_or above q 0) ≡ level_in_order node (get_or above r 0) =
+        ap (λ k. level_in_order node k) e in
+        omega (arith, same, level_above q (omega arith), level_above r (omega arith))
 
     -- each task above has a place
     pub above_place : (h : ℕ) → above_of node i h ≡ true → (q : ℕ) × (q < length members)
@@ -130,3 +146,55 @@ module _ (node : Node) (ok : IsNode node) where
         let f : (q : ℕ) × (q < length above) × (get_or above q 0 ≡ h) =
         among_place above h (after_is_above node ok i h lt ∙ on) in
         (suc f.0, omega (arith, f.1), f.2)
+
+    -- ---- as a list that is read
+    module _ (xs : List ℕ) (are : xs ≡ after_of node.order i) where
+      pub above_at : (q : ℕ) → q < length xs → get_or xs q 0 < length node.tasks
+      above_at q small = (let long : length xs ≡ length above = ap length are in
+          subst (λ ys. get_or ys q 0 < length node.tasks) (sym are)
+          (member_in (suc q) (omega arith)).0)
+
+      -- they are in the set
+      pub above_known : All (λ k. k < length node.tasks) xs
+      above_known q d small = subst (λ k. k < length node.tasks) (get_or_default xs q 0 d small)
+          (above_at q small)
+
+      pub above_few : All (λ k. k < 32) xs
+      above_few q d small = (let U : IsTaskSet node.tasks = ok.tasks in
+          omega (arith, above_known q d small, U.few))
+
+      -- each task above is one of them
+      place_in : (k : ℕ) → k < length node.tasks → above_of node i k ≡ true
+          → (r : ℕ) × (r < length xs) × (get_or xs r 0 ≡ k)
+      place_in k known on = among_place xs k
+          (ap (λ ys. among ys k) are ∙ (after_is_above node ok i k lt ∙ on))
+
+      level_in : (q : ℕ) → q < length xs
+          → level_in_order node (get_or xs q 0) ≡ 1 + (after_drop node.order i).0 + q
+      level_in q small = (let long : length xs ≡ length above = ap length are in
+          ap (λ ys. level_in_order node (get_or ys q 0)) are ∙ level_above q (omega arith))
+
+      -- the first that doesn't pass is the lowest
+      pub lowest_failing : (q : ℕ) → q < length xs
+          → ((r : ℕ) → r < q → PassesThere node (get_or xs r 0))
+          → (PassesThere node (get_or xs q 0) → ⊥) → IsLowestFailing node i (get_or xs q 0)
+      lowest_failing q small before fails = record {
+        in_set = above_at q small;
+        above = sym (after_is_above node ok i (get_or xs q 0) lt)
+            ∙ (ap (λ ys. among ys (get_or xs q 0)) (sym are) ∙ among_at xs q small);
+        fails = fails;
+        lowest = λ k known on under.
+            let w : (r : ℕ) × (r < length xs) × (get_or xs r 0 ≡ k) = place_in k known on in
+            let up : level_in_order node k < level_in_order node (get_or xs q 0) =
+            ltb-true (level_in_order node k) (level_in_order node (get_or xs q 0)) under in
+            let same : level_in_order node (get_or xs w.0 0) ≡ level_in_order node k =
+            ap (λ x. level_in_order node x) w.2 in
+            subst (λ x. PassesThere node x) w.2 (before w.0
+            (omega (arith, up, same, level_in w.0 w.1, level_in q small)));
+      }
+
+      pub all_above : ((q : ℕ) → q < length xs → PassesThere node (get_or xs q 0))
+          → AboveAllPass node i
+      all_above each h known on =
+          let w : (r : ℕ) × (r < length xs) × (get_or xs r 0 ≡ h) = place_in h known on in
+          subst (λ x. PassesThere node x) w.2 (each w.0 w.1)

@@ -14,13 +14,13 @@ use Rattle.ceiling_kernel.specs.Tick.{executed_before}
 use Rattle.ceiling_kernel.specs.Waits.{IsNode, AreLegalJobs, lateness_of}
 use Rattle.ceiling_kernel.specs.Bounds.{above_of, PassesBy, response_by, work_of}
 use Rattle.ceiling_kernel.proofs.PriorityLaws.{level_within}
+use Rattle.miss.proofs.LeadLaws.{done_grows}
 use Rattle.miss.specs.Exact.{EndsLow}
 use Rattle.miss.specs.Misses.{IsMissOf, MustMiss, IsLockFree, NoIsShown, MissesAreRefused}
 use Rattle.task_sheet.specs.TaskSet.{IsTaskSet}
 use Rattle.ceiling_kernel.specs.Releases.{job_of, jobs_of, release_at}
 use Rattle.ceiling_kernel.proofs.ReleaseLaws.{job_is, jobs_length}
 use Rattle.ceiling_kernel.proofs.EndLaws.{legal_from}
-use Rattle.ceiling_kernel.proofs.FinishLaws.{grows_by}
 use Rattle.ceiling_kernel.proofs.BoundLaws.{bound_law}
 
 module _ (node : Node) (ok : IsNode node) (free : IsLockFree node.tasks) (plain : IsUninterrupted
@@ -106,12 +106,10 @@ refused_law node ok rs until i has passes =
     let v : IsValidSheet (task_at node.tasks i) = set.valid i no_task known in
     let end : ℕ = (job_at (jobs_of node.tasks rs) j).arrival + response_by
     (job_task node (jobs_of node.tasks rs) j) passes.0 in
-    let grown : executed_before node (jobs_of node.tasks rs) end j
-    ≤ executed_before node (jobs_of node.tasks rs) (end + (until - end)) j =
-    grows_by node (jobs_of node.tasks rs) j end (until - end) in
-    let at : end + (until - end) ≡ until =
-    omega (arith, passes.2, late, arrives, m.due, v.jitter) in
-    let grown' : executed_before node (jobs_of node.tasks rs) end j ≤ executed_before node
-    (jobs_of node.tasks rs) until j = subst (λ t. executed_before node (jobs_of node.tasks rs)
-    end j ≤ executed_before node (jobs_of node.tasks rs) t j) at grown in
-    omega (arith, fin, grown', m.late)
+    omega (
+      arith,
+      fin,
+      done_grows node (jobs_of node.tasks rs) j end until
+          (omega (arith, passes.2, late, arrives, m.due, v.jitter)),
+      m.late,
+    )

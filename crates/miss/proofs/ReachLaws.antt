@@ -1,13 +1,11 @@
 -- Where a task of a level or above reaches a section, its ceiling does.
 use Rattle.std.proofs.Common.{◌≡◌, ℕ, suc, ◌-◌, ◌<◌, ◌≤◌, inl, inr, Bool, true, false, ◌==◌, ◌&&◌}
-use Rattle.std.proofs.Common.{◌||◌, List, [], ◌∷◌, length, get_or, take, ◌+◌, sym, ◌∙◌, ap, ap₂}
-use Rattle.std.proofs.Common.{subst, arith}
+use Rattle.std.proofs.Common.{List, [], ◌∷◌, length, sym, ◌∙◌, ap}
+use Rattle.std.proofs.Common.{arith}
 use Rattle.std.specs.List.{list_any}
 use Rattle.std.proofs.lemmas.Bool.{cases_Bool, cases_lt, true≢false, or_cases, and_parts, and_from}
 use Rattle.std.proofs.lemmas.Bool.{eqb-true, ltb-true, lt-ltb, or_parts}
-use Rattle.std.proofs.lemmas.List.{take_all}
-use Rattle.std.proofs.lemmas.List.Folds.{list_any_at, list_any_more}
-use Rattle.task_sheet.specs.Sheet.{Task, CriticalSection, task_at}
+use Rattle.task_sheet.specs.Sheet.{CriticalSection, task_at}
 use Rattle.task_sheet.specs.Indexes.{Indexes, with_index}
 use Rattle.task_sheet.specs.Locks.{uses, shares_lock, reaches}
 use Rattle.task_sheet.proofs.Below.{some_below-at, some_below-witness}
@@ -30,39 +28,34 @@ top_user node ok k (r ∷ rs) h =
       | inr later ↦ omega (arith, top_user node ok k rs later)
     ]
 
+-- a section that some tasks reach has a ceiling at the level of one of them or above
+reached_by : (node : Node) → IsNode node → (H : Indexes) (s : CriticalSection)
+    → reaches node.tasks H s ≡ true
+    → (k : ℕ) × (H k ≡ true) × (level_in_order node k ≤ top_ceiling node s.locks)
+reached_by node ok H s h =
+    let w : (k : ℕ) × (k < length node.tasks)
+    × ((H k && shares_lock (task_at node.tasks k) s) ≡ true) = some_below-witness
+    (length node.tasks) (λ k. H k && shares_lock (task_at node.tasks k) s) h in
+    let p : (H w.0 ≡ true) × (shares_lock (task_at node.tasks w.0) s ≡ true) =
+    and_parts (H w.0) (shares_lock (task_at node.tasks w.0) s) w.2 in
+    (w.0, p.0, top_user node ok w.0 s.locks p.1)
+
 pub ceiling_reaches : (node : Node) → IsNode node → (i : ℕ) (s : CriticalSection)
     → reaches node.tasks (with_index (above_of node i) i) s ≡ true
     → level_in_order node i ≤ top_ceiling node s.locks
 ceiling_reaches node ok i s h =
-    let w : (k : ℕ) × (k < length node.tasks)
-    × ((with_index (above_of node i) i k && shares_lock (task_at node.tasks k) s) ≡ true) =
-    some_below-witness (length node.tasks)
-    (λ k. with_index (above_of node i) i k && shares_lock (task_at node.tasks k) s) h in
-    let k : ℕ = w.0 in
-    let p : (with_index (above_of node i) i k ≡ true)
-    × (shares_lock (task_at node.tasks k) s ≡ true) =
-    and_parts (with_index (above_of node i) i k) (shares_lock (task_at node.tasks k) s) w.2 in
-    let top : level_in_order node k ≤ top_ceiling node s.locks = top_user node ok k s.locks p.1 in
-    elim (or_cases (k == i) (above_of node i k) p.0) [
-      | inl same ↦ (let e : level_in_order node k ≡ level_in_order node i =
-          ap (λ x. level_in_order node x) (eqb-true k i same) in omega arith)
-      | inr up ↦ (let l : level_in_order node i < level_in_order node k =
-          ltb-true (level_in_order node i) (level_in_order node k) up in omega arith)
+    let u = reached_by node ok (with_index (above_of node i) i) s h in
+    elim (or_cases (u.0 == i) (above_of node i u.0) u.1) [
+      | inl same ↦ (let e : level_in_order node u.0 ≡ level_in_order node i =
+          ap (λ x. level_in_order node x) (eqb-true u.0 i same) in omega (arith, e, u.2))
+      | inr up ↦ omega (arith, ltb-true (level_in_order node i) (level_in_order node u.0) up, u.2)
     ]
 
 -- strictly, where a task above does
 pub above_reaches : (node : Node) → IsNode node → (i : ℕ) (s : CriticalSection) → reaches node.tasks
     (above_of node i) s ≡ true → level_in_order node i < top_ceiling node s.locks
-above_reaches node ok i s h =
-    let w : (k : ℕ) × (k < length node.tasks)
-    × ((above_of node i k && shares_lock (task_at node.tasks k) s) ≡ true) = some_below-witness
-    (length node.tasks) (λ k. above_of node i k && shares_lock (task_at node.tasks k) s) h in
-    let k : ℕ = w.0 in
-    let p : (above_of node i k ≡ true) × (shares_lock (task_at node.tasks k) s ≡ true) =
-    and_parts (above_of node i k) (shares_lock (task_at node.tasks k) s) w.2 in
-    let up : level_in_order node i < level_in_order node k =
-    ltb-true (level_in_order node i) (level_in_order node k) p.0 in
-    omega (arith, up, top_user node ok k s.locks p.1)
+above_reaches node ok i s h = (let u = reached_by node ok (above_of node i) s h in
+    omega (arith, ltb-true (level_in_order node i) (level_in_order node u.0) u.1, u.2))
 
 -- and the other way round
 pub reached_above : (node : Node) → IsNode node → (i : ℕ) (s : CriticalSection) → level_in_order
@@ -121,39 +114,3 @@ module _ (node : Node) (ok : IsNode node) (i : ℕ) where
   ends_raised h low = (let up : level_in_order node i
       < held_ceiling node (task_at node.tasks i).sections ((task_at node.tasks i).cost - 1) =
       held_high (task_at node.tasks i).sections ((task_at node.tasks i).cost - 1) h in omega arith)
-
--- ---- how it is found
-module _ (U : List Task) (i : ℕ) (H : Indexes) (sheet : Task) (items : List CriticalSection)
-    (last : ℕ) (is_sheet : sheet ≡ task_at U i) (are_sections : items ≡ sheet.sections)
-    (is_last : last ≡ sheet.cost - 1) where
-  abbrev tested : List CriticalSection → ℕ → Bool
-  tested ss e = list_any (λ s. is_inside s e && reaches U H s) ss
-
-  same_test : tested items last ≡ ends_inside U i H
-  same_test =
-      let sections : items ≡ (task_at U i).sections = are_sections
-      ∙ ap (λ (t : Task). t.sections) is_sheet in
-      let end : last ≡ (task_at U i).cost - 1 = is_last ∙ ap (λ (t : Task). t.cost - 1) is_sheet in
-      ap (λ (ss : List CriticalSection). tested ss last) sections
-      ∙ ap (λ e. tested (task_at U i).sections e) end
-
-  pub found_inside : (k : ℕ) (s : CriticalSection) → k < length items → s ≡ get_or items k s
-      → (is_inside s last && reaches U H s) ≡ true → true ≡ ends_inside U i H
-  found_inside k s lt is on =
-      let at : (is_inside (get_or items k s) last && reaches U H (get_or items k s)) ≡ true =
-      subst (λ (x : CriticalSection). (is_inside x last && reaches U H x) ≡ true) is on in
-      sym (list_any_at (λ s. is_inside s last && reaches U H s) items k s lt at) ∙ same_test
-
-  pub none_inside : (k : ℕ) → tested (take k items) last ≡ false → length items ≤ k
-      → false ≡ ends_inside U i H
-  none_inside k off past = sym off
-      ∙ ap (λ (ss : List CriticalSection). tested ss last) (take_all k items past) ∙ same_test
-
-  pub more_inside : (k : ℕ) (s : CriticalSection) → k < length items → s ≡ get_or items k s
-      → tested (take k items) last ≡ false → (is_inside s last && reaches U H s) ≡ false
-      → tested (take (k + 1) items) last ≡ false
-  more_inside k s lt is before off =
-      let here : (is_inside (get_or items k s) last && reaches U H (get_or items k s)) ≡ false =
-      subst (λ (x : CriticalSection). (is_inside x last && reaches U H x) ≡ false) is off in
-      list_any_more (λ s. is_inside s last && reaches U H s) items k s lt
-      ∙ ap₂ (λ x y. x || y) before here

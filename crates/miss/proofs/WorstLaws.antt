@@ -24,9 +24,10 @@ use Rattle.ceiling_kernel.proofs.SectionLaws.{inside_true, inside_from, stretch,
 use Rattle.ceiling_kernel.proofs.LockLaws.{began_strictly}
 use Rattle.ceiling_kernel.proofs.MachineLaws.{machine, is_high, rest_at, before_end}
 use Rattle.ceiling_kernel.proofs.MachineLaws.{picked_is_first, pending_from, other_of}
-use Rattle.ceiling_kernel.proofs.Busy.{to_do, done_later, done_grows, tick_cases}
+use Rattle.ceiling_kernel.proofs.Busy.{to_do, tick_cases}
 use Rattle.miss.specs.Exact.{IsWhole, IsWorst, EndsLow, NoneCovers, WorstComes, WorstMisses}
 use Rattle.miss.proofs.Falls.{total-some, ticks}
+use Rattle.miss.proofs.LeadLaws.{done_grows}
 
 -- a job inside one of its sections holds its locks
 held-place : (node : Node) (ss : List CriticalSection) (s : CriticalSection) (e k : ℕ)
@@ -436,10 +437,7 @@ module _ (node : Node) (jobs : List Job) (is_node : IsNode node)
                     let open_ : done (suc (s + m)) k < executes_of k = subst (λ x. done x k
                     < executes_of k) at_end (omega (arith, found.2, lacks)) in
                     let grown : done (s + m) k ≤ done (suc (s + m)) k =
-                    done_grows (length jobs) ready_of executes_of
-                    (is_high node jobs level level_some spanned)
-                    (rest_at node jobs level level_some spanned) (executed_before node jobs)
-                    (picked node jobs) (machine node jobs level level_some spanned) (s + m) k in
+                    done_grows node jobs k (s + m) (suc (s + m)) (omega arith) in
                     let other : k ≢ j0 =
                     λ e. (let c : done (suc (s + m)) k ≡ done (suc (s + m)) j0 =
                     ap (λ x. done (suc (s + m)) x) e in let d : executes_of k ≡ executes_of j0 =
@@ -514,11 +512,8 @@ module _ (node : Node) (jobs : List Job) (is_node : IsNode node)
         worst.latest in
         let later : done ((job_at jobs j0).arrival + (task_at node.tasks i).deadline) j0
         ≤ done (s + limit) j0 =
-        done_later (length jobs) ready_of executes_of (is_high node jobs level level_some spanned)
-        (rest_at node jobs level level_some spanned) (executed_before node jobs)
-        (picked node jobs) (machine node jobs level level_some spanned)
-        ((job_at jobs j0).arrival + (task_at node.tasks i).deadline) (s + limit) j0
-        (omega arith) in
+        done_grows node jobs j0 ((job_at jobs j0).arrival + (task_at node.tasks i).deadline)
+        (s + limit) (omega arith) in
         omega arith
 
 pub comes_law : (node : Node) (jobs : List Job) → IsNode node → AreLegalJobs node jobs

@@ -1,5 +1,4 @@
 pub mod Exact
 pub mod Misses
-pub mod Found
 pub mod Shown
 pub mod Reached

@@ -1,20 +1,17 @@
 -- The worst case of a task that passes, as a run: when its job finishes there.
 use Rattle.std.specs.Prelude.{◌≡◌, ℕ, ◌+◌, ◌-◌, ◌<◌, ◌≤◌, Some, Option, List, length}
-use Rattle.task_sheet.specs.Sheet.{Task}
 use Rattle.task_sheet.specs.Demand.{blocking_of}
 use Rattle.ceiling_kernel.specs.declared.accept.TheConstants.{RELEASE_LIMIT}
 use Rattle.ceiling_kernel.specs.declared.trace.Release.{Release}
 use Rattle.ceiling_kernel.specs.Tick.{Node}
-use Rattle.ceiling_kernel.specs.declared.trace.JobRecord.{JobRecord}
 use Rattle.ceiling_kernel.specs.Trace.{finish_before}
 use Rattle.ceiling_kernel.specs.Readings.{IsFinishAt}
 use Rattle.ceiling_kernel.specs.Bounds.{above_of, after_of, work_of, CoversBy}
-use Rattle.ceiling_kernel.specs.Releases.{task_number, jobs_of, ready_of, release_at}
+use Rattle.ceiling_kernel.specs.Releases.{jobs_of, ready_of, release_at}
 use Rattle.miss.specs.declared.reaching.Reached.{Reached}
 use Rattle.miss.specs.declared.reaching.Reached.TheVariants as reached
 use Rattle.miss.specs.declared.reaching.WorstRun.{WorstRun}
 use Rattle.miss.specs.Exact.{EndsLow}
-use Rattle.miss.specs.Found.{record_at}
 use Rattle.miss.specs.Misses.{IsRunOf, IsWorstCase}
 use Rattle.miss.specs.Shown.{AboveAllPass, IsTooLong, IsStopped}
 
@@ -33,13 +30,6 @@ WorstCaseReaches node =
     → AboveAllPass node i → EndsLow node i → IsLeastCover node i r
     → (j : ℕ) × IsRunOf node rs until i j
     × IsFinishAt node (jobs_of node.tasks rs) j (ready_of (release_at rs j) + r)
-
--- the record of release j, which is one of the task, has this finish
-pub record IsReadOf (U : List Task) (task : ℕ) (rs : List Release) (records : List JobRecord)
-    (j : ℕ) (finish : Option ℕ) : Type 0 where
-  pub is_job : j < length rs
-  pub of_task : task_number U (release_at rs j) ≡ task
-  pub finish_is : finish ≡ (record_at records j).finish
 
 -- a job of the task in a run, and when it finishes there, if it does
 pub record IsFinishIn (node : Node) (rs : List Release) (until task j : ℕ) (finish : Option ℕ)

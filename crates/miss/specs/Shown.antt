@@ -21,8 +21,7 @@ use Rattle.miss.specs.declared.shown.Shown.TheVariants as shown
 use Rattle.miss.specs.declared.shown.NoRun.{NoRun}
 use Rattle.miss.specs.declared.shown.NoRun.TheVariants as why
 use Rattle.miss.specs.Exact.{EndsLow}
-use Rattle.miss.specs.Misses.{IsRunOf, IsWorstCase, MustMiss}
-use Rattle.miss.specs.Found.{IsMiss}
+use Rattle.miss.specs.Misses.{IsRunOf, IsMissOf, IsWorstCase, MustMiss}
 
 -- task i passes in its place
 abbrev pub PassesThere : Node → ℕ → Type 0
@@ -107,7 +106,7 @@ IsNoRun node i why.WithinInterrupts =
 pub record IsWorstMiss (node : Node) (i : ℕ) (m : Miss) : Type 0 where
   pub task : m.task ≡ i
   pub case : IsWorstCase node.tasks i (after_of node.order i) m.releases.items m.until
-  pub miss : IsMiss node m
+  pub miss : IsMissOf node m.releases.items m.until m.task m.job
 
 -- it may be placed there, or it misses its deadline in its worst case, or why that is no run in which it does
 abbrev pub IsShown : Node → ℕ → Shown → Type 0

@@ -1,6 +1,7 @@
-//! An order that is given: its kernel, and the place of a task in it.
-ghost use Rattle.std.specs.Prelude.{◌≡◌, ◌<◌, ℕ, length, slice_index_or, IfOk};
+//! An order that is given: its kernel, and the tasks above one in it.
+ghost use Rattle.std.specs.Prelude.{◌≡◌, IfOk};
 ghost use Rattle.ceiling_kernel.specs.Tick.{node_in};
+ghost use Rattle.ceiling_kernel.specs.Bounds.{after_of};
 ghost use Rattle.task_sheet.specs.Orders.{IsOrder};
 
 use ceiling_kernel::{Kernel, KernelFault};
@@ -23,17 +24,16 @@ pub(crate) fn kernel_of<'a>(
     }
 }
 
-/// The place of a task in an order.
-pub(crate) fn place_of(order: &[usize], task: usize) -> usize
-    requires { (p : ℕ) × (p < length order.now) × (slice_index_or order.now p 0 ≡ task) }
-    ensures within { result < length order.now }
-    ensures is { slice_index_or order.now result 0 ≡ task }
+/// The tasks above one in an order, lowest first.
+pub(crate) fn above(order: &[usize], task: usize) -> &[usize]
+    ensures { result.now ≡ after_of order.now task }
 {
-    for place in 0..order.len() {
-        if order[place] == task {
-            return place;
+    let mut rest = order;
+    while let Some((lowest, above)) = rest.split_first() {
+        if *lowest == task {
+            return above;
         }
+        rest = above;
     }
-    // Some place has it.
-    0
+    rest
 }

@@ -1,15 +1,14 @@
 //! The worst case of a task, run to its end.
-ghost use Rattle.std.specs.Prelude.{◌≡◌, ◌<◌, ℕ, length, slice_index_or, IfOk, IfSome, IfNone};
+ghost use Rattle.std.specs.Prelude.{◌≡◌, ◌<◌, ℕ, length, IfOk, IfSome, IfNone};
 ghost use Rattle.std.specs.Bool.{OnTrue, OnFalse};
 ghost use Rattle.ceiling_kernel.specs.Tick.{node_in};
 ghost use Rattle.ceiling_kernel.specs.Releases.{task_number, release_at};
 ghost use Rattle.task_sheet.specs.Orders.{IsOrder};
-ghost use Rattle.miss.specs.Misses.{IsRunOf};
-ghost use Rattle.miss.specs.Reached.{IsReadOf, IsFinishIn, IsReachedOf};
+ghost use Rattle.miss.specs.Reached.{IsReachedOf};
 
-use crate::orders::{kernel_of, place_of};
-use crate::worst::{Run, worst_case};
-use ceiling_kernel::{JobRecord, Kernel, Release, RunFault};
+use crate::orders::{above, kernel_of};
+use crate::worst::worst_case;
+use ceiling_kernel::{Kernel, Release, RunFault};
 use ceilings::{LockTable, Tabled};
 use std::alloc::{AllocError, Global};
 use task_sheet::TaskSet;
@@ -35,8 +34,8 @@ pub enum Reached {
     Stopped,
 }
 
-/// The release is one of the task's.
-pub(crate) fn is_of(set: &Tabled<'_>, task: usize, release: Release) -> bool
+// The release is one of the task's.
+fn is_of(set: &Tabled<'_>, task: usize, release: Release) -> bool
     requires { task < length set.now }
     ensures yes { OnTrue result (task_number set.now release ≡ task) }
     ensures no { OnFalse result (¬ (task_number set.now release ≡ task)) }
@@ -63,85 +62,38 @@ fn first_of(set: &Tabled<'_>, task: usize, releases: &[Release]) -> Option<usize
     None
 }
 
-// The first job of a task, and when it finishes, if it does.
-#[derive(Clone, Copy)]
-pub(crate) struct Finish {
-    pub(crate) job: usize,
-    pub(crate) time: Option<u64>,
-}
-
-// That of the releases of a trace.
-fn finish_of(
-    set: &Tabled<'_>,
-    task: usize,
-    releases: &[Release],
-    jobs: &[JobRecord],
-) -> Option<Finish>
-    requires task { task < length set.now }
-    requires jobs { length jobs.now ≡ length releases.now }
-    ensures some { IfSome result (λ f. IsReadOf set.now task releases.now jobs.now f.job f.time) }
-    ensures none { IfNone result ((j : ℕ) → j < length releases.now
-        → ¬ (task_number set.now (release_at releases.now j) ≡ task)) }
-{
-    let job = first_of(set, task, releases)?;
-    let time = jobs[job].finish;
-    Some(Finish { job, time })
-}
-
-// The place of a job of the task in a run up to the end of its worst case, and when it finishes, if it does; none where
-// the kernel stops before.
-fn finish_in(
-    alloc: Global,
-    kernel: &Kernel,
-    set: &Tabled<'_>,
-    task: usize,
-    run: &Run,
-) -> Result<Option<Finish>, AllocError>
-    requires set { kernel.now.tasks ≡ set.now }
-    requires task { task < length set.now }
-    ensures some { IfOk result (λ found. IfSome found
-        (λ f. IsFinishIn kernel.now run.now.releases.items run.now.until task f.job f.time)) }
-    ensures none { IfOk result (λ found. IfNone found ((j : ℕ)
-        → ¬ IsRunOf kernel.now run.now.releases.items run.now.until task j)) }
-{
-    // The set is valid: the proof has it from its sheets.
-    let _ = set.sheets();
-    match kernel.run(alloc, &run.releases, run.until) {
-        Ok(trace) => Ok(finish_of(set, task, &run.releases, &trace.jobs)),
-        Err(fault) => match fault {
-            RunFault::OutOfMemory => Err(AllocError),
-            _ => Ok(None),
-        },
-    }
-}
-
-// What comes of the worst case of the task at a place of an order.
-fn reach_at(
+/// What comes of the worst case of a task in an order.
+pub(crate) fn reach_in(
     alloc: Global,
     kernel: &Kernel,
     set: &Tabled<'_>,
     order: &[usize],
-    place: usize,
+    task: usize,
 ) -> Result<Reached, AllocError>
     requires kernel { kernel.now ≡ node_in set.now order.now }
     requires order { IsOrder set.now order.now }
-    requires place { place < length order.now }
-    ensures { IfOk result (IsReachedOf (node_in set.now order.now) (slice_index_or order.now place 0)) }
+    requires task { task < length set.now }
+    ensures { IfOk result (IsReachedOf (node_in set.now order.now) task) }
 {
     // The set is valid: the proof has it from its sheets.
     let _ = set.sheets();
-    let task = order[place];
-    let Some(run) = worst_case(alloc, set, task, &order[place + 1..])? else {
+    let Some(run) = worst_case(alloc, set, task, above(order, task))? else {
         return Ok(Reached::TooMany);
     };
-    match finish_in(alloc, kernel, set, task, &run)? {
-        Some(found) => Ok(Reached::Ran(WorstRun {
-            job: found.job,
-            finish: found.time,
-            until: run.until,
-            releases: run.releases,
-        })),
-        None => Ok(Reached::Stopped),
+    match kernel.run(alloc, &run.releases, run.until) {
+        Ok(trace) => match first_of(set, task, &run.releases) {
+            Some(job) => Ok(Reached::Ran(WorstRun {
+                job,
+                finish: trace.jobs[job].finish,
+                until: run.until,
+                releases: run.releases,
+            })),
+            None => Ok(Reached::Stopped),
+        },
+        Err(fault) => match fault {
+            RunFault::OutOfMemory => Err(AllocError),
+            _ => Ok(Reached::Stopped),
+        },
     }
 }
 
@@ -158,14 +110,6 @@ pub fn reach(
     ensures { IfOk result (IsReachedOf (node_in set.now order.now) task) }
 {
     let kernel = kernel_of(alloc, set, order)?;
-    // The set is valid: the proof has it from its sheets.
-    let _ = set.sheets();
     let table = LockTable::new(alloc, set)?;
-    reach_at(
-        alloc,
-        &kernel,
-        &Tabled::of(set, &table),
-        order,
-        place_of(order, task),
-    )
+    reach_in(alloc, &kernel, &Tabled::of(set, &table), order, task)
 }

@@ -1,13 +1,14 @@
 //! Why the worst case of a task that doesn't pass is no run in which it misses its deadline.
-ghost use Rattle.std.specs.Prelude.{◌≡◌, ◌<◌, ◌&&◌, true, length, slice_index_or, IfSome, IfNone};
+ghost use Rattle.std.specs.Prelude.{◌≡◌, ◌<◌, ◌&&◌, length, IfSome, IfNone};
+ghost use Rattle.std.specs.List.{list_any};
 ghost use Rattle.task_sheet.specs.Indexes.{indexes_of};
 ghost use Rattle.task_sheet.specs.Locks.{reaches};
 ghost use Rattle.task_sheet.specs.Orders.{IsOrder};
 ghost use Rattle.ceiling_kernel.specs.Tick.{node_in, is_inside};
 ghost use Rattle.ceiling_kernel.specs.Bounds.{above_of};
-ghost use Rattle.miss.specs.Misses.{MustMiss};
 ghost use Rattle.miss.specs.Shown.{PassesThere, ends_inside, IsLowestFailing, AboveAllPass, ShowsNone, IsNoRun};
 
+use crate::orders::above;
 use crate::shown::NoRun;
 use assignment::members_of;
 use ceilings::Tabled;
@@ -28,6 +29,16 @@ fn is_raised(set: &Tabled<'_>, section: &Section, executed: u64, above: Members)
     set.reaches(section, above)
 }
 
+// The same of one of some sections.
+fn is_raised_in(set: &Tabled<'_>, sections: &[Section], executed: u64, above: Members) -> bool
+    ensures { result ≡ list_any (λ s. is_inside s executed
+        && reaches set.now (indexes_of above) s) sections.now }
+{
+    sections
+        .iter()
+        .any(|section| is_raised(set, section, executed, above))
+}
+
 // A job of a task that executes its cost executes the last tick inside a section that one of these reaches.
 fn ends_inside(set: &Tabled<'_>, task: usize, above: Members) -> bool
     requires { task < length set.now }
@@ -35,67 +46,56 @@ fn ends_inside(set: &Tabled<'_>, task: usize, above: Members) -> bool
 {
     let sheet = &set.sheets()[task];
     let last = sheet.cost().saturating_sub(1);
-    for section in sheet.sections() {
-        if is_raised(set, section, last, above) {
-            return true;
-        }
-    }
-    false
+    is_raised_in(set, sheet.sections(), last, above)
 }
 
-/// The tasks above the one at a place of an order.
-pub(crate) fn members_above(set: &Tabled<'_>, order: &[usize], place: usize) -> Members
+/// The tasks above one in an order.
+pub(crate) fn members_above(set: &Tabled<'_>, order: &[usize], task: usize) -> Members
     requires order { IsOrder set.now order.now }
-    requires place { place < length order.now }
-    ensures { indexes_of result ≡ above_of (node_in set.now order.now)
-        (slice_index_or order.now place 0) }
+    requires task { task < length set.now }
+    ensures { indexes_of result ≡ above_of (node_in set.now order.now) task }
 {
     // The set is valid: the proof has it from its sheets.
     let _ = set.sheets();
-    members_of(&order[place + 1..])
+    members_of(above(order, task))
 }
 
-// The lowest of those above the task at a place of an order that doesn't pass.
-fn fails_above(set: &Tabled<'_>, order: &[usize], place: usize) -> Option<usize>
+// The lowest of those above a task in an order that doesn't pass.
+fn fails_above(set: &Tabled<'_>, order: &[usize], task: usize) -> Option<usize>
     requires order { IsOrder set.now order.now }
-    requires place { place < length order.now }
-    ensures some { IfSome result (IsLowestFailing (node_in set.now order.now)
-        (slice_index_or order.now place 0)) }
-    ensures none { IfNone result (AboveAllPass (node_in set.now order.now)
-        (slice_index_or order.now place 0)) }
+    requires task { task < length set.now }
+    ensures some { IfSome result (IsLowestFailing (node_in set.now order.now) task) }
+    ensures none { IfNone result (AboveAllPass (node_in set.now order.now) task) }
 {
     // The set is valid: the proof has it from its sheets.
     let _ = set.sheets();
-    for higher in place + 1..order.len() {
-        let task = order[higher];
-        let above = members_above(set, order, higher);
-        let holds = passes(set, task, above);
+    for higher in above(order, task) {
+        let holds = passes(set, *higher, members_above(set, order, *higher));
         if !holds {
-            return Some(task);
+            return Some(*higher);
         }
     }
     None
 }
 
-/// Why the task at a place of an order, which doesn't pass, need not miss its deadline: its worst case shows no miss.
-pub(crate) fn why_not(set: &Tabled<'_>, order: &[usize], place: usize) -> NoRun
+/// Why a task of an order that doesn't pass, and whose worst case shows no miss, need not miss its deadline.
+pub(crate) fn why_not(set: &Tabled<'_>, order: &[usize], task: usize) -> NoRun
     requires order { IsOrder set.now order.now }
-    requires place { place < length order.now }
-    requires fails { ¬ PassesThere (node_in set.now order.now) (slice_index_or order.now place 0) }
-    requires need_not { ¬ MustMiss (node_in set.now order.now) (slice_index_or order.now place 0) }
-    requires none { ShowsNone (node_in set.now order.now) (slice_index_or order.now place 0) }
-    ensures { IsNoRun (node_in set.now order.now) (slice_index_or order.now place 0) result }
+    requires task { task < length set.now }
+    requires fails { ¬ PassesThere (node_in set.now order.now) task }
+    requires none { ShowsNone (node_in set.now order.now) task }
+    ensures { IsNoRun (node_in set.now order.now) task result }
 {
     // The set is valid: the proof has it from its sheets.
     let _ = set.sheets();
-    if let Some(above) = fails_above(set, order, place) {
-        return NoRun::Below { above };
+    if let Some(higher) = fails_above(set, order, task) {
+        return NoRun::Below { above: higher };
     }
-    let above = members_above(set, order, place);
-    if ends_inside(set, order[place], above) {
+    let members = members_above(set, order, task);
+    if ends_inside(set, task, members) {
         return NoRun::EndsInside;
     }
-    if passes_uninterrupted(set, order[place], above) {
+    if passes_uninterrupted(set, task, members) {
         return NoRun::WithinInterrupts;
     }
     NoRun::WithinTick

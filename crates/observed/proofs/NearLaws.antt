@@ -1,6 +1,6 @@
 -- What is seen of a job is seen in the pieces near it.
-use Rattle.std.proofs.Common.{◌≡◌, ◌∙◌, ℕ, zero, suc, ◌+◌, ◌<◌, ◌≤◌, nat_le, nat_lt, Bool, true}
-use Rattle.std.proofs.Common.{false, cond, List, [], ◌∷◌, take, length, get_or, Option, Some, None}
+use Rattle.std.proofs.Common.{◌≡◌, ◌∙◌, ℕ, ◌+◌, ◌≤◌, nat_le, nat_lt, Bool, true}
+use Rattle.std.proofs.Common.{false, cond, List, [], ◌∷◌, length, Option, Some, None}
 use Rattle.std.proofs.Common.{option_map, refl, sym, ap, arith}
 use Rattle.std.specs.List.{find}
 use Rattle.std.specs.Prelude.{if◌then◌else◌}
@@ -81,30 +81,21 @@ module _ (whom : Whom) (from to : ℕ) where
       ap (λ n. option_map (λ (q : Piece). q.name)
       (cond (nat_lt 0 n) (Some p) (find (λ q. nat_lt 0 (share q)) pieces))) none
 
-  pub behind-time : (time : ℕ) (pieces : List Piece) → time ≤ from
-      → time_in whom from to (behind time pieces) ≡ time_in whom from to pieces
-  behind-time time [] le = refl
-  behind-time time (p ∷ pieces) le = go (behind-time time pieces le) (nat_le p.stop time) refl
-    where
-      go : time_in whom from to (behind time pieces) ≡ time_in whom from to pieces → (b : Bool)
-          → nat_le p.stop time ≡ b → time_in whom from to
-          (if b then behind time pieces else p ∷ pieces) ≡ time_in whom from to (p ∷ pieces)
-      go more true ended =
-          let stop : p.stop ≤ time = leb-true p.stop time ended in
-          more ∙ sym (adds p pieces (before p (omega (arith, stop, le))))
-      go more false goes = refl
+  -- the same is counted of both: for how long, and whose is the first
+  abbrev Same : List Piece → List Piece → Type 0
+  Same xs ys = (time_in whom from to xs ≡ time_in whom from to ys) × (named xs ≡ named ys)
 
-  pub behind-name : (time : ℕ) (pieces : List Piece) → time ≤ from
-      → named (behind time pieces) ≡ named pieces
-  behind-name time [] le = refl
-  behind-name time (p ∷ pieces) le = go (behind-name time pieces le) (nat_le p.stop time) refl
+  behind-same : (time : ℕ) (pieces : List Piece) → time ≤ from → Same (behind time pieces) pieces
+  behind-same time [] le = (refl, refl)
+  behind-same time (p ∷ pieces) le = go (behind-same time pieces le) (nat_le p.stop time) refl
     where
-      go : named (behind time pieces) ≡ named pieces → (b : Bool) → nat_le p.stop time ≡ b
-          → named (if b then behind time pieces else p ∷ pieces) ≡ named (p ∷ pieces)
+      go : Same (behind time pieces) pieces → (b : Bool) → nat_le p.stop time ≡ b
+          → Same (if b then behind time pieces else p ∷ pieces) (p ∷ pieces)
       go more true ended =
           let stop : p.stop ≤ time = leb-true p.stop time ended in
-          more ∙ sym (passed p pieces (before p (omega (arith, stop, le))))
-      go more false goes = refl
+          let none : share p ≡ 0 = before p (omega (arith, stop, le)) in
+          (more.0 ∙ sym (adds p pieces none), more.1 ∙ sym (passed p pieces none))
+      go more false goes = (refl, refl)
 
   -- ---- what lies ahead of the end
 
@@ -119,27 +110,10 @@ module _ (whom : Whom) (from to : ℕ) where
       let more = none_left p.start pieces (omega (arith, le, start)) each.1 in
       (adds p pieces none ∙ more.0, passed p pieces none ∙ more.1)
 
-  pub ahead-time : (least : ℕ) (pieces : List Piece) → rise_from least pieces ≡ true
-      → time_in whom from to (ahead to pieces) ≡ time_in whom from to pieces
-  ahead-time least [] rises = refl
-  ahead-time least (p ∷ pieces) rises = go (ahead-time p.start pieces (and_parts
-      (nat_le least p.start) (rise_from p.start pieces) rises).1) (nat_le to p.start) refl
-    where
-      each : (nat_le least p.start ≡ true) × (rise_from p.start pieces ≡ true)
-      each = and_parts (nat_le least p.start) (rise_from p.start pieces) rises
-
-      go : time_in whom from to (ahead to pieces) ≡ time_in whom from to pieces → (b : Bool)
-          → nat_le to p.start ≡ b → time_in whom from to (if b then [] else p ∷ ahead to pieces)
-          ≡ time_in whom from to (p ∷ pieces)
-      go more true over =
-          let start : to ≤ p.start = leb-true to p.start over in
-          sym (adds p pieces (after p start) ∙ (none_left p.start pieces start each.1).0)
-      go more false goes = ap (λ n. share p + n) more
-
-  pub ahead-name : (least : ℕ) (pieces : List Piece) → rise_from least pieces ≡ true
-      → named (ahead to pieces) ≡ named pieces
-  ahead-name least [] rises = refl
-  ahead-name least (p ∷ pieces) rises = go (ahead-name p.start pieces (and_parts
+  ahead-same : (least : ℕ) (pieces : List Piece) → rise_from least pieces ≡ true
+      → Same (ahead to pieces) pieces
+  ahead-same least [] rises = (refl, refl)
+  ahead-same least (p ∷ pieces) rises = go (ahead-same p.start pieces (and_parts
       (nat_le least p.start) (rise_from p.start pieces) rises).1) (nat_le to p.start) refl
     where
       each : (nat_le least p.start ≡ true) × (rise_from p.start pieces ≡ true)
@@ -153,28 +127,29 @@ module _ (whom : Whom) (from to : ℕ) where
       split true rest = refl
       split false rest = refl
 
-      go : named (ahead to pieces) ≡ named pieces → (b : Bool) → nat_le to p.start ≡ b
-          → named (if b then [] else p ∷ ahead to pieces) ≡ named (p ∷ pieces)
+      go : Same (ahead to pieces) pieces → (b : Bool) → nat_le to p.start ≡ b
+          → Same (if b then [] else p ∷ ahead to pieces) (p ∷ pieces)
       go more true over =
           let start : to ≤ p.start = leb-true to p.start over in
-          sym (passed p pieces (after p start) ∙ (none_left p.start pieces start each.1).1)
+          let left = none_left p.start pieces start each.1 in (
+            sym (adds p pieces (after p start) ∙ left.0),
+            sym (passed p pieces (after p start) ∙ left.1),
+          )
       go more false goes =
           let here = nat_lt 0 (share p) in
-          let seen = λ (qs : List Piece). find (λ q. nat_lt 0 (share q)) qs in
-          split here (seen (ahead to pieces)) ∙ ap (name here) more ∙ sym (split here (seen pieces))
+          let seen = λ (qs : List Piece). find (λ q. nat_lt 0 (share q)) qs in (
+            ap (λ n. share p + n) more.0,
+            split here (seen (ahead to pieces)) ∙ ap (name here) more.1
+                ∙ sym (split here (seen pieces)),
+          )
 
   -- both, where the pieces rise, or the first alone
-  near-time : (b : Bool) (time : ℕ) (pieces : List Piece) → rise_from 0 pieces ≡ b → time ≤ from
-      → time_in whom from to (near b to (behind time pieces)) ≡ time_in whom from to pieces
-  near-time true time pieces rises le = ahead-time 0 (behind time pieces)
-      (behind-rises time pieces rises) ∙ behind-time time pieces le
-  near-time false time pieces rises le = behind-time time pieces le
-
-  near-name : (b : Bool) (time : ℕ) (pieces : List Piece) → rise_from 0 pieces ≡ b → time ≤ from
-      → named (near b to (behind time pieces)) ≡ named pieces
-  near-name true time pieces rises le = ahead-name 0 (behind time pieces)
-      (behind-rises time pieces rises) ∙ behind-name time pieces le
-  near-name false time pieces rises le = behind-name time pieces le
+  near-same : (b : Bool) (time : ℕ) (pieces : List Piece) → rise_from 0 pieces ≡ b → time ≤ from
+      → Same (near b to (behind time pieces)) pieces
+  near-same true time pieces rises le =
+      let first = ahead-same 0 (behind time pieces) (behind-rises time pieces rises) in
+      let rest = behind-same time pieces le in (first.0 ∙ rest.0, first.1 ∙ rest.1)
+  near-same false time pieces rises le = behind-same time pieces le
 
 -- what is seen of a job is seen in the pieces near it
 pub seen-near : (promise : Promise) (level end : ℕ) (pieces : List Piece) (past : List TraceJob)
@@ -187,39 +162,14 @@ seen-near promise level end pieces past job =
     let ready = ready_by promise job in
     let at : job.arrival ≤ job.arrival = omega (arith) in
     let soon : job.arrival ≤ ready = omega (arith) in
+    let below = near-same (Below level) ready to b job.arrival pieces refl soon in
+    let foreign = near-same Foreign ready to b job.arrival pieces refl soon in
     rw (
-      near-time (Job (length past)) job.arrival to b job.arrival pieces refl at,
-      near-time (Below level) ready to b job.arrival pieces refl soon,
-      near-name (Below level) ready to b job.arrival pieces refl soon,
-      near-time Foreign ready to b job.arrival pieces refl soon,
-      near-name Foreign ready to b job.arrival pieces refl soon,
-      near-time Anyone ready to b job.arrival pieces refl soon,
+      (near-same (Job (length past)) job.arrival to b job.arrival pieces refl at).0,
+      below.0,
+      below.1,
+      foreign.0,
+      foreign.1,
+      (near-same Anyone ready to b job.arrival pieces refl soon).0,
     )
     refl
-
--- ---- the first that begins at a time or after it
-
--- stands past the end of a list of pieces
-abbrev pub no_piece : Piece
-no_piece = record { line = 0; name = []; level = None; job = None; start = 0; stop = 0 }
-
-abbrev pub begins : ℕ → Piece → Bool
-begins time p = nat_le time p.start
-
-pub all-ahead : (time : ℕ) (pieces : List Piece) (d : Piece)
-    → ((k : ℕ) → k < length pieces → begins time (get_or pieces k d) ≡ false)
-    → ahead time pieces ≡ pieces
-all-ahead time [] d none = refl
-all-ahead time (p ∷ pieces) d none =
-    rw (none 0 (omega (arith)))
-    (ap (λ qs. p ∷ qs) (all-ahead time pieces d (λ k lt. none (suc k) (omega (arith, lt)))))
-
-pub some-ahead : (time : ℕ) (pieces : List Piece) (count : ℕ) (d : Piece) → count < length pieces
-    → begins time (get_or pieces count d) ≡ true
-    → ((k : ℕ) → k < count → begins time (get_or pieces k d) ≡ false)
-    → take count pieces ≡ ahead time pieces
-some-ahead time [] count d lt here none = absurd (omega (arith, lt))
-some-ahead time (p ∷ pieces) zero d lt here none = rw here refl
-some-ahead time (p ∷ pieces) (suc count) d lt here none =
-    rw (none 0 (omega (arith))) (ap (λ qs. p ∷ qs) (some-ahead time pieces count d
-    (omega (arith, lt)) here (λ k below. none (suc k) (omega (arith, below)))))

@@ -1,5 +1,5 @@
 -- The tasks of places.
-use Rattle.std.proofs.Common.{◌≡◌, ℕ, zero, suc, ◌<◌, ◌≤◌}
+use Rattle.std.proofs.Common.{◌≡◌, ℕ, zero, suc, ◌<◌}
 use Rattle.std.proofs.Common.{List, [], ◌∷◌, length, get_or, All, sym, ◌∙◌}
 use Rattle.std.proofs.Common.{ap₂, subst, arith}
 use Rattle.std.proofs.lemmas.List.{get_or_default}
@@ -9,11 +9,6 @@ use Rattle.task_sheet.specs.Orders.{all_of, IsOrder}
 use Rattle.task_sheet.proofs.IndexLaws.{order-below}
 use Rattle.assignment.specs.Places.{PlaceData}
 use Rattle.assignment.specs.Placings.{IsBestPlacing, tasks_of_places}
-
--- within a number, and so within a greater one
-pub places-within : (n m : ℕ) (places : List PlaceData) → n ≤ m
-    → All (λ (p : PlaceData). p.task < n) places → All (λ (p : PlaceData). p.task < m) places
-places-within n m places le all k d lt = omega (arith, all k d lt)
 
 -- within a number behind the first, too
 pub rest-within : (n : ℕ) (places above : List PlaceData) (p : PlaceData) → places ≡ p ∷ above

@@ -19,6 +19,10 @@ no-other : (line : Option ℕ) (e : TraceFault) → ((l : ℕ) → e ≡ fault.N
 no-other None e other is = cc
 no-other (Some l) e other is = other l cc
 
+abbrev homeless : List Task → List PlaceData → TraceLines → Option ℕ
+homeless U places trace =
+    homeless_line (pieces_of (promises_of U places) trace.jobs.items trace.slices.items)
+
 -- a refusal of the trace of a set, in its best order
 pub fault-shown : (U : List Task) (found : Result (List TraceRow) ℕ) (places : List PlaceData)
     (trace : TraceLines) (e : TraceFault) → AreInputs U found places trace
@@ -26,14 +30,10 @@ pub fault-shown : (U : List Task) (found : Result (List TraceRow) ℕ) (places :
 fault-shown U found places trace fault.OutOfMemory inputs why = tt
 fault-shown U found places trace (fault.NoJob line) inputs why = (places, trace, inputs, why)
 fault-shown U found places trace (fault.BadLine line) inputs why =
-    absurd (no-other (homeless_line (pieces_of (promises_of U places) trace.jobs.items
-    trace.slices.items)) (fault.BadLine line) (λ l is. cc) why)
+    absurd (no-other (homeless U places trace) (fault.BadLine line) (λ l is. cc) why)
 fault-shown U found places trace (fault.SliceOverlap line) inputs why =
-    absurd (no-other (homeless_line (pieces_of (promises_of U places) trace.jobs.items
-    trace.slices.items)) (fault.SliceOverlap line) (λ l is. cc) why)
+    absurd (no-other (homeless U places trace) (fault.SliceOverlap line) (λ l is. cc) why)
 fault-shown U found places trace (fault.JobUnsorted line) inputs why =
-    absurd (no-other (homeless_line (pieces_of (promises_of U places) trace.jobs.items
-    trace.slices.items)) (fault.JobUnsorted line) (λ l is. cc) why)
+    absurd (no-other (homeless U places trace) (fault.JobUnsorted line) (λ l is. cc) why)
 fault-shown U found places trace fault.TooManyLines inputs why =
-    absurd (no-other (homeless_line (pieces_of (promises_of U places) trace.jobs.items
-    trace.slices.items)) fault.TooManyLines (λ l is. cc) why)
+    absurd (no-other (homeless U places trace) fault.TooManyLines (λ l is. cc) why)

@@ -11,7 +11,7 @@ use Rattle.ceiling_kernel.specs.declared.trace.JobRecord.{JobRecord}
 use Rattle.pieces.specs.Bands.{job_of, is_of, joins, next_of, band_of, is_within, is_behind}
 use Rattle.pieces.specs.Bands.{holds_job}
 use Rattle.pieces.specs.Laws.{counted_at, CountOnce}
-use Rattle.pieces.proofs.PlaceLaws.{next_behind, next_within, place_of}
+use Rattle.pieces.proofs.PlaceLaws.{next_within, place_of}
 use Rattle.pieces.proofs.BandSums.{zeros, ones, same_sum, swapped, single, stretched, passing}
 
 abbrev one_if : Bool → ℕ
@@ -63,17 +63,15 @@ share_sum gap jobs n lt = by (joins gap jobs n) refl
     by false h =
         let next = next_of gap jobs n in
         let name = (job_of jobs n).name in
-        let from : n + 1 ≤ next = next_behind gap jobs name (n + 1) (length jobs - (n + 1)) in
-        let upto : next ≤ (n + 1) + (length jobs - (n + 1)) =
-        next_within gap jobs name (n + 1) (length jobs - (n + 1)) in
-        let within : next ≤ length jobs = omega (arith, upto, lt) in
+        let bounds = next_within gap jobs name (n + 1) (length jobs - (n + 1)) in
+        let within : next ≤ length jobs = omega (arith, bounds.1, lt) in
         let room : next - n ≤ length (drop n jobs) =
         rw (length-drop n jobs) (omega (arith, within)) in
         ap (λ (b : Bool). if b then 0 else length (band_of gap jobs n)) h
         ∙ passing (is_of name) (drop n jobs) no_record (next - n) room
         ∙ same_sum (next - n) (λ j. one_if (is_of name (get_or (drop n jobs) j no_record)))
         (λ j. share gap jobs n (n + j)) (λ j below. share_within gap jobs n j h below)
-        ∙ sym (stretched n next (length jobs) (share gap jobs n) (omega (arith, from)) within
+        ∙ sym (stretched n next (length jobs) (share gap jobs n) (omega (arith, bounds.0)) within
         (share_before gap jobs n) (share_behind gap jobs n))
 
 -- one place holds each job

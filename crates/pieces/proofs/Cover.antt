@@ -1,8 +1,9 @@
 -- Each tick lies in one piece.
 use Rattle.std.proofs.Common.{◌≡◌, ◌⊎◌, inl, inr, ℕ, ◌+◌, ◌-◌, ◌<◌, ◌≤◌, List, [], ◌∷◌, Option}
-use Rattle.std.proofs.Common.{Some, None, Bool, true, false, nat_lt, min, max, refl, sym, ◌∙◌}
+use Rattle.std.proofs.Common.{Some, None, true, false, nat_lt, min, max, refl, sym, ◌∙◌}
 use Rattle.std.proofs.Common.{subst, arith}
-use Rattle.std.proofs.lemmas.Bool.{cases_lt}
+use Rattle.std.specs.Option.{unwrap_or}
+use Rattle.std.proofs.lemmas.Bool.{cases_Bool, cases_lt}
 use Rattle.std.proofs.lemmas.Option.{none-some}
 use Rattle.ceiling_kernel.specs.declared.trace.Slice.{Slice}
 use Rattle.ceiling_kernel.specs.Tick.{Node, Job, job_at, executed_before, picked}
@@ -32,25 +33,21 @@ within : (from to t : ℕ) (slices : List Slice) → from ≤ t → t < to
     → holding t (pieces_of from to slices) ≡ holding t slices
 within from to t [] lo hi = refl
 within from to t (s ∷ slices) lo hi =
-    by (nat_lt (max s.start from) (min s.stop to)) refl (within from to t slices lo hi)
-  where
-    by : (b : Bool) → nat_lt (max s.start from) (min s.stop to) ≡ b
-        → holding t (pieces_of from to slices) ≡ holding t slices
-        → holding t (pieces_of from to (s ∷ slices)) ≡ holding t (s ∷ slices)
-    by true h rest = rw h (rw (holds_within from to t s lo hi) (rw rest refl))
-    by false h rest = rw h (rw (holds_some from to t s lo hi h) rest)
+    let rest = within from to t slices lo hi in
+    elim (cases_Bool (nat_lt (max s.start from) (min s.stop to))) [
+      | inl h ↦ rw (h, holds_within from to t s lo hi, rest) refl
+      | inr h ↦ rw (h, holds_some from to t s lo hi h) rest
+    ]
 
 outside : (from to t : ℕ) (slices : List Slice) → (t < from) ⊎ (to ≤ t)
     → holding t (pieces_of from to slices) ≡ 0
 outside from to t [] out = refl
 outside from to t (s ∷ slices) out =
-    by (nat_lt (max s.start from) (min s.stop to)) refl (outside from to t slices out)
-  where
-    by : (b : Bool) → nat_lt (max s.start from) (min s.stop to) ≡ b
-        → holding t (pieces_of from to slices) ≡ 0
-        → holding t (pieces_of from to (s ∷ slices)) ≡ 0
-    by true h rest = rw h (rw (holds_outside from to t s out) rest)
-    by false h rest = rw h rest
+    let rest = outside from to t slices out in
+    elim (cases_Bool (nat_lt (max s.start from) (min s.stop to))) [
+      | inl h ↦ rw (h, holds_outside from to t s out) rest
+      | inr h ↦ rw h rest
+    ]
 
 -- ---- slices
 holds_later : (t : ℕ) (s : Slice) → t < s.start → holds t s ≡ false
@@ -85,46 +82,33 @@ one_of run from until t p (s ∷ slices) runs lo hi picks = elim (cases_lt t s.s
 ]
 
 -- ---- jobs
+done_grows : (node : Node) (jobs : List Job) (j f g : ℕ) → f ≤ g
+    → executed_before node jobs f j ≤ executed_before node jobs g j
+done_grows node jobs j f g le = (let at : f + (g - f) ≡ g = omega (arith, le) in
+    subst (λ t. executed_before node jobs f j ≤ executed_before node jobs t j) at
+    (grows_by node jobs j f (g - f)))
+
 -- a job lacks some of its ticks up to its finish
 lacks : (node : Node) (jobs : List Job) (until j t : ℕ) → 0 < (job_at jobs j).executes
     → t < end_of node jobs until j
     → (executed_before node jobs t j < (job_at jobs j).executes) × (t < until)
 lacks node jobs until j t some = elim (finish_before node jobs until j) as
-    (λ o. finish_before node jobs until j ≡ o → t < end_of node jobs until j
+    (λ o. finish_before node jobs until j ≡ o → t < unwrap_or o until
     → (executed_before node jobs t j < (job_at jobs j).executes) × (t < until)) [
-      | None ↦ λ e lt.
-          let hi : t < until = subst (λ n. t < n) (ended_none e) lt in
-          let grown : executed_before node jobs t j ≤ executed_before node jobs (t + (until - t)) j =
-          grows_by node jobs j t (until - t) in
-          let same : t + (until - t) ≡ until = omega (arith, hi) in
-          let last : executed_before node jobs until j < (job_at jobs j).executes =
-          unfinished_is node jobs j until some e in (
-            less (executed_before node jobs t j) (executed_before node jobs until j)
-                (job_at jobs j).executes (subst (λ n. executed_before node jobs t j
-                ≤ executed_before node jobs n j) same grown) last,
-            hi,
-          )
-      | Some f ↦ λ e lt.
-          let hi : t < f = subst (λ n. t < n) (ended_some f e) lt in
-          let is = finish_is node jobs j until f some e in
-          let grown : executed_before node jobs t j ≤ executed_before node jobs (t + (f - 1 - t)) j =
-          grows_by node jobs j t (f - 1 - t) in
-          let same : t + (f - 1 - t) ≡ f - 1 = omega (arith, hi) in (
-            less (executed_before node jobs t j) (executed_before node jobs (f - 1) j)
-                (job_at jobs j).executes (subst (λ n. executed_before node jobs t j
-                ≤ executed_before node jobs n j) same grown) is.1.before,
+      | None ↦ λ e hi. (
+        omega (
+          arith,
+          done_grows node jobs j t until (omega (arith, hi)),
+          unfinished_is node jobs j until some e,
+        ),
+        hi,
+      )
+      | Some f ↦ λ e hi.
+          let is = finish_is node jobs j until f some e in (
+            omega (arith, done_grows node jobs j t (f - 1) (omega (arith, hi)), is.1.before),
             omega (arith, hi, is.0),
           )
     ] refl
-  where
-    less : (a b c : ℕ) → a ≤ b → b < c → a < c
-    less a b c x y = omega (arith, x, y)
-
-    ended_none : finish_before node jobs until j ≡ None → end_of node jobs until j ≡ until
-    ended_none e = rw e refl
-
-    ended_some : (f : ℕ) → finish_before node jobs until j ≡ Some f → end_of node jobs until j ≡ f
-    ended_some f e = rw e refl
 
 pub covered : CoverOnce
 covered node jobs until j t is_job some = (

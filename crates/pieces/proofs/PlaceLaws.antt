@@ -3,67 +3,54 @@ use Rattle.std.proofs.Common.{◌≡◌, ◌⊎◌, inl, inr, ℕ, suc, zero, �
 use Rattle.std.proofs.Common.{Bool, true, false, not, Option, None, refl, sym, ap, ◌∙◌, subst}
 use Rattle.std.proofs.Common.{arith}
 use Rattle.std.specs.Prelude.{nat_lt, nat_le}
-use Rattle.std.proofs.lemmas.Bool.{both_ways, cases_lt, cases_order, and_parts, and_from, and_left}
-use Rattle.std.proofs.lemmas.Bool.{and_right, not-true, lt-ltb, le-leb, ltb-true, leb-true}
+use Rattle.std.proofs.lemmas.Bool.{both_ways, cases_Bool, cases_lt, cases_order, and_parts}
+use Rattle.std.proofs.lemmas.Bool.{and_from, and_left, and_right, not-true, lt-ltb, le-leb}
+use Rattle.std.proofs.lemmas.Bool.{ltb-true, leb-true}
 use Rattle.task_sheet.proofs.NameLaws.{same_own, same_is}
 use Rattle.ceiling_kernel.specs.declared.trace.JobRecord.{JobRecord}
 use Rattle.pieces.specs.Bands.{job_of, is_of, last_of, is_close, joins, begins, next_from, next_of}
 use Rattle.pieces.specs.Bands.{is_within, is_behind, holds_job}
 
 -- ---- where the next band begins
-here : (gap : ℕ) (jobs : List JobRecord) (name : List ℕ) (n more : ℕ)
+pub here : (gap : ℕ) (jobs : List JobRecord) (name : List ℕ) (n more : ℕ)
     → begins gap jobs name n ≡ true → next_from gap jobs name n (suc more) ≡ n
 unfolding next_from
 here gap jobs name n more h = rw h refl
 
-later : (gap : ℕ) (jobs : List JobRecord) (name : List ℕ) (n more : ℕ) → begins gap jobs name n
+pub later : (gap : ℕ) (jobs : List JobRecord) (name : List ℕ) (n more : ℕ) → begins gap jobs name n
     ≡ false → next_from gap jobs name n (suc more) ≡ next_from gap jobs name (n + 1) more
 unfolding next_from
 later gap jobs name n more h = rw h refl
 
-nowhere : (gap : ℕ) (jobs : List JobRecord) (name : List ℕ) (n : ℕ)
+pub nowhere : (gap : ℕ) (jobs : List JobRecord) (name : List ℕ) (n : ℕ)
     → next_from gap jobs name n 0 ≡ n
 unfolding next_from
 nowhere gap jobs name n = refl
 
-pub next_behind : (gap : ℕ) (jobs : List JobRecord) (name : List ℕ) (n more : ℕ)
-    → n ≤ next_from gap jobs name n more
-next_behind gap jobs name n zero = rw (nowhere gap jobs name n) (omega arith)
-next_behind gap jobs name n (suc more) =
-    by (begins gap jobs name n) refl (next_behind gap jobs name (n + 1) more)
-  where
-    by : (b : Bool) → begins gap jobs name n ≡ b → n + 1 ≤ next_from gap jobs name (n + 1) more
-        → n ≤ next_from gap jobs name n (suc more)
-    by true h rest = rw (here gap jobs name n more h) (omega arith)
-    by false h rest = rw (later gap jobs name n more h) (omega (arith, rest))
-
 pub next_within : (gap : ℕ) (jobs : List JobRecord) (name : List ℕ) (n more : ℕ)
-    → next_from gap jobs name n more ≤ n + more
-next_within gap jobs name n zero = rw (nowhere gap jobs name n) (omega arith)
+    → (n ≤ next_from gap jobs name n more) × (next_from gap jobs name n more ≤ n + more)
+next_within gap jobs name n zero = rw (nowhere gap jobs name n) (omega arith, omega arith)
 next_within gap jobs name n (suc more) =
-    by (begins gap jobs name n) refl (next_within gap jobs name (n + 1) more)
-  where
-    by : (b : Bool) → begins gap jobs name n ≡ b → next_from gap jobs name (n + 1) more
-        ≤ (n + 1) + more → next_from gap jobs name n (suc more) ≤ n + suc more
-    by true h rest = rw (here gap jobs name n more h) (omega arith)
-    by false h rest = rw (later gap jobs name n more h) (omega (arith, rest))
+    elim (cases_Bool (begins gap jobs name n)) [
+      | inl h ↦ rw (here gap jobs name n more h) (omega arith, omega arith)
+      | inr h ↦ (let rest = next_within gap jobs name (n + 1) more in
+          rw (later gap jobs name n more h) (omega (arith, rest.0), omega (arith, rest.1)))
+    ]
 
 -- no further than a place at which a band begins
 next_upto : (gap : ℕ) (jobs : List JobRecord) (name : List ℕ) (q n more : ℕ)
     → begins gap jobs name q ≡ true → n ≤ q → q < n + more → next_from gap jobs name n more ≤ q
 next_upto gap jobs name q n zero is lo hi = absurd (omega (arith, lo, hi))
-next_upto gap jobs name q n (suc more) is lo hi = by (begins gap jobs name n) refl (cases_lt n q)
-    (λ lt. next_upto gap jobs name q (n + 1) more is (omega (arith, lt)) (omega (arith, hi)))
-  where
-    by : (b : Bool) → begins gap jobs name n ≡ b → (n < q) ⊎ (q ≤ n)
-        → (n < q → next_from gap jobs name (n + 1) more ≤ q)
-        → next_from gap jobs name n (suc more) ≤ q
-    by true h at rest = rw (here gap jobs name n more h) lo
-    by false h (inl lt) rest = rw (later gap jobs name n more h) (rest lt)
-    by false h (inr ge) rest =
-        let at : q ≡ n = omega (arith, lo, ge) in
-        absurd (both_ways (begins gap jobs name n) h
-        (subst (λ (z : ℕ). begins gap jobs name z ≡ true) at is))
+next_upto gap jobs name q n (suc more) is lo hi =
+    elim (cases_Bool (begins gap jobs name n)) [
+      | inl h ↦ rw (here gap jobs name n more h) lo
+      | inr h ↦ elim (cases_lt n q) [
+        | inl lt ↦ rw (later gap jobs name n more h)
+            (next_upto gap jobs name q (n + 1) more is (omega (arith, lt)) (omega (arith, hi)))
+        | inr ge ↦ absurd (both_ways (begins gap jobs name n) h (subst (λ (z : ℕ).
+            begins gap jobs name z ≡ true) (let e : q ≡ n = omega (arith, lo, ge) in e) is))
+      ]
+    ]
 
 -- past a place up to which none begins
 next_past : (gap : ℕ) (jobs : List JobRecord) (name : List ℕ) (j n more : ℕ)
@@ -71,15 +58,14 @@ next_past : (gap : ℕ) (jobs : List JobRecord) (name : List ℕ) (j n more : �
     → j < next_from gap jobs name n more
 next_past gap jobs name j n zero clear lt = rw (nowhere gap jobs name n) (omega (arith, lt))
 next_past gap jobs name j n (suc more) clear lt =
-    by (begins gap jobs name n) refl (cases_lt j n) (next_past gap jobs name j (n + 1) more
-    (λ q lo hi. clear q (omega (arith, lo)) hi) (omega (arith, lt)))
-  where
-    by : (b : Bool) → begins gap jobs name n ≡ b → (j < n) ⊎ (n ≤ j)
-        → j < next_from gap jobs name (n + 1) more → j < next_from gap jobs name n (suc more)
-    by true h (inl below) rest = rw (here gap jobs name n more h) below
-    by true h (inr ge) rest =
-        absurd (both_ways (begins gap jobs name n) (clear n (omega arith) ge) h)
-    by false h at rest = rw (later gap jobs name n more h) rest
+    elim (cases_Bool (begins gap jobs name n)) [
+      | inr h ↦ rw (later gap jobs name n more h) (next_past gap jobs name j (n + 1) more
+          (λ q lo hi. clear q (omega (arith, lo)) hi) (omega (arith, lt)))
+      | inl h ↦ elim (cases_lt j n) [
+        | inl below ↦ rw (here gap jobs name n more h) below
+        | inr ge ↦ absurd (both_ways (begins gap jobs name n) (clear n (omega arith) ge) h)
+      ]
+    ]
 
 -- ---- the last band that begins below a place
 last_clear : (jobs : List JobRecord) (name : List ℕ) (n : ℕ)
@@ -248,6 +234,7 @@ place_of gap jobs j lt = elim (latest gap jobs (job_of jobs j).name (suc j)) [
 pub stands_first : (gap : ℕ) (jobs : List JobRecord) (j : ℕ) → joins gap jobs j ≡ false
     → holds_job gap jobs j j ≡ true
 stands_first gap jobs j apart =
-    let from : j + 1 ≤ next_of gap jobs j =
-    next_behind gap jobs (job_of jobs j).name (j + 1) (length jobs - (j + 1)) in
-    holding gap jobs j j apart (same_own (job_of jobs j).name) (omega arith) (omega (arith, from))
+    holding gap jobs j j apart (same_own (job_of jobs j).name) (omega arith) (omega (
+      arith,
+      (next_within gap jobs (job_of jobs j).name (j + 1) (length jobs - (j + 1))).0,
+    ))

@@ -19,8 +19,7 @@ fn slack_of(set: &TaskSet, entry: JudgedTask) -> u64
             let deadline = set.sheets()[entry.task].deadline();
             deadline.saturating_sub(response)
         }
-        Judgement::Misses => 0,
-        Judgement::Below { .. } => 0,
+        Judgement::Misses | Judgement::Below { .. } => 0,
     }
 }
 

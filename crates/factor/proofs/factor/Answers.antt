@@ -1,13 +1,16 @@
 use Rattle.std.proofs.Common.{◌+◌, ◌-◌, ◌/◌, arith}
 use Rattle.std.proofs.lemmas.Bool.{both_ways}
-use Rattle.factor.proofs.ScaledSets.{Scales-less, few-factor}
+use Rattle.task_sheet.specs.Orders.{IsFeasible}
+use Rattle.limits.proofs.EasierLaws.{IsFeasible-easier}
+use Rattle.factor.proofs.ScaledSets.{scales-less, few-factor}
 use Rattle.factor.proofs.factor.Goals as goal
 
 pub returns-then-not-branch-clause-answer : goal.returns-then-not-branch-clause-answer
 returns-then-not-branch-clause-answer c = λ factor may feasible.
     both_ways c.in_ok-passes_at.field-0 c.if-not-branch.true
-    (c.in_ok-passes_at.ensures.answer.1 (Scales-less c.args.set.now 1 factor
-    c.passes_at.ensures.kept (omega arith) may.some record { may = may; feasible = feasible }))
+    (c.in_ok-passes_at.ensures.answer.1 (scales-less IsFeasible IsFeasible-easier c.args.set.now
+    c.passes_at.ensures.kept 1 factor (omega arith) may.some
+    record { may = may; feasible = feasible }))
 
 pub loop-failing-init : goal.loop-failing-init
 loop-failing-init c = record {
@@ -31,8 +34,8 @@ loop-failing-preserved c =
       scales = inv.scales;
       some = inv.some;
       fails = λ more le scales. both_ways c.in_ok-passes_at-2.field-0 c.if-branch.false
-          (c.in_ok-passes_at-2.ensures.answer.1 (Scales-less c.args.set.now middle more
-          c.passes_at.ensures.kept (omega (arith, inv.some)) le scales));
+          (c.in_ok-passes_at-2.ensures.answer.1 (scales-less IsFeasible IsFeasible-easier
+          c.args.set.now c.passes_at.ensures.kept middle more (omega (arith, inv.some)) le scales));
       apart = omega (arith, c.loop-failing-test.true);
       short = omega (arith, inv.short, c.loop-failing-test.true);
     }

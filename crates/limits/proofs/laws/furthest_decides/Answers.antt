@@ -1,10 +1,15 @@
+use Rattle.task_sheet.specs.Orders.{IsFeasible}
+use Rattle.limits.proofs.EasierLaws.{IsFeasible-easier}
 use Rattle.limits.proofs.NumberLaws.{furthest-each, furthest-own, furthest-one, furthest-none}
 use Rattle.limits.proofs.laws.furthest_decides.Goals as goal
 
 pub returns : goal.returns
 returns c = record {
-  each = furthest-each;
-  own = λ U i number most set inside has is. furthest-own U i number most set inside is;
-  one = furthest-one;
-  none = λ U i number set inside has none. furthest-none U i number set inside none;
+  each = λ U i number most value set inside.
+      furthest-each IsFeasible IsFeasible-easier U i number set inside most value;
+  own = λ U i number most set inside has.
+      furthest-own IsFeasible IsFeasible-easier U i number set inside most;
+  one = furthest-one IsFeasible;
+  none = λ U i number set inside has.
+      furthest-none IsFeasible IsFeasible-easier U i number set inside;
 }

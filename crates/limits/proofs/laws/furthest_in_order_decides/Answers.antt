@@ -1,10 +1,15 @@
-use Rattle.limits.proofs.NumberLaws.{in_order-each, in_order-own, in_order-one, in_order-within}
+use Rattle.task_sheet.specs.Orders.{IsPassingOrder}
+use Rattle.limits.proofs.EasierLaws.{IsPassingOrder-easier}
+use Rattle.limits.proofs.NumberLaws.{furthest-each, furthest-own, furthest-one, in_order-within}
 use Rattle.limits.proofs.laws.furthest_in_order_decides.Goals as goal
 
 pub returns : goal.returns
 returns c = record {
-  each = in_order-each;
-  own = λ U order i number most set inside _. in_order-own U order i number most set inside;
-  one = in_order-one;
+  each = λ U order i number most value set inside. furthest-each (λ V. IsPassingOrder V order)
+      (λ V U easy valid. IsPassingOrder-easier V U easy valid order) U i number set inside most
+      value;
+  own = λ U order i number most set inside has. furthest-own (λ V. IsPassingOrder V order)
+      (λ V U easy valid. IsPassingOrder-easier V U easy valid order) U i number set inside most;
+  one = λ U order. furthest-one (λ V. IsPassingOrder V order) U;
   within = in_order-within;
 }

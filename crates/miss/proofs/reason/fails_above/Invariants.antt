@@ -4,5 +4,5 @@ use Rattle.miss.specs.Shown.{PassesThere}
 use Rattle.miss.proofs.reason.fails_above.Given as goal
 
 abbrev pub invariant-loop-higher : goal.invariant-loop-higher
-invariant-loop-higher l = (q : ℕ) → l.place < q → q < l.higher
-    → PassesThere (node_in l.set l.order) (get_or l.order q 0)
+invariant-loop-higher l = (q : ℕ) → q < l.higher-index
+    → PassesThere (node_in l.set l.order) (get_or l.higher-items q 0)

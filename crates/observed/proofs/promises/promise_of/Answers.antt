@@ -1,16 +1,16 @@
-use Rattle.std.proofs.Common.{◌≡◌, ◌∙◌, ℕ, List, length, ap, ap₂}
+use Rattle.std.proofs.Common.{◌≡◌, ◌∙◌, ℕ, List, ap, ap₂, arith}
 use Rattle.task_sheet.specs.Sheet.{Task, task_at}
 use Rattle.task_sheet.specs.Indexes.{Indexes, among}
 use Rattle.task_sheet.specs.Demand.{blocking_of}
 use Rattle.assignment.specs.Places.{PlaceData}
 use Rattle.assignment.specs.Placings.{tasks_of_places}
 use Rattle.observed.specs.Promises.{promised}
-use Rattle.observed.proofs.PlaceLaws.{places-within, sheet-at}
+use Rattle.observed.proofs.PlaceLaws.{sheet-at}
 use Rattle.observed.proofs.promises.promise_of.Goals as goal
 
 pub members_at-requires : goal.members_at-requires
-members_at-requires c =
-    places-within (length c.args.set.now) 32 c.args.above.now c.sheets.ensures.kept.few c.requires.others
+members_at-requires c = λ k d lt.
+    omega (arith, c.requires.others k d lt, c.sheets.ensures.kept.few)
 
 pub returns : goal.returns
 returns c =

@@ -2,10 +2,14 @@ use Rattle.std.proofs.Common.{◌<◌, length, subst, arith}
 use Rattle.task_sheet.specs.Sheet.{task_at}
 use Rattle.task_sheet.proofs.TaskLaws.{valid_at}
 use Rattle.limits.specs.Numbers.{HasNumber}
-use Rattle.limit_lines.proofs.text.push_values.Goals as goal
+use Rattle.limit_lines.proofs.text.push_number.Goals as goal
 
 pub push_label-requires : goal.push_label-requires
 push_label-requires c = λ place is.
     let t = task_at c.args.set.now c.args.task in
     let inside : place < length t.sections = subst (λ n. HasNumber t n) is c.requires.has in
-    omega (arith, inside, (valid_at c.args.set.now c.args.task c.requires.kept c.requires.task).few)
+    omega (
+      arith,
+      inside,
+      (valid_at c.args.set.now c.args.task c.sheets.ensures.kept c.requires.task).few,
+    )
