@@ -66,21 +66,6 @@ IsGathering-fail U L given answers taken fails fails' n reason valid so member i
           subst (λ fs. AllFailures U L fs) (sym is') (AllFailures-push U L fails _ so.each failure);
     }
 
-pub IsGathering-chosen : (U : List Task) (L : Indexes) (given answers : List (Option Outcome))
-    (fails : List FailureData) (n r : ℕ) → IsGathering U L given answers fails n → IsTrue (L n)
-    → IsFalse (is_bound U n (without_index L n)) → IsResponseOf U n (without_index L n) r
-    → r ≤ (task_at U n).deadline → IsChosen U L n
-    × IsLevel U L (record { task = n; response = r; fails = fails })
-IsGathering-chosen U L given answers fails n r so member free response within = (
-  record {
-    member = member;
-    stands =
-        stands_by_response U n (without_index L n) r free response within;
-    first = so.stuck;
-  },
-  record { response = response; lesser = so.ranked; fails = so.each },
-)
-
 pub IsGathering-all : (U : List Task) (L : Indexes) (given answers : List (Option Outcome))
     (fails : List FailureData) → IsGathering U L given answers fails (length U)
     → IsPart L (all_of U) → (k : ℕ) × IsTrue (L k) → IsObstructed U L fails

@@ -20,20 +20,6 @@ pub record NoneBelow (l : LevelState) (n : ℕ) : Type 0 where
   pub stuck : (j : ℕ) → j < n → IsTrue (contains l.left j)
       → ¬ Stands l.set j (without_index (indexes_of l.left) j)
 
-pub IsDecided-missing : (l : LevelState) (k : ℕ) → NoneBelow l k → IsTrue (contains l.left k)
-    → IsTrue (contains l.missing k) → ¬ IsDecided l
-IsDecided-missing l k none member missing decided =
-    elim decided [
-      | inl all ↦ both_ways (contains l.missing k) (all k member) missing
-      | inr some ↦ elim (cases_order k some.0) [
-        | inl e ↦ both_ways (contains l.missing k) (rw e some.1.found) missing
-        | inr apart ↦ elim apart [
-          | inl lt ↦ both_ways (contains l.missing k) (some.1.lesser k lt member) missing
-          | inr lt ↦ none.stuck some.0 lt some.1.candidate some.1.stands
-        ]
-      ]
-    ]
-
 pub IsDecided-standing : (l : LevelState) (k : ℕ) → NoneBelow l k → IsTrue (contains l.left k)
     → IsFalse (contains l.missing k) → Stands l.set k (without_index (indexes_of l.left) k)
     → IsDecided l

@@ -34,9 +34,3 @@ pub steps-fewer : (old new : ClimbState) → old.stuck ≡ false → IsPlaced ol
     → steps_left new < steps_left old
 steps-fewer old new goes_on (inl placed) = steps-placed old new goes_on placed
 steps-fewer old new goes_on (inr ended) = steps-ended old new goes_on ended
-
-pub steps-closed : (old : ClimbState) (level : LevelState) (new : ClimbState)
-    (result : Result (Unit {0}) ClimbFault) → is_err result ≡ false
-    → ClosesLevel old level new result → steps_left new < steps_left old
-steps-closed old level new (Ok done) is closed = steps-fewer old new closed.0.goes_on closed.2
-steps-closed old level new (Err fault) is closed = absurd (both_ways true is refl)
