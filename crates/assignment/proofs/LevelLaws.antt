@@ -1,59 +1,42 @@
--- When a level is decided.
-use Rattle.std.proofs.Common.{◌≡◌, ◌↔◌, ℕ, ◌+◌, ◌<◌, ◌&&◌, not, inl, inr, List, get_or, Option}
-use Rattle.std.proofs.Common.{None, Some, is_some, IsTrue, IsFalse, ◌∙◌, ap, subst, below_more}
-use Rattle.std.specs.Ordering.{nat_cmp}
-use Rattle.std.specs.FinSet.{FinSet, contains}
-use Rattle.std.proofs.lemmas.Bool.{cases_order, both_ways}
-use Rattle.std.proofs.Math.Bool.{and-false}
-use Rattle.task_sheet.specs.Sheet.{Task}
+-- What a right answer says of a task: it may stand with a response in time, and it may not for a reason.
+use Rattle.std.proofs.Common.{◌↔◌, ℕ, ◌≤◌, false, List, IsTrue, IsFalse, refl, arith}
+use Rattle.std.proofs.lemmas.Bool.{both_ways}
+use Rattle.task_sheet.specs.Sheet.{Task, task_at}
 use Rattle.task_sheet.specs.TaskSet.{IsTaskSet}
-use Rattle.task_sheet.specs.Indexes.{Indexes, indexes_of, without_index}
-use Rattle.task_sheet.specs.Orders.{Stands}
+use Rattle.task_sheet.specs.Indexes.{Indexes}
+use Rattle.task_sheet.specs.Demand.{past_jitter, IsResponseOf}
+use Rattle.task_sheet.specs.Orders.{is_bound, Stands}
+use Rattle.task_sheet.specs.Verdicts.{ReasonData, IsReason}
+use Rattle.assignment.specs.Outcomes.{reason_of, IsOutcome}
 use Rattle.assignment.specs.declared.outcome.Outcome.{Outcome}
-use Rattle.assignment.specs.Levels.{LevelState, IsDecided, IsRightAt, AreRight, AreMissing}
+use Rattle.assignment.specs.declared.outcome.Outcome.TheVariants.{Pass, Fail}
+use Rattle.task_sheet.proofs.TaskLaws.{AllTasks-from_set}
+use Rattle.task_sheet.proofs.PassingLaws.{Refutes-fails, Refutes-from_reason}
 use Rattle.assignment.specs.Levels.{lets_stand}
-use Rattle.assignment.proofs.AnswerLaws.{lets_stand-iff}
 
--- each candidate below n has a finding, by which it may not stand
-pub record NoneBelow (l : LevelState) (n : ℕ) : Type 0 where
-  pub found : (j : ℕ) → j < n → IsTrue (contains l.left j) → IsFalse (contains l.missing j)
-  pub stuck : (j : ℕ) → j < n → IsTrue (contains l.left j)
-      → ¬ Stands l.set j (without_index (indexes_of l.left) j)
+pub stands_by_response : (U : List Task) (i : ℕ) (H : Indexes) (r : ℕ) → IsFalse (is_bound U i H)
+    → IsResponseOf U i H r → r ≤ (task_at U i).deadline → Stands U i H
+stands_by_response U i H r free response within = (
+  (
+    past_jitter (task_at U i) r,
+    response.positive,
+    omega (arith, within),
+    omega (arith, response.fixed),
+  ),
+  free,
+)
 
-pub IsDecided-standing : (l : LevelState) (k : ℕ) → NoneBelow l k → IsTrue (contains l.left k)
-    → IsFalse (contains l.missing k) → Stands l.set k (without_index (indexes_of l.left) k)
-    → IsDecided l
-IsDecided-standing l k none member found stands =
-    inr (k, record { candidate = member; found = found; stands = stands; lesser = none.found })
+pub fails_by_reason : (U : List Task) (i : ℕ) (H : Indexes) (reason : ReasonData) → IsTaskSet U
+    → IsReason U i H reason → ¬ Stands U i H
+fails_by_reason U i H reason valid is =
+    Refutes-fails U (AllTasks-from_set U valid) i H reason (Refutes-from_reason U i H reason is)
 
-pub NoneBelow-skip : (l : LevelState) (k : ℕ) → NoneBelow l k → IsFalse (contains l.left k)
-    → NoneBelow l (k + 1)
-NoneBelow-skip l k none out = record {
-  found = below_more (λ j. IsTrue (contains l.left j) → IsFalse (contains l.missing j)) k none.found
-      (λ member. absurd (both_ways (contains l.left k) out member));
-  stuck = below_more (λ j. IsTrue (contains l.left j)
-      → ¬ Stands l.set j (without_index (indexes_of l.left) j)) k none.stuck
-      (λ member. absurd (both_ways (contains l.left k) out member));
-}
-
-pub NoneBelow-fail : (l : LevelState) (k : ℕ) → NoneBelow l k → IsFalse (contains l.missing k)
-    → ¬ Stands l.set k (without_index (indexes_of l.left) k) → NoneBelow l (k + 1)
-NoneBelow-fail l k none found stuck = record {
-  found = below_more (λ j. IsTrue (contains l.left j) → IsFalse (contains l.missing j)) k none.found
-      (λ _. found);
-  stuck = below_more (λ j. IsTrue (contains l.left j)
-      → ¬ Stands l.set j (without_index (indexes_of l.left) j)) k none.stuck (λ _. stuck);
-}
-
--- ---- a candidate whose answer is known
-pub known-found : (left missing : FinSet nat_cmp) (answers : List (Option Outcome)) (k : ℕ)
-    (answer : Outcome) → AreMissing left missing answers → get_or answers k None ≡ Some answer
-    → IsFalse (contains missing k)
-known-found left missing answers k answer are known = are k
-    ∙ ap (λ (o : Option Outcome). contains left k && not (is_some o)) known ∙ and-false _
-
-pub known-stands : (U : List Task) (L : Indexes) (answers : List (Option Outcome)) (k : ℕ)
-    (answer : Outcome) → IsTaskSet U → AreRight U L answers → get_or answers k None ≡ Some answer
-    → IsTrue (lets_stand answer) ↔ Stands U k (without_index L k)
-known-stands U L answers k answer valid are known = lets_stand-iff U k (without_index L k) answer
-    valid (subst (λ o. IsRightAt U L k o) known (are.right k))
+pub lets_stand-iff : (U : List Task) (i : ℕ) (H : Indexes) (answer : Outcome) → IsTaskSet U
+    → IsOutcome U i H answer → IsTrue (lets_stand answer) ↔ Stands U i H
+lets_stand-iff U i H (Pass response) valid right =
+    (λ _. stands_by_response U i H response right.0 right.1 right.2, λ _. refl)
+lets_stand-iff U i H (Fail reason) valid right = (
+  λ so. absurd (both_ways false refl so),
+  λ stands.
+      absurd (fails_by_reason U i H (reason_of reason) valid right stands),
+)
