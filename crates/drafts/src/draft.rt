@@ -83,6 +83,7 @@ fn is_put(change: &Change) -> bool
 }
 
 // Puts a change in the place of the one on its name, or last. Where memory runs out, the change is handed back.
+#[tactic(auto, using(crate::proofs::ChangeLaws::recorded_few, crate::proofs::ChangeLaws::recorded_named))]
 fn record(changes: &mut IndexMap<Name, Change>, name: Name, change: Change) -> Result<(), Change>
     ensures ok { OnOk result (changes.new.entries ≡ recorded name change changes.old.entries) }
     ensures few { is_full name changes.old.entries ≡ false
@@ -99,6 +100,7 @@ fn record(changes: &mut IndexMap<Name, Change>, name: Name, change: Change) -> R
 }
 
 // Copies the change at a place behind those before it.
+#[tactic(auto, using(crate::proofs::ChangeLaws::recorded_next))]
 fn copy_at(
     alloc: Global,
     changes: &IndexMap<Name, Change>,
@@ -205,6 +207,7 @@ impl Draft {
     }
 
     /// Whether one of the changes is a put. What they come to has a task then, where they apply.
+    #[tactic(auto, using(crate::proofs::PutLaws::put_step, crate::proofs::PutLaws::put_tasks))]
     pub fn has_put(&self) -> bool
         ensures same { result ≡ has_put self.now.changes }
         ensures tasks { IsTrue result → HasTasks (on_base self.now) }
@@ -313,6 +316,7 @@ impl Draft {
     }
 
     /// Removes the task of a name. Refused in this order: `NoSuchTask`, `NotYours`, `DraftFull`.
+    #[tactic(auto, using(crate::proofs::ChangeLaws::dropped_few, crate::proofs::ChangeLaws::dropped_named))]
     pub fn remove(&mut self, name: Name) -> Result<(), EditCause>
         ensures ok { OnOk result (after_remove self.old name ≡ Ok self.new.changes) }
         ensures team { self.new.team ≡ self.old.team }
