@@ -42,3 +42,6 @@ module _ {A : Type 0} (read : List ℕ → Result A RowFault) where
   each_last front w all x total cut is so_far =
       let one : ahead front (each_in read all) ≡ Ok (front ++ x ∷ []) = rw (cut, is) refl in
       sym so_far ∙ one
+
+-- words are read one after the other, and one last
+pub ruleset words_read = (each_next, each_fails, each_last)
