@@ -1,6 +1,6 @@
 -- A level whose candidates are asked by rank.
-use Rattle.std.proofs.Common.{◌≡◌, ℕ, ◌+◌, ◌<◌, ◌≤◌, List, IsTrue, IsFalse, sym, ◌∙◌}
-use Rattle.std.proofs.Common.{ap, refl, arith, below_more}
+use Rattle.std.proofs.Common.{◌≡◌, ℕ, ◌+◌, ◌<◌, ◌≤◌, List, IsTrue, IsFalse, sym, ◌∙◌, ap, refl}
+use Rattle.std.proofs.Common.{arith, below_more}
 use Rattle.std.specs.Ordering.{nat_cmp}
 use Rattle.std.specs.FinSet as members
 use Rattle.std.proofs.lemmas.Bool.{both_ways}
@@ -62,3 +62,6 @@ IsAsking-ask U left l l' n so asked =
           let ne : j ≡ n → ⊥ = λ e. omega arith in
           missing j ∙ without-kept (indexes_of l.missing) n j ne ∙ so.rest j (omega arith);
     }
+
+-- what a question needs of the others above its task
+pub ruleset others_above = (remove-part, remove-apart)

@@ -4,18 +4,15 @@ use Rattle.std.proofs.Common.{Option, None, IsTrue, IsFalse, sym, ◌∙◌, ap,
 use Rattle.std.proofs.Common.{below_more}
 use Rattle.std.proofs.lemmas.Bool.{ltb-true, both_ways}
 use Rattle.std.proofs.lemmas.List.{map_push, length-set, get_or-set_other}
-use Rattle.task_sheet.specs.Sheet.{Task, task_at}
+use Rattle.task_sheet.specs.Sheet.{Task}
 use Rattle.task_sheet.specs.TaskSet.{IsTaskSet}
 use Rattle.task_sheet.specs.Indexes.{Indexes, IsPart, without_index, listed_below}
-use Rattle.task_sheet.specs.Demand.{IsResponseOf}
-use Rattle.task_sheet.specs.Orders.{all_of, is_bound, Stands}
-use Rattle.task_sheet.specs.Levels.{IsChosen}
+use Rattle.task_sheet.specs.Orders.{all_of, Stands}
 use Rattle.task_sheet.specs.Verdicts.{ReasonData, FailureData, tasks_of, IsFailure, AllFailures}
-use Rattle.task_sheet.specs.Verdicts.{IsLevel}
 use Rattle.task_sheet.proofs.VerdictLaws.{AllFailures-push}
 use Rattle.assignment.specs.declared.outcome.Outcome.{Outcome}
 use Rattle.assignment.specs.Levels.{IsObstructed}
-use Rattle.assignment.proofs.AnswerLaws.{stands_by_response, fails_by_reason}
+use Rattle.assignment.proofs.LevelLaws.{fails_by_reason}
 
 pub listed_below-member : (n : ℕ) (L : Indexes) → IsTrue (L n)
     → listed_below (n + 1) L ≡ listed_below n L ++ n ∷ []

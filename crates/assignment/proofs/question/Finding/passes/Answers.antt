@@ -6,7 +6,7 @@ use Rattle.assignment.specs.declared.outcome.Outcome.{Outcome}
 use Rattle.assignment.specs.declared.outcome.Outcome.TheVariants.{Pass, Fail}
 use Rattle.assignment.specs.Levels.{lets_stand}
 use Rattle.assignment.specs.Questions.{QuestionData, FindingData, IsRight}
-use Rattle.assignment.proofs.AnswerLaws.{lets_stand-iff}
+use Rattle.assignment.proofs.LevelLaws.{lets_stand-iff}
 use Rattle.assignment.proofs.question.Finding.passes.Goals as goal
 
 says : (f : FindingData) (q : QuestionData) (given answer : Outcome) (set : IsTaskSet q.set)
