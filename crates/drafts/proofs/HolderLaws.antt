@@ -19,8 +19,7 @@ use Rattle.drafts.specs.declared.judging.Judged.TheVariants.{Best}
 use Rattle.drafts.specs.Machine.{MachineState, admitted}
 use Rattle.drafts.specs.Outcomes.{IsJudged}
 use Rattle.drafts.specs.Applied.{bears_name, held, holder_after, is_foreign, owned_of, set_of}
-use Rattle.drafts.specs.Applied.{teams_of, with_task, without_name, after_change, all_changes}
-use Rattle.drafts.specs.Applied.{if_few, applied}
+use Rattle.drafts.specs.Applied.{teams_of, after_change, all_changes, if_few, applied}
 use Rattle.drafts.proofs.ReachedLaws.{held-with, held-with_other, held-without, held-without_other}
 use Rattle.drafts.proofs.ReachedLaws.{none_held}
 use Rattle.drafts.proofs.PutLaws.{then-ok, put-made, remove-made}

@@ -1,8 +1,7 @@
 -- What a log was asked determines what it says.
-use Rattle.std.proofs.Common.{◌≡◌, ℕ, inl, inr, not, nat_le, List, [], ◌∷◌, length, Result, Ok, Err}
-use Rattle.std.proofs.Common.{refl, sym, ◌∙◌, ap, subst}
+use Rattle.std.proofs.Common.{◌≡◌, ℕ, not, List, [], ◌∷◌, Result, Ok, Err, refl, sym, ◌∙◌, ap}
+use Rattle.std.proofs.Common.{subst}
 use Rattle.std.specs.List.{AllByRecursion}
-use Rattle.std.proofs.lemmas.Bool.{cases_Bool}
 use Rattle.std.proofs.lemmas.List.Elements.{All-from_recursion}
 use Rattle.task_sheet.specs.Sheet.{IsTask}
 use Rattle.task_sheet.specs.Verdicts as verdict
@@ -11,8 +10,8 @@ use Rattle.drafts.specs.declared.roster.Owned.{Owned}
 use Rattle.drafts.specs.declared.change.Change.{Change}
 use Rattle.drafts.specs.declared.change.Change.TheVariants.{Put, Remove}
 use Rattle.drafts.specs.declared.change.Refusal.{Refusal}
-use Rattle.drafts.specs.Applied.{set_of, bears_name, held, is_foreign, is_there, without_name}
-use Rattle.drafts.specs.Applied.{after_change, then_on, if_few, all_changes, applied}
+use Rattle.drafts.specs.Applied.{set_of, bears_name, without_name, after_change, if_few}
+use Rattle.drafts.specs.Applied.{all_changes, applied}
 use Rattle.drafts.specs.Machine.{MachineState, Ruling, Admitted, Refused, Infeasible, Entry}
 use Rattle.drafts.specs.Machine.{IsRuling, moved, after_entry, IsLegal}
 use Rattle.drafts.specs.Commits.{commit_of, commits_of, IsTaskChange, PutTasks}

@@ -1,8 +1,8 @@
 -- Changes keep a roster by rank, with valid sheets and distinct names; so its sheets are a set.
 use Rattle.std.proofs.Common.{◌≡◌, ℕ, zero, suc, ◌+◌, ◌≤◌, inl, inr, Bool, true, false, not, nat_lt}
 use Rattle.std.proofs.Common.{nat_le, List, [], ◌∷◌, ◌++◌, length, insert, position, drop}
-use Rattle.std.proofs.Common.{slice_get, Some, None, Ok, Err, Ordering, Less, Equal, Greater, refl}
-use Rattle.std.proofs.Common.{sym, ◌∙◌, ap, add-one, arith}
+use Rattle.std.proofs.Common.{slice_get, Some, None, Ok, Ordering, Less, Equal, Greater, refl, sym}
+use Rattle.std.proofs.Common.{◌∙◌, ap, add-one, arith}
 use Rattle.std.specs.List.{filter, AllByRecursion, list_any, position_or_len}
 use Rattle.std.specs.List.Sorted.{IsStrictlySortedBy}
 use Rattle.std.specs.Ordering.{is_lt}
@@ -21,7 +21,6 @@ use Rattle.task_sheet.proofs.SetLaws.{rank_total, same_turned, below}
 use Rattle.task_sheet.proofs.Unique.{sorted_unique}
 use Rattle.drafts.specs.declared.roster.Owned.{Owned}
 use Rattle.drafts.specs.declared.change.Change.{Change}
-use Rattle.drafts.specs.declared.change.Refusal.{Refusal}
 use Rattle.drafts.specs.Applied.{set_of, teams_of, owned_of, bears_name, without_name, placed}
 use Rattle.drafts.specs.Applied.{with_task, after_change, then_on, all_changes, if_few}
 use Rattle.drafts.specs.Rosters.{IsRoster}

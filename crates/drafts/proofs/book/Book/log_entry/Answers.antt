@@ -1,7 +1,6 @@
 use Rattle.std.proofs.Common.{◌∙◌, option_map, ap, arith, length}
 use Rattle.std.proofs.lemmas.List.{length-map}
 use Rattle.drafts.specs.Books.{Book}
-use Rattle.drafts.specs.Machine.{MachineState}
 use Rattle.drafts.specs.Outcomes.{after_next}
 use Rattle.drafts.proofs.BookLaws.{log-more, logged-kept}
 use Rattle.drafts.proofs.book.Book.log_entry.Goals as goal
