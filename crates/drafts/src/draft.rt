@@ -83,7 +83,6 @@ fn is_put(change: &Change) -> bool
 }
 
 // Puts a change in the place of the one on its name, or last. Where memory runs out, the change is handed back.
-#[tactic(auto, using(crate::proofs::ChangeLaws::recorded_few, crate::proofs::ChangeLaws::recorded_named))]
 fn record(changes: &mut IndexMap<Name, Change>, name: Name, change: Change) -> Result<(), Change>
     ensures ok { OnOk result (changes.new.entries ≡ recorded name change changes.old.entries) }
     ensures few { is_full name changes.old.entries ≡ false
@@ -100,7 +99,6 @@ fn record(changes: &mut IndexMap<Name, Change>, name: Name, change: Change) -> R
 }
 
 // Copies the change at a place behind those before it.
-#[tactic(auto, using(crate::proofs::ChangeLaws::recorded_next))]
 fn copy_at(
     alloc: Global,
     changes: &IndexMap<Name, Change>,
@@ -316,7 +314,6 @@ impl Draft {
     }
 
     /// Removes the task of a name. Refused in this order: `NoSuchTask`, `NotYours`, `DraftFull`.
-    #[tactic(auto, using(crate::proofs::ChangeLaws::dropped_few, crate::proofs::ChangeLaws::dropped_named))]
     pub fn remove(&mut self, name: Name) -> Result<(), EditCause>
         ensures ok { OnOk result (after_remove self.old name ≡ Ok self.new.changes) }
         ensures team { self.new.team ≡ self.old.team }
