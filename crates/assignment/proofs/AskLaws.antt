@@ -1,15 +1,15 @@
 -- A level whose candidates are asked by rank.
-use Rattle.std.proofs.Common.{◌≡◌, ℕ, ◌+◌, ◌<◌, ◌≤◌, inl, List, length, IsTrue, IsFalse, sym, ◌∙◌}
-use Rattle.std.proofs.Common.{ap, refl, arith, below_more}
+use Rattle.std.proofs.Common.{◌≡◌, ℕ, ◌+◌, ◌<◌, ◌≤◌, List, IsTrue, IsFalse, sym, ◌∙◌, ap, refl}
+use Rattle.std.proofs.Common.{arith, below_more}
 use Rattle.std.specs.Ordering.{nat_cmp}
 use Rattle.std.specs.FinSet as members
-use Rattle.std.proofs.lemmas.Bool.{both_ways, ltb-true}
+use Rattle.std.proofs.lemmas.Bool.{both_ways}
 use Rattle.task_sheet.specs.Sheet.{Task}
 use Rattle.task_sheet.specs.Indexes.{indexes_of, without_index, IsPart}
 use Rattle.task_sheet.specs.Orders.{all_of}
 use Rattle.task_sheet.proofs.IndexLaws.{without-parts, without-gone, without-kept}
 use Rattle.task_sheet.proofs.MembersIndexes.{indexes_of-remove}
-use Rattle.assignment.specs.Levels.{LevelState, with_finding, IsDecided}
+use Rattle.assignment.specs.Levels.{LevelState, with_finding}
 
 -- the others of a set's tasks are of the set
 pub remove-part : (U : List Task) (left : members.FinSet nat_cmp) (i : ℕ)
@@ -63,9 +63,5 @@ IsAsking-ask U left l l' n so asked =
           missing j ∙ without-kept (indexes_of l.missing) n j ne ∙ so.rest j (omega arith);
     }
 
--- all are asked
-pub IsAsking-all : (U : List Task) (left : members.FinSet nat_cmp) (l : LevelState)
-    → IsAsking U left l (length U) → IsPart (indexes_of left) (all_of U) → IsDecided l
-IsAsking-all U left l so part = inl (λ j member.
-    let is = ap (λ m. members.contains m j) (sym so.candidates) ∙ member in
-    so.found j (ltb-true j (length U) (part j is)) is)
+-- what a question needs of the others above its task
+pub ruleset others_above = (remove-part, remove-apart)

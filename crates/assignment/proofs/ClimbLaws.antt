@@ -1,12 +1,12 @@
 -- A climb with one level more, and its end.
 use Rattle.std.proofs.Common.{◌≡◌, ℕ, inl, inr, true, false, List, [], ◌∷◌, ◌++◌, length, Option}
-use Rattle.std.proofs.Common.{None, Some, is_some, MatchOption, refl, sym, ◌∙◌, ap, subst}
+use Rattle.std.proofs.Common.{None, Some, is_some, MatchOption, Vec, Global, refl, sym, ◌∙◌, ap}
+use Rattle.std.proofs.Common.{subst}
 use Rattle.std.specs.Ordering.{nat_cmp}
 use Rattle.std.specs.FinSet as members
 use Rattle.std.proofs.lemmas.Bool.{cases_Bool, both_ways}
 use Rattle.std.proofs.lemmas.List.{map_push}
 use Rattle.task_sheet.specs.Sheet.{Task}
-use Rattle.task_sheet.specs.TaskSet.{IsTaskSet}
 use Rattle.task_sheet.specs.MembersWords.{all_below}
 use Rattle.task_sheet.specs.Indexes.{indexes_of, below, IsPart, without_index}
 use Rattle.task_sheet.specs.Orders.{all_of}
@@ -20,10 +20,12 @@ use Rattle.task_sheet.proofs.VerdictLaws.{AllLevels-push, IsVerdictOf-admitted}
 use Rattle.task_sheet.proofs.VerdictLaws.{IsVerdictOf-infeasible}
 use Rattle.assignment.specs.Levels.{IsObstructed}
 use Rattle.assignment.specs.Climbs.{ClimbState, IsClimbing, IsUnfinished}
+use Rattle.assignment.specs.ClimbFields.{IsClimbKept}
+use Rattle.assignment.specs.declared.climb.Climb.TheInside.{Inside}
 
-pub left-part : (U : List Task) (left : members.FinSet nat_cmp) (levels : List LevelData)
+pub left_part : (U : List Task) (left : members.FinSet nat_cmp) (levels : List LevelData)
     → IsClimbing U left levels → IsPart (indexes_of left) (all_of U)
-left-part U left levels so =
+left_part U left levels so =
     subst (λ X. IsPart X (all_of U)) (sym so.rest) (left_after-part (all_of U) (order_of levels))
 
 pub IsClimbing-push : (U : List Task) (left left' : members.FinSet nat_cmp)
@@ -57,23 +59,27 @@ pub IsClimbing-admitted : (U : List Task) (left : members.FinSet nat_cmp) (level
 IsClimbing-admitted U left levels so none =
     IsVerdictOf-admitted U levels so.chosen so.each (λ k. ap (λ X. X k) (sym so.rest) ∙ none k)
 
-pub IsClimbing-infeasible : (U : List Task) (left : members.FinSet nat_cmp)
-    (levels : List LevelData) (fails : List FailureData) → IsTaskSet U → IsClimbing U left levels
-    → IsObstructed U (indexes_of left) fails → IsStuck U fails
-IsClimbing-infeasible U left levels fails valid so obstructed =
-    let o = subst (λ X. IsObstructed U X fails) so.rest obstructed in
-    IsVerdictOf-infeasible U (AllTasks-from_set U valid) (order_of levels) fails
-    o.obstruction.some.0 so.chosen o.obstruction.some.1 o.ranked o.each
+-- what a climb keeps of an obstruction is stuck
+pub stuck_kept : (a : Inside) (members : Vec FailureData Global) → IsClimbKept a
+    → a.members ≡ Some members → IsStuck a.set.value members.items
+stuck_kept a members kept is =
+    let so = kept.climbing in
+    let o = subst (λ X. IsObstructed a.set.value X members.items) so.rest
+    (subst (λ o. MatchOption o (Unit {0}) (λ fails. IsObstructed a.set.value
+    (indexes_of a.left) fails.items)) is kept.obstructed) in
+    IsVerdictOf-infeasible a.set.value (AllTasks-from_set a.set.value kept.valid)
+    (order_of a.levels.items) members.items o.obstruction.some.0 so.chosen o.obstruction.some.1
+    o.ranked o.each
 
 pub none_known : {X : Type 0} (P : X → Type 0) (o : Option X) → is_some o ≡ false
     → MatchOption o (Unit {0}) P
 none_known P None none = tt
 none_known P (Some x) none = absurd (both_ways true none refl)
 
-pub IsClimbing-start : (U : List Task) (left : members.FinSet nat_cmp) (n : ℕ)
+pub IsClimbing_start : (U : List Task) (left : members.FinSet nat_cmp) (n : ℕ)
     (levels : List LevelData) → left ≡ all_below n → n ≡ length U → levels ≡ []
     → IsClimbing U left levels
-IsClimbing-start U left n levels all count none =
+IsClimbing_start U left n levels all count none =
     let start : IsClimbing U left [] = record {
       chosen = tt;
       each = tt;

@@ -4,18 +4,15 @@ use Rattle.std.proofs.Common.{Option, None, IsTrue, IsFalse, sym, ◌∙◌, ap,
 use Rattle.std.proofs.Common.{below_more}
 use Rattle.std.proofs.lemmas.Bool.{ltb-true, both_ways}
 use Rattle.std.proofs.lemmas.List.{map_push, length-set, get_or-set_other}
-use Rattle.task_sheet.specs.Sheet.{Task, task_at}
+use Rattle.task_sheet.specs.Sheet.{Task}
 use Rattle.task_sheet.specs.TaskSet.{IsTaskSet}
 use Rattle.task_sheet.specs.Indexes.{Indexes, IsPart, without_index, listed_below}
-use Rattle.task_sheet.specs.Demand.{IsResponseOf}
-use Rattle.task_sheet.specs.Orders.{all_of, is_bound, Stands}
-use Rattle.task_sheet.specs.Levels.{IsChosen}
+use Rattle.task_sheet.specs.Orders.{all_of, Stands}
 use Rattle.task_sheet.specs.Verdicts.{ReasonData, FailureData, tasks_of, IsFailure, AllFailures}
-use Rattle.task_sheet.specs.Verdicts.{IsLevel}
 use Rattle.task_sheet.proofs.VerdictLaws.{AllFailures-push}
 use Rattle.assignment.specs.declared.outcome.Outcome.{Outcome}
 use Rattle.assignment.specs.Levels.{IsObstructed}
-use Rattle.assignment.proofs.AnswerLaws.{stands_by_response, fails_by_reason}
+use Rattle.assignment.proofs.LevelLaws.{fails_by_reason}
 
 pub listed_below-member : (n : ℕ) (L : Indexes) → IsTrue (L n)
     → listed_below (n + 1) L ≡ listed_below n L ++ n ∷ []
@@ -65,21 +62,6 @@ IsGathering-fail U L given answers taken fails fails' n reason valid so member i
       each =
           subst (λ fs. AllFailures U L fs) (sym is') (AllFailures-push U L fails _ so.each failure);
     }
-
-pub IsGathering-chosen : (U : List Task) (L : Indexes) (given answers : List (Option Outcome))
-    (fails : List FailureData) (n r : ℕ) → IsGathering U L given answers fails n → IsTrue (L n)
-    → IsFalse (is_bound U n (without_index L n)) → IsResponseOf U n (without_index L n) r
-    → r ≤ (task_at U n).deadline → IsChosen U L n
-    × IsLevel U L (record { task = n; response = r; fails = fails })
-IsGathering-chosen U L given answers fails n r so member free response within = (
-  record {
-    member = member;
-    stands =
-        stands_by_response U n (without_index L n) r free response within;
-    first = so.stuck;
-  },
-  record { response = response; lesser = so.ranked; fails = so.each },
-)
 
 pub IsGathering-all : (U : List Task) (L : Indexes) (given answers : List (Option Outcome))
     (fails : List FailureData) → IsGathering U L given answers fails (length U)

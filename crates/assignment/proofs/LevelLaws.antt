@@ -1,18 +1,57 @@
--- When a level is decided.
-use Rattle.std.proofs.Common.{◌≡◌, ◌↔◌, ℕ, ◌+◌, ◌<◌, ◌&&◌, not, inl, inr, List, get_or, Option}
-use Rattle.std.proofs.Common.{None, Some, is_some, IsTrue, IsFalse, ◌∙◌, ap, subst, below_more}
-use Rattle.std.specs.Ordering.{nat_cmp}
-use Rattle.std.specs.FinSet.{FinSet, contains}
-use Rattle.std.proofs.lemmas.Bool.{cases_order, both_ways}
-use Rattle.std.proofs.Math.Bool.{and-false}
-use Rattle.task_sheet.specs.Sheet.{Task}
+-- Answers on the candidates of a level: what a right one says, when the level is decided, and one answer more.
+use Rattle.std.proofs.Common.{◌↔◌, ℕ, ◌≤◌, false, List, IsTrue, IsFalse, refl, arith, ◌≡◌, ◌+◌, ◌<◌}
+use Rattle.std.proofs.Common.{◌&&◌, not, inl, inr, get_or, Option, None, Some, is_some, ◌∙◌, ap}
+use Rattle.std.proofs.Common.{subst, below_more, length, set, sym}
+use Rattle.std.proofs.lemmas.Bool.{both_ways, cases_eq, ne_eqb, eq-eqb}
+use Rattle.task_sheet.specs.Sheet.{Task, task_at}
 use Rattle.task_sheet.specs.TaskSet.{IsTaskSet}
 use Rattle.task_sheet.specs.Indexes.{Indexes, indexes_of, without_index}
-use Rattle.task_sheet.specs.Orders.{Stands}
+use Rattle.task_sheet.specs.Demand.{past_jitter, IsResponseOf}
+use Rattle.task_sheet.specs.Orders.{is_bound, Stands}
+use Rattle.task_sheet.specs.Verdicts.{ReasonData, IsReason}
+use Rattle.assignment.specs.Outcomes.{reason_of, IsOutcome}
 use Rattle.assignment.specs.declared.outcome.Outcome.{Outcome}
-use Rattle.assignment.specs.Levels.{LevelState, IsDecided, IsRightAt, AreRight, AreMissing}
-use Rattle.assignment.specs.Levels.{lets_stand}
-use Rattle.assignment.proofs.AnswerLaws.{lets_stand-iff}
+use Rattle.assignment.specs.declared.outcome.Outcome.TheVariants.{Pass, Fail}
+use Rattle.task_sheet.proofs.TaskLaws.{AllTasks-from_set}
+use Rattle.task_sheet.proofs.PassingLaws.{Refutes-fails, Refutes-from_reason}
+use Rattle.assignment.specs.Levels.{lets_stand, LevelState, IsDecided, IsRightAt, AreRight}
+use Rattle.assignment.specs.Levels.{AreMissing, IsAsked, with_finding}
+use Rattle.std.specs.Ordering.{nat_cmp}
+use Rattle.std.specs.FinSet.{FinSet, contains}
+use Rattle.std.proofs.Math.Bool.{and-false, and-true}
+use Rattle.std.specs.FinSet as members
+use Rattle.std.proofs.lemmas.List.{length-set, get_or-set_same, get_or-set_other}
+use Rattle.task_sheet.proofs.MembersIndexes.{indexes_of-remove, same_members}
+use Rattle.task_sheet.proofs.IndexLaws.{without-gone, without-kept}
+use Rattle.std.proofs.Math.Path.{fun_ext}
+use Rattle.assignment.specs.Questions.{QuestionData, IsRight}
+
+pub stands_by_response : (U : List Task) (i : ℕ) (H : Indexes) (r : ℕ) → IsFalse (is_bound U i H)
+    → IsResponseOf U i H r → r ≤ (task_at U i).deadline → Stands U i H
+stands_by_response U i H r free response within = (
+  (
+    past_jitter (task_at U i) r,
+    response.positive,
+    omega (arith, within),
+    omega (arith, response.fixed),
+  ),
+  free,
+)
+
+pub fails_by_reason : (U : List Task) (i : ℕ) (H : Indexes) (reason : ReasonData) → IsTaskSet U
+    → IsReason U i H reason → ¬ Stands U i H
+fails_by_reason U i H reason valid is =
+    Refutes-fails U (AllTasks-from_set U valid) i H reason (Refutes-from_reason U i H reason is)
+
+pub lets_stand-iff : (U : List Task) (i : ℕ) (H : Indexes) (answer : Outcome) → IsTaskSet U
+    → IsOutcome U i H answer → IsTrue (lets_stand answer) ↔ Stands U i H
+lets_stand-iff U i H (Pass response) valid right =
+    (λ _. stands_by_response U i H response right.0 right.1 right.2, λ _. refl)
+lets_stand-iff U i H (Fail reason) valid right = (
+  λ so. absurd (both_ways false refl so),
+  λ stands.
+      absurd (fails_by_reason U i H (reason_of reason) valid right stands),
+)
 
 -- each candidate below n has a finding, by which it may not stand
 pub record NoneBelow (l : LevelState) (n : ℕ) : Type 0 where
@@ -20,43 +59,21 @@ pub record NoneBelow (l : LevelState) (n : ℕ) : Type 0 where
   pub stuck : (j : ℕ) → j < n → IsTrue (contains l.left j)
       → ¬ Stands l.set j (without_index (indexes_of l.left) j)
 
-pub IsDecided-missing : (l : LevelState) (k : ℕ) → NoneBelow l k → IsTrue (contains l.left k)
-    → IsTrue (contains l.missing k) → ¬ IsDecided l
-IsDecided-missing l k none member missing decided =
-    elim decided [
-      | inl all ↦ both_ways (contains l.missing k) (all k member) missing
-      | inr some ↦ elim (cases_order k some.0) [
-        | inl e ↦ both_ways (contains l.missing k) (rw e some.1.found) missing
-        | inr apart ↦ elim apart [
-          | inl lt ↦ both_ways (contains l.missing k) (some.1.lesser k lt member) missing
-          | inr lt ↦ none.stuck some.0 lt some.1.candidate some.1.stands
-        ]
-      ]
-    ]
-
 pub IsDecided-standing : (l : LevelState) (k : ℕ) → NoneBelow l k → IsTrue (contains l.left k)
     → IsFalse (contains l.missing k) → Stands l.set k (without_index (indexes_of l.left) k)
     → IsDecided l
 IsDecided-standing l k none member found stands =
     inr (k, record { candidate = member; found = found; stands = stands; lesser = none.found })
 
-pub NoneBelow-skip : (l : LevelState) (k : ℕ) → NoneBelow l k → IsFalse (contains l.left k)
-    → NoneBelow l (k + 1)
-NoneBelow-skip l k none out = record {
+pub NoneBelow-more : (l : LevelState) (k : ℕ) → NoneBelow l k
+    → (IsTrue (contains l.left k) → IsFalse (contains l.missing k)
+    × (¬ Stands l.set k (without_index (indexes_of l.left) k))) → NoneBelow l (k + 1)
+NoneBelow-more l k none here = record {
   found = below_more (λ j. IsTrue (contains l.left j) → IsFalse (contains l.missing j)) k none.found
-      (λ member. absurd (both_ways (contains l.left k) out member));
+      (λ member. (here member).0);
   stuck = below_more (λ j. IsTrue (contains l.left j)
       → ¬ Stands l.set j (without_index (indexes_of l.left) j)) k none.stuck
-      (λ member. absurd (both_ways (contains l.left k) out member));
-}
-
-pub NoneBelow-fail : (l : LevelState) (k : ℕ) → NoneBelow l k → IsFalse (contains l.missing k)
-    → ¬ Stands l.set k (without_index (indexes_of l.left) k) → NoneBelow l (k + 1)
-NoneBelow-fail l k none found stuck = record {
-  found = below_more (λ j. IsTrue (contains l.left j) → IsFalse (contains l.missing j)) k none.found
-      (λ _. found);
-  stuck = below_more (λ j. IsTrue (contains l.left j)
-      → ¬ Stands l.set j (without_index (indexes_of l.left) j)) k none.stuck (λ _. stuck);
+      (λ member. (here member).1);
 }
 
 -- ---- a candidate whose answer is known
@@ -71,3 +88,58 @@ pub known-stands : (U : List Task) (L : Indexes) (answers : List (Option Outcome
     → IsTrue (lets_stand answer) ↔ Stands U k (without_index L k)
 known-stands U L answers k answer valid are known = lets_stand-iff U k (without_index L k) answer
     valid (subst (λ o. IsRightAt U L k o) known (are.right k))
+
+-- the answer to the question on a candidate is right for it
+pub IsRightAt-asked : (l : LevelState) (q : QuestionData) (answer : Outcome) → IsAsked l q
+    → IsRight q answer → IsRightAt l.set (indexes_of l.left) q.task (Some answer)
+IsRightAt-asked l q answer asked right =
+    let above : indexes_of q.above ≡ without_index (indexes_of l.left) q.task =
+    ap indexes_of asked.rest ∙ indexes_of-remove l.left q.task in
+    subst (λ U. IsOutcome U q.task (without_index (indexes_of l.left) q.task) answer) asked.same
+    (subst (λ H. IsOutcome q.set q.task H answer) above right)
+
+pub AreRight-set : (U : List Task) (L : Indexes) (answers : List (Option Outcome)) (i : ℕ)
+    (o : Option Outcome) → AreRight U L answers → i < length U → IsRightAt U L i o
+    → AreRight U L (set answers i o)
+AreRight-set U L answers i o are lt right = record {
+  full = length-set answers i o ∙ are.full;
+  right = λ k. elim (cases_eq k i) [
+    | inl e ↦
+        let within : i < length answers = omega (arith, are.full) in
+        let here : get_or (set answers i o) k None ≡ o = ap (λ j. get_or (set answers i o) j None) e
+        ∙ get_or-set_same answers i o None within in
+        subst (λ x. IsRightAt U L k x) (sym here) (subst (λ j. IsRightAt U L j o) (sym e) right)
+    | inr ne ↦ subst (λ x. IsRightAt U L k x) (sym (get_or-set_other answers i k o None ne))
+        (are.right k)
+  ];
+}
+
+pub AreMissing-set : (left missing : members.FinSet nat_cmp) (answers : List (Option Outcome))
+    (i : ℕ) (answer : Outcome) → i < length answers → AreMissing left missing answers
+    → AreMissing left (members.remove missing i) (set answers i (Some answer))
+AreMissing-set left missing answers i answer lt are k =
+    let removed : members.contains (members.remove missing i) k
+    ≡ without_index (indexes_of missing) i k = ap (λ H. H k) (indexes_of-remove missing i) in
+    elim (cases_eq k i) [
+      | inl e ↦
+          let here : get_or (set answers i (Some answer)) k None ≡ Some answer =
+          ap (λ j. get_or (set answers i (Some answer)) j None) e
+          ∙ get_or-set_same answers i (Some answer) None lt in
+          removed ∙ rw (eq-eqb k i e, here) (and-false _ ∙ sym (and-false _))
+      | inr ne ↦ removed ∙ rw (ne_eqb k i ne, get_or-set_other answers i k (Some answer) None ne)
+          (and-true _ ∙ are k)
+    ]
+
+-- one more finding on a candidate that has one changes nothing
+pub found_again : (l : LevelState) (i : ℕ) → IsFalse (members.contains l.missing i)
+    → with_finding l i ≡ l
+found_again l i found =
+    let same : indexes_of (members.remove l.missing i) ≡ indexes_of l.missing =
+    indexes_of-remove l.missing i ∙ fun_ext (λ k. elim (cases_eq k i) [
+      | inl e ↦ without-gone (indexes_of l.missing) i k e
+          ∙ sym (ap (λ j. members.contains l.missing j) e ∙ found)
+      | inr ne ↦ without-kept (indexes_of l.missing) i k ne
+    ]) in
+    let rest : members.remove l.missing i ≡ l.missing =
+    same_members (members.remove l.missing i) l.missing same in
+    λ t. let h : LevelState = record { set = l.set; left = l.left; missing = rest t } in h

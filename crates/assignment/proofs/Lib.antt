@@ -1,7 +1,5 @@
-pub mod AnswerLaws
-pub mod OutcomeLaws
 pub mod LevelLaws
-pub mod TakeLaws
+pub mod OutcomeLaws
 pub mod GatherLaws
 pub mod ClimbLaws
 pub mod AskLaws

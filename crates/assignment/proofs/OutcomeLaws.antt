@@ -1,11 +1,10 @@
 -- A task that must stand above some of the tasks above it, by a row of those above which it must stand.
-use Rattle.std.proofs.Common.{◌≡◌, ℕ, ◌+◌, ◌<◌, ◌≤◌, ◌&&◌, inl, inr, List, length, IsTrue, IsFalse}
-use Rattle.std.proofs.Common.{◌∙◌, sym, arith, below_more}
+use Rattle.std.proofs.Common.{◌≡◌, ℕ, ◌<◌, ◌≤◌, ◌&&◌, inl, inr, List, length, IsTrue, IsFalse, ◌∙◌}
+use Rattle.std.proofs.Common.{sym, arith}
 use Rattle.std.proofs.lemmas.Bool.{cases_Bool, and_parts, and_from, both_ways, ltb-true}
 use Rattle.task_sheet.specs.Sheet.{Task}
 use Rattle.task_sheet.specs.Indexes.{Indexes, IsPart, meet}
 use Rattle.task_sheet.specs.Orders.{all_of, must_outrank, is_bound}
-use Rattle.task_sheet.specs.Verdicts.{IsLeastOver}
 use Rattle.task_sheet.proofs.Below.{some_below-at, some_below-witness}
 
 -- the row has the tasks of the set above which task i must stand
@@ -13,9 +12,9 @@ abbrev pub IsRowOf : List Task → ℕ → Indexes → Type 0
 IsRowOf U i row = (k : ℕ) → k < length U → row k ≡ must_outrank U i k
 
 module _ (U : List Task) (i : ℕ) (row H : Indexes) (is : IsRowOf U i row) where
-  pub meet-bound : length U ≤ 32 → IsPart H (all_of U) → meet row H ≡ is_bound U i H
+  pub meet_bound : length U ≤ 32 → IsPart H (all_of U) → meet row H ≡ is_bound U i H
   unfolding meet is_bound
-  meet-bound few part = elim (cases_Bool (is_bound U i H)) [
+  meet_bound few part = elim (cases_Bool (is_bound U i H)) [
     | inl bound ↦
         let at = some_below-witness (length U) (λ k. H k && must_outrank U i k) bound in
         let both = and_parts _ _ at.2 in
@@ -36,25 +35,12 @@ module _ (U : List Task) (i : ℕ) (row H : Indexes) (is : IsRowOf U i row) wher
   abbrev pub NoneOver : ℕ → Type 0
   NoneOver n = (j : ℕ) → j < n → IsTrue (H j) → IsFalse (must_outrank U i j)
 
-  pub NoneOver-more : (n : ℕ) → NoneOver n → n < length U → (IsTrue (row n) → IsTrue (H n) → ⊥)
-      → NoneOver (n + 1)
-  NoneOver-more n none lt apart = below_more (λ j. IsTrue (H j) → IsFalse (must_outrank U i j)) n
-      none (λ above. elim (cases_Bool (must_outrank U i n)) [
-        | inl named ↦ absurd (apart (is n lt ∙ named) above)
-        | inr other ↦ other
-      ])
-
-  pub NoneOver-all : NoneOver (length U) → IsFalse (is_bound U i H)
+  pub none_over_all : NoneOver (length U) → IsFalse (is_bound U i H)
   unfolding is_bound
-  NoneOver-all none = elim (cases_Bool (is_bound U i H)) [
+  none_over_all none = elim (cases_Bool (is_bound U i H)) [
     | inl bound ↦
         let at = some_below-witness (length U) (λ k. H k && must_outrank U i k) bound in
         let both = and_parts _ _ at.2 in
         absurd (both_ways _ (none at.0 at.1 both.0) both.1)
     | inr free ↦ free
   ]
-
-  pub IsLeastOver-here : (n : ℕ) → NoneOver n → n < length U → IsTrue (row n) → IsTrue (H n)
-      → IsLeastOver U i H n
-  IsLeastOver-here n none lt named above =
-      record { in_set = lt; above = above; named = sym (is n lt) ∙ named; least = none }

@@ -1,13 +1,12 @@
 -- Places from the lowest up: they lead to the best order, or what is left is the greatest obstruction.
-use Rattle.std.proofs.Common.{◌≡◌, ℕ, inl, inr, ◌+◌, ◌<◌, true, false, List, [], ◌∷◌, ◌++◌, length}
-use Rattle.std.proofs.Common.{Option, None, Some, IfSome, sym, ◌∙◌, ap, subst, arith}
+use Rattle.std.proofs.Common.{◌≡◌, ℕ, false, List, [], ◌∷◌, ◌++◌, length, Option, None, Some}
+use Rattle.std.proofs.Common.{IfSome, sym, ◌∙◌, ap, subst}
 use Rattle.std.specs.Ordering.{nat_cmp}
 use Rattle.std.specs.FinSet as members
-use Rattle.std.proofs.lemmas.Bool.{cases_eq}
 use Rattle.std.proofs.lemmas.List.{map_push}
 use Rattle.task_sheet.specs.Sheet.{Task, AllTasks}
 use Rattle.task_sheet.specs.MembersWords.{all_below}
-use Rattle.task_sheet.specs.Indexes.{Indexes, indexes_of, no_index, without_index, below, IsPart}
+use Rattle.task_sheet.specs.Indexes.{Indexes, indexes_of, without_index, below, IsPart}
 use Rattle.task_sheet.specs.Demand.{IsResponseOf, Passes}
 use Rattle.task_sheet.specs.Orders.{all_of, is_bound, Stands}
 use Rattle.task_sheet.specs.Levels.{IsChosen, NoneStands, IsGreatestObstruction, left_after}
@@ -15,15 +14,13 @@ use Rattle.task_sheet.specs.Levels.{AllChosen}
 use Rattle.task_sheet.proofs.MembersIndexes.{indexes_of-empty, indexes_of-all_below}
 use Rattle.task_sheet.proofs.MembersIndexes.{indexes_of-remove, member_of-len}
 use Rattle.task_sheet.proofs.LevelLaws.{left_after-part, left_after-push, AllChosen-push}
-use Rattle.task_sheet.proofs.LevelLaws.{AllChosen-best}
 use Rattle.task_sheet.proofs.ObstructionLaws.{AllChosen-obstruction}
 use Rattle.assignment.specs.Places.{PlaceData}
-use Rattle.assignment.specs.Placings.{tasks_of_places, AllRespond, IsBestPlacing}
+use Rattle.assignment.specs.Placings.{tasks_of_places, AllRespond}
 use Rattle.assignment.proofs.FeasibilityLaws.{some_left}
 
 -- these are placed, each with its response, and L is left
 pub record IsPlaced (U : List Task) (L : Indexes) (places : List PlaceData) : Type 0 where
-  pub chosen : AllChosen U (all_of U) (tasks_of_places places)
   pub each : AllRespond U (all_of U) places
   pub rest : L ≡ left_after (all_of U) (tasks_of_places places)
 
@@ -45,65 +42,71 @@ pub IsPlaced-start : (U : List Task) (left : members.FinSet nat_cmp) (n : ℕ)
     → IsPlaced U (indexes_of left) places
 IsPlaced-start U left n places all count none =
     let start : IsPlaced U (indexes_of left) [] = record {
-      chosen = tt;
       each = tt;
-      rest =
-          ap indexes_of all ∙ indexes_of-all_below n ∙ ap (λ m. below m) count;
+      rest = ap indexes_of all ∙ indexes_of-all_below n ∙ ap (λ m. below m) count;
     } in
     subst (λ ps. IsPlaced U (indexes_of left) ps) (sym none) start
 
+pub tasks-push : (places places' : List PlaceData) (p : PlaceData) → places' ≡ places ++ p ∷ []
+    → tasks_of_places places' ≡ tasks_of_places places ++ p.task ∷ []
+tasks-push places places' p pushed =
+    ap tasks_of_places pushed ∙ map_push (λ (q : PlaceData). q.task) places p
+
 pub IsPlaced-push : (U : List Task) (left left' : members.FinSet nat_cmp)
     (places places' : List PlaceData) (p : PlaceData) → IsPlaced U (indexes_of left) places
+    → IsResponseOf U p.task (without_index (indexes_of left) p.task) p.response
+    → left' ≡ members.remove left p.task → places' ≡ places ++ p ∷ []
+    → IsPlaced U (indexes_of left') places'
+IsPlaced-push U left left' places places' p so is removed pushed = record {
+  each = subst (λ ps. AllRespond U (all_of U) ps) (sym pushed)
+      (AllRespond-push U (all_of U) places p so.each
+      (subst (λ X. IsResponseOf U p.task (without_index X p.task) p.response) so.rest is));
+  rest = ap indexes_of removed ∙ indexes_of-remove left p.task
+      ∙ ap (λ X. without_index X p.task) so.rest
+      ∙ sym (left_after-push (all_of U) (tasks_of_places places) p.task)
+      ∙ ap (λ ns. left_after (all_of U) ns) (sym (tasks-push places places' p pushed));
+}
+
+-- all are placed
+pub IsPlaced-none : (U : List Task) (left : members.FinSet nat_cmp) (places : List PlaceData)
+    → IsPlaced U (indexes_of left) places → left ≡ members.empty → (k : ℕ)
+    → left_after (all_of U) (tasks_of_places places) k ≡ false
+IsPlaced-none U left places so none k =
+    ap (λ (X : Indexes). X k) (sym so.rest ∙ ap indexes_of none ∙ indexes_of-empty)
+
+-- ---- the chosen
+-- each was the first that may stand below the others
+pub record IsChosenTo (U : List Task) (left : members.FinSet nat_cmp) (places : List PlaceData)
+    : Type 0 where
+  pub chosen : AllChosen U (all_of U) (tasks_of_places places)
+  pub placed : IsPlaced U (indexes_of left) places
+
+pub IsChosenTo-push : (U : List Task) (left left' : members.FinSet nat_cmp)
+    (places places' : List PlaceData) (p : PlaceData) → IsChosenTo U left places
     → IsChosen U (indexes_of left) p.task → IsResponseOf U p.task
     (without_index (indexes_of left) p.task) p.response → left' ≡ members.remove left p.task
-    → places' ≡ places ++ p ∷ [] → IsPlaced U (indexes_of left') places'
-IsPlaced-push U left left' places places' p so chosen is removed pushed =
-    let order : tasks_of_places places' ≡ tasks_of_places places ++ p.task ∷ [] =
-    ap tasks_of_places pushed ∙ map_push (λ (q : PlaceData). q.task) places p in
-    record {
-      chosen = subst (λ ns. AllChosen U (all_of U) ns) (sym order)
-          (AllChosen-push U (all_of U) (tasks_of_places places) p.task so.chosen
-          (subst (λ X. IsChosen U X p.task) so.rest chosen));
-      each = subst (λ ps. AllRespond U (all_of U) ps) (sym pushed)
-          (AllRespond-push U (all_of U) places p so.each
-          (subst (λ X. IsResponseOf U p.task (without_index X p.task) p.response) so.rest is));
-      rest = ap indexes_of removed ∙ indexes_of-remove left p.task
-          ∙ ap (λ X. without_index X p.task) so.rest
-          ∙ sym (left_after-push (all_of U) (tasks_of_places places) p.task)
-          ∙ ap (λ ns. left_after (all_of U) ns) (sym order);
-    }
+    → places' ≡ places ++ p ∷ [] → IsChosenTo U left' places'
+IsChosenTo-push U left left' places places' p so chosen is removed pushed = record {
+  chosen = subst (λ ns. AllChosen U (all_of U) ns) (sym (tasks-push places places' p pushed))
+      (AllChosen-push U (all_of U) (tasks_of_places places) p.task so.chosen
+      (subst (λ X. IsChosen U X p.task) so.placed.rest chosen));
+  placed = IsPlaced-push U left left' places places' p so.placed is removed pushed;
+}
 
-pub IsPlaced-best : (U : List Task) (left : members.FinSet nat_cmp) (places : List PlaceData)
-    → IsPlaced U (indexes_of left) places → left ≡ members.empty → IsBestPlacing U places
-IsPlaced-best U left places so none =
-    let nothing : indexes_of left ≡ no_index = ap indexes_of none ∙ indexes_of-empty in
-    record {
-      best = AllChosen-best U (tasks_of_places places) so.chosen
-          (λ k. ap (λ (X : Indexes). X k) (sym so.rest ∙ nothing));
-      each = so.each;
-    }
-
-pub IsPlaced-stuck : (U : List Task) (left : members.FinSet nat_cmp) (places : List PlaceData)
-    → AllTasks U → IsPlaced U (indexes_of left) places → ¬ (left ≡ members.empty)
+pub IsChosenTo-stuck : (U : List Task) (left : members.FinSet nat_cmp) (places : List PlaceData)
+    → AllTasks U → IsChosenTo U left places → ¬ (left ≡ members.empty)
     → NoneStands U (indexes_of left) → IsGreatestObstruction U (indexes_of left)
-IsPlaced-stuck U left places valid so some stuck =
-    let member = member_of-len left (length U) (IsPlaced-part U (indexes_of left) places so)
-    (some_left left some) in
-    subst (λ X. IsGreatestObstruction U X) (sym so.rest)
-    (AllChosen-obstruction U valid (tasks_of_places places) so.chosen member.0 (ap (λ (X : Indexes).
-    X member.0) (sym so.rest) ∙ member.2) (subst (λ X. NoneStands U X) so.rest stuck))
+IsChosenTo-stuck U left places valid so some stuck =
+    let part = IsPlaced-part U (indexes_of left) places so.placed in
+    let member = member_of-len left (length U) part (some_left left some) in
+    let rest = so.placed.rest in
+    subst (λ X. IsGreatestObstruction U X) (sym rest)
+    (AllChosen-obstruction U valid (tasks_of_places places) so.chosen member.0
+    (ap (λ (X : Indexes). X member.0) (sym rest) ∙ member.2)
+    (subst (λ X. NoneStands U X) rest stuck))
 
 -- ---- the tasks that are left are asked by rank
 pub stands_too : (U : List Task) (i : ℕ) (H : Indexes) (o : Option ℕ) → is_bound U i H ≡ false
     → IfSome o (λ _. Passes U i H) → IfSome o (λ _. Stands U i H)
 stands_too U i H None free passes = tt
 stands_too U i H (Some r) free passes = (passes, free)
-
-pub one_more_fails : (U : List Task) (L : Indexes) (i : ℕ)
-    → ((j : ℕ) → j < i → L j ≡ true → ¬ Stands U j (without_index L j))
-    → (L i ≡ true → ¬ Stands U i (without_index L i))
-    → (j : ℕ) → j < i + 1 → L j ≡ true → ¬ Stands U j (without_index L j)
-one_more_fails U L i before here j lt member = elim (cases_eq j i) [
-  | inl e ↦ subst (λ k. L k ≡ true → ¬ Stands U k (without_index L k)) (sym e) here member
-  | inr ne ↦ before j (omega (arith, lt, ne)) member
-]

@@ -1,13 +1,9 @@
 -- How far a climb is from its end.
-use Rattle.std.proofs.Common.{◌≡◌, ℕ, ◌+◌, ◌<◌, ◌⊎◌, inl, inr, true, false, if◌then◌else◌, Result}
-use Rattle.std.proofs.Common.{Ok, Err, is_err, refl, ap, arith}
+use Rattle.std.proofs.Common.{◌≡◌, ℕ, ◌+◌, ◌<◌, ◌⊎◌, inl, inr, true, false, if◌then◌else◌, ap}
+use Rattle.std.proofs.Common.{arith}
 use Rattle.std.specs.FinSet as members
-use Rattle.std.proofs.lemmas.Bool.{both_ways}
-use Rattle.task_sheet.proofs.MembersIndexes.{len-remove_member}
-use Rattle.assignment.specs.Levels.{LevelState}
+use Rattle.task_sheet.proofs.MembersIndexes.{len-of_member, len-remove_member}
 use Rattle.assignment.specs.Climbs.{ClimbState, IsPlaced, IsEnded}
-use Rattle.assignment.specs.Climbing.{ClosesLevel}
-use Rattle.assignment.specs.declared.climb.ClimbFault.{ClimbFault}
 
 -- the tasks that are left, and one more for an obstruction
 abbrev pub steps_left : ClimbState → ℕ
@@ -35,8 +31,5 @@ pub steps-fewer : (old new : ClimbState) → old.stuck ≡ false → IsPlaced ol
 steps-fewer old new goes_on (inl placed) = steps-placed old new goes_on placed
 steps-fewer old new goes_on (inr ended) = steps-ended old new goes_on ended
 
-pub steps-closed : (old : ClimbState) (level : LevelState) (new : ClimbState)
-    (result : Result (Unit {0}) ClimbFault) → is_err result ≡ false
-    → ClosesLevel old level new result → steps_left new < steps_left old
-steps-closed old level new (Ok done) is closed = steps-fewer old new closed.0.goes_on closed.2
-steps-closed old level new (Err fault) is closed = absurd (both_ways true is refl)
+-- who has a member is not empty
+pub ruleset some_counted = (len-of_member)

@@ -84,6 +84,7 @@ impl Climb {
     }
 
     /// The tasks that are not yet placed.
+    #[tactic(auto, using(crate::proofs::ClimbLaws::left_part))]
     pub fn left(&self) -> Members
         ensures same { result ≡ self.now.left }
         ensures part { IsPart (indexes_of self.now.left) (all_of self.now.set) }
@@ -137,6 +138,7 @@ impl Climb {
     }
 
     /// The next level, without findings. The error is out of memory.
+    #[tactic(auto, using(crate::proofs::StepLaws::some_counted))]
     pub fn start_level(&self, alloc: Global) -> Result<Level, AllocError>
         requires { IsUnfinished self.now }
         ensures { IfOk result (λ level. level

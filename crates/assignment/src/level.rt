@@ -186,6 +186,7 @@ impl Level {
     }
 
     /// The question on a candidate, with the others that are left above it. The error is that the set has too many owners.
+    #[tactic(auto, using(crate::proofs::AskLaws::others_above))]
     pub fn question(&self, task: usize) -> Result<Question, AllocError>
         requires { IsTrue (contains self.now.left task) }
         ensures asked { IfOk result (λ question. IsAsked self.now question) }

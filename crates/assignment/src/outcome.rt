@@ -45,6 +45,7 @@ pub(crate) fn unbound_outcome(answer: Answer) -> Outcome
 }
 
 /// Whether a task must stand above one of these.
+#[tactic(auto, using(crate::proofs::OutcomeLaws::meet_bound))]
 pub(crate) fn is_bound(set: &Tabled<'_>, task: usize, above: Members) -> bool
     requires task { task < length set.now }
     requires part { IsPart (indexes_of above) (all_of set.now) }

@@ -151,20 +151,6 @@ fn answer_to(alloc: Global, question: &Question, table: &LockTable) -> Result<Ou
     Ok(unbound_outcome(response.answer))
 }
 
-// Whether the right answer to a question lets its task stand there.
-fn lets_pass(question: &Question, answer: &Outcome) -> bool
-    requires { IsRight question.now answer.now }
-    ensures { IsTrue result
-        ↔ Stands question.now.set question.now.task (indexes_of question.now.above) }
-{
-    // The set is valid: the proof has it from its sheets.
-    let _ = question.set().sheets();
-    match answer {
-        Outcome::Pass { .. } => true,
-        Outcome::Fail { .. } => false,
-    }
-}
-
 impl Finding {
     /// The question.
     pub fn question(&self) -> &Question
@@ -187,7 +173,12 @@ impl Finding {
             ↔ Stands self.now.question.set self.now.question.task
             (indexes_of self.now.question.above) }
     {
-        lets_pass(&self.question, &self.answer)
+        // The set is valid: the proof has it from its sheets.
+        let _ = self.question.set().sheets();
+        match &self.answer {
+            Outcome::Pass { .. } => true,
+            Outcome::Fail { .. } => false,
+        }
     }
 
     // The answer, out of the finding.

@@ -36,15 +36,11 @@ IsLegal-push desk (x ∷ log) e legal next =
 pub said-answer : (version : ℕ) (outcome : Result (List Owned) Refusal) (j : Judged) (d : Ruling)
     → IsJudged outcome j → IsSaid version j d → IsRuling version outcome d
 said-answer version (Err refusal) (judged.Refused told) (Refused again) h said = said ∙ h
-said-answer version (Err refusal) (judged.Refused told) (Admitted again) h said = said
-said-answer version (Err refusal) (judged.Refused told) (Infeasible again) h said = said
-said-answer version (Err refusal) (judged.Best a) d h said = absurd h
-said-answer version (Err refusal) (judged.Stuck o) d h said = absurd h
-said-answer version (Ok tasks) (judged.Refused told) d h said = absurd h
+said-answer version (Err refusal) (judged.Best a) (Admitted again) h said = absurd h
+said-answer version (Err refusal) (judged.Stuck o) (Infeasible again) h said = absurd h
+said-answer version (Ok tasks) (judged.Refused told) (Refused again) h said = absurd h
 said-answer version (Ok tasks) (judged.Best a) (Admitted again) h said =
     ((verdict.order_of a.value.levels, h.1.best.passing), said)
-said-answer version (Ok tasks) (judged.Best a) (Refused again) h said = said
-said-answer version (Ok tasks) (judged.Best a) (Infeasible again) h said = absurd said
 said-answer version (Ok tasks) (judged.Stuck o) (Infeasible again) h said =
     let valid : IsTaskSet (set_of tasks) = subst IsTaskSet h.0 said.1 in (
       IsObstruction-fails (set_of tasks) (AllTasks-from_set (set_of tasks) valid) _
@@ -53,8 +49,7 @@ said-answer version (Ok tasks) (judged.Stuck o) (Infeasible again) h said =
       subst (λ p. verdict.IsVerdictOf (set_of tasks) (verdict.Infeasible p.members))
           (sym said.0) h.1,
     )
-said-answer version (Ok tasks) (judged.Stuck o) (Refused again) h said = said
-said-answer version (Ok tasks) (judged.Stuck o) (Admitted again) h said = absurd said
+said-answer version outcome j d h said = absurd said
 
 -- and the state moves as the machine moves
 pub next-moved : (desk : MachineState) (outcome : Result (List Owned) Refusal) (j : Judged)
@@ -62,16 +57,11 @@ pub next-moved : (desk : MachineState) (outcome : Result (List Owned) Refusal) (
     → IsNextState desk outcome j next → after_next desk next ≡ moved desk d outcome
 next-moved desk outcome (judged.Refused told) (Refused again) next said is =
     ap (λ o. after_next desk o) is
-next-moved desk outcome (judged.Refused told) (Admitted again) next said is = absurd said
-next-moved desk outcome (judged.Refused told) (Infeasible again) next said is = absurd said
 next-moved desk outcome (judged.Best a) (Admitted again) next said is =
     ap (λ o. after_next desk o) is
-next-moved desk outcome (judged.Best a) (Refused again) next said is = absurd said
-next-moved desk outcome (judged.Best a) (Infeasible again) next said is = absurd said
 next-moved desk outcome (judged.Stuck o) (Infeasible again) next said is =
     ap (λ o. after_next desk o) is
-next-moved desk outcome (judged.Stuck o) (Refused again) next said is = absurd said
-next-moved desk outcome (judged.Stuck o) (Admitted again) next said is = absurd said
+next-moved desk outcome j d next said is = absurd said
 
 -- a book stays legal, and its log's replay is its state
 pub logged-legal : (b : Book) (e : Entry) → IsLegal empty_desk b.log
@@ -103,44 +93,30 @@ replay-version desk (e ∷ log) legal = omega (
 
 one-small : (d : Ruling) → one_if_admitted d ≤ 1
 one-small (Admitted told) = omega arith
-one-small (Refused told) = omega arith
-one-small (Infeasible o) = omega arith
+one-small d = omega arith
 
 admissions-few : (log : List Entry) → admissions log ≤ length log
 admissions-few [] = omega arith
 admissions-few (e ∷ log) = omega (arith, one-small e.decision, admissions-few log)
 
--- so the next version fits
-pub version_room : (desk : MachineState) (log : List Entry) → IsLegal empty_desk log
-    → replay empty_desk log ≡ desk → length log < 2 ^ 63 → desk.version + 1 < 2 ^ 64
-version_room desk log legal same few = let e = ap (λ (d : MachineState). d.version) same in
-    omega (arith, replay-version empty_desk log legal, admissions-few log)
-
 -- ---- an entry of what was judged, and the state that follows
-module _ (b : Book) (legal : IsLegal empty_desk b.log) (same : replay empty_desk b.log ≡ b.desk)
-    (d : Draft) (j : Judged) (judged : IsJudged (applied d.team b.desk.tasks d.changes) j)
-    (e : Entry) (is : IsEntryOf b.desk.version d j e) where
-  pub entered-next : (place : ℕ) → place ≡ length b.log + 1 → IsNextEntry b d place e
-  entered-next place at = (
-    at,
-    is.0,
-    is.1,
-    said-answer b.desk.version
-        (applied d.team b.desk.tasks d.changes) j e.decision judged is.2,
-  )
+module _ (b : Book) (d : Draft) (j : Judged) (e : Entry)
+    (judged : IsJudged (applied d.team b.desk.tasks d.changes) j)
+    (is : IsEntryOf b.desk.version d j e) where
+  pub entered-said : IsDecision b.desk d.team d.changes e.decision
+  entered-said = said-answer b.desk.version (applied d.team b.desk.tasks d.changes) j e.decision
+      judged is.2
 
   outcome : applied d.team b.desk.tasks d.changes ≡ applied e.team b.desk.tasks e.changes
   outcome = ap (λ t. applied t b.desk.tasks d.changes) (sym is.0)
       ∙ ap (λ cs. applied e.team b.desk.tasks cs) (sym is.1)
 
-  pub entered-kept : IsLegal empty_desk (logged b e).log
-      × (replay empty_desk (logged b e).log ≡ (logged b e).desk)
-  entered-kept =
-      logged-legal b e legal same (subst (λ o. IsRuling b.desk.version o e.decision) outcome
-      (said-answer b.desk.version (applied d.team b.desk.tasks d.changes) j e.decision judged is.2))
+  pub entered-decision : IsDecision b.desk e.team e.changes e.decision
+  entered-decision = subst (λ o. IsRuling b.desk.version o e.decision) outcome entered-said
 
-  pub entered-desk : (next : Option MachineState) → IsNextState b.desk
-      (applied d.team b.desk.tasks d.changes) j next → after_next b.desk next ≡ (logged b e).desk
+  pub entered-desk : (next : Option MachineState)
+      → IsNextState b.desk (applied d.team b.desk.tasks d.changes) j next
+      → after_next b.desk next ≡ after_entry b.desk e
   entered-desk next to = next-moved b.desk (applied d.team b.desk.tasks d.changes) j e.decision next
       is.2 to ∙ ap (λ o. moved b.desk e.decision o) outcome
 
@@ -150,64 +126,41 @@ version-counts b legal same = let e = ap (λ (d : MachineState). d.version) same
     omega (arith, replay-version empty_desk b.log legal)
 
 -- ---- a book by its fields
-pub book-legal : (a : Inside) → IsBookKept a → IsLegalBook (book_of a)
-book-legal a kept = record {
+pub book_legal : (a : Inside) → IsBookKept a → IsLegalBook (book_of a)
+book_legal a kept = record {
   legal = kept.legal;
   replay = kept.same;
   version = version-counts (book_of a) kept.legal kept.same;
 }
 
-pub version-fits : (a : Inside) → IsBookKept a → a.state.value.version + 1 < 2 ^ 64
-version-fits a kept =
+-- the next version fits, since each admission has a place in the log
+pub version_fits : (a : Inside) → IsBookKept a → a.state.value.version + 1 < 2 ^ 64
+version_fits a kept =
     let few : length (book_of a).log < 2 ^ 63 =
     omega (arith, length-map a.log.items (λ e. e.value), a.log.ok.0, a.log.ok.1, a.log.small) in
-    version_room a.state.value (book_of a).log kept.legal kept.same few
+    omega (
+      arith,
+      few,
+      ap (λ (d : MachineState). d.version) kept.same,
+      replay-version empty_desk (book_of a).log kept.legal,
+      admissions-few (book_of a).log,
+    )
 
--- an entry of what was judged at its version
-module _ (a : Inside) (kept : IsBookKept a) (b : Book) (view : book_of a ≡ b) (d : Draft)
-    (j : Judged) (version : ℕ) (at : version ≡ a.state.value.version) (e : Entry)
-    (is : IsEntryOf version d j e) where
-  entry : IsEntryOf a.state.value.version d j e
-  entry = subst (λ v. IsEntryOf v d j e) at is
+-- an entry more
+module _ (a : Inside) (b : Book) (view : book_of a ≡ b) (e : Arc Entry Global) where
+  pub log-more : (new : List (Arc Entry Global)) → new ≡ a.log.items ++ e ∷ []
+      → map (λ x. x.value) new ≡ (logged b e.value).log
+  log-more new is = ap (λ xs. map (λ x. x.value) xs) is ∙ map_push (λ x. x.value) a.log.items e
+      ∙ ap (λ (x : Book). x.log ++ e.value ∷ []) view
 
-  pub enters-said : IsSaid b.desk.version j e.decision
-  enters-said = subst (λ (x : Book). IsSaid x.desk.version j e.decision) view entry.2
-
-  pub enters-log : (new : List (Arc Entry Global)) (pushed : Arc Entry Global) → new ≡ a.log.items
-      ++ pushed ∷ [] → pushed.value ≡ e → map (λ x. x.value) new ≡ (logged (book_of a) e).log
-  enters-log new pushed is same =
-      ap (λ xs. map (λ x. x.value) xs) is ∙ map_push (λ x. x.value) a.log.items pushed
-      ∙ ap (λ v. (book_of a).log ++ v ∷ []) same
-
-  module _ (right : IsJudged (applied d.team b.desk.tasks d.changes) j) where
-    holds : IsJudged (applied d.team a.state.value.tasks d.changes) j
-    holds =
-        subst (λ (x : Book). IsJudged (applied d.team x.desk.tasks d.changes) j) (sym view) right
-
-    pub enters-next : (place : ℕ) → place ≡ length (book_of a).log + 1 → IsNextEntry b d place e
-    enters-next place last = subst (λ (x : Book). IsNextEntry x d place e) view
-        (entered-next (book_of a) kept.legal kept.same d j holds e entry place last)
-
-    pub enters-desk : (next : Option MachineState)
-        → IsNextState b.desk (applied d.team b.desk.tasks d.changes) j next
-        → after_next a.state.value next ≡ (logged (book_of a) e).desk
-    enters-desk next to =
-        entered-desk (book_of a) kept.legal kept.same d j holds e entry next
-        (subst (λ (x : Book). IsNextState x.desk (applied d.team x.desk.tasks d.changes) j next)
-        (sym view) to)
-
-    pub enters-legal : (log : List Entry) → log ≡ (logged (book_of a) e).log
-        → IsLegal empty_desk log
-    enters-legal log same = subst (λ es. IsLegal empty_desk es) (sym same)
-        (entered-kept (book_of a) kept.legal kept.same d j holds e entry).0
-
-    pub enters-replay : (log : List Entry) (desk : MachineState) → log ≡ (logged (book_of a) e).log
-        → desk ≡ (logged (book_of a) e).desk → replay empty_desk log ≡ desk
-    enters-replay log desk same to = ap (λ es. replay empty_desk es) same
-        ∙ (entered-kept (book_of a) kept.legal kept.same d j holds e entry).1 ∙ sym to
-
-    pub enters-book : (log : List Entry) (desk : MachineState) → log ≡ (logged (book_of a) e).log
-        → desk ≡ (logged (book_of a) e).desk
-        → (let x : Book = record { desk = desk; log = log } in x) ≡ logged b e
-    enters-book log desk same to = (λ i. let x : Book = record { desk = to i; log = same i } in x)
-        ∙ ap (λ (x : Book). logged x e) view
+  pub logged-kept : IsBookKept a
+      → IsDecision b.desk e.value.team e.value.changes e.value.decision
+      → (log : List Entry) (desk : MachineState) → log ≡ (logged b e.value).log
+      → desk ≡ (logged b e.value).desk → IsLegal empty_desk log × (replay empty_desk log ≡ desk)
+  logged-kept kept right log desk same to =
+      let before = subst (λ (x : Book). IsLegal empty_desk x.log
+      × (replay empty_desk x.log ≡ x.desk)) view (kept.legal, kept.same) in
+      let after = logged-legal b e.value before.0 before.1 right in (
+        subst (λ es. IsLegal empty_desk es) (sym same) after.0,
+        ap (λ es. replay empty_desk es) same ∙ after.1 ∙ sym to,
+      )

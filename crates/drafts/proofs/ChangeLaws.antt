@@ -27,9 +27,9 @@ recorded-there name change (c ∷ cs) there = elim (cases_Bool (same_bytes name 
   | inr other ↦ rw other (omega (arith, recorded-there name change cs (rw other at there)))
 ]
 
-pub recorded-few : (name : List ℕ) (change : Change) (cs : List (List ℕ × Change))
+pub recorded_few : (name : List ℕ) (change : Change) (cs : List (List ℕ × Change))
     → is_full name cs ≡ false → length cs ≤ 64 → length (recorded name change cs) ≤ 64
-recorded-few name change cs room few = elim (cases_Bool (is_some (change_on name cs))) [
+recorded_few name change cs room few = elim (cases_Bool (is_some (change_on name cs))) [
   | inl there ↦ omega (arith, recorded-there name change cs there)
   | inr gone ↦ let short : length cs + 1 ≤ 64 = grind (arith, nat_tests) in
       omega (arith, recorded-length name change cs)
@@ -43,27 +43,27 @@ dropped-length name (c ∷ cs) = elim (cases_Bool (same_bytes name c.0)) [
   | inr other ↦ rw other (omega (arith, dropped-length name cs))
 ]
 
-pub dropped-few : (name : List ℕ) (cs : List (List ℕ × Change)) → length cs ≤ 64
+pub dropped_few : (name : List ℕ) (cs : List (List ℕ × Change)) → length cs ≤ 64
     → length (dropped name cs) ≤ 64
-dropped-few name cs few = omega (arith, dropped-length name cs, few)
+dropped_few name cs few = omega (arith, dropped-length name cs, few)
 
 -- ---- puts on their sheets' names
 
-pub recorded-named : (name : List ℕ) (change : Change) (cs : List (List ℕ × Change))
+pub recorded_named : (name : List ℕ) (change : Change) (cs : List (List ℕ × Change))
     → IsNamed name change → AreNamed cs → AreNamed (recorded name change cs)
-recorded-named name change [] one all = (one, tt)
-recorded-named name change (c ∷ cs) one all = elim (cases_Bool (same_bytes name c.0)) [
+recorded_named name change [] one all = (one, tt)
+recorded_named name change (c ∷ cs) one all = elim (cases_Bool (same_bytes name c.0)) [
   | inl same ↦
       rw same (subst (λ n. IsNamed n change) ((bytes_eq-Decides name c.0).0 same) one, all.1)
-  | inr other ↦ rw other (all.0, recorded-named name change cs one all.1)
+  | inr other ↦ rw other (all.0, recorded_named name change cs one all.1)
 ]
 
-pub dropped-named : (name : List ℕ) (cs : List (List ℕ × Change)) → AreNamed cs
+pub dropped_named : (name : List ℕ) (cs : List (List ℕ × Change)) → AreNamed cs
     → AreNamed (dropped name cs)
-dropped-named name [] all = tt
-dropped-named name (c ∷ cs) all = elim (cases_Bool (same_bytes name c.0)) [
+dropped_named name [] all = tt
+dropped_named name (c ∷ cs) all = elim (cases_Bool (same_bytes name c.0)) [
   | inl same ↦ rw same (all.1)
-  | inr other ↦ rw other (all.0, dropped-named name cs all.1)
+  | inr other ↦ rw other (all.0, dropped_named name cs all.1)
 ]
 
 -- ---- a copy, change by change
@@ -75,15 +75,15 @@ all-at P (c ∷ cs) zero name change all at = let e : c.0 ≡ name = cc in subst
 all-at P (c ∷ cs) (suc i) name change all at = all-at P cs i name change all.1 at
 
 -- the next one goes last, since its name is new
-pub recorded-next : (cs : List (List ℕ × Change)) (i : ℕ) (name : List ℕ) (change : Change)
+pub recorded_next : (cs : List (List ℕ × Change)) (i : ℕ) (name : List ℕ) (change : Change)
     → IsDistinct same_bytes (keys_of cs) → slice_get cs i ≡ Some (name, change)
     → recorded name change (take i cs) ≡ take (suc i) cs
 unfolding IsDistinct
-recorded-next [] i name change apart at = cc
-recorded-next (c ∷ cs) zero name change apart at = let e : c ≡ (name, change) = cc in
+recorded_next [] i name change apart at = cc
+recorded_next (c ∷ cs) zero name change apart at = let e : c ≡ (name, change) = cc in
     ap (λ x. x ∷ []) (sym e)
-recorded-next (c ∷ cs) (suc i) name change apart at =
+recorded_next (c ∷ cs) (suc i) name change apart at =
     let away : same_bytes c.0 name ≡ false =
     all-at (λ n. same_bytes c.0 n ≡ false) cs i name change apart.0 at in
     let other : same_bytes name c.0 ≡ false = nat_list_eq_equiv.symm name c.0 ∙ away in
-    rw other (ap (λ xs. c ∷ xs) (recorded-next cs i name change apart.1 at))
+    rw other (ap (λ xs. c ∷ xs) (recorded_next cs i name change apart.1 at))

@@ -19,11 +19,10 @@ use Rattle.drafts.specs.declared.judging.Judged.TheVariants.{Best}
 use Rattle.drafts.specs.Machine.{MachineState, admitted}
 use Rattle.drafts.specs.Outcomes.{IsJudged}
 use Rattle.drafts.specs.Applied.{bears_name, held, holder_after, is_foreign, owned_of, set_of}
-use Rattle.drafts.specs.Applied.{teams_of, with_task, without_name, after_change, all_changes}
-use Rattle.drafts.specs.Applied.{if_few, applied}
-use Rattle.drafts.proofs.MapLaws.{held-with, held-with_other, held-without, held-without_other}
-use Rattle.drafts.proofs.PutLaws.{then-ok, put-made, remove-made}
+use Rattle.drafts.specs.Applied.{teams_of, after_change, all_changes, if_few, applied}
+use Rattle.drafts.proofs.ReachedLaws.{held-with, held-with_other, held-without, held-without_other}
 use Rattle.drafts.proofs.ReachedLaws.{none_held}
+use Rattle.drafts.proofs.PutLaws.{then-ok, put-made, remove-made}
 use Rattle.drafts.proofs.RosterLaws.{owned_of-parts}
 
 module _ (team : ℕ) where
@@ -37,49 +36,33 @@ module _ (team : ℕ) where
         absurd (both_ways (not (o.team == team)) is no)
   ]
 
+  -- under the name that is changed this team holds what follows, and other names are as they were
+  changed : (tasks next : List Owned) (n m : List ℕ) (slot : Option Owned)
+      → is_foreign team (held n tasks) ≡ false → held n next ≡ slot
+      → option_map_or (λ o. o.team) slot team ≡ team
+      → ((n ≡ m → ⊥) → held m next ≡ held m tasks)
+      → holder_after team next m ≡ holder_after team tasks m
+  changed tasks next n m slot free here ours others =
+      let of : Option Owned → ℕ = λ x. option_map_or (λ y. y.team) x team in
+      elim (cases_Bool (same_bytes n m)) [
+        | inl same ↦ subst (λ k. holder_after team next k ≡ holder_after team tasks k)
+            ((bytes_eq-Decides n m).0 same) (ap of here ∙ ours ∙ sym (own (held n tasks) free))
+        | inr other ↦ ap of
+            (others (λ e. both_ways (same_bytes n m) other ((bytes_eq-Decides n m).1 e)))
+      ]
+
   one : (tasks next : List Owned) (name : List ℕ) (change : Change) (m : List ℕ) → after_change team
       tasks name change ≡ Ok next → holder_after team next m ≡ holder_after team tasks m
   one tasks next name (Put sheet) m is =
       let made = put-made team tasks next name sheet is in
       let o : Owned = record { sheet = sheet; team = team } in
-      let start : holder_after team next m ≡ holder_after team (with_task sheet.name o tasks) m =
-      ap (λ ts. holder_after team ts m) made.1 in
-      elim (cases_Bool (same_bytes sheet.name m)) [
-        | inl same ↦
-            let e : sheet.name ≡ m = (bytes_eq-Decides sheet.name m).0 same in
-            let new : holder_after team (with_task sheet.name o tasks) m ≡ team =
-            subst (λ n. holder_after team (with_task sheet.name o tasks) n ≡ team) e
-            (ap (λ (x : Option Owned). option_map_or (λ y. y.team) x team)
-            (held-with sheet.name o tasks refl)) in
-            let old : holder_after team tasks m ≡ team = subst (λ n. holder_after team tasks n
-            ≡ team) e (own (held sheet.name tasks) made.0) in
-            start ∙ new ∙ sym old
-        | inr other ↦
-            let ne : sheet.name ≡ m → ⊥ = λ e. both_ways (same_bytes sheet.name m) other
-            ((bytes_eq-Decides sheet.name m).1 e) in
-            start ∙ ap (λ (x : Option Owned). option_map_or (λ y. y.team) x team)
-            (held-with_other sheet.name m o tasks refl ne)
-      ]
+      changed tasks next sheet.name m (Some o) made.0
+      (ap (held sheet.name) made.1 ∙ held-with sheet.name o tasks refl) refl
+      (λ ne. ap (held m) made.1 ∙ held-with_other sheet.name m o tasks refl ne)
   one tasks next name Remove m is =
       let made = remove-made team tasks next name is in
-      let start : holder_after team next m ≡ holder_after team (without_name name tasks) m =
-      ap (λ ts. holder_after team ts m) made.2 in
-      elim (cases_Bool (same_bytes name m)) [
-        | inl same ↦
-            let e : name ≡ m = (bytes_eq-Decides name m).0 same in
-            let new : holder_after team (without_name name tasks) m ≡ team =
-            subst (λ n. holder_after team (without_name name tasks) n ≡ team) e
-            (ap (λ (x : Option Owned). option_map_or (λ y. y.team) x team)
-            (held-without name tasks)) in
-            let old : holder_after team tasks m ≡ team =
-            subst (λ n. holder_after team tasks n ≡ team) e (own (held name tasks) made.0) in
-            start ∙ new ∙ sym old
-        | inr other ↦
-            let ne : name ≡ m → ⊥ =
-            λ e. both_ways (same_bytes name m) other ((bytes_eq-Decides name m).1 e) in
-            start ∙ ap (λ (x : Option Owned). option_map_or (λ y. y.team) x team)
-            (held-without_other name m tasks ne)
-      ]
+      changed tasks next name m None made.0 (ap (held name) made.2 ∙ held-without name tasks) refl
+      (λ ne. ap (held m) made.2 ∙ held-without_other name m tasks ne)
 
   all : (tasks last : List Owned) (changes : List (List ℕ × Change)) (m : List ℕ) → all_changes team
       tasks changes ≡ Ok last → holder_after team last m ≡ holder_after team tasks m
@@ -133,24 +116,6 @@ module _ (team : ℕ) where
 
 -- ---- the state after an admission
 -- its tasks are those of the best order's set, with these teams
-after : (team : ℕ) (desk : MachineState) (changes : List (List ℕ × Change))
-    (outcome : Result (List Owned) Refusal) (a : Arc Assignment Global) (teams : List ℕ)
-    → applied team desk.tasks changes ≡ outcome → IsJudged outcome (Best a) → IsTaskSet a.value.set
-    → teams ≡ map (λ s. holder_after team desk.tasks s.name) a.value.set
-    → (let next : MachineState = record {
-      version = desk.version + 1;
-      tasks =
-          owned_of a.value.set teams;
-    } in next) ≡ admitted desk outcome
-after team desk changes (Err refusal) a teams is judged valid so = absurd judged
-after team desk changes (Ok tasks) a teams is judged valid so =
-    let distinct = subst (λ U. IsTaskSet U) judged.0 valid in
-    let set = ap (λ U. owned_of U teams) judged.0 in
-    let held = ap (λ ts. owned_of (set_of tasks) ts)
-    (so ∙ ap (λ U. map (λ s. holder_after team desk.tasks s.name) U) judged.0) in
-    ap (λ ts. let next : MachineState = record { version = desk.version + 1; tasks = ts } in next)
-    (set ∙ held ∙ holders team desk.tasks tasks changes is distinct.distinct)
-
 pub after-admitted : (team : ℕ) (desk : MachineState) (changes : List (List ℕ × Change))
     (a : Arc Assignment Global) (teams : List ℕ)
     → IsJudged (applied team desk.tasks changes) (Best a) → IsTaskSet a.value.set
@@ -161,4 +126,19 @@ pub after-admitted : (team : ℕ) (desk : MachineState) (changes : List (List �
           owned_of a.value.set teams;
     } in next) ≡ admitted desk (applied team desk.tasks changes)
 after-admitted team desk changes a teams judged valid so =
-    after team desk changes (applied team desk.tasks changes) a teams refl judged valid so
+    by (applied team desk.tasks changes) refl judged
+  where
+    by : (outcome : Result (List Owned) Refusal) → applied team desk.tasks changes ≡ outcome
+        → IsJudged outcome (Best a) → (let next : MachineState = record {
+          version = desk.version + 1;
+          tasks =
+              owned_of a.value.set teams;
+        } in next) ≡ admitted desk outcome
+    by (Err refusal) is judged = absurd judged
+    by (Ok tasks) is judged =
+        let distinct = subst (λ U. IsTaskSet U) judged.0 valid in
+        let set = ap (λ U. owned_of U teams) judged.0 in
+        let held = ap (λ ts. owned_of (set_of tasks) ts)
+        (so ∙ ap (λ U. map (λ s. holder_after team desk.tasks s.name) U) judged.0) in
+        ap (λ ts. let next : MachineState = record { version = desk.version + 1; tasks = ts } in
+        next) (set ∙ held ∙ holders team desk.tasks tasks changes is distinct.distinct)

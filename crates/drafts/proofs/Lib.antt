@@ -1,11 +1,8 @@
 pub mod OwnedLaws
-pub mod TeamLaws
 pub mod ChangeLaws
 pub mod BookLaws
-pub mod OwnedFinds
 pub mod RosterLaws
 pub mod LogLaws
 pub mod ReachedLaws
-pub mod MapLaws
 pub mod HolderLaws
 pub mod PutLaws

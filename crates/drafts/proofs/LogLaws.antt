@@ -1,8 +1,7 @@
 -- What a log was asked determines what it says.
-use Rattle.std.proofs.Common.{◌≡◌, ℕ, inl, inr, not, nat_le, List, [], ◌∷◌, length, Result, Ok, Err}
-use Rattle.std.proofs.Common.{refl, sym, ◌∙◌, ap, subst}
+use Rattle.std.proofs.Common.{◌≡◌, ℕ, not, List, [], ◌∷◌, Result, Ok, Err, refl, sym, ◌∙◌, ap}
+use Rattle.std.proofs.Common.{subst}
 use Rattle.std.specs.List.{AllByRecursion}
-use Rattle.std.proofs.lemmas.Bool.{cases_Bool}
 use Rattle.std.proofs.lemmas.List.Elements.{All-from_recursion}
 use Rattle.task_sheet.specs.Sheet.{IsTask}
 use Rattle.task_sheet.specs.Verdicts as verdict
@@ -11,94 +10,75 @@ use Rattle.drafts.specs.declared.roster.Owned.{Owned}
 use Rattle.drafts.specs.declared.change.Change.{Change}
 use Rattle.drafts.specs.declared.change.Change.TheVariants.{Put, Remove}
 use Rattle.drafts.specs.declared.change.Refusal.{Refusal}
-use Rattle.drafts.specs.Applied.{set_of, bears_name, held, is_foreign, is_there, without_name}
-use Rattle.drafts.specs.Applied.{after_change, then_on, if_few, all_changes, applied}
+use Rattle.drafts.specs.Applied.{set_of, bears_name, without_name, after_change, if_few}
+use Rattle.drafts.specs.Applied.{all_changes, applied}
 use Rattle.drafts.specs.Machine.{MachineState, Ruling, Admitted, Refused, Infeasible, Entry}
 use Rattle.drafts.specs.Machine.{IsRuling, moved, after_entry, IsLegal}
 use Rattle.drafts.specs.Commits.{commit_of, commits_of, IsTaskChange, PutTasks}
 use Rattle.drafts.proofs.RosterLaws.{all-placed, all-kept}
+use Rattle.drafts.proofs.PutLaws.{then-ok, put-made, remove-made}
+use Rattle.drafts.proofs.HolderLaws.{few}
 
 -- ---- tasks stay tasks
 abbrev AreTasks : List Owned → Type 0
 AreTasks ts = AllByRecursion IsTask (set_of ts)
 
-abbrev ComeToTasks : Result (List Owned) Refusal → Type 0
-ComeToTasks (Ok ts) = AreTasks ts
-ComeToTasks (Err refusal) = Unit {0}
-
 tasks-without : (name : List ℕ) (ts : List Owned) → AreTasks ts → AreTasks (without_name name ts)
 tasks-without name ts all = all-kept (λ o. not (bears_name name o)) IsTask ts all
 
-tasks-changed : (team : ℕ) (ts : List Owned) (name : List ℕ) (change : Change) → AreTasks ts
-    → IsTaskChange change → ComeToTasks (after_change team ts name change)
-tasks-changed team ts name (Put sheet) all is =
-    elim (cases_Bool (is_foreign team (held sheet.name ts))) [
-      | inl foreign ↦ rw foreign tt
-      | inr own ↦ rw own (all-placed IsTask (record { sheet = sheet; team = team })
-          (without_name sheet.name ts) is (tasks-without sheet.name ts all))
-    ]
-tasks-changed team ts name Remove all is = elim (cases_Bool (is_foreign team (held name ts))) [
-  | inl foreign ↦ rw foreign tt
-  | inr own ↦ elim (cases_Bool (is_there (held name ts))) [
-    | inl there ↦ rw (own, there) (tasks-without name ts all)
-    | inr gone ↦ rw (own, gone) tt
-  ]
-]
+module _ (team : ℕ) where
+  tasks-changed : (ts next : List Owned) (name : List ℕ) (change : Change) → AreTasks ts
+      → IsTaskChange change → after_change team ts name change ≡ Ok next → AreTasks next
+  tasks-changed ts next name (Put sheet) all is made =
+      subst AreTasks (sym (put-made team ts next name sheet made).1)
+      (all-placed IsTask (record { sheet = sheet; team = team }) (without_name sheet.name ts) is
+      (tasks-without sheet.name ts all))
+  tasks-changed ts next name Remove all is made =
+      subst AreTasks (sym (remove-made team ts next name made).2) (tasks-without name ts all)
 
-tasks-then : (r : Result (List Owned) Refusal) (f : List Owned → Result (List Owned) Refusal)
-    → ComeToTasks r → ((ts : List Owned) → AreTasks ts → ComeToTasks (f ts))
-    → ComeToTasks (then_on r f)
-tasks-then (Ok ts) f all next = next ts all
-tasks-then (Err refusal) f all next = tt
+  tasks-all : (ts last : List Owned) (changes : List (List ℕ × Change)) → AreTasks ts
+      → AllByRecursion (λ c. IsTaskChange c.1) changes → all_changes team ts changes ≡ Ok last
+      → AreTasks last
+  tasks-all ts last [] all are is = let e : ts ≡ last = cc in subst AreTasks e all
+  tasks-all ts last (c ∷ changes) all are is =
+      let made = then-ok (after_change team ts c.0 c.1) (λ next. all_changes team next changes)
+      last is in
+      tasks-all made.0 last changes (tasks-changed ts made.0 c.0 c.1 all are.0 made.1) are.1 made.2
 
-tasks-all : (team : ℕ) (ts : List Owned) (changes : List (List ℕ × Change)) → AreTasks ts
-    → AllByRecursion (λ c. IsTaskChange c.1) changes → ComeToTasks (all_changes team ts changes)
-tasks-all team ts [] all are = all
-tasks-all team ts (c ∷ changes) all are =
-    tasks-then (after_change team ts c.0 c.1) (λ next. all_changes team next changes)
-    (tasks-changed team ts c.0 c.1 all are.0) (λ next more. tasks-all team next changes more are.1)
-
-tasks-few : (ts : List Owned) → AreTasks ts → ComeToTasks (if_few ts)
-tasks-few ts all = elim (cases_Bool (nat_le (length ts) 32)) [
-  | inl few ↦ rw few all
-  | inr many ↦ rw many tt
-]
-
-tasks-applied : (team : ℕ) (ts : List Owned) (changes : List (List ℕ × Change)) → AreTasks ts
-    → AllByRecursion (λ c. IsTaskChange c.1) changes → ComeToTasks (applied team ts changes)
-tasks-applied team ts changes all are =
-    tasks-then (all_changes team ts changes) if_few (tasks-all team ts changes all are) tasks-few
+  tasks-applied : (ts last : List Owned) (changes : List (List ℕ × Change)) → AreTasks ts
+      → AllByRecursion (λ c. IsTaskChange c.1) changes → applied team ts changes ≡ Ok last
+      → AreTasks last
+  tasks-applied ts last changes all are is =
+      let made = then-ok (all_changes team ts changes) if_few last is in
+      subst AreTasks (few team made.0 last made.2) (tasks-all ts made.0 changes all are made.1)
 
 tasks-moved : (desk : MachineState) (d : Ruling) (outcome : Result (List Owned) Refusal)
-    → AreTasks desk.tasks → ComeToTasks outcome → AreTasks (moved desk d outcome).tasks
-tasks-moved desk (Admitted version) (Ok ts) all come = come
-tasks-moved desk (Admitted version) (Err refusal) all come = all
-tasks-moved desk (Refused refusal) outcome all come = all
-tasks-moved desk (Infeasible o) outcome all come = all
+    → AreTasks desk.tasks → ((ts : List Owned) → outcome ≡ Ok ts → AreTasks ts)
+    → AreTasks (moved desk d outcome).tasks
+tasks-moved desk (Admitted version) (Ok ts) all come = come ts refl
+tasks-moved desk d outcome all come = all
 
 -- ---- one answer
 answer-one : (version : ℕ) (outcome : Result (List Owned) Refusal) (d e : Ruling)
-    → ComeToTasks outcome → IsRuling version outcome d → IsRuling version outcome e → d ≡ e
+    → ((ts : List Owned) → outcome ≡ Ok ts → AreTasks ts) → IsRuling version outcome d
+    → IsRuling version outcome e → d ≡ e
 answer-one version (Err refusal) (Refused told) (Refused again) come a b =
     ap (λ r. Refused r) (a ∙ sym b)
-answer-one version (Err refusal) (Refused told) (Admitted again) come a b = absurd b
-answer-one version (Err refusal) (Refused told) (Infeasible again) come a b = absurd b
 answer-one version (Err refusal) (Admitted told) e come a b = absurd a
 answer-one version (Err refusal) (Infeasible told) e come a b = absurd a
+answer-one version (Ok ts) (Refused told) e come a b = absurd a
 answer-one version (Ok ts) (Admitted told) (Admitted again) come a b =
     ap (λ n. Admitted n) (a.1 ∙ sym b.1)
 answer-one version (Ok ts) (Admitted told) (Infeasible again) come a b = absurd (b.0 a.0)
-answer-one version (Ok ts) (Admitted told) (Refused again) come a b = absurd b
-answer-one version (Ok ts) (Refused told) e come a b = absurd a
 answer-one version (Ok ts) (Infeasible told) (Admitted again) come a b = absurd (a.0 b.0)
-answer-one version (Ok ts) (Infeasible told) (Refused again) come a b = absurd b
 answer-one version (Ok ts) (Infeasible told) (Infeasible again) come a b =
     let one : verdict.Infeasible told.members ≡ verdict.Infeasible again.members =
-    IsVerdictOf-one (set_of ts) (All-from_recursion IsTask (set_of ts) come)
+    IsVerdictOf-one (set_of ts) (All-from_recursion IsTask (set_of ts) (come ts refl))
     (verdict.Infeasible told.members) (verdict.Infeasible again.members) a.2 b.2 in
     let members : told.members ≡ again.members = cc in
     let sets = a.1 ∙ sym b.1 in
     λ i. Infeasible (record { set = sets i; members = members i })
+answer-one version outcome d e come a b = absurd b
 
 -- ---- one log
 pub log-one : (desk : MachineState) (first second : List Entry) → AreTasks desk.tasks
@@ -111,7 +91,7 @@ log-one desk (d ∷ first) (e ∷ second) all puts same a b =
     let heads : commit_of d ≡ commit_of e = cc in
     let tails : commits_of first ≡ commits_of second = cc in
     let outcome = applied d.team desk.tasks d.changes in
-    let come = tasks-applied d.team desk.tasks d.changes all puts.0 in
+    let come = λ (ts : List Owned). tasks-applied d.team desk.tasks ts d.changes all puts.0 in
     let as_first = subst (λ (c : ℕ × List (List ℕ × Change)). IsRuling desk.version
     (applied c.0 desk.tasks c.1) e.decision) (sym heads) b.0 in
     let decisions : d.decision ≡ e.decision =

@@ -15,7 +15,7 @@ use Rattle.drafts.specs.Applied.{held, is_there, is_foreign, with_task, without_
 use Rattle.drafts.specs.Applied.{then_on, all_changes, if_few, applied}
 use Rattle.drafts.specs.Edits.{IsNamed, AreNamed, HasTasks, is_put, has_put}
 use Rattle.drafts.proofs.RosterLaws.{drop-at}
-use Rattle.drafts.proofs.MapLaws.{held-with, held-with_other, held-without_other}
+use Rattle.drafts.proofs.ReachedLaws.{held-with, held-with_other, held-without_other}
 
 -- what a first step and the rest come to, the first step comes to something
 pub then-ok : (r : Result (List Owned) Refusal) (f : List Owned → Result (List Owned) Refusal)
@@ -25,20 +25,10 @@ then-ok (Ok next) f last is = (next, refl, is)
 then-ok (Err refusal) f last is = absurd (cc)
 
 -- ---- whether one is a put, change by change
-pub put-here : (changes : List (List ℕ × Change)) (i : ℕ) (name : List ℕ) (change : Change)
-    → slice_get changes i ≡ Some (name, change) → is_put change ≡ true
-    → has_put changes ≡ has_put (drop i changes) → has_put changes ≡ true
-put-here changes i name change at put so =
-    so ∙ ap has_put (drop-at changes i (name, change) at)
-    ∙ ap (λ b. b || has_put (drop (suc i) changes)) put
-
-pub put-next : (changes : List (List ℕ × Change)) (i : ℕ) (name : List ℕ) (change : Change)
-    → slice_get changes i ≡ Some (name, change) → is_put change ≡ false
-    → has_put changes ≡ has_put (drop i changes) → has_put changes ≡ has_put (drop (i + 1) changes)
-put-next changes i name change at other so =
-    so ∙ ap has_put (drop-at changes i (name, change) at)
-    ∙ ap (λ b. b || has_put (drop (suc i) changes)) other
-    ∙ ap (λ n. has_put (drop n changes)) (sym (add-one i))
+pub put_step : (changes : List (List ℕ × Change)) (i : ℕ) (name : List ℕ) (change : Change)
+    → slice_get changes i ≡ Some (name, change)
+    → has_put (drop i changes) ≡ (is_put change || has_put (drop (i + 1) changes))
+put_step changes i name change at = rw (add-one, drop-at changes i (name, change) at) refl
 
 module _ (team : ℕ) where
   -- what a put leaves
@@ -132,17 +122,17 @@ module _ (team : ℕ) where
   some-task m [] there = absurd (both_ways false refl there)
   some-task m (x ∷ tasks) there = omega arith
 
-  few-tasks : (r : Result (List Owned) Refusal)
+  few_tasks : (r : Result (List Owned) Refusal)
       → ((last : List Owned) → r ≡ Ok last → 0 < length last) → HasTasks (then_on r if_few)
-  few-tasks (Err refusal) some = tt
-  few-tasks (Ok last) some = elim (cases_Bool (nat_le (length last) 32)) [
+  few_tasks (Err refusal) some = tt
+  few_tasks (Ok last) some = elim (cases_Bool (nat_le (length last) 32)) [
     | inl few ↦ rw few (some last refl)
     | inr many ↦ rw many tt
   ]
 
-  pub put-tasks : (tasks : List Owned) (changes : List (List ℕ × Change))
+  pub put_tasks : (tasks : List Owned) (changes : List (List ℕ × Change))
       → IsDistinct same_bytes (keys_of changes) → AreNamed changes → has_put changes ≡ true
       → HasTasks (applied team tasks changes)
-  put-tasks tasks changes apart named put =
-      few-tasks (all_changes team tasks changes) (λ last is. let h =
+  put_tasks tasks changes apart named put =
+      few_tasks (all_changes team tasks changes) (λ last is. let h =
       held-last tasks last changes apart named put is in some-task h.0 last h.1)

@@ -1,18 +1,18 @@
--- Two rosters that hold the same under each name are one list.
+-- The tasks by rank with their teams are a finite map from names: two rosters that hold the same under each are one.
 use Rattle.std.proofs.Common.{◌≡◌, ℕ, inl, inr, true, false, List, [], ◌∷◌, Some, None, Less, Equal}
 use Rattle.std.proofs.Common.{refl, sym, ◌∙◌, ap, subst}
 use Rattle.std.specs.List.{AllByRecursion}
 use Rattle.std.specs.List.Sorted.{IsStrictlySortedBy}
 use Rattle.std.specs.Ordering.{is_lt}
 use Rattle.std.specs.Cmp.{tied_itself}
-use Rattle.std.proofs.lemmas.Bool.{cases_Bool}
+use Rattle.std.proofs.lemmas.Bool.{cases_Bool, both_ways}
 use Rattle.std.proofs.lemmas.Slice.Eq.{bytes_eq-Decides}
 use Rattle.task_sheet.specs.Sheet.{Task, same_bytes}
 use Rattle.task_sheet.specs.Rank.{rank_cmp}
 use Rattle.task_sheet.specs.TaskSet.{same_name, AreDistinct}
 use Rattle.task_sheet.proofs.SetLaws.{rank_total, same_turned, below}
 use Rattle.drafts.specs.declared.roster.Owned.{Owned}
-use Rattle.drafts.specs.Applied.{set_of, bears_name, held}
+use Rattle.drafts.specs.Applied.{set_of, bears_name, held, without_name, placed, with_task}
 use Rattle.drafts.specs.Rosters.{IsRoster}
 use Rattle.drafts.proofs.RosterLaws.{less, beyond}
 
@@ -100,3 +100,71 @@ one (x ∷ xs) (y ∷ ys) a b c d same =
 pub reached : (first second : List Owned) → IsRoster first → IsRoster second
     → ((n : List ℕ) → held n first ≡ held n second) → first ≡ second
 reached first second a b same = one first second a.ranked b.ranked a.distinct b.distinct same
+
+pub held-without : (n : List ℕ) (ts : List Owned) → held n (without_name n ts) ≡ None
+held-without n [] = refl
+held-without n (x ∷ ts) = elim (cases_Bool (bears_name n x)) [
+  | inl here ↦ rw here (held-without n ts)
+  | inr away ↦ rw (away, away) (held-without n ts)
+]
+
+kept : (n m : List ℕ) (ts : List Owned)
+    → ((o : Owned) → bears_name m o ≡ true → bears_name n o ≡ false)
+    → held m (without_name n ts) ≡ held m ts
+kept n m [] apart = refl
+kept n m (x ∷ ts) apart = elim (cases_Bool (bears_name n x)) [
+  | inl here ↦ elim (cases_Bool (bears_name m x)) [
+    | inl both ↦ absurd (both_ways (bears_name n x) (apart x both) here)
+    | inr other ↦ rw (here, other) (kept n m ts apart)
+  ]
+  | inr away ↦ elim (cases_Bool (bears_name m x)) [
+    | inl found ↦ rw (away, found) refl
+    | inr other ↦ rw (away, other) (kept n m ts apart)
+  ]
+]
+
+beside : (m : List ℕ) (o : Owned) (ts : List Owned) → bears_name m o ≡ false
+    → held m (placed o ts) ≡ held m ts
+beside m o [] other = rw other refl
+beside m o (x ∷ ts) other = elim (cases_Bool (is_lt (rank_cmp x.sheet o.sheet))) [
+  | inl lt ↦ elim (cases_Bool (bears_name m x)) [
+    | inl found ↦ rw (lt, found) refl
+    | inr away ↦ rw (lt, away) (beside m o ts other)
+  ]
+  | inr ge ↦ rw (ge, other) refl
+]
+
+there : (n : List ℕ) (o : Owned) (ts : List Owned) → bears_name n o ≡ true → held n ts ≡ None
+    → held n (placed o ts) ≡ Some o
+there n o [] named none = rw named refl
+there n o (x ∷ ts) named none = elim (cases_Bool (is_lt (rank_cmp x.sheet o.sheet))) [
+  | inl lt ↦ elim (cases_Bool (bears_name n x)) [
+    | inl found ↦ let some : Some x ≡ None = (rw found at none) in absurd (cc)
+    | inr away ↦ rw (lt, away) (there n o ts named (rw away at none))
+  ]
+  | inr ge ↦ rw (ge, named) refl
+]
+
+names_apart : (n m : List ℕ) → (n ≡ m → ⊥) → (o : Owned) → bears_name m o ≡ true
+    → bears_name n o ≡ false
+names_apart n m ne o is = elim (cases_Bool (bears_name n o)) [
+  | inl both ↦ absurd (ne (sym ((bytes_eq-Decides o.sheet.name n).0 both)
+      ∙ (bytes_eq-Decides o.sheet.name m).0 is))
+  | inr away ↦ away
+]
+
+pub held-without_other : (n m : List ℕ) (ts : List Owned) → (n ≡ m → ⊥)
+    → held m (without_name n ts) ≡ held m ts
+held-without_other n m ts ne = kept n m ts (names_apart n m ne)
+
+pub held-with : (n : List ℕ) (o : Owned) (ts : List Owned) → o.sheet.name ≡ n
+    → held n (with_task n o ts) ≡ Some o
+held-with n o ts named =
+    there n o (without_name n ts) ((bytes_eq-Decides o.sheet.name n).1 named) (held-without n ts)
+
+pub held-with_other : (n m : List ℕ) (o : Owned) (ts : List Owned) → o.sheet.name ≡ n → (n ≡ m → ⊥)
+    → held m (with_task n o ts) ≡ held m ts
+held-with_other n m o ts named ne =
+    let away : bears_name m o ≡ false =
+    names_apart m n (λ e. ne (sym e)) o ((bytes_eq-Decides o.sheet.name n).1 named) in
+    beside m o (without_name n ts) away ∙ held-without_other n m ts ne

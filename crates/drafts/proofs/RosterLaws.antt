@@ -1,8 +1,8 @@
 -- Changes keep a roster by rank, with valid sheets and distinct names; so its sheets are a set.
 use Rattle.std.proofs.Common.{◌≡◌, ℕ, zero, suc, ◌+◌, ◌≤◌, inl, inr, Bool, true, false, not, nat_lt}
 use Rattle.std.proofs.Common.{nat_le, List, [], ◌∷◌, ◌++◌, length, insert, position, drop}
-use Rattle.std.proofs.Common.{slice_get, Some, None, Ok, Err, Ordering, Less, Equal, Greater, refl}
-use Rattle.std.proofs.Common.{sym, ◌∙◌, ap, add-one, arith}
+use Rattle.std.proofs.Common.{slice_get, Some, None, Ok, Ordering, Less, Equal, Greater, refl, sym}
+use Rattle.std.proofs.Common.{◌∙◌, ap, add-one, arith}
 use Rattle.std.specs.List.{filter, AllByRecursion, list_any, position_or_len}
 use Rattle.std.specs.List.Sorted.{IsStrictlySortedBy}
 use Rattle.std.specs.Ordering.{is_lt}
@@ -21,11 +21,10 @@ use Rattle.task_sheet.proofs.SetLaws.{rank_total, same_turned, below}
 use Rattle.task_sheet.proofs.Unique.{sorted_unique}
 use Rattle.drafts.specs.declared.roster.Owned.{Owned}
 use Rattle.drafts.specs.declared.change.Change.{Change}
-use Rattle.drafts.specs.declared.change.Refusal.{Refusal}
 use Rattle.drafts.specs.Applied.{set_of, teams_of, owned_of, bears_name, without_name, placed}
 use Rattle.drafts.specs.Applied.{with_task, after_change, then_on, all_changes, if_few}
 use Rattle.drafts.specs.Rosters.{IsRoster}
-use Rattle.drafts.proofs.OwnedFinds.{position-some, position-none}
+use Rattle.drafts.proofs.OwnedLaws.{position-some, position-none}
 
 -- ---- a task that is put in
 
@@ -111,9 +110,9 @@ module _ (p : Owned → Bool) where
     distinct = distinct-kept ts roster.distinct;
   }
 
-pub roster-without : (name : List ℕ) (ts : List Owned) → IsRoster ts
+pub roster_without : (name : List ℕ) (ts : List Owned) → IsRoster ts
     → IsRoster (without_name name ts)
-roster-without name ts roster = roster-kept (λ o. not (bears_name name o)) ts roster
+roster_without name ts roster = roster-kept (λ o. not (bears_name name o)) ts roster
 
 pub apart-without : (s : Task) (ts : List Owned)
     → AllByRecursion (λ y. same_name s y ≡ false) (set_of (without_name s.name ts))
@@ -123,11 +122,11 @@ apart-without s (x ∷ ts) = elim (cases_Bool (same_bytes x.sheet.name s.name)) 
   | inr away ↦ rw away (same_turned s x.sheet ∙ away, apart-without s ts)
 ]
 
-pub roster-with : (o : Owned) (ts : List Owned) → IsValidSheet o.sheet → IsRoster ts
+pub roster_with : (o : Owned) (ts : List Owned) → IsValidSheet o.sheet → IsRoster ts
     → IsRoster (with_task o.sheet.name o ts)
-roster-with o ts valid roster =
+roster_with o ts valid roster =
     let others = without_name o.sheet.name ts in
-    let kept = roster-without o.sheet.name ts roster in
+    let kept = roster_without o.sheet.name ts roster in
     let apart = apart-without o.sheet ts in
     record {
       valid = all-placed IsValidSheet o others valid kept.valid;
@@ -148,14 +147,14 @@ place_first o (x ∷ ts) = elim (cases_Bool (is_lt (rank_cmp x.sheet o.sheet))) 
   | inr ge ↦ rw ge refl
 ]
 
-pub place-some : (o : Owned) (ts : List Owned) (i : ℕ) → position
+pub place_some : (o : Owned) (ts : List Owned) (i : ℕ) → position
     (λ x. not (is_lt (rank_cmp x.sheet o.sheet))) ts ≡ Some i → insert ts i o ≡ placed o ts
-place-some o ts i is = ap (λ k. insert ts k o)
+place_some o ts i is = ap (λ k. insert ts k o)
     (sym (position-some (λ x. not (is_lt (rank_cmp x.sheet o.sheet))) ts i is).0) ∙ place_first o ts
 
-pub place-none : (o : Owned) (ts : List Owned) → position
+pub place_none : (o : Owned) (ts : List Owned) → position
     (λ x. not (is_lt (rank_cmp x.sheet o.sheet))) ts ≡ None → insert ts (length ts) o ≡ placed o ts
-place-none o ts is =
+place_none o ts is =
     let p : Owned → Bool = λ x. not (is_lt (rank_cmp x.sheet o.sheet)) in
     let same : length ts ≡ position_or_len p ts =
     omega (arith, position-none p ts is, prefix_len-le-length (λ x. not (p x)) ts) in
@@ -186,15 +185,15 @@ none_seen [] = tt
 none_seen (x ∷ xs) = (refl, none_seen xs)
 
 -- the sheets of a few tasks are not refused
-pub roster-fits : (ts : List Owned) → IsRoster ts → length ts ≤ 32 → sheets_fault (set_of ts) ≡ None
-roster-fits ts roster few =
+pub roster_fits : (ts : List Owned) → IsRoster ts → length ts ≤ 32 → sheets_fault (set_of ts) ≡ None
+roster_fits ts roster few =
     let room : nat_lt 32 (length (set_of ts)) ≡ false = let e = length-map ts (λ o. o.sheet) in
     grind (arith, nat_tests) in
     rw (no_repeat [] 1 (set_of ts) (none_seen (set_of ts)) roster.distinct, room) refl
 
 -- and the set of sheets that are by rank is the list of them
-pub ranked-set : (ss us : List Task) → IsStrictlySortedBy rank_cmp ss → IsByRank ss us → us ≡ ss
-ranked-set ss us ranked by =
+pub ranked_set : (ss us : List Task) → IsStrictlySortedBy rank_cmp ss → IsByRank ss us → us ≡ ss
+ranked_set ss us ranked by =
     sorted_unique rank_total us ss by.ranked ranked (IsPermutation-sym ss us by.permutation)
 
 -- a set with teams is a roster
@@ -217,8 +216,8 @@ same-tasks xs ys set teams =
     sym (owned_of-parts xs) ∙ ap (λ U. owned_of U (teams_of xs)) set
     ∙ ap (owned_of (set_of ys)) teams ∙ owned_of-parts ys
 
-pub few-tasks : (ts : List Owned) → length ts ≤ 32 → if_few ts ≡ Ok ts
-few-tasks ts few = let test : nat_le (length ts) 32 ≡ true = grind (arith, nat_tests) in
+pub few_tasks : (ts : List Owned) → length ts ≤ 32 → if_few ts ≡ Ok ts
+few_tasks ts few = let test : nat_le (length ts) 32 ≡ true = grind (arith, nat_tests) in
     rw test refl
 
 -- ---- changes, one after the other
@@ -229,21 +228,10 @@ drop-at [] i x at = cc
 drop-at (y ∷ xs) zero x at = let e : y ≡ x = cc in ap (λ z. z ∷ xs) e
 drop-at (y ∷ xs) (suc i) x at = drop-at xs i x at
 
--- the next change is made
-pub next-made : (team : ℕ) (tasks next : List Owned) (changes : List (List ℕ × Change)) (i : ℕ)
+-- the next change, and those behind it
+pub next_change : (team : ℕ) (tasks : List Owned) (changes : List (List ℕ × Change)) (i : ℕ)
     (name : List ℕ) (change : Change) → slice_get changes i ≡ Some (name, change)
-    → after_change team tasks name change ≡ Ok next
-    → all_changes team tasks (drop i changes) ≡ all_changes team next (drop (i + 1) changes)
-next-made team tasks next changes i name change at made =
-    ap (λ cs. all_changes team tasks cs) (drop-at changes i (name, change) at)
-    ∙ ap (λ r. then_on r (λ ts. all_changes team ts (drop (suc i) changes))) made
-    ∙ ap (λ n. all_changes team next (drop n changes)) (sym (add-one i))
-
--- or it is refused
-pub next-refused : (team : ℕ) (tasks : List Owned) (refusal : Refusal)
-    (changes : List (List ℕ × Change)) (i : ℕ) (name : List ℕ) (change : Change)
-    → slice_get changes i ≡ Some (name, change) → after_change team tasks name change ≡ Err refusal
-    → all_changes team tasks (drop i changes) ≡ Err refusal
-next-refused team tasks refusal changes i name change at made =
-    ap (λ cs. all_changes team tasks cs) (drop-at changes i (name, change) at)
-    ∙ ap (λ r. then_on r (λ ts. all_changes team ts (drop (suc i) changes))) made
+    → all_changes team tasks (drop i changes) ≡ then_on (after_change team tasks name change)
+    (λ ts. all_changes team ts (drop (i + 1) changes))
+next_change team tasks changes i name change at =
+    rw (add-one, drop-at changes i (name, change) at) refl

@@ -27,6 +27,7 @@ pub enum Applied {
 }
 
 // Puts a sheet, or answers why it is refused.
+#[tactic(auto, using(crate::proofs::RosterLaws::roster_without))]
 fn put(
     alloc: Global,
     team: Team,
@@ -50,6 +51,7 @@ fn put(
 }
 
 // Removes the task of a name, or answers why that is refused.
+#[tactic(auto, using(crate::proofs::RosterLaws::roster_without))]
 fn remove(team: Team, tasks: &mut Vec<Owned>, name: Name) -> Option<Refusal>
     requires { IsRoster tasks.old.items }
     ensures roster { IsRoster tasks.new.items }
@@ -110,6 +112,7 @@ pub fn make_changes(
 }
 
 // The set of sheets that are by rank.
+#[tactic(auto, using(crate::proofs::RosterLaws::ranked_set))]
 fn make_set(alloc: Global, sheets: Vec<Sheet>) -> Result<TaskSet, AllocError>
     requires ranked { IsStrictlySortedBy rank_cmp sheets.items }
     requires fits { sheets_fault sheets.items ≡ None }
@@ -126,6 +129,7 @@ fn make_set(alloc: Global, sheets: Vec<Sheet>) -> Result<TaskSet, AllocError>
 }
 
 // The set of the tasks, unless they are too many.
+#[tactic(auto, using(crate::proofs::RosterLaws::roster_fits, crate::proofs::RosterLaws::few_tasks))]
 fn as_set(alloc: Global, tasks: Vec<Owned>) -> Result<Applied, AllocError>
     requires { IsRoster tasks.items }
     ensures { IfOk result (IsApplied (if_few tasks.items)) }

@@ -122,6 +122,7 @@ impl Book {
     }
 
     /// The present state.
+    #[tactic(auto, using(crate::proofs::BookLaws::book_legal))]
     pub fn state(&self) -> &NodeState
         ensures now { result.now ≡ self.now.desk }
         ensures legal { IsLegalBook self.now }
@@ -144,12 +145,41 @@ impl Book {
     }
 
     /// The state and the log, out of the book.
+    #[tactic(auto, using(crate::proofs::BookLaws::book_legal))]
     pub fn into_parts(self) -> (Arc<NodeState>, Vec<Arc<Entry>>)
         ensures state { result.0.value ≡ self.desk }
         ensures log { map (λ e. e.value) result.1.items ≡ self.log }
         ensures legal { IsLegalBook self }
     {
         (self.state, self.log)
+    }
+
+    // The version of the present state. It has room to count on: each admission has a place in the log.
+    #[tactic(auto, using(crate::proofs::BookLaws::version_fits))]
+    fn version(&self) -> u64
+        ensures same { result ≡ self.now.desk.version }
+        ensures room { result + 1 < 2 ^ 64 }
+    {
+        self.state.version()
+    }
+
+    // Logs an entry of the machine, moves to the state after it, and gives its place.
+    fn log_entry(
+        &mut self,
+        entry: Arc<Entry>,
+        next: Option<Arc<NodeState>>,
+    ) -> Result<usize, AllocError>
+        requires decision { IsDecision
+            self.old.desk entry.value.team entry.value.changes entry.value.decision }
+        requires next { after_next self.old.desk (option_map (λ s. s.value) next)
+            ≡ (logged self.old entry.value).desk }
+        ensures place { IfOk result (λ place. place ≡ length self.old.log + 1) }
+        ensures ok { OnOk result (self.new ≡ logged self.old entry.value) }
+        ensures err { OnErr result (self.new ≡ self.old) }
+    {
+        self.log.push(entry)?;
+        move_on(&mut self.state, next);
+        Ok(self.log.len())
     }
 
     // The state after a decision: the tasks that are admitted with their teams, or the present one.
@@ -198,15 +228,11 @@ impl Book {
         ensures ok { IfOk result (λ d. self.new ≡ logged self.old d.entry.value) }
         ensures err { OnErr result (self.new ≡ self.old) }
     {
+        let version = self.version();
         let next = self.next_state(alloc, draft, judged)?;
-        let entry = make_entry(alloc, self.state.version(), draft, judged)?;
-        let kept = entry.clone()?;
-        self.log.push(kept)?;
-        move_on(&mut self.state, next);
-        Ok(Decided {
-            place: self.log.len(),
-            entry,
-        })
+        let entry = make_entry(alloc, version, draft, judged)?;
+        let place = self.log_entry(entry.clone()?, next)?;
+        Ok(Decided { place, entry })
     }
 
     /// Logs the decision on a draft's changes, which were judged on its base, and moves to the admitted tasks. None where

@@ -205,6 +205,7 @@ impl Draft {
     }
 
     /// Whether one of the changes is a put. What they come to has a task then, where they apply.
+    #[tactic(auto, using(crate::proofs::PutLaws::put_step, crate::proofs::PutLaws::put_tasks))]
     pub fn has_put(&self) -> bool
         ensures same { result ≡ has_put self.now.changes }
         ensures tasks { IsTrue result → HasTasks (on_base self.now) }

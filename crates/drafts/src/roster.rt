@@ -112,6 +112,7 @@ fn first_beyond(tasks: &[Owned], task: &Owned) -> Option<usize>
 }
 
 // Where a task goes by its rank.
+#[tactic(auto, using(crate::proofs::RosterLaws::place_some, crate::proofs::RosterLaws::place_none))]
 fn place_of(tasks: &[Owned], task: &Owned) -> usize
     ensures within { result ≤ length tasks.now }
     ensures placed { insert tasks.now result task.now ≡ placed task.now tasks.now }

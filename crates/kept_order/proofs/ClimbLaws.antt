@@ -1,25 +1,22 @@
 -- Levels from the lowest up: the chosen tasks make the best order that keeps a list, or none does.
-use Rattle.std.proofs.Common.{◌≡◌, ℕ, inl, inr, ◌+◌, ◌<◌, true, false, ◌==◌, List, [], ◌∷◌, ◌++◌}
-use Rattle.std.proofs.Common.{length, refl, sym, ◌∙◌, ap, subst, arith}
+use Rattle.std.proofs.Common.{◌≡◌, ℕ, inl, inr, true, false, ◌==◌, List, [], ◌∷◌, ◌++◌, length}
+use Rattle.std.proofs.Common.{refl, sym, subst}
 use Rattle.std.specs.Ordering.{nat_cmp}
 use Rattle.std.specs.FinSet as members
-use Rattle.std.proofs.lemmas.Bool.{cases_Bool, cases_eq, or_cases, both_ways, eqb-true}
-use Rattle.std.proofs.lemmas.List.{map_push}
+use Rattle.std.proofs.lemmas.Bool.{cases_Bool, or_cases, both_ways, eqb-true}
 use Rattle.task_sheet.specs.Sheet.{Task, AllTasks}
-use Rattle.task_sheet.specs.MembersWords.{all_below}
-use Rattle.task_sheet.specs.Indexes.{Indexes, indexes_of, no_index, without_index, below, among}
-use Rattle.task_sheet.specs.Indexes.{IsPart}
+use Rattle.task_sheet.specs.Indexes.{Indexes, indexes_of, without_index, among, IsPart}
 use Rattle.task_sheet.specs.Demand.{IsResponseOf}
 use Rattle.task_sheet.specs.Orders.{all_of, IsOrderOf, IsBetter}
 use Rattle.task_sheet.specs.Levels.{left_after}
-use Rattle.task_sheet.proofs.MembersIndexes.{indexes_of-empty, indexes_of-all_below}
-use Rattle.task_sheet.proofs.MembersIndexes.{indexes_of-remove, member_of-len}
+use Rattle.task_sheet.proofs.MembersIndexes.{member_of-len}
 use Rattle.task_sheet.proofs.IndexLaws.{without-parts, IsOrderOf-among, IsOrderOf-head}
 use Rattle.task_sheet.proofs.IndexLaws.{IsOrderOf-rest, IsOrderOf-cons}
-use Rattle.task_sheet.proofs.LevelLaws.{left_after-part, left_after-push}
 use Rattle.assignment.specs.Places.{PlaceData}
-use Rattle.assignment.specs.Placings.{tasks_of_places, AllRespond}
+use Rattle.assignment.specs.Placings.{tasks_of_places}
 use Rattle.assignment.proofs.FeasibilityLaws.{some_left}
+use Rattle.assignment.proofs.PlacingLaws.{IsPlaced, IsPlaced-part, IsPlaced-push, IsPlaced-none}
+use Rattle.assignment.proofs.PlacingLaws.{tasks-push}
 use Rattle.kept_order.specs.Keeping.{IsPassingKept, IsBestKept, IsKeptPlacing, StandsKept}
 use Rattle.kept_order.specs.Keeping.{NoneStandsKept, IsChosenKept}
 use Rattle.kept_order.proofs.KeepsLaws.{StandsKept-part, AllStandKept, AllStandKept-from}
@@ -105,82 +102,34 @@ module _ (U : List Task) (kept : List ℕ) where
       (AllStandKept-from U kept order so.passing.each_stands so.keeps) k member
 
   -- ---- places from the lowest up
-  -- these are placed, each with its response, and L is left
-  pub record IsPlacedKept (L : Indexes) (places : List PlaceData) : Type 0 where
+  -- these were chosen and are placed, and these tasks are left
+  pub record IsKeptTo (left : members.FinSet nat_cmp) (places : List PlaceData) : Type 0 where
     pub chosen : AllChosenKept (all_of U) (tasks_of_places places)
-    pub each : AllRespond U (all_of U) places
-    pub rest : L ≡ left_after (all_of U) (tasks_of_places places)
+    pub placed : IsPlaced U (indexes_of left) places
 
-AllRespond-push : (U : List Task) (L : Indexes) (places : List PlaceData) (p : PlaceData)
-    → AllRespond U L places
-    → IsResponseOf U p.task (without_index (left_after L (tasks_of_places places)) p.task)
-    p.response → AllRespond U L (places ++ p ∷ [])
-AllRespond-push U L [] p each next = (next, tt)
-AllRespond-push U L (q ∷ places) p each next =
-    (each.0, AllRespond-push U (without_index L q.task) places p each.1 next)
+  pub IsKeptTo-push : (left left' : members.FinSet nat_cmp) (places places' : List PlaceData)
+      (p : PlaceData) → IsKeptTo left places → IsChosenKept U kept (indexes_of left) p.task
+      → IsResponseOf U p.task (without_index (indexes_of left) p.task) p.response
+      → left' ≡ members.remove left p.task → places' ≡ places ++ p ∷ [] → IsKeptTo left' places'
+  IsKeptTo-push left left' places places' p so chosen is removed pushed = record {
+    chosen = subst (λ ns. AllChosenKept (all_of U) ns) (sym (tasks-push places places' p pushed))
+        (AllChosenKept-push (all_of U) (tasks_of_places places) p.task so.chosen
+        (subst (λ X. IsChosenKept U kept X p.task) so.placed.rest chosen));
+    placed = IsPlaced-push U left left' places places' p so.placed is removed pushed;
+  }
 
-module _ (U : List Task) (kept : List ℕ) where
-  pub IsPlacedKept-part : (L : Indexes) (places : List PlaceData) → IsPlacedKept U kept L places
-      → IsPart L (all_of U)
-  IsPlacedKept-part L places so = subst (λ X. IsPart X (all_of U)) (sym so.rest)
-      (left_after-part (all_of U) (tasks_of_places places))
+  pub IsKeptTo-best : (left : members.FinSet nat_cmp) (places : List PlaceData)
+      → IsKeptTo left places → left ≡ members.empty → IsKeptPlacing U kept places
+  IsKeptTo-best left places so none = record {
+    best = AllChosenKept-best (tasks_of_places places) so.chosen
+        (IsPlaced-none U left places so.placed none);
+    each = so.placed.each;
+  }
 
-  pub IsPlacedKept-start : (left : members.FinSet nat_cmp) (n : ℕ) (places : List PlaceData) → left
-      ≡ all_below n → n ≡ length U → places ≡ [] → IsPlacedKept U kept (indexes_of left) places
-  IsPlacedKept-start left n places all count none =
-      let start : IsPlacedKept U kept (indexes_of left) [] = record {
-        chosen = tt;
-        each = tt;
-        rest =
-            ap indexes_of all ∙ indexes_of-all_below n ∙ ap (λ m. below m) count;
-      } in
-      subst (λ ps. IsPlacedKept U kept (indexes_of left) ps) (sym none) start
-
-  pub IsPlacedKept-push : (left left' : members.FinSet nat_cmp) (places places' : List PlaceData)
-      (p : PlaceData) → IsPlacedKept U kept (indexes_of left) places
-      → IsChosenKept U kept (indexes_of left) p.task → IsResponseOf U p.task
-      (without_index (indexes_of left) p.task) p.response → left' ≡ members.remove left p.task
-      → places' ≡ places ++ p ∷ [] → IsPlacedKept U kept (indexes_of left') places'
-  IsPlacedKept-push left left' places places' p so chosen is removed pushed =
-      let order : tasks_of_places places' ≡ tasks_of_places places ++ p.task ∷ [] =
-      ap tasks_of_places pushed ∙ map_push (λ (q : PlaceData). q.task) places p in
-      record {
-        chosen = subst (λ ns. AllChosenKept U kept (all_of U) ns) (sym order)
-            (AllChosenKept-push U kept (all_of U) (tasks_of_places places) p.task so.chosen
-            (subst (λ X. IsChosenKept U kept X p.task) so.rest chosen));
-        each = subst (λ ps. AllRespond U (all_of U) ps) (sym pushed)
-            (AllRespond-push U (all_of U) places p so.each
-            (subst (λ X. IsResponseOf U p.task (without_index X p.task) p.response) so.rest is));
-        rest = ap indexes_of removed ∙ indexes_of-remove left p.task
-            ∙ ap (λ X. without_index X p.task) so.rest
-            ∙ sym (left_after-push (all_of U) (tasks_of_places places) p.task)
-            ∙ ap (λ ns. left_after (all_of U) ns) (sym order);
-      }
-
-  pub IsPlacedKept-best : (left : members.FinSet nat_cmp) (places : List PlaceData) → IsPlacedKept U
-      kept (indexes_of left) places → left ≡ members.empty → IsKeptPlacing U kept places
-  IsPlacedKept-best left places so none =
-      let nothing : indexes_of left ≡ no_index = ap indexes_of none ∙ indexes_of-empty in
-      record {
-        best = AllChosenKept-best U kept (tasks_of_places places) so.chosen
-            (λ k. ap (λ (X : Indexes). X k) (sym so.rest ∙ nothing));
-        each = so.each;
-      }
-
-  pub IsPlacedKept-none : (left : members.FinSet nat_cmp) (places : List PlaceData) → AllTasks U
-      → IsPlacedKept U kept (indexes_of left) places → ¬ (left ≡ members.empty)
-      → NoneStandsKept U kept (indexes_of left) → (order : List ℕ) → ¬ IsPassingKept U kept order
-  IsPlacedKept-none left places valid so some stuck =
-      let part = IsPlacedKept-part (indexes_of left) places so in
+  pub IsKeptTo-none : (left : members.FinSet nat_cmp) (places : List PlaceData) → AllTasks U
+      → IsKeptTo left places → ¬ (left ≡ members.empty) → NoneStandsKept U kept (indexes_of left)
+      → (order : List ℕ) → ¬ IsPassingKept U kept order
+  IsKeptTo-none left places valid so some stuck =
+      let part = IsPlaced-part U (indexes_of left) places so.placed in
       let member = member_of-len left (length U) part (some_left left some) in
-      stuck-none U kept (indexes_of left) member.0 valid part member.2 stuck
-
--- ---- the tasks that are left are asked by rank
-pub one_more_fails : (U : List Task) (kept : List ℕ) (L : Indexes) (i : ℕ)
-    → ((j : ℕ) → j < i → L j ≡ true → ¬ StandsKept U kept j (without_index L j))
-    → (L i ≡ true → ¬ StandsKept U kept i (without_index L i))
-    → (j : ℕ) → j < i + 1 → L j ≡ true → ¬ StandsKept U kept j (without_index L j)
-one_more_fails U kept L i before here j lt member = elim (cases_eq j i) [
-  | inl e ↦ subst (λ k. L k ≡ true → ¬ StandsKept U kept k (without_index L k)) (sym e) here member
-  | inr ne ↦ before j (omega (arith, lt, ne)) member
-]
+      stuck-none (indexes_of left) member.0 valid part member.2 stuck

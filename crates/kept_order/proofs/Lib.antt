@@ -1,3 +1,2 @@
 pub mod KeepsLaws
 pub mod ClimbLaws
-pub mod PartedLaws

@@ -42,21 +42,8 @@ fn is_held(kept: &[usize], others: Members, task: usize) -> bool
     false
 }
 
-// The response of a task with these above it, where it may stand there.
-fn response_below(set: &Tabled<'_>, task: usize, above: Members) -> Option<u64>
-    requires { task < length set.now }
-    ensures some { IfSome result
-        (λ response. IsResponseOf set.now task (indexes_of above) response) }
-    ensures stands { IfSome result (λ _. Stands set.now task (indexes_of above)) }
-    ensures none { IfNone result (¬ Stands set.now task (indexes_of above)) }
-{
-    match least_over(set, task, above) {
-        Some(_) => None,
-        None => response_in_time(set, task, above),
-    }
-}
-
-// The same, where none of these stands below it in a list.
+// The response of a task with these above it, where it may stand there and none of them stands below it in a list.
+#[tactic(auto, using(crate::proofs::KeepsLaws::over_fails))]
 fn response_kept(set: &Tabled<'_>, kept: &[usize], task: usize, above: Members) -> Option<u64>
     requires within { All (λ index. index < TASK_LIMIT) kept.now }
     requires task { task < length set.now }
@@ -66,9 +53,11 @@ fn response_kept(set: &Tabled<'_>, kept: &[usize], task: usize, above: Members) 
     ensures none { IfNone result (¬ StandsKept set.now kept.now task (indexes_of above)) }
 {
     if is_held(kept, above, task) {
-        None
-    } else {
-        response_below(set, task, above)
+        return None;
+    }
+    match least_over(set, task, above) {
+        Some(_) => None,
+        None => response_in_time(set, task, above),
     }
 }
 

@@ -1,7 +1,5 @@
 pub mod WeightLaws
 pub mod LimitLaws
-pub mod OrderLaws
+pub mod FollowLaws
 pub mod MonotonicLaws
 pub mod Renumbering
-pub mod Exchanges
-pub mod FollowLaws

@@ -1,29 +1,27 @@
--- In a set by limits the ranks are by limits.
-use Rattle.std.proofs.Common.{◌≡◌, ◌↔◌, ℕ, zero, suc, ◌+◌, ◌<◌, ◌≤◌, ◌⊎◌, inl, inr, Bool, true}
-use Rattle.std.proofs.Common.{false, cond, nat_lt, List, [], ◌∷◌, length, get_or, map, Ordering}
-use Rattle.std.proofs.Common.{Less, Equal, Greater, refl, sym, ◌∙◌, ap, subst, arith}
+-- In a set by limits the ranks are by limits, and the best order is the nearest to limit-monotonic.
+use Rattle.std.proofs.Common.{◌≡◌, ◌↔◌, ℕ, zero, suc, ◌+◌, ◌<◌, ◌≤◌, ◌⊎◌, inl, inr, true, false}
+use Rattle.std.proofs.Common.{cond, nat_lt, List, [], ◌∷◌, length, get_or, map, Ordering, Less}
+use Rattle.std.proofs.Common.{Equal, Greater, refl, sym, ◌∙◌, ap, subst, arith}
 use Rattle.std.specs.List.{AllByRecursion, All}
 use Rattle.std.specs.List.Sorted.{IsPermutation}
 use Rattle.std.specs.Ordering.{nat_cmp, ordering_then, ordering_reverse}
 use Rattle.std.specs.Cmp.Lexicographic.{slice_cmp, nat_list_cmp_total}
 use Rattle.std.proofs.lemmas.Bool.{cases_lt, cases_order, lt-ltb, le-ltb}
 use Rattle.std.proofs.lemmas.Bool.Decides.{nat_tests}
-use Rattle.std.proofs.lemmas.List.Sums.{sum_by-cons}
+use Rattle.std.proofs.lemmas.List.Sums.{sum_by-cons, sum_by-le-sum_by}
 use Rattle.std.proofs.lemmas.List.Elements.{All-from_recursion, recursion_from_All}
 use Rattle.std.proofs.lemmas.List.Sorted.{All-permutation, sum_by-IsPermutation, IsPermutation-refl}
 use Rattle.std.proofs.lemmas.Map.Keys.{Less-from_sorted}
 use Rattle.task_sheet.specs.Sheet.{Task, weighing, no_task, task_at}
 use Rattle.task_sheet.specs.Rank.{rank_cmp, IsByRank}
 use Rattle.task_sheet.specs.Demand.{limit_of}
-use Rattle.task_sheet.specs.Orders.{IsBetter}
+use Rattle.task_sheet.specs.Orders.{all_of, IsOrder, IsPassingOrder, IsBetter, IsBest}
+use Rattle.task_sheet.proofs.IndexLaws.{order-below}
+use Rattle.task_sheet.proofs.LevelLaws.{compare_orders}
 use Rattle.preferences.specs.Preferences.{longer_limits, reweighed_in, reweighed}
 use Rattle.preferences.specs.LimitOrders.{IsLower, IsNearer}
 
 -- ---- counts of longer limits
-small-cond : (b : Bool) → cond b 1 0 ≤ 1
-small-cond true = omega arith
-small-cond false = omega arith
-
 one-more : (a b : ℕ) (t : Task) (ts : List Task)
     → longer_limits (t ∷ ts) a ≡ cond (nat_lt a (limit_of t)) 1 0 + longer_limits ts a
 one-more a b t ts = sum_by-cons (λ (u : Task). cond (nat_lt a (limit_of u)) 1 0) t ts
@@ -35,15 +33,8 @@ step-le a b d le = elim (cases_lt a d) [
 ]
 
 later-le : (U : List Task) (a b : ℕ) → b ≤ a → longer_limits U a ≤ longer_limits U b
-later-le [] a b le = omega arith
-later-le (t ∷ ts) a b le = omega (
-  arith,
-  one-more a a t ts,
-  one-more b b t ts,
-  step-le a b
-      (limit_of t) le,
-  later-le ts a b le,
-)
+later-le U a b le = sum_by-le-sum_by (λ (t : Task). cond (nat_lt a (limit_of t)) 1 0)
+    (λ (t : Task). cond (nat_lt b (limit_of t)) 1 0) U (λ t. step-le a b (limit_of t) le)
 
 -- the task of a longer limit is counted more
 later-lt : (U : List Task) (a b k : ℕ) → b < a → k < length U → limit_of (task_at U k) ≡ a
@@ -217,3 +208,22 @@ module _ (U V : List Task) (preferred : IsByRank (reweighed U) V) where
           | inr later ↦ inr (later.0, rest.1 later.1)
         ],
       )
+
+  -- of two orders the better is the nearer to limit-monotonic
+  pub better-nearer_order : (first second : List ℕ) → IsOrder V first → IsOrder V second
+      → IsBetter first second ↔ IsNearer V first second
+  better-nearer_order first second each each' = better-nearer first second
+      (order-below (length V) (all_of V) first each (λ k h. h))
+      (order-below (length V) (all_of V) second each' (λ k h. h))
+
+  pub best-nearest : (order other : List ℕ) → IsBest V order → IsPassingOrder V other
+      → (order ≡ other) ⊎ IsNearer V order other
+  best-nearest order other best passing =
+      let each = best.passing.each_once in
+      elim (compare_orders (all_of V) order other each passing.each_once) [
+        | inl same ↦ inl same
+        | inr either ↦ elim either [
+          | inl better ↦ inr ((better-nearer_order order other each passing.each_once).0 better)
+          | inr better ↦ absurd (best.unbeaten other passing better)
+        ]
+      ]

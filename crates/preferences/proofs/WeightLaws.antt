@@ -1,6 +1,6 @@
 -- Sets whose weights are replaced.
-use Rattle.std.proofs.Common.{◌≡◌, Option, Some, Ok, refl, subst, ℕ, ◌+◌, ◌<◌, false, None, List}
-use Rattle.std.proofs.Common.{[], ◌∷◌, ◌++◌, length, get_or, take, sym, ◌∙◌, arith, map}
+use Rattle.std.proofs.Common.{◌≡◌, ℕ, ◌+◌, ◌<◌, false, None, List, [], ◌∷◌, ◌++◌, length, get_or}
+use Rattle.std.proofs.Common.{take, sym, ◌∙◌, arith, map}
 use Rattle.std.specs.List.{AllByRecursion}
 use Rattle.std.proofs.lemmas.List.{length-map, map_more}
 use Rattle.std.proofs.lemmas.List.Elements.{All-from_recursion, recursion_from_All}
@@ -10,10 +10,7 @@ use Rattle.task_sheet.specs.Rank.{IsByRank}
 use Rattle.task_sheet.specs.TaskSet.{same_name, AreDistinct, IsTaskSet}
 use Rattle.task_sheet.specs.SheetsFault.{sheets_fault}
 use Rattle.task_sheet.proofs.SetLaws.{no_fault, by_rank_one}
-use Rattle.teams.specs.ReadsText.{ReadsText}
-use Rattle.task_sheet.specs.declared.read.Document.{Document}
 use Rattle.task_sheet.specs.Demand.{limit_of}
-use Rattle.preferences.specs.ReadsPreferred.{SaysPreferred, chosen}
 use Rattle.preferences.specs.Preferences.{longer_limits, reweighed_in, reweighed, IsPreferred}
 use Rattle.task_sheet.specs.declared.prefer.Preference.{Preference}
 use Rattle.task_sheet.specs.declared.prefer.Preference.TheVariants.{Weights, Deadline}
@@ -46,8 +43,8 @@ module _ (weight : Task → ℕ) where
   )
 
 -- the sheets with these weights are no fault
-pub no_fault-reweighed : (U : List Task) → IsTaskSet U → sheets_fault (reweighed U) ≡ None
-no_fault-reweighed U set =
+pub no_fault_reweighed : (U : List Task) → IsTaskSet U → sheets_fault (reweighed U) ≡ None
+no_fault_reweighed U set =
     let weight : Task → ℕ = λ t. longer_limits U (limit_of t) in
     no_fault (reweighed U) (distinct-weighed weight U set.distinct)
     (omega (arith, set.few, length-map U (λ (t : Task). weighing t (weight t))))
@@ -71,23 +68,3 @@ AllTasks-preferred U V valid preferred =
     }) U each in
     All-permutation IsTask (reweighed U) V preferred.permutation
     (All-from_recursion IsTask (reweighed U) weighed)
-
--- ---- who prefers
-pub SaysPreferred-own : (text : List ℕ) (d : Document) (preference : Preference) (U : List Task)
-    → ReadsText text (Ok d) → d.prefers ≡ Some preference → IsPreferred preference d.set U
-    → SaysPreferred None text U
-SaysPreferred-own text d preference U reads is preferred = (
-  d,
-  reads,
-  subst (λ (o : Option Preference). IsPreferred (chosen None o) d.set U) (sym is)
-      preferred,
-)
-
-pub SaysPreferred-nobody : (text : List ℕ) (d : Document) → ReadsText text (Ok d) → d.prefers ≡ None
-    → SaysPreferred None text d.set
-SaysPreferred-nobody text d reads is = (
-  d,
-  reads,
-  subst (λ (o : Option Preference). IsPreferred (chosen None o) d.set d.set)
-      (sym is) refl,
-)

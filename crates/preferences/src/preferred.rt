@@ -47,6 +47,7 @@ fn reweighed_sheets(alloc: Global, sheets: &[Sheet]) -> Result<Vec<Sheet>, Alloc
 }
 
 // The set with these weights. The error is out of memory.
+#[tactic(auto, using(crate::proofs::WeightLaws::no_fault_reweighed))]
 fn reweighed(alloc: Global, set: &TaskSet) -> Result<TaskSet, AllocError>
     ensures { IfOk result (λ other. IsByRank (reweighed set.now) other) }
 {

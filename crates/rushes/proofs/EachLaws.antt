@@ -8,8 +8,7 @@ pub Each-push : {X Y : Type 0} (R : X → Y → Type 0) (xs : List X) (ys : List
     → Each R xs ys → R x y → Each R (xs ++ x ∷ []) (ys ++ y ∷ [])
 Each-push R [] [] x y all one = (one, tt)
 Each-push R (a ∷ xs) (b ∷ ys) x y all one = (all.0, Each-push R xs ys x y all.1 one)
-Each-push R [] (b ∷ ys) x y all one = absurd all
-Each-push R (a ∷ xs) [] x y all one = absurd all
+Each-push R xs ys x y all one = absurd all
 
 -- what is related to the same is related
 pub Each-joined : {X Y Z : Type 0} (R : X → Y → Type 0) (S : X → Z → Type 0) (E : Y → Z → Type 0)

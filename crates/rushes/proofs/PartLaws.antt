@@ -1,9 +1,9 @@
 -- From the teams after their lines to their parts of the log.
 use Rattle.std.proofs.Common.{◌≡◌, ◌∙◌, ℕ, ◌+◌, ◌-◌, ◌<◌, ◌≤◌, ◌==◌, if◌then◌else◌, zero, suc, List}
-use Rattle.std.proofs.Common.{[], ◌∷◌, ◌++◌, length, map, Some, Bool, true, false, ◌||◌, refl, sym}
-use Rattle.std.proofs.Common.{ap, subst, inl, inr, arith}
+use Rattle.std.proofs.Common.{[], ◌∷◌, ◌++◌, length, map, Some, true, refl, sym, ap, subst, inl}
+use Rattle.std.proofs.Common.{inr, arith}
 use Rattle.std.specs.Prelude.{Result, Ok, Err, IfOk, IfErr}
-use Rattle.std.proofs.lemmas.Bool.{cases_order}
+use Rattle.std.proofs.lemmas.Bool.{cases_order, or_left, or_right}
 use Rattle.std.proofs.lemmas.Bool.Decides.{Decides-eqb}
 use Rattle.drafts.specs.Machine.{Entry}
 use Rattle.book_lock.specs.TeamPass.{Known, newcomer, newcomers, has_team, placed_entries}
@@ -29,14 +29,6 @@ parts_with first n = if first == 1 then 8 - n else 1
 abbrev pub passes_in : List Hand → List Known
 passes_in teams = map (λ last. last.pass) teams
 
-or_left : (a b : Bool) → a ≡ true → (a || b) ≡ true
-or_left true b e = refl
-or_left false b e = cc
-
-or_right : (a b : Bool) → b ≡ true → (a || b) ≡ true
-or_right true b e = refl
-or_right false b e = e
-
 -- each team has a pass
 pub all_there : (workers : ℕ) (lines : List Line) (first n : ℕ) (teams : List Hand)
     → AreAfter workers lines first n teams → (team : ℕ) → first ≤ team → team < first + n
@@ -58,8 +50,6 @@ pub parts_of : (workers : ℕ) (lines : List Line) (first n : ℕ) (teams : List
     → ((team : ℕ) → first ≤ team → team < first + n → HaveReceipts team (placed_entries team 1 log)
     (passes_in teams)) → AreParts workers lines log first (map (λ last. last.notes) teams)
 parts_of workers lines first zero [] log runs have = tt
-parts_of workers lines first zero (k ∷ ks) log runs have = absurd runs
-parts_of workers lines first (suc n) [] log runs have = absurd runs
 parts_of workers lines first (suc n) (k ∷ ks) log runs have = (
   (
     parts_with first n,
@@ -72,15 +62,15 @@ parts_of workers lines first (suc n) (k ∷ ks) log runs have = (
   parts_of workers lines (first + 1) n ks log runs.1
       (λ team low high. (have team (omega arith) (omega arith)).1),
 )
+parts_of workers lines first n teams log runs have = absurd runs
 
 -- there are as many
 pub all_after : (workers : ℕ) (lines : List Line) (first n : ℕ) (teams : List Hand)
     → AreAfter workers lines first n teams → length (map (λ last. last.notes) teams) ≡ n
 all_after workers lines first zero [] runs = refl
-all_after workers lines first zero (k ∷ ks) runs = absurd runs
-all_after workers lines first (suc n) [] runs = absurd runs
 all_after workers lines first (suc n) (k ∷ ks) runs =
     ap suc (all_after workers lines (first + 1) n ks runs.1)
+all_after workers lines first n teams runs = absurd runs
 
 -- what a team's start came to is an end of the pass that it was started with, and of the team's lines
 pub finish_end : {H : Type 0} (workers : ℕ) (lines : List Line)
@@ -110,8 +100,7 @@ pub all_run : (workers : ℕ) (lines : List Line) (starts : List Known) (teams :
 all_run workers lines [] [] all = tt
 all_run workers lines (s ∷ starts) (k ∷ teams) all =
     (all.0, all_run workers lines starts teams all.1)
-all_run workers lines [] (k ∷ teams) all = absurd all
-all_run workers lines (s ∷ starts) [] all = absurd all
+all_run workers lines starts teams all = absurd all
 
 behind : (teams : List Hand) (fault : RushFault) (ends : List (Result Hand RushFault))
     → first_fault (map (λ last. Ok last) teams ++ Err fault ∷ ends) ≡ Some fault

@@ -9,8 +9,7 @@ use Rattle.drafts.specs.declared.draft.EditRefusal.{EditRefusal}
 use Rattle.drafts.specs.Edits.{Draft, after_put, after_remove}
 use Rattle.book_lock.specs.TeamPass.{Known}
 use Rattle.scripts.specs.declared.line.Row.{Row}
-use Rattle.scripts.specs.declared.line.Row.TheVariants.{Open, Put, Remove, Found, Test, Commit}
-use Rattle.scripts.specs.declared.line.Row.TheVariants.{Abandon}
+use Rattle.scripts.specs.declared.line.Row.TheVariants.{Put, Remove, Commit, Abandon}
 use Rattle.rushes.specs.declared.note.Missed.{Missed}
 use Rattle.rushes.specs.HandFields.{IsOfTeam, AllOwn}
 use Rattle.rushes.specs.Hands.{Hand, draft_at, edited, new_hand, AreDone, IsDraftLine, IsLineDone}
@@ -35,10 +34,6 @@ edited_team : (team : ℕ) (d : Draft) (outcome : Result (List (List ℕ × Chan
 edited_team team d (Ok changes) next own is = subst (IsOfTeam team) (sym is) own
 edited_team team d (Err refusal) next own is = subst (IsOfTeam team) (sym is) own
 
-stayed : (team : ℕ) (d : Draft) (next : Option Draft) → d.team ≡ team → next ≡ Some d
-    → IsOfTeam team next
-stayed team d next own is = subst (IsOfTeam team) (sym is) own
-
 same_pass : (team : ℕ) (old new : Known) → new ≡ old → old.team ≡ team → new.team ≡ team
 same_pass team old new is own = ap (λ (p : Known). p.team) is ∙ own
 
@@ -54,12 +49,8 @@ step_team workers team (Commit number) d old next missed new is own pass =
     (over team next is.0, ap (λ (p : Known). p.team) is.2.1.3.entered.3 ∙ pass)
 step_team workers team (Abandon number) d old next missed new is own pass =
     (over team next is.0, same_pass team old new is.2 pass)
-step_team workers team (Open other) d old next missed new is own pass =
-    (stayed team d next own is.0, same_pass team old new is.2 pass)
-step_team workers team (Found number name other) d old next missed new is own pass =
-    (stayed team d next own is.0, same_pass team old new is.2 pass)
-step_team workers team (Test number) d old next missed new is own pass =
-    (stayed team d next own is.0, same_pass team old new is.2 pass)
+step_team workers team row d old next missed new is own pass =
+    (subst (IsOfTeam team) (sym is.0) own, same_pass team old new is.2 pass)
 
 on_team : (workers team : ℕ) (row : Row) (number : ℕ) (slot : Option Draft) (old : Known)
     (next : Option Draft)

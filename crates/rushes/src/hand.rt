@@ -124,7 +124,7 @@ fn step<L: Ledger, R: Threads + Wait>(
 {
     let mut draft = draft;
     match row {
-        Row::Open { .. } => Ok((Some(draft), None)),
+        Row::Open { .. } | Row::Found { .. } | Row::Test { .. } => Ok((Some(draft), None)),
         Row::Put { sheet, .. } => {
             let missed = put(site.alloc, &mut draft, sheet.sheet())?;
             Ok((Some(draft), missed))
@@ -133,8 +133,6 @@ fn step<L: Ledger, R: Threads + Wait>(
             let missed = remove(&mut draft, *name)?;
             Ok((Some(draft), missed))
         }
-        Row::Found { .. } => Ok((Some(draft), None)),
-        Row::Test { .. } => Ok((Some(draft), None)),
         Row::Commit { .. } => {
             commit(site, pass, draft)?;
             Ok((None, None))

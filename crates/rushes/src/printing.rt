@@ -25,9 +25,7 @@ fn push_entry(
 {
     let team = entry.team().number();
     let ruling = ruling_text(alloc, entry.decision())?;
-    write!(text, "{place} team ")?;
-    write!(text, "{team} ")?;
-    text.push_str(&ruling)
+    write!(text, "{place} team {team} {ruling}")
 }
 
 /// The lines of a log, and then those of the state that it comes to. Each entry tells its team's number, which is one
@@ -52,12 +50,12 @@ fn push_missed(text: &mut String, missed: Missed) -> Result<(), AllocError>
 {
     match missed {
         Missed::PutRefused { name, refusal } => {
-            write!(text, "put {name}: ")?;
-            text.push_str(edit_word(refusal))
+            let word = edit_word(refusal);
+            write!(text, "put {name}: {word}")
         }
         Missed::RemoveRefused { name, refusal } => {
-            write!(text, "remove {name}: ")?;
-            text.push_str(edit_word(refusal))
+            let word = edit_word(refusal);
+            write!(text, "remove {name}: {word}")
         }
         Missed::Ended { draft } => write!(text, "skipped, draft {draft} has ended"),
     }

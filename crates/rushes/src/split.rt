@@ -39,12 +39,7 @@ pub(crate) fn opens(row: &Row) -> Option<Team>
 {
     match row {
         Row::Open { team } => Some(*team),
-        Row::Put { .. } => None,
-        Row::Remove { .. } => None,
-        Row::Found { .. } => None,
-        Row::Test { .. } => None,
-        Row::Commit { .. } => None,
-        Row::Abandon { .. } => None,
+        _ => None,
     }
 }
 
@@ -54,12 +49,12 @@ fn line_draft(row: &Row) -> usize
 {
     match row {
         Row::Open { .. } => 0,
-        Row::Put { draft, .. } => *draft,
-        Row::Remove { draft, .. } => *draft,
-        Row::Found { draft, .. } => *draft,
-        Row::Test { draft } => *draft,
-        Row::Commit { draft } => *draft,
-        Row::Abandon { draft } => *draft,
+        Row::Put { draft, .. }
+        | Row::Remove { draft, .. }
+        | Row::Found { draft, .. }
+        | Row::Test { draft }
+        | Row::Commit { draft }
+        | Row::Abandon { draft } => *draft,
     }
 }
 

@@ -2,8 +2,7 @@
 use Rattle.std.proofs.Common.{◌≡◌, ℕ, List, [], ◌∷◌, ◌++◌, Result, Ok, Err, refl, sym, ap, ◌∙◌}
 use Rattle.std.proofs.Common.{append_assoc, append-nil}
 use Rattle.scripts.specs.declared.line.RowFault.{RowFault}
-use Rattle.scripts.specs.declared.line.RowFault.TheVariants.{Bad, Sheet, BadJitter, Outranks}
-use Rattle.scripts.specs.declared.line.RowFault.TheVariants.{BadOverhead, BadInterrupt, OutOfMemory}
+use Rattle.scripts.specs.declared.line.RowFault.TheVariants.{OutOfMemory}
 use Rattle.scripts.specs.Gives.{FailsRow}
 use Rattle.lines.specs.Steps.{ahead, each_in}
 
@@ -22,29 +21,13 @@ module _ {A : Type 0} (read : List ℕ → Result A RowFault) where
       rw (cut, is) (ahead-ahead front x (each_in read ws)) in
       sym one ∙ so_far
 
-  each_stops : (front : List A) (w : List ℕ) (ws all : List (List ℕ)) (fault : RowFault)
-      (total : Result (List A) RowFault) → all ≡ w ∷ ws → read w ≡ Err fault
-      → ahead front (each_in read all) ≡ total → total ≡ Err fault
-  each_stops front w ws all fault total cut is so_far =
-      let one : ahead front (each_in read all) ≡ Err fault = rw (cut, is) refl in
-      sym so_far ∙ one
-
   pub each_fails : (front : List A) (w : List ℕ) (ws all : List (List ℕ)) (fault : RowFault)
       (total : Result (List A) RowFault) → all ≡ w ∷ ws → FailsRow fault (read w)
       → ahead front (each_in read all) ≡ total → FailsRow fault total
-  each_fails front w ws all Bad total cut is so_far =
-      each_stops front w ws all Bad total cut is so_far
-  each_fails front w ws all (Sheet cause) total cut is so_far =
-      each_stops front w ws all (Sheet cause) total cut is so_far
-  each_fails front w ws all BadJitter total cut is so_far =
-      each_stops front w ws all BadJitter total cut is so_far
-  each_fails front w ws all (Outranks cause) total cut is so_far =
-      each_stops front w ws all (Outranks cause) total cut is so_far
-  each_fails front w ws all BadOverhead total cut is so_far =
-      each_stops front w ws all BadOverhead total cut is so_far
-  each_fails front w ws all BadInterrupt total cut is so_far =
-      each_stops front w ws all BadInterrupt total cut is so_far
   each_fails front w ws all OutOfMemory total cut is so_far = tt
+  each_fails front w ws all fault total cut is so_far =
+      let one : ahead front (each_in read all) ≡ Err fault = rw (cut, is) refl in
+      sym so_far ∙ one
 
   pub each_end : (front : List A) (all : List (List ℕ)) (total : Result (List A) RowFault)
       → all ≡ [] → ahead front (each_in read all) ≡ total → total ≡ Ok front
@@ -59,3 +42,6 @@ module _ {A : Type 0} (read : List ℕ → Result A RowFault) where
   each_last front w all x total cut is so_far =
       let one : ahead front (each_in read all) ≡ Ok (front ++ x ∷ []) = rw (cut, is) refl in
       sym so_far ∙ one
+
+-- words are read one after the other, and one last
+pub ruleset words_read = (each_next, each_fails, each_last)

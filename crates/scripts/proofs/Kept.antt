@@ -9,11 +9,11 @@ use Rattle.task_sheet.specs.SheetFault.{list_fault, numbers_fault, sheet_fault}
 use Rattle.task_sheet.specs.declared.sheet.SheetCause.{SheetCause}
 
 -- of the first n and more, the first n are those of all and more
-pub take-front : {A : Type 0} (n : ℕ) (xs ys : List A)
+pub take_front : {A : Type 0} (n : ℕ) (xs ys : List A)
     → take n (take n xs ++ ys) ≡ take n (xs ++ ys)
-take-front zero xs ys = refl
-take-front (suc n) [] ys = refl
-take-front (suc n) (x ∷ xs) ys = ap (λ zs. x ∷ zs) (take-front n xs ys)
+take_front zero xs ys = refl
+take_front (suc n) [] ys = refl
+take_front (suc n) (x ∷ xs) ys = ap (λ zs. x ∷ zs) (take_front n xs ys)
 
 list_first : (cost : ℕ) (all : List CriticalSection) (more : Bool) → nat_lt 9 (length all) ≡ more
     → list_fault cost (take 9 all) ≡ list_fault cost all

@@ -1,5 +1,4 @@
 pub mod Ahead
 pub mod ScriptLaws
-pub mod Pairs
 pub mod Kept
 pub mod Nodes

@@ -1,7 +1,7 @@
 -- What a node takes as four words, and overheads and interrupts within the limits.
 use Rattle.std.proofs.Common.{◌≡◌, ℕ, Bool, true, false, ◌&&◌, List, [], ◌∷◌, Option, Some, None}
-use Rattle.std.proofs.Common.{Err, refl, ap, arith}
-use Rattle.std.specs.List.{list_all, AllByRecursion}
+use Rattle.std.proofs.Common.{Err, refl, ap, arith, ◌<◌, ◌==◌, length}
+use Rattle.std.specs.List.{list_all, AllByRecursion, slice_split}
 use Rattle.std.proofs.lemmas.Bool.Decides.{nat_tests}
 use Rattle.std.proofs.lemmas.List.Elements.{All-from_recursion, recursion_from_All}
 use Rattle.task_sheet.specs.declared.node.Node.{Node}
@@ -10,6 +10,7 @@ use Rattle.task_sheet.specs.Sheet.{AreOverheads, IsInterrupt, AreInterrupts}
 use Rattle.scripts.specs.declared.line.RowFault.TheVariants.{Bad}
 use Rattle.task_sheet.specs.TreeFault.{is_interrupt}
 use Rattle.scripts.specs.Rows.{are_interrupts, are_overheads, node_of, pair_of}
+use Rattle.std.proofs.lemmas.List.Splits.{length-slice_split}
 
 -- ---- four words
 pub one_word : (job : List ℕ) → node_of (job ∷ []) ≡ Err Bad
@@ -45,6 +46,9 @@ last_two release late (a ∷ b ∷ []) is =
     let two : b ≡ late = ap back_of is in
     rw (one, two) refl
 last_two release late (a ∷ b ∷ c ∷ more) is = absurd (cc)
+
+-- a text of four words, or of fewer or more
+pub ruleset four_words = (one_word, two_words, no_four, last_two)
 
 -- ---- within the limits
 pub overheads_tested : (node : Node) → AreOverheads node → are_overheads node ≡ true
@@ -88,3 +92,13 @@ pub interrupts_tested : (xs : List Interrupt) → AreInterrupts xs → are_inter
 interrupts_tested xs are =
     let each = each_tested xs (recursion_from_All IsInterrupt xs are.valid) in
     grind (arith, nat_tests, are.few, each)
+
+too_many : (front middle : List ℕ) (rest : List (List ℕ)) → 0 < length rest
+    → pair_of (front ∷ middle ∷ rest) ≡ None
+too_many front middle [] some = absurd (omega arith)
+too_many front middle (r ∷ rest) some = refl
+
+pub cut_twice : (byte : ℕ) (front middle more : List ℕ)
+    → pair_of (front ∷ middle ∷ slice_split (λ b. b == byte) more) ≡ None
+cut_twice byte front middle more = too_many front middle (slice_split (λ b. b == byte) more)
+    (omega (arith, length-slice_split {X = ℕ} (λ b. b == byte) more))

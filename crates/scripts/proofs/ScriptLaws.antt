@@ -5,8 +5,7 @@ use Rattle.lines.specs.Steps.{ahead}
 use Rattle.lines.specs.Words.{words}
 use Rattle.scripts.specs.declared.line.Line.{Line}
 use Rattle.scripts.specs.declared.line.Row.{Row}
-use Rattle.scripts.specs.declared.line.Row.TheVariants.{Open, Put, Remove, Found, Test, Commit}
-use Rattle.scripts.specs.declared.line.Row.TheVariants.{Abandon}
+use Rattle.scripts.specs.declared.line.Row.TheVariants.{Open}
 use Rattle.scripts.specs.declared.line.RowFault.{RowFault}
 use Rattle.scripts.specs.declared.line.RowFault.TheVariants as row
 use Rattle.scripts.specs.declared.line.ScriptFault.{ScriptFault}
@@ -23,12 +22,7 @@ pub record IsReadTo (front : List Line) (opened : ℕ) (left : List (ℕ × List
 
 opened_after-le : (opened : ℕ) (row : Row) → opened_after opened row ≤ opened + 1
 opened_after-le opened (Open team) = omega arith
-opened_after-le opened (Put draft sheet) = omega arith
-opened_after-le opened (Remove draft name) = omega arith
-opened_after-le opened (Found draft name other) = omega arith
-opened_after-le opened (Test draft) = omega arith
-opened_after-le opened (Commit draft) = omega arith
-opened_after-le opened (Abandon draft) = omega arith
+opened_after-le opened row = omega arith
 
 module _ (front : List Line) (opened number : ℕ) (text : List ℕ) (ls all : List (ℕ × List ℕ))
     (total : Result (List Line) ScriptFault) (cut : all ≡ (number, text) ∷ ls)
@@ -46,23 +40,14 @@ module _ (front : List Line) (opened number : ℕ) (text : List ℕ) (ls all : L
         few = omega (arith, opened_after-le opened row, read.few, length-append front (line ∷ []));
       }
 
-  stops : (fault : RowFault) → row_in opened (words text) ≡ Err fault
-      → total ≡ Err (fault_at number fault)
+  pub script_fails : (fault : RowFault) → FailsRow fault (row_in opened (words text))
+      → IsFault (fault_at number fault) total
   unfolding script_from
-  stops fault is =
+  script_fails row.OutOfMemory is = tt
+  script_fails fault is =
       let one : ahead front (script_from opened all) ≡ Err (fault_at number fault) =
       rw (cut, is) refl in
       sym read.so_far ∙ one
-
-  pub script_fails : (fault : RowFault) → FailsRow fault (row_in opened (words text))
-      → IsFault (fault_at number fault) total
-  script_fails row.Bad is = stops row.Bad is
-  script_fails (row.Sheet cause) is = stops (row.Sheet cause) is
-  script_fails row.BadJitter is = stops row.BadJitter is
-  script_fails (row.Outranks cause) is = stops (row.Outranks cause) is
-  script_fails row.BadOverhead is = stops row.BadOverhead is
-  script_fails row.BadInterrupt is = stops row.BadInterrupt is
-  script_fails row.OutOfMemory is = tt
 
 pub script_end : (front : List Line) (opened : ℕ) (all : List (ℕ × List ℕ))
     (total : Result (List Line) ScriptFault) → all ≡ [] → IsReadTo front opened all total

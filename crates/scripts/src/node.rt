@@ -35,6 +35,7 @@ fn node_from(job: &[u8], lock: &[u8], release: &[u8], late: &[u8]) -> Result<Nod
 }
 
 // What the node takes, as a text says.
+#[tactic(auto, using(crate::proofs::Nodes::four_words))]
 fn node_of(text: &[u8]) -> Result<Node, RowFault>
     ensures { GivesRow (λ x. x) result (node_of (slice_split (λ b. b == 43) text.now)) }
 {
@@ -96,6 +97,7 @@ fn interrupt_of(word: &[u8]) -> Result<Interrupt, RowFault>
 }
 
 // The interrupts between the signs `+` of a text.
+#[tactic(auto, using(crate::proofs::Ahead::words_read))]
 fn interrupts_of(alloc: Global, text: &[u8]) -> Result<Vec<Interrupt>, RowFault>
     ensures { GivesRow (λ x. x.items) result
         (each_in interrupt_in (slice_split (λ b. b == 43) text.now)) }

@@ -41,6 +41,7 @@ fn fault_at(number: u64, fault: RowFault) -> ScriptFault
 
 /// Reads a script. Empty lines and lines that begin with `#` are skipped and counted; the last line may lack its LF.
 /// The first faulty line decides.
+#[tactic(auto, using(crate::proofs::ScriptLaws::script_next, crate::proofs::ScriptLaws::script_end))]
 pub fn read_script(alloc: Global, text: &[u8]) -> Result<Vec<Line>, ScriptFault>
     ensures { MatchResult result
         (λ lines. script_in text.now ≡ Ok lines.items)

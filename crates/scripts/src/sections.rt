@@ -15,6 +15,7 @@ use task_sheet::{Name, Outranks, Section};
 const KEPT: usize = 9;
 
 // The names between the signs `+` of a text.
+#[tactic(auto, using(crate::proofs::Ahead::words_read))]
 fn names_of(alloc: Global, text: &[u8]) -> Result<Vec<Name>, RowFault>
     ensures { GivesRow (λ x. x.items) result (word_names (slice_split (λ b. b == 43) text.now)) }
 {
@@ -95,6 +96,7 @@ fn keep(sections: &mut Vec<Section>, section: Section) -> Result<(), RowFault>
 }
 
 /// Reads the words that are left as sections, and gives the first `KEPT` of them.
+#[tactic(auto, using(crate::proofs::Ahead::each_fails, crate::proofs::Ahead::each_end))]
 pub(crate) fn sections_of(alloc: Global, words: &mut Words<'_>) -> Result<Vec<Section>, RowFault>
     ensures { GivesFirst KEPT (λ x. x.items) result (sections_in words.old) }
 {

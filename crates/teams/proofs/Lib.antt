@@ -1,4 +1,3 @@
 pub mod TeamLaws
 pub mod BudgetLaws
 pub mod WrittenLaws
-pub mod PaddingLaws

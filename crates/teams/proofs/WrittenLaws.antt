@@ -1,8 +1,8 @@
--- What a text says as it is written: its node's numbers and interrupts are within the limits, and documents of the same set,
--- preference, node and interrupts are the same answer.
+-- What a text says as it is written, and with what its node takes: numbers and interrupts within the limits, and documents of the
+-- same set, preference, node and interrupts as one answer.
 use Rattle.std.proofs.Common.{◌≡◌, ◌∙◌, ℕ, inl, inr, Bool, true, false, List, [], ◌∷◌, map, length}
 use Rattle.std.proofs.Common.{Option, Some, None, IfSome, option_map, All, Ok, sym, ap, subst}
-use Rattle.std.proofs.Common.{arith}
+use Rattle.std.proofs.Common.{arith, ◌≢◌, Result, Err, refl}
 use Rattle.std.proofs.lemmas.List.Elements.{All-nil, All-append}
 use Rattle.std.specs.List.{AllByRecursion}
 use Rattle.std.specs.Option.{option_or}
@@ -16,8 +16,13 @@ use Rattle.task_sheet.proofs.WithinLimits.{says_within}
 use Rattle.teams.specs.Agreeing.{first_saying, interrupts_by, node_by, said_by}
 use Rattle.teams.specs.Owned.{OwnedData, TeamSetData, owned_all}
 use Rattle.teams.specs.ReadsTeams.{AreRead, UnitesAll}
-use Rattle.teams.specs.ReadsText.{ReadsEither, ReadsWritten, is_gathered}
+use Rattle.teams.specs.ReadsText.{ReadsEither, ReadsWritten, is_gathered, Pads, ReadsText}
 use Rattle.teams.specs.declared.reading.Part.{Part}
+use Rattle.overheads.specs.Padding.{fault_by, IsPadded}
+use Rattle.overheads.specs.declared.padding.PadFault.{PadFault}
+use Rattle.overheads.specs.declared.padding.PadFault.TheVariants as pad
+use Rattle.teams.specs.declared.fault.TeamsFault.{TeamsFault}
+use Rattle.teams.specs.declared.fault.TeamsFault.TheVariants.{Padded, OutOfMemory}
 
 -- ---- within the limits
 each_within : (ps : List Part) (sets : List TeamSetData) → AreRead ps sets
@@ -25,8 +30,7 @@ each_within : (ps : List Part) (sets : List TeamSetData) → AreRead ps sets
 each_within [] [] all = tt
 each_within (p ∷ ps) (s ∷ sets) all =
     (says_within p.text.now s.set s.prefers s.node s.interrupts all.0.1, each_within ps sets all.1)
-each_within [] (s ∷ sets) all = absurd all
-each_within (p ∷ ps) [] all = absurd all
+each_within ps sets all = absurd all
 
 node_within : (sets : List TeamSetData) → AllByRecursion (λ s. AreWithinLimits s.node s.interrupts)
     sets → IfSome (node_by sets) AreOverheads
@@ -79,45 +83,48 @@ pub record SaySame (u d : Document) : Type 0 where
   pub node : d.node ≡ u.node
   pub interrupts : d.interrupts.items ≡ u.interrupts.items
 
-united_same : (sets : List TeamSetData) (u d : Document) → SaySame u d → UnitesAll sets (Ok u)
-    → UnitesAll sets (Ok d)
-united_same sets u d same all = (
-  all.0,
-  same.prefers ∙ all.1,
-  same.node ∙ all.2,
-  same.interrupts ∙ all.3,
-  (
-    all.4.0,
-    subst (λ (V : List Task). IsByRank (map (λ (o : OwnedData). o.sheet) (owned_all sets))
-        V) (sym same.set) all.4.1,
-  ),
-)
-
-says_same : (text : List ℕ) (u d : Document) → SaySame u d → SaysDocument text u.set u.prefers
-    u.node u.interrupts.items → SaysDocument text d.set d.prefers d.node d.interrupts.items
-says_same text u d same says = rw (same.set, same.prefers, same.node, same.interrupts) says
-
 either_same : (b : Bool) (text : List ℕ) (u d : Document) → SaySame u d → ReadsEither b text (Ok u)
     → ReadsEither b text (Ok d)
-either_same false text u d same says = says_same text u d same says
-either_same true text u d same (inl bounded) =
-    let judged = bounded.3 in
-    inl (
-      bounded.0,
-      bounded.1,
-      bounded.2,
-      (
-        judged.0,
-        judged.1,
-        judged.2,
-        judged.3,
-        (united_same judged.1 u d same judged.4.0, judged.4.1),
-      ),
-    )
-either_same true text u d same (inr gathered) =
-    let teams = gathered.1 in
-    inr (gathered.0, (teams.0, teams.1, united_same teams.0 u d same teams.2))
+either_same false text u d same says =
+    rw (same.set, same.prefers, same.node, same.interrupts) says
+either_same true text u d same says = rw (same.set, same.prefers, same.node, same.interrupts) says
 
 pub written_same : (text : List ℕ) (u d : Document) → SaySame u d → ReadsWritten text (Ok u)
     → ReadsWritten text (Ok d)
 written_same text u d same reads = either_same (is_gathered text) text u d same reads
+
+-- ---- one document
+plain : (said : Option Node) (xs : List Interrupt) (U V : List Task) → said ≡ None → xs ≡ []
+    → IsPadded said xs U V → V ≡ U
+plain said xs U V none bare is = rw (none, bare) at is.1
+
+pub pads_none : (u : Document) → u.node ≡ None → u.interrupts.items ≡ [] → Pads u (Ok u)
+pads_none u none bare =
+    let is : IsPadded u.node u.interrupts.items u.set u.set = rw (none, bare) (refl, refl) in
+    (is, refl, refl, refl)
+
+-- ---- the text
+pub reads_padded : (text : List ℕ) (u : Document) (answer : Result Document TeamsFault)
+    → ReadsWritten text (Ok u) → Pads u answer → ReadsText text answer
+reads_padded text u (Ok d) reads pads = (u, reads, pads)
+reads_padded text u (Err OutOfMemory) reads pads = tt
+reads_padded text u (Err e) reads pads = inr (u, reads, pads)
+
+-- ---- without a node and interrupts
+pub as_written : (text : List ℕ) (d : Document) → d.node ≡ None → d.interrupts.items ≡ []
+    → ReadsText text (Ok d) → ReadsWritten text (Ok d)
+as_written text d none bare reads =
+    let u = reads.0 in
+    let pads = reads.2 in
+    let same : SaySame u d = record {
+      set = plain u.node u.interrupts.items u.set d.set (sym pads.2 ∙ none)
+          (sym pads.3 ∙ bare) pads.0;
+      prefers = pads.1;
+      node = pads.2;
+      interrupts = pads.3;
+    } in
+    written_same text u d same reads.1
+
+pub written : (text : List ℕ) (d : Document) → d.node ≡ None → d.interrupts.items ≡ []
+    → ReadsWritten text (Ok d) → ReadsText text (Ok d)
+written text d none bare reads = (d, reads, pads_none d none bare)

@@ -1,6 +1,6 @@
 -- What the documents of teams prefer together, and which node they say: what one of them says holds for all, and none may
 -- say otherwise. The interrupts of all are the node's.
-use Rattle.std.specs.Prelude.{ℕ, Bool, true, false, not, List, [], ◌∷◌, ◌++◌, Option, Some, None, option_map, if◌then◌else◌}
+use Rattle.std.specs.Prelude.{ℕ, Bool, true, false, not, List, [], ◌∷◌, ◌++◌, find, Option, Some, None, option_map}
 use Rattle.std.specs.Option.{option_or}
 use Rattle.task_sheet.specs.declared.prefer.Preference.{Preference}
 use Rattle.task_sheet.specs.declared.prefer.Preference.TheVariants.{Weights, Deadline}
@@ -27,9 +27,8 @@ first_saying says (s ∷ sets) = option_or (said_by s.team (says s)) (first_sayi
 -- the team of the first that says another than this
 abbrev pub first_other : {A : Type 0} → (other : A → Option A → Bool) → (says : TeamSetData → Option A)
     → A → List TeamSetData → Option (List ℕ)
-first_other other says said [] = None
-first_other other says said (s ∷ sets) =
-    if other said (says s) then Some s.team else first_other other says said sets
+first_other other says said sets =
+    option_map (λ s. s.team) (find (λ s. other said (says s)) sets)
 
 -- the fault of documents of which this is the first that says one: another one says otherwise
 abbrev pub disagreement_with : {A : Type 0} → (other : A → Option A → Bool)

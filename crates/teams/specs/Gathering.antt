@@ -16,11 +16,16 @@ IsHead line team count =
     (name : List ℕ) × (number : List ℕ) × (words line ≡ codes "#%" ∷ name ∷ number ∷ [])
     × (name_in name ≡ Some team) × (number_in number ≡ Some count)
 
+-- a text begins with such a line, a document of as many bytes as it counts, and this stands behind it
+abbrev pub IsPartBy : (List ℕ → ℕ → Type 0) → List ℕ → (document after : List ℕ) → Type 0
+IsPartBy IsHeadLine text document after =
+    (line : List ℕ) × (rest : List ℕ) × (parts text ≡ line ∷ parts rest)
+    × IsHeadLine line (length document) × (rest ≡ document ++ after)
+
 -- a text begins with a team's document, and this stands behind it
 abbrev pub IsFirstPart : List ℕ → (team document after : List ℕ) → Type 0
 IsFirstPart text team document after =
-    (line : List ℕ) × (rest : List ℕ) × (parts text ≡ line ∷ parts rest)
-    × IsHead line team (length document) × (rest ≡ document ++ after)
+    IsPartBy (λ line count. IsHead line team count) text document after
 
 -- the line is `#% COUNT`
 abbrev pub IsNodeHead : List ℕ → ℕ → Type 0
@@ -29,9 +34,7 @@ IsNodeHead line count =
 
 -- a text begins with the node's document, and this stands behind it
 abbrev pub IsNodePart : List ℕ → (document after : List ℕ) → Type 0
-IsNodePart text document after =
-    (line : List ℕ) × (rest : List ℕ) × (parts text ≡ line ∷ parts rest)
-    × IsNodeHead line (length document) × (rest ≡ document ++ after)
+IsNodePart text document after = IsPartBy IsNodeHead text document after
 
 -- a text begins with no node's document
 abbrev pub HasNoNode : List ℕ → Type 0

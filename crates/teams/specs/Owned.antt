@@ -1,5 +1,5 @@
 -- The tasks of teams.
-use Rattle.std.specs.Prelude.{ℕ, List, [], ◌∷◌, ◌++◌, map, Option, slice_index_or, if◌then◌else◌}
+use Rattle.std.specs.Prelude.{ℕ, List, [], ◌∷◌, ◌++◌, find, map, Option, option_map, unwrap_or, slice_index_or}
 use Rattle.task_sheet.specs.Sheet.{Task, no_task, same_bytes}
 use Rattle.task_sheet.specs.declared.prefer.Preference.{Preference}
 use Rattle.task_sheet.specs.declared.node.Node.{Node}
@@ -33,14 +33,14 @@ abbrev pub owned_all : List TeamSetData → List OwnedData
 owned_all [] = []
 owned_all (s ∷ sets) = owned_by s.team s.set ++ owned_all sets
 
--- the team of the first task with a name, or this one
-abbrev pub holder_of : List OwnedData → List ℕ → List ℕ → List ℕ
-holder_of [] name team = team
-holder_of (o ∷ tasks) name team =
-    if same_bytes o.sheet.name name then o.team else holder_of tasks name team
+-- the team of the first task with a name
+abbrev pub holder_of : List OwnedData → List ℕ → Option (List ℕ)
+holder_of tasks name =
+    option_map (λ o. o.team) (find (λ o. same_bytes o.sheet.name name) tasks)
 
 -- the task at a place has the name of one before it
 abbrev pub taken_at : List OwnedData → ℕ → TeamsFault
 taken_at tasks place =
     Taken (slice_index_or tasks place no_owned).team (slice_index_or tasks place no_owned).sheet.name
-    (holder_of tasks (slice_index_or tasks place no_owned).sheet.name (slice_index_or tasks place no_owned).team)
+    (unwrap_or (holder_of tasks (slice_index_or tasks place no_owned).sheet.name)
+    (slice_index_or tasks place no_owned).team)

@@ -48,8 +48,8 @@ fn longest_of(tasks: &[Owned], team: Name, sheet: &Sheet) -> u64
 {
     let mut longest = 0;
     for section in sheet.sections() {
-        if is_shared(tasks, team, section) {
-            longest = longest.max(section.len);
+        if longest < section.len && is_shared(tasks, team, section) {
+            longest = section.len;
         }
     }
     longest
@@ -62,7 +62,10 @@ fn longest_shared(tasks: &[Owned], team: Name) -> u64
     let mut longest = 0;
     for owned in tasks {
         if owned.team == team {
-            longest = longest.max(longest_of(tasks, team, &owned.sheet));
+            let own = longest_of(tasks, team, &owned.sheet);
+            if longest < own {
+                longest = own;
+            }
         }
     }
     longest

@@ -91,16 +91,12 @@ fn sheets_of(alloc: Global, tasks: &[Owned]) -> Result<Vec<Sheet>, AllocError>
     Ok(sheets)
 }
 
-// The team of the first task with a name, or this one.
-fn holder_of(tasks: &[Owned], name: Name, team: Name) -> Name
-    ensures { result ≡ holder_of tasks.now name team }
+// The team of the first task with a name.
+fn holder_of(tasks: &[Owned], name: Name) -> Option<Name>
+    ensures { result ≡ holder_of tasks.now name }
 {
-    for task in tasks {
-        if task.sheet.name() == name {
-            return task.team;
-        }
-    }
-    team
+    let task = tasks.iter().find(|task| task.sheet.name() == name)?;
+    Some(task.team)
 }
 
 // The task at a place has the name of one before it.
@@ -111,11 +107,8 @@ fn taken_at(tasks: &[Owned], place: usize) -> TeamsFault
     let owned = &tasks[place];
     let team = owned.team;
     let task = owned.sheet.name();
-    TeamsFault::Taken {
-        team,
-        task,
-        other: holder_of(tasks, task, team),
-    }
+    let other = holder_of(tasks, task).unwrap_or(team);
+    TeamsFault::Taken { team, task, other }
 }
 
 // Why the tasks are no set.
@@ -180,12 +173,10 @@ fn says_other(preference: Preference, said: Option<Preference>) -> bool
 fn first_other(sets: &[TeamSet], preference: Preference) -> Option<Name>
     ensures { result ≡ first_other says_other (λ s. s.prefers) preference sets.now }
 {
-    for part in sets {
-        if says_other(preference, part.prefers) {
-            return Some(part.team);
-        }
-    }
-    None
+    let part = sets
+        .iter()
+        .find(|part| says_other(preference, part.prefers))?;
+    Some(part.team)
 }
 
 // What the documents prefer, where one says so; or the first that prefers otherwise than one before it.
@@ -230,12 +221,8 @@ fn says_other_node(node: Node, said: Option<Node>) -> bool
 fn first_other_node(sets: &[TeamSet], node: Node) -> Option<Name>
     ensures { result ≡ first_other says_other_node (λ s. s.node) node sets.now }
 {
-    for part in sets {
-        if says_other_node(node, part.node) {
-            return Some(part.team);
-        }
-    }
-    None
+    let part = sets.iter().find(|part| says_other_node(node, part.node))?;
+    Some(part.team)
 }
 
 // The node of the documents, where one says it; or the first that says another than one before it.
@@ -254,25 +241,17 @@ fn agreed_node(sets: &[TeamSet]) -> Result<Option<Node>, TeamsFault>
 
 // ---- the interrupts of all
 
-// The interrupts of the documents, in their order.
-fn interrupts_of(alloc: Global, sets: &[TeamSet]) -> Result<Vec<Interrupt>, AllocError>
-    ensures { IfOk result (λ v. v.items ≡ interrupts_by sets.now) }
-{
-    let mut interrupts = Vec::new(alloc);
-    for part in sets {
-        interrupts.extend_from_slice(&part.interrupts)?;
-    }
-    Ok(interrupts)
-}
-
-// The same, where they are not too many.
+// The interrupts of the documents, in their order, where they are not too many.
 fn few_interrupts(alloc: Global, sets: &[TeamSet]) -> Result<Vec<Interrupt>, TeamsFault>
     ensures ok { IfOk result (λ v. (v.items ≡ interrupts_by sets.now)
         × (length (interrupts_by sets.now) ≤ INTERRUPT_LIMIT)) }
     ensures err { IfErr result (λ e. e ≢ TeamsFault.OutOfMemory
         → (e ≡ TeamsFault.TooManyInterrupts) × (INTERRUPT_LIMIT < length (interrupts_by sets.now))) }
 {
-    let interrupts = interrupts_of(alloc, sets)?;
+    let mut interrupts = Vec::new(alloc);
+    for part in sets {
+        interrupts.extend_from_slice(&part.interrupts)?;
+    }
     if interrupts.len() > INTERRUPT_LIMIT {
         return Err(TeamsFault::TooManyInterrupts);
     }

@@ -1,7 +1,7 @@
 use Rattle.std.proofs.Common.{ℕ, ◌+◌, ◌-◌, List, take, slice_index, refl, sym, subst}
 use Rattle.kept_order.specs.Keeping.{IsKeepingOf, IsPassingKept}
 use Rattle.kept_order.specs.declared.Keeping.{Keeping}
-use Rattle.kept_order.proofs.PartedLaws.{IsFirstParted-at}
+use Rattle.kept_order.proofs.KeepsLaws.{IsFirstParted-at}
 use Rattle.kept_order.proofs.first_parted.Goals as goal
 
 pub returns-in-None : goal.returns-in-None

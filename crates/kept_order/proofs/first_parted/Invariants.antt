@@ -1,5 +1,5 @@
 use Rattle.std.proofs.Common.{◌≤◌}
-use Rattle.kept_order.proofs.PartedLaws.{SomeKeeps}
+use Rattle.kept_order.proofs.KeepsLaws.{SomeKeeps}
 use Rattle.kept_order.proofs.first_parted.Given as goal
 
 -- some order keeps what is below

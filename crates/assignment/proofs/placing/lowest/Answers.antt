@@ -1,11 +1,10 @@
-use Rattle.std.proofs.Common.{◌∙◌, ap, sym, subst}
+use Rattle.std.proofs.Common.{◌≡◌, ◌∙◌, true, ap, sym, subst, below_more}
 use Rattle.std.proofs.lemmas.Bool.{both_ways}
-use Rattle.task_sheet.specs.Indexes.{Indexes, indexes_of}
+use Rattle.task_sheet.specs.Indexes.{Indexes, indexes_of, without_index}
 use Rattle.task_sheet.specs.Demand.{IsResponseOf}
 use Rattle.task_sheet.specs.Orders.{Stands}
 use Rattle.task_sheet.proofs.MembersIndexes.{indexes_of-remove}
 use Rattle.assignment.proofs.AskLaws.{remove-part}
-use Rattle.assignment.proofs.PlacingLaws.{one_more_fails}
 use Rattle.assignment.proofs.placing.lowest.Goals as goal
 use Rattle.assignment.proofs.placing.lowest.Goals.{then-has+in_default, else-has}
 
@@ -34,11 +33,11 @@ loop-task-preserved c =
     let U = c.args.set.now in
     let L = indexes_of c.args.left in
     let i = c.loop-task.task in
-    elim c.if-has.branch [
+    below_more (λ j. L j ≡ true → ¬ Stands U j (without_index L j)) i c.loop-task.invariant
+    (elim c.if-has.branch [
       | then-has+in_default w ↦
           let rest = ap indexes_of w.without.ensures ∙ indexes_of-remove c.args.left i in
-          one_more_fails U L i c.loop-task.invariant
-          (λ _. subst (λ (X : Indexes). ¬ Stands U i X) rest w.in_default.ensures.none)
-      | else-has w ↦ one_more_fails U L i c.loop-task.invariant
-          (λ member. absurd (both_ways c.has.result w.if-has.false (c.has.ensures ∙ member)))
-    ]
+          λ _. subst (λ (X : Indexes). ¬ Stands U i X) rest w.in_default.ensures.none
+      | else-has w ↦
+          λ member. absurd (both_ways c.has.result w.if-has.false (c.has.ensures ∙ member))
+    ])

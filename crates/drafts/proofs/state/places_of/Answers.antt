@@ -2,7 +2,7 @@ use Rattle.std.proofs.Common.{◌∙◌, ◌==◌, ap, arith}
 use Rattle.std.specs.FinSet.{contains, contains-empty}
 use Rattle.std.specs.Ordering.{nat_cmp}
 use Rattle.std.proofs.lemmas.Bool.Decides.{nat_tests}
-use Rattle.drafts.proofs.TeamLaws.{places-more, places-all}
+use Rattle.drafts.proofs.OwnedLaws.{places-more, places-all}
 use Rattle.drafts.proofs.state.places_of.Goals as goal
 
 pub loop-index-init : goal.loop-index-init

@@ -6,19 +6,22 @@ use Rattle.task_sheet.specs.Indexes.{indexes_of}
 use Rattle.task_sheet.proofs.TaskLaws.{AllTasks-from_set}
 use Rattle.task_sheet.proofs.MembersIndexes.{len-remove_member}
 use Rattle.assignment.specs.Places.{PlaceData}
-use Rattle.kept_order.proofs.ClimbLaws.{IsPlacedKept-part, IsPlacedKept-start, IsPlacedKept-push}
-use Rattle.kept_order.proofs.ClimbLaws.{IsPlacedKept-best, IsPlacedKept-none}
+use Rattle.assignment.proofs.PlacingLaws.{IsPlaced-part, IsPlaced-start}
+use Rattle.kept_order.proofs.ClimbLaws.{IsKeptTo-push, IsKeptTo-best, IsKeptTo-none}
 use Rattle.kept_order.proofs.climbing.climb.Goals as goal
 
 pub loop-left-init : goal.loop-left-init
 loop-left-init c =
-    IsPlacedKept-start c.args.set.now c.args.kept.now c.all-left.result _
-    c.in_ok-places.places.items c.all-left.ensures
-    (ap (λ (U : List Task). length U) c.sheets.ensures.same) c.in_ok-places.ensures.items
+    let none = c.in_ok-places.ensures.items in
+    record {
+      chosen = rw none tt;
+      placed = IsPlaced-start c.args.set.now c.all-left.result _ c.in_ok-places.places.items
+          c.all-left.ensures (ap (λ (U : List Task). length U) c.sheets.ensures.same) none;
+    }
 
 pub lowest-requires-clause-part : goal.lowest-requires-clause-part
-lowest-requires-clause-part c = IsPlacedKept-part c.args.set.now c.args.kept.now
-    (indexes_of c.loop-left.left) c.loop-left.places.items c.loop-left.invariant
+lowest-requires-clause-part c = IsPlaced-part c.args.set.now (indexes_of c.loop-left.left)
+    c.loop-left.places.items c.loop-left.invariant.placed
 
 pub loop-left-smaller : goal.loop-left-smaller
 loop-left-smaller c =
@@ -29,18 +32,18 @@ loop-left-smaller c =
 pub loop-left-preserved : goal.loop-left-preserved
 loop-left-preserved c =
     let same = ap (λ (p : PlaceData). p.task) c.place.view_is in
-    IsPlacedKept-push c.args.set.now c.args.kept.now c.loop-left.left c.without-left.result
+    IsKeptTo-push c.args.set.now c.args.kept.now c.loop-left.left c.without-left.result
     c.loop-left.places.items c.push.new.self.items c.in-Some.place c.loop-left.invariant
     c.in-Some.ensures.chosen c.in-Some.ensures.response (c.without-left.ensures
     ∙ ap (λ n. members.remove c.loop-left.left n) same) c.in_ok-push-in-Some.ensures.items
 
 pub returns-in-None-clause-none : goal.returns-in-None-clause-none
 returns-in-None-clause-none c =
-    IsPlacedKept-none c.args.set.now c.args.kept.now c.loop-left.left c.loop-left.places.items
+    IsKeptTo-none c.args.set.now c.args.kept.now c.loop-left.left c.loop-left.places.items
     (AllTasks-from_set c.args.set.now c.sheets.ensures.kept) c.loop-left.invariant
     (λ none. both_ways c.is_empty.result c.loop-left-test.true (c.is_empty.ensures.1 none))
     c.in-None.ensures.none
 
 pub returns-clause-some : goal.returns-clause-some
-returns-clause-some c = IsPlacedKept-best c.args.set.now c.args.kept.now c.loop-left.left
+returns-clause-some c = IsKeptTo-best c.args.set.now c.args.kept.now c.loop-left.left
     c.loop-left.places.items c.loop-left.invariant (c.is_empty.ensures.0 c.loop-left-test.false)

@@ -1,4 +1,4 @@
-use Rattle.kept_order.proofs.PartedLaws.{IsBestKept-one, IsBestKept-best}
+use Rattle.kept_order.proofs.KeepsLaws.{IsBestKept-one, IsBestKept-best}
 use Rattle.kept_order.proofs.laws.best_kept_is_one.Goals as goal
 
 pub returns-clause-one : goal.returns-clause-one

@@ -1,4 +1,4 @@
-use Rattle.kept_order.proofs.PartedLaws.{Keeps-part, Keeps-none, IsFirstParted-none}
+use Rattle.kept_order.proofs.KeepsLaws.{Keeps-part, Keeps-none, IsFirstParted-none}
 use Rattle.kept_order.proofs.laws.parts_are_kept.Goals as goal
 
 pub returns-clause-part : goal.returns-clause-part

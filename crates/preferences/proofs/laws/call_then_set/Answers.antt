@@ -1,10 +1,23 @@
-use Rattle.preferences.proofs.WeightLaws.{SaysPreferred-own, SaysPreferred-nobody}
+use Rattle.std.proofs.Common.{Option, None, refl, sym, subst}
+use Rattle.task_sheet.specs.declared.prefer.Preference.{Preference}
+use Rattle.preferences.specs.Preferences.{IsPreferred}
+use Rattle.preferences.specs.ReadsPreferred.{chosen}
 use Rattle.preferences.proofs.laws.call_then_set.Goals as goal
 
 pub returns : goal.returns
 returns c = record {
   call = λ text preference U. (λ h. h, λ h. h);
-  own = SaysPreferred-own;
-  nobody = SaysPreferred-nobody;
+  own = λ text d preference U reads is preferred. (
+    d,
+    reads,
+    subst (λ (o : Option Preference).
+        IsPreferred (chosen None o) d.set U) (sym is) preferred,
+  );
+  nobody = λ text d reads is. (
+    d,
+    reads,
+    subst (λ (o : Option Preference).
+        IsPreferred (chosen None o) d.set d.set) (sym is) refl,
+  );
   weights = λ text U. (λ h. h, λ h. h);
 }

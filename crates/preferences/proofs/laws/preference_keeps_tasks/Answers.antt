@@ -1,5 +1,5 @@
-use Rattle.preferences.proofs.Exchanges.{unweighed-preferred, ShareOrders-preferred}
-use Rattle.preferences.proofs.Exchanges.{IsFeasible-preferred}
+use Rattle.preferences.proofs.Renumbering.{unweighed-preferred, ShareOrders-preferred}
+use Rattle.preferences.proofs.Renumbering.{IsFeasible-preferred}
 use Rattle.preferences.proofs.laws.preference_keeps_tasks.Goals as goal
 
 pub returns : goal.returns

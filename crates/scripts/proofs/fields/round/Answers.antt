@@ -1,4 +1,4 @@
-use Rattle.scripts.proofs.Pairs.{cut_twice}
+use Rattle.scripts.proofs.Nodes.{cut_twice}
 use Rattle.scripts.proofs.fields.round.Goals as goal
 
 pub returns-in-Some : goal.returns-in-Some

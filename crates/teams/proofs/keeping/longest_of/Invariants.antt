@@ -1,8 +1,10 @@
-use Rattle.std.proofs.Common.{◌≡◌, take, if◌then◌else◌}
-use Rattle.task_sheet.specs.Demand.{greatest_of}
+use Rattle.std.proofs.Common.{◌≡◌, drop, max}
 use Rattle.teams.specs.Budgets.{is_shared}
+use Rattle.task_sheet.specs.Demand.{greatest_of}
+use Rattle.std.proofs.Common.{if◌then◌else◌}
 use Rattle.teams.proofs.keeping.longest_of.Given as goal
 
 abbrev pub invariant-loop-section : goal.invariant-loop-section
-invariant-loop-section l = l.longest ≡ greatest_of
-    (λ s. if is_shared l.tasks l.team s then s.len else 0) (take l.section-index l.section-items)
+invariant-loop-section l = max l.longest (greatest_of
+    (λ s. if is_shared l.tasks l.team s then s.len else 0) (drop l.section-index l.section-items))
+    ≡ greatest_of (λ s. if is_shared l.tasks l.team s then s.len else 0) l.section-items

@@ -1,9 +1,11 @@
-use Rattle.std.proofs.Common.{◌≡◌, take, if◌then◌else◌}
+use Rattle.std.proofs.Common.{◌≡◌, drop, max}
+use Rattle.teams.specs.Budgets.{longest_shared, longest_of}
 use Rattle.task_sheet.specs.Demand.{greatest_of}
 use Rattle.task_sheet.specs.Sheet.{same_bytes}
-use Rattle.teams.specs.Budgets.{longest_of}
+use Rattle.std.proofs.Common.{if◌then◌else◌}
 use Rattle.teams.proofs.keeping.longest_shared.Given as goal
 
 abbrev pub invariant-loop-owned : goal.invariant-loop-owned
-invariant-loop-owned l = l.longest ≡ greatest_of (λ o. if same_bytes o.team l.team then longest_of
-    l.tasks l.team o.sheet else 0) (take l.owned-index l.tasks)
+invariant-loop-owned l = max l.longest (greatest_of (λ o. if same_bytes o.team l.team then
+    longest_of l.tasks l.team o.sheet else 0) (drop l.owned-index l.tasks))
+    ≡ longest_shared l.tasks l.team

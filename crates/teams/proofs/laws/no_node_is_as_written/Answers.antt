@@ -1,4 +1,4 @@
-use Rattle.teams.proofs.PaddingLaws.{as_written, written}
+use Rattle.teams.proofs.WrittenLaws.{as_written, written}
 use Rattle.teams.proofs.laws.no_node_is_as_written.Goals as goal
 
 pub returns : goal.returns

@@ -1,5 +1,4 @@
-use Rattle.teams.proofs.PaddingLaws.{reads_padded}
-use Rattle.teams.proofs.WrittenLaws.{written_within}
+use Rattle.teams.proofs.WrittenLaws.{reads_padded, written_within}
 use Rattle.teams.proofs.text.read_text.Goals as goal
 
 pub padded-requires : goal.padded-requires

@@ -1,18 +1,11 @@
-use Rattle.std.proofs.Common.{ap, subst, is_some, MatchOption}
+use Rattle.std.proofs.Common.{ap, subst, is_some}
 use Rattle.std.proofs.lemmas.Bool.{both_ways}
-use Rattle.task_sheet.specs.Indexes.{indexes_of}
 use Rattle.assignment.specs.Climbs.{ClimbState, IsUnfinished}
-use Rattle.assignment.specs.Levels.{IsObstructed}
-use Rattle.assignment.proofs.ClimbLaws.{not_unfinished, IsClimbing-admitted, IsClimbing-infeasible}
+use Rattle.assignment.proofs.ClimbLaws.{not_unfinished, IsClimbing-admitted, stuck_kept}
 use Rattle.assignment.proofs.climb.Climb.finish.Goals as goal
 
 pub new-requires : goal.new-requires
-new-requires c =
-    let a = c.self.inside in
-    let obstructed = subst (λ o. MatchOption o (Unit {0}) (λ members. IsObstructed a.set.value
-    (indexes_of a.left) members.items)) c.in-Some.is c.self.invariant.obstructed in
-    IsClimbing-infeasible a.set.value a.left a.levels.items c.in-Some.members.items
-    c.self.invariant.valid c.self.invariant.climbing obstructed
+new-requires c = stuck_kept c.self.inside c.in-Some.members c.self.invariant c.in-Some.is
 
 pub new-requires-in-None : goal.new-requires-in-None
 new-requires-in-None c =

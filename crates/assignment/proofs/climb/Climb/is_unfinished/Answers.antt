@@ -2,14 +2,14 @@ use Rattle.std.proofs.Common.{arith, sym, ◌∙◌, subst, length, false, is_so
 use Rattle.std.proofs.lemmas.Bool.{lt-ltb, ltb-true}
 use Rattle.task_sheet.proofs.MembersIndexes.{len-of_member, member_of-len}
 use Rattle.assignment.specs.Climbs.{ClimbState, IsUnfinished}
-use Rattle.assignment.proofs.ClimbLaws.{left-part}
+use Rattle.assignment.proofs.ClimbLaws.{left_part}
 use Rattle.assignment.proofs.climb.Climb.is_unfinished.Goals as goal
 
 pub returns-then-is_none : goal.returns-then-is_none
 returns-then-is_none c =
     let a = c.self.inside in (
       λ some.
-          let part = left-part a.set.value a.left a.levels.items c.self.invariant.climbing in
+          let part = left_part a.set.value a.left a.levels.items c.self.invariant.climbing in
           let pos = ltb-true 0 c.len.result some in
           let member =
           member_of-len a.left (length a.set.value) part (omega (arith, c.len.ensures, pos)) in

@@ -9,40 +9,39 @@ use Rattle.assignment.specs.Levels.{IsObstructed}
 use Rattle.assignment.proofs.ClimbLaws.{IsClimbing-push, none_known}
 use Rattle.assignment.proofs.climb.Climb.place.Goals as goal
 
-chosen_inside : (climb a : ClimbState) (level b : LevelData) → a ≡ climb → b ≡ level → IsChosen
-    climb.set (indexes_of climb.left) level.task → IsChosen a.set (indexes_of a.left) b.task
-chosen_inside climb a level b same same' h =
-    subst (λ (x : LevelData). IsChosen a.set (indexes_of a.left) x.task) (sym same')
-    (subst (λ (x : ClimbState). IsChosen x.set (indexes_of x.left) level.task) (sym same) h)
-
-level_inside : (climb a : ClimbState) (level b : LevelData) → a ≡ climb → b ≡ level
-    → IsLevel climb.set (indexes_of climb.left) level → IsLevel a.set (indexes_of a.left) b
-level_inside climb a level b same same' h =
-    subst (λ (x : LevelData). IsLevel a.set (indexes_of a.left) x) (sym same')
-    (subst (λ (x : ClimbState). IsLevel x.set (indexes_of x.left) level) (sym same) h)
+-- what is known of the climb and of the level holds of what they keep
+inside : (climb a : ClimbState) (level b : LevelData) → a ≡ climb → b ≡ level
+    → IsChosen climb.set (indexes_of climb.left) level.task
+    → IsLevel climb.set (indexes_of climb.left) level
+    → IsChosen a.set (indexes_of a.left) b.task × IsLevel a.set (indexes_of a.left) b
+inside climb a level b same same' chosen is =
+    subst (λ (x : LevelData). IsChosen a.set (indexes_of a.left) x.task
+    × IsLevel a.set (indexes_of a.left) x) (sym same')
+    (subst (λ (x : ClimbState). IsChosen x.set (indexes_of x.left) level.task
+    × IsLevel x.set (indexes_of x.left) level) (sym same) (chosen, is))
 
 pub push_reserved-requires : goal.push_reserved-requires
 push_reserved-requires c =
-    let chosen = chosen_inside _ _ _ _ c.self.view_is c.level.view_is c.requires.chosen in
+    let known =
+    inside _ _ _ _ c.self.view_is c.level.view_is c.requires.chosen c.requires.level in
     omega (
       arith,
       c.self.invariant.room,
-      len-of_member c.self.inside.left c.level.inside.task
-          chosen.member,
+      len-of_member c.self.inside.left c.level.inside.task known.0.member,
     )
 
 pub invariant_of-self : goal.invariant_of-self
 invariant_of-self c =
     let a = c.self.inside in
-    let chosen = chosen_inside _ _ _ _ c.self.view_is c.level.view_is c.requires.chosen in
-    let level = level_inside _ _ _ _ c.self.view_is c.level.view_is c.requires.level in
+    let known =
+    inside _ _ _ _ c.self.view_is c.level.view_is c.requires.chosen c.requires.level in
     let goes_on = ap (λ (x : ClimbState). x.stuck) c.self.view_is ∙ c.requires.goes_on in
     let fewer : len c.without-self-inside.result < len a.left = rw c.without-self-inside.ensures
-    (len-remove_member a.left c.level.inside.task chosen.member) in
+    (len-remove_member a.left c.level.inside.task known.0.member) in
     record {
       valid = c.self.invariant.valid;
       climbing = IsClimbing-push a.set.value a.left c.without-self-inside.result a.levels.items
-          c.push_reserved.new.self.items _ c.self.invariant.climbing chosen level
+          c.push_reserved.new.self.items _ c.self.invariant.climbing known.0 known.1
           c.without-self-inside.ensures (c.push_reserved.ensures.items
           ∙ ap (λ (x : LevelData). a.levels.items ++ x ∷ []) (sym c.level.view_is));
       room = omega (

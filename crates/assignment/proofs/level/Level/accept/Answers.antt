@@ -3,7 +3,7 @@ use Rattle.std.specs.FinSet.{contains}
 use Rattle.task_sheet.specs.Indexes.{indexes_of}
 use Rattle.assignment.specs.Questions.{QuestionData}
 use Rattle.assignment.specs.Levels.{LevelState, IsAsked, IsRightAt}
-use Rattle.assignment.proofs.TakeLaws.{found_again, IsRightAt-asked, AreRight-set, AreMissing-set}
+use Rattle.assignment.proofs.LevelLaws.{found_again, IsRightAt-asked, AreRight-set, AreMissing-set}
 use Rattle.assignment.proofs.level.Level.accept.Goals as goal
 
 pub invariant_of-self-then-has-4 : goal.invariant_of-self-then-has-4

@@ -9,8 +9,8 @@ use Rattle.assignment.specs.declared.outcome.Outcome.{Outcome}
 use Rattle.assignment.specs.declared.level.Level.TheInside.{Inside}
 use Rattle.assignment.specs.LevelFields.{IsLevelKept}
 use Rattle.assignment.specs.Levels.{LevelState, lets_stand}
-use Rattle.assignment.proofs.LevelLaws.{NoneBelow-skip, NoneBelow-fail, IsDecided-standing}
-use Rattle.assignment.proofs.LevelLaws.{known-found, known-stands}
+use Rattle.assignment.proofs.LevelLaws.{NoneBelow-more, IsDecided-standing, known-found}
+use Rattle.assignment.proofs.LevelLaws.{known-stands}
 use Rattle.assignment.proofs.level.Level.decided.Goals as goal
 use Rattle.assignment.proofs.level.Level.decided.Goals.{then-has+in-Some+else-lets_stand, else-has}
 
@@ -64,7 +64,11 @@ loop-task-preserved c =
             ap length c.deref.ensures,
           )) w.index.ensures
           w.in-Some.is in
-          NoneBelow-fail l n c.loop-task.invariant said.0 (λ stands. both_ways w.lets_stand.result
-          w.if-lets_stand.false (w.lets_stand.ensures ∙ said.1.1 stands))
-      | else-has w ↦ NoneBelow-skip l n c.loop-task.invariant (sym has ∙ w.if-has.false)
+          NoneBelow-more l n c.loop-task.invariant (λ _. (
+            said.0,
+            λ stands. both_ways
+                w.lets_stand.result w.if-lets_stand.false (w.lets_stand.ensures ∙ said.1.1 stands),
+          ))
+      | else-has w ↦ NoneBelow-more l n c.loop-task.invariant
+          (λ member. absurd (both_ways c.has.result w.if-has.false (has ∙ member)))
     ]

@@ -1,7 +1,7 @@
 use Rattle.std.proofs.Common.{◌≤◌, List, ℕ, length, sym, subst}
 use Rattle.drafts.specs.declared.change.Change.{Change}
 use Rattle.drafts.specs.Edits.{AreNamed}
-use Rattle.drafts.proofs.ChangeLaws.{dropped-few, dropped-named}
+use Rattle.drafts.proofs.ChangeLaws.{dropped_few, dropped_named}
 use Rattle.drafts.proofs.draft.Draft.remove.Goals as goal
 
 pub invariant_of-self : goal.invariant_of-self
@@ -10,7 +10,7 @@ invariant_of-self c =
     let made = sym c.shift_remove.ensures.entries in
     record {
       few = subst (λ (cs : List (List ℕ × Change)). length cs ≤ 64) made
-          (dropped-few c.args.name a.changes.entries c.self.invariant.few);
+          (dropped_few c.args.name a.changes.entries c.self.invariant.few);
       named =
-          subst AreNamed made (dropped-named c.args.name a.changes.entries c.self.invariant.named);
+          subst AreNamed made (dropped_named c.args.name a.changes.entries c.self.invariant.named);
     }

@@ -1,6 +1,6 @@
 use Rattle.std.proofs.Common.{◌≡◌, ◌++◌, drop}
 use Rattle.teams.specs.Agreeing.{interrupts_by}
-use Rattle.teams.proofs.uniting.interrupts_of.Given as goal
+use Rattle.teams.proofs.uniting.few_interrupts.Given as goal
 
 abbrev pub invariant-loop-part : goal.invariant-loop-part
 invariant-loop-part l =
