@@ -4,8 +4,7 @@ use Rattle.assignment.specs.Questions.{QuestionData}
 use Rattle.candidate_workers.specs.Faults.{IsBadCount}
 use Rattle.drafts.specs.Applied.{applied}
 use Rattle.drafts.specs.Machine.{MachineState}
-use Rattle.drafts.specs.Edits.{Draft}
-use Rattle.drafts.specs.Edits.{on_base}
+use Rattle.drafts.specs.Edits.{Draft, on_base}
 use Rattle.book_lock.specs.Reached.{IsReached}
 use Rattle.book_lock.specs.TeamPass.{Known}
 use Rattle.book_lock.specs.Settles.{IsReceived}

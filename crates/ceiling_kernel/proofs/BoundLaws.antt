@@ -6,16 +6,14 @@ use Rattle.std.proofs.Common.{List, [], ◌∷◌, length, nat_le, nat_lt, eqb}
 use Rattle.std.proofs.lemmas.Bool.{cases_eq, cases_lt, cases_Bool, lt-ltb, le-leb, lt-leb, leb-true}
 use Rattle.std.proofs.lemmas.Bool.{ltb-true, and_parts, eq-eqb, eqb-true, ne_eqb, le-ltb}
 use Rattle.std.proofs.lemmas.List.{get_or_past}
-use Rattle.std.proofs.Math.Nat.{mul-le-mul_right, div-lt_iff_lt-mul}
-use Rattle.std.proofs.Math.Nat.{div-eq_of_lt-le}
+use Rattle.std.proofs.Math.Nat.{mul-le-mul_right, div-lt_iff_lt-mul, div-eq_of_lt-le}
 use Rattle.std.proofs.lemmas.Grind.{div_ceil_times}
 use Rattle.std.specs.List.{list_any}
 use Rattle.task_sheet.specs.Sheet.{no_task, Task, CriticalSection, task_at}
 use Rattle.task_sheet.specs.Indexes.{Indexes, with_index, greatest_below}
 use Rattle.task_sheet.specs.Locks.{uses, shares_lock, reaches}
 use Rattle.task_sheet.specs.Demand.{releases_within, longest_reached, blocking_of, interference_of}
-use Rattle.task_sheet.specs.Demand.{demand_of, limit_of}
-use Rattle.task_sheet.specs.Demand.{past_jitter}
+use Rattle.task_sheet.specs.Demand.{demand_of, limit_of, past_jitter}
 use Rattle.task_sheet.specs.Orders.{IsPassingOrder}
 use Rattle.ceiling_kernel.specs.Tick.{Node, Job, job_at, job_task, level_in_order, level_of_job}
 use Rattle.ceiling_kernel.specs.Tick.{executed_before, picked, ceiling, top_ceiling}

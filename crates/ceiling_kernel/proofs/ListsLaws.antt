@@ -1,17 +1,14 @@
 -- How the lists of the priorities change, and how many they are.
 use Rattle.std.proofs.Common.{ℕ, zero, suc, ◌<◌, ◌≡◌, List, [], ◌∷◌, length, get_or, set, refl, sym}
-use Rattle.std.proofs.Common.{ap, ◌∙◌, arith}
+use Rattle.std.proofs.Common.{ap, ◌∙◌, arith, ◌==◌, inl, inr, ◌++◌, drop, replicate, nat_lt}
+use Rattle.std.proofs.Common.{length-set}
 use Rattle.std.specs.declared.collections.VecDeque.{VecDeque}
 use Rattle.std.specs.declared.alloc.Global.{Global}
 use Rattle.std.specs.VecDeque.{deque_items}
-use Rattle.ceiling_kernel.specs.Lists.{listed, list_at}
-use Rattle.std.proofs.Common.{ℕ, suc, ◌<◌, ◌≡◌, ◌==◌, inl, inr, refl, sym, ap, ◌∙◌, arith, List, []}
-use Rattle.std.proofs.Common.{◌∷◌, ◌++◌, length, drop, set, replicate, nat_lt, length-set}
+use Rattle.ceiling_kernel.specs.Lists.{listed, list_at, with_tail, without_head, with_head}
+use Rattle.ceiling_kernel.specs.Lists.{moved_to}
 use Rattle.std.proofs.lemmas.Bool.{cases_Bool}
 use Rattle.std.proofs.lemmas.List.{length-replicate}
-use Rattle.std.specs.declared.collections.VecDeque.{VecDeque}
-use Rattle.std.specs.declared.alloc.Global.{Global}
-use Rattle.ceiling_kernel.specs.Lists.{with_tail, without_head, with_head, moved_to}
 
 abbrev Deque : Type 0
 Deque = VecDeque ℕ Global

@@ -1,23 +1,19 @@
 -- No job waits for a lock.
-use Rattle.std.proofs.Common.{ℕ, zero, suc, ◌+◌, ◌<◌, ◌≤◌, ◌≡◌, ◌⊎◌, inl, inr, refl, sym, ap}
-use Rattle.std.proofs.Common.{arith, Bool, true, false, ◌==◌, ◌&&◌, ◌||◌, List, [], ◌∷◌}
-use Rattle.std.proofs.Common.{Some, None}
-use Rattle.std.proofs.lemmas.Bool.{cases_eq, cases_Bool, true≢false, and_parts}
-use Rattle.std.proofs.lemmas.Bool.{or_cases, or_right, eq-eqb, eqb-true}
+use Rattle.std.proofs.Common.{ℕ, zero, suc, ◌+◌, ◌<◌, ◌≤◌, ◌≡◌, ◌⊎◌, inl, inr, refl, sym, ap, arith}
+use Rattle.std.proofs.Common.{Bool, true, false, ◌==◌, ◌&&◌, ◌||◌, List, [], ◌∷◌, Some, None}
+use Rattle.std.proofs.lemmas.Bool.{cases_eq, cases_Bool, true≢false, and_parts, or_cases, or_right}
+use Rattle.std.proofs.lemmas.Bool.{eq-eqb, eqb-true}
 use Rattle.std.specs.List.{list_any}
 use Rattle.task_sheet.specs.Sheet.{CriticalSection}
 use Rattle.task_sheet.specs.Locks.{names_lock}
-use Rattle.ceiling_kernel.specs.Tick.{Node, Job, job_at, executed_before}
-use Rattle.ceiling_kernel.specs.Tick.{picked, is_inside, held_ceiling}
-use Rattle.ceiling_kernel.specs.Waits.{holds_lock, asks_lock}
-use Rattle.ceiling_kernel.specs.Waits.{AskAnew}
+use Rattle.ceiling_kernel.specs.Tick.{Node, Job, job_at, executed_before, picked, is_inside}
+use Rattle.ceiling_kernel.specs.Tick.{held_ceiling}
+use Rattle.ceiling_kernel.specs.Waits.{holds_lock, asks_lock, AskAnew}
 use Rattle.ceiling_kernel.specs.Behaviours.{AreApart, TakeTurns}
 use Rattle.ceiling_kernel.proofs.BehaviourLaws.{turns_apart}
 use Rattle.ceiling_kernel.proofs.SectionLaws.{inside_true, inside_from, outside_before}
 use Rattle.ceiling_kernel.proofs.SectionLaws.{outside_after}
-use Rattle.ceiling_kernel.proofs.MachineLaws.{picked_is}
-use Rattle.ceiling_kernel.proofs.MachineLaws.{pending_parts, start_of, idle_of}
-use Rattle.ceiling_kernel.proofs.MachineLaws.{other_of}
+use Rattle.ceiling_kernel.proofs.MachineLaws.{picked_is, pending_parts, start_of, idle_of, other_of}
 
 or_false : (x y : Bool) → x ≡ false → y ≡ false → (x || y) ≡ false
 or_false x y a b = rw (a, b)

@@ -16,8 +16,7 @@ use Rattle.ceiling_kernel.specs.declared.run.Simulation.{Simulation}
 use Rattle.ceiling_kernel.specs.Tick.{Node, Job, job_at, level_in_order, executed_before, picked}
 use Rattle.ceiling_kernel.specs.Trace.{with_run, slices_before, finish_before}
 use Rattle.ceiling_kernel.specs.Jumps.{change_after}
-use Rattle.ceiling_kernel.specs.Releases.{task_number, jobs_of, no_release}
-use Rattle.ceiling_kernel.specs.Releases.{release_at}
+use Rattle.ceiling_kernel.specs.Releases.{task_number, jobs_of, no_release, release_at}
 use Rattle.ceiling_kernel.specs.Turns.{time_in_turn, job_in_turn, has_come}
 use Rattle.ceiling_kernel.specs.Runs.{IsOverrun}
 use Rattle.ceiling_kernel.specs.NodeTasks.{IsTaskOf}

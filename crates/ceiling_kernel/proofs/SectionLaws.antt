@@ -9,9 +9,8 @@ use Rattle.task_sheet.specs.Indexes.{Indexes}
 use Rattle.task_sheet.specs.Locks.{reaches}
 use Rattle.task_sheet.specs.Demand.{greatest_of}
 use Rattle.ceiling_kernel.specs.Tick.{Node, is_inside, top_ceiling, held_ceiling}
-use Rattle.ceiling_kernel.specs.Behaviours.{AreTaken}
+use Rattle.ceiling_kernel.specs.Behaviours.{AreTaken, AreApart}
 use Rattle.ceiling_kernel.proofs.BehaviourLaws.{covered-le}
-use Rattle.ceiling_kernel.specs.Behaviours.{AreApart}
 
 pub inside_true : (s : CriticalSection) (e : ℕ) → is_inside s e ≡ true → (s.at < e)
     × (e < s.at + s.len)

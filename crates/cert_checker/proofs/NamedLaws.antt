@@ -1,7 +1,6 @@
 -- Lists that name tasks each once.
 use Rattle.std.proofs.Common.{◌≡◌, ℕ, zero, suc, ◌+◌, ◌<◌, Bool, true, false, cond, ◌&&◌, ◌||◌}
-use Rattle.std.proofs.Common.{◌==◌, not, List, [], ◌∷◌, refl, ◌∙◌, ap, subst, arith, inl}
-use Rattle.std.proofs.Common.{inr}
+use Rattle.std.proofs.Common.{◌==◌, not, List, [], ◌∷◌, refl, ◌∙◌, ap, subst, arith, inl, inr}
 use Rattle.std.specs.List.{count_by}
 use Rattle.std.proofs.lemmas.Bool.{cases_eq, and_parts, and_from, or_cases, both_ways, ltb-true}
 use Rattle.std.proofs.lemmas.Bool.{lt-ltb, eqb-true, ne_eqb, not-true}

@@ -1,7 +1,7 @@
 -- Levels: what is read, and what is read of what is spelled.
-use Rattle.std.proofs.Common.{◌≡◌, ℕ, suc, ◌+◌, ◌^◌, ◌<◌, ◌==◌, eq-eqb, true, List, []}
-use Rattle.std.proofs.Common.{◌∷◌, ◌++◌, length, Option, Some, None, Ok, refl, sym, ap, ◌∙◌}
-use Rattle.std.proofs.Common.{subst, append_assoc, arith, add-zero}
+use Rattle.std.proofs.Common.{◌≡◌, ℕ, suc, ◌+◌, ◌^◌, ◌<◌, ◌==◌, eq-eqb, true, List, [], ◌∷◌, ◌++◌}
+use Rattle.std.proofs.Common.{length, Option, Some, None, Ok, refl, sym, ap, ◌∙◌, subst}
+use Rattle.std.proofs.Common.{append_assoc, arith, add-zero}
 use Rattle.std.specs.Prelude.{codes}
 use Rattle.std.specs.List.{AllByRecursion, join_with_byte}
 use Rattle.std.specs.Fmt.{decimal}
@@ -9,16 +9,15 @@ use Rattle.std.proofs.lemmas.Bool.{eqb-true, and_parts}
 use Rattle.std.proofs.lemmas.Option.{cond_some}
 use Rattle.std.proofs.lemmas.Slice.Eq.{bytes_eq-Decides}
 use Rattle.std.proofs.lemmas.List.Concat.{flat_map-cons}
-use Rattle.std.proofs.lemmas.List.Splits.{slice_split_at}
-use Rattle.std.proofs.lemmas.List.Splits.{join_with_byte-slice_split}
+use Rattle.std.proofs.lemmas.List.Splits.{slice_split_at, join_with_byte-slice_split}
 use Rattle.task_sheet.specs.Name.{is_name, IsName}
 use Rattle.certificate.specs.Body.{Fail, CertLevelData, IsShort, IsFailText, IsLevelText}
 use Rattle.certificate.specs.Spelling.{fail_line, fail_lines, level_spelling, level_spellings}
 use Rattle.lines.specs.Lines.{parts}
 use Rattle.lines.specs.Words.{words, number_in}
 use Rattle.certificate.specs.Words.{fail_in}
-use Rattle.certificate.specs.Lines.{At, line_from, level_head, level_in, fails_case}
-use Rattle.certificate.specs.Lines.{fails_from, items_at, level_read, levels_at}
+use Rattle.certificate.specs.Lines.{At, line_from, level_head, level_in, fails_case, fails_from}
+use Rattle.certificate.specs.Lines.{items_at, level_read, levels_at}
 use Rattle.lines.proofs.NumberLaws.{number_takes, number_again}
 use Rattle.certificate.proofs.WordLaws.{Lacks, lacks, lacks_both, words_one, words_more, cond_given}
 use Rattle.lines.proofs.Parts.{parts_some}

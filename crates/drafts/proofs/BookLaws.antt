@@ -15,7 +15,7 @@ use Rattle.drafts.specs.Applied.{set_of, applied}
 use Rattle.drafts.specs.Machine.{MachineState, empty_desk, Ruling, Admitted, Refused, Infeasible}
 use Rattle.drafts.specs.Machine.{Entry, IsRuling, IsDecision, moved, after_entry, IsLegal, replay}
 use Rattle.drafts.specs.Machine.{one_if_admitted, admissions}
-use Rattle.drafts.specs.Books.{Book, logged, IsLegalBook, IsNextEntry}
+use Rattle.drafts.specs.Books.{Book, logged, IsLegalBook}
 use Rattle.drafts.specs.BookFields.{book_of, IsBookKept}
 use Rattle.drafts.specs.declared.book.Book.TheInside.{Inside}
 use Rattle.drafts.specs.Edits.{Draft}

@@ -1,6 +1,6 @@
 -- What another value of a number does to a set.
-use Rattle.std.proofs.Common.{◌≡◌, ◌↔◌, ℕ, zero, suc, ◌<◌, ◌≤◌, inl, inr, min, max, List, []}
-use Rattle.std.proofs.Common.{◌∷◌, length, slice_set, refl, sym, ◌∙◌, ap, subst, arith}
+use Rattle.std.proofs.Common.{◌≡◌, ◌↔◌, ℕ, zero, suc, ◌<◌, ◌≤◌, inl, inr, min, max, List, [], ◌∷◌}
+use Rattle.std.proofs.Common.{length, slice_set, refl, sym, ◌∙◌, ap, subst, arith}
 use Rattle.std.proofs.lemmas.Bool.{cases_eq, cases_lt}
 use Rattle.std.proofs.lemmas.List.{length-set, set-get_or}
 use Rattle.task_sheet.specs.Sheet.{CriticalSection, Task, AllTasks, IsValidSheet, no_task, task_at}
@@ -11,8 +11,7 @@ use Rattle.limits.specs.declared.number.Number.{Number}
 use Rattle.limits.specs.declared.number.Number.TheVariants.{Cost, Period, Deadline, Jitter, Len}
 use Rattle.limits.specs.Easier.{AreShorter, IsEasier, AreEasier}
 use Rattle.limits.specs.Numbers.{no_section, with_len, value_of, with_number, IsNoFurther, numbered}
-use Rattle.limits.specs.Numbers.{MayHave, IsFurthestFor, IsFurthest, IsSpan, at_distance}
-use Rattle.limits.specs.Numbers.{distance}
+use Rattle.limits.specs.Numbers.{MayHave, IsFurthestFor, IsFurthest, IsSpan, at_distance, distance}
 use Rattle.limits.specs.InOrder.{IsFurthestIn}
 use Rattle.limits.proofs.EasierLaws.{AreCheaper-refl}
 use Rattle.limits.proofs.NearLaws.{AreShorter-refl}

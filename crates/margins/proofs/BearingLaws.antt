@@ -7,7 +7,7 @@ use Rattle.task_sheet.specs.Sheet.{Task, IsValidSheet, AllTasks, no_task, task_a
 use Rattle.task_sheet.specs.TaskSet.{IsTaskSet}
 use Rattle.task_sheet.specs.Demand.{limit_of}
 use Rattle.task_sheet.specs.Orders.{IsPassingOrder, IsFeasible, IsBest}
-use Rattle.task_sheet.proofs.TaskLaws.{valid_at, IsTask-from_valid}
+use Rattle.task_sheet.proofs.TaskLaws.{valid_at, IsTask-from_valid, AllTasks-from_set}
 use Rattle.headroom.specs.Costs.{with_cost}
 use Rattle.headroom.proofs.CostLaws.{placed-other, placed-same}
 use Rattle.limits.specs.declared.number.Number.TheVariants.{Cost}
@@ -23,7 +23,6 @@ use Rattle.latest_first.proofs.OneOrder.{AllPrompt-valid, IsOrder-alike, IsLates
 use Rattle.latest_first.proofs.OneOrder.{IsPassingOrder-latest}
 use Rattle.latest_first.proofs.BestLatest.{best-latest}
 use Rattle.preferences.proofs.FollowLaws.{FollowLimits-preferred}
-use Rattle.task_sheet.proofs.TaskLaws.{AllTasks-from_set}
 
 -- a set whose tasks are index by index valid and like those of another one
 pub record AreRecosted (V W : List Task) : Type 0 where

@@ -1,7 +1,6 @@
 -- Members by their indexes, and how late tasks may be.
-use Rattle.std.proofs.Common.{◌≡◌, ◌∙◌, ℕ, zero, suc, ◌+◌, ◌<◌, ◌≤◌, Option, Some, None}
-use Rattle.std.proofs.Common.{List, [], ◌∷◌, length}
-use Rattle.std.proofs.Common.{get_or, sym, ap, subst, arith}
+use Rattle.std.proofs.Common.{◌≡◌, ◌∙◌, ℕ, zero, suc, ◌+◌, ◌<◌, ◌≤◌, Option, Some, None, List, []}
+use Rattle.std.proofs.Common.{◌∷◌, length, get_or, sym, ap, subst, arith}
 use Rattle.task_sheet.proofs.TaskLaws.{task_read}
 use Rattle.task_sheet.specs.Sheet.{Task, CriticalSection, IsSection, AreSections, IsValidSheet}
 use Rattle.task_sheet.specs.Sheet.{no_task, task_at}

@@ -1,7 +1,7 @@
 -- What comes of running the worst case of a task.
 use Rattle.std.proofs.Common.{◌≡◌, ℕ, suc, ◌+◌, ◌-◌, ◌<◌, ◌≤◌, inl, inr, Some, None, Option, Err}
-use Rattle.std.proofs.Common.{Ok, List, [], ◌∷◌, length, get_or, refl, sym, ◌∙◌, ap, subst}
-use Rattle.std.proofs.Common.{is_some, true, false, arith}
+use Rattle.std.proofs.Common.{Ok, List, [], ◌∷◌, length, get_or, refl, sym, ◌∙◌, ap, subst, is_some}
+use Rattle.std.proofs.Common.{true, false, arith}
 use Rattle.std.proofs.lemmas.Option.{none-some}
 use Rattle.std.proofs.lemmas.Bool.{cases_eq, cases_lt, true≢false}
 use Rattle.task_sheet.specs.Sheet.{task_at}
@@ -19,8 +19,7 @@ use Rattle.ceiling_kernel.specs.Releases.{task_number, jobs_of, release_at, read
 use Rattle.ceiling_kernel.specs.Runs.{no_record, records_from, IsOverrun, IsFirstOverrun, Runs}
 use Rattle.ceiling_kernel.proofs.ReleaseLaws.{read_at, job_is, jobs_length}
 use Rattle.ceiling_kernel.proofs.EndLaws.{some_executes, records_at}
-use Rattle.ceiling_kernel.proofs.FinishLaws.{finish_none, finish_some, finish_is}
-use Rattle.ceiling_kernel.proofs.FinishLaws.{unfinished_is}
+use Rattle.ceiling_kernel.proofs.FinishLaws.{finish_none, finish_some, finish_is, unfinished_is}
 use Rattle.miss.specs.declared.reaching.WorstRun.{WorstRun}
 use Rattle.miss.specs.Exact.{EndsLow}
 use Rattle.miss.specs.Misses.{IsRunOf, IsMissOf, IsWorstCase, MustMiss}

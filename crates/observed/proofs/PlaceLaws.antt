@@ -1,6 +1,5 @@
 -- The tasks of places.
-use Rattle.std.proofs.Common.{◌≡◌, ℕ, zero, suc, ◌<◌}
-use Rattle.std.proofs.Common.{List, [], ◌∷◌, length, get_or, All, sym, ◌∙◌}
+use Rattle.std.proofs.Common.{◌≡◌, ℕ, zero, suc, ◌<◌, List, [], ◌∷◌, length, get_or, All, sym, ◌∙◌}
 use Rattle.std.proofs.Common.{ap₂, subst, arith}
 use Rattle.std.proofs.lemmas.List.{get_or_default}
 use Rattle.task_sheet.specs.Sheet.{Task, no_task, task_at}

@@ -8,7 +8,6 @@ use Rattle.task_sheet.specs.declared.read.Document.{Document}
 use Rattle.teams.specs.ReadsText.{ReadsText}
 use Rattle.teams.specs.declared.fault.TeamsFault.{TeamsFault}
 use Rattle.preferences.specs.Preferences.{IsPreferred}
-use Rattle.preferences.specs.declared.choice.Choice.{Choice}
 use Rattle.preferences.specs.declared.preferred.Preferred.{Preferred}
 
 -- the preference of a choice: what the call says; where it says nothing, what the set says; else by weights

@@ -17,8 +17,7 @@ use Rattle.release_list.proofs.TaskNumbers.{found}
 use Rattle.release_list.proofs.Unrefused.{unrefused}
 use Rattle.release_list.proofs.OrderLaws.{Pairs, in_at, pairs_at, pairs_append, in_by_time, Spaced}
 use Rattle.release_list.proofs.OrderLaws.{InTime, in_time}
-use Rattle.release_list.proofs.RandomLaws.{drawn_below, in_within, within_spaced, IsDrawn}
-use Rattle.release_list.proofs.RandomLaws.{in_rank}
+use Rattle.release_list.proofs.RandomLaws.{drawn_below, in_within, within_spaced, IsDrawn, in_rank}
 
 -- for how long a job executes
 pub runs_within : (t : Task) (x : ℕ) → 0 < t.cost → (0 < unwrap_or (runs_after t x) t.cost)

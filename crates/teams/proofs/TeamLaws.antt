@@ -1,7 +1,7 @@
 -- Documents that were read one after the other, and where a name first repeats.
 use Rattle.std.proofs.Common.{◌≡◌, ◌≢◌, ◌∙◌, ◌<◌, ◌≤◌, ◌+◌, ◌-◌, ◌==◌, ℕ, count_by, codes, inl, inr}
-use Rattle.std.proofs.Common.{true, false, cond, map, List, [], ◌∷◌, ◌++◌, length}
-use Rattle.std.proofs.Common.{Option, Some, None, Err, Ok, refl, sym, ap, subst, arith, nat_lt}
+use Rattle.std.proofs.Common.{true, false, cond, map, List, [], ◌∷◌, ◌++◌, length, Option, Some}
+use Rattle.std.proofs.Common.{None, Err, Ok, refl, sym, ap, subst, arith, nat_lt}
 use Rattle.std.proofs.lemmas.Bool.{cases_Bool}
 use Rattle.std.specs.List.{join_with_byte}
 use Rattle.std.proofs.lemmas.List.{length-append, length-map}
@@ -14,8 +14,8 @@ use Rattle.task_sheet.specs.SheetsFault.{sheets_fault}
 use Rattle.task_sheet.specs.declared.set.TheConstants.{TASK_LIMIT}
 use Rattle.task_sheet.specs.declared.set.SetCause.{SetCause}
 use Rattle.task_sheet.specs.declared.set.SetCause.TheVariants as cause
-use Rattle.teams.specs.Gathering.{AreGathered, Begins, HasNoHead, HasNoNode, IsCutOff, IsFirstPart}
-use Rattle.teams.specs.Gathering.{IsHead, IsNodeHead, IsNotGathered, IsPartBy}
+use Rattle.teams.specs.Gathering.{AreGathered, Begins, HasNoHead, IsCutOff, IsFirstPart, IsHead}
+use Rattle.teams.specs.Gathering.{IsNodeHead, IsNotGathered, IsPartBy}
 use Rattle.teams.specs.Owned.{OwnedData, TeamSetData}
 use Rattle.teams.specs.ReadsTeams.{AreRead, ReadsPart}
 use Rattle.teams.specs.Budgets.{budgets_fault}

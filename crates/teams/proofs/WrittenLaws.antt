@@ -1,28 +1,27 @@
 -- What a text says as it is written, and with what its node takes: numbers and interrupts within the limits, and documents of the
 -- same set, preference, node and interrupts as one answer.
-use Rattle.std.proofs.Common.{◌≡◌, ◌∙◌, ℕ, inl, inr, Bool, true, false, List, [], ◌∷◌, map, length}
+use Rattle.std.proofs.Common.{◌≡◌, ◌∙◌, ℕ, inl, inr, Bool, true, false, List, [], ◌∷◌, length}
 use Rattle.std.proofs.Common.{Option, Some, None, IfSome, option_map, All, Ok, sym, ap, subst}
-use Rattle.std.proofs.Common.{arith, ◌≢◌, Result, Err, refl}
+use Rattle.std.proofs.Common.{arith, Result, Err, refl}
 use Rattle.std.proofs.lemmas.List.Elements.{All-nil, All-append}
 use Rattle.std.specs.List.{AllByRecursion}
 use Rattle.std.specs.Option.{option_or}
 use Rattle.task_sheet.specs.Sheet.{Task, AreOverheads, IsInterrupt}
-use Rattle.task_sheet.specs.Rank.{IsByRank}
-use Rattle.task_sheet.specs.ReadsSet.{AreWithinLimits, SaysDocument}
+use Rattle.task_sheet.specs.ReadsSet.{AreWithinLimits}
 use Rattle.task_sheet.specs.declared.node.Node.{Node}
 use Rattle.task_sheet.specs.declared.node.Interrupt.{Interrupt}
 use Rattle.task_sheet.specs.declared.read.Document.{Document}
 use Rattle.task_sheet.proofs.WithinLimits.{says_within}
 use Rattle.teams.specs.Agreeing.{first_saying, interrupts_by, node_by, said_by}
-use Rattle.teams.specs.Owned.{OwnedData, TeamSetData, owned_all}
+use Rattle.teams.specs.Owned.{TeamSetData}
 use Rattle.teams.specs.ReadsTeams.{AreRead, UnitesAll}
 use Rattle.teams.specs.ReadsText.{ReadsEither, ReadsWritten, is_gathered, Pads, ReadsText}
 use Rattle.teams.specs.declared.reading.Part.{Part}
-use Rattle.overheads.specs.Padding.{fault_by, IsPadded}
+use Rattle.overheads.specs.Padding.{IsPadded}
 use Rattle.overheads.specs.declared.padding.PadFault.{PadFault}
 use Rattle.overheads.specs.declared.padding.PadFault.TheVariants as pad
 use Rattle.teams.specs.declared.fault.TeamsFault.{TeamsFault}
-use Rattle.teams.specs.declared.fault.TeamsFault.TheVariants.{Padded, OutOfMemory}
+use Rattle.teams.specs.declared.fault.TeamsFault.TheVariants.{OutOfMemory}
 
 -- ---- within the limits
 each_within : (ps : List Part) (sets : List TeamSetData) → AreRead ps sets

@@ -1,5 +1,4 @@
-use Rattle.std.proofs.Common.{◌∙◌, ◌==◌, ◌||◌, nat_lt, sym, ap, arith, length, get_or}
-use Rattle.std.proofs.Common.{List}
+use Rattle.std.proofs.Common.{◌∙◌, ◌==◌, ◌||◌, nat_lt, sym, ap, arith, length, get_or, List}
 use Rattle.std.proofs.lemmas.Bool.{ne_eqb}
 use Rattle.task_sheet.specs.Sheet.{Task}
 use Rattle.ceiling_kernel.proofs.AcceptLaws.{outside_at, place_in}

@@ -1,7 +1,6 @@
-use Rattle.std.proofs.Common.{◌≡◌, drop, max}
+use Rattle.std.proofs.Common.{◌≡◌, drop, max, if◌then◌else◌}
 use Rattle.teams.specs.Budgets.{is_shared}
 use Rattle.task_sheet.specs.Demand.{greatest_of}
-use Rattle.std.proofs.Common.{if◌then◌else◌}
 use Rattle.teams.proofs.keeping.longest_of.Given as goal
 
 abbrev pub invariant-loop-section : goal.invariant-loop-section

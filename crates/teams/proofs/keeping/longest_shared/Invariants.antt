@@ -1,8 +1,7 @@
-use Rattle.std.proofs.Common.{◌≡◌, drop, max}
+use Rattle.std.proofs.Common.{◌≡◌, drop, max, if◌then◌else◌}
 use Rattle.teams.specs.Budgets.{longest_shared, longest_of}
 use Rattle.task_sheet.specs.Demand.{greatest_of}
 use Rattle.task_sheet.specs.Sheet.{same_bytes}
-use Rattle.std.proofs.Common.{if◌then◌else◌}
 use Rattle.teams.proofs.keeping.longest_shared.Given as goal
 
 abbrev pub invariant-loop-owned : goal.invariant-loop-owned
