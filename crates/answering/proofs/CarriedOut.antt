@@ -160,7 +160,8 @@ pub wanting_after : {W : Type 0} {says : Option (List ℕ) → Option (List ℕ)
     → IsSaidOn says holds old new s
 wanting_after {holds = holds} {old = old} {between = between} {new = new} text same wrote told
     tells = record {
-      printed = λ sound. tells (Appends-trans (holds old.inner) (holds between.inner) (holds new.inner)
+      printed = λ sound. tells (Appends-trans (holds old.inner) (holds between.inner)
+          (holds new.inner)
           text (refusal_line refusal.OutOfMemory) wrote (told.printed sound)) (told.status sound);
       failed = λ is. elim (told.failed is) [ inl failed ↦ cc | inr failed ↦ failed ];
       unwritten = λ fresh failed. told.unwritten (same ∙ fresh) failed;

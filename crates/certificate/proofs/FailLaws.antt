@@ -78,7 +78,8 @@ name_takes v n (other ∷ x ∷ xs) r may e = absurd cc
 name_takes v n (other ∷ []) r may e =
     let g = cond_some _ (Over other) r e in
     let tests = and_parts _ _ g.0 in
-    subst (λ (x : CertReasonData). (32 ∷ (n ++ 32 ∷ other) ≡ reason_text x) × IsReasonText v x) g.1 (
+    subst (λ (x : CertReasonData). (32 ∷ (n ++ 32 ∷ other) ≡ reason_text x) × IsReasonText v x)
+    g.1 (
       ap (λ (x : List ℕ). 32 ∷ (x ++ 32 ∷ other)) ((bytes_eq-Decides n (codes "over")).0 tests.0),
       may other tests.1,
     )

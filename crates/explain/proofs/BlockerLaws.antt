@@ -1,6 +1,7 @@
 -- The first of the sections that block longest.
 use Rattle.std.proofs.Common.{◌≡◌, ◌≢◌, ℕ, zero, suc, ◌+◌, ◌<◌, inl, inr, Bool, true, false, ◌&&◌}
-use Rattle.std.proofs.Common.{◌||◌, List, [], ◌∷◌, length, slice_get, Some, None, is_some, refl, sym}
+use Rattle.std.proofs.Common.{◌||◌, List, [], ◌∷◌, length, slice_get, Some, None, is_some, refl}
+use Rattle.std.proofs.Common.{sym}
 use Rattle.std.proofs.Common.{◌∙◌, ap, subst, arith}
 use Rattle.std.specs.List.{find, list_any}
 use Rattle.std.proofs.lemmas.Bool.{cases_Bool, cases_eq, both_ways, and_right}
@@ -31,7 +32,8 @@ module _ (U : List Task) (X : Indexes) where
       (some_below n (λ k. X k && list_any (λ l. uses (task_at U k) l) locks)) (X n)
       (uses (task_at U n) lock) (list_any (λ l. uses (task_at U n) l) locks))
     where
-      split : (s r x u v : Bool) → ((s || r) || (x && (u || v))) ≡ ((s || (x && u)) || (r || (x && v)))
+      split : (s r x u v : Bool) → ((s || r) || (x && (u || v)))
+          ≡ ((s || (x && u)) || (r || (x && v)))
       split true r x u v = refl
       split false r false u v = refl
       split false true true true v = refl

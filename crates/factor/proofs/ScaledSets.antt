@@ -10,7 +10,8 @@ use Rattle.task_sheet.specs.TaskSet.{IsTaskSet}
 use Rattle.task_sheet.specs.Indexes.{below}
 use Rattle.task_sheet.specs.Orders.{IsOrder, IsFeasible}
 use Rattle.task_sheet.proofs.TaskLaws.{AllTasks-from_set, valid_at}
-use Rattle.overheads.proofs.MappedSets.{KeepsRanks, count-mapped, mapped-at, mapped-past, set-mapped}
+use Rattle.overheads.proofs.MappedSets.{KeepsRanks, count-mapped, mapped-at, mapped-past}
+use Rattle.overheads.proofs.MappedSets.{set-mapped}
 use Rattle.limits.specs.Easier.{AreEasier}
 use Rattle.limits.proofs.EasierLaws.{IsFeasible-easier}
 use Rattle.limits.proofs.NumberLaws.{easier-same}
@@ -100,7 +101,8 @@ may-same U set =
     record { some = omega arith; within = λ k d lt. within-same (get_or U k d) (set.valid k d lt) }
 
 -- ---- what a factor says, in a sense in which a set that asks less is feasible too
-module _ (P : List Task → Type 0) (eased : (V U : List Task) → AreEasier V U → AllTasks U → P U → P V)
+module _ (P : List Task → Type 0) (eased : (V U : List Task) → AreEasier V U → AllTasks U → P U
+    → P V)
     (U : List Task) (set : IsTaskSet U) where
   pub feasible-less : (low high : ℕ) → low ≤ high → MayScale U high → P (scaled high U)
       → P (scaled low U)

@@ -33,7 +33,8 @@ shorter-len (x ∷ xs) zero low high le = (refl, le, AreShorter-refl xs)
 shorter-len (x ∷ xs) (suc k) low high le = (refl, omega arith, shorter-len xs k low high le)
 
 -- a task asks no more than one with longer times and sections, a shorter period and an earlier deadline
-easier-parts : (t : Task) (c p d j c' p' d' j' : ℕ) (ss ss' : List CriticalSection) → c ≤ c' → p' ≤ p
+easier-parts : (t : Task) (c p d j c' p' d' j' : ℕ) (ss ss' : List CriticalSection) → c ≤ c'
+    → p' ≤ p
     → d' ≤ d → j ≤ j' → AreShorter ss ss'
     → IsEasier (record t { cost = c; period = p; deadline = d; jitter = j; sections = ss })
     (record t { cost = c'; period = p'; deadline = d'; jitter = j'; sections = ss' })
@@ -132,7 +133,8 @@ pub furthest-one : (P : List Task → Type 0) (U : List Task) (i : ℕ) (number 
 furthest-one P U i number first second f s = same-far number first second
     (s.furthest first f.may f.feasible) (f.furthest second s.may s.feasible)
 
-module _ (P : List Task → Type 0) (eased : (V U : List Task) → AreEasier V U → AllTasks U → P U → P V)
+module _ (P : List Task → Type 0) (eased : (V U : List Task) → AreEasier V U → AllTasks U → P U
+    → P V)
     (U : List Task) (i : ℕ) (number : Number) (set : IsTaskSet U) (inside : i < length U) where
   -- feasible with a value it is so with each that is no further
   pub nearer : (low high : ℕ) → MayHave U i number high → IsNoFurther number low high

@@ -54,7 +54,8 @@ IsSpan-period t least length valid from to =
     let fits : least ≤ 10000000 =
     omega (arith, from, valid.cost_to, valid.jitter, valid.deadline_to, valid.period_to) in
     record {
-      may = λ far le. valid-timed t (10000000 - far) (min t.deadline (10000000 - far)) t.jitter valid
+      may = λ far le. valid-timed t (10000000 - far) (min t.deadline (10000000 - far)) t.jitter
+          valid
           (omega (arith, le, from, to, fits)) (omega arith) (omega arith)
           (omega (arith, le, from, to, fits))
           (omega (arith, le, from, to, fits, valid.jitter));

@@ -1,5 +1,6 @@
 -- Slices in which a job doesn't wait.
-use Rattle.std.proofs.Common.{◌≡◌, ◌∙◌, ◌⊎◌, inl, inr, ℕ, ◌<◌, ◌≤◌, List, [], ◌∷◌, length, None, true}
+use Rattle.std.proofs.Common.{◌≡◌, ◌∙◌, ◌⊎◌, inl, inr, ℕ, ◌<◌, ◌≤◌, List, [], ◌∷◌, length, None}
+use Rattle.std.proofs.Common.{true}
 use Rattle.std.proofs.Common.{refl, sym, arith, append-nil}
 use Rattle.std.specs.Prelude.{zero, suc, nat_le}
 use Rattle.std.proofs.lemmas.Bool.{and_parts, cases_lt, leb-true}

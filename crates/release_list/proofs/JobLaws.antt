@@ -1,5 +1,6 @@
 -- What the list of some streams holds, and in which order.
-use Rattle.std.proofs.Common.{◌≡◌, ℕ, zero, suc, ◌+◌, ◌-◌, ◌<◌, ◌≤◌, ◌⊎◌, inl, inr, Bool, true, subst₂}
+use Rattle.std.proofs.Common.{◌≡◌, ℕ, zero, suc, ◌+◌, ◌-◌, ◌<◌, ◌≤◌, ◌⊎◌, inl, inr, Bool, true}
+use Rattle.std.proofs.Common.{subst₂}
 use Rattle.std.proofs.Common.{nat_lt, None, List, ◌++◌, length, sym, ◌∙◌, ap, ap₂, subst}
 use Rattle.std.proofs.Common.{if◌then◌else◌, arith}
 use Rattle.std.proofs.Math.ListN.{get_or-append}

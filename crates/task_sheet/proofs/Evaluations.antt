@@ -131,7 +131,8 @@ module _ (U : List Task) (valid : AllTasks U) (i : ℕ) (H : Indexes) where
 
   -- the first n iterates, which rise within the limit
   module _ (limit n : ℕ)
-      (rises : (k : ℕ) → k + 1 < n → iterate (demand_of U i H) k < iterate (demand_of U i H) (suc k))
+      (rises : (k : ℕ) → k + 1 < n
+      → iterate (demand_of U i H) k < iterate (demand_of U i H) (suc k))
       (within : (k : ℕ) → k < n → iterate (demand_of U i H) k ≤ limit) where
     positive : (k : ℕ) → k < n → 1 ≤ iterate (demand_of U i H) k
     positive zero lt = omega arith

@@ -29,7 +29,8 @@ returns-then-next-time c =
     let inv = c.loop-time.invariant in
     let late : t + c.jitter_of.result ≡ t + (task_at U i).jitter =
     omega (arith, c.jitter_of.ensures.is) in
-    let fixed = sym (next-is U i H t _ _ _ c.next_demand-next.ensures.is c.has_interrupts-interrupted.ensures
+    let fixed = sym (next-is U i H t _ _ _ c.next_demand-next.ensures.is
+    c.has_interrupts-interrupted.ensures
     (inv.demand t inv.positive c.loop-time-test.true)) ∙ c.if-next-time.true in
     let pass = short_passes U i H (AllTasks-from_set _ c.limit_of-limit.ensures.kept) c.requires _ _
     _ inv.walk fixed (omega (arith, c.limit_of-limit.ensures.is, c.loop-time-test.true)) in
@@ -55,7 +56,8 @@ loop-time-smaller c =
     let steady = demand_does_not_fall U (AllTasks-from_set U c.limit_of-limit.ensures.kept)
     c.args.task H c.requires in
     let next = next-is U c.args.task H c.loop-time.time _ _ _ c.next_demand-next.ensures.is
-    c.has_interrupts-interrupted.ensures (inv.demand c.loop-time.time inv.positive c.loop-time-test.true) in
+    c.has_interrupts-interrupted.ensures (inv.demand c.loop-time.time inv.positive
+    c.loop-time-test.true) in
     omega (
       arith,
       next_is_no_less _ _ _ _ inv.walk steady,
@@ -72,7 +74,8 @@ loop-time-preserved c =
     let valid = AllTasks-from_set U c.limit_of-limit.ensures.kept in
     let inv = c.loop-time.invariant in
     let next = next-is U i H c.loop-time.time _ _ _ c.next_demand-next.ensures.is
-    c.has_interrupts-interrupted.ensures (inv.demand c.loop-time.time inv.positive c.loop-time-test.true) in
+    c.has_interrupts-interrupted.ensures (inv.demand c.loop-time.time inv.positive
+    c.loop-time-test.true) in
     let more = next_is_no_less _ _ _ _ inv.walk (demand_does_not_fall U valid i H c.requires) in
     let rises : c.loop-time.time < c.next_demand-next.result =
     omega (arith, more, next, c.if-next-time.false) in

@@ -4,4 +4,5 @@ use Rattle.assignment.specs.Placings.{tasks_of_places}
 use Rattle.assignment.proofs.members.members_at.Given as goal
 
 abbrev pub invariant-loop-place : goal.invariant-loop-place
-invariant-loop-place l = indexes_of l.members ≡ among (tasks_of_places (take l.place-index l.places))
+invariant-loop-place l = indexes_of l.members ≡ among (tasks_of_places (take l.place-index
+    l.places))

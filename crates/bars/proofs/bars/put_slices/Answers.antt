@@ -26,7 +26,8 @@ loop-slice-preserved c =
       put = adds_one_more (slice_in c.args.chart.now.frame c.args.chart.now.locks.now rows shown
           jobs slices) n c.loop-slice.invariant.put
           (subst puts (counted_text c.args.chart.now.frame c.args.chart.now.locks.now rows shown
-          jobs slices c.loop-slice.executed n c.loop-slice.invariant.counts) c.put_slice.ensures.put);
+          jobs slices c.loop-slice.executed n c.loop-slice.invariant.counts)
+          c.put_slice.ensures.put);
       counts = subst (λ (ticks : List ℕ). AreCounts ticks jobs slices (n + 1))
           (sym c.put_slice.ensures.counted) (one_counted c.loop-slice.executed jobs slices n
           c.loop-slice.invariant.counts);

@@ -6,4 +6,5 @@ returns-in-Arrival c = rw c.in-Arrival.is (rw (← c.top_of-top.ensures.value) c
 pub returns-in-Deadline : goal.returns-in-Deadline
 returns-in-Deadline c =
     rw c.in-Deadline.is
-    (rw (← c.top_of-top.ensures.value) (rw (← c.deadline-len.ensures) c.put_later-in-Deadline.ensures))
+    (rw (← c.top_of-top.ensures.value) (rw (← c.deadline-len.ensures)
+    c.put_later-in-Deadline.ensures))

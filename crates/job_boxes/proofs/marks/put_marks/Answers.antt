@@ -30,5 +30,6 @@ returns c =
     λ i. mark_alone chart.frame chart.rows.now chart.shown.now chart.jobs.now c.args.mark i
     (release_at chart.releases.now i) in
     adds_both (subst (λ (n : ℕ). Adds c.args.page.now c.loop-i.page
-    (concat (codes "<path class=\"" ∷ c.args.class.now ∷ codes "\" d=\"\n" ∷ []) ++ each n mark)) all
+    (concat (codes "<path class=\"" ∷ c.args.class.now ∷ codes "\" d=\"\n" ∷ []) ++ each n mark))
+    all
     c.loop-i.invariant) c.put.ensures

@@ -8,7 +8,8 @@ use Rattle.judge.proofs.missed.missed_account.Goals as goal
 pub members_of-members-requires : goal.members_of-members-requires
 members_of-members-requires c =
     rw (c.deref.ensures.value, c.in_ok-order.ensures)
-    (order_within (length c.args.set.now) 32 c.args.above.now c.sheets.ensures.kept.few c.requires.above)
+    (order_within (length c.args.set.now) 32 c.args.above.now c.sheets.ensures.kept.few
+    c.requires.above)
 
 pub needs_account-requires-clause-within : goal.needs_account-requires-clause-within
 needs_account-requires-clause-within c =

@@ -11,7 +11,8 @@ returns-then-ends_inside c =
     let node = node_in c.args.set.now c.args.order.now in
     let pass = c.in_default.ensures.none in (
       c.requires.fails,
-      done_below node (record { tasks = c.sheets.ensures.kept; order = c.requires.order }) c.args.task
+      done_below node (record { tasks = c.sheets.ensures.kept; order = c.requires.order })
+      c.args.task
           c.requires.task pass c.requires.none,
       pass,
       ends_raised node (record { tasks = c.sheets.ensures.kept; order = c.requires.order })
@@ -24,7 +25,8 @@ returns-then-passes_uninterrupted c =
     let node = node_in c.args.set.now c.args.order.now in
     let pass = c.in_default.ensures.none in (
       c.requires.fails,
-      done_below node (record { tasks = c.sheets.ensures.kept; order = c.requires.order }) c.args.task
+      done_below node (record { tasks = c.sheets.ensures.kept; order = c.requires.order })
+      c.args.task
           c.requires.task pass c.requires.none,
       pass,
       ends_low node (record { tasks = c.sheets.ensures.kept; order = c.requires.order }) c.args.task
@@ -42,7 +44,8 @@ returns c =
     c.args.task (rw c.members_above-members.ensures at
     (sym c.ends_inside.ensures ∙ c.if-ends_inside.false)) in (
       c.requires.fails,
-      done_below node (record { tasks = c.sheets.ensures.kept; order = c.requires.order }) c.args.task
+      done_below node (record { tasks = c.sheets.ensures.kept; order = c.requires.order })
+      c.args.task
           c.requires.task pass c.requires.none,
       pass,
       low,

@@ -21,7 +21,8 @@ loop-member-preserved c =
     let more : greatest_of (λ i. lateness_of (task_at U i)) (drop k xs)
     ≡ max (lateness_of (task_at U (get_or xs k 0)))
     (greatest_of (λ i. lateness_of (task_at U i)) (drop (k + 1) xs)) =
-    ap (greatest_of (λ i. lateness_of (task_at U i))) (drop_more xs k 0 c.loop-member-test.true) in (
+    ap (greatest_of (λ i. lateness_of (task_at U i))) (drop_more xs k 0 c.loop-member-test.true)
+    in (
       omega (arith, c.loop-member.invariant.0, own, more, c.max-instant-in-loop-member.ensures),
       omega (
         arith,

@@ -21,7 +21,8 @@ pub list_of-requires-clause-streams : goal.list_of-requires-clause-streams
 list_of-requires-clause-streams c =
     let short : limit_of c.index-sheets-task.result ≤ 10000000 =
     limit_small c.args.set.now c.sheets-sheets.ensures.kept c.sheets-sheets.result.now c.args.task
-    c.index-sheets-task.result c.sheets-sheets.ensures.same c.requires.task c.index-sheets-task.is in
+    c.index-sheets-task.result c.sheets-sheets.ensures.same c.requires.task
+    c.index-sheets-task.is in
     all_streams c.args.set.now c.sheets-sheets.ensures.kept c.args.task c.args.above.now
     c.first_blocker-blocker.result c.instant_of-instant.result
     (c.instant_of-instant.result + c.limit.result) c.requires.task c.requires.above
@@ -32,7 +33,8 @@ list_of-requires-clause-streams c =
 
 pub returns-in-Err-TooMany-clause-none : goal.returns-in-Err-TooMany-clause-none
 returns-in-Err-TooMany-clause-none c =
-    let sheet = task_read c.args.set.now c.sheets-sheets.result.now c.args.task c.index-sheets-task.result
+    let sheet = task_read c.args.set.now c.sheets-sheets.result.now c.args.task
+    c.index-sheets-task.result
     c.sheets-sheets.ensures.same c.requires.task c.index-sheets-task.is in
     too_long_case c.args.set.now c.args.task c.args.above.now (indexes_of c.members_of.result)
     c.first_blocker-blocker.result c.deref.result.now c.instant_of-instant.result

@@ -43,7 +43,8 @@ returns-in-Ok-observe_places-clause-answer c =
       places,
       c.in-Ok.trace,
       given U c.args.rows.now (rows_at c.args.at.line c.args.at.rest.now) c.in-Ok.trace judged
-          places c.requires c.in-Ok.ensures (rw c.of-tabled.ensures at c.in-Ok-judge_rows.ensures.judged) same,
+          places c.requires c.in-Ok.ensures (rw c.of-tabled.ensures at
+          c.in-Ok-judge_rows.ensures.judged) same,
       subst (λ (ps : List PlaceData). IsShownAt U ps c.in-Ok.trace c.in-Ok-observe_places.observed)
           c.deref-2.ensures.value
           (rw c.of-tabled.ensures at c.in-Ok-observe_places.ensures),
@@ -60,7 +61,8 @@ returns-clause-answer c =
       places,
       c.in-Ok.trace,
       given U c.args.rows.now (rows_at c.args.at.line c.args.at.rest.now) c.in-Ok.trace judged
-          places c.requires c.in-Ok.ensures (rw c.of-tabled.ensures at c.in-Ok-judge_rows.ensures.judged) same,
+          places c.requires c.in-Ok.ensures (rw c.of-tabled.ensures at
+          c.in-Ok-judge_rows.ensures.judged) same,
       subst (λ (ps : List PlaceData). IsTraceFault c.in-Err-observe_places.fault
           (observed_fault (promises_of U ps) c.in-Ok.trace)) c.deref-2.ensures.value
           (rw c.of-tabled.ensures at c.in-Err-observe_places.ensures),

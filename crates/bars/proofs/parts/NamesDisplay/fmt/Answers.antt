@@ -1,4 +1,5 @@
-use Rattle.std.proofs.Common.{◌≡◌, ◌<◌, ◌+◌, ◌++◌, List, ℕ, [], ◌∷◌, length, get_or, take, append-nil, sym, ap, ◌∙◌, rules}
+use Rattle.std.proofs.Common.{◌≡◌, ◌<◌, ◌+◌, ◌++◌, List, ℕ, [], ◌∷◌, length, get_or, take}
+use Rattle.std.proofs.Common.{append-nil, sym, ap, ◌∙◌, rules}
 use Rattle.std.specs.Prelude.{codes, flat_map}
 use Rattle.std.proofs.Output.{has_written_append, has_written_of_eq}
 use Rattle.std.proofs.lemmas.Grind.{flat_map-append}
@@ -6,7 +7,8 @@ use Rattle.std.proofs.lemmas.List.{take_more}
 use Rattle.bars.specs.Bars.{names_text}
 use Rattle.bars.proofs.parts.NamesDisplay.fmt.Goals as goal
 
-more : (names : List (List ℕ)) (i : ℕ) (name : List ℕ) → i < length names → name ≡ get_or names i name
+more : (names : List (List ℕ)) (i : ℕ) (name : List ℕ) → i < length names
+    → name ≡ get_or names i name
     → names_text (take i names) ++ (codes " " ++ name) ≡ names_text (take (i + 1) names)
 more names i name lt is =
     let each : List ℕ → List ℕ = λ name. codes " " ++ name in

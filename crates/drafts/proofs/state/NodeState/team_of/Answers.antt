@@ -18,6 +18,7 @@ returns c =
     let U : List Task = c.self.inside.assignment.value.set in
     let place : position (λ s. same_bytes s.name c.args.name) U ≡ Some c.in_ok-index.index =
     ap (λ (ss : List Task). position (λ s. same_bytes s.name c.args.name) ss)
-    (sym (c.set.ensures.same ∙ ap (λ x. x.set) c.deref.ensures)) ∙ sym c.find.ensures ∙ c.in_ok-index.was in
+    (sym (c.set.ensures.same ∙ ap (λ x. x.set) c.deref.ensures)) ∙ sym c.find.ensures
+    ∙ c.in_ok-index.was in
     rw (some_kept _ _ _ _ c.self.invariant c.self.view_is c.args.name c.in_ok-index.index no_task
     c.index.result.now place) (ap (λ t. Some t) c.index.ensures)
