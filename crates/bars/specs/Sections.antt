@@ -1,4 +1,4 @@
--- Which ticks of a slice are darker: those that its job executes inside a section.
+-- Which ticks of a slice are darker: those that its job executes inside a section. And how times are told.
 use Rattle.std.specs.Prelude.{◌≡◌, ℕ, ◌+◌, ◌-◌, min, Bool, true, false, nat_lt, if◌then◌else◌, List, [], ◌∷◌, length, set, slice_index, slice_index_or, codes}
 use Rattle.std.specs.Fmt.{decimal}
 use Rattle.std.specs.List.{concat}

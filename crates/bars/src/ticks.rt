@@ -1,4 +1,4 @@
-//! Which ticks of a slice are darker.
+//! Which ticks of a slice are darker, and how times are told.
 ghost use Rattle.std.specs.Prelude.{◌≡◌, ◌≤◌, Some};
 ghost use Rattle.bars.specs.Sections.{dark_from, dark_to, fits, times_text};
 ghost use Rattle.frames.specs.Slices.{ticks_of};

@@ -16,7 +16,6 @@ use Rattle.drafts.specs.Books.{Book, logged, IsNextEntry}
 use Rattle.drafts.specs.Edits.{Draft, on_base, after_put, after_remove}
 use Rattle.desk_core.specs.declared.told.Told.{Told}
 use Rattle.desk_core.specs.declared.told.Told.TheVariants as told
-use Rattle.desk_core.specs.declared.events.Cause.TheVariants as cause
 use Rattle.desk_core.specs.declared.events.Event.{Event}
 use Rattle.desk_core.specs.declared.events.Event.TheVariants.{Open, Put, Remove, Found, Commit}
 use Rattle.desk_core.specs.declared.events.Event.TheVariants.{Abandon}

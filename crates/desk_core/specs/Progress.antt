@@ -33,7 +33,7 @@ pub record IsProgress (U : List Task) (c : ClimbState) (found : List Asked) : Ty
       (NoneStands U (indexes_of c.left) × Decides U found (length c.levels))
       ((i : ℕ) → IsTrue (contains c.left i) → ¬ Decides U found (length c.levels))
 
--- the level that is kept, if any, is the present one
+-- the climb is as far as the findings are, and the level that is kept, if any, is the present one
 pub record IsHeld (U : List Task) (c : ClimbState) (level : Option LevelState)
     (found : List Asked) : Type 0 where
   pub progress : IsProgress U c found

@@ -1,5 +1,5 @@
 -- Changes of which one is a put come to some task.
-use Rattle.std.proofs.Common.{◌≡◌, ◌∙◌, ℕ, suc, ◌+◌, ◌<◌, drop, slice_get, add-one, inl, inr, true}
+use Rattle.std.proofs.Common.{◌≡◌, ◌∙◌, ℕ, ◌+◌, ◌<◌, drop, slice_get, add-one, inl, inr, true}
 use Rattle.std.proofs.Common.{false, ◌||◌, nat_le, List, [], ◌∷◌, length, Option, Some, Result, Ok}
 use Rattle.std.proofs.Common.{Err, refl, sym, ap, subst, arith}
 use Rattle.std.specs.List.{AllByRecursion, IsDistinct}

@@ -80,7 +80,7 @@ pub record ScalesFor (Feasible : List Task → Type 0) (U : List Task) (factor :
   pub may : MayScale U factor
   pub feasible : Feasible (scaled factor U)
 
--- the greatest factor with which it is
+-- the greatest factor that may be taken and with which the set is feasible in that sense
 pub record IsFactorFor (Feasible : List Task → Type 0) (U : List Task) (factor : ℕ) : Type 0 where
   pub may : MayScale U factor
   pub feasible : Feasible (scaled factor U)

@@ -1,7 +1,7 @@
 -- Texts for rows.
 use Rattle.std.proofs.Common.{◌≡◌, ℕ, List, sym, ◌∙◌, subst, Option}
 use Rattle.std.specs.Prelude.{Some}
-use Rattle.frames.specs.Rows.{row_at, row_named, in_row, on_row, spot_named, in_spot, on_spot}
+use Rattle.frames.specs.Rows.{row_at, spot_named, in_spot, on_spot}
 use Rattle.frames.specs.Frame.{Frame}
 use Rattle.frames.specs.Page.{Adds}
 use Rattle.frames.specs.declared.page.Page.{Page}
@@ -17,14 +17,6 @@ adds_in_lane {a = a} {b = b} text rows f k g j row frame place is put =
     let framed = subst (λ (h : Frame). Adds a b (text h j row)) frame put in
     let placed = subst (λ (i : Spot). Adds a b (text f i row)) place framed in
     subst (λ (x : TaskRow). Adds a b (text f k x)) is placed
-
--- a text for the row of a name
-pub adds_on_row : {a b : Page} (text : ℕ → TaskRow → List ℕ) (rows : List TaskRow) (name : List ℕ)
-    (found : Option ℕ) (k : ℕ)
-    → found ≡ row_named rows name → found ≡ Some k → Adds a b (text k (row_at rows k))
-    → Adds a b (on_row rows name text)
-adds_on_row {a = a} {b = b} text rows name found k place is put =
-    subst (λ (o : Option ℕ). Adds a b (in_row rows text o)) (sym is ∙ place) put
 
 -- a text for the spot of a name
 pub adds_on_spot : {a b : Page} (text : Spot → TaskRow → List ℕ) (rows : List TaskRow)

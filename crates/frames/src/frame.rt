@@ -3,7 +3,7 @@ ghost use Rattle.std.specs.Prelude.{◌+◌, ◌<◌, ◌≡◌, ◌≤◌, leng
 ghost use Rattle.ceiling_kernel.specs.declared.accept.TheConstants.{HORIZON};
 ghost use Rattle.task_sheet.specs.declared.set.TheConstants.{TASK_LIMIT};
 ghost use Rattle.task_sheet.specs.declared.sheet.TheConstants.{PERIOD_TO};
-ghost use Rattle.frames.specs.Frame.{Frame, IsFrame, decade_of, ended, frame_end, frame_of, is_in, is_wide, least_period, left_of, level_of, longest_name, sees, span_of, step_of, steps_before, tone_of, top_of, unit_name, unit_of, x_of};
+ghost use Rattle.frames.specs.Frame.{Frame, IsFrame, decade_of, ended, frame_end, frame_of, is_wide, least_period, left_of, level_of, longest_name, sees, span_of, step_of, steps_before, tone_of, top_of, unit_name, unit_of, x_of};
 ghost use Rattle.frames.specs.declared.frame.TheConstants.{LOWEST_TOP, NARROWEST, RIGHTMOST, WIDEST_DECADE, WIDEST_MARGIN, WIDEST_STEP};
 
 use crate::rows::TaskRow;
@@ -135,13 +135,6 @@ pub fn x_of(frame: Frame, time: u64) -> u64
     let len = frame.to - frame.from;
     let gone = time.max(frame.from).min(frame.to) - frame.from;
     frame.left + gone * frame.span / len
-}
-
-/// Whether a time is in the window.
-pub fn is_in(frame: Frame, time: u64) -> bool
-    ensures { result ≡ is_in frame time }
-{
-    frame.from <= time && time <= frame.to
 }
 
 /// Whether a time is before the window.

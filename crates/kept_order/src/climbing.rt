@@ -3,7 +3,7 @@ ghost use Rattle.std.specs.Prelude.{◌≡◌, ◌<◌, ◌+◌, ◌&&◌, ℕ, 
 ghost use Rattle.task_sheet.specs.declared.set.TheConstants.{TASK_LIMIT};
 ghost use Rattle.task_sheet.specs.Indexes.{among, indexes_of, without_index, IsPart};
 ghost use Rattle.task_sheet.specs.Demand.{IsResponseOf};
-ghost use Rattle.task_sheet.specs.Orders.{all_of, Stands};
+ghost use Rattle.task_sheet.specs.Orders.{all_of};
 ghost use Rattle.kept_order.specs.Keeping.{is_held, IsChosenKept, IsKeptPlacing, IsPassingKept, NoneStandsKept, StandsKept};
 
 use assignment::{Place, least_over};

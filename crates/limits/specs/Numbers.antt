@@ -68,7 +68,7 @@ pub record IsFurthestFor (Feasible : List Task → Type 0) (U : List Task) (i : 
   pub furthest : (other : ℕ) → MayHave U i number other → Feasible (numbered U i number other)
       → IsNoFurther number other value
 
--- with which some order of the set passes
+-- the furthest value with which some order of the set passes, all else equal
 abbrev pub IsFurthest : List Task → ℕ → Number → ℕ → Type 0
 IsFurthest U i number value = IsFurthestFor IsFeasible U i number value
 

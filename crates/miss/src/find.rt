@@ -5,7 +5,7 @@ ghost use Rattle.task_sheet.specs.Orders.{IsOrder};
 ghost use Rattle.miss.specs.Shown.{IsShown};
 
 use crate::orders::kernel_of;
-use crate::reaching::{Reached, WorstRun, reach_in};
+use crate::reaching::{Reached, reach_in};
 use crate::reason::{members_above, why_not};
 use crate::shown::{Miss, NoRun, Shown};
 use assignment::least_over;

@@ -19,7 +19,7 @@ lock_inside rows k e [] = None
 lock_inside rows k e (x ∷ sections) =
     if is_inside x e then find (is_raised rows k) x.locks else lock_inside rows k e sections
 
--- how many ticks the job of slice n has executed at a time in it: no more before it than passed until then
+-- how many ticks the job of slice n has executed at a time in it; before it no more than the slice's start
 abbrev pub executed_at : List Slice → (n time : ℕ) → ℕ
 executed_at slices n time =
     min (executed_in slices n (slice_at slices n).job) (slice_at slices n).start

@@ -26,11 +26,12 @@ wait_path class ink x right k =
     ∷ decimal (top_of k + 255)
     ∷ codes "H" ∷ decimal right ∷ codes "\"><title>" ∷ [])
 
--- by which lock, and its tone
+-- by which lock
 abbrev pub lock_words : Option (List ℕ) → List ℕ
 lock_words None = []
 lock_words (Some lock) = concat (codes "with " ∷ lock ∷ codes " " ∷ [])
 
+-- its tone
 abbrev pub tone_of_lock : List (List ℕ) → Option (List ℕ) → ℕ
 tone_of_lock locks None = 0
 tone_of_lock locks (Some lock) = lock_tone locks lock

@@ -103,8 +103,8 @@ fn put_above(chart: &Chart<'_>, spot: Spot, wait: Wait, gathered: bool, page: &m
     put_title(chart, spot.rank, wait, " waits for ", by, page)
 }
 
-// A link in a tone, from the end of a wait at place k down to the bar of the task below, where that is shown, and the wait ends in
-// the window and is at least 2 pixels wide.
+// A link in a tone, from the end of a wait at place k down to the bar of the task below, where that is shown, and the
+// wait ends in the window and is at least 2 pixels wide.
 fn put_link(chart: &Chart<'_>, k: usize, wait: Wait, tone: usize, page: &mut Page)
     requires { k ≤ TASK_LIMIT }
     ensures { Adds page.old page.new (link_text (scene_of chart.now) k wait tone) }

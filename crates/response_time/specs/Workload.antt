@@ -11,12 +11,12 @@ use Rattle.response_time.specs.declared.workload.TheConstants.{WINDOW_LIMIT}
 abbrev pub work_of : List Task → ℕ → Indexes → ℕ → ℕ
 work_of U i H time = (task_at U i).cost + blocking_of U i H + interference_within U H time
 
--- with it what timers and interrupts take, where they count: with those of the set, the demand
+-- that work and, where they count, what timers and interrupts take: then it is the demand
 abbrev pub demand_with : Bool → List Task → ℕ → Indexes → ℕ → ℕ
 demand_with interrupted U i H time =
     work_of U i H time + (if interrupted then interrupts_within U time else 0)
 
--- the first window that covers it, within the limit
+-- the first window that covers that; it is within the limit
 pub record IsFirstCover (U : List Task) (i : ℕ) (H : Indexes) (interrupted : Bool) (window : ℕ) : Type 0 where
   pub positive : 1 ≤ window
   pub within : window ≤ limit_of (task_at U i)

@@ -18,8 +18,6 @@ use Rattle.teams.specs.ReadsTeams.{AreRead, UnitesAll}
 use Rattle.teams.specs.ReadsText.{ReadsEither, ReadsWritten, is_gathered, Pads, ReadsText}
 use Rattle.teams.specs.declared.reading.Part.{Part}
 use Rattle.overheads.specs.Padding.{IsPadded}
-use Rattle.overheads.specs.declared.padding.PadFault.{PadFault}
-use Rattle.overheads.specs.declared.padding.PadFault.TheVariants as pad
 use Rattle.teams.specs.declared.fault.TeamsFault.{TeamsFault}
 use Rattle.teams.specs.declared.fault.TeamsFault.TheVariants.{OutOfMemory}
 

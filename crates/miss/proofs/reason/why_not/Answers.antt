@@ -12,8 +12,7 @@ returns-then-ends_inside c =
     let pass = c.in_default.ensures.none in (
       c.requires.fails,
       done_below node (record { tasks = c.sheets.ensures.kept; order = c.requires.order })
-      c.args.task
-          c.requires.task pass c.requires.none,
+          c.args.task c.requires.task pass c.requires.none,
       pass,
       ends_raised node (record { tasks = c.sheets.ensures.kept; order = c.requires.order })
           c.args.task (rw c.members_above-members.ensures at
@@ -26,8 +25,7 @@ returns-then-passes_uninterrupted c =
     let pass = c.in_default.ensures.none in (
       c.requires.fails,
       done_below node (record { tasks = c.sheets.ensures.kept; order = c.requires.order })
-      c.args.task
-          c.requires.task pass c.requires.none,
+          c.args.task c.requires.task pass c.requires.none,
       pass,
       ends_low node (record { tasks = c.sheets.ensures.kept; order = c.requires.order }) c.args.task
           (rw c.members_above-members.ensures at
@@ -45,8 +43,7 @@ returns c =
     (sym c.ends_inside.ensures ∙ c.if-ends_inside.false)) in (
       c.requires.fails,
       done_below node (record { tasks = c.sheets.ensures.kept; order = c.requires.order })
-      c.args.task
-          c.requires.task pass c.requires.none,
+          c.args.task c.requires.task pass c.requires.none,
       pass,
       low,
       λ p. both_ways _ c.if-passes_uninterrupted.false
