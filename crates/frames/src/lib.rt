@@ -15,8 +15,8 @@ pub use boxes::{Bar, bar_of, has_room};
 pub use chart::{Chart, Lane};
 pub use frame::{
     Frame, LOWEST_TOP, RIGHTMOST, WIDEST_STEP, end_of, ended, frame_of, is_before, is_by_end,
-    is_from_start, level_of, sees, sees_from, sees_up_to, start_of, step_of, steps_before,
-    tone_of, top_of, unit_name, unit_of, x_after, x_of,
+    is_from_start, level_of, sees, sees_from, sees_up_to, start_of, step_of, steps_before, tone_of,
+    top_of, unit_name, unit_of, x_after, x_of,
 };
 pub use locks::{LOCKS_LIMIT, lock_tone, locks_of};
 pub use numbers::{Known, Millis};
