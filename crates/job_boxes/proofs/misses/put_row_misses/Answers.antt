@@ -25,7 +25,10 @@ loop-i-preserved c =
       put = adds_one_more (λ i. miss_text f c.args.lane.now.spot.k row (badge_before f row jobs i)
           (record_at jobs i)) c.loop-i.i c.loop-i.invariant.put
           (rw (← c.job_at-job.ensures, ← c.loop-i.invariant.last) c.put_miss.ensures);
-      last = rw (badge_more f row jobs c.loop-i.i, ← c.loop-i.invariant.last,
-          ← c.job_at-job.ensures)
+      last = rw (
+        badge_more f row jobs c.loop-i.i,
+        ← c.loop-i.invariant.last,
+        ← c.job_at-job.ensures,
+      )
           c.badge_after-last.ensures;
     }
