@@ -1,8 +1,9 @@
 -- What the workers of a level hand on, all together.
 use Rattle.std.proofs.Common.{◌≡◌, ℕ, zero, suc, ◌+◌, ◌<◌, ◌≤◌, Bool, true, false, cond, List, []}
-use Rattle.std.proofs.Common.{◌∷◌, ◌++◌, map, Option, Some, Result, Ok, Err, sym, refl, ap, ◌∙◌}
-use Rattle.std.proofs.Common.{subst, ⊎_elim, arith, eq-eqb, ne_eqb}
-use Rattle.std.proofs.lemmas.Bool.{cases_lt, cases_eq}
+use Rattle.std.proofs.Common.{All, inl, inr, ◌∷◌, ◌++◌, map, Option, Some, Result, Ok, Err, sym}
+use Rattle.std.proofs.Common.{refl, ap, ◌∙◌}
+use Rattle.std.proofs.Common.{subst, ⊎_elim, arith}
+use Rattle.std.proofs.lemmas.Bool.{cases_eq}
 use Rattle.std.specs.Prelude.{IfErr}
 use Rattle.std.specs.List.{Contains}
 use Rattle.std.specs.Global.{Vec}
@@ -15,9 +16,8 @@ use Rattle.assignment.specs.Levels.{LevelState}
 use Rattle.candidate_workers.specs.declared.asking.WorkFault.{WorkFault}
 use Rattle.candidate_workers.specs.declared.asking.WorkFault.TheVariants as work
 use Rattle.candidate_workers.specs.declared.assaying.AssayFault.{AssayFault}
-use Rattle.candidate_workers.specs.declared.assaying.AssayFault.TheVariants.{BadWorkers}
 use Rattle.candidate_workers.specs.declared.assaying.AssayFault.TheVariants.{ThreadRefused}
-use Rattle.candidate_workers.specs.declared.assaying.AssayFault.TheVariants.{GateShut, OutOfMemory}
+use Rattle.candidate_workers.specs.declared.assaying.AssayFault.TheVariants.{GateShut}
 use Rattle.candidate_workers.specs.declared.claims.ClaimTable.{ClaimTable}
 use Rattle.candidate_workers.specs.declared.claims.ClaimSeat.{ClaimSeat}
 use Rattle.candidate_workers.specs.declared.gathering.Claimed.{Claimed}
@@ -28,7 +28,7 @@ use Rattle.candidate_workers.specs.Seats.{seat_view, table_level, finding_task, 
 use Rattle.candidate_workers.specs.Faults.{NoVerdict, MayFail, fault_of, is_shut}
 use Rattle.candidate_workers.specs.Crews.{AreHanded, tasks_handed, work_faults, faults_of, rank_of}
 use Rattle.candidate_workers.specs.Crews.{IsFirstFault, whole_view, AreClaims}
-use Rattle.candidate_workers.proofs.Lists.{times-append, once_yes}
+use Rattle.candidate_workers.proofs.Lists.{times-append, once_case, same_case}
 
 -- ---- lists of what was handed on
 pub tasks_handed-append : (hs more : List (Result (Vec FindingData) WorkFault))
@@ -47,21 +47,18 @@ work_faults-append (Err fault ∷ hs) more =
     ap (λ fs. fault_of fault ∷ fs) (work_faults-append hs more)
 
 -- ---- the first of the faults
-pub first_of_none : (other : AssayFault) (faults : List AssayFault) → faults ≡ []
-    → IsFirstFault (faults ++ other ∷ []) (Some other)
-first_of_none other faults none = rw none (
-  (0, omega arith, refl),
-  All-cons (λ x. rank_of other ≤ rank_of x) other []
-      (omega arith) (All-nil (λ x. rank_of other ≤ rank_of x)),
-)
+goes_on : (fault other : AssayFault) (faults : List AssayFault)
+    → All (λ x. rank_of fault ≤ rank_of x) faults → rank_of fault ≤ rank_of other
+    → All (λ x. rank_of fault ≤ rank_of x) (faults ++ other ∷ [])
+goes_on fault other faults all le = let P = λ (x : AssayFault). rank_of fault ≤ rank_of x in
+    All-append P faults (other ∷ []) all (All-cons P other [] le (All-nil P))
 
-pub first_of_later : (fault other : AssayFault) (faults : List AssayFault) → rank_of other < rank_of
-    fault → IsFirstFault faults (Some fault) → IsFirstFault (faults ++ other ∷ []) (Some other)
-first_of_later fault other faults less first = (
+pub first_of_later : (other : AssayFault) (faults : List AssayFault)
+    → All (λ x. rank_of other ≤ rank_of x) faults
+    → IsFirstFault (faults ++ other ∷ []) (Some other)
+first_of_later other faults all = (
   Contains-append_right faults (other ∷ []) other (0, omega arith, refl),
-  All-append (λ x. rank_of other ≤ rank_of x) faults (other ∷ [])
-      (λ k d lt. let a = first.1 k d lt in omega arith) (All-cons (λ x. rank_of other ≤ rank_of x)
-      other [] (omega arith) (All-nil (λ x. rank_of other ≤ rank_of x))),
+  goes_on other other faults all (omega arith),
 )
 
 pub first_of_earlier : (fault other : AssayFault) (faults : List AssayFault)
@@ -69,8 +66,7 @@ pub first_of_earlier : (fault other : AssayFault) (faults : List AssayFault)
     → IsFirstFault (faults ++ other ∷ []) (Some fault)
 first_of_earlier fault other faults less first = (
   Contains-append_left faults (other ∷ []) fault first.0,
-  All-append (λ x. rank_of fault ≤ rank_of x) faults (other ∷ []) first.1 (All-cons
-      (λ x. rank_of fault ≤ rank_of x) other [] less (All-nil (λ x. rank_of fault ≤ rank_of x))),
+  goes_on fault other faults first.1 less,
 )
 
 -- of one more worker
@@ -79,9 +75,11 @@ pub first_of_more : (start faults : List AssayFault)
     (first : Option AssayFault) → faults ≡ start ++ work_faults hs
     → IsFirstFault (faults ++ work_faults (h ∷ [])) first
     → IsFirstFault (start ++ work_faults (hs ++ h ∷ [])) first
-first_of_more start faults hs h first e is = subst (λ fs. IsFirstFault fs first)
-    (ap (λ fs. fs ++ work_faults (h ∷ [])) e ∙ append_assoc start (work_faults hs)
-    (work_faults (h ∷ [])) ∙ sym (ap (λ fs. start ++ fs) (work_faults-append hs (h ∷ [])))) is
+first_of_more start faults hs h first e is = rw (
+  work_faults-append hs (h ∷ []),
+  ← append_assoc start (work_faults hs) (work_faults (h ∷ [])),
+  ← e,
+) is
 
 -- ---- each fault says why there is no verdict
 worker_named : (may : QuestionData → Type 0) (U : List Task) (workers : ℕ) (fault : WorkFault)
@@ -121,32 +119,30 @@ crew_named shut may l workers crew fault all first =
 -- ---- the tasks of the findings, by the places of a view
 times-map : (c : ℕ → ℕ) (j : ℕ) (a b : List ℕ)
     → times j (map c (a ++ b)) ≡ times j (map c a) + times j (map c b)
-times-map c j a b = ap (times j) (map-append c a b) ∙ times-append j (map c a) (map c b)
+times-map c j a b = rw (map-append c a b) (times-append j (map c a) (map c b))
 
-pub told_of : (table : ClaimTable) (level : LevelState) (seat : ClaimSeat) (tasks : List ℕ)
+pub told_of : {table : ClaimTable} {level : LevelState} {seat : ClaimSeat} {tasks : List ℕ}
     → table_level table ≡ level → tasks ≡ map (candidate_at level)
     ((seat_view seat).failed ++ (seat_view seat).passed) → AreSeatTasks table seat tasks
-told_of table level seat tasks same e = record {
-  each = λ j. ap (times j) (e ∙ ap (λ (l : LevelState). map (candidate_at l)
-      ((seat_view seat).failed ++ (seat_view seat).passed)) (sym same)) ∙ times-map
-      (candidate_at (table_level table)) j (seat_view seat).failed (seat_view seat).passed;
+told_of {level = level} {seat = seat} same e = record {
+  each = λ j. rw (same, e)
+      (times-map (candidate_at level) j (seat_view seat).failed (seat_view seat).passed);
 }
 
-pub told_joined : (table : ClaimTable) (seat own other : ClaimSeat) (tasks more : List ℕ)
+pub told_joined : {table : ClaimTable} {seat own other : ClaimSeat} {tasks more : List ℕ}
     → seat_view seat ≡ joined (seat_view own) (seat_view other) → AreSeatTasks table own tasks
     → AreSeatTasks table other more → AreSeatTasks table seat (tasks ++ more)
-told_joined table seat own other tasks more e mine theirs = record {
+told_joined {table} {own = own} {other} {tasks} {more} e mine theirs = record {
   each = λ j.
       let c = candidate_at (table_level table) in
-      let failed : times j (map c (seat_view seat).failed)
-      ≡ times j (map c (seat_view own).failed) + times j (map c (seat_view other).failed) =
-      ap (λ v. times j (map c v.failed)) e
-      ∙ times-map c j (seat_view own).failed (seat_view other).failed in
-      let passed : times j (map c (seat_view seat).passed)
-      ≡ times j (map c (seat_view own).passed) + times j (map c (seat_view other).passed) =
-      ap (λ v. times j (map c v.passed)) e
-      ∙ times-map c j (seat_view own).passed (seat_view other).passed in
-      omega (arith, times-append j tasks more, mine.each j, theirs.each j);
+      rw e (omega (
+        arith,
+        times-append j tasks more,
+        mine.each j,
+        theirs.each j,
+        times-map c j (seat_view own).failed (seat_view other).failed,
+        times-map c j (seat_view own).passed (seat_view other).passed,
+      ));
 }
 
 -- ---- where no question may be shut out, none is
@@ -154,22 +150,16 @@ pub never_shut : {V : Type 0} (may : QuestionData → Type 0) (U : List Task) (w
     (r : Result V AssayFault) → IfErr r (λ fault. NoVerdict may U workers fault)
     → IfErr r (λ fault. ((q : QuestionData) → may q → ⊥) → is_shut fault ≡ false)
 never_shut may U workers (Ok verdict) is = tt
-never_shut may U workers (Err BadWorkers) is = λ never. refl
-never_shut may U workers (Err ThreadRefused) is = λ never. refl
 never_shut may U workers (Err (GateShut task)) is = λ never. absurd (never is.question is.shut)
-never_shut may U workers (Err OutOfMemory) is = λ never. refl
+never_shut may U workers (Err fault) is = λ never. refl
 
 -- ---- each candidate up to the least that passes has a finding
 times-map_least : (c : ℕ → ℕ) (k : ℕ) (xs : List ℕ) → times k xs ≤ times (c k) (map c xs)
 times-map_least c k [] = omega arith
-times-map_least c k (y ∷ ys) =
-    let rest = times-map_least c k ys in
-    ⊎_elim (λ (e : y ≡ k). let one : times k (y ∷ ys) ≡ 1 + times k ys =
-    ap (λ (b : Bool). cond b 1 0 + times k ys) (eq-eqb y k e) in
-    let other : times (c k) (map c (y ∷ ys)) ≡ 1 + times (c k) (map c ys) =
-    ap (λ (b : Bool). cond b 1 0 + times (c k) (map c ys)) (eq-eqb (c y) (c k) (ap c e)) in
-    omega arith) (λ (ne : y ≡ k → ⊥). let none : times k (y ∷ ys) ≡ 0 + times k ys =
-    ap (λ (b : Bool). cond b 1 0 + times k ys) (ne_eqb y k ne) in omega arith) (cases_eq y k)
+times-map_least c k (y ∷ ys) = let rest = times-map_least c k ys in elim (cases_eq y k) [
+  | inl e ↦ rw e (omega (arith, same_case (c k) (c k), same_case k k))
+  | inr ne ↦ omega (arith, same_case k y)
+]
 
 pub found_up_to : (level : LevelState) (tasks : List ℕ) (claimed : Claimed) (k : ℕ)
     → AreClaims level tasks claimed → k < count_of level → k ≤ claimed.least
@@ -177,10 +167,13 @@ pub found_up_to : (level : LevelState) (tasks : List ℕ) (claimed : Claimed) (k
 found_up_to level tasks claimed k so small up =
     let v = whole_view claimed in
     let c = candidate_at level in
-    let drawn = once_yes k claimed.counter (so.reached k small up) in
-    let fate = so.one_fate k small in
-    let told = so.told (c k) in
-    let failed = times-map_least c k v.failed in
-    let passed = times-map_least c k v.passed in
-    ⊎_elim (λ (h : 0 < times k v.cut). let above = so.cut_above k h in absurd (omega arith))
-    (λ (h : times k v.cut ≤ 0). omega arith) (cases_lt 0 (times k v.cut))
+    grind (
+      arith,
+      so.reached k small up,
+      so.one_fate k small,
+      so.told (c k),
+      so.cut_above k,
+      once_case k claimed.counter,
+      times-map_least c k v.failed,
+      times-map_least c k v.passed,
+    )

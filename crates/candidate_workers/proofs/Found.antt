@@ -23,7 +23,7 @@ use Rattle.candidate_workers.specs.declared.gathering.Claimed.{Claimed}
 use Rattle.candidate_workers.specs.declared.gathering.Crew.{Crew}
 use Rattle.candidate_workers.specs.Seats.{finding_task}
 use Rattle.candidate_workers.specs.declared.asking.WorkFault.{WorkFault}
-use Rattle.candidate_workers.proofs.Lists.{times-append, times_only}
+use Rattle.candidate_workers.proofs.Lists.{times_either, same_case}
 use Rattle.candidate_workers.proofs.PlaceLaws.{len-listed, candidate-there}
 use Rattle.candidate_workers.proofs.AskedLaws.{candidate_member}
 
@@ -40,21 +40,15 @@ left_at_first l all k some = inr some
 pub left_after_some : (old new : LevelState) (all front rest : List ℕ)
     → IsLeft old all (front ++ rest) → StillFound old new → AreFound new front → IsLeft new all rest
 left_after_some old new all front rest left kept found k some =
-    ⊎_elim
-    (λ (was : IsFalse (contains old.missing k)). inl (kept k was))
-    (λ (to_come : 0 < times k (front ++ rest)).
-    let sum = times-append k front rest in
-    ⊎_elim (λ (h : 0 < times k front). inl (found k h))
-    (λ (h : times k front ≤ 0). inr (omega arith)) (cases_lt 0 (times k front)))
-    (left k some)
+    ⊎_elim (λ was. inl (kept k was)) (λ h. ⊎_elim (λ here. inl (found k here)) (λ later. inr later)
+    (times_either k front rest h)) (left k some)
 
 pub none_left : (l : LevelState) (all : List ℕ) → IsLeft l all [] → AreFound l all
-none_left l all left k some = ⊎_elim (λ (was : IsFalse (contains l.missing k)). was)
-    (λ (h : 0 < 0). absurd (omega arith)) (left k some)
+none_left l all left k some = ⊎_elim (λ was. was) (λ h. absurd (omega arith)) (left k some)
 
 pub found_one : (l : LevelState) (t : ℕ) → IsFalse (contains l.missing t) → AreFound l (t ∷ [])
 found_one l t found k some =
-    subst (λ j. IsFalse (contains l.missing j)) (sym (times_only k t some)) found
+    let is : t ≡ k = omega (arith, same_case) in rw is at found
 
 -- of what one worker handed on, and of the rest
 pub tasks_first : (h : Result (Vec FindingData) WorkFault)
@@ -132,12 +126,18 @@ found_at l missing least j part found member near =
     let is : candidate_at l k ≡ j = cc in
     subst (λ t. IsFalse (contains missing t)) is (found k lt (near lt))
 
--- candidates that have a finding up to the least that passes, or all where none passes, decide a level
-decided_here : (l : LevelState) (missing : FinSet nat_cmp) (least : ℕ) → IsPart (indexes_of l.left)
-    (below (length l.set)) → IsLeastPassing (count_of l) (passes_at l) least
-    → ((k : ℕ) → k < count_of l → k ≤ least → IsFalse (contains missing (candidate_at l k)))
-    → IsDecided (record { set = l.set; left = l.left; missing = missing })
-decided_here l missing least part passing found = ⊎_elim
+claims_of : {X : Type 0} (o : Option X) {P : X → Type 0} → IsSome o → IfSome o P → (x : X) × P x
+claims_of None some is = absurd (true≢false (sym some))
+claims_of (Some x) some is = (x, is)
+
+-- candidates that have a finding up to the least that passes, or all where none passes, decide a
+-- level
+decided_by : (l m : LevelState) (least : ℕ) → m.set ≡ l.set → m.left ≡ l.left
+    → IsPart (indexes_of l.left) (below (length l.set))
+    → IsLeastPassing (count_of l) (passes_at l) least
+    → ((k : ℕ) → k < count_of l → k ≤ least → IsFalse (contains m.missing (candidate_at l k)))
+    → IsDecided m
+decided_by l m least set same part passing found = ⊎_elim
     (λ (lt : least < count_of l).
     let n = length l.set in
     let L = indexes_of l.left in
@@ -146,39 +146,22 @@ decided_here l missing least part passing found = ⊎_elim
     inr (
       i,
       record {
-        candidate = candidate_member n L least i there;
+        candidate = rw same (candidate_member n L least i there);
         found = found least lt (omega arith);
-        stands = (does_stand-iff l.set i (without_index L i)).0 (passing.1 lt);
-        lesser = λ j lesser member. found_at l missing least j part found member
-            (λ _. omega (arith, fewer_below L j i lesser member, place_is n L least i there));
+        stands = rw (set, same) ((does_stand-iff l.set i (without_index L i)).0 (passing.1 lt));
+        lesser = λ j lesser member. found_at l m.missing least j part found (rw same at member)
+            (λ _. omega (
+              arith,
+              fewer_below L j i lesser (rw same at member),
+              place_is n L least i there,
+            ));
       },
     ))
-    (λ (far : count_of l ≤ least).
-    inl (λ j member. found_at l missing least j part found member (λ lt. omega arith)))
+    (λ (far : count_of l ≤ least). inl (λ j member. found_at l m.missing least j part found
+    (rw same at member) (λ lt. omega arith)))
     (cases_lt least (count_of l))
 
-decided_by : (l m : LevelState) (least : ℕ) → m.set ≡ l.set → m.left ≡ l.left → IsPart
-    (indexes_of l.left) (below (length l.set)) → IsLeastPassing (count_of l) (passes_at l) least
-    → ((k : ℕ) → k < count_of l → k ≤ least → IsFalse (contains m.missing (candidate_at l k)))
-    → IsDecided m
-decided_by l m least set same part passing found =
-    let is : m ≡ (let x : LevelState = record { set = l.set; left = l.left; missing = m.missing } in
-    x) = λ i. let x : LevelState =
-    record { set = set i; left = same i; missing = m.missing } in x in
-    subst IsDecided (sym is) (decided_here l m.missing least part passing found)
-
 -- what was handed on decides the level, where no fault came
-claims_of : {X : Type 0} (o : Option X) (P : X → Type 0) → IsSome o → IfSome o P → (x : X) × P x
-claims_of None P some is = absurd (true≢false (sym some))
-claims_of (Some x) P some is = (x, is)
-
-decided_by_all : (l m : LevelState) (tasks : List ℕ) (claimed : Claimed) → m.set ≡ l.set → m.left
-    ≡ l.left → IsPart (indexes_of l.left) (below (length l.set)) → AreClaims l tasks claimed
-    → ((k : ℕ) → k < count_of l → k ≤ claimed.least → 0 < times (candidate_at l k) tasks)
-    → AreFound m tasks → IsDecided m
-decided_by_all l m tasks claimed set same part so all found = decided_by l m claimed.least set same
-    part so.least (λ k lt le. found (candidate_at l k) (all k lt le))
-
 pub decided_by_crew : (l m : LevelState) (crew : Crew) → m.set ≡ l.set → m.left ≡ l.left
     → IsPart (indexes_of l.left) (below (length l.set)) → IsSome crew.claimed → IfSome crew.claimed
     (λ claimed. AreClaims l (tasks_handed crew.handed.items) claimed) → ((claimed : Claimed) (k : ℕ)
@@ -186,6 +169,6 @@ pub decided_by_crew : (l m : LevelState) (crew : Crew) → m.set ≡ l.set → m
     → 0 < times (candidate_at l k) (tasks_handed crew.handed.items))
     → AreFound m (tasks_handed crew.handed.items) → IsDecided m
 decided_by_crew l m crew set same part some so all found =
-    let parts = claims_of crew.claimed (AreClaims l (tasks_handed crew.handed.items)) some so in
-    decided_by_all l m (tasks_handed crew.handed.items) parts.0 set same part parts.1
-    (λ k. all parts.0 k parts.1) found
+    let claims = claims_of crew.claimed some so in
+    decided_by l m claims.0.least set same part claims.1.least
+    (λ k lt le. found (candidate_at l k) (all claims.0 k claims.1 lt le))

@@ -10,7 +10,7 @@ use Rattle.candidate_workers.specs.declared.view.View.{View}
 use Rattle.candidate_workers.specs.Claims.{late, claimed}
 use Rattle.candidate_workers.specs.Counting.{from_on}
 use Rattle.candidate_workers.specs.Seats.{IsFindingAt}
-use Rattle.candidate_workers.proofs.Lists.{from_on-append, from_on_early}
+use Rattle.candidate_workers.proofs.Lists.{from_on-append, late_case}
 
 -- a finding on the task that stands at a place is one on the candidate there
 pub found_there : {E : Type 0} (l : LevelState) (k task : ℕ) (r : Result FindingData E)
@@ -25,6 +25,4 @@ found_there l k task (Err e) at is = tt
 
 -- a draw of a candidate's number is not late
 pub draws_early : (v w : View) (n : ℕ) → w ≡ claimed v n → n < v.count → late w ≡ late v
-draws_early v w n e small = let a : late w ≡ from_on v.count (v.drawn ++ n ∷ []) = ap late e in
-    let b = from_on-append v.count v.drawn (n ∷ []) in let c = from_on_early v.count n small in
-    omega arith
+draws_early v w n e small = rw e (omega (arith, from_on-append, late_case))
