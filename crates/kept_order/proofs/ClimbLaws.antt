@@ -1,9 +1,10 @@
 -- Levels from the lowest up: the chosen tasks make the best order that keeps a list, or none does.
-use Rattle.std.proofs.Common.{◌≡◌, ℕ, inl, inr, true, false, ◌==◌, List, [], ◌∷◌, ◌++◌, length}
-use Rattle.std.proofs.Common.{refl, sym, subst}
+use Rattle.std.proofs.Common.{◌≡◌, ℕ, inl, inr, true, false, List, [], ◌∷◌, ◌++◌, length}
+use Rattle.std.proofs.Common.{refl, sym, subst, arith}
 use Rattle.std.specs.Ordering.{nat_cmp}
 use Rattle.std.specs.FinSet as members
-use Rattle.std.proofs.lemmas.Bool.{cases_Bool, or_cases, both_ways, eqb-true}
+use Rattle.std.proofs.lemmas.Bool.{cases_Bool, both_ways}
+use Rattle.std.proofs.lemmas.Bool.Decides.{nat_tests}
 use Rattle.task_sheet.specs.Sheet.{Task, AllTasks}
 use Rattle.task_sheet.specs.Indexes.{Indexes, indexes_of, without_index, among, IsPart}
 use Rattle.task_sheet.specs.Demand.{IsResponseOf}
@@ -82,11 +83,7 @@ module _ (U : List Task) (kept : List ℕ) where
   clears S [] valid stuck part all k h = both_ways false refl (part k h)
   clears S (i ∷ above) valid stuck part all k h =
       let rest : (j : ℕ) → S j ≡ true → (j ≡ i → ⊥) → among above j ≡ true =
-      λ j e ne. elim (or_cases (i == j) (among above j) (part j e)) [
-        | inl same ↦
-            absurd (ne (sym (eqb-true i j same)))
-        | inr r ↦ r
-      ] in
+      λ j e ne. grind (arith, nat_tests, part j e) in
       elim (cases_Bool (S i)) [
         | inl member ↦ stuck i member (StandsKept-part U kept i _ _ valid
             (λ j e. let both = without-parts S i j e in rest j both.0 both.1) all.0)

@@ -1,9 +1,10 @@
 -- Orders that keep a list, task by task, and those that keep a part of it from its lowest task up.
-use Rattle.std.proofs.Common.{◌≡◌, ℕ, inl, inr, Bool, true, false, ◌==◌, ◌&&◌, ◌||◌, ◌+◌, ◌<◌}
+use Rattle.std.proofs.Common.{◌≡◌, ℕ, inl, inr, Bool, true, false, ◌&&◌, ◌||◌, ◌+◌, ◌<◌}
 use Rattle.std.proofs.Common.{Option, Some, None, IfSome, List, [], ◌∷◌, length, get_or, drop, refl}
-use Rattle.std.proofs.Common.{sym, ◌∙◌, ap, subst, ◌-◌, ◌≤◌, ◌++◌, take, arith, append_assoc}
+use Rattle.std.proofs.Common.{sym, ◌∙◌, ap, ◌-◌, ◌≤◌, ◌++◌, take, arith, append_assoc}
 use Rattle.std.proofs.lemmas.Bool.{cases_Bool, or_cases, or_left, or_right, and_parts, and_from}
-use Rattle.std.proofs.lemmas.Bool.{both_ways, true≢false, eq-eqb, eqb-true}
+use Rattle.std.proofs.lemmas.Bool.{both_ways, true≢false, eq-eqb}
+use Rattle.std.proofs.lemmas.Bool.Decides.{nat_tests}
 use Rattle.std.proofs.lemmas.List.{at_drop_more, take_more, take-append-drop}
 use Rattle.task_sheet.specs.Sheet.{Task, AllTasks}
 use Rattle.task_sheet.specs.Indexes.{Indexes, IsPart, among}
@@ -19,12 +20,7 @@ pub held-below : (kept : List ℕ) (H : Indexes) (i k : ℕ) → H k ≡ true �
     → is_held kept H i ≡ true
 held-below [] H i k member below = absurd (true≢false (sym below))
 held-below (x ∷ above) H i k member below =
-    elim (or_cases ((x == k) && among above i) (stands_below above k i) below) [
-      | inl here ↦
-          let both = and_parts (x == k) (among above i) here in
-          or_left _ _ (and_from _ _ (ap H (eqb-true x k both.0) ∙ member) both.1)
-      | inr later ↦ or_right _ _ (held-below above H i k member later)
-    ]
+    grind (arith, nat_tests, held-below above H i k member)
 
 pub below-held : (kept : List ℕ) (H : Indexes) (i : ℕ) → is_held kept H i ≡ true → (k : ℕ)
     × (H k ≡ true) × (stands_below kept k i ≡ true)
@@ -85,23 +81,12 @@ Keeps-head kept i above keeps = elim (cases_Bool (is_held kept (among above) i))
 
 pub Keeps-rest : (kept : List ℕ) (i : ℕ) (above : List ℕ) → Keeps kept (i ∷ above)
     → Keeps kept above
-Keeps-rest kept i above keeps a b below = elim (cases_Bool (stands_below above b a)) [
-  | inl so ↦ absurd (both_ways _ (keeps a b below) (or_right _ _ so))
-  | inr so ↦ so
-]
+Keeps-rest kept i above keeps a b below = grind (arith, keeps a b below)
 
 pub Keeps-cons : (kept : List ℕ) (i : ℕ) (above : List ℕ) → is_held kept (among above) i ≡ false
     → Keeps kept above → Keeps kept (i ∷ above)
-Keeps-cons kept i above free keeps a b below = elim (cases_Bool (stands_below (i ∷ above) b a)) [
-  | inl so ↦ elim (or_cases ((i == b) && among above a) (stands_below above b a) so) [
-    | inl here ↦
-        let both = and_parts (i == b) (among above a) here in
-        absurd (both_ways _ free (held-below kept (among above) i a both.1
-        (subst (λ m. stands_below kept a m ≡ true) (sym (eqb-true i b both.0)) below)))
-    | inr later ↦ absurd (both_ways _ (keeps a b below) later)
-  ]
-  | inr so ↦ so
-]
+Keeps-cons kept i above free keeps a b below =
+    grind (arith, nat_tests, keeps a b below, held-below kept (among above) i a)
 
 -- each task of an order may stand below those after it, and is held by none of them
 abbrev pub AllStandKept : List Task → List ℕ → List ℕ → Type 0
@@ -130,22 +115,12 @@ AllStandKept-keeps U kept (i ∷ above) all =
 
 among-part : (xs ys : List ℕ) (k : ℕ) → among xs k ≡ true → among (xs ++ ys) k ≡ true
 among-part [] ys k has = absurd (true≢false (sym has))
-among-part (x ∷ xs) ys k has =
-    elim (or_cases (x == k) (among xs k) has) [
-      | inl here ↦ or_left _ _ here
-      | inr later ↦ or_right _ _ (among-part xs ys k later)
-    ]
+among-part (x ∷ xs) ys k has = grind (arith, among-part xs ys k)
 
 below-part : (xs ys : List ℕ) (i k : ℕ) → stands_below xs i k ≡ true
     → stands_below (xs ++ ys) i k ≡ true
 below-part [] ys i k below = absurd (true≢false (sym below))
-below-part (x ∷ xs) ys i k below =
-    elim (or_cases ((x == i) && among xs k) (stands_below xs i k) below) [
-      | inl here ↦
-          let both = and_parts (x == i) (among xs k) here in
-          or_left _ _ (and_from _ _ both.0 (among-part xs ys k both.1))
-      | inr later ↦ or_right _ _ (below-part xs ys i k later)
-    ]
+below-part (x ∷ xs) ys i k below = grind (arith, below-part xs ys i k, among-part xs ys k)
 
 pub Keeps-part : (xs ys order : List ℕ) → Keeps (xs ++ ys) order → Keeps xs order
 Keeps-part xs ys order keeps i k below = keeps i k (below-part xs ys i k below)
@@ -156,12 +131,11 @@ Keeps-none order i k below = absurd (true≢false (sym below))
 pub IsFirstParted-none : (U : List Task) (kept : List ℕ) (low high : ℕ)
     → IsFirstParted U kept low high → (order : List ℕ) → ¬ IsPassingKept U kept order
 IsFirstParted-none U kept low high parted order so =
-    let whole : kept ≡ (parted.below ++ low ∷ high ∷ []) ++ parted.above = parted.parts
-    ∙ sym (append_assoc parted.below (low ∷ high ∷ []) parted.above) in
+    let pair = low ∷ high ∷ [] in
     parted.none order (record {
       passing = so.passing;
-      keeps = Keeps-part (parted.below ++ low ∷ high ∷ []) parted.above order
-          (subst (λ xs. Keeps xs order) whole so.keeps);
+      keeps = Keeps-part (parted.below ++ pair) parted.above order
+          (rw (parted.parts ∙ sym (append_assoc parted.below pair parted.above)) at so.keeps);
     })
 
 -- ---- the first part that no order keeps
@@ -181,15 +155,15 @@ IsFirstParted-at U kept n low high from lt is_low is_high some none =
     ap (λ m. take m kept) (sym next) ∙ take_more kept j 0 (omega (arith, from, lt))
     ∙ ap (λ x. take j kept ++ x ∷ []) (sym is_low) in
     let long : take (n + 1) kept ≡ take j kept ++ low ∷ high ∷ [] =
-    take_more kept n 0 lt ∙ ap (λ x. take n kept ++ x ∷ []) (sym is_high)
-    ∙ ap (λ xs. xs ++ high ∷ []) short ∙ append_assoc (take j kept) (low ∷ []) (high ∷ []) in
+    take_more kept n 0 lt ∙ (λ i. short i ++ sym is_high i ∷ [])
+    ∙ append_assoc (take j kept) (low ∷ []) (high ∷ []) in
     record {
       below = take j kept;
       above = drop (n + 1) kept;
       parts = sym (take-append-drop (n + 1) kept) ∙ ap (λ xs. xs ++ drop (n + 1) kept) long
           ∙ append_assoc (take j kept) (low ∷ high ∷ []) (drop (n + 1) kept);
-      some = subst (λ xs. (order : List ℕ) × IsPassingKept U xs order) short some;
-      none = subst (λ xs. (order : List ℕ) → ¬ IsPassingKept U xs order) long none;
+      some = rw (← short) some;
+      none = rw (← long) none;
     }
 
 -- ---- the best
