@@ -7,10 +7,9 @@ use Rattle.task_sheet.specs.Sheet.{Task, same_bytes}
 use Rattle.task_sheet.specs.TaskSet.{IsTaskSet}
 use Rattle.task_sheet.proofs.NameLaws.{same_is, same_own}
 use Rattle.assignment.specs.Places.{PlaceData}
-use Rattle.assignment.specs.Placings.{IsBestPlacing, tasks_of_places}
+use Rattle.assignment.specs.Placings.{IsBestPlacing}
 use Rattle.explain.specs.Accounts.{AreInTime}
 use Rattle.explain.proofs.AccountLaws.{best-in_time}
-use Rattle.ceiling_kernel.specs.Tick.{Node, node_in}
 use Rattle.ceiling_kernel.specs.Runs.{no_record}
 use Rattle.ceiling_kernel.specs.declared.trace.JobRecord.{JobRecord}
 use Rattle.ceiling_kernel.specs.declared.trace.Release.{Release}
@@ -25,35 +24,27 @@ use Rattle.frames.specs.View.{end_of_run}
 use Rattle.drawn_runs.specs.Late.{IsBestRun, IsRowOf, NoneIsLate}
 use Rattle.drawn_runs.specs.Rows.{drawn_row, rows_of}
 use Rattle.drawn_runs.proofs.ListLaws.{kept_none}
-use Rattle.drawn_runs.proofs.RunLaws.{arrives, jobs_are, not_late}
+use Rattle.drawn_runs.proofs.RunLaws.{arrives_in, long, not_late}
 
-module _ (U : List Task) (places : List PlaceData) (rs : List Release) (until : ℕ) (trace : Trace)
-    (rows : List TaskRow) (v : View) (run : IsBestRun U places rs until trace rows) where
+module _ {U : List Task} {places : List PlaceData} {rs : List Release} {until : ℕ} {trace : Trace}
+    {rows : List TaskRow} (v : View) (run : IsBestRun U places rs until trace rows) where
   abbrev frame : Frame
   frame = frame_of rows v until
 
   abbrev jobs : List JobRecord
   jobs = trace.jobs.items
 
-  abbrev node : Node
-  node = node_in U (tasks_of_places places)
-
   -- a job in a row of its task
   on_time : (row : TaskRow) (j : ℕ) → IsRowOf U row → j < length jobs → same_bytes
       (record_at jobs j).name row.sheet.name ≡ true → is_late frame row (record_at jobs j) ≡ false
   on_time row j of inside own =
-      let is_job : j < length rs = omega (arith, inside, jobs_are node rs until trace run.runs) in
-      let upto : end_of_run until ≤ until = omega (
-        arith,
-        arrives node rs until trace run.runs j
-            is_job,
-      ) in
+      let is_job : j < length rs = omega (arith, inside, long run) in
+      let upto : end_of_run until ≤ until = omega (arith, arrives_in run j is_job) in
       let named = sym (ap (λ (t : Task). t.name) of.2) ∙ sym
       (same_is (record_at jobs j).name row.sheet.name own) in
       subst (λ (t : Task). is_late frame (record { sheet = t; bound = row.bound })
       (record_at jobs j) ≡ false) (sym of.2)
-      (not_late U places rs until trace run.set run.best run.runs of.0 j (end_of_run until) of.1
-      is_job upto named)
+      (not_late run of.0 j (end_of_run until) of.1 is_job upto named)
 
   pub all_on_time : All (NoneIsLate frame jobs) rows
   all_on_time =

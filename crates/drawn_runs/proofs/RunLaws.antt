@@ -1,8 +1,8 @@
 -- The jobs of a run in a set's best order: they stand by arrival, and are done by their deadlines.
 use Rattle.std.proofs.Common.{◌≡◌, ◌∙◌, ℕ, suc, ◌+◌, ◌-◌, ◌<◌, ◌≤◌, inl, inr, Bool, true, false}
 use Rattle.std.proofs.Common.{List, [], ◌∷◌, length, Option, Some, None, Ok, is_some, unwrap_or}
-use Rattle.std.proofs.Common.{refl, sym, ap, arith, slice_index_or}
-use Rattle.std.proofs.lemmas.Bool.{and_from, cases_eq, cases_lt, le-leb, le-ltb, lt-leb, lt-ltb}
+use Rattle.std.proofs.Common.{refl, sym, ap, arith}
+use Rattle.std.proofs.lemmas.Bool.{and_from, cases_eq, cases_lt, le-ltb, leb-false, lt-leb, lt-ltb}
 use Rattle.std.proofs.lemmas.Bool.{ne_eqb, true≢false}
 use Rattle.task_sheet.specs.Sheet.{Task, same_bytes, task_at}
 use Rattle.task_sheet.specs.TaskSet.{IsTaskSet}
@@ -13,7 +13,7 @@ use Rattle.task_sheet.proofs.IndexLaws.{IsOrderOf-among}
 use Rattle.task_sheet.proofs.NameLaws.{same_own}
 use Rattle.task_sheet.proofs.TaskLaws.{place_of_name}
 use Rattle.assignment.specs.Places.{PlaceData}
-use Rattle.assignment.specs.Placings.{IsBestPlacing, tasks_of_places}
+use Rattle.assignment.specs.Placings.{tasks_of_places}
 use Rattle.explain.specs.Accounts.{AreInTime}
 use Rattle.explain.proofs.AccountLaws.{best-in_time}
 use Rattle.ceiling_kernel.specs.Tick.{Job, Node, node_in}
@@ -28,7 +28,11 @@ use Rattle.ceiling_kernel.proofs.EndLaws.{records_at}
 use Rattle.run_lines.specs.Reached.{done_of, is_done_of, response_of}
 use Rattle.run_lines.specs.Responses.{AllDoneWithin, AllReachWithin, DoneWithin}
 use Rattle.run_lines.proofs.ResponseLaws.{all_within}
+use Rattle.frames.specs.declared.rows.TaskRow.{TaskRow}
+use Rattle.frames.specs.Rows.{record_at}
 use Rattle.job_boxes.specs.Misses.{is_behind}
+use Rattle.drawn_runs.specs.Late.{IsBestRun}
+use Rattle.drawn_runs.specs.Stand.{AreByArrival}
 use Rattle.drawn_runs.proofs.ListLaws.{kept_most}
 
 -- ---- the records of a run
@@ -39,19 +43,15 @@ records_length node jobs t k (r ∷ rs) = ap suc (records_length node jobs t (k 
 
 module _ (node : Node) (rs : List Release) (until : ℕ) (trace : Trace)
     (ran : Runs node rs until (Ok trace)) where
-  -- the record of a job
-  abbrev job : ℕ → JobRecord
-  job j = slice_index_or trace.jobs.items j no_record
-
   pub jobs_are : length trace.jobs.items ≡ length rs
   jobs_are = ap (λ (x : List JobRecord). length x) ran.2.jobs
       ∙ records_length node (jobs_of node.tasks rs) until 0 rs
 
   pub job_is : (j : ℕ) → j < length rs
-      → job j ≡ record_of node (jobs_of node.tasks rs) until j (release_at rs j)
+      → record_at trace.jobs.items j ≡ record_of node (jobs_of node.tasks rs) until j (release_at rs j)
   job_is j lt =
       let z : 0 + j ≡ j = omega arith in
-      ap (λ (x : List JobRecord). slice_index_or x j no_record) ran.2.jobs
+      ap (λ (x : List JobRecord). record_at x j) ran.2.jobs
       ∙ (records_at node (jobs_of node.tasks rs) until 0 rs j lt
       ∙ ap (λ n. record_of node (jobs_of node.tasks rs) until n (release_at rs j)) z)
 
@@ -61,15 +61,14 @@ module _ (node : Node) (rs : List Release) (until : ℕ) (trace : Trace)
   -- it arrives before the run ends
   pub arrives : (j : ℕ) → j < length rs → (release_at rs j).time < until
   arrives j lt =
-      let before = none_passes (is_past until) rs j no_release lt is_accepted.before in
-      elim (cases_lt (ready_of (release_at rs j)) until) [
-        | inl less ↦ omega (arith, less)
-        | inr ge ↦ absurd (true≢false (sym (le-leb until (ready_of (release_at rs j)) ge) ∙ before))
-      ]
+      omega (
+        arith,
+        leb-false until (ready_of (release_at rs j))
+            (none_passes (is_past until) rs j no_release lt is_accepted.before),
+      )
 
   -- jobs stand by arrival
-  pub by_arrival : (i j : ℕ) → i ≤ j → j < length trace.jobs.items
-      → (job i).release ≤ (job j).release
+  pub by_arrival : AreByArrival trace.jobs.items
   by_arrival i j le lt =
       let inside : j < length rs = omega (arith, lt, jobs_are) in
       let first = ap (λ (x : JobRecord). x.release) (job_is i (omega (arith, le, inside))) in
@@ -117,30 +116,38 @@ numbered U set i lt r own =
     ∙ ap (λ o. unwrap_or o (length U)) found
 
 -- ---- a run in a set's best order
-module _ (U : List Task) (places : List PlaceData) (rs : List Release) (until : ℕ) (trace : Trace)
-    (set : IsTaskSet U) (best : IsBestPlacing U places)
-    (ran : Runs (node_in U (tasks_of_places places)) rs until (Ok trace)) where
+module _ {U : List Task} {places : List PlaceData} {rs : List Release} {until : ℕ} {trace : Trace}
+    {rows : List TaskRow} (run : IsBestRun U places rs until trace rows) where
   abbrev node : Node
   node = node_in U (tasks_of_places places)
 
+  pub long : length trace.jobs.items ≡ length rs
+  long = jobs_are node rs until trace run.runs
+
+  pub arrives_in : (j : ℕ) → j < length rs → (release_at rs j).time < until
+  arrives_in = arrives node rs until trace run.runs
+
   kept : (i : ℕ) → i < length U → IsKept U rs until trace i
   kept i lt =
-      let both = all_within U places rs until trace set best ran in
-      let each = IsOrderOf-among (all_of U) (tasks_of_places places) best.best.passing.each_once in
-      kept_in U rs until trace i places both.0 both.1 (best-in_time U places set best)
+      let both = all_within U places rs until trace run.set run.best run.runs in
+      let each =
+      IsOrderOf-among (all_of U) (tasks_of_places places) run.best.best.passing.each_once in
+      kept_in U rs until trace i places both.0 both.1 (best-in_time U places run.set run.best)
       (ap (λ (H : ℕ → Bool). H i) each ∙ (lt-ltb i (length U) lt))
 
   -- no job of a task is late
   pub not_late : (i j end : ℕ) → i < length U → j < length rs → end ≤ until
-      → (task_at U i).name ≡ (job node rs until trace ran j).name
-      → is_behind (job node rs until trace ran j).release (task_at U i).deadline end
-      (job node rs until trace ran j).finish ≡ false
+      → (task_at U i).name ≡ (record_at trace.jobs.items j).name
+      → is_behind (record_at trace.jobs.items j).release (task_at U i).deadline end
+      (record_at trace.jobs.items j).finish ≡ false
   not_late i j end is_task is_job upto own =
-      let it : JobRecord = job node rs until trace ran j in
+      let it : JobRecord = record_at trace.jobs.items j in
       let k = kept i is_task in
-      let time = ap (λ (x : JobRecord). x.release) (job_is node rs until trace ran j is_job) in
-      let name = ap (λ (x : JobRecord). x.name) (job_is node rs until trace ran j is_job) in
-      let number = numbered U set i is_task (release_at rs j) (sym name ∙ sym own) ∙ sym k.task in
+      let is_it = job_is node rs until trace run.runs j is_job in
+      let time = ap (λ (x : JobRecord). x.release) is_it in
+      let name = ap (λ (x : JobRecord). x.name) is_it in
+      let number = numbered U run.set i is_task (release_at rs j) (sym name ∙ sym own)
+      ∙ sym k.task in
       let deadline = ap (λ x. (task_at U x).deadline) k.task in
       let called = ap (λ x. (task_at U x).name) k.task ∙ own in
       let in_time = k.in_time in
@@ -148,16 +155,7 @@ module _ (U : List Task) (places : List PlaceData) (rs : List Release) (until : 
       → is_behind it.release (task_at U i).deadline end o ≡ false) [
         | None ↦ λ is. elim (cases_lt until ((release_at rs j).time + k.place.response)) [
           | inl past ↦ lt-leb (task_at U i).deadline (end - it.release)
-              (omega (
-                arith,
-                past,
-                time,
-                deadline,
-                in_time,
-                arrives node rs until trace ran j
-                    is_job,
-                upto,
-              ))
+              (omega (arith, past, time, deadline, in_time, arrives_in j is_job, upto))
           | inr in_run ↦
               let found = k.done j is_job number in_run in
               let both : ◌≡◌ {A = Option ℕ} (Some found.0) None = sym found.1 ∙ is in
@@ -169,8 +167,7 @@ module _ (U : List Task) (places : List PlaceData) (rs : List Release) (until : 
             let counts = and_from (is_some it.finish) (same_bytes it.name
             (task_at U k.place.task).name) done same in
             let most = kept_most response_of (is_done_of (task_at U k.place.task).name)
-            trace.jobs.items j no_record (omega (arith, is_job, jobs_are node rs until trace ran))
-            counts in
+            trace.jobs.items j no_record (omega (arith, is_job, long)) counts in
             let response = ap (λ o. unwrap_or o 0 - it.release) is in
             let within = k.reached in
             le-ltb (task_at U i).deadline (f - it.release)

@@ -33,7 +33,7 @@ in_stretch jobs n d next below lt =
       get_or-take (next - n) (drop n jobs) d no_record early ∙ get_or-drop n jobs d no_record,
     )
 
-module _ (gap : ℕ) (jobs : List JobRecord) (j : ℕ) (lt : j < length jobs)
+module _ {gap : ℕ} {jobs : List JobRecord} {j : ℕ} (lt : j < length jobs)
     (p : Place gap jobs j) where
   abbrev n : ℕ
   n = p.place
@@ -47,11 +47,9 @@ module _ (gap : ℕ) (jobs : List JobRecord) (j : ℕ) (lt : j < length jobs)
   -- the job is one of them
   inside : (j - n < length stretch) × (get_or stretch (j - n) no_record ≡ job_of jobs j)
   inside =
-      let from = p.from in
-      let below = p.below in
-      let to : n + (j - n) ≡ j = omega (arith, from) in
-      let at = in_stretch jobs n (j - n) (next_of gap jobs n) (omega (arith, from, below))
-      (omega (arith, from, lt)) in
+      let to : n + (j - n) ≡ j = omega (arith, p.from) in
+      let at = in_stretch jobs n (j - n) (next_of gap jobs n) (omega (arith, p.from, p.below))
+      (omega (arith, p.from, lt)) in
       (at.0, at.1 ∙ ap (λ (k : ℕ). job_of jobs k) to)
 
   own : is_of name (get_or stretch (j - n) no_record) ≡ true
@@ -67,9 +65,8 @@ module _ (gap : ℕ) (jobs : List JobRecord) (j : ℕ) (lt : j < length jobs)
   -- with the first, if it is another, they are two
   two : n < j → 2 ≤ length (band_of gap jobs n)
   two less =
-      let below = p.below in
       let z : n + 0 ≡ n = omega arith in
-      let at = in_stretch jobs n 0 (next_of gap jobs n) (omega (arith, less, below))
+      let at = in_stretch jobs n 0 (next_of gap jobs n) (omega (arith, less, p.below))
       (omega (arith, less, lt)) in
       let first = ap (λ (x : JobRecord). is_of name x) (at.1 ∙ ap (λ (k : ℕ). job_of jobs k) z) ∙
       same_own name in
@@ -77,12 +74,10 @@ module _ (gap : ℕ) (jobs : List JobRecord) (j : ℕ) (lt : j < length jobs)
 
   -- where no more than one job stands, it is that one
   alone : nat_lt 1 (length (band_of gap jobs n)) ≡ false → n ≡ j
-  alone few =
-      let from = p.from in
-      elim (cases_lt n j) [
-        | inl less ↦ absurd (omega (arith, two less, ltb-false 1 (length (band_of gap jobs n)) few))
-        | inr ge ↦ omega (arith, from, ge)
-      ]
+  alone few = elim (cases_lt n j) [
+    | inl less ↦ absurd (omega (arith, two less, ltb-false 1 (length (band_of gap jobs n)) few))
+    | inr ge ↦ omega (arith, p.from, ge)
+  ]
 
   only_last : (a b c : Bool) → a ≡ true → b ≡ false → (a && (b || c)) ≡ c
   only_last a b c is not_so = rw (is, not_so) refl
@@ -94,7 +89,6 @@ module _ (gap : ℕ) (jobs : List JobRecord) (j : ℕ) (lt : j < length jobs)
   banded : is_banded gap jobs j ≡ nat_lt 1 (length (band_of gap jobs n))
   banded =
       let some : nat_lt j (length jobs) ≡ true = lt-ltb j (length jobs) lt in
-      let from = p.from in
       elim (cases_lt n j) [
         | inl less ↦
             let joined : joins gap jobs j ≡ true = elim (cases_Bool (joins gap jobs j)) [
@@ -106,7 +100,7 @@ module _ (gap : ℕ) (jobs : List JobRecord) (j : ℕ) (lt : j < length jobs)
             (nat_lt 1 (length (band_of gap jobs j))) some joined
             ∙ sym (lt-ltb 1 (length (band_of gap jobs n)) (two less))
         | inr ge ↦
-            let at : n ≡ j = omega (arith, from, ge) in
+            let at : n ≡ j = omega (arith, p.from, ge) in
             only_last (nat_lt j (length jobs)) (joins gap jobs j)
             (nat_lt 1 (length (band_of gap jobs j))) some
             (ap (λ (k : ℕ). joins gap jobs k) (sym at) ∙ p.apart)
@@ -127,33 +121,34 @@ seen_wider f limit release first latest before behind seen =
       behind,
     )))
 
--- what stands at a place whose box is in the window is drawn
-stand_drawn : (f : Frame) (jobs : List JobRecord) (n k : ℕ) (row : TaskRow)
-    → sees_place f row jobs n ≡ true
-    → (nat_lt 1 (count_at f jobs n) ≡ false → sees_job f row (record_at jobs n) ≡ true)
-    → stand_text f (record_at jobs n) (stretch_of (gap_of f) jobs n) k row ≡ drawn_at f jobs n k row
-stand_drawn f jobs n k row seen lone =
-    elim (cases_Bool (nat_lt 1 (count_at f jobs n))) [
-      | inl many ↦
-          ap (λ (b : Bool). if b then band_text f (record_at jobs n) (stretch_of (gap_of f) jobs n)
-          k row else job_text f (record_at jobs n) k row) many
-          ∙ ap (λ (b : Bool). if b then band_at f jobs n k row else []) seen
-          ∙ sym (ap (λ (b : Bool). if b then band_at f jobs n k row else seen_job f
-          (record_at jobs n) k row) many)
-      | inr few ↦
-          ap (λ (b : Bool). if b then band_text f (record_at jobs n) (stretch_of (gap_of f) jobs n)
-          k row else job_text f (record_at jobs n) k row) few
-          ∙ ap (λ (b : Bool). if b then seen_job f (record_at jobs n) k row else []) (lone few)
-          ∙ sym (ap (λ (b : Bool). if b then band_at f jobs n k row else seen_job f
-          (record_at jobs n) k row) few)
-    ]
+module _ (f : Frame) (jobs : List JobRecord) (n k : ℕ) (row : TaskRow) where
+  abbrev first : JobRecord
+  first = record_at jobs n
 
-place_drawn : (f : Frame) (jobs : List JobRecord) (n k : ℕ) (row : TaskRow)
-    → joins (gap_of f) jobs n ≡ false
-    → place_text f jobs n k row
-    ≡ stand_text f (record_at jobs n) (stretch_of (gap_of f) jobs n) k row
-place_drawn f jobs n k row apart = ap (λ (b : Bool). if b then [] else stand_text f
-    (record_at jobs n) (stretch_of (gap_of f) jobs n) k row) apart
+  abbrev near : List JobRecord
+  near = stretch_of (gap_of f) jobs n
+
+  abbrev band : List ℕ
+  band = band_at f jobs n k row
+
+  -- what stands at a place whose box is in the window is drawn
+  stand_drawn : sees_place f row jobs n ≡ true
+      → (nat_lt 1 (count_at f jobs n) ≡ false → sees_job f row first ≡ true)
+      → stand_text f first near k row ≡ drawn_at f jobs n k row
+  stand_drawn seen lone = elim (cases_Bool (nat_lt 1 (count_at f jobs n))) [
+    | inl many ↦
+        ap (λ (b : Bool). if b then band_text f first near k row else job_text f first k row) many
+        ∙ ap (λ (b : Bool). if b then band else []) seen
+        ∙ sym (ap (λ (b : Bool). if b then band else seen_job f first k row) many)
+    | inr few ↦
+        ap (λ (b : Bool). if b then band_text f first near k row else job_text f first k row) few
+        ∙ ap (λ (b : Bool). if b then seen_job f first k row else []) (lone few)
+        ∙ sym (ap (λ (b : Bool). if b then band else seen_job f first k row) few)
+  ]
+
+  place_drawn : joins (gap_of f) jobs n ≡ false
+      → place_text f jobs n k row ≡ stand_text f first near k row
+  place_drawn apart = ap (λ (b : Bool). if b then [] else stand_text f first near k row) apart
 
 pub stands_once : (f : Frame) (rows : List TaskRow) (shown : List ℕ) (jobs : List JobRecord)
     (j rank k : ℕ) → AreByArrival jobs → IsSeenAt f rows shown jobs j rank k
@@ -163,11 +158,11 @@ stands_once f rows shown jobs j rank k sorted at =
     let row : TaskRow = row_at rows rank in
     let seen = seen_wider f (limit_of row) (record_at jobs j).release
     (record_at jobs p.place).release (latest_at f jobs p.place) (sorted p.place j p.from at.is_job)
-    (latest (gap_of f) jobs j at.is_job p) at.seen in
+    (latest at.is_job p) at.seen in
     let lone : nat_lt 1 (count_at f jobs p.place) ≡ false
     → sees_job f row (record_at jobs p.place) ≡ true =
     λ few. subst (λ (i : ℕ). sees_job f row (record_at jobs i) ≡ true)
-    (sym (alone (gap_of f) jobs j at.is_job p few)) at.seen in
+    (sym (alone at.is_job p few)) at.seen in
     let placed = ap (λ (name : List ℕ). on_spot rows shown name
     (λ s. place_text f jobs p.place s.k)) p.same ∙ ap (λ (o : Option ℕ). in_spot rows
     (λ s. place_text f jobs p.place s.k) (spot_of shown o)) at.row ∙ ap
@@ -177,7 +172,7 @@ stands_once f rows shown jobs j rank k sorted at =
       place = p.place;
       holds = p.holds;
       only = p.only;
-      banded = banded (gap_of f) jobs j at.is_job p;
+      banded = banded at.is_job p;
       seen = seen;
       drawn = placed ∙ place_drawn f jobs p.place k row p.apart
           ∙ stand_drawn f jobs p.place k row seen lone;

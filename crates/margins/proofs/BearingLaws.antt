@@ -1,5 +1,5 @@
 -- Sets with other costs are alike, so that the order by limits passes where some order does.
-use Rattle.std.proofs.Common.{◌≡◌, ◌↔◌, ℕ, zero, suc, ◌<◌, ◌≤◌, inl, inr, List, [], ◌∷◌, length}
+use Rattle.std.proofs.Common.{◌≡◌, ◌↔◌, ℕ, zero, suc, ◌<◌, inl, inr, List, [], ◌∷◌, length}
 use Rattle.std.proofs.Common.{get_or, refl, sym, ◌∙◌, ap, subst, arith}
 use Rattle.std.proofs.lemmas.Bool.{cases_eq}
 use Rattle.std.proofs.lemmas.List.{length-set, get_or_default}
@@ -29,7 +29,7 @@ pub record AreRecosted (V W : List Task) : Type 0 where
   pub alike : AreAlike V W
   pub valid : (k : ℕ) → k < length V → IsValidSheet (task_at W k)
 
-module _ (V W : List Task) (are : AreRecosted V W) where
+module _ {V W : List Task} (are : AreRecosted V W) where
   valid-any : (k : ℕ) (d : Task) → k < length W → IsValidSheet (get_or W k d)
   valid-any k d lt = subst IsValidSheet (get_or_default W k no_task d lt)
       (are.valid k (omega (arith, lt, are.alike.count)))
@@ -40,16 +40,6 @@ module _ (V W : List Task) (are : AreRecosted V W) where
   prompt : AllPrompt W
   prompt k d lt = let valid = valid-any k d lt in
       record { period = omega (arith, valid.period_from); deadline = valid.deadline_to }
-
-  pub passes-recosted : (U : List Task) (order : List ℕ) → IsPreferred Deadline U V → IsTaskSet V
-      → IsBest V order → IsPassingOrder W order ↔ IsFeasible W
-  passes-recosted U order preferred set best =
-      let first = best-latest V (AllTasks-from_set V set) (AllPrompt-valid V set)
-      (FollowLimits-preferred U V preferred) order best in (
-        λ passing. (order, passing),
-        IsPassingOrder-latest W tasks prompt order (IsOrder-alike V W
-            are.alike order best.passing.each_once) (IsLatestFirst-alike V W are.alike order first),
-      )
 
 -- ---- scaled
 AreRecosted-scaled : (V : List Task) (factor : ℕ) → IsTaskSet V → MayScale V factor
@@ -64,17 +54,6 @@ AreRecosted-scaled V factor set may = record {
   valid =
       λ k lt. subst IsValidSheet (sym (scaled-at factor V k lt)) (valid-at factor V k set may lt);
 }
-
-pub passes-scaled : (U V : List Task) (order : List ℕ) (factor : ℕ) → IsPreferred Deadline U V
-    → IsTaskSet V → IsBest V order → MayScale V factor → IsPassingOrder (scaled factor V) order
-    ↔ IsFeasible (scaled factor V)
-passes-scaled U V order factor preferred set best may = passes-recosted V (scaled factor V)
-    (AreRecosted-scaled V factor set may) U order preferred set best
-
-pub passes-factor : (U V : List Task) (order : List ℕ) (most : ℕ) → IsPreferred Deadline U V
-    → IsTaskSet V → IsBest V order → IsFactor V most → IsPassingOrder (scaled most V) order
-passes-factor U V order most preferred set best is =
-    (passes-scaled U V order most preferred set best is.may).1 is.feasible
 
 -- ---- one cost
 keeps-costed : {R : Type 0} (of : Task → R) → ((t : Task) (cost : ℕ) → of (with_cost t cost) ≡ of t)
@@ -102,19 +81,33 @@ AreRecosted-costed V i cost set inside may = record {
   ];
 }
 
-pub passes-costed : (U V : List Task) (order : List ℕ) (i cost : ℕ) → IsPreferred Deadline U V
-    → IsTaskSet V → IsBest V order → i < length V → MayHave V i Cost cost
-    → IsPassingOrder (numbered V i Cost cost) order ↔ IsFeasible (numbered V i Cost cost)
-passes-costed U V order i cost preferred set best inside may =
-    passes-recosted V (numbered V i Cost cost) (AreRecosted-costed V i cost set inside may) U order
-    preferred set best
+-- ---- by a best order of the preferred set
+module _ (U V : List Task) (order : List ℕ) (preferred : IsPreferred Deadline U V)
+    (set : IsTaskSet V) (best : IsBest V order) where
+  recosted : {W : List Task} → AreRecosted V W → IsPassingOrder W order ↔ IsFeasible W
+  recosted {W} are =
+      let first = best-latest V (AllTasks-from_set V set) (AllPrompt-valid V set)
+      (FollowLimits-preferred U V preferred) order best in (
+        λ passing. (order, passing),
+        IsPassingOrder-latest W (tasks are) (prompt are) order (IsOrder-alike V W are.alike order
+            best.passing.each_once) (IsLatestFirst-alike V W are.alike order first),
+      )
 
-pub headroom-same : (U V : List Task) (order : List ℕ) (i within any : ℕ) → IsPreferred Deadline U V
-    → IsTaskSet V → IsBest V order → i < length V → IsFurthestIn V order i Cost within
-    → IsFurthest V i Cost any → within ≡ any
-headroom-same U V order i within any preferred set best inside is other =
-    let up : within ≤ any = in_order-within V order i Cost within any is other in
-    let passes =
-    (passes-costed U V order i any preferred set best inside other.may).1 other.feasible in
-    let down : any ≤ within = is.furthest any other.may passes in
-    omega (arith, up, down)
+  pub passes-scaled : (factor : ℕ) → MayScale V factor → IsPassingOrder (scaled factor V) order
+      ↔ IsFeasible (scaled factor V)
+  passes-scaled factor may = recosted (AreRecosted-scaled V factor set may)
+
+  pub passes-factor : (most : ℕ) → IsFactor V most → IsPassingOrder (scaled most V) order
+  passes-factor most is = (passes-scaled most is.may).1 is.feasible
+
+  pub passes-costed : (i cost : ℕ) → i < length V → MayHave V i Cost cost
+      → IsPassingOrder (numbered V i Cost cost) order ↔ IsFeasible (numbered V i Cost cost)
+  passes-costed i cost inside may = recosted (AreRecosted-costed V i cost set inside may)
+
+  pub headroom-same : (i within any : ℕ) → i < length V → IsFurthestIn V order i Cost within
+      → IsFurthest V i Cost any → within ≡ any
+  headroom-same i within any inside is other = omega (
+    arith,
+    in_order-within V order i Cost within any is other,
+    is.furthest any other.may ((passes-costed i any inside other.may).1 other.feasible),
+  )

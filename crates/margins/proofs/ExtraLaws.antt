@@ -52,12 +52,11 @@ module _ (U : List Task) (valid : AllTasks U) (prompt : AllPrompt U) (extra : �
   lowest L (i ∷ above) part k member all =
       let rest : (j : ℕ) → L j ≡ true → (j ≡ i → ⊥) → among above j ≡ true =
       λ j e ne. elim (or_cases (i == j) (among above j) (part j e)) [
-        | inl same ↦
-            absurd (ne (sym (eqb-true i j same)))
+        | inl same ↦ absurd (ne (sym (eqb-true i j same)))
         | inr r ↦ r
       ] in
-      let fewer : IsPart (without_index L i) (among above) = λ j e. let both =
-      without-parts L i j e in rest j both.0 both.1 in
+      let fewer : IsPart (without_index L i) (among above) =
+      λ j e. (let both = without-parts L i j e in rest j both.0 both.1) in
       elim (cases_Bool (L i)) [
         | inl here ↦ (
           i,

@@ -36,8 +36,8 @@ use Rattle.miss.specs.Misses.{MustMiss, WorstCaseMisses}
 use Rattle.miss.specs.Shown.{AboveAllPass}
 use Rattle.miss.specs.Reached.{IsLeastCover, WorstCaseReaches}
 use Rattle.release_list.proofs.ArrivalLaws.{IsArrival, arrivals_apart, numbered}
-use Rattle.release_list.proofs.JobLaws.{IsIn, IsOf, before_from, before_order, arrived, before_end}
-use Rattle.release_list.proofs.JobLaws.{job_in}
+use Rattle.release_list.proofs.JobLaws.{IsIn, IsOf, HavePeriods, of_at, order_at, arrived}
+use Rattle.release_list.proofs.JobLaws.{before_end, job_in}
 use Rattle.release_list.proofs.FitLaws.{IsFit, AreFit, some_period, number_is, none_refused}
 use Rattle.miss.proofs.DenseLaws.{dense}
 use Rattle.miss.proofs.MemberLaws.{member_in, above_place}
@@ -116,11 +116,11 @@ module _ (node : Node) (ok : IsNode node) (i : ℕ) (lt : i < length node.tasks)
   fits : AreFit U ss index
   fits = fit node ok i lt b is_b until
 
-  periods : (q : ℕ) → q < length ss → 0 < (stream_at ss q).period
-  periods = some_period U set ss index fits until
+  periods : HavePeriods ss
+  periods = some_period set fits
 
   accepted : refusal_of U rs until ≡ None
-  accepted = none_refused U set ss index fits until horizon few
+  accepted = none_refused set fits until horizon few
 
   legal : AreLegalJobs node jobs
   legal = legal_from node rs until ok accepted
@@ -147,11 +147,11 @@ module _ (node : Node) (ok : IsNode node) (i : ℕ) (lt : i < length node.tasks)
 
   of_stream : (p : ℕ) → p < length rs → (q : ℕ) × OfStream p q
   of_stream p small =
-      (let f = before_from ss until until p small in (f.0, record { in_list = small; is_of = f.1 }))
+      (let f = of_at ss until p small in (f.0, record { in_list = small; is_of = f.1 }))
 
   task_is : (p q : ℕ) → OfStream p q → (job_at jobs p).task ≡ index q
   task_is p q o = ap (λ (x : Job). x.task) (job_is U rs p o.in_list)
-      ∙ number_is U set ss index fits until (release_at rs p) q o.is_of
+      ∙ number_is set fits o.is_of
 
   arrival_is : (p : ℕ) → p < length rs → ((job_at jobs p).arrival ≡ (release_at rs p).time)
       × ((job_at jobs p).ready ≡ ready_of (release_at rs p))
@@ -162,8 +162,7 @@ module _ (node : Node) (ok : IsNode node) (i : ℕ) (lt : i < length node.tasks)
   )
 
   ends_before : (p : ℕ) → p < length rs → ready_of (release_at rs p) < until
-  ends_before p small =
-      (let o = of_stream p small in before_end ss until periods (release_at rs p) o.0 o.1.is_of)
+  ends_before p small = before_end (of_stream p small).1.is_of
 
   -- it executes its cost
   whole_job : (p : ℕ) → p < length rs → IsWhole (job_task node jobs p) (job_at jobs p)
@@ -195,7 +194,7 @@ module _ (node : Node) (ok : IsNode node) (i : ℕ) (lt : i < length node.tasks)
   times_of p q o =
       let r : Release = release_at rs p in
       let s : Stream = stream_at ss q in
-      let a : IsArrival r.time s = arrived ss until periods r q o.is_of in
+      let a : IsArrival r.time s = arrived o.is_of in
       let late : r.late ≡ late_at r.time s = ap (λ (x : Release). x.late) o.is_of.is in
       elim (cases_eq r.time s.first) [
         | inl first ↦
@@ -221,7 +220,7 @@ module _ (node : Node) (ok : IsNode node) (i : ℕ) (lt : i < length node.tasks)
   apart_of : (j k : ℕ) → j < k → k < length rs → (job_at jobs j).task ≡ (job_at jobs k).task
       → Apart j k
   apart_of j k less small same =
-      let o = before_order ss until until j k less small in
+      let o = order_at ss until j k less small in
       let x : OfStream j o.0 = record { in_list = omega arith; is_of = o.2 } in
       let y : OfStream k o.1 = record { in_list = small; is_of = o.3 } in
       let one : o.0 ≡ o.1 = fits.distinct o.0 o.1 o.2.in_set o.3.in_set
@@ -234,9 +233,7 @@ module _ (node : Node) (ok : IsNode node) (i : ℕ) (lt : i < length node.tasks)
         first = x';
         second = y;
         apart = arrivals_apart (release_at rs j).time (release_at rs k).time (stream_at ss o.1)
-            (periods o.1 o.3.in_set) early
-            (arrived ss until periods (release_at rs j) o.1 x'.is_of)
-            (arrived ss until periods (release_at rs k) o.1 y.is_of);
+            (periods o.1 o.3.in_set) early (arrived x'.is_of) (arrived y.is_of);
       }
 
   -- what a member's stream is
@@ -370,7 +367,7 @@ module _ (node : Node) (ok : IsNode node) (i : ℕ) (lt : i < length node.tasks)
                   let l : lateness_of (task_at U h) ≡ lateness_of (task_at U i) =
                   ap (λ x. lateness_of (task_at U x)) same in
                   let arrives : IsArrival (release_at rs j).time (stream_at ss q) =
-                  arrived ss until periods (release_at rs j) q a.first.is_of in
+                  arrived a.first.is_of in
                   absurd (omega (
                     arith,
                     a.apart,

@@ -20,7 +20,7 @@ use Rattle.ceiling_kernel.proofs.SumLaws.{total, total-sum}
 use Rattle.release_list.proofs.TaskNumbers.{found}
 use Rattle.release_list.specs.declared.stream.Stream.{Stream}
 use Rattle.release_list.specs.Streams.{stream_at, list_of, arrival_of, job_release}
-use Rattle.release_list.proofs.JobLaws.{IsIn, before_order, job_in}
+use Rattle.release_list.proofs.JobLaws.{IsIn, order_at, job_in}
 use Rattle.release_list.proofs.FitLaws.{IsFit, AreFit, some_period}
 
 total-more : (g : ℕ → ℕ) (m d : ℕ) → total g m ≤ total g (m + d)
@@ -146,8 +146,8 @@ module _ (U : List Task) (set : IsTaskSet U) (ss : List Stream) (index : ℕ →
         let early : ready k < instant + t = ready_before k t some less in
         let c : (instant ≤ ready k) × (ready k ≤ instant + k * (task_at U h).period) =
         ready_cases k in
-        let found_at : IsIn rs (job_release s k) = job_in ss until
-        (some_period U set ss index fit until) q k lt (omega (arith, early, within)) in
+        let found_at : IsIn rs (job_release s k) =
+        job_in ss until (some_period set fit) q k lt (omega (arith, early, within)) in
         let p : ℕ = found_at.0 in
         let job : job_at (jobs_of U rs) p ≡ job_of U (job_release s k) = job_is U rs p found_at.1
         ∙ ap (job_of U) found_at.2 in
@@ -171,7 +171,7 @@ module _ (U : List Task) (set : IsTaskSet U) (ss : List Stream) (index : ℕ →
         let v : IsValidSheet (task_at U h) = sheet in
         let up : (j + 1) * s.period ≤ k * s.period = mul-le-mul_right s.period (omega arith) in
         let step : (j + 1) * s.period ≡ j * s.period + s.period = omega arith in
-        let some : 0 < s.period = some_period U set ss index fit until q lt in
+        let some : 0 < s.period = some_period set fit q lt in
         let apart : arrival_of s j < arrival_of s k = omega arith in
         let tx : (release_at rs x.0).time ≡ arrival_of s j = ap (λ (r : Release). r.time) x.3 in
         let ty : (release_at rs y.0).time ≡ arrival_of s k = ap (λ (r : Release). r.time) y.3 in
@@ -182,8 +182,7 @@ module _ (U : List Task) (set : IsTaskSet U) (ss : List Stream) (index : ℕ →
                 ap (λ p. (release_at rs p).time) same in absurd (omega arith))
             | inr differ ↦
                 let long : length (jobs_of U rs) ≡ length rs = jobs_length U rs in
-                let o =
-                before_order ss until until y.0 x.0 (omega arith) (omega (arith, x.1, long)) in
+                let o = order_at ss until y.0 x.0 (omega arith) (omega (arith, x.1, long)) in
                 let le : (release_at rs y.0).time ≤ (release_at rs x.0).time =
                 elim o.4 [
                   | inl early ↦ omega (arith, early)

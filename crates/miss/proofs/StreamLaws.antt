@@ -73,5 +73,5 @@ too_long_case U i above H b streams instant lead limit until eh blocks el ei eu 
         ends = omega (arith, eu, at, es);
         listed = ap (λ (xs : List Stream). list_of xs until) is;
       };
-      many = many_from streams until refused;
+      many = many_from (length (list_of streams until)) refused;
     }

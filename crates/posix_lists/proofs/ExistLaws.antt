@@ -1,8 +1,9 @@
 -- There is a run of the lists.
-use Rattle.std.proofs.Common.{ℕ, zero, suc, ◌<◌, ◌≤◌, ◌≡◌, ◌≢◌, ◌⊎◌, inl, inr, refl, sym, ap, ◌∙◌}
+use Rattle.std.proofs.Common.{ℕ, zero, suc, ◌<◌, ◌≤◌, ◌≡◌, ◌⊎◌, inl, inr, refl, sym, ap, ◌∙◌}
 use Rattle.std.proofs.Common.{subst, arith, true, List, [], ◌∷◌, length, Some, None}
-use Rattle.std.proofs.Common.{if◌then◌else◌, ◌==◌}
+use Rattle.std.proofs.Common.{if◌then◌else◌, ◌==◌, nat_lt, Option, Bool}
 use Rattle.std.proofs.lemmas.Bool.{cases_eq, cases_lt, cases_Bool, true≢false, eq-eqb, ne_eqb}
+use Rattle.std.proofs.lemmas.Bool.{lt-ltb, le-ltb}
 use Rattle.std.proofs.lemmas.Option.{none-some}
 use Rattle.ceiling_kernel.specs.Tick.{Node, Job, job_at, level_of_job, active_of, executed_before}
 use Rattle.ceiling_kernel.specs.Tick.{picked}
@@ -12,11 +13,11 @@ use Rattle.ceiling_kernel.proofs.MachineLaws.{none_pending}
 use Rattle.posix_lists.specs.ThreadLists.{Threads, at_first, with_head, with_tail, with_list}
 use Rattle.posix_lists.specs.ThreadLists.{BecomesRunnable, IsMove, AreMoves, IsPreempted}
 use Rattle.posix_lists.specs.ThreadLists.{IsSelected, IsAtRest, Settles, AnyWay, WhereRaised}
-use Rattle.posix_lists.specs.ThreadLists.{ticked, IsTick, CanRun}
+use Rattle.posix_lists.specs.ThreadLists.{ticked, IsTick, IsRun, CanRun}
 use Rattle.posix_lists.proofs.QueueLaws.{In, none_in, empty_from, from_head, to_head, own_head}
 use Rattle.posix_lists.proofs.QueueLaws.{head_here, Rising}
-use Rattle.posix_lists.proofs.TickLaws.{AllCame, active_same}
-use Rattle.posix_lists.proofs.ListLaws.{shown_of, Agrees, none_runs, one_runs, move_keeps}
+use Rattle.posix_lists.proofs.TickLaws.{HaveCome, AllCame, active_same}
+use Rattle.posix_lists.proofs.ListLaws.{shown_of, Agrees, known_runs, move_keeps}
 use Rattle.posix_lists.proofs.ListLaws.{tick_keeps, begins, empty_raised}
 
 -- one move more
@@ -41,69 +42,49 @@ module _ (node : Node) (jobs : List Job) (ok : IsNode node) (legal : AreLegalJob
   further t s u v r move = record {
     moves = suc r.moves;
     are = more_moves node jobs t r.moves s u v r.are move;
-    agrees = move_keeps node jobs ok legal t u v (by t) r.agrees move;
+    agrees = move_keeps ok legal u v (by t) r.agrees move;
   }
 
   -- ---- the first n threads that are due come
+  one_more : (n t : ℕ) (come : ℕ → Bool) → HaveCome jobs n t come
+      → ((job_at jobs n).ready ≤ t → 0 < (job_at jobs n).executes → come n ≡ true)
+      → HaveCome jobs (suc n) t come
+  one_more n t come before last j lt due some = elim (cases_eq j n) [
+    | inl e ↦ rw e (last (rw e at due) (rw e at some))
+    | inr ne ↦ before j (omega arith) due some
+  ]
+
   wake : (t : ℕ) (s : Threads) → Agrees node jobs t s → (n : ℕ) → n ≤ length jobs
-      → (u : Threads) × Reached t s u × ((j : ℕ) → j < n → (job_at jobs j).ready ≤ t
-      → 0 < (job_at jobs j).executes → u.has_come j ≡ true)
+      → (u : Threads) × Reached t s u × HaveCome jobs n t u.has_come
   wake t s h zero le =
       (s, record { moves = 0; are = refl; agrees = h }, λ j lt. absurd (omega arith))
   wake t s h (suc n) le =
       let w = wake t s h n (omega arith) in
       let u : Threads = w.0 in
       elim (cases_Bool (u.has_come n)) [
-        | inl come ↦ (
-          u,
-          w.1,
-          λ j lt due some. elim (cases_eq j n) [
-            | inl e ↦ ap u.has_come e ∙ come
-            | inr ne ↦ w.2 j (omega arith) due some
-          ],
-        )
+        | inl come ↦ (u, w.1, one_more n t u.has_come w.2 (λ _ _. come))
         | inr blocked ↦ elim (cases_lt t (job_at jobs n).ready) [
-          | inl later ↦ (
-            u,
-            w.1,
-            λ j lt due some. elim (cases_eq j n) [
-              | inl e ↦ absurd (omega (arith, ap (λ x. (job_at jobs x).ready) e))
-              | inr ne ↦ w.2 j (omega arith) due some
-            ],
-          )
+          | inl later ↦ (u, w.1, one_more n t u.has_come w.2 (λ due _. absurd (omega arith)))
           | inr due_now ↦ elim (cases_eq (job_at jobs n).executes 0) [
-            | inl nothing ↦ (
-              u,
-              w.1,
-              λ j lt due some. elim (cases_eq j n) [
-                | inl e ↦ absurd (omega (arith, ap (λ x. (job_at jobs x).executes) e))
-                | inr ne ↦ w.2 j (omega arith) due some
-              ],
-            )
+            | inl nothing ↦ (u, w.1, one_more n t u.has_come w.2 (λ _ some. absurd (omega arith)))
             | inr something ↦
-                let v : Threads = record {
-                  executed = u.executed;
+                let v : Threads = record u {
                   has_come = λ j. if n == j then true else u.has_come j;
-                  running = u.running;
                   list = with_tail u.list (active_of node jobs u.executed n) n;
                 } in
-                let move : BecomesRunnable node jobs t u v =
-                record {
+                let move : BecomesRunnable node jobs t u v = record {
                   thread = n;
                   is_job = omega arith;
                   due = due_now;
-                  executes =
-                      omega arith;
+                  executes = omega arith;
                   was_blocked = blocked;
                   moved = refl;
                 } in (
                   v,
                   further t s u v w.1 (inl move),
-                  λ j lt due some. elim (cases_eq n j) [
-                    | inl e ↦ rw (eq-eqb n j e)
-                    | inr ne ↦ rw (ne_eqb n j ne) (w.2 j
-                        (let differ : j ≢ n = λ e. ne (sym e) in omega arith) due some)
-                  ],
+                  one_more n t v.has_come
+                      (λ j lt due some. rw (ne_eqb n j (λ e. omega arith)) (w.2 j lt due some))
+                      (λ _ _. rw (eq-eqb n n refl)),
                 )
           ]
         ]
@@ -163,15 +144,10 @@ module _ (node : Node) (jobs : List Job) (ok : IsNode node) (legal : AreLegalJob
         ⊎ ((q ≡ a) × (level_of_job node jobs p ≤ level_of_job node jobs k)) =
         λ q k in_q. behind u h q k
         (subst (λ o. In k (shown_of node jobs o u.executed u.list q)) (sym nobody) in_q) in
-        let head = first_of (u.list a) at ((none_runs node jobs ok legal t u nobody h).rising a)
+        let head = first_of (u.list a) at ((known_runs u nobody h).rising a)
         (λ k in_a.
         elim (after a k in_a) [ inl less ↦ absurd (omega arith) | inr tied ↦ tied.1 ]) in
-        let v : Threads = record {
-          executed = u.executed;
-          has_come = u.has_come;
-          running = Some p;
-          list = with_list u.list a head.0;
-        } in
+        let v : Threads = record u { running = Some p; list = with_list u.list a head.0 } in
         let move : IsSelected u v = record {
           nobody = nobody;
           priority = a;
@@ -217,20 +193,14 @@ module _ (node : Node) (jobs : List Job) (ok : IsNode node) (legal : AreLegalJob
                   | inl less ↦ less
                   | inr tied ↦
                       let up = subst (Rising (level_of_job node jobs)) (head_here u.list b x b refl)
-                      ((one_runs node jobs ok legal t u x runs h).rising b) in
+                      ((known_runs u runs h).rising b) in
                       absurd (omega (
                         arith,
                         up.0 p (subst (λ q. In p (u.list q)) (sym tied.0) at),
                         tied.1,
                       ))
                 ] in
-                let v : Threads = record {
-                  executed = u.executed;
-                  has_come = u.has_come;
-                  running =
-                      None;
-                  list = with_head u.list b x;
-                } in
+                let v : Threads = record u { running = None; list = with_head u.list b x } in
                 let move : IsPreempted node jobs u v =
                 record {
                   thread = x;
@@ -276,47 +246,24 @@ module _ (node : Node) (jobs : List Job) (ok : IsNode node) (legal : AreLegalJob
       ] refl
 
   -- a thread that isn't finished goes on
-  tick : (s : Threads) → (m : Threads) × IsTick WhereRaised node jobs s m
-      × IsTick AnyWay node jobs s m
-  tick s = elim s.running as (λ o. s.running ≡ o → (m : Threads) × IsTick WhereRaised node jobs s m
-      × IsTick AnyWay node jobs s m) [
-        | None ↦ λ nobody. (s, inl (nobody, refl), inl (nobody, refl))
-        | Some p ↦ λ runs. elim (cases_lt ((ticked s p).executed p) (job_at jobs p).executes) [
-          | inl left ↦ (
-            ticked s p,
-            inr (record {
-              thread = p;
-              was_running = runs;
-              ends = λ done. absurd (omega arith);
-              goes_on =
-                  λ more. inl refl;
-            }),
-            inr (record {
-              thread = p;
-              was_running = runs;
-              ends = λ done. absurd (omega arith);
-              goes_on =
-                  λ more. inl refl;
-            }),
-          )
-          | inr done ↦ (
-            record (ticked s p) { running = None },
-            inr (record {
-              thread = p;
-              was_running = runs;
-              ends = λ over. refl;
-              goes_on =
-                  λ more. absurd (omega arith);
-            }),
-            inr (record {
-              thread = p;
-              was_running = runs;
-              ends = λ over. refl;
-              goes_on =
-                  λ more. absurd (omega arith);
-            }),
-          )
-        ]
+  after : Threads → Option ℕ → Threads
+  after s None = s
+  after s (Some p) =
+      if nat_lt ((ticked s p).executed p) (job_at jobs p).executes then ticked s p
+      else record (ticked s p) { running = None }
+
+  ticks : (TailAt : ℕ → ℕ → Type 0) (s : Threads) → IsTick TailAt node jobs s (after s s.running)
+  unfolding after
+  ticks TailAt s =
+      elim s.running as (λ o. s.running ≡ o → IsTick TailAt node jobs s (after s o)) [
+        | None ↦ λ nobody. inl (nobody, refl)
+        | Some p ↦ λ runs. inr (record {
+          thread = p;
+          was_running = runs;
+          ends = λ done. rw (le-ltb ((ticked s p).executed p) (job_at jobs p).executes done) refl;
+          goes_on = λ more. inl
+              (rw (lt-ltb ((ticked s p).executed p) (job_at jobs p).executes more) refl);
+        })
       ] refl
 
   -- ---- the run
@@ -329,32 +276,25 @@ module _ (node : Node) (jobs : List Job) (ok : IsNode node) (legal : AreLegalJob
   settled t s h =
       record { threads = (settle t s h).0; agrees = (settle t s h).2; rests = (settle t s h).1.2 }
 
-  on : (t : ℕ) (x : State t) → Agrees node jobs (suc t) (tick x.threads).0
-  on t x = tick_keeps node jobs ok legal WhereRaised (empty_raised node jobs ok legal) t x.threads
-      (tick x.threads).0 (by t) x.agrees x.rests (tick x.threads).1
+  on : (t : ℕ) (x : State t) → Agrees node jobs (suc t) (after x.threads x.threads.running)
+  on t x = tick_keeps ok legal WhereRaised (empty_raised ok legal) x.threads
+      (after x.threads x.threads.running) (by t) x.agrees x.rests (ticks WhereRaised x.threads)
 
   state : (t : ℕ) → State t
-  state zero = settled 0 at_first (begins node jobs ok legal)
-  state (suc t) = settled (suc t) (tick (state t).threads).0 (on t (state t))
+  state zero = settled 0 at_first (begins ok legal)
+  state (suc t) =
+      settled (suc t) (after (state t).threads (state t).threads.running) (on t (state t))
+
+  is_run : (TailAt : ℕ → ℕ → Type 0) → IsRun TailAt node jobs (λ t. (state t).threads)
+  unfolding state settled
+  is_run TailAt = record {
+    start = (settle 0 at_first (begins ok legal)).1;
+    next = λ t. (
+      after (state t).threads (state t).threads.running,
+      ticks TailAt (state t).threads,
+      (settle (suc t) (after (state t).threads (state t).threads.running) (on t (state t))).1,
+    );
+  }
 
   pub can_run : CanRun node jobs
-  unfolding state settled
-  can_run = (
-    λ t. (state t).threads,
-    record {
-      start = (settle 0 at_first (begins node jobs ok legal)).1;
-      next = λ t. (
-        (tick (state t).threads).0,
-        (tick (state t).threads).1,
-        (settle (suc t) (tick (state t).threads).0 (on t (state t))).1,
-      );
-    },
-    record {
-      start = (settle 0 at_first (begins node jobs ok legal)).1;
-      next = λ t. (
-        (tick (state t).threads).0,
-        (tick (state t).threads).2,
-        (settle (suc t) (tick (state t).threads).0 (on t (state t))).1,
-      );
-    },
-  )
+  can_run = (λ t. (state t).threads, is_run WhereRaised, is_run AnyWay)

@@ -1,6 +1,6 @@
 -- POSIX's lists run whom the tick rule picks.
 use Rattle.std.proofs.Common.{ℕ, zero, suc, ◌<◌, ◌≤◌, ◌≡◌, inl, inr, refl, sym, ap, ◌∙◌, subst}
-use Rattle.std.proofs.Common.{arith, true, false, List, [], Option, Some, None, if◌then◌else◌, ◌==◌}
+use Rattle.std.proofs.Common.{arith, true, false, List, [], Option, Some, None}
 use Rattle.std.proofs.lemmas.Bool.{cases_lt, cases_eq, true≢false, eq-eqb}
 use Rattle.ceiling_kernel.specs.Tick.{Node, Job, job_at, level_of_job, active_of, held_ceiling}
 use Rattle.ceiling_kernel.specs.Tick.{picked}
@@ -38,65 +38,61 @@ shown_tail node jobs None ex list a j q = refl
 shown_tail node jobs (Some p) ex list a j q =
     tail_behind_head list a j (active_of node jobs ex p) p q
 
-module _ (node : Node) (jobs : List Job) (ok : IsNode node) (legal : AreLegalJobs node jobs) where
-  -- what the invariant says where nobody runs, and where somebody does
-  pub none_runs : (t : ℕ) (s : Threads) → s.running ≡ None → Agrees node jobs t s
-      → Queued node jobs t s.executed s.has_come s.list
-  none_runs t s e h = subst (λ r. Queued node jobs t s.executed s.has_come
-      (λ q. shown_of node jobs r s.executed s.list q)) e h
+-- the same where it is known who runs
+pub known_runs : {node : Node} {jobs : List Job} {t : ℕ} {r : Option ℕ} (s : Threads)
+    → s.running ≡ r → Agrees node jobs t s
+    → Queued node jobs t s.executed s.has_come (λ q. shown_of node jobs r s.executed s.list q)
+known_runs {node} {jobs} {t} s e h = subst (λ r. Queued node jobs t s.executed s.has_come
+    (λ q. shown_of node jobs r s.executed s.list q)) e h
 
-  pub one_runs : (t : ℕ) (s : Threads) (p : ℕ) → s.running ≡ Some p → Agrees node jobs t s → Queued
-      node jobs t s.executed s.has_come (with_head s.list (active_of node jobs s.executed p) p)
-  one_runs t s p e h = subst (λ r. Queued node jobs t s.executed s.has_come
-      (λ q. shown_of node jobs r s.executed s.list q)) e h
+module _ {node : Node} {jobs : List Job} (ok : IsNode node) (legal : AreLegalJobs node jobs) where
+  -- the priority of a thread, and that after one tick more of it
+  abbrev active : Threads → ℕ → ℕ
+  active s p = active_of node jobs s.executed p
+
+  abbrev next : Threads → ℕ → ℕ
+  next s p = active_of node jobs (one_on s.executed p) p
 
   -- ---- moves
-  pub move_keeps : (t : ℕ) (s u : Threads) → NoOverrunBy node jobs t → Agrees node jobs t s
+  pub move_keeps : {t : ℕ} (s u : Threads) → NoOverrunBy node jobs t → Agrees node jobs t s
       → IsMove node jobs t s u → Agrees node jobs t u
-  move_keeps t s u none h move =
+  move_keeps {t} s u none h move =
       elim move [
         | inl w ↦ subst (Agrees node jobs t) (sym w.moved)
-            (queued_same node jobs t s.executed (λ k. if w.thread == k then true else s.has_come k)
-            (with_tail (λ q. shown_of node jobs s.running s.executed s.list q)
-            (active_of node jobs s.executed w.thread) w.thread)
-            (λ q. shown_of node jobs s.running s.executed
-            (with_tail s.list (active_of node jobs s.executed w.thread) w.thread) q)
-            (shown_tail node jobs s.running s.executed s.list
-            (active_of node jobs s.executed w.thread) w.thread)
-            (wakes node jobs ok legal t s.executed s.has_come (λ q. shown_of node jobs s.running
-            s.executed s.list q) h none w.thread w.is_job w.due w.executes w.was_blocked))
+            (queued_same (λ q. shown_of node jobs s.running s.executed
+            (with_tail s.list (active s w.thread) w.thread) q)
+            (shown_tail node jobs s.running s.executed s.list (active s w.thread) w.thread)
+            (wakes ok legal h none w.thread w.is_job w.due w.executes w.was_blocked))
         | inr other ↦ elim other [
-          | inl pre ↦ subst (Agrees node jobs t) (sym pre.moved)
-              (one_runs t s pre.thread pre.was_running h)
+          | inl pre ↦ subst (Agrees node jobs t) (sym pre.moved) (known_runs s pre.was_running h)
           | inr sel ↦
-              let qd = none_runs t s sel.nobody h in
+              let qd = known_runs s sel.nobody h in
+              let rest : ℕ → List ℕ = with_list s.list sel.priority sel.rest in
               let at : In sel.thread (s.list sel.priority) = subst (In sel.thread) (sym sel.head)
               (inl refl) in
               let a = (qd.listed sel.priority sel.thread at).2 in
               subst (Agrees node jobs t) (sym sel.moved)
-              (queued_same node jobs t s.executed s.has_come s.list (with_head (with_list s.list
-              sel.priority sel.rest) (active_of node jobs s.executed sel.thread) sel.thread)
-              (λ q. subst (λ x. s.list q
-              ≡ with_head (with_list s.list sel.priority sel.rest) x sel.thread q) (sym a)
+              (queued_same (with_head rest (active s sel.thread) sel.thread)
+              (λ q. subst (λ x. s.list q ≡ with_head rest x sel.thread q) (sym a)
               (head_back s.list sel.priority sel.thread sel.rest sel.head q)) qd)
         ]
       ]
 
-  moves_keep : (t n : ℕ) (s u : Threads) → NoOverrunBy node jobs t → Agrees node jobs t s
+  moves_keep : {t : ℕ} (n : ℕ) (s u : Threads) → NoOverrunBy node jobs t → Agrees node jobs t s
       → AreMoves node jobs t n s u → Agrees node jobs t u
-  moves_keep t zero s u none h moves = subst (Agrees node jobs t) moves h
-  moves_keep t (suc n) s u none h moves =
-      moves_keep t n moves.0 u none (move_keeps t s moves.0 none h moves.1) moves.2
+  moves_keep {t} zero s u none h moves = subst (Agrees node jobs t) moves h
+  moves_keep (suc n) s u none h moves =
+      moves_keep n moves.0 u none (move_keeps s moves.0 none h moves.1) moves.2
 
   -- ---- the thread at rest is the pick
-  pub rest_picks : (t : ℕ) (s : Threads) → Agrees node jobs t s → IsAtRest node jobs t s
+  pub rest_picks : {t : ℕ} (s : Threads) → Agrees node jobs t s → IsAtRest node jobs t s
       → s.running ≡ picked node jobs t
-  rest_picks t s h rest =
+  rest_picks {t} s h rest =
       elim s.running as (λ r. s.running ≡ r → r ≡ picked node jobs t) [
-        | None ↦ λ e. sym (idle_pick node jobs ok legal t s.executed s.has_come s.list
-            (none_runs t s e h) rest.all_came (λ q. rest.none_runnable q e))
-        | Some p ↦ λ e. sym (running_pick node jobs ok legal t s.executed s.has_come s.list p
-            (one_runs t s p e h) (λ q lt. rest.none_higher p q e lt) rest.all_came)
+        | None ↦ λ e. sym (idle_pick ok legal (known_runs s e h) rest.all_came
+            (λ q. rest.none_runnable q e))
+        | Some p ↦ λ e. sym (running_pick ok legal s.list p (known_runs s e h)
+            (λ q lt. rest.none_higher p q e lt) rest.all_came)
       ] refl
 
   -- ---- at first
@@ -111,57 +107,46 @@ module _ (node : Node) (jobs : List Job) (ok : IsNode node) (legal : AreLegalJob
   }
 
   -- ---- a tick
-  module _ (TailAt : ℕ → ℕ → Type 0)
-      (empties : (t : ℕ) (s : Threads) (p : ℕ) → Agrees node jobs t s → IsAtRest node jobs t s
-      → NoOverrunBy node jobs t → s.running ≡ Some p
+  -- where a thread comes to the tail, the list is empty
+  abbrev pub EmptyTails : (ℕ → ℕ → Type 0) → Type 0
+  EmptyTails TailAt = (t : ℕ) (s : Threads) (p : ℕ) → Agrees node jobs t s
+      → IsAtRest node jobs t s → NoOverrunBy node jobs t → s.running ≡ Some p
       → changes_locks (job_at jobs p).sections (s.executed p) ≡ true
-      → TailAt (active_of node jobs s.executed p) (active_of node jobs (one_on s.executed p) p)
-      → s.list (active_of node jobs (one_on s.executed p) p) ≡ []) where
-    pub tick_keeps : (t : ℕ) (s u : Threads) → NoOverrunBy node jobs t → Agrees node jobs t s
+      → TailAt (active s p) (next s p) → s.list (next s p) ≡ []
+
+  module _ (TailAt : ℕ → ℕ → Type 0) (empties : EmptyTails TailAt) where
+    pub tick_keeps : {t : ℕ} (s u : Threads) → NoOverrunBy node jobs t → Agrees node jobs t s
         → IsAtRest node jobs t s → IsTick TailAt node jobs s u → Agrees node jobs (suc t) u
-    tick_keeps t s u none h rest tick =
-        let pick : s.running ≡ picked node jobs t = rest_picks t s h rest in
+    tick_keeps {t} s u none h rest tick =
+        let pick : s.running ≡ picked node jobs t = rest_picks s h rest in
         elim tick [
-          | inl idle ↦ subst (Agrees node jobs (suc t)) (sym idle.1)
-              (idles node jobs ok legal t s.executed s.has_come
-              (λ q. shown_of node jobs s.running s.executed s.list q) h (sym pick ∙ idle.0))
+          | inl idle ↦ subst (Agrees node jobs (suc t)) (sym idle.1) (idles h (sym pick ∙ idle.0))
           | inr busy ↦
               let p : ℕ = busy.thread in
-              let higher : (q : ℕ) → active_of node jobs s.executed p < q → s.list q ≡ [] =
-              λ q lt. rest.none_higher p q busy.was_running lt in
+              let runs : s.running ≡ Some p = busy.was_running in
+              let qd = known_runs s runs h in
+              let higher : (q : ℕ) → active s p < q → s.list q ≡ [] =
+              λ q lt. rest.none_higher p q runs lt in
               elim (cases_lt ((ticked s p).executed p) (job_at jobs p).executes) [
                 | inr done ↦ subst (Agrees node jobs (suc t)) (sym (busy.ends done))
-                    (ends node jobs ok legal t s.executed s.has_come s.list p (one_runs t s p
-                    busy.was_running h) higher (sym pick ∙ busy.was_running) done)
+                    (ends ok legal s.list p qd higher (sym pick ∙ runs) done)
                 | inl left ↦
-                    let kept = stays t s p none h rest busy.was_running left in
+                    let kept = goes_on ok legal s.list p qd higher none (sym pick ∙ runs) left in
                     elim (busy.goes_on left) [
                       | inl on ↦ subst (Agrees node jobs (suc t)) (sym on)
                           (subst (λ r. Queued node jobs (suc t) (one_on s.executed p) s.has_come
                           (λ q. shown_of node jobs r (one_on s.executed p) s.list q))
-                          (sym busy.was_running) kept)
+                          (sym runs) kept)
                       | inr moved ↦ elim moved.1 [
                         | inl head ↦ subst (Agrees node jobs (suc t)) (sym head) kept
                         | inr tail ↦ subst (Agrees node jobs (suc t)) (sym tail.1)
-                            (queued_same node jobs (suc t) (one_on s.executed p) s.has_come
-                            (with_head s.list (active_of node jobs (one_on s.executed p) p) p)
-                            (with_tail s.list (active_of node jobs (one_on s.executed p) p) p)
-                            (head_is_tail s.list (active_of node jobs (one_on s.executed p) p) p
-                            (empties t s p h rest none busy.was_running moved.0 tail.0)) kept)
+                            (queued_same (with_tail s.list (next s p) p)
+                            (head_is_tail s.list (next s p) p
+                            (empties t s p h rest none runs moved.0 tail.0)) kept)
                       ]
                     ]
               ]
         ]
-      where
-        stays : (t : ℕ) (s : Threads) (p : ℕ) → NoOverrunBy node jobs t → Agrees node jobs t s
-            → IsAtRest node jobs t s → s.running ≡ Some p
-            → one_on s.executed p p < (job_at jobs p).executes
-            → Queued node jobs (suc t) (one_on s.executed p) s.has_come
-            (with_head s.list (active_of node jobs (one_on s.executed p) p) p)
-        stays t s p none h rest runs left =
-            goes_on node jobs ok legal t s.executed s.has_come s.list p (one_runs t s p runs h)
-            (λ q lt. rest.none_higher p q runs lt) none
-            (sym (rest_picks t s h rest) ∙ runs) left
 
     -- ---- a run
     module _ (run : ℕ → Threads) (is : IsRun TailAt node jobs run) where
@@ -170,70 +155,51 @@ module _ (node : Node) (jobs : List Job) (ok : IsNode node) (legal : AreLegalJob
       rest_at (suc t) = (is.next t).2.2
 
       agrees_at : (t : ℕ) → NoOverrunBy node jobs t → Agrees node jobs t (run t)
-      agrees_at zero none = moves_keep 0 is.start.0 at_first (run 0) none begins is.start.1
+      agrees_at zero none = moves_keep is.start.0 at_first (run 0) none begins is.start.1
       agrees_at (suc t) none =
           let before : NoOverrunBy node jobs t = λ k lt ready. none k lt (omega arith) in
           let tick = is.next t in
-          moves_keep (suc t) tick.2.0 tick.0 (run (suc t)) none
-          (tick_keeps t (run t) tick.0 before (agrees_at t before) (rest_at t) tick.1) tick.2.1
+          moves_keep tick.2.0 tick.0 (run (suc t)) none
+          (tick_keeps (run t) tick.0 before (agrees_at t before) (rest_at t) tick.1) tick.2.1
 
       pub ruled : AskAnew jobs → EachTickIsRuled node jobs run
       ruled anew t none =
           let h : Agrees node jobs t (run t) = agrees_at t none in
-          let pick : (run t).running ≡ picked node jobs t = rest_picks t (run t) h (rest_at t) in
+          let pick : (run t).running ≡ picked node jobs t = rest_picks (run t) h (rest_at t) in
+          let free = λ (p : ℕ) (lock : List ℕ) (runs : (run t).running ≡ Some p)
+          (asks : asks_lock (job_at jobs p).sections ((run t).executed p) lock ≡ true).
+          free_law node jobs ok legal anew t p lock none (sym pick ∙ runs)
+          (subst (λ e. asks_lock (job_at jobs p).sections e lock ≡ true) (h.executed p) asks) in
           record {
             runs = pick;
             nobody_owns = λ p k lock runs asks lt ne.
-                let free = free_law node jobs ok legal anew t p lock none (sym pick ∙ runs)
-                (subst (λ e. asks_lock (job_at jobs p).sections e lock ≡ true) (h.executed p)
-                asks) in
                 subst (λ e. holds_lock (job_at jobs k).sections e lock ≡ false) (sym (h.executed k))
-                (free.is_free k lt);
-            within_ceiling = λ p lock runs asks.
-                let free = free_law node jobs ok legal anew t p lock none (sym pick ∙ runs)
-                (subst (λ e. asks_lock (job_at jobs p).sections e lock ≡ true) (h.executed p)
-                asks) in
-                free.within_ceiling;
+                ((free p lock runs asks).is_free k lt);
+            within_ceiling = λ p lock runs asks. (free p lock runs asks).within_ceiling;
           }
 
-  -- ---- where a thread comes to the tail, the list is empty
-  pub empty_raised : (t : ℕ) (s : Threads) (p : ℕ) → Agrees node jobs t s → IsAtRest node jobs t s
-      → NoOverrunBy node jobs t → s.running ≡ Some p
-      → changes_locks (job_at jobs p).sections (s.executed p) ≡ true
-      → WhereRaised (active_of node jobs s.executed p) (active_of node jobs (one_on s.executed p) p)
-      → s.list (active_of node jobs (one_on s.executed p) p) ≡ []
-  empty_raised t s p h rest none runs changes raised =
-      rest.none_higher p (active_of node jobs (one_on s.executed p) p) runs raised
+  -- ---- the places that are allowed
+  pub empty_raised : EmptyTails WhereRaised
+  empty_raised t s p h rest none runs changes raised = rest.none_higher p (next s p) runs raised
 
-  empty_turns : TakeTurns jobs → (t : ℕ) (s : Threads) (p : ℕ) → Agrees node jobs t s
-      → IsAtRest node jobs t s → NoOverrunBy node jobs t → s.running ≡ Some p
-      → changes_locks (job_at jobs p).sections (s.executed p) ≡ true
-      → AnyWay (active_of node jobs s.executed p) (active_of node jobs (one_on s.executed p) p)
-      → s.list (active_of node jobs (one_on s.executed p) p) ≡ []
+  empty_turns : TakeTurns jobs → EmptyTails AnyWay
   empty_turns turns t s p h rest none runs changes any =
-      let qd = one_runs t s p runs h in
-      elim (cases_lt (active_of node jobs s.executed p)
-      (active_of node jobs (one_on s.executed p) p)) [
-        | inl raised ↦ rest.none_higher p (active_of node jobs (one_on s.executed p) p) runs raised
+      let qd = known_runs s runs h in
+      elim (cases_lt (active s p) (next s p)) [
+        | inl raised ↦ rest.none_higher p (next s p) runs raised
         | inr no_higher ↦
-            let own = own_after turns t s p changes no_higher in
-            empty_from (s.list (active_of node jobs (one_on s.executed p) p)) (λ k at.
-            let lower = below_on node jobs ok legal t s.executed s.has_come s.list p qd
-            (λ q lt. rest.none_higher p q runs lt) none
-            (active_of node jobs (one_on s.executed p) p) k refl at in
-            let a = (qd.listed (active_of node jobs (one_on s.executed p) p) k
-            (to_head s.list (active_of node jobs s.executed p) p
-            (active_of node jobs (one_on s.executed p) p) k at)).2 in
+            let own = own_after no_higher in
+            empty_from (s.list (next s p)) (λ k at.
+            let lower = below_on ok legal s.list p qd (λ q lt. rest.none_higher p q runs lt) none
+            (next s p) k refl at in
+            let a = (qd.listed (next s p) k (to_head s.list (active s p) p (next s p) k at)).2 in
             omega arith)
       ]
     where
-      own_after : TakeTurns jobs → (t : ℕ) (s : Threads) (p : ℕ)
-          → changes_locks (job_at jobs p).sections (s.executed p) ≡ true
-          → active_of node jobs (one_on s.executed p) p ≤ active_of node jobs s.executed p
-          → active_of node jobs (one_on s.executed p) p ≡ level_of_job node jobs p
-      own_after turns t s p changes no_higher =
-          let one : one_on s.executed p p ≡ suc (s.executed p) = rw (eq-eqb p p refl)
-          (omega arith) in
+      own_after : next s p ≤ active s p → next s p ≡ level_of_job node jobs p
+      own_after no_higher =
+          let one : one_on s.executed p p ≡ suc (s.executed p) =
+          rw (eq-eqb p p refl) (omega arith) in
           let on = ap (held_ceiling node (job_at jobs p).sections) one in
           elim (cases_eq (held_ceiling node (job_at jobs p).sections (s.executed p)) 0) [
             | inl nothing ↦ omega arith

@@ -36,68 +36,76 @@ pub record Queued (node : Node) (jobs : List Job) (t : ℕ) (ex : ℕ → ℕ) (
 abbrev pub one_on : (ℕ → ℕ) → ℕ → ℕ → ℕ
 one_on ex p j = if p == j then ex j + 1 else ex j
 
--- each thread that is due has come
-abbrev pub AllCame : List Job → ℕ → (ℕ → Bool) → Type 0
-AllCame jobs t come = (j : ℕ) → j < length jobs → (job_at jobs j).ready ≤ t
+-- of the first n threads each that is due has come; of all
+abbrev pub HaveCome : List Job → (n t : ℕ) → (ℕ → Bool) → Type 0
+HaveCome jobs n t come = (j : ℕ) → j < n → (job_at jobs j).ready ≤ t
     → 0 < (job_at jobs j).executes → come j ≡ true
 
-module _ (node : Node) (jobs : List Job) where
-  -- the same lists, said otherwise
-  pub queued_same : (t : ℕ) (ex : ℕ → ℕ) (come : ℕ → Bool) (v w : ℕ → List ℕ)
-      → ((q : ℕ) → v q ≡ w q) → Queued node jobs t ex come v → Queued node jobs t ex come w
-  queued_same t ex come v w same qd = record {
-    executed = qd.executed;
-    came = qd.came;
-    fresh = qd.fresh;
-    listed = λ q j at. qd.listed q j (subst (In j) (sym (same q)) at);
-    complete = λ j c u. subst (In j) (same (active_of node jobs ex j)) (qd.complete j c u);
-    rising = λ q. subst (Rising (level_of_job node jobs)) (same q) (qd.rising q);
-  }
+abbrev pub AllCame : List Job → ℕ → (ℕ → Bool) → Type 0
+AllCame jobs t come = HaveCome jobs (length jobs) t come
 
-  -- the priority of a thread depends on what it has executed
-  pub active_same : (ex ex' : ℕ → ℕ) (j : ℕ) → ex j ≡ ex' j
-      → active_of node jobs ex j ≡ active_of node jobs ex' j
-  active_same ex ex' j e =
-      ap (λ n. max (level_of_job node jobs j) (held_ceiling node (job_at jobs j).sections n)) e
+-- the same lists, said otherwise
+pub queued_same : {node : Node} {jobs : List Job} {t : ℕ} {ex : ℕ → ℕ} {come : ℕ → Bool}
+    {v : ℕ → List ℕ} (w : ℕ → List ℕ) → ((q : ℕ) → v q ≡ w q) → Queued node jobs t ex come v
+    → Queued node jobs t ex come w
+queued_same {node} {jobs} {ex = ex} w same qd = record {
+  executed = qd.executed;
+  came = qd.came;
+  fresh = qd.fresh;
+  listed = λ q j at. qd.listed q j (subst (In j) (sym (same q)) at);
+  complete = λ j c u. subst (In j) (same (active_of node jobs ex j)) (qd.complete j c u);
+  rising = λ q. subst (Rising (level_of_job node jobs)) (same q) (qd.rising q);
+}
 
-module _ (node : Node) (jobs : List Job) (ok : IsNode node) (legal : AreLegalJobs node jobs) where
+-- the priority of a thread depends on what it has executed
+pub active_same : (node : Node) (jobs : List Job) (ex ex' : ℕ → ℕ) (j : ℕ) → ex j ≡ ex' j
+    → active_of node jobs ex j ≡ active_of node jobs ex' j
+active_same node jobs ex ex' j e =
+    ap (λ n. max (level_of_job node jobs j) (held_ceiling node (job_at jobs j).sections n)) e
+
+module _ {node : Node} {jobs : List Job} (ok : IsNode node) (legal : AreLegalJobs node jobs) where
+  abbrev level : ℕ → ℕ
+  level j = level_of_job node jobs j
+
+  abbrev active : (ℕ → ℕ) → ℕ → ℕ
+  active ex j = active_of node jobs ex j
+
   valid : IsSound node
   valid = sound node ok
 
   uses_own : (j : ℕ) (r : List ℕ) → some_names (job_at jobs j).sections r ≡ true
-      → level_of_job node jobs j ≤ ceiling node r
+      → level j ≤ ceiling node r
   uses_own j r names =
       valid.users_below (job_at jobs j).task r (uses_of node jobs legal.within j r names)
 
   -- two pending jobs have different levels
-  apart : (t : ℕ) (ex : ℕ → ℕ) → ((j : ℕ) → ex j ≡ executed_before node jobs t j)
-      → NoOverrunBy node jobs t → (j k : ℕ) → j ≢ k
-      → j < length jobs → (job_at jobs j).ready ≤ t → ex j < (job_at jobs j).executes
-      → k < length jobs → (job_at jobs k).ready ≤ t → ex k < (job_at jobs k).executes
-      → level_of_job node jobs j ≢ level_of_job node jobs k
-  apart t ex executed none j k ne jl jr ju kl kr ku same =
-      let task = valid.levels_differ (job_at jobs j).task (job_at jobs k).task (legal.known j jl)
-      (legal.known k kl) same in
-      let ej : ex j ≡ executed_before node jobs t j = executed j in
-      let ek : ex k ≡ executed_before node jobs t k = executed k in
+  apart : {t : ℕ} {ex : ℕ → ℕ} {come : ℕ → Bool} {list : ℕ → List ℕ}
+      → Queued node jobs t ex come list → NoOverrunBy node jobs t → (j k : ℕ) → j ≢ k
+      → (j < length jobs) × ((job_at jobs j).ready ≤ t) → ex j < (job_at jobs j).executes
+      → (k < length jobs) × ((job_at jobs k).ready ≤ t) → ex k < (job_at jobs k).executes
+      → level j ≢ level k
+  apart {t} qd none j k ne cj uj ck uk same =
+      let task = valid.levels_differ (job_at jobs j).task (job_at jobs k).task (legal.known j cj.0)
+      (legal.known k ck.0) same in
+      let spans = spans_of node jobs legal.within in
       elim (cases_order j k) [
         | inl e ↦ ne e
         | inr differ ↦ elim differ [
-          | inl before ↦ two_pending node jobs valid legal.known (spans_of node jobs legal.within)
-              uses_own t j k before kl none task kr (omega arith)
-          | inr after ↦ two_pending node jobs valid legal.known (spans_of node jobs legal.within)
-              uses_own t k j after jl none (sym task) jr (omega arith)
+          | inl before ↦ two_pending node jobs valid legal.known spans uses_own t j k before ck.0
+              none task ck.1 (omega (arith, qd.executed j))
+          | inr after ↦ two_pending node jobs valid legal.known spans uses_own t k j after cj.0
+              none (sym task) cj.1 (omega (arith, qd.executed k))
         ]
       ]
 
   -- a thread becomes runnable
-  pub wakes : (t : ℕ) (ex : ℕ → ℕ) (come : ℕ → Bool) (list : ℕ → List ℕ)
+  pub wakes : {t : ℕ} {ex : ℕ → ℕ} {come : ℕ → Bool} {list : ℕ → List ℕ}
       → Queued node jobs t ex come list → NoOverrunBy node jobs t
       → (j : ℕ) → j < length jobs → (job_at jobs j).ready ≤ t → 0 < (job_at jobs j).executes
       → come j ≡ false
       → Queued node jobs t ex (λ k. if j == k then true else come k)
-      (with_tail list (active_of node jobs ex j) j)
-  wakes t ex come list qd none j lt due some blocked = record {
+      (with_tail list (active ex j) j)
+  wakes {t} {ex} {come} {list} qd none j lt due some blocked = record {
     executed = qd.executed;
     came = λ k c. elim (cases_eq j k) [
       | inl e ↦ subst (λ x. (x < length jobs) × ((job_at jobs x).ready ≤ t)) e (lt, due)
@@ -108,25 +116,25 @@ module _ (node : Node) (jobs : List Job) (ok : IsNode node) (legal : AreLegalJob
           absurd (true≢false wrong))
       | inr ne ↦ qd.fresh k (rw (ne_eqb j k ne) at c)
     ];
-    listed = λ q k at. elim (from_tail list (active_of node jobs ex j) j q k at) [
+    listed = λ q k at. elim (from_tail list (active ex j) j q k at) [
       | inl was ↦ (let s = qd.listed q k was in (still k s.0, s.1, s.2))
       | inr own ↦ subst (λ x. ((if j == x then true else come x) ≡ true)
-          × (ex x < (job_at jobs x).executes) × (active_of node jobs ex x ≡ q)) own.1
+          × (ex x < (job_at jobs x).executes) × (active ex x ≡ q)) own.1
           (has_come, pending, own.0)
     ];
     complete = λ k c u. elim (cases_eq j k) [
       | inl e ↦
-          subst (λ x. In x (with_tail list (active_of node jobs ex j) j (active_of node jobs ex x)))
-          e (own_tail list (active_of node jobs ex j) j)
-      | inr ne ↦ to_tail list (active_of node jobs ex j)
-          j (active_of node jobs ex k) k (qd.complete k (rw (ne_eqb j k ne) at c) u)
+          subst (λ x. In x (with_tail list (active ex j) j (active ex x)))
+          e (own_tail list (active ex j) j)
+      | inr ne ↦ to_tail list (active ex j)
+          j (active ex k) k (qd.complete k (rw (ne_eqb j k ne) at c) u)
     ];
-    rising = λ q. elim (cases_eq (active_of node jobs ex j) q) [
-      | inl e ↦ subst (Rising (level_of_job node jobs))
-          (sym (tail_here list (active_of node jobs ex j) j q e))
-          (rising_longer (level_of_job node jobs) (list q) j (qd.rising q) (λ k at. below q k e at))
-      | inr ne ↦ subst (Rising (level_of_job node jobs))
-          (sym (tail_else list (active_of node jobs ex j) j q ne)) (qd.rising q)
+    rising = λ q. elim (cases_eq (active ex j) q) [
+      | inl e ↦ subst (Rising level)
+          (sym (tail_here list (active ex j) j q e))
+          (rising_longer level (list q) j (qd.rising q) (λ k at. below q k e at))
+      | inr ne ↦ subst (Rising level)
+          (sym (tail_else list (active ex j) j q ne)) (qd.rising q)
     ];
   }
     where
@@ -140,7 +148,7 @@ module _ (node : Node) (jobs : List Job) (ok : IsNode node) (legal : AreLegalJob
       still k c = elim (cases_Bool (j == k)) [ inl b ↦ rw b | inr b ↦ rw b c ]
 
       -- it holds nothing
-      own_level : active_of node jobs ex j ≡ level_of_job node jobs j
+      own_level : active ex j ≡ level j
       own_level =
           omega (
             arith,
@@ -148,51 +156,51 @@ module _ (node : Node) (jobs : List Job) (ok : IsNode node) (legal : AreLegalJob
             held_start node (job_at jobs j).sections,
           )
 
-      below : (q k : ℕ) → active_of node jobs ex j ≡ q → In k (list q)
-          → level_of_job node jobs k < level_of_job node jobs j
+      below : (q k : ℕ) → active ex j ≡ q → In k (list q)
+          → level k < level j
       below q k e at =
           let s = qd.listed q k at in
           let c : (k < length jobs) × ((job_at jobs k).ready ≤ t) = qd.came k s.0 in
           let other : k ≢ j = λ same. true≢false (sym s.0 ∙ (ap come same ∙ blocked)) in
-          let own : active_of node jobs ex j ≡ level_of_job node jobs j = own_level in
-          let top : active_of node jobs ex k ≡ q = s.2 in
-          elim (cases_eq (level_of_job node jobs k) (level_of_job node jobs j)) [
+          let top : active ex k ≡ q = s.2 in
+          elim (cases_eq (level k) (level j)) [
             | inl same ↦
-                absurd ((apart t ex qd.executed none k j other c.0 c.1 s.1 lt due pending) same)
-            | inr differ ↦ omega arith
+                absurd (apart qd none k j other c s.1 (lt, due) pending same)
+            | inr differ ↦ omega (arith, own_level)
           ]
 
   -- ---- the pick
-  pub idle_pick : (t : ℕ) (ex : ℕ → ℕ) (come : ℕ → Bool) (list : ℕ → List ℕ) → Queued node jobs t ex
-      come list → AllCame jobs t come → ((q : ℕ) → list q ≡ []) → picked node jobs t ≡ None
+  pub idle_pick : {t : ℕ} {ex : ℕ → ℕ} {come : ℕ → Bool} {list : ℕ → List ℕ}
+      → Queued node jobs t ex come list → AllCame jobs t come → ((q : ℕ) → list q ≡ [])
+      → picked node jobs t ≡ None
   unfolding picked
-  idle_pick t ex come list qd all empty =
+  idle_pick {t} {ex} {come} {list} qd all empty =
       best_none_is (is_pending jobs (executed_before node jobs t) t)
-      (active_of node jobs (executed_before node jobs t)) (level_of_job node jobs) (length jobs)
+      (active (executed_before node jobs t)) level (length jobs)
       (λ k lt. elim (cases_Bool (is_pending jobs (executed_before node jobs t) t k)) [
         | inr rests ↦ rests
         | inl waits ↦
             let pp = pending_parts node jobs t k waits in
             let e : ex k ≡ executed_before node jobs t k = qd.executed k in
             let c : come k ≡ true = all k lt pp.0 (omega (arith, pp.1)) in
-            absurd (none_in (list (active_of node jobs ex k)) k (empty (active_of node jobs ex k))
+            absurd (none_in (list (active ex k)) k (empty (active ex k))
             (qd.complete k c (omega (arith, pp.1))))
       ])
 
   -- ---- thread p runs, and stands at the head of its list
-  module _ (t : ℕ) (ex : ℕ → ℕ) (come : ℕ → Bool) (list : ℕ → List ℕ) (p : ℕ)
-      (qd : Queued node jobs t ex come (with_head list (active_of node jobs ex p) p))
-      (highest : (q : ℕ) → active_of node jobs ex p < q → list q ≡ []) where
+  module _ {t : ℕ} {ex : ℕ → ℕ} {come : ℕ → Bool} (list : ℕ → List ℕ) (p : ℕ)
+      (qd : Queued node jobs t ex come (with_head list (active ex p) p))
+      (highest : (q : ℕ) → active ex p < q → list q ≡ []) where
     abbrev pub a : ℕ
-    a = active_of node jobs ex p
+    a = active ex p
 
     -- it is pending
     own : (come p ≡ true) × (ex p < (job_at jobs p).executes)
-        × (active_of node jobs ex p ≡ active_of node jobs ex p)
+        × (active ex p ≡ active ex p)
     own = qd.listed a p (own_head list a p)
 
-    first : IsBelow (level_of_job node jobs) p (list a) × Rising (level_of_job node jobs) (list a)
-    first = subst (Rising (level_of_job node jobs)) (head_here list a p a refl) (qd.rising a)
+    first : IsBelow level p (list a) × Rising level (list a)
+    first = subst (Rising level) (head_here list a p a refl) (qd.rising a)
 
     -- it stands nowhere else
     nowhere : (q : ℕ) → In p (list q) → ⊥
@@ -201,14 +209,14 @@ module _ (node : Node) (jobs : List Job) (ok : IsNode node) (legal : AreLegalJob
         (sym (qd.listed q p (to_head list a p q p at)).2) at in
         omega (arith, first.0 p here)
 
-    rest_rising : (q : ℕ) → Rising (level_of_job node jobs) (list q)
+    rest_rising : (q : ℕ) → Rising level (list q)
     rest_rising q = elim (cases_eq a q) [
-      | inl e ↦ subst (λ x. Rising (level_of_job node jobs) (list x)) e first.1
-      | inr ne ↦ subst (Rising (level_of_job node jobs)) (head_else list a p q ne) (qd.rising q)
+      | inl e ↦ subst (λ x. Rising level (list x)) e first.1
+      | inr ne ↦ subst (Rising level) (head_else list a p q ne) (qd.rising q)
     ]
 
     of_rest : (q k : ℕ) → In k (list q) → (come k ≡ true) × (ex k < (job_at jobs k).executes)
-        × (active_of node jobs ex k ≡ q)
+        × (active ex k ≡ q)
     of_rest q k at = qd.listed q k (to_head list a p q k at)
 
     pub running_pick : AllCame jobs t come → picked node jobs t ≡ Some p
@@ -218,7 +226,7 @@ module _ (node : Node) (jobs : List Job) (ok : IsNode node) (legal : AreLegalJob
         let ep : ex p ≡ executed_before node jobs t p = qd.executed p in
         let unfinished : ex p < (job_at jobs p).executes = own.1 in
         best_is (is_pending jobs (executed_before node jobs t) t)
-        (active_of node jobs (executed_before node jobs t)) (level_of_job node jobs)
+        (active (executed_before node jobs t)) level
         (length jobs) p c.0 (pending_from node jobs t p c.1 (omega arith))
         (λ k lt waits other.
         let pp = pending_parts node jobs t k waits in
@@ -226,25 +234,22 @@ module _ (node : Node) (jobs : List Job) (ok : IsNode node) (legal : AreLegalJob
         let ck : come k ≡ true = all k lt pp.0 (omega (arith, pp.1)) in
         let ap_ = active_same node jobs ex (executed_before node jobs t) p ep in
         let ak = active_same node jobs ex (executed_before node jobs t) k ek in
-        elim (from_head list a p (active_of node jobs ex k) k
+        elim (from_head list a p (active ex k) k
         (qd.complete k ck (omega (arith, pp.1)))) [
           | inr mine ↦ absurd (other (sym mine.1))
-          | inl at ↦ elim (cases_order (active_of node jobs ex k) (active_of node jobs ex p)) [
+          | inl at ↦ elim (cases_order (active ex k) (active ex p)) [
             | inl tied ↦
                 let lower = first.0 k (subst (λ x. In k (list x)) tied at) in
                 inr (sym ak ∙ (tied ∙ ap_), lower)
             | inr differ ↦ elim differ [
               | inl less ↦ inl (omega arith)
-              | inr more ↦ absurd (none_in (list (active_of node jobs ex k)) k
-                  (highest (active_of node jobs ex k) more) at)
+              | inr more ↦ absurd (none_in (list (active ex k)) k
+                  (highest (active ex k) more) at)
             ]
           ]
         ])
 
     -- ---- it executes the tick
-    own_tick : one_on ex p p ≡ ex p + 1
-    own_tick = rw (eq-eqb p p refl)
-
     other_tick : (j : ℕ) → p ≢ j → one_on ex p j ≡ ex j
     other_tick j ne = rw (ne_eqb p j ne)
 
@@ -255,17 +260,15 @@ module _ (node : Node) (jobs : List Job) (ok : IsNode node) (legal : AreLegalJob
           | inl same ↦
               rw (eq-eqb p j same) (omega (
                 arith,
-                subst (λ x. executed_before node jobs (suc t) x
-                    ≡ suc (executed_before node jobs t x)) same (own_of node jobs t p pick),
+                qd.executed j,
+                own_of node jobs t j (pick ∙ ap Some same),
               ))
-          | inr ne ↦
-              let rests = other_of node jobs t p j pick (λ same. ne (sym same)) in
-              other_tick j ne ∙ ((qd.executed j) ∙ sym rests)
+          | inr ne ↦ other_tick j ne
+              ∙ (qd.executed j ∙ sym (other_of node jobs t p j pick (λ same. ne (sym same))))
         ]
 
     came_on : (j : ℕ) → come j ≡ true → (j < length jobs) × ((job_at jobs j).ready ≤ suc t)
-    came_on j c = (let b : (j < length jobs) × ((job_at jobs j).ready ≤ t) = qd.came j c in
-        (b.0, omega (arith, b.1)))
+    came_on j c = ((qd.came j c).0, omega (arith, (qd.came j c).1))
 
     fresh_on : (j : ℕ) → come j ≡ false → one_on ex p j ≡ 0
     fresh_on j c =
@@ -274,7 +277,7 @@ module _ (node : Node) (jobs : List Job) (ok : IsNode node) (legal : AreLegalJob
 
     -- the others stand where they stood
     rest_on : (q k : ℕ) → In k (list q) → (come k ≡ true)
-        × (one_on ex p k < (job_at jobs k).executes) × (active_of node jobs (one_on ex p) k ≡ q)
+        × (one_on ex p k < (job_at jobs k).executes) × (active (one_on ex p) k ≡ q)
     rest_on q k at =
         let ne : p ≢ k = λ same. nowhere q (subst (λ x. In x (list q)) (sym same) at) in
         let s = of_rest q k at in
@@ -286,41 +289,40 @@ module _ (node : Node) (jobs : List Job) (ok : IsNode node) (legal : AreLegalJob
         )
 
     other_in : (k : ℕ) → p ≢ k → come k ≡ true → one_on ex p k < (job_at jobs k).executes
-        → In k (list (active_of node jobs (one_on ex p) k))
+        → In k (list (active (one_on ex p) k))
     other_in k ne c u =
         let e : one_on ex p k ≡ ex k = other_tick k ne in
         let at = qd.complete k c (subst (λ n. n < (job_at jobs k).executes) e u) in
-        elim (from_head list a p (active_of node jobs ex k) k at) [
+        elim (from_head list a p (active ex k) k at) [
           | inl was ↦ subst (λ q. In k (list q))
               (sym (active_same node jobs (one_on ex p) ex k e)) was
           | inr mine ↦ absurd (ne mine.1)
         ]
 
     -- its own level is below that of all in its list
-    pub below_on : NoOverrunBy node jobs t → (q k : ℕ) → active_of node jobs (one_on ex p) p ≡ q
-        → In k (list q) → level_of_job node jobs p < level_of_job node jobs k
+    pub below_on : NoOverrunBy node jobs t → (q k : ℕ) → active (one_on ex p) p ≡ q
+        → In k (list q) → level p < level k
     below_on none q k at_q at =
         let s = of_rest q k at in
         let ne : p ≢ k = λ same. nowhere q (subst (λ x. In x (list q)) (sym same) at) in
-        elim (cases_order (active_of node jobs ex p) q) [
+        elim (cases_order (active ex p) q) [
           | inl same ↦ first.0 k (subst (λ x. In k (list x)) (sym same) at)
           | inr differ ↦ elim differ [
             | inl raised ↦ absurd (none_in (list q) k (highest q raised) at)
-            | inr lowered ↦ elim (cases_lt (level_of_job node jobs p) (level_of_job node jobs k)) [
+            | inr lowered ↦ elim (cases_lt (level p) (level k)) [
               | inl lt ↦ lt
               | inr ge ↦
-                  let cp : (p < length jobs) × ((job_at jobs p).ready ≤ t) = qd.came p own.0 in
-                  let ck : (k < length jobs) × ((job_at jobs k).ready ≤ t) = qd.came k s.0 in
-                  let less : level_of_job node jobs k < level_of_job node jobs p =
-                  elim (cases_eq (level_of_job node jobs p) (level_of_job node jobs
+                  let cp = qd.came p own.0 in
+                  let ck = qd.came k s.0 in
+                  let less : level k < level p =
+                  elim (cases_eq (level p) (level
                   k)) [
-                    | inl e ↦ absurd ((apart t ex qd.executed none p k ne cp.0 cp.1 own.1 ck.0
-                        ck.1 s.1) e)
+                    | inl e ↦ absurd (apart qd none p k ne cp own.1 ck s.1 e)
                     | inr other ↦ omega arith
                   ] in
                   let hp = ap (held_ceiling node (job_at jobs p).sections) (qd.executed p) in
                   let hk = ap (held_ceiling node (job_at jobs k).sections) (qd.executed k) in
-                  let top : active_of node jobs ex k ≡ q = s.2 in
+                  let top : active ex k ≡ q = s.2 in
                   absurd (none_below node jobs valid legal.known (spans_of node jobs legal.within)
                   uses_own t p k less (omega arith) (omega arith))
             ]
@@ -331,29 +333,29 @@ module _ (node : Node) (jobs : List Job) (ok : IsNode node) (legal : AreLegalJob
     pub goes_on : NoOverrunBy node jobs t → picked node jobs t ≡ Some p
         → one_on ex p p < (job_at jobs p).executes
         → Queued node jobs (suc t) (one_on ex p) come
-        (with_head list (active_of node jobs (one_on ex p) p) p)
+        (with_head list (active (one_on ex p) p) p)
     goes_on none pick more = record {
       executed = executed_on pick;
       came = came_on;
       fresh = fresh_on;
-      listed = λ q k at. elim (from_head list (active_of node jobs (one_on ex p) p) p q k at) [
+      listed = λ q k at. elim (from_head list (active (one_on ex p) p) p q k at) [
         | inl was ↦ rest_on q k was
         | inr mine ↦ subst (λ x. (come x ≡ true) × (one_on ex p x < (job_at jobs x).executes)
-            × (active_of node jobs (one_on ex p) x ≡ q)) mine.1 (own.0, more, mine.0)
+            × (active (one_on ex p) x ≡ q)) mine.1 (own.0, more, mine.0)
       ];
       complete = λ k c u. elim (cases_eq p k) [
-        | inl e ↦ subst (λ x. In x (with_head list (active_of node jobs (one_on ex p) p) p
-            (active_of node jobs (one_on ex p) x))) e
-            (own_head list (active_of node jobs (one_on ex p) p) p)
-        | inr ne ↦ to_head list (active_of node jobs (one_on ex p) p) p
-            (active_of node jobs (one_on ex p) k) k (other_in k ne c u)
+        | inl e ↦ subst (λ x. In x (with_head list (active (one_on ex p) p) p
+            (active (one_on ex p) x))) e
+            (own_head list (active (one_on ex p) p) p)
+        | inr ne ↦ to_head list (active (one_on ex p) p) p
+            (active (one_on ex p) k) k (other_in k ne c u)
       ];
-      rising = λ q. elim (cases_eq (active_of node jobs (one_on ex p) p) q) [
-        | inl e ↦ subst (Rising (level_of_job node jobs))
-            (sym (head_here list (active_of node jobs (one_on ex p) p) p q e))
+      rising = λ q. elim (cases_eq (active (one_on ex p) p) q) [
+        | inl e ↦ subst (Rising level)
+            (sym (head_here list (active (one_on ex p) p) p q e))
             (λ k at. below_on none q k e at, rest_rising q)
-        | inr ne ↦ subst (Rising (level_of_job node jobs))
-            (sym (head_else list (active_of node jobs (one_on ex p) p) p q ne)) (rest_rising q)
+        | inr ne ↦ subst (Rising level)
+            (sym (head_else list (active (one_on ex p) p) p q ne)) (rest_rising q)
       ];
     }
 
@@ -376,15 +378,15 @@ module _ (node : Node) (jobs : List Job) (ok : IsNode node) (legal : AreLegalJob
       rising = rest_rising;
     }
 
-  -- nobody runs
-  pub idles : (t : ℕ) (ex : ℕ → ℕ) (come : ℕ → Bool) (list : ℕ → List ℕ) → Queued node jobs t ex
-      come list → picked node jobs t ≡ None → Queued node jobs (suc t) ex come list
-  idles t ex come list qd none = record {
-    executed = λ j. qd.executed j ∙ sym (idle_of node jobs t j none);
-    came = λ j c. (let b : (j < length jobs) × ((job_at jobs j).ready ≤ t) = qd.came j c in
-        (b.0, omega (arith, b.1)));
-    fresh = qd.fresh;
-    listed = qd.listed;
-    complete = qd.complete;
-    rising = qd.rising;
-  }
+-- nobody runs
+pub idles : {node : Node} {jobs : List Job} {t : ℕ} {ex : ℕ → ℕ} {come : ℕ → Bool}
+    {list : ℕ → List ℕ} → Queued node jobs t ex come list → picked node jobs t ≡ None
+    → Queued node jobs (suc t) ex come list
+idles {node} {jobs} {t} qd none = record {
+  executed = λ j. qd.executed j ∙ sym (idle_of node jobs t j none);
+  came = λ j c. ((qd.came j c).0, omega (arith, (qd.came j c).1));
+  fresh = qd.fresh;
+  listed = qd.listed;
+  complete = qd.complete;
+  rising = qd.rising;
+}

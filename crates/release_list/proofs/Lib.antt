@@ -1,13 +1,12 @@
 pub mod ArrivalLaws
-pub mod ListLaws
 pub mod TimeLaws
 pub mod TaskNumbers
+pub mod InLaws
 pub mod JobLaws
 pub mod Unrefused
 pub mod FitLaws
 pub mod DensestLaws
 pub mod OrderLaws
 pub mod RandomLaws
-pub mod RandomAccepted
 pub mod RandomLists
 pub mod ReadBackLaws

@@ -3,8 +3,10 @@ use Rattle.margins.proofs.laws.preferred_is_greatest.Goals as goal
 
 pub returns : goal.returns
 returns c = record {
-  scaled = passes-scaled;
-  factor = passes-factor;
-  costed = passes-costed;
-  headroom = headroom-same;
+  scaled = λ U V order factor preferred set best. passes-scaled U V order preferred set best factor;
+  factor = λ U V order most preferred set best. passes-factor U V order preferred set best most;
+  costed = λ U V order i cost preferred set best.
+      passes-costed U V order preferred set best i cost;
+  headroom = λ U V order i within any preferred set best.
+      headroom-same U V order preferred set best i within any;
 }

@@ -1,11 +1,21 @@
-use Rattle.release_list.proofs.ReadBackLaws.{list_again, densest_again, random_again}
+use Rattle.release_list.specs.Densest.{densest_of}
+use Rattle.release_list.specs.Random.{random_of}
+use Rattle.release_list.proofs.TimeLaws.{within_from}
+use Rattle.release_list.proofs.FitLaws.{legal}
+use Rattle.release_list.proofs.DensestLaws.{fits}
+use Rattle.release_list.proofs.RandomLists.{legal as legal_random}
+use Rattle.release_list.proofs.ReadBackLaws.{list_again, legal_again}
 use Rattle.release_list.proofs.laws.lists_are_read_back.Goals as goal
 
 pub returns-clause-any : goal.returns-clause-any
-returns-clause-any c = λ until rs short all. list_again until rs short all
+returns-clause-any c = list_again
 
 pub returns-clause-densest : goal.returns-clause-densest
-returns-clause-densest c = λ U until set none. densest_again U until set none
+returns-clause-densest c = λ U until set none.
+    legal_again until (densest_of U until) set (within_from until _ none).0
+    (legal set (fits U) until)
 
 pub returns-clause-random : goal.returns-clause-random
-returns-clause-random c = λ U until seed set none. random_again U until seed set none
+returns-clause-random c = λ U until seed set none.
+    legal_again until (random_of U until seed) set (within_from until _ none).0
+    (legal_random U until seed set)

@@ -1,7 +1,5 @@
-use Rattle.std.proofs.Common.{◌≡◌, ◌≤◌, length}
-use Rattle.release_list.specs.Random.{jobs_by_rank}
+use Rattle.release_list.proofs.RandomLaws.{AreRanked}
 use Rattle.release_list.proofs.random_list.jobs.Given as goal
 
 abbrev pub invariant-loop-rank : goal.invariant-loop-rank
-invariant-loop-rank l = (l.releases.items ≡ jobs_by_rank l.sheets l.until l.seed l.rank)
-    × (length l.releases.items ≤ 10000)
+invariant-loop-rank l = AreRanked l.sheets l.until l.seed l.rank l.releases.items

@@ -1,4 +1,4 @@
-use Rattle.std.proofs.Common.{◌<◌, ◌∙◌, refl, ap, arith}
+use Rattle.std.proofs.Common.{◌∙◌, ap, arith}
 use Rattle.std.proofs.lemmas.Result.{err_from_is_err_and}
 use Rattle.release_list.specs.Random.{word_after, drawn}
 use Rattle.release_list.proofs.RandomLaws.{taken_first, taken_next, taken_all, taken_refused}
@@ -6,38 +6,27 @@ use Rattle.release_list.proofs.random_list.push_jobs.Goals as goal
 
 pub loop-time-init : goal.loop-time-init
 loop-time-init c =
-    taken_first c.args.sheet.now c.args.generator.word c.args.until c.draw-time.result
-    c.draw-time.new.self.word c.args.releases.now.items c.args.releases.now.items
+    taken_first
     (c.draw-time.ensures.drawn ∙ ap (drawn (word_after c.args.generator.word)) c.period.ensures)
-    c.draw-time.ensures.word refl c.requires.few
+    c.draw-time.ensures.word c.requires.few
 
 pub returns-in_err-push_if_ready : goal.returns-in_err-push_if_ready
 returns-in_err-push_if_ready c =
     let p = err_from_is_err_and c.from_residual.result c.from_residual.ensures.1 in
-    let some : 0 < c.args.sheet.now.period = omega (arith, c.requires.valid.period_from) in
-    rw (p.1, p.2)
-    (taken_refused c.args.sheet.now c.args.generator.word c.args.until c.loop-time.time
-    c.loop-time.generator.word c.args.releases.now.items c.loop-time.releases.items
-    c.loop-time.invariant some c.release-release.result c.in_err-push_if_ready.field-0.0
-    c.loop-time-test.true c.release-release.ensures.release c.in_err-push_if_ready.ensures)
+    rw (p.1, p.2) (taken_refused c.loop-time.invariant (omega (arith, c.requires.valid.period_from))
+    c.in_err-push_if_ready.field-0.0 c.loop-time-test.true c.release-release.ensures.release
+    c.in_err-push_if_ready.ensures)
 
 pub loop-time-preserved : goal.loop-time-preserved
 loop-time-preserved c =
-    let some : 0 < c.args.sheet.now.period = omega (arith, c.requires.valid.period_from) in
-    taken_next c.args.sheet.now c.args.generator.word c.args.until c.loop-time.time
-    c.loop-time.generator.word c.args.releases.now.items c.loop-time.releases.items
-    c.loop-time.invariant some c.release-release.result c.push_if_ready.new.releases.items
-    c.release-release.new.self.word c.gap-time.new.self.word c.gap-time.result
-    c.loop-time-test.true
-    c.release-release.ensures.release c.in_ok-push_if_ready.ensures.0
+    taken_next c.loop-time.invariant (omega (arith, c.requires.valid.period_from))
+    c.loop-time-test.true c.release-release.ensures.release c.in_ok-push_if_ready.ensures.0
     c.in_ok-push_if_ready.ensures.1 c.release-release.ensures.word c.gap-time.ensures.gap
     c.gap-time.ensures.word
 
 pub returns : goal.returns
-returns c =
-    let some : 0 < c.args.sheet.now.period = omega (arith, c.requires.valid.period_from) in (
-      taken_all c.args.sheet.now c.args.generator.word c.args.until c.loop-time.time
-          c.loop-time.generator.word c.args.releases.now.items c.loop-time.releases.items
-          c.loop-time.invariant some c.loop-time-test.false,
-      c.loop-time.invariant.few,
-    )
+returns c = (
+  taken_all c.loop-time.invariant (omega (arith, c.requires.valid.period_from))
+      c.loop-time-test.false,
+  c.loop-time.invariant.few,
+)

@@ -5,9 +5,11 @@ use Rattle.std.proofs.lemmas.List.Sorted.{length_permutation}
 use Rattle.ceiling_kernel.specs.declared.trace.Release.{Release}
 use Rattle.ceiling_kernel.specs.Releases.{no_release}
 use Rattle.release_list.specs.Random.{all_jobs, by_time, random_of}
-use Rattle.release_list.proofs.OrderLaws.{In, sorted_is, rises_from}
-use Rattle.release_list.proofs.RandomLaws.{none_refused, all_early}
-use Rattle.release_list.proofs.RandomAccepted.{random_accepted}
+use Rattle.release_list.proofs.InLaws.{In}
+use Rattle.release_list.proofs.OrderLaws.{sorted_is, rises_from}
+use Rattle.release_list.proofs.TimeLaws.{none_refused}
+use Rattle.release_list.proofs.RandomLaws.{all_early}
+use Rattle.release_list.proofs.RandomLists.{random_accepted}
 use Rattle.release_list.proofs.random_list.random.Goals as goal
 
 pub returns-in-Ok-clause-list : goal.returns-in-Ok-clause-list
@@ -20,7 +22,8 @@ returns-in-Ok-clause-list c =
     c.sort_by_key.new.self.items c.in-Ok.ensures.sorted (λ a r q k. search rules) in
     let stable = c.in-Ok.ensures.stable (λ (r : Release). r.time)
     (answers_always _ _ _ (λ f a r q k. search rules)) in (
-      none_refused U c.args.until c.args.seed c.if-until-gt-HORIZON.false few,
+      none_refused c.args.until (length (all_jobs U c.args.until c.args.seed))
+          c.if-until-gt-HORIZON.false few,
       sorted_is c.in_ok-releases.releases.items c.sort_by_key.new.self.items c.args.until
           (λ r at. all_early U c.args.until c.args.seed r (subst (In r) jobs.0 at))
           (rises_from c.sort_by_key.new.self.items (λ i j d le lt. up i j no_release le lt)) stable
