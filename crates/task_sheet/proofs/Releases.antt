@@ -34,10 +34,6 @@ pub releases-mono : (x : Task) (t s : ℕ) → IsTask x → t ≤ s
     → releases_within x t ≤ releases_within x s
 releases-mono x t s valid le = div_ceil-mono (t + x.jitter) (s + x.jitter) x.period (omega arith)
 
--- a window of positive length has a release
-pub releases-some : (x : Task) (t : ℕ) → IsTask x → 1 ≤ t → 1 ≤ releases_within x t
-releases-some x t valid pos = one-le-div_ceil (t + x.jitter) x.period (omega arith) valid.period
-
 -- ---- what they execute
 pub interference-mono : (x : Task) (t s : ℕ) → IsTask x → t ≤ s
     → interference_of x t ≤ interference_of x s
@@ -45,7 +41,8 @@ interference-mono x t s valid le = mul-le-mul_right x.cost (releases-mono x t s 
 
 pub cost-le-interference : (x : Task) (t : ℕ) → IsTask x → 1 ≤ t → x.cost ≤ interference_of x t
 cost-le-interference x t valid pos =
-    let once : 1 ≤ releases_within x t = releases-some x t valid pos in
+    let once : 1 ≤ releases_within x t =
+    one-le-div_ceil (t + x.jitter) x.period (omega arith) valid.period in
     let more : 1 * x.cost ≤ releases_within x t * x.cost = grind arith in
     omega arith
 
