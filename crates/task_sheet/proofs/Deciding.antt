@@ -8,14 +8,12 @@ use Rattle.task_sheet.specs.Sheet.{Task, AllTasks}
 use Rattle.task_sheet.specs.Indexes.{Indexes, IsPart, without_index, listed_below, some_below}
 use Rattle.task_sheet.specs.Choices.{does_stand}
 use Rattle.task_sheet.specs.Orders.{all_of, Stands, IsFeasible, IsBest}
-use Rattle.task_sheet.specs.Levels.{IsObstruction, IsGreatestObstruction, IsChosen, left_after}
-use Rattle.task_sheet.specs.Levels.{AllChosen}
+use Rattle.task_sheet.specs.Levels.{IsGreatestObstruction, IsChosen, left_after, AllChosen}
 use Rattle.task_sheet.specs.Verdicts.{FailureData, LevelData, VerdictData, Admitted, Infeasible}
 use Rattle.task_sheet.specs.Verdicts.{tasks_of, order_of, AllFailures, AllLevels, IsVerdictOf}
 use Rattle.task_sheet.proofs.Below.{find_below, sum_below-le-term, some_below-at, least_below_at}
 use Rattle.task_sheet.proofs.IndexLaws.{without-parts, count_below, without-fewer}
 use Rattle.task_sheet.proofs.PassingLaws.{Passes-iff_response, does_stand-iff, find_reason}
-use Rattle.task_sheet.proofs.ObstructionLaws.{IsObstruction-fails}
 use Rattle.task_sheet.proofs.VerdictLaws.{AllFailures-push, IsVerdictOf-admitted}
 use Rattle.task_sheet.proofs.VerdictLaws.{IsVerdictOf-infeasible}
 
@@ -152,17 +150,9 @@ module _ (U : List Task) (valid : AllTasks U) where
       ⊎ ((S : Indexes) × IsGreatestObstruction U S)
   best_or_obstructed = best_of find_verdict.0 find_verdict.1
 
-  -- where there is an obstruction, there is a greatest
-  pub greatest_obstruction : (S : Indexes) → IsObstruction U S → (G : Indexes)
-      × IsGreatestObstruction U G
-  greatest_obstruction S h = elim best_or_obstructed [
-    | inl best ↦ absurd (IsObstruction-fails U valid S h (best.0, best.1.passing))
-    | inr greatest ↦ greatest
-  ]
-
-  -- where no order passes, there is an obstruction
-  pub obstruction_of : ¬ IsFeasible U → (S : Indexes) × IsObstruction U S
-  obstruction_of none = elim best_or_obstructed [
+  -- where no order passes, there is a greatest obstruction
+  pub greatest_obstruction : ¬ IsFeasible U → (G : Indexes) × IsGreatestObstruction U G
+  greatest_obstruction none = elim best_or_obstructed [
     | inl best ↦ absurd (none (best.0, best.1.passing))
-    | inr greatest ↦ (greatest.0, greatest.1.obstruction)
+    | inr greatest ↦ greatest
   ]

@@ -46,20 +46,25 @@ cost-le-interference x t valid pos =
     let more : 1 * x.cost ≤ releases_within x t * x.cost = grind arith in
     omega arith
 
+-- what takes no longer than its period takes at most the window and a period
+pub taken-fits : (window period each : ℕ) → 0 < period → each ≤ period
+    → div_ceil window period * each ≤ window + period
+taken-fits window period each some short = omega (
+  arith,
+  (div_ceil_times window period some).1,
+  mul-le-mul_left (div_ceil window period) short,
+)
+
 -- within the longest period, under three times that, where each takes no longer than the period
 pub jobs-fits : (x : Task) (t each : ℕ) → IsValidSheet x → t ≤ 10000000 → each ≤ x.period
     → releases_within x t * each ≤ 30000000
-jobs-fits x t each valid le short =
-    let some : 0 < x.period = omega (arith, valid.period_from) in
-    let jobs = div_ceil (t + x.jitter) x.period in
-    omega (
-      arith,
-      (div_ceil_times (t + x.jitter) x.period some).1,
-      mul-le-mul_left jobs short,
-      valid.period_to,
-      valid.jitter,
-      valid.deadline_to,
-    )
+jobs-fits x t each valid le short = omega (
+  arith,
+  taken-fits (t + x.jitter) x.period each (omega (arith, valid.period_from)) short,
+  valid.period_to,
+  valid.jitter,
+  valid.deadline_to,
+)
 
 pub interference-fits : (x : Task) (t : ℕ) → IsValidSheet x → t ≤ 10000000
     → interference_of x t ≤ 30000000
