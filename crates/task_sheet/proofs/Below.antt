@@ -5,7 +5,7 @@ use Rattle.std.proofs.Common.{◌∙◌, ap, arith, max, false}
 use Rattle.std.proofs.lemmas.List.{take_more}
 use Rattle.std.specs.List.{AllByRecursion, Contains}
 use Rattle.std.proofs.lemmas.Bool.{both_ways, cases_Bool, cases_eq, cases_lt, or_left, or_right}
-use Rattle.std.proofs.lemmas.Bool.{or_cases}
+use Rattle.std.proofs.lemmas.Bool.{false_from_ne_true}
 use Rattle.std.proofs.lemmas.Bool.Decides.{nat_tests}
 use Rattle.std.specs.Ordering.{ord_max, nat_cmp}
 use Rattle.task_sheet.specs.Indexes.{sum_below, greatest_below, some_below}
@@ -42,12 +42,10 @@ sum_below-fits (suc n) m f le =
     omega (arith, sum_below-fits n m f (λ k lt. le k (omega arith)), le n (omega arith))
 
 pub sum_below-le-term : (n : ℕ) (f : ℕ → ℕ) (k : ℕ) → k < n → f k ≤ sum_below n f
-sum_below-le-term zero f k lt = absurd (omega arith)
-sum_below-le-term (suc n) f k lt =
-    elim (cases_eq k n) [
-      | inl e ↦ let same : f k ≡ f n = rw e in omega arith
-      | inr ne ↦ omega (arith, sum_below-le-term n f k (omega arith))
-    ]
+sum_below-le-term n f k lt = omega (
+  arith,
+  sum_below-gap n (λ _. 0) f k (λ _. omega arith) lt refl,
+)
 
 pub sum_below-both : (n : ℕ) (f g : ℕ → ℕ)
     → sum_below n (λ k. f k + g k) ≡ sum_below n f + sum_below n g
@@ -163,10 +161,8 @@ some_below-none (suc n) p none =
 
 -- where none passes, each fails
 none_below : (n : ℕ) (p : ℕ → Bool) → some_below n p ≡ false → (k : ℕ) → k < n → p k ≡ false
-none_below n p none k lt = elim (cases_Bool (p k)) [
-  | inl so ↦ absurd (both_ways _ none (some_below-at n p k lt so))
-  | inr out ↦ out
-]
+none_below n p none k lt =
+    false_from_ne_true (p k) (λ so. both_ways _ none (some_below-at n p k lt so))
 
 -- the least of the numbers below n that pass
 pub least_below_at : (n : ℕ) (p : ℕ → Bool) → some_below n p ≡ true → (k : ℕ) × (k < n)
@@ -178,10 +174,7 @@ least_below_at (suc n) p h =
       | inr none ↦ (
         n,
         omega arith,
-        elim (or_cases (some_below n p) (p n) h) [
-          | inl before ↦ absurd (both_ways _ none before)
-          | inr here ↦ here
-        ],
+        rw none at h,
         none_below n p none,
       )
     ]

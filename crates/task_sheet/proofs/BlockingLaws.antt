@@ -1,6 +1,6 @@
 -- The blocking is the greatest length of the sections that block, and 0 where none does.
 use Rattle.std.proofs.Common.{◌≡◌, ℕ, ◌≤◌, ◌⊎◌, inl, inr, cond, List, length, ◌∙◌, arith}
-use Rattle.std.proofs.lemmas.Bool.{cases_Bool, cond-true, cond-false}
+use Rattle.std.proofs.lemmas.Bool.{cases_Bool}
 use Rattle.task_sheet.specs.Sheet.{CriticalSection, Task, task_at}
 use Rattle.task_sheet.specs.Indexes.{Indexes, with_index}
 use Rattle.task_sheet.specs.Locks.{reaches}
@@ -15,13 +15,10 @@ blocking-above U i H s b =
     let X = with_index H i in
     let f : ℕ → ℕ = λ k. cond (X k) 0 (longest_reached U X (task_at U k)) in
     let g : CriticalSection → ℕ = λ s. cond (reaches U X s) s.len 0 in
-    let here : g s ≡ s.len = cond-true {A = ℕ} (reaches U X s) s.len 0 b.reached in
-    let there : f b.task ≡ longest_reached U X (task_at U b.task) =
-    cond-false {A = ℕ} (X b.task) 0 (longest_reached U X (task_at U b.task)) b.outside in
+    let here : g s ≡ s.len = rw b.reached in
+    let there : f b.task ≡ longest_reached U X (task_at U b.task) = rw b.outside in
     omega (
       arith,
-      here,
-      there,
       le-greatest_of g (task_at U b.task).sections b.section.0 s
           b.section.1 b.section.2,
       le-greatest_below (length U) f b.task b.in_set,
@@ -37,9 +34,8 @@ blocking-some U i H =
     elim (greatest_below-some (length U) f) [
       | inl none ↦ inl none
       | inr some ↦ let k = some.0 in elim (cases_Bool (X k)) [
-        | inl out ↦ inl (some.2 ∙ cond-true {A = ℕ} (X k) 0 (longest_reached U X (task_at U k)) out)
-        | inr outside ↦ let at : f k ≡ longest_reached U X (task_at U k) =
-            cond-false {A = ℕ} (X k) 0 (longest_reached U X (task_at U k)) outside in
+        | inl out ↦ inl (some.2 ∙ rw out)
+        | inr outside ↦ let at : f k ≡ longest_reached U X (task_at U k) = rw outside in
             elim (greatest_of-some g (task_at U k).sections) [
               | inl none ↦ inl (some.2 ∙ at ∙ none)
               | inr longest ↦ elim (cases_Bool (reaches U X longest.0)) [
@@ -53,11 +49,9 @@ blocking-some U i H =
                     section = longest.1;
                     reached = reached;
                   },
-                  some.2 ∙ at ∙ longest.2
-                      ∙ cond-true {A = ℕ} (reaches U X longest.0) longest.0.len 0 reached,
+                  some.2 ∙ at ∙ longest.2 ∙ rw reached,
                 )
-                | inr not_so ↦ inl (some.2 ∙ at ∙ longest.2
-                    ∙ cond-false {A = ℕ} (reaches U X longest.0) longest.0.len 0 not_so)
+                | inr not_so ↦ inl (some.2 ∙ at ∙ longest.2 ∙ rw not_so)
               ]
             ]
       ]

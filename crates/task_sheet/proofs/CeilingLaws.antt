@@ -1,12 +1,11 @@
 -- The ceiling of a lock is the level of its highest user.
 use Rattle.std.proofs.Common.{◌≡◌, ◌↔◌, ℕ, zero, suc, ◌+◌, ◌<◌, ◌≤◌, inl, inr, Bool, true, false}
 use Rattle.std.proofs.Common.{◌==◌, cond, Option, Some, None, List, [], ◌∷◌, length, get_or, refl}
-use Rattle.std.proofs.Common.{sym}
-use Rattle.std.proofs.Common.{◌∙◌, ap, subst, arith}
+use Rattle.std.proofs.Common.{sym, ◌∙◌, ap, subst, arith}
 use Rattle.std.specs.Option.{option_or}
-use Rattle.std.proofs.lemmas.Bool.{cases_order, both_ways, or_cases, eqb-true, eq-eqb, ltb-true}
-use Rattle.std.proofs.lemmas.Bool.{lt-ltb}
-use Rattle.std.proofs.lemmas.List.Folds.{list_any_at}
+use Rattle.std.proofs.lemmas.Bool.{cases_order, both_ways, eqb-true, eq-eqb, ltb-true, lt-ltb}
+use Rattle.std.proofs.lemmas.List.{get_or_read}
+use Rattle.std.proofs.lemmas.List.Folds.{list_any_at, Any-from_list_any}
 use Rattle.task_sheet.specs.Sheet.{Task, task_at}
 use Rattle.task_sheet.specs.Indexes.{among}
 use Rattle.task_sheet.specs.Locks.{uses, ceiling_from, ceiling_of, IsHighestUser}
@@ -16,11 +15,9 @@ use Rattle.task_sheet.proofs.IndexLaws.{IsOrderOf-among}
 -- ---- places of a list
 among-place : (xs : List ℕ) (k : ℕ) → among xs k ≡ true → (j : ℕ) × (j < length xs)
     × (get_or xs j 0 ≡ k)
-among-place [] k is = cc
-among-place (x ∷ xs) k is = elim (or_cases (x == k) (among xs k) is) [
-  | inl here ↦ (0, omega arith, eqb-true x k here)
-  | inr later ↦ let place = among-place xs k later in (suc place.0, omega (arith, place.1), place.2)
-]
+among-place xs k is =
+    let at = Any-from_list_any (λ x. x == k) xs is in
+    (at.0, at.2, sym (get_or_read xs at.0 at.1 at.2 (sym at.3) 0) ∙ eqb-true at.1 k at.4)
 
 place-among : (xs : List ℕ) (j : ℕ) → j < length xs → among xs (get_or xs j 0) ≡ true
 place-among xs j lt = list_any_at (λ x. x == get_or xs j 0) xs j 0 lt (eq-eqb _ _ refl)
@@ -42,22 +39,6 @@ module _ (U : List Task) (lock : List ℕ) where
   none_from i order from none zero above lt = absurd (omega arith)
   none_from i order from none (suc k) above lt = none k (omega arith) (omega arith)
 
-  highest_later : (i : ℕ) (order : List ℕ) (place : ℕ) → IsHighestUser U order lock place
-      → IsHighestUser U (i ∷ order) lock (suc place)
-  highest_later i order place h = record {
-    in_order = omega (arith, h.in_order);
-    user = h.user;
-    none_above = none_from i order (suc place) h.none_above;
-  }
-
-  highest_here : (i : ℕ) (order : List ℕ) → uses (task_at U i) lock ≡ true → NoUser order
-      → IsHighestUser U (i ∷ order) lock 0
-  highest_here i order user none = record {
-    in_order = omega arith;
-    user = user;
-    none_above = none_from i order 0 (λ k from lt. none k lt);
-  }
-
   -- what the ceiling from a level says
   abbrev Says : ℕ → List ℕ → Option ℕ → Type 0
   Says level order None = NoUser order
@@ -71,10 +52,25 @@ module _ (U : List Task) (lock : List ℕ) where
     where
       by : (o : Option ℕ) (b : Bool) → uses (task_at U i) lock ≡ b → Says (level + 1) order o
           → Says level (i ∷ order) (option_or o (cond b (Some level) None))
-      by None true e says = (0, omega arith, highest_here i order e says)
+      by None true e says = (
+        0,
+        omega arith,
+        record {
+          in_order = omega arith;
+          user = e;
+          none_above = none_from i order 0 (λ k from lt. says k lt);
+        },
+      )
       by None false e says = none_more i order e says
-      by (Some top) b e says =
-          (suc says.0, omega (arith, says.1), highest_later i order says.0 says.2)
+      by (Some top) b e says = (
+        suc says.0,
+        omega (arith, says.1),
+        record {
+          in_order = omega (arith, says.2.in_order);
+          user = says.2.user;
+          none_above = none_from i order (suc says.0) says.2.none_above;
+        },
+      )
 
   not_user : (order : List ℕ) (place : ℕ) → NoUser order → ¬ IsHighestUser U order lock place
   not_user order place none h =

@@ -3,7 +3,7 @@ use Rattle.std.proofs.Common.{◌≡◌, ℕ, zero, suc, ◌<◌, ◌≤◌, inl
 use Rattle.std.proofs.Common.{length, Option, None, Some, refl, sym, ◌∙◌, ap, arith}
 use Rattle.std.specs.Ordering.{nat_cmp}
 use Rattle.std.specs.FinSet as members
-use Rattle.std.proofs.lemmas.Bool.{cases_Bool, cases_eq, and_parts, and_from, ltb-true}
+use Rattle.std.proofs.lemmas.Bool.{cases_eq, and_parts, and_from, false_from_ne_true, ltb-true}
 use Rattle.task_sheet.specs.Sheet.{Task}
 use Rattle.task_sheet.specs.Indexes.{Indexes, indexes_of, IsPart, without_index}
 use Rattle.task_sheet.specs.Orders.{all_of, Stands}
@@ -33,11 +33,9 @@ least_below-is (suc n) p i lt is first =
 -- ---- the candidate that is chosen
 fits-not : (U : List Task) (L : Indexes) (j : ℕ) → (L j ≡ true → ¬ Stands U j (without_index L j))
     → (L j && does_stand U j (without_index L j)) ≡ false
-fits-not U L j never = elim (cases_Bool (L j && does_stand U j (without_index L j))) [
-  | inl so ↦ let both = and_parts (L j) _ so in
-      absurd (never both.0 ((does_stand-iff U j (without_index L j)).0 both.1))
-  | inr so ↦ so
-]
+fits-not U L j never = false_from_ne_true _ (λ so.
+    let both = and_parts (L j) _ so in
+    never both.0 ((does_stand-iff U j (without_index L j)).0 both.1))
 
 pub chosen_of-is : (U : List Task) (L : Indexes) (i : ℕ) → IsPart L (all_of U) → IsChosen U L i
     → chosen_of U L ≡ Some i

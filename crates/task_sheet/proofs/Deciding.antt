@@ -1,22 +1,19 @@
 -- Every set has a verdict: the climb from the lowest level up leads to one.
 use Rattle.std.proofs.Common.{◌≡◌, ℕ, zero, suc, ◌<◌, ◌≤◌, ◌⊎◌, inl, inr, Bool, true, false, cond}
-use Rattle.std.proofs.Common.{◌&&◌}
-use Rattle.std.proofs.Common.{List, [], ◌∷◌, ◌++◌, length, refl, ◌∙◌, ap, arith}
+use Rattle.std.proofs.Common.{◌&&◌, List, [], ◌∷◌, ◌++◌, length, refl, ◌∙◌, ap, arith}
 use Rattle.std.proofs.lemmas.Bool.{cases_Bool, both_ways, cond-true, ltb-true, and_parts, and_from}
+use Rattle.std.proofs.lemmas.Bool.{false_from_ne_true}
 use Rattle.std.proofs.lemmas.List.{map-append}
 use Rattle.task_sheet.specs.Sheet.{Task, AllTasks}
 use Rattle.task_sheet.specs.Indexes.{Indexes, IsPart, without_index, listed_below, some_below}
 use Rattle.task_sheet.specs.Choices.{does_stand}
 use Rattle.task_sheet.specs.Orders.{all_of, Stands, IsFeasible, IsBest}
-use Rattle.task_sheet.specs.Levels.{IsObstruction, IsGreatestObstruction, IsChosen, left_after}
-use Rattle.task_sheet.specs.Levels.{AllChosen}
+use Rattle.task_sheet.specs.Levels.{IsGreatestObstruction, IsChosen, left_after, AllChosen}
 use Rattle.task_sheet.specs.Verdicts.{FailureData, LevelData, VerdictData, Admitted, Infeasible}
-use Rattle.task_sheet.specs.Verdicts.{tasks_of, order_of, AllFailures, IsLevel, AllLevels}
-use Rattle.task_sheet.specs.Verdicts.{IsVerdictOf}
+use Rattle.task_sheet.specs.Verdicts.{tasks_of, order_of, AllFailures, AllLevels, IsVerdictOf}
 use Rattle.task_sheet.proofs.Below.{find_below, sum_below-le-term, some_below-at, least_below_at}
 use Rattle.task_sheet.proofs.IndexLaws.{without-parts, count_below, without-fewer}
 use Rattle.task_sheet.proofs.PassingLaws.{Passes-iff_response, does_stand-iff, find_reason}
-use Rattle.task_sheet.proofs.ObstructionLaws.{IsObstruction-fails}
 use Rattle.task_sheet.proofs.VerdictLaws.{AllFailures-push, IsVerdictOf-admitted}
 use Rattle.task_sheet.proofs.VerdictLaws.{IsVerdictOf-infeasible}
 
@@ -53,17 +50,6 @@ find_chosen U L n =
 abbrev Fails : List Task → Indexes → List ℕ → Type 0
 Fails U L tasks = (fails : List FailureData) × (tasks_of fails ≡ tasks) × AllFailures U L fails
 
-one_more : (U : List Task) (L : Indexes) (tasks : List ℕ) (j : ℕ) → Fails U L tasks
-    → ¬ Stands U j (without_index L j) → Fails U L (tasks ++ j ∷ [])
-one_more U L tasks j before fails =
-    let reason = find_reason U j (without_index L j) fails in
-    let f : FailureData = record { task = j; reason = reason.0 } in (
-      before.0 ++ f ∷ [],
-      map-append (λ (f : FailureData). f.task) before.0 (f ∷ [])
-          ∙ ap (λ ns. ns ++ j ∷ []) before.1,
-      AllFailures-push U L before.0 f before.2 reason.1,
-    )
-
 fails_below : (U : List Task) (L : Indexes) (n : ℕ) → NoneBelow U L n → Fails U L (listed_below n L)
 unfolding NoneBelow
 fails_below U L zero none = ([], refl, tt)
@@ -73,7 +59,14 @@ fails_below U L (suc n) none =
   where
     by : (b : Bool) → L n ≡ b → Fails U L (listed_below n L)
         → Fails U L (cond b (listed_below n L ++ n ∷ []) (listed_below n L))
-    by true member before = one_more U L (listed_below n L) n before (none n (omega arith) member)
+    by true member before =
+        let reason = find_reason U n (without_index L n) (none n (omega arith) member) in
+        let f : FailureData = record { task = n; reason = reason.0 } in (
+          before.0 ++ f ∷ [],
+          map-append (λ (f : FailureData). f.task) before.0 (f ∷ [])
+              ∙ ap (λ ns. ns ++ n ∷ []) before.1,
+          AllFailures-push U L before.0 f before.2 reason.1,
+        )
     by false out before = before
 
 -- where the levels lead: to the end, or to a rest of which none may stand below the others
@@ -86,44 +79,36 @@ record Climbed (U : List Task) (L : Indexes) : Type 0 where
       × NoneBelow U (left_after L (order_of levels)) (length U))
 
 module _ (U : List Task) (valid : AllTasks U) where
-  -- the response and the failures of a level
-  fill_level : (L : Indexes) (i : ℕ) → i < length U → IsChosen U L i
-      → (response : ℕ) × (fails : List FailureData)
-      × IsLevel U L (record { task = i; response = response; fails = fails })
-  unfolding NoneBelow
-  fill_level L i lt chosen =
-      let H = without_index L i in
-      let found = (Passes-iff_response U valid i H lt).0 chosen.stands.0 in
-      let fails = fails_below U L i chosen.first in
-      (found.0, fails.0, record { response = found.1; lesser = fails.1; fails = fails.2 })
-
   climb : (fuel : ℕ) (L : Indexes) → IsPart L (all_of U) → count_below (length U) L ≤ fuel
       → Climbed U L
+  unfolding NoneBelow
   climb zero L part few = record {
     levels = [];
     chosen = tt;
     each = tt;
-    end = inl (λ k. elim (cases_Bool (L k)) [
-      | inl member ↦ absurd (omega (
-        arith,
-        sum_below-le-term (length U) (λ k. cond (L k) 1 0) k
-            (ltb-true k (length U) (part k member)),
-        cond-true {A = ℕ} (L k) 1 0 member,
-      ))
-      | inr out ↦ out
-    ]);
+    end = inl (λ k. false_from_ne_true (L k) (λ member. omega (
+      arith,
+      sum_below-le-term (length U) (λ k. cond (L k) 1 0) k
+          (ltb-true k (length U) (part k member)),
+      cond-true {A = ℕ} (L k) 1 0 member,
+    )));
   }
   climb (suc fuel) L part few =
       elim (find_chosen U L (length U)) [
         | inl found ↦
             let i = found.0 in
-            let parts = fill_level L i found.1 found.2 in
+            let response =
+            (Passes-iff_response U valid i (without_index L i) found.1).0 found.2.stands.0 in
+            let fails = fails_below U L i found.2.first in
             let rest = climb fuel (without_index L i) (λ k h. part k (without-parts L i k h).0)
             (omega (arith, without-fewer (length U) L i found.1 found.2.member)) in
             record {
-              levels = record { task = i; response = parts.0; fails = parts.1 } ∷ rest.levels;
+              levels = record { task = i; response = response.0; fails = fails.0 } ∷ rest.levels;
               chosen = (found.2, rest.chosen);
-              each = (parts.2, rest.each);
+              each = (
+                record { response = response.1; lesser = fails.1; fails = fails.2 },
+                rest.each,
+              );
               end = rest.end;
             }
         | inr none ↦ record {
@@ -132,11 +117,8 @@ module _ (U : List Task) (valid : AllTasks U) where
           each = tt;
           end = elim (find_below (length U) L) [
             | inl some ↦ inr ((some.0, some.2), none)
-            | inr empty ↦ inl (λ k. elim (cases_Bool (L k)) [
-              | inl member ↦
-                  absurd (both_ways (L k) (empty k (ltb-true k (length U) (part k member))) member)
-              | inr out ↦ out
-            ])
+            | inr empty ↦ inl (λ k. false_from_ne_true (L k)
+                (λ member. both_ways _ (empty k (ltb-true k (length U) (part k member))) member))
           ];
         }
       ]
@@ -168,17 +150,9 @@ module _ (U : List Task) (valid : AllTasks U) where
       ⊎ ((S : Indexes) × IsGreatestObstruction U S)
   best_or_obstructed = best_of find_verdict.0 find_verdict.1
 
-  -- where there is an obstruction, there is a greatest
-  pub greatest_obstruction : (S : Indexes) → IsObstruction U S → (G : Indexes)
-      × IsGreatestObstruction U G
-  greatest_obstruction S h = elim best_or_obstructed [
-    | inl best ↦ absurd (IsObstruction-fails U valid S h (best.0, best.1.passing))
-    | inr greatest ↦ greatest
-  ]
-
-  -- where no order passes, there is an obstruction
-  pub obstruction_of : ¬ IsFeasible U → (S : Indexes) × IsObstruction U S
-  obstruction_of none = elim best_or_obstructed [
+  -- where no order passes, there is a greatest obstruction
+  pub greatest_obstruction : ¬ IsFeasible U → (G : Indexes) × IsGreatestObstruction U G
+  greatest_obstruction none = elim best_or_obstructed [
     | inl best ↦ absurd (none (best.0, best.1.passing))
-    | inr greatest ↦ (greatest.0, greatest.1.obstruction)
+    | inr greatest ↦ greatest
   ]

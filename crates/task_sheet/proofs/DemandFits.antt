@@ -1,7 +1,7 @@
 -- How great the demands of a valid set are, within the longest period.
 use Rattle.std.proofs.Common.{ℕ, ◌<◌, ◌≤◌, List, length, arith}
 use Rattle.task_sheet.specs.Sheet.{Task, task_at}
-use Rattle.task_sheet.specs.Indexes.{Indexes, with_index, sum_below}
+use Rattle.task_sheet.specs.Indexes.{Indexes, with_index}
 use Rattle.task_sheet.specs.TaskSet.{IsTaskSet}
 use Rattle.task_sheet.specs.Demand.{limit_of, longest_reached, blocking_of, interference_of}
 use Rattle.task_sheet.specs.Demand.{demand_of}
@@ -19,37 +19,27 @@ module _ (U : List Task) (set : IsTaskSet U) where
   limit-fits k lt = let valid = valid_at U k set lt in
       omega (arith, valid.deadline_to, valid.period_to)
 
-  pub longest_reached-fits : (X : Indexes) (k : ℕ) → k < length U
-      → longest_reached U X (task_at U k) ≤ 10000000
-  longest_reached-fits X k lt = omega (
-    arith,
-    longest_reached-le-cost U X (task_at U k)
-        (IsTask-from_valid _ (valid_at U k set lt)),
-    cost-fits k lt,
-  )
-
   pub blocking-fits : (i : ℕ) (H : Indexes) → blocking_of U i H ≤ 10000000
   unfolding blocking_of
   blocking-fits i H = greatest_below-le (length U) _ 10000000 (λ k lt.
-      cond-le (with_index H i k) 0 (longest_reached U (with_index H i) (task_at U k)) 10000000
-      (omega arith) (longest_reached-fits (with_index H i) k lt))
-
-  pub interference_sum-fits : (H : Indexes) (t : ℕ) → t ≤ 10000000
-      → sum_below (length U) (term U t H) ≤ 960000000
-  interference_sum-fits H t le =
-      let each = sum_below-fits (length U) 30000000 (term U t H)
-      (λ h lt. cond-le (H h) (interference_of (task_at U h) t) 0 30000000
-      (interference-fits (task_at U h) t (valid_at U h set lt) le) (omega arith)) in
-      omega (arith, each, set.few)
+      let X = with_index H i in
+      let longest = longest_reached-le-cost U X (task_at U k)
+      (IsTask-from_valid _ (valid_at U k set lt)) in
+      cond-le (X k) 0 (longest_reached U X (task_at U k)) 10000000 (omega arith)
+      (omega (arith, longest, cost-fits k lt)))
 
   pub demand-fits : (i : ℕ) (H : Indexes) (t : ℕ) → i < length U → t ≤ 10000000
       → demand_of U i H t ≤ 7060000000
   unfolding demand_of
-  demand-fits i H t lt le = omega (
-    arith,
-    cost-fits i lt,
-    blocking-fits i H,
-    interference_sum-fits H
-        t le,
-    interrupts-fits U set t le,
-  )
+  demand-fits i H t lt le =
+      let each = sum_below-fits (length U) 30000000 (term U t H)
+      (λ h lt. cond-le (H h) (interference_of (task_at U h) t) 0 30000000
+      (interference-fits (task_at U h) t (valid_at U h set lt) le) (omega arith)) in
+      omega (
+        arith,
+        each,
+        set.few,
+        cost-fits i lt,
+        blocking-fits i H,
+        interrupts-fits U set t le,
+      )

@@ -1,14 +1,14 @@
--- The demand does not fall with time, nor with one task more above.
+-- The demand does not fall with time.
 use Rattle.std.proofs.Common.{ℕ, ◌<◌, ◌≤◌, inl, inr, List, length, arith}
-use Rattle.std.proofs.lemmas.Bool.{cases_Bool, or_right}
+use Rattle.std.proofs.lemmas.Bool.{cases_Bool}
 use Rattle.task_sheet.specs.Sheet.{Task, AllTasks, no_task, task_at}
-use Rattle.task_sheet.specs.Indexes.{Indexes, with_index}
+use Rattle.task_sheet.specs.Indexes.{Indexes}
 use Rattle.task_sheet.specs.Demand.{demand_of}
 use Rattle.task_sheet.proofs.Below.{sum_below-le}
 use Rattle.task_sheet.proofs.Releases.{interference-mono}
 use Rattle.task_sheet.proofs.ResponseLaws.{DoesNotFall}
 use Rattle.task_sheet.proofs.InterruptLaws.{interrupts-mono}
-use Rattle.task_sheet.proofs.Exchange.{term, demand-part}
+use Rattle.task_sheet.proofs.Exchange.{term}
 
 module _ (U : List Task) (valid : AllTasks U) where
   pub demand-mono : (i : ℕ) (H : Indexes) (t s : ℕ) → t ≤ s → demand_of U i H t ≤ demand_of U i H s
@@ -27,8 +27,3 @@ module _ (U : List Task) (valid : AllTasks U) where
     positive = λ t. omega (arith, (valid i no_task lt).cost);
     rises = demand-mono i H;
   }
-
-  pub demand-with_index : (i j : ℕ) (H : Indexes) (t : ℕ) → 1 ≤ t
-      → demand_of U i H t ≤ demand_of U i (with_index H j) t
-  demand-with_index i j H t pos =
-      demand-part U valid i H (with_index H j) (λ k h. or_right _ _ h) t pos

@@ -1,22 +1,14 @@
--- What an answer of a test of equality says: of sections, of sheets and their lists, and of members and their numbers.
-use Rattle.std.proofs.Common.{◌≡◌, ◌↔◌, ℕ, ◌^◌, ◌<◌, Bool, List, IsTrue, nat_eq, sym, ◌∙◌, ap}
-use Rattle.std.proofs.Common.{arith}
+-- What an answer of a test of equality says: of sections, of sheets, and of members and their numbers.
+use Rattle.std.proofs.Common.{◌≡◌, ◌↔◌, ℕ, ◌^◌, ◌<◌, Bool, IsTrue, nat_eq, sym, ◌∙◌, ap, arith}
 use Rattle.std.specs.Cmp.{both_ways}
-use Rattle.std.specs.Cmp.Lexicographic.{pointwise}
 use Rattle.std.specs.FinSet as set
 use Rattle.std.specs.Ordering.{nat_cmp}
 use Rattle.std.proofs.lemmas.Bool.Decides.{nat_tests}
-use Rattle.std.proofs.lemmas.Slice.Eq.{slice_eq-Decides}
 use Rattle.task_sheet.specs.Sheet.{CriticalSection, Task, same_section, same_sheet}
 use Rattle.task_sheet.specs.SheetEquality.{same_section-Decides, same_sheet-Decides}
 use Rattle.task_sheet.specs.Members.{places, bits_of}
 use Rattle.task_sheet.specs.MembersWords.{same_members}
 use Rattle.task_sheet.specs.MembersLaws.{bits_of-places, same_members-Decides}
-
--- of two lists of sheets
-pub same_sheets_told : (xs ys : List Task) (r : Bool) → r ≡ pointwise same_sheet xs ys → IsTrue r
-    ↔ (xs ≡ ys)
-same_sheets_told xs ys r e = slice_eq-Decides same_sheet-Decides xs ys r e
 
 pub same_section_told : (x y : CriticalSection) (r : Bool) → r ≡ same_section x y → IsTrue r
     ↔ (x ≡ y)

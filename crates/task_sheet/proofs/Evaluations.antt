@@ -47,19 +47,23 @@ abbrev later : List Task → ℕ → Indexes → ℕ → ℕ
 later U t H k = cond (counts U H k) (later_releases t (task_at U k)) 0 + sum_by (later_interrupts t)
     (task_at U k).interrupts
 
+-- what comes later than at first comes more often, or it takes as much
+count-later : (takes : ℕ → ℕ) (first a b : ℕ) → first ≤ a → a ≤ b
+    → Rises (a - first) (b - first) (takes a) (takes b)
+count-later takes first a b early le = elim (cases_eq a b) [
+  | inl e ↦ same (ap (λ n. n - first) e) (ap takes e)
+  | inr ne ↦ more (omega arith)
+]
+
 -- of an interrupt: it comes no less often in a longer window, and where it comes as often it takes as much
 interrupt-later : (x : Interrupt) (t s : ℕ) → 1 ≤ t → t ≤ s
     → Rises (later_interrupts t x) (later_interrupts s x) (interrupt_within t x)
     (interrupt_within s x)
 interrupt-later x t s pos le =
-    elim (cases_eq (jobs_within x.period 0 t) (jobs_within x.period 0 s)) [
-      | inl e ↦ same (ap (λ n. n - jobs_within x.period 0 1) e) (ap (λ n. n * x.cost) e)
-      | inr ne ↦ more (omega (
-        arith,
-        div_ceil-mono (t + 0) (s + 0) x.period (omega arith),
-        div_ceil-mono (1 + 0) (t + 0) x.period (omega arith),
-      ))
-    ]
+    let jobs = jobs_within x.period 0 in
+    count-later (λ n. n * x.cost) (jobs 1) (jobs t) (jobs s)
+    (div_ceil-mono (1 + 0) (t + 0) x.period (omega arith))
+    (div_ceil-mono (t + 0) (s + 0) x.period (omega arith))
 
 interrupts-later : (xs : List Interrupt) (t s : ℕ) → 1 ≤ t → t ≤ s
     → Rises (sum_by (later_interrupts t) xs) (sum_by (later_interrupts s) xs)
@@ -88,14 +92,9 @@ module _ (U : List Task) (valid : AllTasks U) (i : ℕ) (H : Indexes) where
       let x = task_at U k in
       let task = valid k no_task lt in
       elim (cases_Bool (counts U H k)) [
-        | inl so ↦ rw so (elim (cases_eq (releases_within x t) (releases_within x s)) [
-          | inl e ↦ same (ap (λ n. n - releases_within x 1) e)
-              (ap (λ n. cond (H k) (n * x.cost) 0 + n * x.node.release) e)
-          | inr ne ↦
-              let rises : later_releases t x < later_releases s x =
-              omega (arith, releases-mono x 1 t task pos, releases-mono x t s task le) in
-              more rises
-        ])
+        | inl so ↦ rw so (count-later (λ n. cond (H k) (n * x.cost) 0 + n * x.node.release)
+            (releases_within x 1) (releases_within x t) (releases_within x s)
+            (releases-mono x 1 t task pos) (releases-mono x t s task le))
         | inr out ↦
             let apart = or_parts (H k) (nat_lt 0 x.node.release) out in
             let none : x.node.release ≡ 0 = grind (arith, nat_tests, apart.1) in
@@ -109,11 +108,6 @@ module _ (U : List Task) (valid : AllTasks U) (i : ℕ) (H : Indexes) where
       → Rises (later U t H k) (later U s H k) (takes t k) (takes s k)
   task-later t s k pos le lt = rw (← add_assoc, ← add_assoc) (rises-both
       (releases-later t s k pos le lt) (interrupts-later (task_at U k).interrupts t s pos le))
-
-  later-mono : (t s : ℕ) → 1 ≤ t → t ≤ s
-      → sum_below (length U) (later U t H) ≤ sum_below (length U) (later U s H)
-  later-mono t s pos le = sum_below-le (length U) (later U t H) (later U s H)
-      (λ k lt. rises-le (task-later t s k pos le lt))
 
   -- where the demand rises, some task is released once more, or an interrupt comes once more
   later-rises : (t s : ℕ) → 1 ≤ t → t ≤ s → demand_of U i H t < demand_of U i H s
@@ -155,7 +149,8 @@ module _ (U : List Task) (valid : AllTasks U) (i : ℕ) (H : Indexes) where
           let t = iterate (demand_of U i H) k in omega (
             arith,
             walk-later k (omega arith),
-            later-mono t limit (positive k (omega arith)) (within k (omega arith)),
+            sum_below-le (length U) (later U t H) (later U limit H) (λ j lt. rises-le
+                (task-later t limit j (positive k (omega arith)) (within k (omega arith)) lt)),
           )
       | inr short ↦ omega arith
     ]

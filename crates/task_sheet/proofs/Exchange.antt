@@ -3,7 +3,7 @@ use Rattle.std.proofs.Common.{◌≡◌, ℕ, ◌+◌, ◌-◌, ◌<◌, ◌≤�
 use Rattle.std.proofs.Common.{get_or, arith}
 use Rattle.std.proofs.lemmas.Bool.{cases_Bool, and_parts, and_from, or_cases, or_parts, both_ways}
 use Rattle.std.proofs.lemmas.List.Elements.{recursion_from_All}
-use Rattle.task_sheet.specs.Sheet.{CriticalSection, Task, IsTask, AllTasks, no_task, task_at}
+use Rattle.task_sheet.specs.Sheet.{Task, IsTask, AllTasks, no_task, task_at}
 use Rattle.task_sheet.specs.Indexes.{Indexes, IsPart, with_index, sum_below}
 use Rattle.task_sheet.specs.Locks.{reaches}
 use Rattle.task_sheet.specs.Demand.{longest_reached, blocking_of, interference_of, demand_of}
@@ -13,17 +13,12 @@ use Rattle.task_sheet.proofs.Below.{some_below-mono}
 use Rattle.task_sheet.proofs.IndexLaws.{with_index-part}
 use Rattle.task_sheet.proofs.Releases.{cost-le-interference}
 
-reaches-part : (U : List Task) (X Y : Indexes) → IsPart X Y → (s : CriticalSection)
-    → reaches U X s ≡ true → reaches U Y s ≡ true
-reaches-part U X Y part s h =
-    some_below-mono (length U) _ _
-    (λ k e. let both = and_parts _ _ e in and_from _ _ (part k both.0) both.1) h
-
 longest_reached-part : (U : List Task) (X Y : Indexes) (x : Task) → IsPart X Y
     → longest_reached U X x ≤ longest_reached U Y x
 longest_reached-part U X Y x part =
     greatest_of-mono _ _ x.sections (λ s. elim (cases_Bool (reaches U X s)) [
-      | inl so ↦ let so' : reaches U Y s ≡ true = reaches-part U X Y part s so in
+      | inl so ↦ let so' : reaches U Y s ≡ true = some_below-mono (length U) _ _
+          (λ k e. let both = and_parts _ _ e in and_from _ _ (part k both.0) both.1) so in
           rw (so, so') (omega arith)
       | inr not_so ↦ rw not_so (omega arith)
     ])

@@ -3,10 +3,11 @@ use Rattle.std.proofs.Common.{◌≡◌, ℕ, zero, suc, ◌+◌, ◌*◌, ◌<�
 use Rattle.std.proofs.Common.{false, cond, ◌==◌, ◌&&◌, not, nat_lt, List, [], ◌∷◌, ◌++◌, length}
 use Rattle.std.proofs.Common.{refl, sym, ◌∙◌, ap, arith}
 use Rattle.std.proofs.Math.Path.{fun_ext}
+use Rattle.std.specs.Cmp
 use Rattle.std.specs.List.{count_by, AllByRecursion}
 use Rattle.std.proofs.lemmas.Bool.{cases_Bool, cases_eq, and_parts, and_from, or_cases, or_left}
 use Rattle.std.proofs.lemmas.Bool.{or_right, both_ways, cond-true, cond-false, eq-eqb, ne_eqb}
-use Rattle.std.proofs.lemmas.Bool.{not-true, lt-ltb, le-ltb, ltb-true}
+use Rattle.std.proofs.lemmas.Bool.{false_from_ne_true, not-true, lt-ltb, le-ltb, ltb-true}
 use Rattle.std.proofs.lemmas.Bool.Decides.{nat_tests}
 use Rattle.std.proofs.Math.Bool.{and-false}
 use Rattle.std.proofs.lemmas.List.Sums.{sum_by-cons, sum_by-append}
@@ -17,13 +18,8 @@ use Rattle.task_sheet.proofs.Below.{cond-le, sum_below-gap, sum_below-fits}
 
 -- ---- parts
 pub same_parts : (G H : Indexes) → IsPart G H → IsPart H G → G ≡ H
-same_parts G H part part' = fun_ext (λ k. elim (cases_Bool (G k)) [
-  | inl member ↦ member ∙ sym (part k member)
-  | inr out ↦ elim (cases_Bool (H k)) [
-    | inl member ↦ absurd (both_ways (G k) out (part' k member))
-    | inr out' ↦ out ∙ sym out'
-  ]
-])
+same_parts G H part part' =
+    fun_ext (λ k. Cmp.both_ways (G k) (H k) (part k) (part' k))
 
 pub with_index-part : (H G : Indexes) (i : ℕ) → IsPart H G
     → IsPart (with_index H i) (with_index G i)
@@ -52,11 +48,8 @@ without-part_of n L i part k h = part k (without-parts L i k h).0
 
 -- it is gone, and the others stay
 pub without-gone : (H : Indexes) (i k : ℕ) → k ≡ i → without_index H i k ≡ false
-without-gone H i k e = elim (cases_Bool (without_index H i k)) [
-  | inl so ↦
-      absurd ((without-parts H i k so).1 e)
-  | inr so ↦ so
-]
+without-gone H i k e =
+    false_from_ne_true (without_index H i k) (λ so. (without-parts H i k so).1 e)
 
 pub without-kept : (H : Indexes) (i k : ℕ) → (k ≡ i → ⊥) → without_index H i k ≡ H k
 without-kept H i k ne = elim (cases_Bool (H k)) [
@@ -74,8 +67,8 @@ pub without-fewer : (n : ℕ) (L : Indexes) (i : ℕ) → i < n → L i ≡ true
 without-fewer n L i lt member =
     let f : ℕ → ℕ = λ k. cond (without_index L i k) 1 0 in
     let g : ℕ → ℕ = λ k. cond (L k) 1 0 in
-    let none : f i ≡ 0 = cond-false {A = ℕ} (without_index L i i) 1 0 (without-gone L i i refl) in
-    let one : g i ≡ 1 = cond-true {A = ℕ} (L i) 1 0 member in
+    let none : f i ≡ 0 = rw (without-gone L i i refl) in
+    let one : g i ≡ 1 = rw member in
     omega (arith, sum_below-gap n f g i (λ k. fewer (L k) (not (k == i))) lt none)
   where
     fewer : (a b : Bool) → cond (a && b) 1 0 ≤ cond a 1 0

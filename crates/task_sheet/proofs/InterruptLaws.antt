@@ -1,58 +1,44 @@
 -- What timers and interrupts take of a window: no less of a longer one, so much at most, and nothing where there are none.
-use Rattle.std.proofs.Common.{◌≡◌, ◌↔◌, ℕ, zero, suc, ◌+◌, ◌*◌, ◌<◌, ◌≤◌, false, List, [], ◌∷◌}
-use Rattle.std.proofs.Common.{length, sum_by, nat_lt, refl, arith}
-use Rattle.std.specs.Int.{div_ceil}
-use Rattle.std.proofs.lemmas.Grind.{div_ceil_times}
-use Rattle.std.proofs.lemmas.Bool.{or_parts}
+use Rattle.std.proofs.Common.{◌≡◌, ◌↔◌, ℕ, ◌+◌, ◌*◌, ◌≤◌, false, List, [], ◌∷◌, length, sum_by}
+use Rattle.std.proofs.Common.{nat_lt, refl, arith}
+use Rattle.std.proofs.lemmas.Bool.{both_ways, false_from_ne_true, or_parts}
 use Rattle.std.proofs.lemmas.Bool.Decides.{nat_tests}
+use Rattle.std.proofs.lemmas.List.Elements.{All-from_get_or}
+use Rattle.std.proofs.lemmas.List.Folds.{list_any_at, list_any_none}
 use Rattle.std.proofs.lemmas.List.Sums.{sum_by-le, sum_by-le-sum_by}
-use Rattle.std.proofs.Math.Nat.{mul-le-mul_left, mul-le-mul_right, mul-zero}
+use Rattle.std.proofs.Math.Nat.{mul-le-mul_right, mul-zero}
 use Rattle.task_sheet.specs.declared.node.Interrupt.{Interrupt}
-use Rattle.task_sheet.specs.Sheet.{Task, IsTask, AllTasks, IsInterrupt, IsValidSheet, no_task}
-use Rattle.task_sheet.specs.Sheet.{task_at}
+use Rattle.task_sheet.specs.Sheet.{Task, AllTasks, IsInterrupt, IsValidSheet, no_task, task_at}
 use Rattle.task_sheet.specs.TaskSet.{IsTaskSet}
 use Rattle.task_sheet.specs.Indexes.{Indexes}
 use Rattle.task_sheet.specs.Demand.{releases_within, blocking_of, interference_within}
 use Rattle.task_sheet.specs.Demand.{interrupt_within, interrupts_of, interrupts_within}
 use Rattle.task_sheet.specs.Demand.{interrupts_some, has_interrupts, IsUninterrupted, demand_of}
 use Rattle.task_sheet.proofs.Below.{sum_below-le, sum_below-fits}
-use Rattle.task_sheet.proofs.Releases.{div_ceil-mono, releases-mono, jobs-fits}
+use Rattle.task_sheet.proofs.Releases.{div_ceil-mono, releases-mono, taken-fits, jobs-fits}
 use Rattle.task_sheet.proofs.TaskLaws.{valid_at}
 
 -- ---- a longer window
-pub interrupt-mono : (x : Interrupt) (t s : ℕ) → t ≤ s → interrupt_within t x ≤ interrupt_within s x
-interrupt-mono x t s le =
-    mul-le-mul_right x.cost (div_ceil-mono (t + 0) (s + 0) x.period (omega arith))
-
-pub interrupts_of-mono : (x : Task) (t s : ℕ) → IsTask x → t ≤ s
-    → interrupts_of t x ≤ interrupts_of s x
-interrupts_of-mono x t s valid le =
-    omega (
-      arith,
-      mul-le-mul_right x.node.release (releases-mono x t s valid le),
-      sum_by-le-sum_by (interrupt_within t) (interrupt_within s) x.interrupts
-          (λ y. interrupt-mono y t s le),
-    )
-
 pub interrupts-mono : (U : List Task) → AllTasks U → (t s : ℕ) → t ≤ s
     → interrupts_within U t ≤ interrupts_within U s
 unfolding interrupts_within
-interrupts-mono U valid t s le =
-    sum_below-le (length U) (λ k. interrupts_of t (task_at U k)) (λ k. interrupts_of s
-    (task_at U k)) (λ k lt. interrupts_of-mono (task_at U k) t s (valid k no_task lt) le)
+interrupts-mono U valid t s le = sum_below-le (length U) (λ k. interrupts_of t (task_at U k))
+    (λ k. interrupts_of s (task_at U k)) (λ k lt.
+    let x = task_at U k in omega (
+      arith,
+      mul-le-mul_right x.node.release (releases-mono x t s (valid k no_task lt) le),
+      sum_by-le-sum_by (interrupt_within t) (interrupt_within s) x.interrupts
+          (λ y. mul-le-mul_right y.cost (div_ceil-mono (t + 0) (s + 0) y.period (omega arith))),
+    ))
 
 -- ---- within the longest period
 interrupt-fits : (x : Interrupt) (t : ℕ) → IsInterrupt x → t ≤ 10000000
     → interrupt_within t x ≤ 20000000
-interrupt-fits x t valid le =
-    let some : 0 < x.period = omega (arith, valid.period_from) in
-    let jobs = div_ceil (t + 0) x.period in
-    omega (
-      arith,
-      (div_ceil_times (t + 0) x.period some).1,
-      mul-le-mul_left jobs valid.cost,
-      valid.period_to,
-    )
+interrupt-fits x t valid le = omega (
+  arith,
+  taken-fits (t + 0) x.period x.cost (omega (arith, valid.period_from)) valid.cost,
+  valid.period_to,
+)
 
 pub interrupts_of-fits : (x : Task) (t : ℕ) → IsValidSheet x → t ≤ 10000000
     → interrupts_of t x ≤ 190000000
@@ -103,16 +89,9 @@ demand-plain U i H t none = omega (arith, interrupts-none U t none)
 
 -- the test says whether there are some
 pub uninterrupted-iff : (U : List Task) → (has_interrupts U ≡ false) ↔ IsUninterrupted U
-uninterrupted-iff [] = (λ _ k lt. absurd (omega arith), λ _. refl)
-uninterrupted-iff (x ∷ xs) = (
-  λ none.
-      let apart = or_parts (interrupts_some x) (has_interrupts xs) none in
-      λ k lt. at-place x xs apart.0 ((uninterrupted-iff xs).0 apart.1) k lt,
-  λ each.
-      rw (each zero (omega arith), (uninterrupted-iff xs).1 (λ k lt. each (suc k) (omega arith))),
+uninterrupted-iff U = (
+  λ none k lt. false_from_ne_true _
+      (λ so. both_ways _ none (list_any_at interrupts_some U k no_task lt so)),
+  λ each. list_any_none interrupts_some U
+      (All-from_get_or (λ x. interrupts_some x ≡ false) U no_task each),
 )
-  where
-    at-place : (x : Task) (xs : List Task) → interrupts_some x ≡ false → IsUninterrupted xs
-        → IsUninterrupted (x ∷ xs)
-    at-place x xs here rest zero lt = here
-    at-place x xs here rest (suc k) lt = rest k (omega arith)

@@ -6,7 +6,7 @@ use Rattle.std.proofs.Math.Bool.{and-true, and_comm}
 use Rattle.std.specs.Ordering.{nat_cmp}
 use Rattle.std.specs.FinSet as set
 use Rattle.std.specs.Cmp.{nat_cmp_total, unsigned_tied}
-use Rattle.std.proofs.lemmas.Bool.{cases_Bool, cases_eq, both_ways, ltb-true}
+use Rattle.std.proofs.lemmas.Bool.{cases_eq, both_ways, false_from_ne_true, ltb-true}
 use Rattle.task_sheet.specs.MembersWords.{all_below}
 use Rattle.task_sheet.specs.MembersLaws.{contains-set_of}
 use Rattle.task_sheet.specs.Indexes.{indexes_of, no_index, below, with_index, without_index, IsPart}
@@ -35,16 +35,15 @@ same_members m n e =
     set.same_set nat_cmp_total set.nat_cmp-IsAntisymmetric m n (λ k. ap (λ H. H k) e)
 
 -- ---- how many there are
-pub none_of-len : (m : set.FinSet nat_cmp) → set.len m ≡ 0 → indexes_of m ≡ no_index
-none_of-len m none = ap indexes_of (set.empty_of_len m none) ∙ indexes_of-empty
-
 pub len-of_none : (m : set.FinSet nat_cmp) → indexes_of m ≡ no_index → set.len m ≡ 0
 len-of_none m none = ap (λ (s : set.FinSet nat_cmp). set.len s)
     (same_members m set.empty (none ∙ sym indexes_of-empty)) ∙ set.len-empty nat_cmp
 
 pub len-of_member : (m : set.FinSet nat_cmp) (i : ℕ) → set.contains m i ≡ true → 0 < set.len m
 len-of_member m i member = elim (cases_eq (set.len m) 0) [
-  | inl e ↦ absurd (both_ways (set.contains m i) (ap (λ H. H i) (none_of-len m e)) member)
+  | inl e ↦
+      let none = ap indexes_of (set.empty_of_len m e) ∙ indexes_of-empty in
+      absurd (both_ways (set.contains m i) (ap (λ H. H i) none) member)
   | inr ne ↦ omega arith
 ]
 
@@ -53,11 +52,8 @@ pub member_of-len : (m : set.FinSet nat_cmp) (n : ℕ) → IsPart (indexes_of m)
 member_of-len m n part some = elim (find_below n (indexes_of m)) [
   | inl found ↦ found
   | inr none ↦
-      let empty : indexes_of m ≡ no_index = fun_ext (λ k. elim (cases_Bool (set.contains m k)) [
-        | inl member ↦
-            absurd (both_ways (set.contains m k) (none k (ltb-true k n (part k member))) member)
-        | inr out ↦ out
-      ]) in
+      let empty : indexes_of m ≡ no_index = fun_ext (λ k. false_from_ne_true _
+      (λ member. both_ways _ (none k (ltb-true k n (part k member))) member)) in
       absurd (omega (arith, len-of_none m empty))
 ]
 

@@ -13,22 +13,17 @@ use Rattle.task_sheet.proofs.LevelLaws.{left_after-part}
 
 module _ (U : List Task) (valid : AllTasks U) where
   -- ---- two obstructions together
-  NoneStands-either : (S R : Indexes) → NoneStands U S → NoneStands U R
-      → NoneStands U (either_of S R)
-  NoneStands-either S R stuck stuck' i h stands =
-      elim (or_cases (S i) (R i) h) [
-        | inl l ↦ stuck i l (Stands-part U valid i _ _
-            (without-part S (either_of S R) i (λ k e. or_left _ _ e)) stands)
-        | inr r ↦ stuck' i r (Stands-part U valid i _ _
-            (without-part R (either_of S R) i (λ k e. or_right _ _ e)) stands)
-      ]
-
   pub IsObstruction-either : (S R : Indexes) → IsObstruction U S → IsObstruction U R
       → IsObstruction U (either_of S R)
   IsObstruction-either S R s r = record {
     within = λ k h. elim (or_cases (S k) (R k) h) [ inl l ↦ s.within k l | inr l ↦ r.within k l ];
     some = (s.some.0, or_left _ _ s.some.1);
-    stuck = NoneStands-either S R s.stuck r.stuck;
+    stuck = λ i h stands. elim (or_cases (S i) (R i) h) [
+      | inl l ↦ s.stuck i l (Stands-part U valid i _ _
+          (without-part S (either_of S R) i (λ k e. or_left _ _ e)) stands)
+      | inr l ↦ r.stuck i l (Stands-part U valid i _ _
+          (without-part R (either_of S R) i (λ k e. or_right _ _ e)) stands)
+    ];
   }
 
   -- ---- no order passes where there is an obstruction

@@ -3,9 +3,9 @@ use Rattle.std.proofs.Common.{◌≡◌, ℕ, inl, inr, true, false, ◌==◌, L
 use Rattle.std.proofs.Common.{ap, subst}
 use Rattle.std.proofs.lemmas.Bool.{both_ways, or_cases, eqb-true}
 use Rattle.task_sheet.specs.Sheet.{Task, AllTasks}
-use Rattle.task_sheet.specs.Indexes.{Indexes, without_index, among, listed_below}
+use Rattle.task_sheet.specs.Indexes.{Indexes, without_index, among}
 use Rattle.task_sheet.specs.Orders.{all_of, Stands, IsOrderOf, IsBest, IsFeasible}
-use Rattle.task_sheet.specs.Levels.{IsChosen, AllChosen}
+use Rattle.task_sheet.specs.Levels.{AllChosen}
 use Rattle.task_sheet.specs.Verdicts.{FailureData, LevelData, tasks_of, order_of, AllFailures}
 use Rattle.task_sheet.specs.Ready.{time_of, AllRefuted, AllReady, IsReadyOrder, IsReadySet}
 use Rattle.task_sheet.proofs.IndexLaws.{listed-has, IsOrderOf-head, IsOrderOf-rest}
@@ -28,23 +28,16 @@ module _ (U : List Task) (valid : AllTasks U) where
       ]
 
   -- where those of smaller rank are refuted, the task is the one chosen
-  pub IsChosen-from_refuted : (L : Indexes) (i : ℕ) (fails : List FailureData) → L i ≡ true
-      → Stands U i (without_index L i)
-      → tasks_of fails ≡ listed_below i L → AllRefuted U L fails → IsChosen U L i
-  IsChosen-from_refuted L i fails member stands lesser refuted = record {
-    member = member;
-    stands = stands;
-    first = λ j lt is. AllRefuted-fails L fails j refuted
-        (ap (λ ns. among ns j) lesser ∙ listed-has i L j lt is);
-  }
-
   AllReady-chosen : (L : Indexes) (levels : List LevelData) → IsOrderOf L (order_of levels)
       → AllReady U L levels → AllChosen U L (order_of levels)
   AllReady-chosen L [] each ready = tt
   AllReady-chosen L (l ∷ levels) each ready = (
-    IsChosen-from_refuted L l.task l.fails (IsOrderOf-head L l.task (order_of levels) each)
-        ((time_of U l, ready.0.positive, ready.0.within, ready.0.covers), ready.0.unbound)
-        ready.0.lesser ready.0.refuted,
+    record {
+      member = IsOrderOf-head L l.task (order_of levels) each;
+      stands = ((time_of U l, ready.0.positive, ready.0.within, ready.0.covers), ready.0.unbound);
+      first = λ j lt is. AllRefuted-fails L l.fails j ready.0.refuted
+          (ap (λ ns. among ns j) ready.0.lesser ∙ listed-has l.task L j lt is);
+    },
     AllReady-chosen (without_index L l.task) levels (IsOrderOf-rest L l.task (order_of levels) each)
         ready.1,
   )

@@ -34,10 +34,6 @@ pub releases-mono : (x : Task) (t s : ℕ) → IsTask x → t ≤ s
     → releases_within x t ≤ releases_within x s
 releases-mono x t s valid le = div_ceil-mono (t + x.jitter) (s + x.jitter) x.period (omega arith)
 
--- a window of positive length has a release
-pub releases-some : (x : Task) (t : ℕ) → IsTask x → 1 ≤ t → 1 ≤ releases_within x t
-releases-some x t valid pos = one-le-div_ceil (t + x.jitter) x.period (omega arith) valid.period
-
 -- ---- what they execute
 pub interference-mono : (x : Task) (t s : ℕ) → IsTask x → t ≤ s
     → interference_of x t ≤ interference_of x s
@@ -45,24 +41,30 @@ interference-mono x t s valid le = mul-le-mul_right x.cost (releases-mono x t s 
 
 pub cost-le-interference : (x : Task) (t : ℕ) → IsTask x → 1 ≤ t → x.cost ≤ interference_of x t
 cost-le-interference x t valid pos =
-    let once : 1 ≤ releases_within x t = releases-some x t valid pos in
+    let once : 1 ≤ releases_within x t =
+    one-le-div_ceil (t + x.jitter) x.period (omega arith) valid.period in
     let more : 1 * x.cost ≤ releases_within x t * x.cost = grind arith in
     omega arith
+
+-- what takes no longer than its period takes at most the window and a period
+pub taken-fits : (window period each : ℕ) → 0 < period → each ≤ period
+    → div_ceil window period * each ≤ window + period
+taken-fits window period each some short = omega (
+  arith,
+  (div_ceil_times window period some).1,
+  mul-le-mul_left (div_ceil window period) short,
+)
 
 -- within the longest period, under three times that, where each takes no longer than the period
 pub jobs-fits : (x : Task) (t each : ℕ) → IsValidSheet x → t ≤ 10000000 → each ≤ x.period
     → releases_within x t * each ≤ 30000000
-jobs-fits x t each valid le short =
-    let some : 0 < x.period = omega (arith, valid.period_from) in
-    let jobs = div_ceil (t + x.jitter) x.period in
-    omega (
-      arith,
-      (div_ceil_times (t + x.jitter) x.period some).1,
-      mul-le-mul_left jobs short,
-      valid.period_to,
-      valid.jitter,
-      valid.deadline_to,
-    )
+jobs-fits x t each valid le short = omega (
+  arith,
+  taken-fits (t + x.jitter) x.period each (omega (arith, valid.period_from)) short,
+  valid.period_to,
+  valid.jitter,
+  valid.deadline_to,
+)
 
 pub interference-fits : (x : Task) (t : ℕ) → IsValidSheet x → t ≤ 10000000
     → interference_of x t ≤ 30000000

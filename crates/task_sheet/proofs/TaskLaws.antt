@@ -1,6 +1,5 @@
 -- Valid sheets have what the laws of the analysis need, and a task of a set is found by its name.
-use Rattle.std.proofs.Common.{◌≡◌, ℕ, ◌+◌, ◌<◌, ◌≤◌, false, List, [], ◌∷◌, length}
-use Rattle.std.proofs.Common.{get_or, ap, ◌∙◌, arith}
+use Rattle.std.proofs.Common.{◌≡◌, ℕ, ◌+◌, ◌<◌, ◌≤◌, List, [], ◌∷◌, length, get_or, ap, ◌∙◌, arith}
 use Rattle.std.specs.List.{AllByRecursion, position_or_len}
 use Rattle.std.proofs.lemmas.List.{get_or_read}
 use Rattle.std.proofs.lemmas.List.Elements.{All-from_recursion}
@@ -38,14 +37,11 @@ pub task_read : (U V : List Task) (k : ℕ) (x : Task) → V ≡ U → k < lengt
     → x ≡ task_at U k
 task_read U V k x same lt is = get_or_read U k x lt (is ∙ ap (λ W. get_or W k x) same) no_task
 
-distinct-names : (U : List Task) → AreDistinct same_name U → (j k : ℕ) → j < k → k < length U
-    → same_bytes (task_at U j).name (task_at U k).name ≡ false
-distinct-names U d j k lt within =
-    apart_from_distinct same_name U j k no_task (std_distinct same_name U d) lt within
-
 -- the first task that has the name of the task at an index is that task
 pub place_of_name : (U : List Task) → AreDistinct same_name U → (k : ℕ) → k < length U
     → position_or_len (λ s. same_bytes s.name (task_at U k).name) U ≡ k
 place_of_name U distinct k lt = position_or_len_is
     (λ (s : Task). same_bytes s.name (task_at U k).name) U k no_task (omega arith)
-    (λ j below. distinct-names U distinct j k below lt) (λ _. same_own (task_at U k).name)
+    (λ j below. apart_from_distinct same_name U j k no_task (std_distinct same_name U distinct)
+    below lt)
+    (λ _. same_own (task_at U k).name)

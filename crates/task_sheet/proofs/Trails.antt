@@ -1,57 +1,35 @@
 -- The walk 1, W(1), W(W(1)), .. as a list that grows at its end, and the next number.
 use Rattle.std.proofs.Common.{◌≡◌, ℕ, zero, suc, ◌+◌, ◌<◌, ◌≤◌, inl, inr, List, [], ◌∷◌, ◌++◌}
-use Rattle.std.proofs.Common.{length}
-use Rattle.std.proofs.Common.{get_or, add-one, refl, ap, ap₂, sym, ◌∙◌, arith}
+use Rattle.std.proofs.Common.{length, map, get_or, add-one, refl, ap, ap₂, sym, ◌∙◌, arith}
+use Rattle.std.specs.List.{range_with_len}
 use Rattle.std.proofs.lemmas.Bool.{cases_eq, cases_lt}
+use Rattle.std.proofs.lemmas.List.FromFn.{length-map-range_with_len, get_or-map-range_with_len}
+use Rattle.std.proofs.lemmas.List.FromFn.{map-range_with_len_more}
 use Rattle.task_sheet.specs.Responses.{ChainFrom, IsFullChain, FullFrom, iterate, IsTrail}
 use Rattle.task_sheet.proofs.ResponseLaws.{DoesNotFall}
 
 module _ (W : ℕ → ℕ) where
-  -- the number after n steps from a, and the n numbers before it
-  abbrev pub step_from : ℕ → ℕ → ℕ
-  step_from a zero = a
-  step_from a (suc n) = step_from (W a) n
+  -- so many iterates, from the one at a place on
+  abbrev pub iterates : ℕ → ℕ → List ℕ
+  iterates k n = map (iterate W) (range_with_len k n)
 
-  abbrev pub walk_from : ℕ → ℕ → List ℕ
-  walk_from a zero = []
-  walk_from a (suc n) = a ∷ walk_from (W a) n
-
-  step-last : (a n : ℕ) → step_from a (suc n) ≡ W (step_from a n)
-  step-last a zero = refl
-  step-last a (suc n) = step-last (W a) n
-
-  step-iterate : (n : ℕ) → step_from 1 n ≡ iterate W n
-  step-iterate zero = refl
-  step-iterate (suc n) = step-last 1 n ∙ ap W (step-iterate n)
-
-  pub walk-length : (a n : ℕ) → length (walk_from a n) ≡ n
-  walk-length a zero = refl
-  walk-length a (suc n) = omega (arith, walk-length (W a) n)
-
-  walk-at : (a n k d : ℕ) → k < n → get_or (walk_from a n) k d ≡ step_from a k
-  walk-at a zero k d lt = absurd (omega arith)
-  walk-at a (suc n) zero d lt = refl
-  walk-at a (suc n) (suc k) d lt = walk-at (W a) n k d (omega arith)
-
-  walk-push : (a n : ℕ) → walk_from a n ++ step_from a n ∷ [] ≡ walk_from a (suc n)
-  walk-push a zero = refl
-  walk-push a (suc n) = ap (λ ns. a ∷ ns) (walk-push (W a) n)
-
-  -- up to the first number past the limit it is a full chain
-  chain_of : (limit n a : ℕ)
-      → ((k : ℕ) → k < n → (step_from a k ≤ limit) × (step_from a k < step_from a (suc k)))
-      → limit < step_from a n → ChainFrom W limit a (walk_from (W a) n)
-      × FullFrom W a (walk_from (W a) n)
-  chain_of limit zero a up past = (past, tt)
-  chain_of limit (suc n) a up past =
-      let here = up 0 (omega arith) in
-      let rest = chain_of limit n (W a) (λ k lt. up (suc k) (omega arith)) past in
-      ((here.0, here.1, omega arith, rest.0), (refl, rest.1))
+  -- up to the first number past the limit they are a full chain
+  chain_of : (limit end : ℕ)
+      → ((j : ℕ) → j < end → (iterate W j ≤ limit) × (iterate W j < iterate W (suc j)))
+      → limit < iterate W end → (n k : ℕ) → k + n ≡ end
+      → ChainFrom W limit (iterate W k) (iterates (suc k) n)
+      × FullFrom W (iterate W k) (iterates (suc k) n)
+  chain_of limit end up past zero k e =
+      let last : k ≡ end = omega arith in (rw last past, tt)
+  chain_of limit end up past (suc n) k e =
+      let here = up k (omega arith) in
+      let rest = chain_of limit end up past n (suc k) (omega arith) in
+      rw (add-one (suc k)) ((here.0, here.1, omega arith, rest.0), (refl, rest.1))
 
   -- the numbers so far, which rise within the limit, and the next one
   pub record IsWalk (limit : ℕ) (numbers : List ℕ) (t : ℕ) : Type 0 where
     pub count : ℕ
-    pub are : numbers ≡ walk_from 1 count
+    pub are : numbers ≡ iterates 0 count
     pub next : t ≡ iterate W count
     pub rises : (k : ℕ) → k < count → iterate W k < iterate W (suc k)
     pub within : (k : ℕ) → k < count → iterate W k ≤ limit
@@ -69,11 +47,11 @@ module _ (W : ℕ → ℕ) where
   trail_of : (limit n : ℕ) → ((k : ℕ) → k + 1 < n → iterate W k < iterate W (suc k))
       → ((k : ℕ) → k < n → iterate W k ≤ limit)
       → ((k : ℕ) → n ≤ k → iterate W k ≤ limit → (j : ℕ) × (j < n) × (iterate W j ≡ iterate W k))
-      → IsTrail W limit (walk_from 1 n)
+      → IsTrail W limit (iterates 0 n)
   trail_of limit n rises within later =
-      let long = walk-length 1 n in
-      let at : (k d : ℕ) → k < n → get_or (walk_from 1 n) k d ≡ iterate W k =
-      λ k d lt. walk-at 1 n k d lt ∙ step-iterate k in
+      let long = length-map-range_with_len (iterate W) 0 n in
+      let at : (k d : ℕ) → k < n → get_or (iterates 0 n) k d ≡ iterate W k =
+      λ k d lt. get_or-map-range_with_len (iterate W) 0 n k k d lt (omega arith) in
       record {
         rises = λ k lt. omega (
           arith,
@@ -95,14 +73,16 @@ module _ (W : ℕ → ℕ) where
       }
 
   module _ (limit : ℕ) (numbers : List ℕ) (t : ℕ) (walk : IsWalk limit numbers t) where
-    pushed : numbers ++ t ∷ [] ≡ walk_from 1 (suc walk.count)
-    pushed = ap₂ (λ ns n. ns ++ n ∷ []) walk.are (walk.next ∙ sym (step-iterate walk.count))
-        ∙ walk-push 1 walk.count
+    pushed : numbers ++ t ∷ [] ≡ iterates 0 (suc walk.count)
+    pushed = ap₂ (λ ns n. ns ++ n ∷ []) walk.are walk.next
+        ∙ sym (map-range_with_len_more (iterate W) 0 walk.count walk.count (omega arith))
+        ∙ ap (iterates 0) (add-one walk.count)
 
     pub walk-count : (length numbers ≡ walk.count) × (length (numbers ++ t ∷ []) ≡ walk.count + 1)
     walk-count = (
-      ap length walk.are ∙ walk-length 1 walk.count,
-      ap length pushed ∙ omega (arith, walk-length 1 (suc walk.count)),
+      ap length walk.are ∙ length-map-range_with_len (iterate W) 0 walk.count,
+      ap length pushed
+          ∙ omega (arith, length-map-range_with_len (iterate W) 0 (suc walk.count)),
     )
 
     pub walk-within : t ≤ limit → (k : ℕ) → k < walk.count + 1 → iterate W k ≤ limit
@@ -159,11 +139,8 @@ module _ (W : ℕ → ℕ) where
 
       pub walk_fails : limit < t → IsFullChain W limit (numbers ++ t ∷ []) × IsTrail W limit numbers
       walk_fails past =
-          let same = step-iterate in
-          let chain = chain_of limit walk.count 1 (λ k lt. (
-            omega (arith, walk.within k lt, same k),
-            omega (arith, walk.rises k lt, same k, same (suc k)),
-          )) (omega (arith, walk.next, same walk.count)) in (
+          let chain = chain_of limit walk.count (λ k lt. (walk.within k lt, walk.rises k lt))
+          (omega (arith, walk.next)) walk.count 0 (omega arith) in (
             rw pushed (record { chain = (refl, chain.0); full = chain.1 }),
             rw walk.are (trail_of limit walk.count (λ k lt. walk.rises k (omega arith)) walk.within
                 (λ k far le. absurd (omega (arith, iterate-mono walk.count k far, walk.next)))),

@@ -29,15 +29,6 @@ IsStuck-infeasible U valid members h =
     IsObstruction-fails U valid (among (tasks_of members)) h.greatest.obstruction
 
 -- ---- two verdicts are one
-same_failure : (f g : FailureData) → f.task ≡ g.task → f.reason ≡ g.reason → f ≡ g
-same_failure f g task reason = λ i. let h : FailureData =
-    record { task = task i; reason = reason i } in h
-
-same_level : (l m : LevelData) → l.task ≡ m.task → l.response ≡ m.response
-    → l.fails ≡ m.fails → l ≡ m
-same_level l m task response fails = λ i. let h : LevelData =
-    record { task = task i; response = response i; fails = fails i } in h
-
 same_cons : {x y : ℕ} {xs ys : List ℕ} → x ∷ xs ≡ y ∷ ys → (x ≡ y) × (xs ≡ ys)
 same_cons e = (cc, cc)
 
@@ -47,12 +38,10 @@ AllFailures-one : (U : List Task) (L : Indexes) (fails others : List FailureData
 AllFailures-one U L [] [] same h h' = refl
 AllFailures-one U L (f ∷ fs) (g ∷ gs) same h h' =
     let heads = same_cons same in
-    let reason =
-    subst (λ i. IsFailure U L (record { task = i; reason = g.reason })) (sym heads.0) h'.0 in
-    let first = same_failure f g heads.0
-    (IsReason-one U f.task (without_index L f.task) f.reason g.reason h.0 reason) in
+    let reason = IsReason-one U f.task (without_index L f.task) f.reason g.reason h.0
+    (subst (λ i. IsFailure U L (record { task = i; reason = g.reason })) (sym heads.0) h'.0) in
     let rest = AllFailures-one U L fs gs heads.1 h.1 h'.1 in
-    λ i. first i ∷ rest i
+    λ i. record { task = heads.0 i; reason = reason i } ∷ rest i
 AllFailures-one U L fails others same h h' = cc
 
 AllLevels-one : (U : List Task) (L : Indexes) (levels others : List LevelData)
@@ -61,15 +50,14 @@ AllLevels-one : (U : List Task) (L : Indexes) (levels others : List LevelData)
 AllLevels-one U L [] [] same h h' = refl
 AllLevels-one U L (l ∷ ls) (m ∷ ms) same h h' =
     let heads = same_cons same in
-    let response =
-    subst (λ i. IsResponseOf U i (without_index L i) m.response) (sym heads.0) h'.0.response in
+    let response = IsResponseOf-one U l.task (without_index L l.task) l.response m.response
+    h.0.response
+    (subst (λ i. IsResponseOf U i (without_index L i) m.response) (sym heads.0) h'.0.response) in
     let fails = AllFailures-one U L l.fails m.fails
     (h.0.lesser ∙ ap (λ i. listed_below i L) heads.0 ∙ sym h'.0.lesser) h.0.fails h'.0.fails in
-    let first = same_level l m heads.0 (IsResponseOf-one U l.task (without_index L l.task)
-    l.response m.response h.0.response response) fails in
     let rest = AllLevels-one U (without_index L l.task) ls ms heads.1 h.1
     (subst (λ i. AllLevels U (without_index L i) ms) (sym heads.0) h'.1) in
-    λ i. first i ∷ rest i
+    λ i. record { task = heads.0 i; response = response i; fails = fails i } ∷ rest i
 AllLevels-one U L levels others same h h' = cc
 
 pub IsStuck-one : (U : List Task) (members others : List FailureData) → IsStuck U members

@@ -1,6 +1,6 @@
 -- What a document says of its node and of interrupts is within the limits.
-use Rattle.std.proofs.Common.{◌≡◌, ℕ, ◌+◌, ◌≤◌, min, Bool, true, false, inl, inr, nat_le}
-use Rattle.std.proofs.Common.{List, [], ◌∷◌, map, length, Option, Some, None, IfSome, option_map}
+use Rattle.std.proofs.Common.{◌≡◌, ℕ, ◌+◌, ◌≤◌, min, Bool, true, false, inl, inr, nat_le, List, []}
+use Rattle.std.proofs.Common.{◌∷◌, map, length, Option, Some, None, IfSome, option_map}
 use Rattle.std.proofs.Common.{option_and_then, unwrap_or, is_some, refl, arith}
 use Rattle.std.proofs.lemmas.Bool.{cases_Bool, and_parts, leb-true}
 use Rattle.std.proofs.lemmas.List.{length-map}
@@ -11,12 +11,9 @@ use Rattle.toml.specs.Data.{Data, Members, as_table}
 use Rattle.task_sheet.specs.Sheet.{Task, IsInterrupt, AreInterrupts, AreOverheads}
 use Rattle.task_sheet.specs.Tree.{value_at, number_at, tables_at, only_keys, root_keys}
 use Rattle.task_sheet.specs.Tree.{interrupt_keys, node_at, tree_node, interrupt_at, tree_interrupts}
-use Rattle.task_sheet.specs.Tree.{tree_sheets}
 use Rattle.task_sheet.specs.TreeFault.{unless, node_kinds_fault, numbers_fault, table_fault}
 use Rattle.task_sheet.specs.TreeFault.{overheads_fault, is_interrupt, says_interrupt, bad_interrupt}
-use Rattle.task_sheet.specs.TreeFault.{interrupts_fault, prefer_fault, tasks_fault, of_set}
-use Rattle.task_sheet.specs.TreeFault.{tree_fault}
-use Rattle.task_sheet.specs.SheetsFault.{sheets_fault}
+use Rattle.task_sheet.specs.TreeFault.{interrupts_fault, prefer_fault, tree_fault}
 use Rattle.task_sheet.specs.ReadsSet.{AreWithinLimits, SaysDocument}
 use Rattle.task_sheet.specs.declared.keys.Key.TheVariants as key
 use Rattle.task_sheet.specs.declared.node.Node.{Node}
@@ -27,11 +24,11 @@ use Rattle.task_sheet.specs.declared.read.SetFault.TheVariants as fault
 
 neither : (o p : Option SetFault) → option_or o p ≡ None → (o ≡ None) × (p ≡ None)
 neither None p e = (refl, e)
-neither (Some f) p e = absurd (cc)
+neither (Some f) p e = cc
 
 holds : (b : Bool) (e : SetFault) → unless b e ≡ None → b ≡ true
 holds true e none = refl
-holds false e none = absurd (cc)
+holds false e none = cc
 
 -- a test that has no fault, and those behind it
 passed : (b : Bool) (e : SetFault) (rest : Option SetFault) → option_or (unless b e) rest ≡ None
@@ -67,21 +64,19 @@ overheads_within None none = tt
 overheads_within (Some d) none = table_within (as_table d) none
 
 -- ---- interrupts
-interrupt_is : (x : Interrupt) → is_interrupt x ≡ true → IsInterrupt x
-interrupt_is x is =
-    let some = and_parts _ _ is in
+interrupt_said : (ms : Members) → says_interrupt ms ≡ true → IsInterrupt (interrupt_at ms)
+interrupt_said ms says =
+    let keys = and_parts (only_keys interrupt_keys ms) _ says in
+    let period = and_parts (is_some (number_at key.Period ms)) _ keys.1 in
+    let cost = and_parts (is_some (number_at key.Cost ms)) (is_interrupt (interrupt_at ms))
+    period.1 in
+    let some = and_parts _ _ cost.1 in
     let both = and_parts _ _ some.1 in
     record {
       period_from = leb-true _ _ some.0;
       period_to = leb-true _ _ both.0;
       cost = leb-true _ _ both.1;
     }
-
-interrupt_said : (ms : Members) → says_interrupt ms ≡ true → IsInterrupt (interrupt_at ms)
-interrupt_said ms says =
-    let keys = and_parts (only_keys interrupt_keys ms) _ says in
-    let period = and_parts (is_some (number_at key.Period ms)) _ keys.1 in
-    interrupt_is (interrupt_at ms) (and_parts (is_some (number_at key.Cost ms)) _ period.1).1
 
 each_within : (place : ℕ) (mss : List Members) → bad_interrupt place mss ≡ None
     → AllByRecursion IsInterrupt (map interrupt_at mss)
@@ -93,11 +88,11 @@ each_within place (ms ∷ more) none = elim (cases_Bool (says_interrupt ms)) [
 
 none_bad : (o : Option ℕ) → option_map fault.BadInterrupt o ≡ None → o ≡ None
 none_bad None none = refl
-none_bad (Some place) none = absurd (cc)
+none_bad (Some place) none = cc
 
 tables_within : (o : Option (List Members)) → interrupts_fault o ≡ None
     → AreInterrupts (map interrupt_at (unwrap_or o []))
-tables_within None none = absurd (cc)
+tables_within None none = cc
 tables_within (Some mss) none =
     let both = neither (option_map fault.BadInterrupt (bad_interrupt 1 mss))
     (unless (nat_le (length mss) 8) fault.TooManyInterrupts) none in
@@ -121,9 +116,7 @@ tree_within ms none =
     passed (is_some (tables_at key.Task ms)) (fault.WrongKind 0 0 key.Task) _ known.1 in
     let behind = neither (prefer_fault (value_at key.Prefer ms)) _ tables.1 in
     let said = neither (overheads_fault (value_at key.Node ms)) _ behind.1 in
-    let tasks = option_or (tasks_fault 1 (unwrap_or (tables_at key.Task ms) []))
-    (option_or (option_map of_set (sheets_fault (tree_sheets ms))) None) in
-    let rest = neither (interrupts_fault (tables_at key.Interrupt ms)) tasks said.1 in
+    let rest = neither (interrupts_fault (tables_at key.Interrupt ms)) _ said.1 in
     record {
       node = overheads_within (value_at key.Node ms) said.0;
       interrupts = tables_within (tables_at key.Interrupt ms) rest.0;

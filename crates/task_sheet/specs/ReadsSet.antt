@@ -48,6 +48,15 @@ SaysDocument text U prefers node interrupts =
     × (node ≡ tree_node tree)
     × (interrupts ≡ tree_interrupts tree)
 
+-- what a tree without a fault says, of which a document is made
+abbrev pub SaysTree : Members → Document → Type 0
+SaysTree tree d =
+    (tree_fault tree ≡ None)
+    × IsByRank (tree_sheets tree) d.set
+    × (d.prefers ≡ tree_prefers tree)
+    × (d.node ≡ tree_node tree)
+    × (d.interrupts.items ≡ tree_interrupts tree)
+
 -- a document; a refusal is that of reading the set
 abbrev pub ReadsDocument : List ℕ → Result Document SetFault → Type 0
 ReadsDocument text (Ok d) = SaysDocument text d.set d.prefers d.node d.interrupts.items

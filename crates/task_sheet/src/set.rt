@@ -1,5 +1,5 @@
 //! Sets of tasks.
-ghost use Rattle.std.specs.Prelude.{◌≡◌, ◌≢◌, ◌==◌, ◌↔◌, ℕ, ◌+◌, ◌<◌, ◌≤◌, List, [], ◌∷◌, ◌++◌, length, vec_len, true, false, Some, None, Err, IsTrue, IsNone, IsSome, IfOk, IfErr, IfSome, IfNone, All, option_map, slice_get, position};
+ghost use Rattle.std.specs.Prelude.{◌≡◌, ◌≢◌, ◌==◌, ◌↔◌, ◌+◌, ◌≤◌, List, [], ◌∷◌, ◌++◌, length, true, false, Some, None, Err, IsTrue, IfOk, IfErr, All, option_map, slice_get, position};
 ghost use Rattle.task_sheet.specs.Sheet.{Task, IsValidSheet, same_bytes};
 ghost use Rattle.task_sheet.specs.Rank.{IsByRank};
 ghost use Rattle.task_sheet.specs.TaskSet.{IsTaskSet, AreDistinct, first_repeat, has_name, others_of, same_name};
@@ -107,6 +107,7 @@ fn is_taken(sheets: &[Sheet], name: Name) -> bool
 fn first_repeat(alloc: Global, sheets: &[Sheet]) -> Result<Option<usize>, AllocError>
     ensures first { IfOk result (λ place. place ≡ first_repeat [] 1 sheets.now) }
     ensures valid { IfOk result (λ place. place ≡ None → All IsValidSheet sheets.now) }
+    ensures distinct { IfOk result (λ place. place ≡ None → AreDistinct same_name sheets.now) }
 {
     let mut names = BTreeSet::new(alloc);
     for (i, sheet) in sheets.iter().enumerate() {

@@ -1,8 +1,8 @@
 //! What a task declares.
-ghost use Rattle.std.specs.Prelude.{◌≡◌, ◌↔◌, ℕ, ◌+◌, ◌<◌, ◌≤◌, length, All, IsTrue, Some, None, IfNone, IfOk, IfErr, OnOk, OnErr};
+ghost use Rattle.std.specs.Prelude.{◌≡◌, ◌↔◌, ◌+◌, ◌<◌, ◌≤◌, length, All, IsTrue, Some, None, IfNone, IfOk, IfErr, OnOk, OnErr};
 ghost use Rattle.std.specs.Bool.{OnFalse};
 ghost use Rattle.task_sheet.specs.Name.{IsName};
-ghost use Rattle.task_sheet.specs.Sheet.{CriticalSection, Task, IsSection, AreSections, AreOutranked, MayOutrank, AreOverheads, AreInterrupts, IsValidSheet, task_of, with_jitter, outranking, outranks_task, weighing, with_node, interrupted, repeats, same_section, same_interrupt, same_sheet};
+ghost use Rattle.task_sheet.specs.Sheet.{CriticalSection, Task, IsSection, AreSections, AreOutranked, MayOutrank, AreOverheads, AreInterrupts, IsValidSheet, task_of, with_jitter, outranking, outranks_task, weighing, with_node, interrupted, repeats, same_section, same_sheet};
 ghost use Rattle.task_sheet.specs.Overheads.{overhead_of};
 ghost use Rattle.task_sheet.specs.SheetFields.{outranks_of};
 ghost use Rattle.task_sheet.specs.Demand.{limit_of};
@@ -13,6 +13,7 @@ use crate::name::Name;
 use crate::node::{Interrupt, Node};
 use crate::outranks::Outranks;
 use std::alloc::{AllocError, Global};
+use std::fmt;
 use std::marker::Model;
 use thiserror::Error;
 
@@ -38,44 +39,68 @@ pub const OUTRANKS_LIMIT: usize = 8;
 #[derive(Clone, Copy, Debug, PartialEq, Eq, Error)]
 pub enum SheetCause {
     /// The weight is above 1,000.
-    #[error("the weight is above 1000")]
     BadWeight,
     /// The period isn't from 1,000 to 10,000,000 microseconds.
-    #[error("the period is not from 1000 to 10000000")]
     BadPeriod,
     /// The deadline is 0.
-    #[error("the deadline is 0")]
     DeadlineZero,
     /// The deadline is above the period.
-    #[error("the deadline is above the period")]
     DeadlinePastPeriod,
     /// The cost is 0.
-    #[error("the cost is 0")]
     CostZero,
     /// The cost is above the period.
-    #[error("the cost is above the period")]
     CostPastPeriod,
     /// There are more than 8 sections.
-    #[error("more than 8 sections")]
     TooManySections,
     /// The section names no lock.
-    #[error("section {section}: no locks")]
     NoLocks { section: usize },
     /// The section names more than 4 locks.
-    #[error("section {section}: more than 4 locks")]
     TooManyLocks { section: usize },
     /// The section names a lock twice.
-    #[error("section {section}: a lock twice")]
     LockTwice { section: usize },
     /// The section's length is 0.
-    #[error("section {section}: its length is 0")]
     LenZero { section: usize },
     /// The section begins before the end of the one before it.
-    #[error("section {section}: it begins before the end of the one before it")]
     Overlap { section: usize },
     /// The section ends past the cost.
-    #[error("section {section}: it ends past the cost")]
     SectionPastCost { section: usize },
+}
+
+impl SheetCause {
+    // What is wrong, of a section or of the sheet.
+    fn words(self) -> &'static str {
+        match self {
+            SheetCause::BadWeight => "the weight is above 1000",
+            SheetCause::BadPeriod => "the period is not from 1000 to 10000000",
+            SheetCause::DeadlineZero => "the deadline is 0",
+            SheetCause::DeadlinePastPeriod => "the deadline is above the period",
+            SheetCause::CostZero => "the cost is 0",
+            SheetCause::CostPastPeriod => "the cost is above the period",
+            SheetCause::TooManySections => "more than 8 sections",
+            SheetCause::NoLocks { .. } => "no locks",
+            SheetCause::TooManyLocks { .. } => "more than 4 locks",
+            SheetCause::LockTwice { .. } => "a lock twice",
+            SheetCause::LenZero { .. } => "its length is 0",
+            SheetCause::Overlap { .. } => "it begins before the end of the one before it",
+            SheetCause::SectionPastCost { .. } => "it ends past the cost",
+        }
+    }
+}
+
+impl fmt::Display for SheetCause {
+    fn fmt<W: fmt::Write>(&self, f: &mut fmt::Formatter<W>) -> fmt::Result {
+        match self {
+            SheetCause::NoLocks { section }
+            | SheetCause::TooManyLocks { section }
+            | SheetCause::LockTwice { section }
+            | SheetCause::LenZero { section }
+            | SheetCause::Overlap { section }
+            | SheetCause::SectionPastCost { section } => {
+                write!(f, "section {section}: {}", self.words())
+            }
+            _ => f.write_str(self.words()),
+        }
+    }
 }
 
 /// The values are no sheet. The sections are handed back.

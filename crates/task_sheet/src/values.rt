@@ -20,10 +20,7 @@ fn number_of(value: &Value) -> Option<u64>
 pub(crate) fn number_at(key: Key, table: &Table) -> Option<u64>
     ensures { result ≡ number_at key (table_view table.now) }
 {
-    match value_at(key, table) {
-        Some(value) => number_of(value),
-        None => None,
-    }
+    number_of(value_at(key, table)?)
 }
 
 // The number at a key, which is this one where it is absent.
@@ -48,10 +45,7 @@ pub(crate) fn number_or_zero(key: Key, table: &Table) -> Option<u64>
 pub(crate) fn text_at<'a>(key: Key, table: &'a Table) -> Option<&'a str>
     ensures { option_map (λ s. s.now) result ≡ text_at key (table_view table.now) }
 {
-    match value_at(key, table) {
-        Some(value) => value.as_str(),
-        None => None,
-    }
+    value_at(key, table)?.as_str()
 }
 
 // All of the values are strings.

@@ -3,7 +3,7 @@ use Rattle.std.proofs.lemmas.List.{take_more}
 use Rattle.std.proofs.lemmas.List.Elements.{All-push}
 use Rattle.task_sheet.specs.Sheet.{IsValidSheet}
 use Rattle.task_sheet.specs.TaskSet.{has_name}
-use Rattle.task_sheet.proofs.SetLaws.{names_step, repeat_step}
+use Rattle.task_sheet.proofs.SetLaws.{names_step, repeat_step, distinct_more}
 use Rattle.task_sheet.proofs.set.first_repeat.Goals as goal
 
 pub loop-i-preserved : goal.loop-i-preserved
@@ -12,13 +12,13 @@ loop-i-preserved c =
     search rules in
     let step = repeat_step c.args.sheets.now c.loop-i.i c.index-sheets-i.result _ c.loop-i-test.true
     c.index-sheets-i.is (sym new) in
+    let more = take_more c.args.sheets.now c.loop-i.i c.index-sheets-i.result
+    c.loop-i-test.true in
     record {
-      valid = rw (
-        take_more c.args.sheets.now c.loop-i.i c.index-sheets-i.result
-            c.loop-i-test.true,
-        ← c.index-sheets-i.is,
-      )
+      valid = rw (more, ← c.index-sheets-i.is)
           (All-push IsValidSheet _ _ c.loop-i.invariant.valid c.name.ensures.valid);
+      distinct = rw (more, ← c.index-sheets-i.is)
+          (distinct_more _ _ c.loop-i.invariant.distinct new);
       same = sym step ∙ c.loop-i.invariant.same;
       names = λ q. names_step c.args.sheets.now c.loop-i.i c.index-sheets-i.result q _ _
           c.loop-i-test.true c.index-sheets-i.is (c.loop-i.invariant.names q) (search rules);

@@ -3,14 +3,10 @@ use Rattle.task_sheet.specs.MembersWords.{same_members}
 use Rattle.task_sheet.proofs.Equality.{same_bits, same_members_told}
 use Rattle.task_sheet.proofs.members.MembersPartialEq.eq.Goals as goal
 
-pub returns-clause-value : goal.returns-clause-value
-returns-clause-value c = rw (← c.self.view_is, ← c.other.view_is)
-    (same_bits c.self.inside.bits c.other.inside.bits c.self.invariant c.other.invariant)
-
-pub returns-clause-same : goal.returns-clause-same
-returns-clause-same c =
+pub returns : goal.returns
+returns c =
     let value : nat_eq c.self.inside.bits c.other.inside.bits
     ≡ same_members c.args.self.now c.args.other.now =
     rw (← c.self.view_is, ← c.other.view_is)
     (same_bits c.self.inside.bits c.other.inside.bits c.self.invariant c.other.invariant) in
-    same_members_told c.args.self.now c.args.other.now _ value
+    record { value = value; same = same_members_told c.args.self.now c.args.other.now _ value }
