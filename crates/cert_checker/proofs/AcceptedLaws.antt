@@ -20,12 +20,12 @@ use Rattle.certificate.specs.CertificateOf.{certificate_of, IsKnownReason, IsKno
 use Rattle.certificate.specs.Versions.{version_for}
 use Rattle.certificate.specs.declared.version.CertVersion.{CertVersion}
 use Rattle.certificate.specs.declared.version.CertVersion.TheVariants.{First, Second, Third}
-use Rattle.certificate.proofs.VerdictSpelling.{fails-below, fails-known, verdict-spelled}
+use Rattle.certificate.proofs.VerdictSpelling.{fails-below, fails-told, verdict-spelled}
 use Rattle.certificate.proofs.ReadingLaws.{reads_back}
 use Rattle.cert_checker.specs.Ready.{task_by_name, reason_by_index, failures_of, levels_of}
 use Rattle.cert_checker.specs.Ready.{may_serve, IsReadyBody, IsReady}
 use Rattle.cert_checker.specs.Answers.{kind_of, kind_of_verdict, IsAccepted}
-use Rattle.cert_checker.proofs.ReadyLaws.{none-from_ready}
+use Rattle.cert_checker.proofs.ReadyLaws.{faultless}
 
 -- ---- the names of a set are those of its tasks
 -- each version serves the sets that need it
@@ -71,7 +71,7 @@ module _ (U : List Task) (set : IsTaskSet U) where
       rw (
         task-own l.task lt,
         response-own U l ready.0.positive,
-        failures-own l.fails (fails-known U L l.fails below ready.0.refuted),
+        failures-own l.fails (fails-told U set L l.fails below ready.0.refuted).0,
         levels-own (without_index L l.task) levels (IsOrderOf-rest L l.task (order_of levels) each)
             (without-part_of (length U) L l.task part) ready.1,
       ) refl
@@ -83,9 +83,10 @@ module _ (U : List Task) (set : IsTaskSet U) where
       (sym (levels-own (all_of U) levels ready.each_once (λ k is. is) ready.ready)) ready
   body-ready (Infeasible members) h =
       let ready = IsStuck-ready U members h in
-      subst (IsReadySet U) (sym (failures-own members (fails-known U (among (tasks_of members))
-      members (order-below (length U) (among (tasks_of members)) (tasks_of members)
-      ready.distinct ready.within) ready.refuted))) ready
+      let L = among (tasks_of members) in
+      let known = (fails-told U set L members (order-below (length U) L (tasks_of members)
+      ready.distinct ready.within) ready.refuted).0 in
+      subst (IsReadySet U) (sym (failures-own members known)) ready
 
   same-kind : (v : VerdictData) → kind_of (body_named U v) ≡ kind_of_verdict v
   same-kind (Admitted levels) = refl
@@ -100,6 +101,6 @@ module _ (U : List Task) (set : IsTaskSet U) where
         spelled = spelled;
         read_back = reads_back (certificate_of U v) spelled;
         ready = ready;
-        faultless = none-from_ready U (certificate_of U v) ready;
+        faultless = (faultless U (certificate_of U v)).1 ready;
         kind = same-kind v;
       }

@@ -1,16 +1,16 @@
 -- The checks of the levels, one level after the other.
-use Rattle.std.proofs.Common.{◌≡◌, ℕ, zero, suc, ◌+◌, ◌<◌, Bool, true, false, ◌&&◌}
-use Rattle.std.proofs.Common.{List, [], ◌∷◌, length, drop, get_or, All, Option, Some, None, refl}
-use Rattle.std.proofs.Common.{sym, ◌∙◌, ap, arith, inl, inr}
+use Rattle.std.proofs.Common.{◌≡◌, ℕ, zero, suc, ◌+◌, ◌<◌, Bool, true, false, ◌&&◌, List, [], ◌∷◌}
+use Rattle.std.proofs.Common.{length, drop, get_or, All, Option, Some, None, refl, sym, ◌∙◌, ap}
+use Rattle.std.proofs.Common.{arith, inl, inr}
 use Rattle.std.specs.List.{AllByRecursion}
 use Rattle.std.proofs.lemmas.Bool.{cases_eq, and_parts, ltb-true}
 use Rattle.std.proofs.lemmas.List.Elements.{All-from_recursion}
 use Rattle.task_sheet.specs.Sheet.{Task}
-use Rattle.task_sheet.specs.Indexes.{Indexes, with_index, without_index, among}
+use Rattle.task_sheet.specs.Indexes.{Indexes, no_index, with_index, without_index, among}
 use Rattle.task_sheet.specs.Verdicts.{order_of}
 use Rattle.certificate.specs.Body.{CertLevelData}
 use Rattle.cert_checker.specs.Ready.{task_by_name, levels_of}
-use Rattle.cert_checker.specs.Faults.{are_new, first_unnamed, level_fault, levels_fault}
+use Rattle.cert_checker.specs.Faults.{are_new, has_all, first_unnamed, level_fault, levels_fault}
 use Rattle.cert_checker.specs.declared.levels.LevelCheck.{LevelCheck}
 use Rattle.cert_checker.specs.declared.fault.CheckFault.{CheckFault}
 use Rattle.cert_checker.proofs.SeenSteps.{dropped}
@@ -53,9 +53,10 @@ new-known U seen (l ∷ ls) h =
       new-known U (with_index seen (task_by_name U l.name)) ls parts.1,
     )
 
-pub levels-known : (U : List Task) (seen : Indexes) (ls : List CertLevelData) (b : Bool)
-    → (are_new (length U) seen (order_of (levels_of U ls)) && b) ≡ true
+pub levels-known : (U : List Task) (ls : List CertLevelData) (is : Bool)
+    → is ≡ (are_new (length U) no_index (order_of (levels_of U ls))
+    && has_all (length U) (among (order_of (levels_of U ls)))) → is ≡ true
     → All (λ (l : CertLevelData). task_by_name U l.name < length U) ls
-levels-known U seen ls b h =
+levels-known U ls is told holds =
     All-from_recursion (λ (l : CertLevelData). task_by_name U l.name < length U) ls
-    (new-known U seen ls (and_parts _ b h).0)
+    (new-known U no_index ls (and_parts _ _ (sym told ∙ holds)).0)

@@ -1,8 +1,7 @@
 pub mod SeenSteps
 pub mod WorkSteps
-pub mod ChainSteps
 pub mod LevelSteps
-pub mod ChainTests
+pub mod Tests
 pub mod LesserLaws
 pub mod NamedLaws
 pub mod ReadyLaws

@@ -1,16 +1,15 @@
 -- A certificate without a fault is ready, and a ready one has no fault.
-use Rattle.std.proofs.Common.{◌≡◌, ℕ, suc, ◌+◌, ◌<◌, ◌≤◌, Bool, true, false, cond, ◌&&◌, ◌==◌, not}
-use Rattle.std.proofs.Common.{List, [], ◌∷◌, length, Option, Some, None, refl, sym, ap}
-use Rattle.std.proofs.Common.{subst, arith}
+use Rattle.std.proofs.Common.{◌≡◌, ◌↔◌, ℕ, suc, ◌+◌, ◌<◌, ◌≤◌, Bool, true, false, cond, ◌&&◌, ◌==◌}
+use Rattle.std.proofs.Common.{not, List, [], ◌∷◌, length, Option, Some, None, refl, ap, arith}
+use Rattle.std.specs.Bool.{Decides}
 use Rattle.std.specs.Option.{option_or}
 use Rattle.std.specs.List.{AllByRecursion}
-use Rattle.std.proofs.lemmas.Bool.{and_parts, and_from, both_ways, or_left, ltb-true, leb-true}
-use Rattle.std.proofs.lemmas.Bool.{lt-ltb, le-leb, eq-eqb, not-true}
-use Rattle.std.proofs.lemmas.Bool.Decides.{nat_tests}
+use Rattle.std.proofs.lemmas.Bool.{and_parts, both_ways, or_left, ltb-true, eq-eqb, not-true}
+use Rattle.std.proofs.lemmas.Bool.Decides.{nat_tests, Decides-and, Decides-ltb}
 use Rattle.task_sheet.specs.Sheet.{Task, task_at}
 use Rattle.task_sheet.specs.Indexes.{Indexes, IsPart, no_index, without_index, among}
 use Rattle.task_sheet.specs.Demand.{demand_of, limit_of}
-use Rattle.task_sheet.specs.Orders.{all_of, is_bound, IsOrderOf}
+use Rattle.task_sheet.specs.Orders.{all_of, must_outrank, is_bound, IsOrderOf}
 use Rattle.task_sheet.specs.Verdicts.{tasks_of, order_of}
 use Rattle.task_sheet.specs.Ready.{time_of, Refutes, AllRefuted, IsReadyLevel, AllReady}
 use Rattle.task_sheet.specs.Ready.{IsReadyOrder, IsReadySet}
@@ -18,78 +17,76 @@ use Rattle.task_sheet.proofs.IndexLaws.{IsOrderOf-head, IsOrderOf-rest, without-
 use Rattle.task_sheet.proofs.IndexLaws.{order-below}
 use Rattle.certificate.specs.Body.{CertReasonData, Chain, Over, Fail, CertLevelData, Body, Best}
 use Rattle.certificate.specs.Body.{NoOrder, Cert}
+use Rattle.certificate.specs.Versions.{version_for}
 use Rattle.certificate.proofs.VerdictSpelling.{fails-below}
 use Rattle.cert_checker.specs.Ready.{task_by_name, reason_by_index, failures_of, level_by_index}
-use Rattle.cert_checker.specs.Ready.{levels_of, IsReadyBody, IsReady}
-use Rattle.cert_checker.specs.Faults.{fault_unless, are_new, has_all, are_lesser}
-use Rattle.cert_checker.specs.Faults.{time_stands, refutes, is_refuted, bad_fail, first_unnamed}
-use Rattle.cert_checker.specs.Faults.{missing_at, level_fault, levels_fault, order_fault, set_fault}
-use Rattle.cert_checker.specs.Faults.{body_fault, check_fault}
+use Rattle.cert_checker.specs.Ready.{levels_of, may_serve, IsReadyBody, IsReady}
+use Rattle.cert_checker.specs.Faults.{fault_unless, are_new, has_all, are_lesser, time_stands}
+use Rattle.cert_checker.specs.Faults.{refutes, is_refuted, bad_fail, first_unnamed, missing_at}
+use Rattle.cert_checker.specs.Faults.{level_fault, levels_fault, order_fault, set_fault, body_fault}
+use Rattle.cert_checker.specs.Faults.{check_fault}
 use Rattle.cert_checker.specs.declared.fault.CheckFault.{CheckFault}
+use Rattle.cert_checker.specs.declared.fault.CheckFault.TheVariants.{WrongVersion, BadChain}
+use Rattle.cert_checker.specs.declared.fault.CheckFault.TheVariants.{EmptySet}
 use Rattle.cert_checker.specs.declared.levels.LevelCheck.{LevelCheck}
 use Rattle.cert_checker.specs.declared.levels.LevelCheck.TheVariants.{Tasks, Pass, Chains, Missing}
-use Rattle.cert_checker.proofs.ChainTests.{chain-sound, chain-complete}
+use Rattle.cert_checker.proofs.Tests.{at_most, as_said, chain-decides}
 use Rattle.cert_checker.proofs.LesserLaws.{none-or, lesser-sound, lesser-complete}
 use Rattle.cert_checker.proofs.NamedLaws.{new-order, new-part, order-sound, set-complete}
 use Rattle.cert_checker.proofs.NamedLaws.{order-complete}
 
 -- ---- no fault
-or-none : {A : Type 0} (o p : Option A) → o ≡ None → p ≡ None → option_or o p ≡ None
-or-none None p e f = f
-or-none (Some x) p e f = absurd cc
+none-both : {A P Q : Type 0} (o p : Option A) → (o ≡ None) ↔ P → (p ≡ None) ↔ Q
+    → (option_or o p ≡ None) ↔ (P × Q)
+none-both None p a b = (λ e. (a.0 refl, b.0 e), λ h. b.1 h.1)
+none-both (Some x) p a b = (λ e. absurd cc, λ h. let none = a.1 h.0 in absurd cc)
 
-met : (b : Bool) (fault : CheckFault) → fault_unless b fault ≡ None → b ≡ true
-met true fault e = refl
-met false fault e = absurd cc
-
-unmet : (b : Bool) (fault : CheckFault) → b ≡ true → fault_unless b fault ≡ None
-unmet true fault e = refl
-unmet false fault e = absurd cc
+none-unless : {P : Type 0} (b : Bool) (fault : CheckFault) → Decides b P
+    → (fault_unless b fault ≡ None) ↔ P
+none-unless true fault is = (λ e. is.0 refl, λ h. refl)
+none-unless false fault is = (λ e. absurd cc, λ h. let met = is.1 h in absurd cc)
 
 found : (U : List Task) (place : ℕ) (o : Option ℕ) → missing_at U place o ≡ None → o ≡ None
 found U place None e = refl
 found U place (Some k) e = absurd cc
 
 -- ---- failures
-refutes-sound : (U : List Task) (i : ℕ) (H : Indexes) (reason : CertReasonData)
-    → refutes U i H reason ≡ true → Refutes U i H (reason_by_index U reason)
-refutes-sound U i H (Chain numbers) h =
-    chain-sound (demand_of U i H) (limit_of (task_at U i)) numbers h
-refutes-sound U i H (Over other) h =
-    let both = and_parts _ _ h in
-    let first = and_parts _ _ both.0 in
-    (ltb-true _ _ first.0, first.1, both.1)
+refutes-decides : (U : List Task) (i : ℕ) (H : Indexes) (reason : CertReasonData)
+    → Decides (refutes U i H reason) (Refutes U i H (reason_by_index U reason))
+refutes-decides U i H (Chain numbers) =
+    chain-decides (demand_of U i H) (limit_of (task_at U i)) numbers
+refutes-decides U i H (Over other) =
+    let k = task_by_name U other in
+    let both = Decides-and _ _ (Decides-and _ _ (Decides-ltb k (length U)) (as_said (H k)))
+    (as_said (must_outrank U i k)) in
+    (λ h. let p = both.0 h in (p.0.0, p.0.1, p.1), λ h. both.1 ((h.0, h.1), h.2))
 
-refutes-complete : (U : List Task) (i : ℕ) (H : Indexes) (reason : CertReasonData)
-    → Refutes U i H (reason_by_index U reason) → refutes U i H reason ≡ true
-refutes-complete U i H (Chain numbers) h =
-    chain-complete (demand_of U i H) (limit_of (task_at U i)) numbers h
-refutes-complete U i H (Over other) h =
-    and_from _ _ (and_from _ _ (lt-ltb (task_by_name U other) (length U) h.0) h.1) h.2
-
-fails-sound : (U : List Task) (place : ℕ) (L : Indexes) (fs : List Fail)
-    → bad_fail U place L fs ≡ None → AllRefuted U L (failures_of U fs)
-fails-sound U place L [] h = tt
-fails-sound U place L (f ∷ fs) h =
-    let both = none-or _ _ h in
+fails-none : (U : List Task) (place : ℕ) (L : Indexes) (fs : List Fail)
+    → (bad_fail U place L fs ≡ None) ↔ (AllByRecursion (λ k. k < length U)
+    (tasks_of (failures_of U fs)) × AllRefuted U L (failures_of U fs))
+fails-none U place L [] = (λ e. (tt, tt), λ h. refl)
+fails-none U place L (f ∷ fs) =
     let k = task_by_name U f.name in
-    let parts = and_parts _ _ (met (is_refuted U L f) _ both.0) in
-    (refutes-sound U k (without_index L k) f.reason parts.1, fails-sound U place L fs both.1)
-
-fails-complete : (U : List Task) (place : ℕ) (L : Indexes) (fs : List Fail)
-    → AllByRecursion (λ k. k < length U) (tasks_of (failures_of U fs))
-    → AllRefuted U L (failures_of U fs) → bad_fail U place L fs ≡ None
-fails-complete U place L [] known h = refl
-fails-complete U place L (f ∷ fs) known h =
-    let k = task_by_name U f.name in
-    let first : is_refuted U L f ≡ true = and_from _ _ (lt-ltb k (length U) known.0)
-    (refutes-complete U k (without_index L k) f.reason h.0) in
-    or-none _ _ (unmet _ _ first) (fails-complete U place L fs known.1 h.1)
+    let both = none-both _ _ (none-unless (is_refuted U L f) (BadChain place f.name)
+    (Decides-and _ _ (Decides-ltb k (length U))
+    (refutes-decides U k (without_index L k) f.reason))) (fails-none U place L fs) in (
+      λ e. let p = both.0 e in ((p.0.0, p.1.0), (p.0.1, p.1.1)),
+      λ h. both.1 ((h.0.0, h.1.0), (h.0.1, h.1.1)),
+    )
 
 -- ---- a level
 -- the response that a time gives leaves the time
 time-own : (U : List Task) (l : CertLevelData) → time_of U (level_by_index U l) ≡ l.time
 time-own U l = omega arith
+
+time-stands : (U : List Task) (L : Indexes) (k time : ℕ) → Decides (time_stands U L k time)
+    ((((1 ≤ time) × (time ≤ limit_of (task_at U k)))
+    × (demand_of U k (without_index L k) time ≤ time))
+    × (is_bound U k (without_index L k) ≡ false))
+time-stands U L k time = Decides-and _ _ (Decides-and _ _ (Decides-and _ _ (at_most 1 time)
+    (at_most time (limit_of (task_at U k))))
+    (at_most (demand_of U k (without_index L k) time) time))
+    (not-true (is_bound U k (without_index L k)), λ e. ap not e)
 
 level-sound : (U : List Task) (place : ℕ) (L : Indexes) (l : CertLevelData)
     → ((asked : LevelCheck) → level_fault U asked place L l ≡ None)
@@ -97,39 +94,39 @@ level-sound : (U : List Task) (place : ℕ) (L : Indexes) (l : CertLevelData)
 level-sound U place L l h =
     let k = task_by_name U l.name in
     let fails = tasks_of (failures_of U l.fails) in
-    let stands = and_parts _ _ (met (time_stands U L k l.time) _ (h Pass)) in
-    let pass = and_parts _ _ stands.0 in
-    let times = and_parts _ _ pass.0 in
+    let stands = (none-unless _ _ (time-stands U L k l.time)).0 (h Pass) in
+    let lesser = (none-unless (are_lesser L 0 k fails) _ (as_said _)).0 (h Tasks) in
     let same = time-own U l in
     record {
-      positive = omega (arith, same, leb-true 1 l.time times.0);
-      within = omega (arith, same, leb-true l.time (limit_of (task_at U k)) times.1);
-      covers = subst (λ (t : ℕ). demand_of U k (without_index L k) t ≤ t) (sym same)
-          (leb-true (demand_of U k (without_index L k) l.time) l.time pass.1);
-      unbound = not-true (is_bound U k (without_index L k)) stands.1;
-      lesser = lesser-sound L k fails (met (are_lesser L 0 k fails) _ (h Tasks))
+      positive = omega (arith, same, stands.0.0.0);
+      within = omega (arith, same, stands.0.0.1);
+      covers = rw same stands.0.1;
+      unbound = stands.1;
+      lesser = lesser-sound L k fails lesser
           (found U place (first_unnamed L fails k) (h Missing));
-      refuted = fails-sound U place L l.fails (h Chains);
+      refuted = ((fails-none U place L l.fails).0 (h Chains)).1;
     }
 
 level-complete : (U : List Task) (asked : LevelCheck) (place : ℕ) (L : Indexes) (l : CertLevelData)
     → task_by_name U l.name < length U → IsReadyLevel U L (level_by_index U l)
     → level_fault U asked place L l ≡ None
-level-complete U Tasks place L l lt ready =
-    unmet _ _ (lesser-complete L (task_by_name U l.name) _ ready.lesser).0
+level-complete U Tasks place L l lt ready = (none-unless _ _ (as_said _)).1
+    (lesser-complete L (task_by_name U l.name) _ ready.lesser).0
 level-complete U Pass place L l lt ready =
-    let k = task_by_name U l.name in
     let same = time-own U l in
-    unmet _ _ (and_from _ _ (and_from _ _ (and_from _ _
-    (le-leb 1 l.time (omega (arith, same, ready.positive)))
-    (le-leb l.time (limit_of (task_at U k)) (omega (arith, same, ready.within))))
-    (le-leb (demand_of U k (without_index L k) l.time) l.time
-    (subst (λ (t : ℕ). demand_of U k (without_index L k) t ≤ t) same ready.covers)))
-    (ap not ready.unbound))
+    (none-unless _ _ (time-stands U L (task_by_name U l.name) l.time)).1 (
+      (
+        (
+          omega (arith, same, ready.positive),
+          omega (arith, same, ready.within),
+        ),
+        rw same at ready.covers,
+      ),
+      ready.unbound,
+    )
 level-complete U Chains place L l lt ready =
-    let k = task_by_name U l.name in
-    let known = fails-below (length U) L k (tasks_of (failures_of U l.fails)) lt ready.lesser in
-    fails-complete U place L l.fails known ready.refuted
+    let known = fails-below (length U) L (task_by_name U l.name) _ lt ready.lesser in
+    (fails-none U place L l.fails).1 (known, ready.refuted)
 level-complete U Missing place L l lt ready =
     ap (missing_at U place) (lesser-complete L (task_by_name U l.name) _ ready.lesser).1
 
@@ -151,10 +148,10 @@ levels-complete U asked place L [] each part ready = refl
 levels-complete U asked place L (l ∷ ls) each part ready =
     let k = task_by_name U l.name in
     let above = order_of (levels_of U ls) in
-    or-none _ _ (level-complete U asked place L l
-    (ltb-true k (length U) (part k (IsOrderOf-head L k above each))) ready.0)
-    (levels-complete U asked (place + 1) (without_index L k) ls (IsOrderOf-rest L k above each)
-    (without-part_of (length U) L k part) ready.1)
+    let here = level-complete U asked place L l
+    (ltb-true k (length U) (part k (IsOrderOf-head L k above each))) ready.0 in
+    rw here (levels-complete U asked (place + 1) (without_index L k) ls
+    (IsOrderOf-rest L k above each) (without-part_of (length U) L k part) ready.1)
 
 -- ---- an order
 guard-none : (b : Bool) (o : Option CheckFault) (fault : CheckFault) → cond b o (Some fault) ≡ None
@@ -194,27 +191,16 @@ order-ready U ls ready =
     ready.ready in
     let named : (are_new n no_index order && has_all n (among order)) ≡ true =
     order-complete n order ready.each_once in
-    rw named (or-none _ _ (none Tasks)
-    (or-none _ _ (none Pass) (or-none _ _ (none Chains) (none Missing))))
+    rw (named, none Tasks, none Pass, none Chains) (none Missing)
 
 -- ---- a set
-some-member : (U : List Task) (cs : List Fail) → not (length cs == 0) ≡ true → (k : ℕ)
-    × (among (tasks_of (failures_of U cs)) k ≡ true)
-some-member U [] h = absurd cc
-some-member U (c ∷ cs) h = (
-  task_by_name U c.name,
-  or_left (task_by_name U c.name
-      == task_by_name U c.name) (among (tasks_of (failures_of U cs)) (task_by_name U c.name))
-      (eq-eqb (task_by_name U c.name) (task_by_name U c.name) refl),
-)
-
-suc-some : (n : ℕ) → not (suc n == 0) ≡ true
-suc-some n = grind (arith, nat_tests)
-
-member-some : (U : List Task) (cs : List Fail) (k : ℕ)
-    → among (tasks_of (failures_of U cs)) k ≡ true → not (length cs == 0) ≡ true
-member-some U [] k h = absurd (both_ways false refl h)
-member-some U (c ∷ cs) k h = suc-some (length cs)
+set-some : (U : List Task) (cs : List Fail) → (fault_unless (not (length cs == 0)) EmptySet ≡ None)
+    ↔ ((k : ℕ) × (among (tasks_of (failures_of U cs)) k ≡ true))
+set-some U [] = (λ e. absurd cc, λ h. absurd (both_ways false refl h.1))
+set-some U (c ∷ cs) =
+    let k = task_by_name U c.name in
+    let some : not (suc (length cs) == 0) ≡ true = grind (arith, nat_tests) in
+    (λ e. (k, or_left (k == k) _ (eq-eqb k k refl)), λ h. rw some refl)
 
 set-without_fault : (U : List Task) (cs : List Fail) → set_fault U cs ≡ None
     → IsReadySet U (failures_of U cs)
@@ -225,9 +211,9 @@ set-without_fault U cs h =
     let both = none-or _ _ g.1 in
     record {
       within = new-part n ks g.0;
-      some = some-member U cs (met _ _ both.1);
+      some = (set-some U cs).0 both.1;
       distinct = new-order n ks g.0;
-      refuted = fails-sound U 0 (among ks) cs both.0;
+      refuted = ((fails-none U 0 (among ks) cs).0 both.0).1;
     }
 
 set-ready : (U : List Task) (cs : List Fail) → IsReadySet U (failures_of U cs)
@@ -238,23 +224,18 @@ set-ready U cs ready =
     let named : are_new n no_index ks ≡ true =
     set-complete n (among ks) ks ready.distinct ready.within in
     let known = order-below n (among ks) ks ready.distinct ready.within in
-    rw named (or-none _ _ (fails-complete U 0 (among ks) cs known ready.refuted)
-    (unmet _ _ (member-some U cs ready.some.0 ready.some.1)))
+    rw (named, (fails-none U 0 (among ks) cs).1 (known, ready.refuted))
+    ((set-some U cs).1 ready.some)
 
 -- ---- the whole
-body-sound : (U : List Task) (b : Body) → body_fault U b ≡ None → IsReadyBody U b
-body-sound U (Best levels) h = order-without_fault U levels h
-body-sound U (NoOrder members) h = set-without_fault U members h
+body-none : (U : List Task) (b : Body) → (body_fault U b ≡ None) ↔ IsReadyBody U b
+body-none U (Best levels) = (order-without_fault U levels, order-ready U levels)
+body-none U (NoOrder members) = (set-without_fault U members, set-ready U members)
 
-body-complete : (U : List Task) (b : Body) → IsReadyBody U b → body_fault U b ≡ None
-body-complete U (Best levels) h = order-ready U levels h
-body-complete U (NoOrder members) h = set-ready U members h
-
-pub ready-from_none : (U : List Task) (c : Cert) → check_fault U c ≡ None → IsReady U c
-ready-from_none U c h =
-    let both = none-or _ _ h in
-    record { version = met _ _ both.0; body = body-sound U c.body both.1 }
-
-pub none-from_ready : (U : List Task) (c : Cert) → IsReady U c → check_fault U c ≡ None
-none-from_ready U c h =
-    or-none _ _ (unmet _ _ h.version) (body-complete U c.body h.body)
+pub faultless : (U : List Task) (c : Cert) → (check_fault U c ≡ None) ↔ IsReady U c
+faultless U c =
+    let both = none-both _ _ (none-unless _ WrongVersion
+    (as_said (may_serve c.version (version_for U)))) (body-none U c.body) in (
+      λ e. let p = both.0 e in record { version = p.0; body = p.1 },
+      λ h. both.1 (h.version, h.body),
+    )

@@ -1,7 +1,7 @@
 -- Which tasks were named, one name after the other.
 use Rattle.std.proofs.Common.{◌≡◌, ℕ, zero, suc, ◌+◌, ◌<◌, ◌≤◌, Bool, true, false, ◌||◌, ◌&&◌, ◌==◌}
 use Rattle.std.proofs.Common.{not, nat_lt, List, [], ◌∷◌, length, map, drop, get_or, refl, sym, ◌∙◌}
-use Rattle.std.proofs.Common.{ap, subst, arith, inl, inr}
+use Rattle.std.proofs.Common.{ap, arith, inl, inr}
 use Rattle.std.proofs.Math.Path.{fun_ext}
 use Rattle.std.proofs.Math.Bool.{and-false, or-false}
 use Rattle.std.proofs.Math.Seq.{drop-cons}
@@ -21,15 +21,12 @@ dropped xs i x lt e =
     let next : suc i ≡ i + 1 = omega arith in
     drop-cons xs i x lt ∙ ap (λ y. y ∷ drop (suc i) xs) (sym e) ∙ ap (λ k. x ∷ drop k xs) next
 
--- what was seen, and what is still to be seen
-pub record IsSeen (U : List Task) (seen : Indexes) (rest all : List ℕ) : Type 0 where
-  pub test : are_new (length U) seen rest ≡ are_new (length U) no_index all
-  pub seen_too : (k : ℕ) → (seen k || among rest k) ≡ among all k
-
-pub seen-none : (U : List Task) (seen : Indexes) (all : List ℕ) → seen ≡ no_index
-    → IsSeen U seen all all
-seen-none U seen all e = subst (λ (X : Indexes). IsSeen U X all all) (sym e)
-    (record { test = refl; seen_too = λ k. refl })
+-- of items with tasks the first i were seen
+pub record IsSeen {X : Type 0} (U : List Task) (task : X → ℕ) (xs : List X) (i : ℕ) (seen : Indexes)
+    : Type 0 where
+  pub test : are_new (length U) seen (map task (drop i xs))
+      ≡ are_new (length U) no_index (map task xs)
+  pub seen_too : (k : ℕ) → (seen k || among (map task (drop i xs)) k) ≡ among (map task xs) k
 
 -- one more is seen: whichever of the two it was
 moved : (a b c s : Bool) → a ≡ b → ((a || s) || c) ≡ (s || (b || c))
@@ -45,29 +42,39 @@ same-test x y = elim (cases_eq x y) [
   | inr ne ↦ ne_eqb x y ne ∙ sym (ne_eqb y x (λ e. ne (sym e)))
 ]
 
-pub seen-more : (U : List Task) (seen more : Indexes) (task : ℕ) (here rest all : List ℕ) → here
-    ≡ task ∷ rest → (nat_lt task (length U) && not (seen task)) ≡ true → more ≡ with_index seen task
-    → IsSeen U seen here all → IsSeen U more rest all
-seen-more U seen more task here rest all e new is h =
-    subst (λ (X : Indexes). IsSeen U X rest all) (sym is) (record {
-      test = sym (ap (are_new (length U) seen) e ∙ rw new refl) ∙ h.test;
-      seen_too = λ k. moved (k == task) (task == k) (among rest k) (seen k) (same-test k task)
-          ∙ sym (ap (λ (ks : List ℕ). seen k || among ks k) e) ∙ h.seen_too k;
-    })
+module _ {X : Type 0} {U : List Task} {task : X → ℕ} {xs : List X} {i : ℕ} {seen : Indexes}
+    (h : IsSeen U task xs i seen) where
+  -- no item is left
+  pub seen-end : length xs ≤ i
+      → (are_new (length U) no_index (map task xs) ≡ true) × (seen ≡ among (map task xs))
+  seen-end le =
+      let none : map task (drop i xs) ≡ [] =
+      ap (λ (ys : List X). map task ys) (drop_of_length-le xs le) in (
+        sym (rw none at h.test),
+        fun_ext (λ k. sym (or-false (seen k)) ∙ rw none at (h.seen_too k)),
+      )
 
-pub seen-again : (U : List Task) (seen : Indexes) (task : ℕ) (here rest all : List ℕ)
-    → here ≡ task ∷ rest → (nat_lt task (length U) && not (seen task)) ≡ false
-    → IsSeen U seen here all → are_new (length U) no_index all ≡ false
-seen-again U seen task here rest all e old h = sym h.test ∙ ap (are_new (length U) seen) e
-    ∙ rw old refl
+  -- an item, by its name
+  module _ (x : X) (name : List ℕ) (lt : i < length xs) (is : x ≡ get_or xs i x)
+      (same : task_by_name U name ≡ task x) where
+    here : map task (drop i xs) ≡ task_by_name U name ∷ map task (drop (i + 1) xs)
+    here = rw same (ap (λ (ys : List X). map task ys) (dropped xs i x lt is))
 
-pub seen-all : (U : List Task) (seen : Indexes) (here all : List ℕ) → here ≡ []
-    → IsSeen U seen here all → (are_new (length U) no_index all ≡ true) × (seen ≡ among all)
-seen-all U seen here all e h = (
-  sym h.test ∙ ap (are_new (length U) seen) e,
-  fun_ext (λ k. sym (or-false (seen k)) ∙ sym (ap (λ (ks : List ℕ). seen k || among ks k) e)
-      ∙ h.seen_too k),
-)
+    pub seen-step : (nat_lt (task_by_name U name) (length U)
+        && not (seen (task_by_name U name))) ≡ true
+        → IsSeen U task xs (i + 1) (with_index seen (task_by_name U name))
+    seen-step new = record {
+      test = rw (here, new) at h.test;
+      seen_too = λ k. moved (k == task_by_name U name) (task_by_name U name == k)
+          (among (map task (drop (i + 1) xs)) k) (seen k) (same-test k (task_by_name U name))
+          ∙ rw here at (h.seen_too k);
+    }
+
+    -- the name is of no task, or of one that was seen
+    pub seen-stop : (nat_lt (task_by_name U name) (length U)
+        && not (seen (task_by_name U name))) ≡ false
+        → are_new (length U) no_index (map task xs) ≡ false
+    seen-stop old = sym (rw (here, old) at h.test)
 
 -- ---- the tasks that names are
 pub fails-named : (U : List Task) (fs : List Fail)
@@ -91,36 +98,3 @@ has_all-lacks (suc n) L k lt out = elim (cases_eq k n) [
 pub is-new : (n task : ℕ) (seen : Indexes) → task < n → seen task ≡ false
     → (nat_lt task n && not (seen task)) ≡ true
 is-new n task seen lt out = rw (lt-ltb task n lt, out) refl
-
--- one more item, by its name
-pub seen-step : {X : Type 0} (U : List Task) (task : X → ℕ) (seen more : Indexes) (xs : List X)
-    (i : ℕ) (x : X) (name : List ℕ) → i < length xs → x ≡ get_or xs i x
-    → task_by_name U name ≡ task x
-    → (nat_lt (task_by_name U name) (length U) && not (seen (task_by_name U name))) ≡ true
-    → more ≡ with_index seen (task_by_name U name)
-    → IsSeen U seen (map task (drop i xs)) (map task xs)
-    → IsSeen U more (map task (drop (i + 1) xs)) (map task xs)
-seen-step {X} U task seen more xs i x name lt is same new now h =
-    seen-more U seen more (task_by_name U name) (map task (drop i xs)) (map task (drop (i + 1) xs))
-    (map task xs)
-    (ap (λ (ys : List X). map task ys) (dropped xs i x lt is)
-    ∙ ap (λ k. k ∷ map task (drop (i + 1) xs)) (sym same)) new now h
-
--- an item whose name is of no task, or of one that was seen
-pub seen-stop : {X : Type 0} (U : List Task) (task : X → ℕ) (seen : Indexes) (xs : List X) (i : ℕ)
-    (x : X) (name : List ℕ) → i < length xs → x ≡ get_or xs i x → task_by_name U name ≡ task x
-    → (nat_lt (task_by_name U name) (length U) && not (seen (task_by_name U name))) ≡ false
-    → IsSeen U seen (map task (drop i xs)) (map task xs)
-    → are_new (length U) no_index (map task xs) ≡ false
-seen-stop {X} U task seen xs i x name lt is same old h =
-    seen-again U seen (task_by_name U name) (map task (drop i xs)) (map task (drop (i + 1) xs))
-    (map task xs)
-    (ap (λ (ys : List X). map task ys) (dropped xs i x lt is)
-    ∙ ap (λ k. k ∷ map task (drop (i + 1) xs)) (sym same)) old h
-
--- no item is left
-pub seen-end : {X : Type 0} (U : List Task) (task : X → ℕ) (seen : Indexes) (xs : List X) (i : ℕ)
-    → length xs ≤ i → IsSeen U seen (map task (drop i xs)) (map task xs)
-    → (are_new (length U) no_index (map task xs) ≡ true) × (seen ≡ among (map task xs))
-seen-end {X} U task seen xs i le h = seen-all U seen (map task (drop i xs)) (map task xs)
-    (ap (λ (ys : List X). map task ys) (drop_of_length-le xs le)) h

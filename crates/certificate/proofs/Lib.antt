@@ -1,13 +1,9 @@
-pub mod NumberLoops
-pub mod FailCases
+pub mod Loops
 pub mod WordLaws
 pub mod FailLaws
-pub mod ItemLoops
-pub mod LevelLoops
 pub mod LineLaws
 pub mod MemberLaws
 pub mod LevelLaws
 pub mod ReadingLaws
-pub mod DigitSteps
 pub mod Sent
 pub mod VerdictSpelling

@@ -17,14 +17,14 @@ use Rattle.task_sheet.specs.Verdicts as verdict
 use Rattle.task_sheet.specs.Verdicts.{ReasonData, FailureData, LevelData, VerdictData, Admitted}
 use Rattle.task_sheet.specs.Verdicts.{Infeasible, tasks_of, order_of, IsBestOrder, IsStuck}
 use Rattle.task_sheet.specs.Verdicts.{IsVerdictOf}
-use Rattle.task_sheet.specs.Ready.{Refutes, AllRefuted, AllReady, IsReadyOrder, IsReadySet}
+use Rattle.task_sheet.specs.Ready.{Refutes, AllRefuted, AllReady}
 use Rattle.task_sheet.proofs.IndexLaws.{without-part_of, IsOrderOf-head, IsOrderOf-rest}
 use Rattle.task_sheet.proofs.IndexLaws.{order-below, order-few}
 use Rattle.task_sheet.proofs.TaskLaws.{valid_at, AllTasks-from_set}
 use Rattle.task_sheet.proofs.DemandFits.{limit-fits, demand-fits}
 use Rattle.task_sheet.proofs.VerdictLaws.{IsBestOrder-ready, IsStuck-ready}
-use Rattle.certificate.specs.Body.{Over, IsShort, IsReasonText, IsFailText, IsLevelText}
-use Rattle.certificate.specs.Body.{HasSpelling}
+use Rattle.certificate.specs.Body.{Over, IsShort, IsReasonText, IsFailText, IsLevelText, IsBodyText}
+use Rattle.certificate.specs.Body.{HasSpelling, Best, NoOrder}
 use Rattle.certificate.specs.Versions.{some_bound, version_for}
 use Rattle.certificate.specs.CertificateOf.{reason_named, fail_named, fails_named, level_named}
 use Rattle.certificate.specs.CertificateOf.{levels_named, certificate_of, IsKnownReason}
@@ -75,133 +75,93 @@ module _ (U : List Task) (set : IsTaskSet U) where
       by true is = rw is named
       by false is = rw (is, bound) named
 
-  reason-text : (i : ℕ) (H : Indexes) (reason : ReasonData) → i < length U → Refutes U i H reason
-      → IsReasonText (version_for U) (reason_named U reason)
-  reason-text i H (verdict.Chain []) lt chain = absurd chain
-  reason-text i H (verdict.Chain (a ∷ bs)) lt chain =
-      (omega arith, climb-short i H a bs lt (omega (arith, chain.0)) chain.1)
-  reason-text i H (verdict.Over other) lt over =
-      name-text (task_at U other).name (bound_shows i other lt over.0 over.2)
-      (valid_at U other set over.0).named
-
-  fails-text : (L : Indexes) (fails : List FailureData)
-      → AllByRecursion (λ k. k < length U) (tasks_of fails) → AllRefuted U L fails
-      → AllByRecursion (IsFailText (version_for U)) (fails_named U fails)
-  fails-text L [] known refuted = tt
-  fails-text L (f ∷ fails) known refuted = (
-    record {
-      name = (valid_at U f.task set known.0).named;
-      reason =
-          reason-text f.task (without_index L f.task) f.reason known.0 refuted.0;
-    },
-    fails-text L fails known.1 refuted.1,
+  reason-told : (i : ℕ) (H : Indexes) (reason : ReasonData) → i < length U → Refutes U i H reason
+      → IsKnownReason (length U) reason × IsReasonText (version_for U) (reason_named U reason)
+  reason-told i H (verdict.Chain []) lt chain = absurd chain
+  reason-told i H (verdict.Chain (a ∷ bs)) lt chain =
+      (tt, (omega arith, climb-short i H a bs lt (omega (arith, chain.0)) chain.1))
+  reason-told i H (verdict.Over other) lt over = (
+    over.0,
+    name-text (task_at U other).name (bound_shows i other lt over.0 over.2)
+        (valid_at U other set over.0).named,
   )
 
-  levels-text : (L : Indexes) (levels : List LevelData) → IsOrderOf L (order_of levels)
-      → IsPart L (all_of U) → AllReady U L levels
-      → AllByRecursion (IsLevelText (version_for U)) (levels_named U levels)
-  levels-text L [] each part ready = tt
-  levels-text L (l ∷ levels) each part ready =
-      let lt : l.task < length U = ltb-true l.task (length U)
-      (part l.task (IsOrderOf-head L l.task (order_of levels) each)) in (
-        record {
-          name = (valid_at U l.task set lt).named;
-          short = omega (arith, ready.0.within, limit-fits U set l.task lt);
-          fails = fails-text L l.fails (fails-below (length U) L l.task (tasks_of l.fails) lt
-              ready.0.lesser) ready.0.refuted;
-        },
-        levels-text (without_index L l.task) levels (IsOrderOf-rest L l.task (order_of levels) each)
-            (without-part_of (length U) L l.task part) ready.1,
+  -- failures name tasks of the set, and have a spelling
+  pub fails-told : (L : Indexes) (fails : List FailureData)
+      → AllByRecursion (λ k. k < length U) (tasks_of fails) → AllRefuted U L fails
+      → AllByRecursion (IsKnownFail (length U)) fails
+      × AllByRecursion (IsFailText (version_for U)) (fails_named U fails)
+  fails-told L [] known refuted = (tt, tt)
+  fails-told L (f ∷ fails) known refuted =
+      let reason = reason-told f.task (without_index L f.task) f.reason known.0 refuted.0 in
+      let others = fails-told L fails known.1 refuted.1 in (
+        (record { task = known.0; reason = reason.0 }, others.0),
+        (record { name = (valid_at U f.task set known.0).named; reason = reason.1 }, others.1),
       )
 
-  pub ready_order-spelled : (levels : List LevelData) → IsReadyOrder U levels
-      → (length (levels_named U levels) ≤ 32)
+  levels-each : (L : Indexes) (levels : List LevelData) → IsOrderOf L (order_of levels)
+      → IsPart L (all_of U) → AllReady U L levels → AllByRecursion (IsKnownLevel U) levels
       × AllByRecursion (IsLevelText (version_for U)) (levels_named U levels)
-  ready_order-spelled levels ready = (
-    omega (
-      arith,
-      order-few (length U) (all_of U) (order_of levels) ready.each_once (λ k h. h),
-      length-map levels (level_named U),
-      length-map levels (λ (l : LevelData). l.task),
-      set.few,
-    ),
-    levels-text (all_of U) levels ready.each_once (λ k h. h) ready.ready,
-  )
+  levels-each L [] each part ready = (tt, tt)
+  levels-each L (l ∷ levels) each part ready =
+      let lt : l.task < length U = ltb-true l.task (length U)
+      (part l.task (IsOrderOf-head L l.task (order_of levels) each)) in
+      let fails = fails-told L l.fails (fails-below (length U) L l.task (tasks_of l.fails) lt
+      ready.0.lesser) ready.0.refuted in
+      let others = levels-each (without_index L l.task) levels
+      (IsOrderOf-rest L l.task (order_of levels) each) (without-part_of (length U) L l.task part)
+      ready.1 in (
+        (
+          record {
+            task = lt;
+            late = omega (arith, ready.0.positive);
+            fails = All-from_recursion (IsKnownFail (length U)) l.fails fails.0;
+          },
+          others.0,
+        ),
+        (
+          record {
+            name = (valid_at U l.task set lt).named;
+            short = omega (arith, ready.0.within, limit-fits U set l.task lt);
+            fails = fails.1;
+          },
+          others.1,
+        ),
+      )
 
-  pub ready_set-spelled : (members : List FailureData) → IsReadySet U members
-      → (length (fails_named U members) ≤ 32)
-      × AllByRecursion (IsFailText (version_for U)) (fails_named U members)
-  ready_set-spelled members ready = (
-    omega (
-      arith,
-      order-few (length U) (among (tasks_of members)) (tasks_of members) ready.distinct
-          ready.within,
-      length-map members (fail_named U),
-      length-map members
-          (λ (f : FailureData). f.task),
-      set.few,
-    ),
-    fails-text (among (tasks_of members)) members (order-below (length U) (among (tasks_of members))
-        (tasks_of members) ready.distinct ready.within) ready.refuted,
-  )
+  -- the levels of the best order
+  pub levels-told : (levels : List LevelData) → IsBestOrder U levels
+      → All (IsKnownLevel U) levels × IsBodyText (version_for U) (Best (levels_named U levels))
+  levels-told levels h =
+      let ready = IsBestOrder-ready U (AllTasks-from_set U set) levels h in
+      let each = levels-each (all_of U) levels ready.each_once (λ k h. h) ready.ready in
+      let few : length (levels_named U levels) ≤ 32 = omega (
+        arith,
+        order-few (length U) (all_of U) (order_of levels) ready.each_once (λ k h. h),
+        length-map levels (level_named U),
+        length-map levels (λ (l : LevelData). l.task),
+        set.few,
+      ) in
+      (All-from_recursion (IsKnownLevel U) levels each.0, (few, each.1))
+
+  -- the members of the greatest obstruction
+  pub members-told : (members : List FailureData) → IsStuck U members
+      → All (IsKnownFail (length U)) members
+      × IsBodyText (version_for U) (NoOrder (fails_named U members))
+  members-told members h =
+      let ready = IsStuck-ready U members h in
+      let L = among (tasks_of members) in
+      let each = fails-told L members (order-below (length U) L (tasks_of members) ready.distinct
+      ready.within) ready.refuted in
+      let few : length (fails_named U members) ≤ 32 = omega (
+        arith,
+        order-few (length U) L (tasks_of members) ready.distinct ready.within,
+        length-map members (fail_named U),
+        length-map members (λ (f : FailureData). f.task),
+        set.few,
+      ) in
+      (All-from_recursion (IsKnownFail (length U)) members each.0, (few, each.1))
 
   pub verdict-spelled : (v : VerdictData) → IsVerdictOf U v → HasSpelling (certificate_of U v)
-  verdict-spelled (Admitted levels) h =
-      ready_order-spelled levels (IsBestOrder-ready U (AllTasks-from_set U set) levels h)
-  verdict-spelled (Infeasible members) h = ready_set-spelled members (IsStuck-ready U members h)
-
--- ---- which tasks a verdict names
-reason-known : (U : List Task) (i : ℕ) (H : Indexes) (reason : ReasonData) → Refutes U i H reason
-    → IsKnownReason (length U) reason
-reason-known U i H (verdict.Chain numbers) chain = tt
-reason-known U i H (verdict.Over other) over = over.0
-
-pub fails-known : (U : List Task) (L : Indexes) (fails : List FailureData)
-    → AllByRecursion (λ k. k < length U) (tasks_of fails) → AllRefuted U L fails
-    → AllByRecursion (IsKnownFail (length U)) fails
-fails-known U L [] known refuted = tt
-fails-known U L (f ∷ fails) known refuted = (
-  record {
-    task = known.0;
-    reason =
-        reason-known U f.task (without_index L f.task) f.reason refuted.0;
-  },
-  fails-known U L fails known.1 refuted.1,
-)
-
-all-known : (U : List Task) (L : Indexes) (fails : List FailureData) → AllByRecursion
-    (λ k. k < length U) (tasks_of fails) → AllRefuted U L fails → All (IsKnownFail (length U)) fails
-all-known U L fails known refuted =
-    All-from_recursion (IsKnownFail (length U)) fails (fails-known U L fails known refuted)
-
-levels-known : (U : List Task) (L : Indexes) (levels : List LevelData)
-    → IsOrderOf L (order_of levels) → IsPart L (all_of U) → AllReady U L levels
-    → AllByRecursion (IsKnownLevel U) levels
-levels-known U L [] each part ready = tt
-levels-known U L (l ∷ levels) each part ready =
-    let lt : l.task < length U =
-    ltb-true l.task (length U) (part l.task (IsOrderOf-head L l.task (order_of levels) each)) in
-    let lesser = fails-below (length U) L l.task (tasks_of l.fails) lt ready.0.lesser in (
-      record {
-        task = lt;
-        late = omega (arith, ready.0.positive);
-        fails = all-known U L l.fails
-            lesser ready.0.refuted;
-      },
-      levels-known U (without_index L l.task) levels (IsOrderOf-rest L
-          l.task (order_of levels) each) (without-part_of (length U) L l.task part) ready.1,
-    )
-
-pub best-known : (U : List Task) → IsTaskSet U → (levels : List LevelData) → IsBestOrder U levels
-    → All (IsKnownLevel U) levels
-best-known U set levels h =
-    let ready = IsBestOrder-ready U (AllTasks-from_set U set) levels h in
-    All-from_recursion (IsKnownLevel U) levels
-    (levels-known U (all_of U) levels ready.each_once (λ k h. h) ready.ready)
-
-pub stuck-known : (U : List Task) (members : List FailureData) → IsStuck U members
-    → All (IsKnownFail (length U)) members
-stuck-known U members h =
-    let ready = IsStuck-ready U members h in
-    all-known U (among (tasks_of members)) members (order-below (length U)
-    (among (tasks_of members)) (tasks_of members) ready.distinct ready.within) ready.refuted
+  verdict-spelled (Admitted levels) h = (levels-told levels h).1
+  verdict-spelled (Infeasible members) h = (members-told members h).1

@@ -1,42 +1,71 @@
--- The words of a line, and its numbers, as they are spelled.
-use Rattle.std.proofs.Common.{◌≡◌, ℕ, ◌==◌, Bool, true, false, not, cond, List, [], ◌∷◌, ◌++◌, All}
-use Rattle.std.proofs.Common.{map, Option, Some, None, refl, ap₂, subst}
-use Rattle.std.specs.List.{AllByRecursion, list_all}
+-- Words, the lines that they make, and numbers as words.
+use Rattle.std.proofs.Common.{◌≡◌, ℕ, ◌<◌, ◌==◌, Bool, false, true, cond, List, [], ◌∷◌, ◌++◌, All}
+use Rattle.std.proofs.Common.{length, map, Option, Some, None, refl, sym, ap, ap₂, ◌∙◌, arith}
+use Rattle.std.specs.List.{AllByRecursion, join_with_byte}
 use Rattle.std.specs.Fmt.{decimal}
-use Rattle.std.proofs.lemmas.Bool.{and_parts, not-true}
-use Rattle.std.proofs.lemmas.List.Elements.{All-append, All-from_recursion}
+use Rattle.std.proofs.lemmas.List.Elements.{All-append, All-cons, All-nil}
 use Rattle.std.proofs.lemmas.List.Splits.{slice_split_at, slice_split_none}
+use Rattle.std.proofs.lemmas.List.Splits.{join_with_byte-slice_split}
 use Rattle.std.proofs.lemmas.Option.{same_Some}
+use Rattle.task_sheet.specs.Name.{IsName}
 use Rattle.certificate.specs.Body.{IsShort}
+use Rattle.lines.specs.Lines.{parts}
 use Rattle.lines.specs.Words.{words}
 use Rattle.certificate.specs.Words.{◌>>=◌, numbers_in}
+use Rattle.lines.proofs.Lacks.{decimal_lacks, name_lacks}
 use Rattle.lines.proofs.NumberLaws.{number_again, number_takes}
 
--- the byte does not stand in the text
-abbrev pub Lacks : ℕ → List ℕ → Type 0
-Lacks b text = All (λ x. (x == b) ≡ false) text
+-- neither a space nor the end of a line stands in the word
+pub record IsWord (w : List ℕ) : Type 0 where
+  pub spaceless : All (λ x. (x == 32) ≡ false) w
+  pub endless : All (λ x. (x == 10) ≡ false) w
 
--- a test that computes where the text is written out
-pub lacks : (b : ℕ) (text : List ℕ) → list_all (λ x. not (x == b)) text ≡ true → Lacks b text
-lacks b text h = All-from_recursion (λ x. (x == b) ≡ false) text (each text h)
-  where
-    each : (xs : List ℕ) → list_all (λ x. not (x == b)) xs ≡ true
-        → AllByRecursion (λ x. (x == b) ≡ false) xs
-    each [] h = tt
-    each (x ∷ xs) h =
-        let p = and_parts _ _ h in
-        (not-true (x == b) p.0, each xs p.1)
+pub number_word : (n : ℕ) → IsShort n → IsWord (decimal n)
+number_word n short = record {
+  spaceless = decimal_lacks 32 n (omega arith) (omega arith);
+  endless = decimal_lacks 10 n (omega arith) (omega arith);
+}
 
--- two texts of one line with a space between them
-pub lacks_both : (x y : List ℕ) → Lacks 10 x → Lacks 10 y → Lacks 10 (x ++ 32 ∷ y)
-lacks_both x y first second = All-append (λ x. (x == 10) ≡ false) x (32 ∷ y) first
-    (All-append (λ x. (x == 10) ≡ false) (32 ∷ []) y (lacks 10 (32 ∷ []) refl) second)
+pub name_word : (name : List ℕ) → IsName name → IsWord name
+name_word name named = record {
+  spaceless = name_lacks 32 name (omega arith) named;
+  endless = name_lacks 10 name (omega arith) named;
+}
 
-pub words_one : (x : List ℕ) → Lacks 32 x → words x ≡ x ∷ []
-words_one x plain = slice_split_none (λ b. b == 32) x plain
+-- words with a space between them
+abbrev pub line_of : List (List ℕ) → List ℕ
+line_of ws = join_with_byte 32 ws
 
-pub words_more : (x y : List ℕ) → Lacks 32 x → words (x ++ 32 ∷ y) ≡ x ∷ words y
-words_more x y plain = slice_split_at (λ b. b == 32) x 32 y plain refl
+pub words_take : (line : List ℕ) (ws : List (List ℕ)) → words line ≡ ws → line ≡ line_of ws
+words_take line ws e = sym (join_with_byte-slice_split 32 line) ∙ ap line_of e
+
+-- there are words
+pub record IsLine (ws : List (List ℕ)) : Type 0 where
+  pub some : 0 < length ws
+  pub plain : AllByRecursion IsWord ws
+
+pub words_again : {ws : List (List ℕ)} → IsLine ws → words (line_of ws) ≡ ws
+words_again {ws = []} line = absurd (omega (arith, line.some))
+words_again {ws = w ∷ []} line = slice_split_none (λ b. b == 32) w line.plain.0.spaceless
+words_again {ws = w ∷ x ∷ xs} line =
+    slice_split_at (λ b. b == 32) w 32 (line_of (x ∷ xs)) line.plain.0.spaceless refl
+    ∙ ap (λ (ps : List (List ℕ)). w ∷ ps)
+    (words_again (record { some = omega arith; plain = line.plain.1 }))
+
+line_endless : (ws : List (List ℕ)) → AllByRecursion IsWord ws
+    → All (λ x. (x == 10) ≡ false) (line_of ws)
+line_endless [] plain = All-nil (λ x. (x == 10) ≡ false)
+line_endless (w ∷ []) plain = plain.0.endless
+line_endless (w ∷ x ∷ xs) plain =
+    All-append (λ c. (c == 10) ≡ false) w (32 ∷ line_of (x ∷ xs)) plain.0.endless
+    (All-cons (λ c. (c == 10) ≡ false) 32 (line_of (x ∷ xs)) refl
+    (line_endless (x ∷ xs) plain.1))
+
+-- a text that begins with a line
+pub parts_again : {ws : List (List ℕ)} (text rest : List ℕ) → IsLine ws
+    → text ≡ line_of ws ++ 10 ∷ rest → parts text ≡ line_of ws ∷ parts rest
+parts_again {ws} text rest line e = ap parts e
+    ∙ slice_split_at (λ b. b == 10) (line_of ws) 10 rest (line_endless ws line.plain) refl
 
 -- a test that let an option through
 pub cond_given : {A : Type 0} (b : Bool) (x : Option A) (y : A) → cond b x None ≡ Some y
@@ -52,16 +81,13 @@ bind_some None f y e = absurd cc
 pub numbers_take : (ws : List (List ℕ)) (ns : List ℕ) → numbers_in ws ≡ Some ns
     → (ws ≡ map decimal ns) × AllByRecursion IsShort ns
 unfolding numbers_in
-numbers_take [] ns e =
-    let is : [] ≡ ns = same_Some [] ns e in
-    subst (λ (xs : List ℕ). ([] ≡ map decimal xs) × AllByRecursion IsShort xs) is (refl, tt)
+numbers_take [] ns e = rw (← same_Some [] ns e) (refl, tt)
 numbers_take (w ∷ ws) ns e =
     let a = bind_some _ _ ns e in
     let b = bind_some _ _ ns a.2 in
     let first = number_takes w a.0 a.1 in
     let others = numbers_take ws b.0 b.1 in
-    subst (λ (xs : List ℕ). (w ∷ ws ≡ map decimal xs) × AllByRecursion IsShort xs)
-    (same_Some (a.0 ∷ b.0) ns b.2)
+    rw (← same_Some (a.0 ∷ b.0) ns b.2)
     (ap₂ (λ (v : List ℕ) (vs : List (List ℕ)). v ∷ vs) first.0 others.0, (first.1, others.1))
 
 pub numbers_again : (ns : List ℕ) → AllByRecursion IsShort ns
@@ -69,3 +95,8 @@ pub numbers_again : (ns : List ℕ) → AllByRecursion IsShort ns
 unfolding numbers_in
 numbers_again [] short = refl
 numbers_again (n ∷ ns) short = rw (number_again n short.0, numbers_again ns short.1) refl
+
+pub numbers_plain : (ns : List ℕ) → AllByRecursion IsShort ns
+    → AllByRecursion IsWord (map decimal ns)
+numbers_plain [] short = tt
+numbers_plain (n ∷ ns) short = (number_word n short.0, numbers_plain ns short.1)

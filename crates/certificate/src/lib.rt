@@ -3,7 +3,6 @@
 
 mod body;
 mod certificate;
-mod digits;
 mod fault;
 pub mod laws;
 mod levels;

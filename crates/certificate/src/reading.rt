@@ -60,7 +60,7 @@ impl Reader {
 }
 
 /// The last line is next, and nothing follows it: else `Truncated`, `BadLine` or `Trailing`.
-#[tactic(auto, using(crate::proofs::ItemLoops::over_is), unfolding(crate::specs::Lines::end_at))]
+#[tactic(auto, using(crate::proofs::Loops::over_is), unfolding(crate::specs::Lines::end_at))]
 pub fn end(at: &mut TextPlace<'_>) -> Result<(), CertFault>
     ensures { Gives (λ x. x) result (end_at (at_place at.old)) }
 {

@@ -7,9 +7,9 @@ ghost use Rattle.certificate.specs.Spelling.{numbers_text, reason_text, fail_lin
 ghost use Rattle.streams.specs.Puts.{Puts};
 
 use crate::body::CertBody;
-use crate::digits::Digits;
 use crate::value::{CertFail, CertLevel, CertReason};
 use crate::version::CertVersion;
+use itoa::Buffer;
 use std::io::Write;
 use streams::{Outlet, WriteFailed};
 
@@ -17,8 +17,8 @@ use streams::{Outlet, WriteFailed};
 fn put_number<W: Write + Drop>(number: u64, out: &mut Outlet<'_, W>) -> Result<(), WriteFailed>
     ensures { Puts W.contents out.old out.new result (decimal number) }
 {
-    let digits = Digits::of(number);
-    out.put(digits.bytes())
+    let mut buffer = Buffer::new();
+    out.put(buffer.format(number).as_bytes())
 }
 
 // Each number after a space.

@@ -1,5 +1,4 @@
 mod Cover
-mod BandSteps
 mod BandSums
 pub mod PlaceLaws
 mod BandLaws

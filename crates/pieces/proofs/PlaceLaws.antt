@@ -12,60 +12,47 @@ use Rattle.pieces.specs.Bands.{job_of, is_of, last_of, is_close, joins, begins, 
 use Rattle.pieces.specs.Bands.{is_within, is_behind, holds_job}
 
 -- ---- where the next band begins
-pub here : (gap : ℕ) (jobs : List JobRecord) (name : List ℕ) (n more : ℕ)
-    → begins gap jobs name n ≡ true → next_from gap jobs name n (suc more) ≡ n
-unfolding next_from
-here gap jobs name n more h = rw h refl
-
-pub later : (gap : ℕ) (jobs : List JobRecord) (name : List ℕ) (n more : ℕ) → begins gap jobs name n
-    ≡ false → next_from gap jobs name n (suc more) ≡ next_from gap jobs name (n + 1) more
-unfolding next_from
-later gap jobs name n more h = rw h refl
-
-pub nowhere : (gap : ℕ) (jobs : List JobRecord) (name : List ℕ) (n : ℕ)
-    → next_from gap jobs name n 0 ≡ n
-unfolding next_from
-nowhere gap jobs name n = refl
-
-pub next_within : (gap : ℕ) (jobs : List JobRecord) (name : List ℕ) (n more : ℕ)
-    → (n ≤ next_from gap jobs name n more) × (next_from gap jobs name n more ≤ n + more)
-next_within gap jobs name n zero = rw (nowhere gap jobs name n) (omega arith, omega arith)
-next_within gap jobs name n (suc more) =
-    elim (cases_Bool (begins gap jobs name n)) [
-      | inl h ↦ rw (here gap jobs name n more h) (omega arith, omega arith)
-      | inr h ↦ (let rest = next_within gap jobs name (n + 1) more in
-          rw (later gap jobs name n more h) (omega (arith, rest.0), omega (arith, rest.1)))
-    ]
-
--- no further than a place at which a band begins
-next_upto : (gap : ℕ) (jobs : List JobRecord) (name : List ℕ) (q n more : ℕ)
-    → begins gap jobs name q ≡ true → n ≤ q → q < n + more → next_from gap jobs name n more ≤ q
-next_upto gap jobs name q n zero is lo hi = absurd (omega (arith, lo, hi))
-next_upto gap jobs name q n (suc more) is lo hi =
-    elim (cases_Bool (begins gap jobs name n)) [
-      | inl h ↦ rw (here gap jobs name n more h) lo
-      | inr h ↦ elim (cases_lt n q) [
-        | inl lt ↦ rw (later gap jobs name n more h)
-            (next_upto gap jobs name q (n + 1) more is (omega (arith, lt)) (omega (arith, hi)))
-        | inr ge ↦ absurd (both_ways (begins gap jobs name n) h (subst (λ (z : ℕ).
-            begins gap jobs name z ≡ true) (let e : q ≡ n = omega (arith, lo, ge) in e) is))
+module _ (gap : ℕ) (jobs : List JobRecord) (name : List ℕ) where
+  pub next_within : (n more : ℕ) → (n ≤ next_from gap jobs name n more)
+      × (next_from gap jobs name n more ≤ n + more)
+  unfolding next_from
+  next_within n zero = (omega arith, omega arith)
+  next_within n (suc more) =
+      let rest = next_within (n + 1) more in
+      elim (cases_Bool (begins gap jobs name n)) [
+        | inl h ↦ rw h (omega arith, omega arith)
+        | inr h ↦ rw h (omega (arith, rest.0), omega (arith, rest.1))
       ]
-    ]
 
--- past a place up to which none begins
-next_past : (gap : ℕ) (jobs : List JobRecord) (name : List ℕ) (j n more : ℕ)
-    → ((q : ℕ) → n ≤ q → q ≤ j → begins gap jobs name q ≡ false) → j < n + more
-    → j < next_from gap jobs name n more
-next_past gap jobs name j n zero clear lt = rw (nowhere gap jobs name n) (omega (arith, lt))
-next_past gap jobs name j n (suc more) clear lt =
-    elim (cases_Bool (begins gap jobs name n)) [
-      | inr h ↦ rw (later gap jobs name n more h) (next_past gap jobs name j (n + 1) more
-          (λ q lo hi. clear q (omega (arith, lo)) hi) (omega (arith, lt)))
-      | inl h ↦ elim (cases_lt j n) [
-        | inl below ↦ rw (here gap jobs name n more h) below
-        | inr ge ↦ absurd (both_ways (begins gap jobs name n) (clear n (omega arith) ge) h)
+  -- no further than a place at which a band begins
+  next_upto : (q n more : ℕ) → begins gap jobs name q ≡ true → n ≤ q → q < n + more
+      → next_from gap jobs name n more ≤ q
+  unfolding next_from
+  next_upto q n zero is lo hi = absurd (omega (arith, lo, hi))
+  next_upto q n (suc more) is lo hi =
+      elim (cases_Bool (begins gap jobs name n)) [
+        | inl h ↦ rw h lo
+        | inr h ↦ elim (cases_lt n q) [
+          | inl lt ↦ rw h (next_upto q (n + 1) more is (omega (arith, lt)) (omega (arith, hi)))
+          | inr ge ↦ let e : q ≡ n = omega (arith, lo, ge) in
+              absurd (both_ways (begins gap jobs name n) h (ap (begins gap jobs name) (sym e) ∙ is))
+        ]
       ]
-    ]
+
+  -- past a place up to which none begins
+  next_past : (j n more : ℕ) → ((q : ℕ) → n ≤ q → q ≤ j → begins gap jobs name q ≡ false)
+      → j < n + more → j < next_from gap jobs name n more
+  unfolding next_from
+  next_past j n zero clear lt = omega (arith, lt)
+  next_past j n (suc more) clear lt =
+      elim (cases_Bool (begins gap jobs name n)) [
+        | inr h ↦ rw h (next_past j (n + 1) more (λ q lo hi. clear q (omega (arith, lo)) hi)
+            (omega (arith, lt)))
+        | inl h ↦ elim (cases_lt j n) [
+          | inl below ↦ rw h below
+          | inr ge ↦ absurd (both_ways (begins gap jobs name n) (clear n (omega arith) ge) h)
+        ]
+      ]
 
 -- ---- the last band that begins below a place
 last_clear : (jobs : List JobRecord) (name : List ℕ) (n : ℕ)

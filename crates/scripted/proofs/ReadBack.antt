@@ -9,6 +9,7 @@ use Rattle.std.proofs.lemmas.Bool.{le-leb, lt-ltb}
 use Rattle.std.proofs.lemmas.Bool.Decides.{nat_tests}
 use Rattle.std.proofs.Math.Dec.{eqb-suc-zero}
 use Rattle.std.proofs.lemmas.Fmt.{decimal_digit}
+use Rattle.std.proofs.lemmas.Slice.Eq.{bytes_eq-Decides}
 use Rattle.std.proofs.lemmas.List.{append-nil}
 use Rattle.std.proofs.lemmas.List.Elements.{recursion_from_All}
 use Rattle.task_sheet.specs.Name.{IsName, is_name_byte}
@@ -25,11 +26,11 @@ use Rattle.lines.specs.Words.{number_in, words}
 use Rattle.lines.proofs.NumberLaws.{number_again}
 use Rattle.lines.proofs.Parts.{line_cut}
 use Rattle.drafts.specs.declared.team.TheConstants.{TEAM_LIMIT}
-use Rattle.scripts.specs.Rows.{field_case, made_in, all_sign, interrupt_in, interrupts_or_none}
-use Rattle.scripts.specs.Rows.{node_of, node_or_none, over_in, over_or_none, next_draft, next_field}
-use Rattle.scripts.specs.Rows.{next_name, next_number, only_draft, open_in, or_bad, pair_of, put_in}
-use Rattle.scripts.specs.Rows.{round, row_in, section_in, sections_in, sheet_in, sheet_with_jitter}
-use Rattle.scripts.specs.Rows.{up_to, value_of, value_or_zero, word_names}
+use Rattle.scripts.specs.Rows.{made_in, all_sign, interrupt_in, interrupts_or_none, node_of}
+use Rattle.scripts.specs.Rows.{node_or_none, over_in, over_or_none, next_draft, next_field}
+use Rattle.scripts.specs.Rows.{next_name, next_number, only_draft, open_in, or_bad, put_in, row_in}
+use Rattle.scripts.specs.Rows.{section_in, sections_in, sheet_in, sheet_with_jitter, up_to}
+use Rattle.scripts.specs.Rows.{value_or_zero, word_names}
 use Rattle.scripts.specs.Script.{script_from, script_in}
 use Rattle.scripts.proofs.Nodes.{overheads_tested, interrupts_tested}
 use Rattle.scripts.specs.declared.line.Row.TheVariants.{Open, Put, Commit}
@@ -134,24 +135,18 @@ section_again : (s : CriticalSection) → IsSpelled s → section_in (section_wo
 unfolding section_in
 section_again s is =
     let span : List ℕ = decimal s.at ++ 58 ∷ decimal s.len in
+    let back = number_lacks 64 s.len refl (omega (arith, is.len)) in
     let sign = lacks_append 64 (decimal s.at) (58 ∷ decimal s.len)
-    (number_lacks 64 s.at refl (omega (arith, is.at))) (record
-    { none = (refl, (number_lacks 64 s.len refl (omega (arith, is.len))).none) }) in
-    let sides = ap (λ (w : List ℕ). round 64 w) (section_shape s) ∙ ap pair_of
-    (cut_at 64 (plus_names s.locks) (decimal s.at ++ 58 ∷ decimal s.len)
-    (plus_lacks 64 s.locks refl refl is.named)) ∙ ap (λ (l : List (List ℕ)). pair_of
-    (plus_names s.locks ∷ l)) (uncut 64 (decimal s.at ++ 58 ∷ decimal s.len) sign) in
-    let halves = ap pair_of (cut_at 58 (decimal s.at) (decimal s.len)
-    (number_lacks 58 s.at refl (omega (arith, is.at)))) ∙ ap
-    (λ (l : List (List ℕ)). pair_of (decimal s.at ∷ l))
-    (uncut 58 (decimal s.len) (number_lacks 58 s.len refl (omega (arith, is.len)))) in
+    (number_lacks 64 s.at refl (omega (arith, is.at))) (record { none = (refl, back.none) }) in
     rw (
-      sides,
-      halves,
+      section_shape s,
+      cut_at 64 (plus_names s.locks) span (plus_lacks 64 s.locks refl refl is.named),
+      uncut 64 span sign,
+      cut_at 58 (decimal s.at) (decimal s.len) (number_lacks 58 s.at refl (omega (arith, is.at))),
+      uncut 58 (decimal s.len) (number_lacks 58 s.len refl (omega (arith, is.len))),
       number_again s.at is.at,
       number_again s.len is.len,
-      locks_again s.locks
-          is.named is.some,
+      locks_again s.locks is.named is.some,
     ) refl
 
 sections_again : (ss : List CriticalSection) → AllByRecursion IsSpelled ss
@@ -178,8 +173,7 @@ spelled_sections from cost (s ∷ ss) short are =
 no_field : (key w : List ℕ) (ws : List (List ℕ)) → Lacks 61 w
     → next_field key (w ∷ ws) ≡ (None, w ∷ ws)
 unfolding next_field
-no_field key w ws lacks =
-    ap (λ (l : List (List ℕ)). field_case (value_of key (pair_of l)) w ws) (uncut 61 w lacks)
+no_field key w ws lacks = rw (uncut 61 w lacks) refl
 
 no_words : (key : List ℕ) → next_field key [] ≡ (None, [])
 unfolding next_field
@@ -199,49 +193,30 @@ NoneHas c (Some value) = Lacks c value
 record NoSuch (key : List ℕ) (ws : List (List ℕ)) : Type 0 where
   none : next_field key ws ≡ (None, ws)
 
--- a key is read as such
-record IsKey (key : List ℕ) : Type 0 where
-  lacks : Lacks 61 key
-  same : bytes_eq key key ≡ true
+-- a field is cut at its sign
+field_cut : (key value : List ℕ) → IsName key → Lacks 61 value
+    → slice_split (λ b. b == 61) (key ++ 61 ∷ value) ≡ key ∷ value ∷ []
+field_cut key value named lacks = cut_at 61 key value (name_lacks 61 key refl named)
+    ∙ ap (λ (l : List (List ℕ)). key ∷ l) (uncut 61 value lacks)
 
-other_field : (key front : List ℕ) (value : Option (List ℕ)) (ws : List (List ℕ)) → IsKey front
+other_field : (key front : List ℕ) (value : Option (List ℕ)) (ws : List (List ℕ)) → IsName front
     → NoneHas 61 value → bytes_eq front key ≡ false → NoSuch key ws
     → NoSuch key (field_words front value ++ ws)
 unfolding next_field
-other_field key front None ws is lacks other after = after
-other_field key front (Some value) ws is lacks other after = record { none = none }
-  where
-    none : next_field key ((front ++ 61 ∷ value) ∷ ws) ≡ (None, (front ++ 61 ∷ value) ∷ ws)
-    none =
-        ap (λ (l : List (List ℕ)). field_case (value_of key (pair_of l)) (front ++ 61 ∷ value) ws)
-        (cut_at 61 front value is.lacks
-        ∙ ap (λ (l : List (List ℕ)). front ∷ l) (uncut 61 value lacks))
-        ∙ rw other refl
+other_field key front None ws named lacks other after = after
+other_field key front (Some value) ws named lacks other after =
+    record { none = rw (field_cut front value named lacks, other) refl }
 
-this_field : (key : List ℕ) (value : Option (List ℕ)) (ws : List (List ℕ)) → IsKey key
+this_field : (key : List ℕ) (value : Option (List ℕ)) (ws : List (List ℕ)) → IsName key
     → NoneHas 61 value → NoSuch key ws → next_field key (field_words key value ++ ws) ≡ (value, ws)
 unfolding next_field
-this_field key None ws is lacks after = after.none
-this_field key (Some value) ws is lacks after =
-    ap (λ (l : List (List ℕ)). field_case (value_of key (pair_of l)) (key ++ 61 ∷ value) ws)
-    (cut_at 61 key value is.lacks ∙ ap (λ (l : List (List ℕ)). key ∷ l) (uncut 61 value lacks))
-    ∙ rw is.same refl
+this_field key None ws named lacks after = after.none
+this_field key (Some value) ws named lacks after =
+    rw (field_cut key value named lacks, (bytes_eq-Decides key key).1 refl) refl
 
 equals_apart : IsApart 61
 equals_apart =
     record { name = refl; digit = refl; plus = refl; sign = refl; colon = refl; star = refl }
-
-delay_key : IsKey (codes "j")
-delay_key = record { lacks = record { none = (refl, tt) }; same = refl }
-
-over_key : IsKey (codes "over")
-over_key = record { lacks = record { none = (refl, (refl, (refl, (refl, tt)))) }; same = refl }
-
-node_key : IsKey (codes "node")
-node_key = record { lacks = record { none = (refl, (refl, (refl, (refl, tt)))) }; same = refl }
-
-irq_key : IsKey (codes "irq")
-irq_key = record { lacks = record { none = (refl, (refl, (refl, tt))) }; same = refl }
 
 -- the sign of all others
 sign_lacks : (c : ℕ) → (42 == c) ≡ false → Lacks c all_sign
@@ -312,21 +287,6 @@ over_again (Named (n ∷ ns)) named = rw (
 over_again AllOthers named = refl
 
 -- ---- the value of `node`
--- numbers that can be spelled
-record IsShortNode (node : Node) : Type 0 where
-  job : node.job < 10 ^ 10
-  lock : node.lock < 10 ^ 10
-  release : node.release < 10 ^ 10
-  late : node.late < 10 ^ 10
-
-short_node : (node : Node) → AreOverheads node → IsShortNode node
-short_node node are = record {
-  job = omega (arith, are.job);
-  lock = omega (arith, are.lock);
-  release = omega (arith, are.release);
-  late = omega (arith, are.late);
-}
-
 node_value : Node → Option (List ℕ)
 node_value node = if same_node node no_overhead then None else Some (plus_names (node_numbers node))
 
@@ -347,7 +307,7 @@ node_shape node = by (same_node node no_overhead) refl
     by true same = rw same refl
     by false same = rw same refl
 
-numbers_lack : (c : ℕ) (node : Node) → is_ascii_digit c ≡ false → IsShortNode node
+numbers_lack : (c : ℕ) (node : Node) → is_ascii_digit c ≡ false → AreOverheads node
     → AllByRecursion (λ w. Lacks c w) (node_numbers node)
 numbers_lack c node digit short = (
   number_lacks c node.job digit (omega (arith, short.job)),
@@ -364,7 +324,7 @@ numbers_lack c node digit short = (
   ),
 )
 
-node_lacks : (c : ℕ) (node : Node) → IsApart c → IsShortNode node → NoneHas c (node_value node)
+node_lacks : (c : ℕ) (node : Node) → IsApart c → AreOverheads node → NoneHas c (node_value node)
 unfolding node_value
 node_lacks c node apart short = by (same_node node no_overhead)
   where
@@ -372,16 +332,16 @@ node_lacks c node apart short = by (same_node node no_overhead)
     by true = tt
     by false = pluses_lack c (node_numbers node) apart.plus (numbers_lack c node apart.digit short)
 
-numbers_again : (node : Node) → IsShortNode node → node_of (node_numbers node) ≡ Ok node
+numbers_again : (node : Node) → AreOverheads node → node_of (node_numbers node) ≡ Ok node
 unfolding node_of
 numbers_again node short = rw (
-  number_again node.job short.job,
-  number_again node.lock short.lock,
-  number_again node.release short.release,
-  number_again node.late short.late,
+  number_again node.job (omega (arith, short.job)),
+  number_again node.lock (omega (arith, short.lock)),
+  number_again node.release (omega (arith, short.release)),
+  number_again node.late (omega (arith, short.late)),
 ) refl
 
-node_again : (node : Node) → IsShortNode node → node_or_none (node_value node) ≡ Ok node
+node_again : (node : Node) → AreOverheads node → node_or_none (node_value node) ≡ Ok node
 unfolding node_value
 node_again node short = by (same_node node no_overhead) refl
   where
@@ -393,19 +353,6 @@ node_again node short = by (same_node node no_overhead) refl
         ∙ numbers_again node short
 
 -- ---- the value of `irq`
-record IsShortInterrupt (x : Interrupt) : Type 0 where
-  period : x.period < 10 ^ 10
-  cost : x.cost < 10 ^ 10
-
-short_interrupts : (xs : List Interrupt) → AllByRecursion IsInterrupt xs
-    → AllByRecursion IsShortInterrupt xs
-short_interrupts [] each = tt
-short_interrupts (x ∷ xs) each =
-    let is = each.0 in (
-      record { period = omega (arith, is.period_to); cost = omega (arith, is.cost, is.period_to) },
-      short_interrupts xs each.1,
-    )
-
 interrupt_value : List Interrupt → Option (List ℕ)
 interrupt_value [] = None
 interrupt_value (x ∷ xs) = Some (plus_names (map interrupt_word (x ∷ xs)))
@@ -420,41 +367,45 @@ interrupt_parts : (x : Interrupt) → interrupt_word x ≡ decimal x.period ++ 5
 interrupt_parts x = simp append_assoc
 
 interrupt_lacks : (c : ℕ) (x : Interrupt) → (58 == c) ≡ false → is_ascii_digit c ≡ false
-    → IsShortInterrupt x → Lacks c (interrupt_word x)
+    → IsInterrupt x → Lacks c (interrupt_word x)
 interrupt_lacks c x colon digit short =
-    let cost : Lacks c (decimal x.cost) = number_lacks c x.cost digit (omega (arith, short.cost)) in
+    let cost : Lacks c (decimal x.cost) =
+    number_lacks c x.cost digit (omega (arith, short.cost, short.period_to)) in
     let back : Lacks c (58 ∷ decimal x.cost) = record { none = (colon, cost.none) } in
     subst (λ (w : List ℕ). Lacks c w) (sym (interrupt_parts x)) (lacks_append c (decimal x.period)
-    (58 ∷ decimal x.cost) (number_lacks c x.period digit (omega (arith, short.period))) back)
+    (58 ∷ decimal x.cost) (number_lacks c x.period digit (omega (arith, short.period_to))) back)
 
 each_lacking : (c : ℕ) (xs : List Interrupt) → (58 == c) ≡ false → is_ascii_digit c ≡ false
-    → AllByRecursion IsShortInterrupt xs → AllByRecursion (λ w. Lacks c w) (map interrupt_word xs)
+    → AllByRecursion IsInterrupt xs → AllByRecursion (λ w. Lacks c w) (map interrupt_word xs)
 each_lacking c [] colon digit each = tt
 each_lacking c (x ∷ xs) colon digit each =
     (interrupt_lacks c x colon digit each.0, each_lacking c xs colon digit each.1)
 
-interrupts_lack : (c : ℕ) (xs : List Interrupt) → IsApart c → AllByRecursion IsShortInterrupt xs
+interrupts_lack : (c : ℕ) (xs : List Interrupt) → IsApart c → AllByRecursion IsInterrupt xs
     → NoneHas c (interrupt_value xs)
 unfolding interrupt_value
 interrupts_lack c [] apart each = tt
 interrupts_lack c (x ∷ xs) apart each = pluses_lack c (map interrupt_word (x ∷ xs)) apart.plus
     (each_lacking c (x ∷ xs) apart.colon apart.digit each)
 
-interrupt_again : (x : Interrupt) → IsShortInterrupt x → interrupt_in (interrupt_word x) ≡ Ok x
+interrupt_again : (x : Interrupt) → IsInterrupt x → interrupt_in (interrupt_word x) ≡ Ok x
 unfolding interrupt_in
-interrupt_again x short =
-    let sides = ap (λ (w : List ℕ). round 58 w) (interrupt_parts x) ∙ ap pair_of
-    (cut_at 58 (decimal x.period) (decimal x.cost) (number_lacks 58 x.period refl
-    (omega (arith, short.period)))) ∙ ap (λ (l : List (List ℕ)). pair_of (decimal x.period ∷ l))
-    (uncut 58 (decimal x.cost) (number_lacks 58 x.cost refl (omega (arith, short.cost)))) in
-    rw (sides, number_again x.period short.period, number_again x.cost short.cost) refl
+interrupt_again x short = rw (
+  interrupt_parts x,
+  cut_at 58 (decimal x.period) (decimal x.cost)
+      (number_lacks 58 x.period refl (omega (arith, short.period_to))),
+  uncut 58 (decimal x.cost)
+      (number_lacks 58 x.cost refl (omega (arith, short.cost, short.period_to))),
+  number_again x.period (omega (arith, short.period_to)),
+  number_again x.cost (omega (arith, short.cost, short.period_to)),
+) refl
 
-each_again : (xs : List Interrupt) → AllByRecursion IsShortInterrupt xs
+each_again : (xs : List Interrupt) → AllByRecursion IsInterrupt xs
     → each_in interrupt_in (map interrupt_word xs) ≡ Ok xs
 each_again [] each = refl
 each_again (x ∷ xs) each = rw (interrupt_again x each.0, each_again xs each.1) refl
 
-interrupts_again : (xs : List Interrupt) → AllByRecursion IsShortInterrupt xs
+interrupts_again : (xs : List Interrupt) → AllByRecursion IsInterrupt xs
     → interrupts_or_none (interrupt_value xs) ≡ Ok xs
 unfolding interrupt_value
 interrupts_again [] each = refl
@@ -475,8 +426,8 @@ record IsShort (t : Task) : Type 0 where
   cost : t.cost < 10 ^ 10
   jitter : t.jitter < 10 ^ 10
   names : AllByRecursion IsName (names_said t.outranks)
-  node : IsShortNode t.node
-  interrupts : AllByRecursion IsShortInterrupt t.interrupts
+  node : AreOverheads t.node
+  interrupts : AllByRecursion IsInterrupt t.interrupts
   sections : AllByRecursion IsSpelled t.sections
 
 short_sheet : (t : Task) → IsValidSheet t → IsShort t
@@ -489,9 +440,8 @@ short_sheet t is =
       cost = cost;
       jitter = omega (arith, is.jitter, is.deadline_to, is.period_to);
       names = names_valid t.name t.outranks is.outranked;
-      node = short_node t.node is.overheads;
-      interrupts = short_interrupts t.interrupts
-          (recursion_from_All IsInterrupt t.interrupts is.interrupts.valid);
+      node = is.overheads;
+      interrupts = recursion_from_All IsInterrupt t.interrupts is.interrupts.valid;
       sections = spelled_sections 0 t.cost t.sections cost is.sections;
     }
 
@@ -538,20 +488,23 @@ more_spaced t =
     let D : List (List ℕ) = field_words (codes "j") (delay_value t.jitter) in
     let O : List (List ℕ) = field_words (codes "over") (over_value t.outranks) in
     let N : List (List ℕ) = field_words (codes "node") (node_value t.node) in
+    let I : List (List ℕ) = field_words (codes "irq") (interrupt_value t.interrupts) in
     rw (
       delay_shape t.jitter,
       over_shape t.outranks,
       node_shape t.node,
-      interrupt_shape
-          t.interrupts,
-    )
-    ((spaced_append D (over_rest t)) ∙ ap (λ (l : List ℕ). spaced D ++ l)
-    ((spaced_append O (node_rest t)) ∙ ap (λ (l : List ℕ). spaced O ++ l)
-    ((spaced_append N (interrupt_rest t)) ∙ ap (λ (l : List ℕ). spaced N ++ l)
-    (spaced_append (field_words (codes "irq") (interrupt_value t.interrupts))
-    (section_words t.sections)))))
+      interrupt_shape t.interrupts,
+      spaced_append D (over_rest t),
+      spaced_append O (node_rest t),
+      spaced_append N (interrupt_rest t),
+      spaced_append I (section_words t.sections),
+    ) refl
 
-put_shape : (t : Task) → put_line t ≡ codes "put" ++ spaced (put_words t)
+spaced_joined : (w : List ℕ) (ws : List (List ℕ)) → w ++ spaced ws ≡ join_with_byte 32 (w ∷ ws)
+spaced_joined w [] = append-nil w
+spaced_joined w (v ∷ ws) = ap (λ (l : List ℕ). w ++ 32 ∷ l) (spaced_joined v ws)
+
+put_shape : (t : Task) → put_line t ≡ join_with_byte 32 (codes "put" ∷ put_words t)
 put_shape t =
     let V : List (List ℕ) = value_words t in
     regroup (codes "put") (spaced V) (spaced (delay_words t.jitter))
@@ -559,6 +512,7 @@ put_shape t =
     (spaced (interrupt_words t.interrupts)) (spaced (section_words t.sections))
     ∙ ap (λ (l : List ℕ). codes "put" ++ l)
     (sym (spaced_append V (more_words t) ∙ ap (λ (l : List ℕ). spaced V ++ l) (more_spaced t)))
+    ∙ spaced_joined (codes "put") (put_words t)
   where
     regroup : (p v d o n i s : List ℕ)
         → ((p ++ v) ++ (((d ++ o) ++ n) ++ i)) ++ s ≡ p ++ (v ++ (d ++ (o ++ (n ++ (i ++ s)))))
@@ -570,34 +524,34 @@ module _ (t : Task) (short : IsShort t) where
       → NoSuch key (interrupt_rest t)
   interrupt_none key other =
       other_field key (codes "irq") (interrupt_value t.interrupts) (map section_word t.sections)
-      irq_key (interrupts_lack 61 t.interrupts equals_apart short.interrupts) other
+      refl (interrupts_lack 61 t.interrupts equals_apart short.interrupts) other
       (sections_no_field key t.sections short.sections)
 
   node_none : (key : List ℕ) → bytes_eq (codes "node") key ≡ false
       → bytes_eq (codes "irq") key ≡ false → NoSuch key (node_rest t)
   node_none key other irq = other_field key (codes "node") (node_value t.node) (interrupt_rest t)
-      node_key (node_lacks 61 t.node equals_apart short.node) other (interrupt_none key irq)
+      refl (node_lacks 61 t.node equals_apart short.node) other (interrupt_none key irq)
 
   over_none : NoSuch (codes "j") (over_rest t)
-  over_none = other_field (codes "j") (codes "over") (over_value t.outranks) (node_rest t) over_key
+  over_none = other_field (codes "j") (codes "over") (over_value t.outranks) (node_rest t) refl
       (over_lacks 61 t.outranks equals_apart short.names) refl (node_none (codes "j") refl refl)
 
   delay_next : next_field (codes "j") (more_words t) ≡ (delay_value t.jitter, over_rest t)
-  delay_next = this_field (codes "j") (delay_value t.jitter) (over_rest t) delay_key
+  delay_next = this_field (codes "j") (delay_value t.jitter) (over_rest t) refl
       (delay_lacks 61 t.jitter equals_apart short.jitter) over_none
 
   over_next : next_field (codes "over") (over_rest t) ≡ (over_value t.outranks, node_rest t)
-  over_next = this_field (codes "over") (over_value t.outranks) (node_rest t) over_key
+  over_next = this_field (codes "over") (over_value t.outranks) (node_rest t) refl
       (over_lacks 61 t.outranks equals_apart short.names) (node_none (codes "over") refl refl)
 
   node_next : next_field (codes "node") (node_rest t) ≡ (node_value t.node, interrupt_rest t)
-  node_next = this_field (codes "node") (node_value t.node) (interrupt_rest t) node_key
+  node_next = this_field (codes "node") (node_value t.node) (interrupt_rest t) refl
       (node_lacks 61 t.node equals_apart short.node) (interrupt_none (codes "node") refl)
 
   interrupt_next : next_field (codes "irq") (interrupt_rest t)
       ≡ (interrupt_value t.interrupts, map section_word t.sections)
   interrupt_next = this_field (codes "irq") (interrupt_value t.interrupts) (map section_word
-      t.sections) irq_key (interrupts_lack 61 t.interrupts equals_apart short.interrupts)
+      t.sections) refl (interrupts_lack 61 t.interrupts equals_apart short.interrupts)
       (sections_no_field (codes "irq") t.sections short.sections)
 
 sheet_again : (t : Task) → IsValidSheet t → sheet_in (t.name ∷ decimal t.weight ∷ decimal t.period
@@ -629,65 +583,45 @@ sheet_again t is =
     ) refl
 
 -- ---- a line
-words_again : (w : List ℕ) (ws : List (List ℕ)) → Lacks 32 w → AllByRecursion (λ v. Lacks 32 v) ws
-    → words (w ++ spaced ws) ≡ w ∷ ws
-words_again w [] lacks each = ap words (append-nil w) ∙ uncut 32 w lacks
-words_again w (v ∷ ws) lacks each = cut_at 32 w (v ++ spaced ws) lacks
-    ∙ ap (λ (l : List (List ℕ)). w ∷ l) (words_again v ws each.0 each.1)
-
-spaced_lacks : (c : ℕ) (ws : List (List ℕ)) → (32 == c) ≡ false → AllByRecursion (λ v. Lacks c v) ws
-    → Lacks c (spaced ws)
-spaced_lacks c [] other each = record { none = tt }
-spaced_lacks c (w ∷ ws) other each =
-    let rest = lacks_append c w (spaced ws) each.0 (spaced_lacks c ws other each.1) in
-    record { none = (other, rest.none) }
-
--- a byte that no word has
-record IsGap (c : ℕ) : Type 0 where
-  apart : IsApart c
-  one : Lacks c (codes "1")
-  equals : (61 == c) ≡ false
-  delay : Lacks c (codes "j")
-  over : Lacks c (codes "over")
-  node : Lacks c (codes "node")
-  irq : Lacks c (codes "irq")
-
 all_append : (c : ℕ) (vs ws : List (List ℕ)) → AllByRecursion (λ v. Lacks c v) vs
     → AllByRecursion (λ v. Lacks c v) ws → AllByRecursion (λ v. Lacks c v) (vs ++ ws)
 all_append c [] ws a b = b
 all_append c (v ∷ vs) ws a b = (a.0, all_append c vs ws a.1 b)
 
-module _ (c : ℕ) (gap : IsGap c) where
+-- no word has the byte
+module _ (c : ℕ) (apart : IsApart c) (equals : (61 == c) ≡ false) where
   number_apart : (n : ℕ) → n < 10 ^ 10 → Lacks c (decimal n)
-  number_apart n short = number_lacks c n gap.apart.digit (omega (arith, short))
+  number_apart n short = number_lacks c n apart.digit (omega (arith, short))
 
   sections_apart : (ss : List CriticalSection) → AllByRecursion IsSpelled ss
       → AllByRecursion (λ v. Lacks c v) (map section_word ss)
   sections_apart [] each = tt
-  sections_apart (s ∷ ss) each = (section_lacks c s gap.apart each.0, sections_apart ss each.1)
+  sections_apart (s ∷ ss) each = (section_lacks c s apart each.0, sections_apart ss each.1)
 
   field_apart : (key : List ℕ) (value : Option (List ℕ)) (ws : List (List ℕ)) → Lacks c key
       → NoneHas c value → AllByRecursion (λ v. Lacks c v) ws
       → AllByRecursion (λ v. Lacks c v) (field_words key value ++ ws)
   field_apart key None ws lacks none each = each
   field_apart key (Some value) ws lacks none each =
-      (lacks_append c key (61 ∷ value) lacks (record { none = (gap.equals, none.none) }), each)
+      (lacks_append c key (61 ∷ value) lacks (record { none = (equals, none.none) }), each)
 
   put_apart : (t : Task) → IsValidSheet t → AllByRecursion (λ v. Lacks c v) (put_words t)
   put_apart t is =
       let short = short_sheet t is in
+      let key = λ (key : List ℕ) (named : IsName key). name_lacks c key apart.name named in
       let irq = field_apart (codes "irq") (interrupt_value t.interrupts)
-      (map section_word t.sections) gap.irq (interrupts_lack c t.interrupts gap.apart
+      (map section_word t.sections) (key (codes "irq") refl) (interrupts_lack c t.interrupts apart
       short.interrupts) (sections_apart t.sections short.sections) in
-      let node = field_apart (codes "node") (node_value t.node) (interrupt_rest t) gap.node
-      (node_lacks c t.node gap.apart short.node) irq in
-      let over = field_apart (codes "over") (over_value t.outranks) (node_rest t) gap.over
-      (over_lacks c t.outranks gap.apart short.names) node in
-      let more = field_apart (codes "j") (delay_value t.jitter) (over_rest t) gap.delay
-      (delay_lacks c t.jitter gap.apart short.jitter) over in (
-        gap.one,
+      let node = field_apart (codes "node") (node_value t.node) (interrupt_rest t)
+      (key (codes "node") refl) (node_lacks c t.node apart short.node) irq in
+      let over = field_apart (codes "over") (over_value t.outranks) (node_rest t)
+      (key (codes "over") refl) (over_lacks c t.outranks apart short.names) node in
+      let more = field_apart (codes "j") (delay_value t.jitter) (over_rest t)
+      (key (codes "j") refl) (delay_lacks c t.jitter apart short.jitter) over in (
+        subst (λ (w : List ℕ). Lacks c w) (decimal_digit 1 (omega arith))
+            (number_apart 1 (omega arith)),
         (
-          name_lacks c t.name gap.apart.name is.named,
+          name_lacks c t.name apart.name is.named,
           (
             number_apart t.weight short.weight,
             (
@@ -698,27 +632,13 @@ module _ (c : ℕ) (gap : IsGap c) where
         ),
       )
 
-space_gap : IsGap 32
-space_gap = record {
-  apart = record { name = refl; digit = refl; plus = refl; sign = refl; colon = refl; star = refl };
-  one = record { none = (refl, tt) };
-  equals = refl;
-  delay = record { none = (refl, tt) };
-  over = record { none = (refl, (refl, (refl, (refl, tt)))) };
-  node = record { none = (refl, (refl, (refl, (refl, tt)))) };
-  irq = record { none = (refl, (refl, (refl, tt))) };
-}
+space_apart : IsApart 32
+space_apart =
+    record { name = refl; digit = refl; plus = refl; sign = refl; colon = refl; star = refl }
 
-end_gap : IsGap 10
-end_gap = record {
-  apart = record { name = refl; digit = refl; plus = refl; sign = refl; colon = refl; star = refl };
-  one = record { none = (refl, tt) };
-  equals = refl;
-  delay = record { none = (refl, tt) };
-  over = record { none = (refl, (refl, (refl, (refl, tt)))) };
-  node = record { none = (refl, (refl, (refl, (refl, tt)))) };
-  irq = record { none = (refl, (refl, (refl, tt))) };
-}
+end_apart : IsApart 10
+end_apart =
+    record { name = refl; digit = refl; plus = refl; sign = refl; colon = refl; star = refl }
 
 put_again : (ws : List (List ℕ)) (t : Task) → sheet_in ws ≡ Ok t
     → row_in 1 (codes "put" ∷ codes "1" ∷ ws) ≡ Ok (Put 1 t)
@@ -727,14 +647,15 @@ put_again ws t is = rw (draft_next ws, is) refl
 
 line_again : (t : Task) → IsValidSheet t → row_in 1 (words (put_line t)) ≡ Ok (Put 1 t)
 line_again t is =
-    ap (λ (l : List ℕ). row_in 1 (words l)) (put_shape t) ∙ ap (row_in 1) (words_again (codes "put")
-    (put_words t) (record { none = (refl, (refl, (refl, tt))) }) (put_apart 32 space_gap t is))
+    ap (λ (l : List ℕ). row_in 1 (words l)) (put_shape t)
+    ∙ ap (row_in 1) (joined_again 32 (codes "put") (put_words t)
+    (name_lacks 32 (codes "put") refl refl) (put_apart 32 space_apart refl t is))
     ∙ put_again _ t (sheet_again t is)
 
 put_ends : (t : Task) → IsValidSheet t → Lacks 10 (put_line t)
-put_ends t is = subst (λ (l : List ℕ). Lacks 10 l) (sym (put_shape t)) (lacks_append 10
-    (codes "put") (spaced (put_words t)) (record { none = (refl, (refl, (refl, tt))) })
-    (spaced_lacks 10 (put_words t) refl (put_apart 10 end_gap t is)))
+put_ends t is = subst (λ (l : List ℕ). Lacks 10 l) (sym (put_shape t))
+    (joined_lacks 32 10 (codes "put" ∷ put_words t) refl
+    (name_lacks 10 (codes "put") refl refl, put_apart 10 end_apart refl t is))
 
 commit_again : row_in 1 (words (codes "commit 1")) ≡ Ok (Commit 1)
 unfolding row_in only_draft
@@ -781,17 +702,14 @@ script_again team U from to set =
     let each : AllByRecursion IsValidSheet U = recursion_from_All IsValidSheet U set.valid in
     let number : Lacks 10 (decimal team) = number_lacks 10 team refl (omega (arith, to)) in
     let space : Lacks 32 (decimal team) = number_lacks 32 team refl (omega (arith, to)) in
-    let shape : script_of team U ≡ (codes "open" ++ spaced (decimal team ∷ [])) ++ 10
-    ∷ (put_lines U ++ codes "commit 1\n") = simp append_assoc in
-    let line = lacks_append 10 (codes "open") (spaced (decimal team ∷ []))
-    (record { none = (refl, (refl, (refl, (refl, tt)))) })
-    (spaced_lacks 10 (decimal team ∷ []) refl (number, tt)) in
-    let texts = ap lines_of shape ∙ one_more (codes "open" ++ spaced (decimal team ∷ []))
-    (put_lines U ++ codes "commit 1\n") line
-    ∙ ap (λ (l : List (List ℕ)). (codes "open" ++ spaced (decimal team ∷ [])) ∷ l)
-    (texts_again U each) in
-    let row = ap (row_in 0) (words_again (codes "open") (decimal team ∷ [])
-    (record { none = (refl, (refl, (refl, (refl, tt)))) }) (space, tt))
-    ∙ open_again team from to in
+    let first : List ℕ = join_with_byte 32 (codes "open" ∷ decimal team ∷ []) in
+    let shape : script_of team U ≡ first ++ 10 ∷ (put_lines U ++ codes "commit 1\n") =
+    simp append_assoc in
+    let line = joined_lacks 32 10 (codes "open" ∷ decimal team ∷ []) refl
+    (name_lacks 10 (codes "open") refl refl, (number, tt)) in
+    let texts = ap lines_of shape ∙ one_more first (put_lines U ++ codes "commit 1\n") line
+    ∙ ap (λ (l : List (List ℕ)). first ∷ l) (texts_again U each) in
+    let row = ap (row_in 0) (joined_again 32 (codes "open") (decimal team ∷ [])
+    (name_lacks 32 (codes "open") refl refl) (space, tt)) ∙ open_again team from to in
     ap (λ (ls : List (List ℕ)). script_from 0 (kept_from 1 ls)) texts
     ∙ rw (row, rows_again U 2 each) refl

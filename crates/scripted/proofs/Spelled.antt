@@ -1,10 +1,10 @@
--- Words that are cut where they were joined: names and numbers have none of the bytes that stand between words.
-use Rattle.std.proofs.Common.{◌≡◌, ◌∙◌, ◌==◌, ◌<◌, ◌^◌, ◌&&◌, ℕ, Bool, true, false, inl, inr, List}
-use Rattle.std.proofs.Common.{[], ◌∷◌, ◌++◌, All, refl, ap, arith}
+-- Words that are cut where they were joined: no byte of a name or a number stands between words.
+use Rattle.std.proofs.Common.{◌≡◌, ◌∙◌, ◌==◌, ◌<◌, ◌^◌, ℕ, Bool, true, false, inl, inr, List, []}
+use Rattle.std.proofs.Common.{◌∷◌, ◌++◌, All, ap, arith}
 use Rattle.std.specs.List.{list_all, slice_split, join_with_byte, AllByRecursion}
 use Rattle.std.specs.Char.{is_ascii_digit}
 use Rattle.std.specs.Fmt.{decimal}
-use Rattle.std.proofs.lemmas.Bool.{cases_Bool, both_ways, eqb-true}
+use Rattle.std.proofs.lemmas.Bool.{and_parts, cases_Bool, both_ways, eqb-true}
 use Rattle.std.proofs.lemmas.Bool.Decides.{nat_tests}
 use Rattle.std.proofs.lemmas.Fmt.{digits_decimal}
 use Rattle.std.proofs.lemmas.List.Splits.{slice_split_at, slice_split_none}
@@ -31,25 +31,14 @@ lacks_append c xs ys a b = record { none = go xs a.none }
 lacks_by : (p : ℕ → Bool) (c : ℕ) (xs : List ℕ) → p c ≡ false → list_all p xs ≡ true
     → AllByRecursion (λ x. (x == c) ≡ false) xs
 lacks_by p c [] other all = tt
-lacks_by p c (x ∷ xs) other all = (here, lacks_by p c xs other rest)
-  where
-    first : (b d : Bool) → (b && d) ≡ true → b ≡ true
-    first true d e = refl
-    first false d e = absurd (cc)
-
-    second : (b d : Bool) → (b && d) ≡ true → d ≡ true
-    second true d e = e
-    second false d e = absurd (cc)
-
-    rest : list_all p xs ≡ true
-    rest = second (p x) (list_all p xs) all
-
-    here : (x == c) ≡ false
-    here = elim (cases_Bool (x == c)) [
-      | inl same ↦ absurd (both_ways (p x) (ap p (eqb-true x c same) ∙ other)
-          (first (p x) (list_all p xs) all))
-      | inr apart ↦ apart
-    ]
+lacks_by p c (x ∷ xs) other all =
+    let both = and_parts (p x) (list_all p xs) all in (
+      elim (cases_Bool (x == c)) [
+        | inl same ↦ absurd (both_ways (p x) (ap p (eqb-true x c same) ∙ other) both.0)
+        | inr apart ↦ apart
+      ],
+      lacks_by p c xs other both.1,
+    )
 
 pub name_lacks : (c : ℕ) (name : List ℕ) → is_name_byte c ≡ false → IsName name → Lacks c name
 name_lacks c name other is = record { none = lacks_by is_name_byte c name other (bytes is) }

@@ -1,6 +1,6 @@
 use Rattle.std.proofs.Common.{◌≡◌, length}
 use Rattle.certificate.specs.Lines.{fails_from, at_place}
-use Rattle.certificate.proofs.LevelLoops.{onto}
+use Rattle.certificate.proofs.Loops.{onto}
 use Rattle.certificate.proofs.reading.Reader.fails.Given as goal
 
 abbrev pub invariant-loop-line : goal.invariant-loop-line
