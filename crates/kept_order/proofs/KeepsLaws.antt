@@ -1,29 +1,34 @@
 -- Orders that keep a list, task by task, and those that keep a part of it from its lowest task up.
-use Rattle.std.proofs.Common.{◌≡◌, ℕ, inl, inr, Bool, true, false, ◌&&◌, ◌||◌, ◌+◌, ◌<◌}
-use Rattle.std.proofs.Common.{Option, Some, None, IfSome, List, [], ◌∷◌, length, get_or, drop, refl}
-use Rattle.std.proofs.Common.{sym, ◌∙◌, ap, ◌-◌, ◌≤◌, ◌++◌, take, arith, append_assoc}
-use Rattle.std.proofs.lemmas.Bool.{cases_Bool, or_cases, or_left, or_right, and_parts, and_from}
-use Rattle.std.proofs.lemmas.Bool.{both_ways, true≢false, eq-eqb}
-use Rattle.std.proofs.lemmas.Bool.Decides.{nat_tests}
+use Rattle.std.proofs.Common.{◌≡◌, ℕ, inl, inr, Bool, true, false, ◌==◌, ◌&&◌, ◌||◌, ◌+◌, ◌<◌}
+use Rattle.std.proofs.Common.{List, [], ◌∷◌, length, get_or, drop, refl, sym, ◌∙◌, ap, subst, ◌-◌}
+use Rattle.std.proofs.Common.{◌≤◌, ◌++◌, take, arith, append_assoc}
+use Rattle.std.proofs.lemmas.Bool.{or_cases, or_left, or_right, or_parts, or_from, and_parts}
+use Rattle.std.proofs.lemmas.Bool.{and_from, both_ways, false_from_ne_true, true≢false, eq-eqb}
+use Rattle.std.proofs.lemmas.Bool.{eqb-true}
 use Rattle.std.proofs.lemmas.List.{at_drop_more, take_more, take-append-drop}
+use Rattle.std.proofs.lemmas.List.Folds.{list_any-append}
 use Rattle.task_sheet.specs.Sheet.{Task, AllTasks}
 use Rattle.task_sheet.specs.Indexes.{Indexes, IsPart, among}
-use Rattle.task_sheet.specs.Orders.{Stands, AllStand, all_of, IsBest}
+use Rattle.task_sheet.specs.Orders.{Stands}
 use Rattle.task_sheet.specs.Verdicts.{IsLeastOver}
 use Rattle.task_sheet.proofs.PassingLaws.{Stands-part, is_bound-at}
 use Rattle.kept_order.specs.Keeping.{stands_below, Keeps, is_held, StandsKept, IsPassingKept}
-use Rattle.kept_order.specs.Keeping.{IsBestKept, IsFirstParted}
-use Rattle.task_sheet.proofs.LevelLaws.{compare_orders}
+use Rattle.kept_order.specs.Keeping.{IsFirstParted}
 
 -- ---- a task that is held
-pub held-below : (kept : List ℕ) (H : Indexes) (i k : ℕ) → H k ≡ true → stands_below kept k i ≡ true
+held-below : (kept : List ℕ) (H : Indexes) (i k : ℕ) → H k ≡ true → stands_below kept k i ≡ true
     → is_held kept H i ≡ true
 held-below [] H i k member below = absurd (true≢false (sym below))
 held-below (x ∷ above) H i k member below =
-    grind (arith, nat_tests, held-below above H i k member)
+    elim (or_cases ((x == k) && among above i) (stands_below above k i) below) [
+      | inl here ↦
+          let both = and_parts (x == k) (among above i) here in
+          or_left _ _ (and_from _ _ (ap H (eqb-true x k both.0) ∙ member) both.1)
+      | inr later ↦ or_right _ _ (held-below above H i k member later)
+    ]
 
-pub below-held : (kept : List ℕ) (H : Indexes) (i : ℕ) → is_held kept H i ≡ true → (k : ℕ)
-    × (H k ≡ true) × (stands_below kept k i ≡ true)
+below-held : (kept : List ℕ) (H : Indexes) (i : ℕ) → is_held kept H i ≡ true
+    → (k : ℕ) × (H k ≡ true) × (stands_below kept k i ≡ true)
 below-held [] H i held = absurd (true≢false (sym held))
 below-held (x ∷ above) H i held = elim (or_cases (H x && among above i) (is_held above H i) held) [
   | inl here ↦
@@ -35,19 +40,14 @@ below-held (x ∷ above) H i held = elim (or_cases (H x && among above i) (is_he
 ]
 
 -- fewer hold less
-pub held-part : (kept : List ℕ) (H G : Indexes) (i : ℕ) → IsPart H G → is_held kept G i ≡ false
-    → is_held kept H i ≡ false
-held-part kept H G i part free = elim (cases_Bool (is_held kept H i)) [
-  | inl held ↦
-      let found = below-held kept H i held in
-      absurd (both_ways _ free (held-below kept G i found.0 (part found.0 found.1) found.2))
-  | inr so ↦ so
-]
-
 pub StandsKept-part : (U : List Task) (kept : List ℕ) (i : ℕ) (H G : Indexes) → AllTasks U
     → IsPart H G → StandsKept U kept i G → StandsKept U kept i H
-StandsKept-part U kept i H G valid part stands =
-    (Stands-part U valid i H G part stands.0, held-part kept H G i part stands.1)
+StandsKept-part U kept i H G valid part stands = (
+  Stands-part U valid i H G part stands.0,
+  false_from_ne_true _ (λ held.
+      let found = below-held kept H i held in
+      both_ways _ stands.1 (held-below kept G i found.0 (part found.0 found.1) found.2)),
+)
 
 -- the list from a place on
 pub held-step : (kept : List ℕ) (H : Indexes) (i k : ℕ) (b : Bool) → k < length kept
@@ -55,12 +55,6 @@ pub held-step : (kept : List ℕ) (H : Indexes) (i k : ℕ) (b : Bool) → k < l
     → is_held (drop k kept) H i ≡ (b || is_held (drop (k + 1) kept) H i)
 held-step kept H i k b lt is = at_drop_more (λ xs. is_held xs H i) kept k 0 lt
     ∙ ap (λ a. a || is_held (drop (k + 1) kept) H i) (sym is)
-
--- a response of a task that nobody holds
-pub stands_kept : (U : List Task) (kept : List ℕ) (i : ℕ) (H : Indexes) (o : Option ℕ) → is_held
-    kept H i ≡ false → IfSome o (λ _. Stands U i H) → IfSome o (λ _. StandsKept U kept i H)
-stands_kept U kept i H None free stands = tt
-stands_kept U kept i H (Some r) free stands = (stands, free)
 
 -- a task that must stand above one that is above it may not stand
 pub over_fails : (U : List Task) (i : ℕ) (H : Indexes) (k : ℕ) → IsLeastOver U i H k
@@ -71,72 +65,37 @@ over_fails U i H k over stands =
 -- ---- an order that keeps a list, from its lowest task up
 pub Keeps-head : (kept : List ℕ) (i : ℕ) (above : List ℕ) → Keeps kept (i ∷ above)
     → is_held kept (among above) i ≡ false
-Keeps-head kept i above keeps = elim (cases_Bool (is_held kept (among above) i)) [
-  | inl held ↦
-      let found = below-held kept (among above) i held in
-      absurd (both_ways _ (keeps found.0 i found.2)
-      (or_left _ _ (and_from _ _ (eq-eqb i i refl) found.1)))
-  | inr so ↦ so
-]
+Keeps-head kept i above keeps = false_from_ne_true _ (λ held.
+    let found = below-held kept (among above) i held in
+    both_ways _ (keeps found.0 i found.2)
+    (or_left _ _ (and_from _ _ (eq-eqb i i refl) found.1)))
 
 pub Keeps-rest : (kept : List ℕ) (i : ℕ) (above : List ℕ) → Keeps kept (i ∷ above)
     → Keeps kept above
-Keeps-rest kept i above keeps a b below = grind (arith, keeps a b below)
+Keeps-rest kept i above keeps a b below = (or_parts _ _ (keeps a b below)).1
 
 pub Keeps-cons : (kept : List ℕ) (i : ℕ) (above : List ℕ) → is_held kept (among above) i ≡ false
     → Keeps kept above → Keeps kept (i ∷ above)
-Keeps-cons kept i above free keeps a b below =
-    grind (arith, nat_tests, keeps a b below, held-below kept (among above) i a)
-
--- each task of an order may stand below those after it, and is held by none of them
-abbrev pub AllStandKept : List Task → List ℕ → List ℕ → Type 0
-AllStandKept U kept [] = Unit {0}
-AllStandKept U kept (i ∷ above) = StandsKept U kept i (among above) × AllStandKept U kept above
-
-pub AllStandKept-from : (U : List Task) (kept order : List ℕ) → AllStand U order → Keeps kept order
-    → AllStandKept U kept order
-AllStandKept-from U kept [] all keeps = tt
-AllStandKept-from U kept (i ∷ above) all keeps = (
-  (all.0, Keeps-head kept i above keeps),
-  AllStandKept-from U kept above all.1
-      (Keeps-rest kept i above keeps),
-)
-
-pub AllStandKept-stand : (U : List Task) (kept order : List ℕ) → AllStandKept U kept order
-    → AllStand U order
-AllStandKept-stand U kept [] all = tt
-AllStandKept-stand U kept (i ∷ above) all = (all.0.0, AllStandKept-stand U kept above all.1)
-
-pub AllStandKept-keeps : (U : List Task) (kept order : List ℕ) → AllStandKept U kept order
-    → Keeps kept order
-AllStandKept-keeps U kept [] all = λ a b below. refl
-AllStandKept-keeps U kept (i ∷ above) all =
-    Keeps-cons kept i above all.0.1 (AllStandKept-keeps U kept above all.1)
-
-among-part : (xs ys : List ℕ) (k : ℕ) → among xs k ≡ true → among (xs ++ ys) k ≡ true
-among-part [] ys k has = absurd (true≢false (sym has))
-among-part (x ∷ xs) ys k has = grind (arith, among-part xs ys k)
+Keeps-cons kept i above free keeps a b below = or_from _ _ (false_from_ne_true _ (λ here.
+    let both = and_parts (i == b) (among above a) here in
+    both_ways _ free (held-below kept (among above) i a both.1
+    (subst (λ m. stands_below kept a m ≡ true) (sym (eqb-true i b both.0)) below))))
+    (keeps a b below)
 
 below-part : (xs ys : List ℕ) (i k : ℕ) → stands_below xs i k ≡ true
     → stands_below (xs ++ ys) i k ≡ true
 below-part [] ys i k below = absurd (true≢false (sym below))
-below-part (x ∷ xs) ys i k below = grind (arith, below-part xs ys i k, among-part xs ys k)
+below-part (x ∷ xs) ys i k below =
+    elim (or_cases ((x == i) && among xs k) (stands_below xs i k) below) [
+      | inl here ↦
+          let both = and_parts (x == i) (among xs k) here in
+          or_left _ _ (and_from _ _ both.0
+          (list_any-append (λ v. v == k) xs ys ∙ or_left _ _ both.1))
+      | inr later ↦ or_right _ _ (below-part xs ys i k later)
+    ]
 
 pub Keeps-part : (xs ys order : List ℕ) → Keeps (xs ++ ys) order → Keeps xs order
 Keeps-part xs ys order keeps i k below = keeps i k (below-part xs ys i k below)
-
-pub Keeps-none : (order : List ℕ) → Keeps [] order
-Keeps-none order i k below = absurd (true≢false (sym below))
-
-pub IsFirstParted-none : (U : List Task) (kept : List ℕ) (low high : ℕ)
-    → IsFirstParted U kept low high → (order : List ℕ) → ¬ IsPassingKept U kept order
-IsFirstParted-none U kept low high parted order so =
-    let pair = low ∷ high ∷ [] in
-    parted.none order (record {
-      passing = so.passing;
-      keeps = Keeps-part (parted.below ++ pair) parted.above order
-          (rw (parted.parts ∙ sym (append_assoc parted.below pair parted.above)) at so.keeps);
-    })
 
 -- ---- the first part that no order keeps
 -- some order that passes keeps the lowest n tasks
@@ -144,44 +103,23 @@ abbrev pub SomeKeeps : List Task → List ℕ → ℕ → Type 0
 SomeKeeps U kept n = (order : List ℕ) × IsPassingKept U (take n kept) order
 
 -- the part up to a place is kept, and that with the next task is not: these two part
-pub IsFirstParted-at : (U : List Task) (kept : List ℕ) (n low high : ℕ) → 1 ≤ n → n < length kept
-    → low ≡ get_or kept (n - 1) 0 → high ≡ get_or kept n 0
+pub IsFirstParted-at : (U : List Task) (kept : List ℕ) (n : ℕ) → 1 ≤ n → n < length kept
     → SomeKeeps U kept n → ((order : List ℕ) → ¬ IsPassingKept U (take (n + 1) kept) order)
-    → IsFirstParted U kept low high
-IsFirstParted-at U kept n low high from lt is_low is_high some none =
+    → IsFirstParted U kept (get_or kept (n - 1) 0) (get_or kept n 0)
+IsFirstParted-at U kept n from lt some none =
     let j = n - 1 in
+    let low = get_or kept j 0 in
+    let high = get_or kept n 0 in
     let next : j + 1 ≡ n = omega (arith, from) in
-    let short : take n kept ≡ take j kept ++ low ∷ [] =
-    ap (λ m. take m kept) (sym next) ∙ take_more kept j 0 (omega (arith, from, lt))
-    ∙ ap (λ x. take j kept ++ x ∷ []) (sym is_low) in
-    let long : take (n + 1) kept ≡ take j kept ++ low ∷ high ∷ [] =
-    take_more kept n 0 lt ∙ (λ i. short i ++ sym is_high i ∷ [])
-    ∙ append_assoc (take j kept) (low ∷ []) (high ∷ []) in
+    let short : take n kept ≡ take j kept ++ low ∷ [] = ap (λ m. take m kept) (sym next)
+    ∙ take_more kept j 0 (omega (arith, from, lt)) in
+    let long : take (n + 1) kept ≡ take j kept ++ low ∷ high ∷ [] = take_more kept n 0 lt
+    ∙ ap (λ xs. xs ++ high ∷ []) short ∙ append_assoc (take j kept) (low ∷ []) (high ∷ []) in
     record {
       below = take j kept;
       above = drop (n + 1) kept;
       parts = sym (take-append-drop (n + 1) kept) ∙ ap (λ xs. xs ++ drop (n + 1) kept) long
           ∙ append_assoc (take j kept) (low ∷ high ∷ []) (drop (n + 1) kept);
-      some = rw (← short) some;
-      none = rw (← long) none;
+      some = subst (λ xs. (order : List ℕ) × IsPassingKept U xs order) short some;
+      none = subst (λ xs. (order : List ℕ) → ¬ IsPassingKept U xs order) long none;
     }
-
--- ---- the best
-pub IsBestKept-one : (U : List Task) (kept first second : List ℕ) → IsBestKept U kept first
-    → IsBestKept U kept second → first ≡ second
-IsBestKept-one U kept first second a b =
-    elim (compare_orders (all_of U) first second a.passing.passing.each_once
-    b.passing.passing.each_once) [
-      | inl same ↦ same
-      | inr either ↦ elim either [
-        | inl better ↦ absurd (b.unbeaten first a.passing better)
-        | inr better ↦ absurd (a.unbeaten second b.passing better)
-      ]
-    ]
-
-pub IsBestKept-best : (U : List Task) (order : List ℕ) → IsBestKept U [] order → IsBest U order
-IsBestKept-best U order best = record {
-  passing = best.passing.passing;
-  unbeaten = λ other passing better. best.unbeaten other
-      (record { passing = passing; keeps = Keeps-none other }) better;
-}

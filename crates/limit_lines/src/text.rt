@@ -160,8 +160,8 @@ fn in_any(
 ) -> Result<Option<u64>, AllocError>
     requires task { task < length set.now }
     requires has { HasNumber (task_at set.now task) number }
-    requires may { IfSome known (MayHave set.now task number) }
-    requires passes { IfSome known (λ value. IsFeasible (numbered set.now task number value)) }
+    requires known { IfSome known (λ value. MayHave set.now task number value
+        × IsFeasible (numbered set.now task number value)) }
     ensures { IfOk result (λ most. AnswersFurthest set.now task number most) }
 {
     match known {

@@ -1,8 +1,9 @@
 -- The responses of an order bound the jobs of each run in it.
-use Rattle.std.proofs.Common.{◌≡◌, ◌∙◌, All, ℕ, suc, ◌+◌, ◌<◌, ◌≤◌, inl, inr, true, false, List, []}
-use Rattle.std.proofs.Common.{◌∷◌, length, Some, None, Ok, is_some, unwrap_or, refl}
-use Rattle.std.proofs.Common.{sym, ap, subst, arith, slice_index_or, eqb}
-use Rattle.std.proofs.lemmas.Bool.{and_parts, cases_Bool, cases_lt, eq-eqb, eqb-true, lt-ltb}
+use Rattle.std.proofs.Common.{◌≡◌, ◌∙◌, ℕ, suc, ◌+◌, ◌<◌, ◌≤◌, inl, inr, true, false, List, [], ◌∷◌}
+use Rattle.std.proofs.Common.{length, Some, None, Ok, is_some, unwrap_or, refl, sym, ap, subst}
+use Rattle.std.proofs.Common.{arith, slice_index_or, eqb}
+use Rattle.std.proofs.lemmas.Bool.{and_parts, both_ways, cases_Bool, cases_lt, eq-eqb, eqb-true}
+use Rattle.std.proofs.lemmas.Bool.{false_from_ne_true, lt-ltb, ltb-true, or_left, or_right}
 use Rattle.std.proofs.lemmas.Bool.{true≢false}
 use Rattle.std.proofs.lemmas.Slice.Eq.{bytes_eq-Decides}
 use Rattle.task_sheet.specs.Sheet.{Task, task_at, same_bytes}
@@ -29,40 +30,26 @@ use Rattle.ceiling_kernel.proofs.BoundLaws.{responses_law}
 use Rattle.ceiling_kernel.proofs.EndLaws.{bounded_trace, records_at, some_executes}
 use Rattle.ceiling_kernel.proofs.FinishLaws.{finish_is}
 use Rattle.ceiling_kernel.proofs.NodeLaws.{after_is_above}
-use Rattle.ceiling_kernel.proofs.OrderLaws.{order_iff}
 use Rattle.run_lines.specs.Reached.{done_of, is_done_of, response_of}
 use Rattle.run_lines.specs.Responses.{AllDoneWithin, AllKeptWithin, AllReachWithin, DoneWithin}
 use Rattle.run_lines.specs.Responses.{IsKeptWithin}
-use Rattle.run_lines.specs.TaskBounds.{AreBounds, IsBoundBelow, tasks_of_bounds}
+use Rattle.run_lines.specs.TaskBounds.{AreBounds, IsBoundBelow, bounds_of, tasks_of_bounds}
 use Rattle.run_lines.specs.declared.bounds.TaskBound.{TaskBound}
 
 -- ---- an order
--- those after the first task
-after_first : (i : ℕ) (above : List ℕ) → after_of (i ∷ above) i ≡ above
-after_first i above = rw (eq-eqb i i refl) refl
-
-first_among : (i : ℕ) (above : List ℕ) → among (i ∷ above) i ≡ true
-first_among i above = rw (eq-eqb i i refl) refl
-
--- those after another
-after_other : (i : ℕ) (above : List ℕ) (x : ℕ) → eqb i x ≡ false
-    → after_of (i ∷ above) x ≡ after_of above x
-after_other i above x other = rw other refl
-
-among_more : (i : ℕ) (above : List ℕ) (x : ℕ) → among above x ≡ true → among (i ∷ above) x ≡ true
-among_more i above x has = elim (cases_Bool (eqb i x)) [ inl t ↦ rw t refl | inr f ↦ rw f has ]
+-- the tasks of places are those of their bounds
+pub same_tasks : (places : List PlaceData) → tasks_of_bounds (bounds_of places)
+    ≡ tasks_of_places places
+same_tasks [] = refl
+same_tasks (p ∷ places) = ap (λ (tasks : List ℕ). p.task ∷ tasks) (same_tasks places)
 
 -- a task that stands once isn't among those after it
 apart : (L : Indexes) (i : ℕ) (above : List ℕ) (x : ℕ) → IsOrderOf L (i ∷ above)
     → among above x ≡ true → eqb i x ≡ false
-apart L i above x each has =
-    elim (cases_Bool (eqb i x)) [
-      | inr f ↦ f
-      | inl t ↦
-          let rest = IsOrderOf-among (without_index L i) above (IsOrderOf-rest L i above each) in
-          let gone = ap (λ (H : Indexes). H x) rest ∙ without-gone L i x (sym (eqb-true i x t)) in
-          absurd (true≢false (sym has ∙ gone))
-    ]
+apart L i above x each has = false_from_ne_true _ (λ same.
+    let rest = IsOrderOf-among (without_index L i) above (IsOrderOf-rest L i above each) in
+    let gone = without-gone L i x (sym (eqb-true i x same)) in
+    both_ways _ (ap (λ (H : Indexes). H x) rest ∙ gone) has)
 
 -- ---- releases and records
 records_length : (node : Node) (jobs : List Job) (t k : ℕ) (rs : List Release)
@@ -166,48 +153,24 @@ module _ (U : List Task) (set : IsTaskSet U) (order : List ℕ) (is_order : IsOr
         never_later k f inside (numbered U set place.task lt (release_at rs k) name) is in
         omega (arith, at, late))
 
-  -- the same of each place of an order
-  along : (L : Indexes) (places : List PlaceData) → IsOrderOf L (tasks_of_places places)
-      → AreInTime U places
-      → ((x : ℕ) → among (tasks_of_places places) x ≡ true
-      → after_of order x ≡ after_of (tasks_of_places places) x)
-      → AllDoneWithin U places rs until trace × AllReachWithin U trace.jobs.items places
-  along L [] each in_time same = (tt, tt)
-  along L (p ∷ places) each in_time same =
-      let above = tasks_of_places places in
-      let lt : p.task < length U = in_time.0.in_set in
-      let here = same p.task (first_among p.task above) ∙ after_first p.task above in
-      let high : among (after_of order p.task) ≡ above_of node p.task =
-      λ x h. after_is_above node is_node p.task h lt x in
-      let over = subst (λ (o : List ℕ). among o ≡ above_of node p.task) here high in
-      let response = subst (λ (H : Indexes). IsResponseOf U p.task H p.response) over
-      in_time.0.response in
-      let rest =
-      along (without_index L p.task) places (IsOrderOf-rest L p.task above each) in_time.1
-      (λ x has. same x (among_more p.task above x has)
-      ∙ after_other p.task above x (apart L p.task above x each has)) in (
-        (done_within p lt response in_time.0.in_time, rest.0),
-        (reach_within p lt response in_time.0.in_time, rest.1),
-      )
-
   -- the same of each task of an order that has a bound
   kept_along : (L : Indexes) (bounds : List TaskBound) → IsOrderOf L (tasks_of_bounds bounds)
-      → All (λ k. k < length U) (tasks_of_bounds bounds) → AreBounds U bounds
+      → AreBounds U bounds
       → ((x : ℕ) → among (tasks_of_bounds bounds) x ≡ true
-      → after_of order x ≡ after_of (tasks_of_bounds bounds) x)
+      → (x < length U) × (after_of order x ≡ after_of (tasks_of_bounds bounds) x))
       → AllKeptWithin U bounds rs until trace
-  kept_along L [] each small sound same = tt
-  kept_along L (b ∷ bounds) each small sound same =
+  kept_along L [] each sound same = tt
+  kept_along L (b ∷ bounds) each sound same =
       let above = tasks_of_bounds bounds in
-      let lt : b.task < length U = small 0 0 (omega arith) in
-      let here = same b.task (first_among b.task above) ∙ after_first b.task above in
-      let high : among (after_of order b.task) ≡ above_of node b.task =
-      λ x h. after_is_above node is_node b.task h lt x in
-      let over = subst (λ (o : List ℕ). among o ≡ above_of node b.task) here high in
+      let itself = eq-eqb b.task b.task refl in
+      let here = same b.task (or_left _ _ itself) in
+      let over : among above ≡ above_of node b.task =
+      subst (λ (o : List ℕ). among o ≡ above_of node b.task) (here.1 ∙ rw itself refl)
+      (λ x h. after_is_above node is_node b.task h here.0 x) in
       let rest = kept_along (without_index L b.task) bounds (IsOrderOf-rest L b.task above each)
-      (λ k d within. small (suc k) d (omega (arith, within))) sound.1
-      (λ x has. same x (among_more b.task above x has)
-      ∙ after_other b.task above x (apart L b.task above x each has)) in
+      sound.1 (λ x has.
+      let found = same x (or_right _ _ has) in
+      (found.0, found.1 ∙ rw (apart L b.task above x each has) refl)) in
       let own : IsKeptWithin U b.task b.bound rs until trace =
       elim b.bound as (λ o. IsBoundBelow U above b.task o
       → IsKeptWithin U b.task o rs until trace) [
@@ -215,7 +178,7 @@ module _ (U : List Task) (set : IsTaskSet U) (order : List ℕ) (is_order : IsOr
         | Some r ↦ λ is.
             let response = subst (λ (H : Indexes). IsResponseOf U b.task H r) over is.0 in
             let place : PlaceData = record { task = b.task; response = r } in
-            (done_within place lt response is.1, reach_within place lt response is.1)
+            (done_within place here.0 response is.1, reach_within place here.0 response is.1)
       ] sound.0 in
       (own, rest)
 
@@ -225,16 +188,37 @@ pub all_kept : (U : List Task) (bounds : List TaskBound) (rs : List Release) (un
     → Runs (node_in U (tasks_of_bounds bounds)) rs until (Ok trace)
     → AllKeptWithin U bounds rs until trace
 all_kept U bounds rs until trace set each sound ran =
-    kept_along U set (tasks_of_bounds bounds) each rs until trace ran (all_of U) bounds each
-    ((order_iff (length U) (tasks_of_bounds bounds)).1 each).0 sound (λ x has. refl)
+    let all = IsOrderOf-among (all_of U) (tasks_of_bounds bounds) each in
+    kept_along U set (tasks_of_bounds bounds) each rs until trace ran (all_of U) bounds each sound
+    (λ x has. (ltb-true x (length U) (ap (λ (H : Indexes). H x) (sym all) ∙ has), refl))
+
+-- the bounds of places in which all are in time
+in_time_bounds : (U : List Task) (places : List PlaceData) → AreInTime U places
+    → AreBounds U (bounds_of places)
+in_time_bounds U [] in_time = tt
+in_time_bounds U (p ∷ places) in_time = (
+  (rw (same_tasks places) in_time.0.response, in_time.0.in_time),
+  in_time_bounds U places in_time.1,
+)
+
+kept_places : (U : List Task) (places : List PlaceData) (rs : List Release) (until : ℕ)
+    (trace : Trace) → AllKeptWithin U (bounds_of places) rs until trace
+    → AllDoneWithin U places rs until trace × AllReachWithin U trace.jobs.items places
+kept_places U [] rs until trace kept = (tt, tt)
+kept_places U (p ∷ places) rs until trace kept =
+    let rest = kept_places U places rs until trace kept.1 in
+    ((kept.0.0, rest.0), (kept.0.1, rest.1))
 
 -- each of an order in which all are in time
 pub all_in_time : (U : List Task) (places : List PlaceData) (rs : List Release) (until : ℕ)
     (trace : Trace) → IsTaskSet U → IsOrder U (tasks_of_places places) → AreInTime U places
     → Runs (node_in U (tasks_of_places places)) rs until (Ok trace)
     → AllDoneWithin U places rs until trace × AllReachWithin U trace.jobs.items places
-all_in_time U places rs until trace set each in_time ran = along U set (tasks_of_places places) each
-    rs until trace ran (all_of U) places each in_time (λ x has. refl)
+all_in_time U places rs until trace set each in_time ran =
+    kept_places U places rs until trace (all_kept U (bounds_of places) rs until trace set
+    (subst (λ (o : List ℕ). IsOrder U o) (sym (same_tasks places)) each)
+    (in_time_bounds U places in_time)
+    (subst (λ (o : List ℕ). Runs (node_in U o) rs until (Ok trace)) (sym (same_tasks places)) ran))
 
 -- each of a set's best order
 pub all_within : (U : List Task) (places : List PlaceData) (rs : List Release) (until : ℕ)

@@ -1,6 +1,7 @@
 //! The lines of the tasks.
-ghost use Rattle.std.specs.Prelude.{◌≡◌, ◌++◌, IfOk, OnOk, string_bytes};
+ghost use Rattle.std.specs.Prelude.{◌≡◌, ◌<◌, ◌++◌, length, IfOk, OnOk, string_bytes};
 ghost use Rattle.task_sheet.specs.Orders.{IsOrder};
+ghost use Rattle.lines.specs.Naming.{name_at};
 ghost use Rattle.run_lines.specs.Lines.{bound_words, greatest_words, task_line, task_lines};
 ghost use Rattle.run_lines.specs.TaskBounds.{tasks_of_bounds};
 
@@ -8,7 +9,7 @@ use crate::bounds::TaskBound;
 use crate::outcome::{Outcome, outcome_of};
 use ceiling_kernel::JobRecord;
 use std::alloc::{AllocError, Global};
-use task_sheet::{Sheet, TaskSet};
+use task_sheet::{Name, TaskSet};
 
 // The greatest response of jobs that are done, or `-` for none.
 fn push_greatest(text: &mut String, outcome: Outcome) -> Result<(), AllocError>
@@ -32,23 +33,32 @@ fn push_bound(text: &mut String, bound: Option<u64>) -> Result<(), AllocError>
     }
 }
 
-// The line of the task of a sheet, with its bound.
+// The name of a task.
+fn name_of(set: &TaskSet, task: usize) -> Name
+    requires { task < length set.now }
+    ensures { result ≡ name_at set.now task }
+{
+    set.sheets()[task].name()
+}
+
+// The line of a task, with its bound.
 fn push_task(
     text: &mut String,
-    sheet: &Sheet,
-    bound: Option<u64>,
+    set: &TaskSet,
+    bound: TaskBound,
     jobs: &[JobRecord],
 ) -> Result<(), AllocError>
+    requires { bound.task < length set.now }
     ensures { OnOk result (string_bytes text.new ≡ string_bytes text.old
-        ++ task_line sheet.now.name bound jobs.now) }
+        ++ task_line (name_at set.now bound.task) bound.bound jobs.now) }
 {
-    let name = sheet.name();
+    let name = name_of(set, bound.task);
     let outcome = outcome_of(jobs, name);
     let done = outcome.done;
     write!(text, "task {name} {done} ")?;
     push_greatest(text, outcome)?;
     text.push_str(" ")?;
-    push_bound(text, bound)?;
+    push_bound(text, bound.bound)?;
     text.push_str("\n")
 }
 
@@ -64,10 +74,9 @@ pub fn tasks_text(
     requires { IsOrder set.now (tasks_of_bounds bounds.now) }
     ensures { IfOk result (λ text. string_bytes text ≡ task_lines set.now jobs.now bounds.now) }
 {
-    let sheets = set.sheets();
     let mut text = String::new(alloc);
     for bound in bounds {
-        push_task(&mut text, &sheets[bound.task], bound.bound, jobs)?;
+        push_task(&mut text, set, *bound, jobs)?;
     }
     Ok(text)
 }

@@ -1,16 +1,15 @@
 -- The order below the others of a minimal conflict, made from the lowest task up.
-use Rattle.std.proofs.Common.{◌≡◌, ◌∙◌, ℕ, ◌+◌, inl, inr, Bool, true, false, ◌&&◌, ◌==◌, not, cond}
+use Rattle.std.proofs.Common.{◌≡◌, ◌∙◌, ℕ, ◌+◌, Bool, true, false, ◌&&◌, ◌==◌, not, cond}
 use Rattle.std.proofs.Common.{List, [], ◌∷◌, ◌++◌, length, refl, sym, ap, subst, arith}
-use Rattle.std.proofs.lemmas.Bool.{cases_Bool, true≢false}
+use Rattle.std.proofs.lemmas.Bool.{and_parts, false_from_ne_true, true≢false}
 use Rattle.std.proofs.lemmas.List.{append_assoc}
 use Rattle.std.proofs.lemmas.List.Sums.{sum_by-append}
 use Rattle.std.specs.Ordering.{nat_cmp}
 use Rattle.std.specs.FinSet as members
 use Rattle.task_sheet.specs.Sheet.{Task}
-use Rattle.task_sheet.specs.Indexes.{Indexes, indexes_of, listed_below, without_index, below}
-use Rattle.task_sheet.specs.Indexes.{IsPart}
+use Rattle.task_sheet.specs.Indexes.{Indexes, indexes_of, listed_below, without_index, IsPart}
 use Rattle.task_sheet.specs.Orders.{all_of, AllStand, IsOrder, IsOrderOf, Stands}
-use Rattle.task_sheet.specs.Levels.{IsObstruction, NoneStands, left_after}
+use Rattle.task_sheet.specs.Levels.{NoneStands, left_after}
 use Rattle.task_sheet.proofs.IndexLaws.{IsOrderOf-among, IsOrderOf-cons, listed-order}
 use Rattle.task_sheet.proofs.IndexLaws.{without-parts}
 use Rattle.task_sheet.proofs.LevelLaws.{left_after-part, left_after-push}
@@ -40,70 +39,53 @@ stand_order U L (i ∷ above) all none =
     let same = IsOrderOf-among (without_index L i) above rest.0 in
     (IsOrderOf-cons L i above all.0 rest.0, (subst (λ H. Stands U i H) (sym same) all.1, rest.1))
 
--- some of L are placed above others and a task, and L is what is left
-pub record IsSofarBelow (U : List Task) (C : Indexes) (i : ℕ) (L : Indexes)
-    (order : List ℕ) : Type 0 where
-  pub above : List ℕ
-  pub each : AllStandIn U (without_index C i) above
-  pub rest : L ≡ left_after (without_index C i) above
-  pub placed : order ≡ listed_below (length U) (others_of U C) ++ i ∷ above
+module _ (U : List Task) (C : Indexes) (i : ℕ) where
+  -- some of L are placed above others and a task, and L is what is left
+  pub record IsSofarBelow (L : Indexes) (order : List ℕ) : Type 0 where
+    pub above : List ℕ
+    pub each : AllStandIn U (without_index C i) above
+    pub rest : L ≡ left_after (without_index C i) above
+    pub placed : order ≡ listed_below (length U) (others_of U C) ++ i ∷ above
 
-pub below_part : (U : List Task) (C L : Indexes) (i : ℕ) (order : List ℕ) → IsPart C (all_of U)
-    → IsSofarBelow U C i L order → IsPart L (all_of U)
-below_part U C L i order part so =
-    subst (λ X. IsPart X (all_of U)) (sym so.rest)
-    (λ k h. part k (without-parts C i k (left_after-part (without_index C i) so.above k h)).0)
+  pub below_part : (L : Indexes) (order : List ℕ) → IsPart C (all_of U) → IsSofarBelow L order
+      → IsPart L (all_of U)
+  below_part L order part so =
+      subst (λ X. IsPart X (all_of U)) (sym so.rest)
+      (λ k h. part k (without-parts C i k (left_after-part (without_index C i) so.above k h)).0)
 
-pub below_start : (U : List Task) (conflict left : members.FinSet nat_cmp) (i : ℕ)
-    (others order : List ℕ) → left ≡ members.remove conflict i
-    → others ≡ listed_below (length U) (others_of U (indexes_of conflict))
-    → order ≡ others ++ i ∷ [] → IsSofarBelow U (indexes_of conflict) i (indexes_of left) order
-below_start U conflict left i others order removed listed pushed = record {
-  above = [];
-  each = tt;
-  rest = ap indexes_of removed ∙ indexes_of-remove conflict i;
-  placed = pushed ∙ ap (λ (xs : List ℕ). xs ++ i ∷ []) listed;
-}
+  pub below_push : (left : members.FinSet nat_cmp) (next : ℕ) (order : List ℕ)
+      → IsSofarBelow (indexes_of left) order → indexes_of left next ≡ true
+      → Stands U next (without_index (indexes_of left) next)
+      → IsSofarBelow (indexes_of (members.remove left next)) (order ++ next ∷ [])
+  below_push left next order so member stands = record {
+    above = so.above ++ next ∷ [];
+    each = stand_push U (without_index C i) so.above next so.each
+        (ap (λ (X : Indexes). X next) (sym so.rest) ∙ member)
+        (subst (λ X. Stands U next (without_index X next)) so.rest stands);
+    rest = indexes_of-remove left next ∙ ap (λ X. without_index X next) so.rest
+        ∙ sym (left_after-push (without_index C i) so.above next);
+    placed = ap (λ (xs : List ℕ). xs ++ next ∷ []) so.placed
+        ∙ append_assoc (listed_below (length U) (others_of U C)) (i ∷ so.above) (next ∷ []);
+  }
 
-pub below_push : (U : List Task) (C : Indexes) (left left' : members.FinSet nat_cmp) (i next : ℕ)
-    (order order' : List ℕ) → IsSofarBelow U C i (indexes_of left) order
-    → indexes_of left next ≡ true → Stands U next (without_index (indexes_of left) next)
-    → left' ≡ members.remove left next → order' ≡ order ++ next ∷ []
-    → IsSofarBelow U C i (indexes_of left') order'
-below_push U C left left' i next order order' so member stands removed pushed = record {
-  above = so.above ++ next ∷ [];
-  each = stand_push U (without_index C i) so.above next so.each (ap (λ (X : Indexes). X next)
-      (sym so.rest) ∙ member) (subst (λ X. Stands U next (without_index X next)) so.rest stands);
-  rest = ap indexes_of removed ∙ indexes_of-remove left next ∙ ap (λ X. without_index X next)
-      so.rest ∙ sym (left_after-push (without_index C i) so.above next);
-  placed = pushed ∙ ap (λ (xs : List ℕ). xs ++ next ∷ []) so.placed
-      ∙ append_assoc (listed_below (length U) (others_of U C)) (i ∷ so.above) (next ∷ []);
-}
-
--- where none that is left stands, none is left: the rest would be an obstruction without the task
-none_left : (U : List Task) (C L : Indexes) (i : ℕ) (order : List ℕ) → IsLeastConflict U C
-    → C i ≡ true → IsPart C (all_of U) → IsSofarBelow U C i L order → NoneStands U L
-    → (k : ℕ) → L k ≡ false
-none_left U C L i order least member part so none k =
-    elim (cases_Bool (L k)) [
-      | inr off ↦ off
-      | inl on ↦
-          let within : IsPart L (all_of U) = below_part U C L i order part so in
-          let stuck : IsObstruction U L =
-          record { within = within; some = (k, on); stuck = none } in
-          let inside : IsPart L (without_index C i) = subst (λ X. IsPart X (without_index C i))
-          (sym so.rest) (left_after-part (without_index C i) so.above) in
-          absurd (none_spared U C i least member (L, stuck, inside))
-    ]
-
-pub below_end : (U : List Task) (C L : Indexes) (i : ℕ) (order : List ℕ) → IsLeastConflict U C
-    → C i ≡ true → IsPart C (all_of U) → IsSofarBelow U C i L order → NoneStands U L
-    → IsOrderBelow U C i order
-below_end U C L i order least member part so none =
-    let off = none_left U C L i order least member part so none in
-    let both = stand_order U (without_index C i) so.above so.each
-    (λ k. ap (λ (X : Indexes). X k) (sym so.rest) ∙ off k) in
-    record { above = so.above; each_once = both.0; each_stands = both.1; placed = so.placed }
+  -- where none that is left stands, none is left: the rest would be an obstruction without the task
+  pub below_end : (L : Indexes) (order : List ℕ) → IsLeastConflict U C → C i ≡ true
+      → IsSofarBelow L order → NoneStands U L → IsOrderBelow U C i order
+  below_end L order least member so none =
+      let inside : IsPart L (without_index C i) = subst (λ X. IsPart X (without_index C i))
+      (sym so.rest) (left_after-part (without_index C i) so.above) in
+      let both = stand_order U (without_index C i) so.above so.each
+      (λ k. ap (λ (X : Indexes). X k) (sym so.rest)
+      ∙ false_from_ne_true _ (λ on. none_spared U C i least member (
+        L,
+        record {
+          within = below_part L order least.obstruction.within so;
+          some = (k, on);
+          stuck = none;
+        },
+        inside,
+      ))) in
+      record { above = so.above; each_once = both.0; each_stands = both.1; placed = so.placed }
 
 -- ---- the whole names each task once
 one_of_both : (all inside : Bool) → (inside ≡ true → all ≡ true)
@@ -113,19 +95,13 @@ one_of_both true false part = refl
 one_of_both false true part = absurd (true≢false (sym (part refl)))
 one_of_both false false part = refl
 
-pub others-part : (U : List Task) (C : Indexes) → IsPart (others_of U C) (below (length U))
-others-part U C k h = elim (cases_Bool (all_of U k)) [
-  | inl t ↦ t
-  | inr f ↦ absurd (true≢false (sym h ∙ rw f))
-]
-
 pub below-order : (U : List Task) (C : Indexes) (i : ℕ) (order : List ℕ) → IsPart C (all_of U)
     → C i ≡ true → IsOrderBelow U C i order → IsOrder U order
 below-order U C i order part member is =
     subst (λ (xs : List ℕ). IsOrder U xs) (sym is.placed) (λ k.
     sum_by-append (λ x. cond {A = ℕ} (x == k) 1 0) (listed_below (length U) (others_of U C))
     (i ∷ is.above)
-    ∙ (let low = listed-order (length U) (others_of U C) (others-part U C) k in
+    ∙ (let low = listed-order (length U) (others_of U C) (λ j h. (and_parts _ _ h).0) k in
     let high = IsOrderOf-cons C i is.above member is.each_once k in
     let one = one_of_both (all_of U k) (C k) (part k) in
     omega (arith, low, high, one)))

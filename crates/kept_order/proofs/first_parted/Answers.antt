@@ -1,4 +1,4 @@
-use Rattle.std.proofs.Common.{ℕ, ◌+◌, ◌-◌, List, take, slice_index, refl, sym, subst}
+use Rattle.std.proofs.Common.{ℕ, ◌+◌, List, take, sym, subst}
 use Rattle.kept_order.specs.Keeping.{IsKeepingOf, IsPassingKept}
 use Rattle.kept_order.specs.declared.Keeping.{Keeping}
 use Rattle.kept_order.proofs.KeepsLaws.{IsFirstParted-at}
@@ -11,6 +11,5 @@ returns-in-None c =
     let n = c.loop-high.high in
     let none : (order : List ℕ) → ¬ IsPassingKept U (take (n + 1) K) order =
     rw c.in-None.is at c.in_ok-climb.ensures.none in
-    subst (λ (k : Keeping). IsKeepingOf U K k) (sym c.parted_at.ensures)
-    (IsFirstParted-at U K n (slice_index K (n - 1)) (slice_index K n) c.loop-high.invariant.from
-    c.loop-high-test.true refl refl c.loop-high.invariant.some none)
+    rw c.parted_at.ensures (IsFirstParted-at U K n c.loop-high.invariant.from
+    c.loop-high-test.true c.loop-high.invariant.some none)

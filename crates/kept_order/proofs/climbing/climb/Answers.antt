@@ -32,10 +32,9 @@ loop-left-smaller c =
 pub loop-left-preserved : goal.loop-left-preserved
 loop-left-preserved c =
     let same = ap (λ (p : PlaceData). p.task) c.place.view_is in
-    IsKeptTo-push c.args.set.now c.args.kept.now c.loop-left.left c.without-left.result
-    c.loop-left.places.items c.push.new.self.items c.in-Some.place c.loop-left.invariant
-    c.in-Some.ensures.chosen c.in-Some.ensures.response (c.without-left.ensures
-    ∙ ap (λ n. members.remove c.loop-left.left n) same) c.in_ok-push-in-Some.ensures.items
+    rw (c.without-left.ensures, same, c.in_ok-push-in-Some.ensures.items)
+    (IsKeptTo-push c.args.set.now c.args.kept.now c.loop-left.left c.loop-left.places.items
+    c.in-Some.place c.loop-left.invariant c.in-Some.ensures.chosen c.in-Some.ensures.response)
 
 pub returns-in-None-clause-none : goal.returns-in-None-clause-none
 returns-in-None-clause-none c =

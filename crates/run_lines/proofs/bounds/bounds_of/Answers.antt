@@ -1,14 +1,8 @@
-use Rattle.std.proofs.Common.{◌≡◌, ◌∙◌, ℕ, ◌∷◌, List, [], ap, arith, refl}
+use Rattle.std.proofs.Common.{◌∙◌, ap, arith}
 use Rattle.std.proofs.lemmas.List.{take_all}
-use Rattle.assignment.specs.Places.{PlaceData}
-use Rattle.assignment.specs.Placings.{tasks_of_places}
 use Rattle.run_lines.specs.TaskBounds.{bounds_of, tasks_of_bounds}
+use Rattle.run_lines.proofs.ResponseLaws.{same_tasks}
 use Rattle.run_lines.proofs.bounds.bounds_of.Goals as goal
-
--- the tasks stay
-same_tasks : (places : List PlaceData) → tasks_of_bounds (bounds_of places) ≡ tasks_of_places places
-same_tasks [] = refl
-same_tasks (p ∷ places) = ap (λ (tasks : List ℕ). p.task ∷ tasks) (same_tasks places)
 
 pub returns-clause-tasks : goal.returns-clause-tasks
 returns-clause-tasks c =

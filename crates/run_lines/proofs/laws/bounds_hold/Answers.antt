@@ -2,5 +2,4 @@ use Rattle.run_lines.proofs.ResponseLaws.{all_kept}
 use Rattle.run_lines.proofs.laws.bounds_hold.Goals as goal
 
 pub returns : goal.returns
-returns c = λ U bounds rs until trace set each sound ran. all_kept U bounds rs until trace set each
-    sound ran
+returns c = all_kept
