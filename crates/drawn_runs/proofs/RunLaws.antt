@@ -48,7 +48,8 @@ module _ (node : Node) (rs : List Release) (until : ℕ) (trace : Trace)
       ∙ records_length node (jobs_of node.tasks rs) until 0 rs
 
   pub job_is : (j : ℕ) → j < length rs
-      → record_at trace.jobs.items j ≡ record_of node (jobs_of node.tasks rs) until j (release_at rs j)
+      → record_at trace.jobs.items j
+      ≡ record_of node (jobs_of node.tasks rs) until j (release_at rs j)
   job_is j lt =
       let z : 0 + j ≡ j = omega arith in
       ap (λ (x : List JobRecord). record_at x j) ran.2.jobs
