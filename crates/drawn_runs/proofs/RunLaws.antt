@@ -111,8 +111,8 @@ kept_in U rs until trace i (p ∷ places) done reached in_time has =
 numbered : (U : List Task) → IsTaskSet U → (i : ℕ) → i < length U → (r : Release)
     → r.name ≡ (task_at U i).name → task_number U r ≡ i
 numbered U set i lt r own =
-    let at = place_of_name U set.distinct i lt in
-    let found : task_named U (task_at U i).name ≡ Some i = rw (at, lt-ltb i (length U) lt) refl in
+    let found : task_named U (task_at U i).name ≡ Some i =
+    rw (place_of_name U set.distinct i lt, lt-ltb i (length U) lt) refl in
     ap (λ (name : List ℕ). unwrap_or (task_named U name) (length U)) own
     ∙ ap (λ o. unwrap_or o (length U)) found
 
