@@ -48,7 +48,8 @@ module _ (node : Node) (rs : List Release) (until : ℕ) (trace : Trace)
       ∙ records_length node (jobs_of node.tasks rs) until 0 rs
 
   pub job_is : (j : ℕ) → j < length rs
-      → record_at trace.jobs.items j ≡ record_of node (jobs_of node.tasks rs) until j (release_at rs j)
+      → record_at trace.jobs.items j
+      ≡ record_of node (jobs_of node.tasks rs) until j (release_at rs j)
   job_is j lt =
       let z : 0 + j ≡ j = omega arith in
       ap (λ (x : List JobRecord). record_at x j) ran.2.jobs
@@ -110,8 +111,8 @@ kept_in U rs until trace i (p ∷ places) done reached in_time has =
 numbered : (U : List Task) → IsTaskSet U → (i : ℕ) → i < length U → (r : Release)
     → r.name ≡ (task_at U i).name → task_number U r ≡ i
 numbered U set i lt r own =
-    let at = place_of_name U set.distinct i lt in
-    let found : task_named U (task_at U i).name ≡ Some i = rw (at, lt-ltb i (length U) lt) refl in
+    let found : task_named U (task_at U i).name ≡ Some i =
+    rw (place_of_name U set.distinct i lt, lt-ltb i (length U) lt) refl in
     ap (λ (name : List ℕ). unwrap_or (task_named U name) (length U)) own
     ∙ ap (λ o. unwrap_or o (length U)) found
 

@@ -1,6 +1,6 @@
 -- Each job stands in one place, and where its box is in the window, that of its place is.
-use Rattle.std.proofs.Common.{◌≡◌, ◌∙◌, ℕ, ◌+◌, ◌-◌, ◌<◌, ◌≤◌, inl, inr, refl, sym, ap, subst}
-use Rattle.std.proofs.Common.{arith, Bool, true, false, ◌&&◌, ◌||◌, nat_lt, List, [], length}
+use Rattle.std.proofs.Common.{◌≡◌, ◌∙◌, ℕ, ◌+◌, ◌-◌, ◌<◌, ◌≤◌, inl, inr, sym, ap, subst}
+use Rattle.std.proofs.Common.{arith, Bool, true, false, nat_lt, List, [], length}
 use Rattle.std.proofs.Common.{get_or, take, drop, Option}
 use Rattle.std.specs.Prelude.{if◌then◌else◌}
 use Rattle.std.proofs.lemmas.Bool.{and_from, and_parts, cases_Bool, cases_lt, lt-ltb, ltb-false}
@@ -79,33 +79,21 @@ module _ {gap : ℕ} {jobs : List JobRecord} {j : ℕ} (lt : j < length jobs)
     | inr ge ↦ omega (arith, p.from, ge)
   ]
 
-  only_last : (a b c : Bool) → a ≡ true → b ≡ false → (a && (b || c)) ≡ c
-  only_last a b c is not_so = rw (is, not_so) refl
-
-  first_two : (a b c : Bool) → a ≡ true → b ≡ true → (a && (b || c)) ≡ true
-  first_two a b c is so = rw (is, so) refl
-
   -- it stands with others where it is in a band
   banded : is_banded gap jobs j ≡ nat_lt 1 (length (band_of gap jobs n))
-  banded =
-      let some : nat_lt j (length jobs) ≡ true = lt-ltb j (length jobs) lt in
-      elim (cases_lt n j) [
-        | inl less ↦
-            let joined : joins gap jobs j ≡ true = elim (cases_Bool (joins gap jobs j)) [
-              | inl so ↦ so
-              | inr apart ↦
-                  absurd (omega (arith, p.only j (stands_first gap jobs j apart), less))
-            ] in
-            first_two (nat_lt j (length jobs)) (joins gap jobs j)
-            (nat_lt 1 (length (band_of gap jobs j))) some joined
-            ∙ sym (lt-ltb 1 (length (band_of gap jobs n)) (two less))
-        | inr ge ↦
-            let at : n ≡ j = omega (arith, p.from, ge) in
-            only_last (nat_lt j (length jobs)) (joins gap jobs j)
-            (nat_lt 1 (length (band_of gap jobs j))) some
-            (ap (λ (k : ℕ). joins gap jobs k) (sym at) ∙ p.apart)
-            ∙ ap (λ (k : ℕ). nat_lt 1 (length (band_of gap jobs k))) (sym at)
-      ]
+  banded = elim (cases_lt n j) [
+    | inl less ↦
+        let joined : joins gap jobs j ≡ true = elim (cases_Bool (joins gap jobs j)) [
+          | inl so ↦ so
+          | inr apart ↦ absurd (omega (arith, p.only j (stands_first gap jobs j apart), less))
+        ] in
+        rw (lt-ltb j (length jobs) lt, joined)
+        (sym (lt-ltb 1 (length (band_of gap jobs n)) (two less)))
+    | inr ge ↦
+        let at : n ≡ j = omega (arith, p.from, ge) in
+        rw (lt-ltb j (length jobs) lt, ap (λ (k : ℕ). joins gap jobs k) (sym at) ∙ p.apart)
+        (ap (λ (k : ℕ). nat_lt 1 (length (band_of gap jobs k))) (sym at))
+  ]
 
 -- ---- the window
 -- it has more of what reaches further

@@ -1,12 +1,12 @@
 -- While a job waits, the tasks below it execute no more than what is left of a section that blocks.
-use Rattle.std.proofs.Common.{ℕ, zero, suc, ◌+◌, ◌-◌, ◌<◌, ◌≤◌, ◌≡◌, inl, inr, sym, ap, ◌∙◌, subst}
-use Rattle.std.proofs.Common.{arith, if◌then◌else◌, Bool, true, false, ◌&&◌, List, length, nat_le}
-use Rattle.std.proofs.Common.{nat_lt, eqb}
+use Rattle.std.proofs.Common.{ℕ, zero, suc, ◌+◌, ◌-◌, ◌<◌, ◌≤◌, ◌≡◌, inl, inr, sym, ap, ◌∙◌}
+use Rattle.std.proofs.Common.{arith, if◌then◌else◌, Bool, true, false, ◌&&◌, List, length}
+use Rattle.std.proofs.Common.{nat_lt}
 use Rattle.std.proofs.lemmas.Bool.{cases_eq, cases_lt, eq-eqb, le-leb, le-ltb, lt-leb, lt-ltb}
 use Rattle.std.proofs.lemmas.Bool.{ne_eqb, true≢false}
 use Rattle.std.proofs.lemmas.List.{get_or_past}
 use Rattle.task_sheet.specs.Sheet.{CriticalSection, no_task, task_at}
-use Rattle.task_sheet.specs.Indexes.{Indexes, greatest_below, with_index}
+use Rattle.task_sheet.specs.Indexes.{Indexes, with_index}
 use Rattle.task_sheet.specs.Locks.{reaches, shares_lock}
 use Rattle.task_sheet.specs.Demand.{blocking_of, longest_reached}
 use Rattle.task_sheet.proofs.Below.{le-greatest_below, some_below-at}
@@ -19,7 +19,7 @@ use Rattle.ceiling_kernel.proofs.NodeLaws.{IsSound, IsSoundTask, sound}
 use Rattle.ceiling_kernel.proofs.SumLaws.{total, total-le, total-lt, total-one}
 use Rattle.ceiling_kernel.proofs.BehaviourLaws.{HasSpans, spans_of, taken_apart}
 use Rattle.ceiling_kernel.proofs.BoundLaws.{IsTopOf, top_of}
-use Rattle.ceiling_kernel.proofs.SectionLaws.{rest-le, rest_of, stretch, stretch-le}
+use Rattle.ceiling_kernel.proofs.SectionLaws.{rest-le, stretch-le}
 use Rattle.ceiling_kernel.proofs.MachineLaws.{is_high, machine, rest_at}
 use Rattle.ceiling_kernel.proofs.Busy.{one_inside}
 use Rattle.kept_promises.proofs.TickLaws.{hit-le, hit_none, hits, total_next}
@@ -48,30 +48,27 @@ module _ (node : Node) (jobs : List Job) (is_node : IsNode node) (legal : AreLeg
   upper-high : (h : ℕ) → h < length node.tasks → level ≤ level_in_order node h → upper h ≡ true
   upper-high h lt le =
       elim (cases_eq h i) [
-        | inl e ↦ (let t : eqb h i ≡ true = eq-eqb h i e in rw t)
-        | inr ne ↦
-            let f : eqb h i ≡ false = ne_eqb h i ne in
-            elim (cases_eq level (level_in_order node h)) [
-              | inl same ↦ absurd (ne (valid.levels_differ h i lt is (sym same)))
-              | inr differ ↦ (let t : nat_lt level (level_in_order node h) ≡ true =
-                  lt-ltb level (level_in_order node h) (omega arith) in rw (f, t))
-            ]
+        | inl e ↦ rw (eq-eqb h i e)
+        | inr ne ↦ elim (cases_eq level (level_in_order node h)) [
+          | inl same ↦ absurd (ne (valid.levels_differ h i lt is (sym same)))
+          | inr differ ↦
+              rw (ne_eqb h i ne, lt-ltb level (level_in_order node h) (omega arith))
+        ]
       ]
 
   upper-low : (h : ℕ) → level_in_order node h < level → upper h ≡ false
   upper-low h low =
-      let f : eqb h i ≡ false = ne_eqb h i (λ e. (let same : level_in_order node h ≡ level =
-      ap (level_in_order node) e in absurd (omega arith))) in
-      let g : nat_lt level (level_in_order node h) ≡ false =
-      le-ltb level (level_in_order node h) (omega arith) in
-      rw (f, g)
+      rw (
+        ne_eqb h i (λ e. omega (arith, ap (level_in_order node) e)),
+        le-ltb level (level_in_order node h) (omega arith),
+      )
 
   reached : (s : CriticalSection) → level ≤ top_ceiling node s.locks
       → reaches node.tasks upper s ≡ true
   reached s le =
       let u : IsTopOf node level s.locks = top_of node is_node level s.locks level_some le in
-      (let up : upper u.0 ≡ true = upper-high u.0 u.1 u.2 in some_below-at (length node.tasks)
-      (λ k. upper k && shares_lock (task_at node.tasks k) s) u.0 u.1 (rw (up, u.3)))
+      some_below-at (length node.tasks) (λ k. upper k && shares_lock (task_at node.tasks k) s)
+      u.0 u.1 (rw (upper-high u.0 u.1 u.2, u.3))
 
   -- what is left of a section of a lower job that reaches the level
   abbrev left : ℕ → ℕ → ℕ
@@ -82,43 +79,27 @@ module _ (node : Node) (jobs : List Job) (is_node : IsNode node) (legal : AreLeg
   left_most j e =
       let k : ℕ = (job_at jobs j).task in
       elim (cases_lt (level_of_job node jobs j) level) [
-        | inr ge ↦
-            let high : nat_le level (level_of_job node jobs j) ≡ true =
-            le-leb level (level_of_job node jobs j) ge in
-            rw high (omega arith)
+        | inr ge ↦ rw (le-leb level (level_of_job node jobs j) ge) (omega arith)
         | inl low ↦
-            let not_high : nat_le level (level_of_job node jobs j) ≡ false =
-            lt-leb level (level_of_job node jobs j) low in
             let o : HasSpans node jobs j = spanned j in
-            let a : rest_of node level o.spans e
-            ≤ longest_reached node.tasks upper (job_task node jobs j) - 1 =
-            rest-le node level upper reached (job_task node jobs j).sections 0
-            (job_at jobs j).executes o.spans e o.taken in
-            let apart : AreApart 0 o.spans (job_at jobs j).executes = taken_apart
-            (job_task node jobs j).sections 0 (job_at jobs j).executes o.spans o.taken in
-            let s : stretch node level (job_at jobs j).sections ((job_at jobs j).executes - e) e
-            ≤ rest_of node level o.spans e =
-            stretch-le node level level_some 0 (job_at jobs j).executes (job_at jobs j).sections
-            o.spans apart o.above ((job_at jobs j).executes - e) e in
-            elim (cases_lt k (length node.tasks)) [
+            let needs : ℕ = (job_at jobs j).executes in
+            let a = rest-le node level upper reached (job_task node jobs j).sections 0 needs o.spans
+            e o.taken in
+            let apart : AreApart 0 o.spans needs =
+            taken_apart (job_task node jobs j).sections 0 needs o.spans o.taken in
+            let s = stretch-le node level level_some 0 needs (job_at jobs j).sections o.spans apart
+            o.above (needs - e) e in
+            rw (lt-leb level (level_of_job node jobs j) low)
+            (elim (cases_lt k (length node.tasks)) [
               | inl lt ↦
-                  let out : upper k ≡ false = upper-low k low in
-                  let b : (if upper k then 0 else longest_reached node.tasks upper
-                  (task_at node.tasks k)) ≤ greatest_below (length node.tasks) (λ k. if upper k
-                  then 0 else longest_reached node.tasks upper (task_at node.tasks k)) =
-                  le-greatest_below (length node.tasks) (λ k. if upper k then 0 else longest_reached
-                  node.tasks upper (task_at node.tasks k)) k lt in
-                  let b' : longest_reached node.tasks upper (task_at node.tasks k)
-                  ≤ greatest_below (length node.tasks) (λ k. if upper k then 0
-                  else longest_reached node.tasks upper (task_at node.tasks k)) = rw out at b in
-                  rw not_high (omega arith)
+                  let b = le-greatest_below (length node.tasks) (λ k. if upper k then 0
+                  else longest_reached node.tasks upper (task_at node.tasks k)) k lt in
+                  omega (arith, a, s, rw (upper-low k low) at b)
               | inr past ↦
                   let none : task_at node.tasks k ≡ no_task =
                   get_or_past node.tasks k no_task past in
-                  let z : longest_reached node.tasks upper (job_task node jobs j) ≡ 0 =
-                  ap (longest_reached node.tasks upper) none in
-                  rw not_high (omega arith)
-            ]
+                  omega (arith, a, s, ap (longest_reached node.tasks upper) none)
+            ])
       ]
 
   -- of all lower jobs before a tick
@@ -138,14 +119,14 @@ module _ (node : Node) (jobs : List Job) (is_node : IsNode node) (legal : AreLeg
   abbrev pub low : ℕ → Bool
   low k = nat_lt (level_of_job node jobs k) level
 
-  -- in a tick in which a job of the level waits, a lower one executes only what is left of its section
+  -- in a tick in which a job of the level waits, a lower one executes only what is left of its
+  -- section
   low_tick : (lo hi j u : ℕ) → j < length jobs → (job_at jobs j).ready ≤ u
       → executed_before node jobs u j < (job_at jobs j).executes → level ≤ level_of_job node jobs j
       → hits (picked node jobs) low lo hi u + all_left (suc u) ≤ all_left u
   low_tick lo hi j u lt ready open_ level_is =
       let m = machine node jobs level level_some spanned in
-      let high : nat_le level (level_of_job node jobs j) ≡ true =
-      le-leb level (level_of_job node jobs j) level_is in
+      let high = le-leb level (level_of_job node jobs j) level_is in
       let w = m.works u j lt ready open_ in
       let p : ℕ = w.0 in
       let hot = m.hot_first u p j w.1 lt ready open_ (inl high) in
@@ -156,68 +137,51 @@ module _ (node : Node) (jobs : List Job) (is_node : IsNode node) (legal : AreLeg
       λ k ne. ap (left k) (m.of_other u p k w.1 ne) in
       elim (cases_lt (level_of_job node jobs p) level) [
         | inl below ↦
-            let not_high : nat_le level (level_of_job node jobs p) ≡ false =
-            lt-leb level (level_of_job node jobs p) below in
+            let not_high = lt-leb level (level_of_job node jobs p) below in
             let inside : 0 < left p (executed_before node jobs u p) =
             elim hot [ inl up ↦ absurd (true≢false (sym up ∙ not_high)) | inr in_ ↦ in_ ] in
-            let next : left p (executed_before node jobs u p)
-            ≡ suc (left p (suc (executed_before node jobs u p))) =
-            m.rest_next p (executed_before node jobs u p) inside in
-            let moved : left p (executed_before node jobs (suc u) p)
-            ≡ left p (suc (executed_before node jobs u p)) = ap (left p) more in
-            let less : all_left (suc u) < all_left u =
-            total-lt (λ k. left k (executed_before node jobs (suc u) k))
+            let next = m.rest_next p (executed_before node jobs u p) inside in
+            let moved = ap (left p) more in
+            let less = total-lt (λ k. left k (executed_before node jobs (suc u) k))
             (λ k. left k (executed_before node jobs u k)) (length jobs) p
             (m.picked_exists u p w.1) (omega (arith, next, moved))
             (λ k within. elim (cases_eq k p) [
-              | inl e ↦ subst (λ x. left x (executed_before node jobs (suc u) x)
-                  ≤ left x (executed_before node jobs u x)) (sym e) (omega (arith, next, moved))
+              | inl e ↦ rw e (omega (arith, next, moved))
               | inr ne ↦ omega (arith, others k ne)
             ]) in
             omega (arith, less, hit-le low lo hi u (picked node jobs u))
         | inr above ↦
-            let up : nat_le level (level_of_job node jobs p) ≡ true =
-            le-leb level (level_of_job node jobs p) above in
-            let not_low : low p ≡ false = le-ltb (level_of_job node jobs p) level above in
-            let none : hits (picked node jobs) low lo hi u ≡ 0 =
-            hit_none low lo hi u p (picked node jobs u) w.1 not_low in
-            let gone : (e : ℕ) → left p e ≡ 0 = λ e. m.rest_low p e up in
-            let same : all_left (suc u) ≤ all_left u =
-            total-le (λ k. left k (executed_before node jobs (suc u) k))
+            let none = hit_none low lo hi u p (picked node jobs u) w.1
+            (le-ltb (level_of_job node jobs p) level above) in
+            let gone = m.rest_low p (executed_before node jobs (suc u) p)
+            (le-leb level (level_of_job node jobs p) above) in
+            let same = total-le (λ k. left k (executed_before node jobs (suc u) k))
             (λ k. left k (executed_before node jobs u k)) (length jobs)
             (λ k within. elim (cases_eq k p) [
-              | inl e ↦ subst (λ x. left x (executed_before node jobs (suc u) x)
-                  ≤ left x (executed_before node jobs u x)) (sym e)
-                  (omega (arith, gone (executed_before node jobs (suc u) p)))
+              | inl e ↦ rw e (omega (arith, gone))
               | inr ne ↦ omega (arith, others k ne)
             ]) in
             omega (arith, same, none)
       ]
 
   -- so in all of them
-  low_ticks : (lo hi j a d : ℕ) → j < length jobs → (job_at jobs j).ready ≤ a
-      → level ≤ level_of_job node jobs j
-      → ((t : ℕ) → a ≤ t → t < a + d → executed_before node jobs t j < (job_at jobs j).executes)
-      → total (hits (picked node jobs) low lo hi) (a + d) + all_left (a + d)
+  low_ticks : (lo hi j a b : ℕ) → j < length jobs → (job_at jobs j).ready ≤ a
+      → level ≤ level_of_job node jobs j → a ≤ b
+      → ((t : ℕ) → a ≤ t → t < b → executed_before node jobs t j < (job_at jobs j).executes)
+      → total (hits (picked node jobs) low lo hi) b + all_left b
       ≤ total (hits (picked node jobs) low lo hi) a + all_left a
-  low_ticks lo hi j a zero lt ready level_is waits =
-      let z : a + zero ≡ a = omega arith in
-      subst (λ x. total (hits (picked node jobs) low lo hi) x + all_left x
-      ≤ total (hits (picked node jobs) low lo hi) a + all_left a) (sym z) (omega arith)
-  low_ticks lo hi j a (suc d) lt ready level_is waits =
-      let before : total (hits (picked node jobs) low lo hi) (a + d) + all_left (a + d)
-      ≤ total (hits (picked node jobs) low lo hi) a + all_left a =
-      low_ticks lo hi j a d lt ready level_is (λ t from to. waits t from (omega arith)) in
-      let here : hits (picked node jobs) low lo hi (a + d) + all_left (suc (a + d))
-      ≤ all_left (a + d) = low_tick lo hi j (a + d) lt (omega arith)
-      (waits (a + d) (omega arith) (omega arith)) level_is in
-      let next : total (hits (picked node jobs) low lo hi) (suc (a + d)) ≡ total
-      (hits (picked node jobs) low lo hi) (a + d) + hits (picked node jobs) low lo hi (a + d) =
-      total_next (hits (picked node jobs) low lo hi) (a + d) in
-      let at_d : a + suc d ≡ suc (a + d) = omega arith in
-      subst (λ x. total (hits (picked node jobs) low lo hi) x + all_left x
-      ≤ total (hits (picked node jobs) low lo hi) a + all_left a) (sym at_d)
-      (omega (arith, before, here, next))
+  low_ticks lo hi j a zero lt ready level_is le waits =
+      (let start : a ≡ 0 = omega arith in rw start (omega arith))
+  low_ticks lo hi j a (suc b) lt ready level_is le waits = elim (cases_eq a (suc b)) [
+    | inl same ↦ rw same (omega arith)
+    | inr more ↦ omega (
+      arith,
+      low_ticks lo hi j a b lt ready level_is (omega arith)
+          (λ t from to. waits t from (omega arith)),
+      low_tick lo hi j b lt (omega arith) (waits b (omega arith) (omega arith)) level_is,
+      total_next (hits (picked node jobs) low lo hi) b,
+    )
+  ]
 
   -- while a job of the level waits, lower ones execute no more than what blocks it
   pub low_most : (lo hi j a b : ℕ) → j < length jobs → (job_at jobs j).ready ≤ a
@@ -226,10 +190,4 @@ module _ (node : Node) (jobs : List Job) (is_node : IsNode node) (legal : AreLeg
       → total (hits (picked node jobs) low lo hi) b
       ≤ total (hits (picked node jobs) low lo hi) a + blocking_of node.tasks i (above_of node i)
   low_most lo hi j a b lt ready level_is le waits =
-      let to : a + (b - a) ≡ b = omega arith in
-      let all_of_them = low_ticks lo hi j a (b - a) lt ready level_is
-      (λ t from before. waits t from (omega arith)) in
-      let at_b : total (hits (picked node jobs) low lo hi) (a + (b - a))
-      ≡ total (hits (picked node jobs) low lo hi) b =
-      ap (total (hits (picked node jobs) low lo hi)) to in
-      omega (arith, all_of_them, at_b, all_left_most a)
+      omega (arith, low_ticks lo hi j a b lt ready level_is le waits, all_left_most a)

@@ -1,6 +1,5 @@
 pub mod TickLaws
 pub mod LevelLaws
-pub mod JobLaws
 pub mod BlockLaws
 pub mod ListLaws
 pub mod SeenLaws

@@ -41,20 +41,6 @@ module _ {V W : List Task} (are : AreRecosted V W) where
   prompt k d lt = let valid = valid-any k d lt in
       record { period = omega (arith, valid.period_from); deadline = valid.deadline_to }
 
--- ---- scaled
-AreRecosted-scaled : (V : List Task) (factor : ℕ) → IsTaskSet V → MayScale V factor
-    → AreRecosted V (scaled factor V)
-AreRecosted-scaled V factor set may = record {
-  alike = record {
-    count = count-scaled factor V;
-    limits = keeps-scaled (λ (t : Task). limit_of t) (λ factor t. refl) V factor;
-    names = keeps-scaled (λ (t : Task). t.name) (λ factor t. refl) V factor;
-    outranks = keeps-scaled (λ (t : Task). t.outranks) (λ factor t. refl) V factor;
-  };
-  valid =
-      λ k lt. subst IsValidSheet (sym (scaled-at factor V k lt)) (valid-at factor V k set may lt);
-}
-
 -- ---- one cost
 keeps-costed : {R : Type 0} (of : Task → R) → ((t : Task) (cost : ℕ) → of (with_cost t cost) ≡ of t)
     → (V : List Task) (i cost k : ℕ) → of (task_at (numbered V i Cost cost) k) ≡ of (task_at V k)
@@ -63,23 +49,6 @@ keeps-costed of kept (t ∷ ts) zero cost zero = kept t cost
 keeps-costed of kept (t ∷ ts) zero cost (suc k) = refl
 keeps-costed of kept (t ∷ ts) (suc i) cost zero = refl
 keeps-costed of kept (t ∷ ts) (suc i) cost (suc k) = keeps-costed of kept ts i cost k
-
-AreRecosted-costed : (V : List Task) (i cost : ℕ) → IsTaskSet V → i < length V
-    → MayHave V i Cost cost → AreRecosted V (numbered V i Cost cost)
-AreRecosted-costed V i cost set inside may = record {
-  alike = record {
-    count = length-set V i (with_cost (task_at V i) cost);
-    limits = keeps-costed (λ (t : Task). limit_of t) (λ t n. refl) V i cost;
-    names = keeps-costed (λ (t : Task). t.name) (λ t n. refl) V i cost;
-    outranks = keeps-costed (λ (t : Task). t.outranks) (λ t n. refl) V i cost;
-  };
-  valid = λ k lt. elim (cases_eq k i) [
-    | inl e ↦ subst IsValidSheet (sym (ap (λ j. task_at (numbered V i Cost cost) j) e
-        ∙ placed-same V i (with_cost (task_at V i) cost) inside)) may
-    | inr ne ↦ subst IsValidSheet (sym (placed-other V i (with_cost (task_at V i) cost) k ne))
-        (valid_at V k set lt)
-  ];
-}
 
 -- ---- by a best order of the preferred set
 module _ (U V : List Task) (order : List ℕ) (preferred : IsPreferred Deadline U V)
@@ -95,14 +64,36 @@ module _ (U V : List Task) (order : List ℕ) (preferred : IsPreferred Deadline 
 
   pub passes-scaled : (factor : ℕ) → MayScale V factor → IsPassingOrder (scaled factor V) order
       ↔ IsFeasible (scaled factor V)
-  passes-scaled factor may = recosted (AreRecosted-scaled V factor set may)
+  passes-scaled factor may = recosted {W = scaled factor V} (record {
+    alike = record {
+      count = count-scaled factor V;
+      limits = keeps-scaled (λ (t : Task). limit_of t) (λ factor t. refl) V factor;
+      names = keeps-scaled (λ (t : Task). t.name) (λ factor t. refl) V factor;
+      outranks = keeps-scaled (λ (t : Task). t.outranks) (λ factor t. refl) V factor;
+    };
+    valid = λ k lt.
+        subst IsValidSheet (sym (scaled-at factor V k lt)) (valid-at factor V k set may lt);
+  })
 
   pub passes-factor : (most : ℕ) → IsFactor V most → IsPassingOrder (scaled most V) order
   passes-factor most is = (passes-scaled most is.may).1 is.feasible
 
   pub passes-costed : (i cost : ℕ) → i < length V → MayHave V i Cost cost
       → IsPassingOrder (numbered V i Cost cost) order ↔ IsFeasible (numbered V i Cost cost)
-  passes-costed i cost inside may = recosted (AreRecosted-costed V i cost set inside may)
+  passes-costed i cost inside may = recosted {W = numbered V i Cost cost} (record {
+    alike = record {
+      count = length-set V i (with_cost (task_at V i) cost);
+      limits = keeps-costed (λ (t : Task). limit_of t) (λ t n. refl) V i cost;
+      names = keeps-costed (λ (t : Task). t.name) (λ t n. refl) V i cost;
+      outranks = keeps-costed (λ (t : Task). t.outranks) (λ t n. refl) V i cost;
+    };
+    valid = λ k lt. elim (cases_eq k i) [
+      | inl e ↦ subst IsValidSheet (sym (ap (λ j. task_at (numbered V i Cost cost) j) e
+          ∙ placed-same V i (with_cost (task_at V i) cost) inside)) may
+      | inr ne ↦ subst IsValidSheet (sym (placed-other V i (with_cost (task_at V i) cost) k ne))
+          (valid_at V k set lt)
+    ];
+  })
 
   pub headroom-same : (i within any : ℕ) → i < length V → IsFurthestIn V order i Cost within
       → IsFurthest V i Cost any → within ≡ any

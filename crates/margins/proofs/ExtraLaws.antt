@@ -77,20 +77,15 @@ module _ (U : List Task) (valid : AllTasks U) (prompt : AllPrompt U) (extra : �
   AllBear-latest L (i ∷ above) other part each first within all =
       let member = IsOrderOf-head L i above each in
       let rest = IsOrderOf-rest L i above each in
-      let is : IsLatest U L i =
-      subst (λ X. IsLatest U X i) (IsOrderOf-among L (i ∷ above) each) first.0 in
+      let is = subst (λ X. IsLatest U X i) (IsOrderOf-among L (i ∷ above) each) first.0 in
       let low = lowest L other within i member all in
       let lt : i < length U = ltb-true i (length U) (part i member) in
       let lt' : low.0 < length U = ltb-true low.0 (length U) (part low.0 low.1) in
       let passes = later-with L i low.0 part member low.1 lt lt' (is.latest low.0 (low.1, low.2.1))
       low.2.0 in
-      let left : among above ≡ without_index L i =
-      IsOrderOf-among (without_index L i) above rest in (
-        (
-          subst (λ X. PassesWith U extra i X) (sym left) passes,
-          subst (λ X. is_bound U i X ≡ false)
-              (sym left) is.free.1,
-        ),
+      let left = IsOrderOf-among (without_index L i) above rest in (
+        subst (λ X. PassesWith U extra i X × (is_bound U i X ≡ false)) (sym left)
+            (passes, is.free.1),
         AllBear-latest (without_index L i) above other (without-part_of (length U) L i part) rest
             first.1 (λ k h. within k (without-parts L i k h).0) all,
       )

@@ -42,7 +42,7 @@ section_in : (from cost : ℕ) (ss : List CriticalSection) (p : ℕ) (s : Critic
 section_in from cost [] p s h e = absurd (none-some s e)
 section_in from cost (x ∷ ss) zero s h e =
     let is : x ≡ s = cc (e) in
-    let here : IsSection from cost x = h.0 in
+    let here = h.0 in
     subst (λ y. (y.at + y.len ≤ cost) × (0 < y.len)) is (here.within, here.runs)
 section_in from cost (x ∷ ss) (suc p) s h e = section_in (x.at + x.len) cost ss p s h.1 e
 
@@ -161,10 +161,10 @@ module _ (node : Node) (ok : IsNode node) (i : ℕ) (lt : i < length node.tasks)
   late_small : (k : ℕ) → lateness_of (task_at U k) ≤ 10000000
   late_small k =
       elim (cases_lt k (length U)) [
-        | inl small ↦ (let v : IsValidSheet (task_at U k) = valid k small in
+        | inl small ↦ (let v = valid k small in
             omega (arith, v.jitter, v.deadline_to, v.period_to))
         | inr past ↦
-            let none : task_at U k ≡ no_task = past_end U k past in
+            let none = past_end U k past in
             subst (λ t. lateness_of t ≤ 10000000) (sym none) (omega arith)
       ]
     where
@@ -185,22 +185,19 @@ module _ (node : Node) (ok : IsNode node) (i : ℕ) (lt : i < length node.tasks)
 
   pub placed : (bb : BlockerData) → b ≡ Some bb → IsPlacedBlocker bb
   placed bb e =
-      let f : IsFirstBlocker U i (among above) bb =
-      subst (λ x. IsBlockerOf U i (among above) x) e is_b in
+      let f = subst (λ x. IsBlockerOf U i (among above) x) e is_b in
       let at : BlocksAt U i (among above) bb.task bb.place f.section = f.blocks in
-      let v : IsValidSheet (task_at U bb.task) = valid bb.task at.in_set in
-      let room : (f.section.at + f.section.len ≤ (task_at U bb.task).cost) × (0 < f.section.len) =
-      section_in 0 (task_at U bb.task).cost (task_at U bb.task).sections bb.place f.section
+      let v = valid bb.task at.in_set in
+      let room = section_in 0 (task_at U bb.task).cost (task_at U bb.task).sections bb.place
+      f.section
       v.sections at.section in
       let same : among above ≡ above_of node i = λ x h. after_is_above node ok i h lt x in
-      let outside : with_index (above_of node i) i bb.task ≡ false =
-      subst (λ H. with_index H i bb.task ≡ false) same at.outside in
+      let outside = subst (λ H. with_index H i bb.task ≡ false) same at.outside in
       let not_i : bb.task ≢ i = λ s. absurd (true≢false (sym (eq-eqb bb.task i s)
       ∙ (or_parts (bb.task == i) (above_of node i bb.task) outside).0)) in
-      let le : level_in_order node bb.task ≤ level_in_order node i =
-      not_lt (level_in_order node i) (level_in_order node bb.task)
+      let le = not_lt (level_in_order node i) (level_in_order node bb.task)
       (or_parts (bb.task == i) (above_of node i bb.task) outside).1 in
-      let s : IsSound node = sound node ok in
+      let s = sound node ok in
       record {
         section = f.section;
         blocks = at;
@@ -218,16 +215,15 @@ module _ (node : Node) (ok : IsNode node) (i : ℕ) (lt : i < length node.tasks)
   lead_small : (o : Option BlockerData) → b ≡ o → lead_of U o ≤ 10000000
   lead_small None e = omega arith
   lead_small (Some bb) e =
-      let p : IsPlacedBlocker bb = placed bb e in
-      let at : (section_of U bb).at ≡ p.section.at = ap (λ x. x.at) p.is in
-      let v : IsValidSheet (task_at U bb.task) = valid bb.task p.blocks.in_set in
+      let p = placed bb e in
+      let at = ap (λ x. x.at) p.is in
+      let v = valid bb.task p.blocks.in_set in
       omega (arith, p.within, p.runs, at, v.cost_to, v.period_to)
 
   pub instant_small : instant ≤ 10000000
   instant_small =
-      let g : greatest_of (λ k. lateness_of (task_at U k)) members ≤ 10000000 =
-      greatest_most (λ k. lateness_of (task_at U k)) members 10000000 late_small in
-      let l : lead_of U b ≤ 10000000 = lead_small b refl in
+      let g = greatest_most (λ k. lateness_of (task_at U k)) members 10000000 late_small in
+      let l = lead_small b refl in
       omega arith
 
   pub member_late : (q : ℕ) → q < length members
@@ -255,7 +251,7 @@ module _ (node : Node) (ok : IsNode node) (i : ℕ) (lt : i < length node.tasks)
           subst (λ x. IsFit U x (index q)) (sym m.stream)
           (subst (λ x. IsFit U (member_stream U instant k) x) (sym m.index) f)
       | inr m ↦
-          let p : IsPlacedBlocker m.blocker = placed m.blocker m.is in
+          let p = placed m.blocker m.is in
           let f : IsFit U (the_blocker U members instant until m.blocker) m.blocker.task =
           record {
             in_set = p.blocks.in_set;
@@ -282,9 +278,8 @@ module _ (node : Node) (ok : IsNode node) (i : ℕ) (lt : i < length node.tasks)
       apart_from : (q : ℕ) (m : IsMember U members instant until b q) (bb : BlockerData)
           → b ≡ Some bb → get_or members q 0 ≡ bb.task → ⊥
       apart_from q m bb is e =
-          let p : IsPlacedBlocker bb = placed bb is in
+          let p = placed bb is in
           let up : level_in_order node i ≤ level_in_order node (get_or members q 0) =
           (member_in node ok i lt q m.place).1 in
-          let same : level_in_order node (get_or members q 0) ≡ level_in_order node bb.task =
-          ap (λ k. level_in_order node k) e in
+          let same = ap (λ k. level_in_order node k) e in
           omega (arith, p.lower)

@@ -106,11 +106,11 @@ module _ (node : Node) (ok : IsNode node) (i : ℕ) (lt : i < length node.tasks)
 
   limits : (0 < limit) × (limit + lateness_of (task_at U i) ≡ (task_at U i).deadline)
       × (limit ≤ 10000000)
-  limits = (let v : IsValidSheet (task_at U i) = valid i lt in
+  limits = (let v = valid i lt in
       (omega (arith, v.jitter), omega (arith, v.jitter), omega (arith, v.deadline_to, v.period_to)))
 
   horizon : until ≤ 60000000
-  horizon = (let s : start ≤ 10000000 = instant_small node ok i lt b is_b until in
+  horizon = (let s = instant_small node ok i lt b is_b until in
       omega (arith, limits.2))
 
   fits : AreFit U ss index
@@ -136,7 +136,7 @@ module _ (node : Node) (ok : IsNode node) (i : ℕ) (lt : i < length node.tasks)
   number_of_stream : (q k : ℕ) → q < length ss
       → task_number U (job_release (stream_at ss q) k) ≡ index q
   number_of_stream q k small =
-      let f : IsFit U (stream_at ss q) (index q) = fits.each q small in
+      let f = fits.each q small in
       ap (λ x. unwrap_or x (length U))
       (ap (task_named U) f.named ∙ found U set.distinct (index q) f.in_set)
 
@@ -167,16 +167,14 @@ module _ (node : Node) (ok : IsNode node) (i : ℕ) (lt : i < length node.tasks)
   -- it executes its cost
   whole_job : (p : ℕ) → p < length rs → IsWhole (job_task node jobs p) (job_at jobs p)
   whole_job p small =
-      let o : (q : ℕ) × OfStream p q = of_stream p small in
+      let o = of_stream p small in
       let r : Release = release_at rs p in
       let n : ℕ = task_number U (release_at rs p) in
-      let job : job_at jobs p ≡ job_of U (release_at rs p) = job_is U rs p small in
-      let task : (job_at jobs p).task ≡ task_number U (release_at rs p) =
-      ap (λ (x : Job). x.task) job in
-      let known : task_number U (release_at rs p) < length U =
-      subst (λ k. k < length U) task (legal.known p (omega (arith, small, long))) in
-      let runs : runs_of U (release_at rs p) ≡ (task_at U (task_number U (release_at rs p))).cost =
-      ap (λ (x : Release). unwrap_or x.runs (task_at U (task_number U (release_at rs p))).cost)
+      let job = job_is U rs p small in
+      let task = ap (λ (x : Job). x.task) job in
+      let known = subst (λ k. k < length U) task (legal.known p (omega (arith, small, long))) in
+      let runs = ap (λ (x : Release). unwrap_or x.runs (task_at U (task_number U (release_at rs
+      p))).cost)
       o.1.is_of.is in
       record {
         executes = ap (λ (x : Job). x.executes) job
@@ -187,25 +185,26 @@ module _ (node : Node) (ok : IsNode node) (i : ℕ) (lt : i < length node.tasks)
             ∙ ap (λ k. (task_at U k).sections) (sym task)));
       }
 
-  -- it arrives at the first arrival of the stream, as late as the stream says, or a period later at least
+  -- it arrives at the first arrival of the stream, as late as the stream says, or a period later at
+  -- least
   times_of : (p q : ℕ) → OfStream p q → ((release_at rs p).time ≡ (stream_at ss q).first)
       × ((release_at rs p).late ≡ (stream_at ss q).late)
       ⊎ ((stream_at ss q).first + (stream_at ss q).period ≤ (release_at rs p).time)
   times_of p q o =
       let r : Release = release_at rs p in
       let s : Stream = stream_at ss q in
-      let a : IsArrival r.time s = arrived o.is_of in
-      let late : r.late ≡ late_at r.time s = ap (λ (x : Release). x.late) o.is_of.is in
+      let a = arrived o.is_of in
+      let late = ap (λ (x : Release). x.late) o.is_of.is in
       elim (cases_eq r.time s.first) [
         | inl first ↦
-            let e : (r.time == s.first) ≡ true = eq-eqb r.time s.first first in
+            let e = eq-eqb r.time s.first first in
             let own : late_at r.time s ≡ s.late = rw e refl in
             inl (first, late ∙ own)
         | inr later ↦
             let n = numbered s 0 (periods q o.is_of.in_set) in
             let z : arrival_of s 0 ≡ s.first = omega arith in
-            let zero_first : IsArrival s.first s = subst (λ x. IsArrival x s) z n.0 in
-            let from : s.first ≤ r.time = a.from in
+            let zero_first = subst (λ x. IsArrival x s) z n.0 in
+            let from = a.from in
             inr (arrivals_apart s.first r.time s (periods q o.is_of.in_set) (omega arith)
             zero_first a)
       ]
@@ -223,11 +222,11 @@ module _ (node : Node) (ok : IsNode node) (i : ℕ) (lt : i < length node.tasks)
       let o = order_at ss until j k less small in
       let x : OfStream j o.0 = record { in_list = omega arith; is_of = o.2 } in
       let y : OfStream k o.1 = record { in_list = small; is_of = o.3 } in
-      let one : o.0 ≡ o.1 = fits.distinct o.0 o.1 o.2.in_set o.3.in_set
+      let one = fits.distinct o.0 o.1 o.2.in_set o.3.in_set
       (sym (task_is j o.0 x) ∙ (same ∙ task_is k o.1 y)) in
       let early : (release_at rs j).time < (release_at rs k).time =
       elim o.4 [ inl e ↦ e | inr tie ↦ absurd (omega (arith, one, tie.1)) ] in
-      let x' : OfStream j o.1 = subst (λ q. OfStream j q) one x in
+      let x' = subst (λ q. OfStream j q) one x in
       record {
         stream = o.1;
         first = x';
@@ -249,13 +248,10 @@ module _ (node : Node) (ok : IsNode node) (i : ℕ) (lt : i < length node.tasks)
   member_facts : (q : ℕ) → IsMember U members start until b q → MemberFacts q (get_or members q 0)
   member_facts q m =
       let k : ℕ = get_or members q 0 in
-      let known : (k < length U) × (level_in_order node i ≤ level_in_order node k) =
-      member_in node ok i lt q m.place in
-      let v : IsValidSheet (task_at U k) = valid k known.0 in
-      let most : lateness_of (task_at U k) ≤ start =
-      member_late node ok i lt b is_b until q m.place in
-      let f : (stream_at ss q).first ≡ start - lateness_of (task_at U k) =
-      ap (λ (s : Stream). s.first) m.stream in
+      let known = member_in node ok i lt q m.place in
+      let v = valid k known.0 in
+      let most = member_late node ok i lt b is_b until q m.place in
+      let f = ap (λ (s : Stream). s.first) m.stream in
       record {
         in_set = known.0;
         up = known.1;
@@ -278,7 +274,7 @@ module _ (node : Node) (ok : IsNode node) (i : ℕ) (lt : i < length node.tasks)
   late_or_blocker : (p : ℕ) → p < length rs → (start ≤ (job_at jobs p).ready)
       ⊎ ((job_at jobs p).task ≡ index (length members))
   late_or_blocker p small =
-      let o : (q : ℕ) × OfStream p q = of_stream p small in
+      let o = of_stream p small in
       elim (which U members start until b o.0 o.1.is_of.in_set) [
         | inl m ↦ inl (omega (
           arith,
@@ -312,26 +308,27 @@ module _ (node : Node) (ok : IsNode node) (i : ℕ) (lt : i < length node.tasks)
   task_0 = ap (λ (x : Job). x.task) job_0 ∙ (number_of_stream 0 0 small_0 ∙ facts_0.index_is)
 
   arrival_0 : (job_at jobs j0).arrival + lateness_of (task_at U i) ≡ start
-  arrival_0 = (let a : (job_at jobs j0).arrival ≡ arrival_of (stream_at ss 0) 0 =
-      ap (λ (x : Job). x.arrival) job_0 in omega (arith, a, facts_0.first_is))
+  arrival_0 = (let a = ap (λ (x : Job). x.arrival) job_0 in omega (arith, a, facts_0.first_is))
 
   ready_0 : (job_at jobs j0).ready ≡ start
-  ready_0 = (let a : (job_at jobs j0).ready ≡ ready_of (job_release (stream_at ss 0) 0) =
-      ap (λ (x : Job). x.ready) job_0 in omega (arith, a, facts_0.first_is, facts_0.late_is))
+  ready_0 = (let a = ap (λ (x : Job). x.ready) job_0 in omega (
+    arith,
+    a,
+    facts_0.first_is,
+    facts_0.late_is,
+  ))
 
   -- ---- as many jobs as the analysis counts
   dense_at : (h t : ℕ) → above_of node i h ≡ true → 0 < t → t ≤ limit
       → releases_within (task_at U h) t ≤ ready_within jobs h start t
   dense_at h t on some within =
-      let place : (q : ℕ) × (q < length members) × (get_or members q 0 ≡ h) =
-      above_place node ok i lt h on in
+      let place = above_place node ok i lt h on in
       let q : ℕ = place.0 in
-      let m : IsMember U members start until b q = member_at U members start until b q place.1 in
-      let f : MemberFacts q (get_or members q 0) = member_facts q m in
-      let index_h : index q ≡ h = f.index_is ∙ place.2 in
-      let f' : MemberFacts q (index q) = subst (λ k. MemberFacts q k) (sym f.index_is) f in
-      let d : releases_within (task_at U (index q)) t ≤ ready_within jobs (index q) start t =
-      dense U set ss index fits until q start
+      let m = member_at U members start until b q place.1 in
+      let f = member_facts q m in
+      let index_h = f.index_is ∙ place.2 in
+      let f' = subst (λ k. MemberFacts q k) (sym f.index_is) f in
+      let d = dense U set ss index fits until q start
       (omega (arith, streams_length U members start until b, place.1)) f'.period_is f'.late_is
       f'.first_is t some (omega (arith, ends, within)) in
       subst (λ k. releases_within (task_at U k) t ≤ ready_within jobs k start t) index_h d
@@ -347,27 +344,23 @@ module _ (node : Node) (ok : IsNode node) (i : ℕ) (lt : i < length node.tasks)
   second_of : (j k : ℕ) → j < k → k < length rs → (job_at jobs j).task ≡ (job_at jobs k).task
       → Second j k
   second_of j k less kin same_task =
-      let a : Apart j k = apart_of j k less kin same_task in
+      let a = apart_of j k less kin same_task in
       let q : ℕ = a.stream in
-      let before : ready_of (release_at rs k) < until = ends_before k kin in
+      let before = ends_before k kin in
       elim (which U members start until b q a.first.is_of.in_set) [
         | inr m ↦
-            let period_is : (stream_at ss q).period ≡ until + (task_at U m.blocker.task).period =
-            ap (λ (s : Stream). s.period) m.stream in
+            let period_is = ap (λ (s : Stream). s.period) m.stream in
             absurd (omega (arith, a.apart, period_is, before))
         | inl m ↦
             let h : ℕ = get_or members q 0 in
-            let f : MemberFacts q h = member_facts q m in
-            let task : (job_at jobs j).task ≡ h = task_is j q a.first ∙ f.index_is in
-            let v : IsValidSheet (task_at U h) = valid h f.in_set in
+            let f = member_facts q m in
+            let task = task_is j q a.first ∙ f.index_is in
+            let v = valid h f.in_set in
             elim (cases_eq h i) [
               | inl same ↦
-                  let d : (task_at U h).deadline ≡ (task_at U i).deadline =
-                  ap (λ x. (task_at U x).deadline) same in
-                  let l : lateness_of (task_at U h) ≡ lateness_of (task_at U i) =
-                  ap (λ x. lateness_of (task_at U x)) same in
-                  let arrives : IsArrival (release_at rs j).time (stream_at ss q) =
-                  arrived a.first.is_of in
+                  let d = ap (λ x. (task_at U x).deadline) same in
+                  let l = ap (λ x. lateness_of (task_at U x)) same in
+                  let arrives = arrived a.first.is_of in
                   absurd (omega (
                     arith,
                     a.apart,
@@ -382,15 +375,14 @@ module _ (node : Node) (ok : IsNode node) (i : ℕ) (lt : i < length node.tasks)
                     v.deadline_to,
                   ))
               | inr other ↦
-                  let s : IsSound node = sound node ok in
+                  let s = sound node ok in
                   let on : above_of node i h ≡ true =
                   lt-ltb (level_in_order node i) (level_in_order node h)
                   (elim (cases_eq (level_in_order node i) (level_in_order node h)) [
                     | inl tied ↦ absurd (other (sym (s.levels_differ i h lt f.in_set tied)))
                     | inr differ ↦ omega (arith, f.up)
                   ]) in
-                  let period : (task_at U (job_at jobs j).task).period ≡ (task_at U h).period =
-                  ap (λ x. (task_at U x).period) task in
+                  let period = ap (λ x. (task_at U x).period) task in
                   record {
                     in_set = subst (λ x. x < length U) (sym task) f.in_set;
                     above = subst (λ x. above_of node i x ≡ true) (sym task) on;
@@ -410,9 +402,9 @@ module _ (node : Node) (ok : IsNode node) (i : ℕ) (lt : i < length node.tasks)
         ltb-true (level_in_order node i) (level_in_order node (job_at jobs j).task) on,
       ) in
       not_above (elim (cases_lt k j) [
-        | inl less ↦ (let s : Second k j = second_of k j less jin same in
+        | inl less ↦ (let s = second_of k j less jin same in
             subst (λ x. above_of node i x ≡ true) same s.above)
-        | inr more ↦ (let s : Second j k = second_of j k (omega arith) kin (sym same) in s.above)
+        | inr more ↦ (let s = second_of j k (omega arith) kin (sym same) in s.above)
       ])
 
   -- ---- the blocker
@@ -429,22 +421,17 @@ module _ (node : Node) (ok : IsNode node) (i : ℕ) (lt : i < length node.tasks)
       → (stream_at ss q).first + lead ≡ start → (stream_at ss q).late ≡ 0 → left ≢ 0
       → IsHeldUp node jobs start (level_in_order node i) left
   held_by q kb lead m p small kin is lead_is first_is late_is some =
-      let job : job_at jobs kb ≡ job_of U (job_release (stream_at ss q) 0) =
-      job_is_of kb (job_release (stream_at ss q) 0) kin is in
-      let own : (job_at jobs kb).task ≡ index q = ap (λ (x : Job). x.task) job
+      let job = job_is_of kb (job_release (stream_at ss q) 0) kin is in
+      let own = ap (λ (x : Job). x.task) job
       ∙ number_of_stream q 0 small in
-      let task : (job_at jobs kb).task ≡ m.blocker.task = own ∙ m.index in
-      let ready : (job_at jobs kb).ready ≡ ready_of (job_release (stream_at ss q) 0) =
-      ap (λ (x : Job). x.ready) job in
+      let task = own ∙ m.index in
+      let ready = ap (λ (x : Job). x.ready) job in
       let ready' : (job_at jobs kb).ready + lead ≡ start =
       omega (arith, ready, first_is, late_is) in
-      let whole : IsWhole (job_task node jobs kb) (job_at jobs kb) = whole_job kb kin in
-      let cost_is : (job_task node jobs kb).cost ≡ (task_at U m.blocker.task).cost =
-      ap (λ k. (task_at U k).cost) task in
-      let sections_are : (job_task node jobs kb).sections ≡ (task_at U m.blocker.task).sections =
-      ap (λ k. (task_at U k).sections) task in
-      let level : level_in_order node (job_at jobs kb).task ≡ level_in_order node m.blocker.task =
-      ap (λ k. level_in_order node k) task in
+      let whole = whole_job kb kin in
+      let cost_is = ap (λ k. (task_at U k).cost) task in
+      let sections_are = ap (λ k. (task_at U k).sections) task in
+      let level = ap (λ k. level_in_order node k) task in
       let lower : level_in_order node (job_at jobs kb).task < level_in_order node i =
       omega (arith, level, p.lower) in
       let others : (k : ℕ) → k < length jobs → k ≢ kb
@@ -455,16 +442,17 @@ module _ (node : Node) (ok : IsNode node) (i : ℕ) (lt : i < length node.tasks)
         | inr theirs ↦ absurd (only_below kb k kin within other
             (theirs ∙ (ap index (sym m.place) ∙ sym own)) lower)
       ] in
-      let runs : executed_before node jobs ((job_at jobs kb).ready + lead) kb ≡ lead =
-      leads node jobs kb lead (omega (arith, kin, long))
+      let runs = leads node jobs kb lead (omega (arith, kin, long))
       (omega (arith, whole.executes, cost_is, p.within, p.runs, lead_is)) others lead
       (omega arith) in
-      let runs' : executed_before node jobs start kb ≡ lead =
-      subst (λ t. executed_before node jobs t kb ≡ lead) ready' runs in
-      let inside : is_inside p.section lead ≡ true =
-      inside_from p.section lead (omega (arith, lead_is)) (omega (arith, lead_is, p.long)) in
-      let reached : reaches U (with_index (above_of node i) i) p.section ≡ true =
-      subst (λ H. reaches U (with_index H i) p.section ≡ true) same_above p.blocks.reached in
+      let runs' = subst (λ t. executed_before node jobs t kb ≡ lead) ready' runs in
+      let inside = inside_from p.section lead (omega (arith, lead_is)) (omega (
+        arith,
+        lead_is,
+        p.long,
+      )) in
+      let reached = subst (λ H. reaches U (with_index H i) p.section ≡ true) same_above
+      p.blocks.reached in
       let in_sections : Contains (task_at U m.blocker.task).sections p.section = (
         m.blocker.place,
         slice_get_within (task_at U m.blocker.task).sections m.blocker.place p.section
@@ -487,32 +475,26 @@ module _ (node : Node) (ok : IsNode node) (i : ℕ) (lt : i < length node.tasks)
   held_up : (o : Option BlockerData) → b ≡ o → (left ≡ 0)
       ⊎ IsHeldUp node jobs start (level_in_order node i) left
   held_up None e =
-      let none : blocking_of U i (among (after_of node.order i)) ≡ 0 =
-      subst (λ x. IsBlockerOf U i (among (after_of node.order i)) x) e is_b in
-      let none' : blocking_of U i (above_of node i) ≡ 0 =
-      subst (λ H. blocking_of U i H ≡ 0) same_above none in
+      let none = subst (λ x. IsBlockerOf U i (among (after_of node.order i)) x) e is_b in
+      let none' = subst (λ H. blocking_of U i H ≡ 0) same_above none in
       inl (omega arith)
   held_up (Some bb) e =
       elim (cases_eq left 0) [
         | inl none ↦ inl none
         | inr some ↦
             let q : ℕ = length members in
-            let m : IsBlocker U members start until b q =
-            subst (λ x. IsBlocker U members start until x (length members)) (sym e)
+            let m = subst (λ x. IsBlocker U members start until x (length members)) (sym e)
             (blocker_at U members start until bb) in
-            let p : IsPlacedBlocker node ok i lt b is_b until m.blocker =
-            placed node ok i lt b is_b until m.blocker m.is in
-            let one : length (tasks_of b) ≡ 1 = ap (λ x. length (tasks_of x)) e in
+            let p = placed node ok i lt b is_b until m.blocker m.is in
+            let one = ap (λ x. length (tasks_of x)) e in
             let small : q < length ss =
             omega (arith, streams_length U members start until b, one) in
             let lead : ℕ = lead_of U (Some m.blocker) in
-            let lead_is : lead_of U b ≡ lead = ap (lead_of U) m.is in
-            let at_is : (section_of U m.blocker).at ≡ p.section.at =
-            ap (λ (x : CriticalSection). x.at) p.is in
-            let first_is : (stream_at ss q).first ≡ start - lead =
-            ap (λ (s : Stream). s.first) m.stream in
-            let late_is : (stream_at ss q).late ≡ 0 = ap (λ (s : Stream). s.late) m.stream in
-            let found_at : IsIn rs (job_release (stream_at ss q) 0) = job_in ss until periods q 0
+            let lead_is = ap (lead_of U) m.is in
+            let at_is = ap (λ (x : CriticalSection). x.at) p.is in
+            let first_is = ap (λ (s : Stream). s.first) m.stream in
+            let late_is = ap (λ (s : Stream). s.late) m.stream in
+            let found_at = job_in ss until periods q 0
             small (omega (arith, first_is, late_is, limits.0, ends)) in
             inr (held_by q found_at.0 lead m p small found_at.1 found_at.2 (omega (arith, at_is))
             (omega (arith, first_is, lead_is)) late_is some)
@@ -522,14 +504,14 @@ module _ (node : Node) (ok : IsNode node) (i : ℕ) (lt : i < length node.tasks)
   not_second : (j k : ℕ) → j < k → k < length rs → (job_at jobs j).task ≡ i
       → (job_at jobs k).task ≡ i → ⊥
   not_second j k less small first second =
-      let s : Second j k = second_of j k less small (first ∙ sym second) in
-      let up : level_in_order node i < level_in_order node i = ltb-true (level_in_order node i)
+      let s = second_of j k less small (first ∙ sym second) in
+      let up = ltb-true (level_in_order node i)
       (level_in_order node i) (subst (λ x. above_of node i x ≡ true) first s.above) in
       omega arith
 
   only_job : (k : ℕ) → k < length rs → task_number U (release_at rs k) ≡ i → k ≡ j0
   only_job k kin mine =
-      let task : (job_at jobs k).task ≡ i = ap (λ (x : Job). x.task) (job_is U rs k kin) ∙ mine in
+      let task = ap (λ (x : Job). x.task) (job_is U rs k kin) ∙ mine in
       elim (cases_eq k j0) [
         | inl same ↦ same
         | inr other ↦ absurd (elim (cases_lt k j0) [
@@ -543,13 +525,16 @@ module _ (node : Node) (ok : IsNode node) (i : ℕ) (lt : i < length node.tasks)
   worst = record {
     is_job = omega (arith, the_job.1, long);
     whole = whole_job j0 the_job.1;
-    costs = λ k small on from. (let w : IsWhole (job_task node jobs k) (job_at jobs k) =
-        whole_job k (omega (arith, small, long)) in w.executes);
-    latest = (let l : lateness_of (job_task node jobs j0) ≡ lateness_of (task_at U i) =
-        ap (λ x. lateness_of (task_at U x)) task_0 in omega (arith, ready_0, arrival_0, l));
+    costs = λ k small on from. (let w = whole_job k (omega (arith, small, long)) in w.executes);
+    latest = (let l = ap (λ x. lateness_of (task_at U x)) task_0 in omega (
+      arith,
+      ready_0,
+      arrival_0,
+      l,
+    ));
     dense = λ h t small on some within.
-        let on' : above_of node i h ≡ true = subst (λ x. above_of node x h ≡ true) task_0 on in
-        let within' : t ≤ limit = subst (λ x. t ≤ limit_of (task_at U x)) task_0 within in
+        let on' = subst (λ x. above_of node x h ≡ true) task_0 on in
+        let within' = subst (λ x. t ≤ limit_of (task_at U x)) task_0 within in
         subst (λ s. releases_within (task_at U h) t ≤ ready_within jobs h s t) (sym ready_0)
         (dense_at h t on' some within');
     held_up = subst (λ x. (left ≡ 0)
@@ -563,26 +548,24 @@ module _ (node : Node) (ok : IsNode node) (i : ℕ) (lt : i < length node.tasks)
   no_overrun pass_above k below over =
       let j : ℕ = over.0 in
       let kin : k < length rs = omega (arith, long) in
-      let s : Second j k = second_of j k over.1 kin over.2 in
+      let s = second_of j k over.1 kin over.2 in
       let h : ℕ = (job_at jobs j).task in
       let rk : (job_at jobs k).ready ≡ ready_of (release_at rs k) = (arrival_is k kin).1 in
       let aj : (job_at jobs j).arrival ≡ (release_at rs j).time =
       (arrival_is j (omega (arith, over.1, kin))).0 in
-      let v : IsValidSheet (task_at U h) = valid h s.in_set in
+      let v = valid h s.in_set in
       let pass : Passes U h (above_of node h) = pass_above h s.in_set s.above in
       let by : PassesBy node h pass.0 =
       record { from_one = omega (arith, pass.1); in_time = pass.2; enough = pass.3 } in
       let end : ℕ = (job_at jobs j).arrival + response_by (job_task node jobs j) pass.0 in
-      let fin : (job_at jobs j).executes ≤ executed_before node jobs end j =
-      bound_law node jobs ok legal j pass.0 (omega (arith, over.1, below)) by in
+      let fin = bound_law node jobs ok legal j pass.0 (omega (arith, over.1, below)) by in
       let soon : end ≤ (job_at jobs k).ready =
       omega (arith, pass.2, aj, rk, s.apart, v.jitter, v.deadline_to) in
       omega (arith, over.3, fin, done_grows node jobs j end (job_at jobs k).ready soon)
 
   misses : MustMiss node i → executed_before node jobs until j0 < (job_at jobs j0).executes
   misses must =
-      let deadline_is : (job_task node jobs j0).deadline ≡ (task_at U i).deadline =
-      ap (λ x. (task_at U x).deadline) task_0 in
+      let deadline_is = ap (λ x. (task_at U x).deadline) task_0 in
       let due : (job_at jobs j0).arrival + (job_task node jobs j0).deadline ≡ until =
       omega (arith, arrival_0, deadline_is, limits.1, ends) in
       subst (λ t. executed_before node jobs t j0 < (job_at jobs j0).executes) due
@@ -603,8 +586,7 @@ module _ (node : Node) (ok : IsNode node) (i : ℕ) (lt : i < length node.tasks)
 
   pub the_facts : CaseFacts node i rs until
   the_facts =
-      let a : ((job_at jobs j0).arrival ≡ (release_at rs j0).time)
-      × ((job_at jobs j0).ready ≡ ready_of (release_at rs j0)) = arrival_is j0 the_job.1 in
+      let a = arrival_is j0 the_job.1 in
       record {
         accepted = accepted;
         job = j0;
@@ -614,8 +596,8 @@ module _ (node : Node) (ok : IsNode node) (i : ℕ) (lt : i < length node.tasks)
         ready = omega (arith, ready_0, a.1, ends);
         only = only_job;
         overrun_above = λ k below over.
-            (let s : Second over.0 k = second_of over.0 k over.1 (omega (arith, below, long)) over.2
-            in subst (λ x. above_of node i x ≡ true) over.2 s.above);
+            (let s = second_of over.0 k over.1 (omega (arith, below, long)) over.2 in
+            subst (λ x. above_of node i x ≡ true) over.2 s.above);
         no_overrun = no_overrun;
         late = misses;
         reaches = λ low r least.
@@ -632,7 +614,7 @@ case_law node ok i list until lt case few =
 
 pub complete_law : (node : Node) → IsNode node → WorstCaseMisses node
 complete_law node ok i rs until lt case few must =
-    let f : CaseFacts node i rs until = case_law node ok i rs until lt case few in (
+    let f = case_law node ok i rs until lt case few in (
       f.job,
       record {
         accepted = f.accepted;
@@ -646,7 +628,7 @@ complete_law node ok i rs until lt case few must =
 
 pub reaches_law : (node : Node) → IsNode node → WorstCaseReaches node
 reaches_law node ok i rs until r lt case few pass low least =
-    let f : CaseFacts node i rs until = case_law node ok i rs until lt case few in (
+    let f = case_law node ok i rs until lt case few in (
       f.job,
       record {
         accepted = f.accepted;

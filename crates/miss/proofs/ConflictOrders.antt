@@ -70,14 +70,12 @@ module _ (U : List Task) where
         ]
         | inl found ↦
             let i : ℕ = found.0 in
-            let chosen : IsChosen U L found.0 = found.2 in
-            let fewer : count_below (length U) (without_index L i) < count_below (length U) L =
-            without-fewer (length U) L i found.1 chosen.member in
+            let chosen = found.2 in
+            let fewer = without-fewer (length U) L i found.1 chosen.member in
             let rest : Ordered U (without_index L i) = order_within fuel (without_index L i)
             (without-part_of (length U) L i part) (omega arith)
             (λ held. free (held.0, held.1, λ k h. (without-parts L i k (held.2 k h)).0)) in
-            let same : among rest.0 ≡ without_index L i =
-            IsOrderOf-among (without_index L i) rest.0 rest.1 in (
+            let same = IsOrderOf-among (without_index L i) rest.0 rest.1 in (
               i ∷ rest.0,
               IsOrderOf-cons L i rest.0 chosen.member rest.1,
               (subst (λ H. Stands U i H) (sym same) chosen.stands, rest.2),
@@ -110,22 +108,22 @@ pub record IsFilled (M : Indexes) (top : List ℕ) (L : Indexes) (order : List �
 
 with-there : (L : Indexes) (n : ℕ) → L n ≡ true → with_index L n ≡ L
 with-there L n on = fun_ext (λ k. elim (cases_eq k n) [
-  | inl e ↦ (let t : (k == n) ≡ true = eq-eqb k n e in let on' : L k ≡ true = ap L e ∙ on in
+  | inl e ↦ (let t = eq-eqb k n e in let on' = ap L e ∙ on in
       rw (t, on') refl)
-  | inr ne ↦ (let f : (k == n) ≡ false = ne_eqb k n ne in rw f refl)
+  | inr ne ↦ (let f = ne_eqb k n ne in rw f refl)
 ])
 
 without-added : (L : Indexes) (n : ℕ) → L n ≡ false → without_index (with_index L n) n ≡ L
 without-added L n off = fun_ext (λ k. elim (cases_eq k n) [
-  | inl e ↦ (let t : (k == n) ≡ true = eq-eqb k n e in let off' : L k ≡ false = ap L e ∙ off in
+  | inl e ↦ (let t = eq-eqb k n e in let off' = ap L e ∙ off in
       rw (t, off') refl)
-  | inr ne ↦ (let f : (k == n) ≡ false = ne_eqb k n ne in
+  | inr ne ↦ (let f = ne_eqb k n ne in
       elim (cases_Bool (L k)) [ inl t ↦ rw (f, t) refl | inr u ↦ rw (f, u) refl ])
 ])
 
 below-more : (M : Indexes) (n k : ℕ) → M k ≡ true → with_below M n k ≡ true
 below-more M zero k on = on
-below-more M (suc n) k on = (let ih : with_below M n k ≡ true = below-more M n k on in
+below-more M (suc n) k on = (let ih = below-more M n k on in
     elim (cases_Bool (k == n)) [ inl t ↦ rw t refl | inr f ↦ rw (f, ih) refl ])
 
 fill : (M : Indexes) (top : List ℕ) → IsOrderOf M top → (n : ℕ) → (order : List ℕ)
@@ -133,7 +131,7 @@ fill : (M : Indexes) (top : List ℕ) → IsOrderOf M top → (n : ℕ) → (ord
 fill M top is zero = (top, record { named = is; ends = λ h on. refl })
 fill M top is (suc n) =
     let before : (order : List ℕ) × IsFilled M top (with_below M n) order = fill M top is n in
-    let f : IsFilled M top (with_below M n) before.0 = before.1 in
+    let f = before.1 in
     elim (cases_Bool (with_below M n n)) [
       | inl on ↦ (
         before.0,
@@ -145,12 +143,12 @@ fill M top is (suc n) =
       )
       | inr off ↦
           let at : with_index (with_below M n) n n ≡ true =
-          (let t : (n == n) ≡ true = eq-eqb n n refl in rw t refl) in
-          let added : IsOrderOf (with_index (with_below M n) n) (n ∷ before.0) = IsOrderOf-cons
+          (let t = eq-eqb n n refl in rw t refl) in
+          let added = IsOrderOf-cons
           (with_index (with_below M n) n) n before.0 at (subst (λ L. IsOrderOf L before.0)
           (sym (without-added (with_below M n) n off)) f.named) in
           let kept : (h : ℕ) → M h ≡ true → after_of (n ∷ before.0) h ≡ after_of top h = λ h on.
-          let ne : (n == h) ≡ false = ne_eqb n h
+          let ne = ne_eqb n h
           (λ e. true≢false (sym (below-more M n h on) ∙ (ap (with_below M n) (sym e) ∙ off))) in
           rw ne (f.ends h on) in
           (n ∷ before.0, record { named = added; ends = kept })
@@ -161,7 +159,7 @@ below-within : (M : Indexes) (n m : ℕ) → IsPart M (below n) → m ≤ n
 below-within M n zero part le k h = part k h
 below-within M n (suc m) part le k h =
     elim (or_cases (k == m) (with_below M m k) h) [
-      | inl same ↦ lt-ltb k n (let e : k ≡ m = eqb-true k m same in omega arith)
+      | inl same ↦ lt-ltb k n (let e = eqb-true k m same in omega arith)
       | inr before ↦ below-within M n m part (omega arith) k before
     ]
 
@@ -180,32 +178,31 @@ below-all M n part = same_parts (with_below M n) (below n) (below-within M n n p
 pub conflict_law : (U : List Task) → IsTaskSet U → ConflictHasOrders U
 conflict_law U set C i least on =
     let within : IsPart C (below (length U)) =
-    (let o : IsObstruction U C = least.obstruction in o.within) in
+    (let o = least.obstruction in o.within) in
     let L : Indexes = without_index C i in
     let free : HoldsObstruction U L → ⊥ = none_spared U C i least on in
     let above : Ordered U L = order_within U (suc (count_below (length U) L)) L
     (without-part_of (length U) C i within) (omega arith) free in
     let top : List ℕ = i ∷ above.0 in
-    let named : IsOrderOf C top = IsOrderOf-cons C i above.0 on above.1 in
+    let named = IsOrderOf-cons C i above.0 on above.1 in
     let filled : (order : List ℕ) × IsFilled C top (with_below C (length U)) order =
     fill C top named (length U) in
-    let f : IsFilled C top (with_below C (length U)) filled.0 = filled.1 in
+    let f = filled.1 in
     let order : List ℕ = filled.0 in
-    let is : IsOrder U order =
-    subst (λ X. IsOrderOf X order) (below-all C (length U) within) f.named in
+    let is = subst (λ X. IsOrderOf X order) (below-all C (length U) within) f.named in
     let ok : IsNode (node_in U order) = record { tasks = set; order = is } in
-    let members : among above.0 ≡ L = IsOrderOf-among L above.0 above.1 in
-    let self : (i == i) ≡ true = eq-eqb i i refl in
+    let members = IsOrderOf-among L above.0 above.1 in
+    let self = eq-eqb i i refl in
     let first : after_of top i ≡ above.0 = rw self refl in (
       order,
       is,
       ap among (f.ends i on ∙ first) ∙ members,
       λ h in_L.
           let p : (C h ≡ true) × (h ≡ i → ⊥) = without-parts C i h in_L in
-          let lt : h < length U = ltb-true h (length U) (within h p.0) in
-          let ne : (i == h) ≡ false = ne_eqb i h (λ e. p.1 (sym e)) in
+          let lt = ltb-true h (length U) (within h p.0) in
+          let ne = ne_eqb i h (λ e. p.1 (sym e)) in
           let later : after_of top h ≡ after_of above.0 h = rw ne refl in
-          let there : among above.0 h ≡ true = ap (λ (H : Indexes). H h) members ∙ in_L in
+          let there = ap (λ (H : Indexes). H h) members ∙ in_L in
           let stands : Stands U h (among (after_of above.0 h)) =
           stands_at U above.0 h there above.2 in
           let same : among (after_of order h) ≡ above_of (node_in U order) h =

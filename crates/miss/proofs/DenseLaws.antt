@@ -28,7 +28,7 @@ unfolding total
 total-more g m zero =
     (let z : m ≡ m + 0 = omega arith in subst (λ x. total g m ≤ total g x) z (omega arith))
 total-more g m (suc d) =
-    let ih : total g m ≤ total g (m + d) = total-more g m d in
+    let ih = total-more g m d in
     let z : suc (m + d) ≡ m + suc d = omega arith in
     subst (λ x. total g m ≤ total g x) z (omega arith)
 
@@ -48,12 +48,12 @@ many g zero n at rises = omega arith
 many g (suc m) n at rises =
     let here : m < suc m = omega arith in
     let up : (k : ℕ) → k < m → k < suc m = λ k lt. omega (arith, lt) in
-    let last : (p : ℕ) × (p < n) × (g p ≡ 1) = at m here in
-    let before : m ≤ total g last.0 = many g m last.0
+    let last = at m here in
+    let before = many g m last.0
     (λ k lt. ((at k (up k lt)).0, rises k m (up k lt) here lt, (at k (up k lt)).2))
     (λ j k lj lk less. rises j k (up j lj) (up k lk) less) in
-    let step : total g (suc last.0) ≡ total g last.0 + g last.0 = total-next g last.0 in
-    let all : total g (suc last.0) ≤ total g n = total-grows g (suc last.0) n last.1 in
+    let step = total-next g last.0 in
+    let all = total-grows g (suc last.0) n last.1 in
     omega (arith, last.2)
 
 module _ (U : List Task) (set : IsTaskSet U) (ss : List Stream) (index : ℕ → ℕ)
@@ -73,14 +73,14 @@ module _ (U : List Task) (set : IsTaskSet U) (ss : List Stream) (index : ℕ →
     s = stream_at ss q
 
     in_set : h < length U
-    in_set = (let f : IsFit U (stream_at ss q) (index q) = fit.each q lt in f.in_set)
+    in_set = (let f = fit.each q lt in f.in_set)
 
     sheet : IsValidSheet (task_at U h)
     sheet = set.valid h no_task in_set
 
     job_number : (k : ℕ) → task_number U (job_release s k) ≡ h
     job_number k =
-        let f : IsFit U (stream_at ss q) (index q) = fit.each q lt in
+        let f = fit.each q lt in
         ap (λ x. unwrap_or x (length U)) (ap (task_named U) f.named ∙ found U set.distinct h in_set)
 
     abbrev ready : ℕ → ℕ
@@ -88,16 +88,15 @@ module _ (U : List Task) (set : IsTaskSet U) (ss : List Stream) (index : ℕ →
 
     ready_cases : (k : ℕ) → (instant ≤ ready k) × (ready k ≤ instant + k * (task_at U h).period)
     ready_cases k =
-        let v : IsValidSheet (task_at U h) = sheet in
-        let p : k * s.period ≡ k * (task_at U h).period = ap (λ x. k * x) period_is in
+        let v = sheet in
+        let p = ap (λ x. k * x) period_is in
         elim (cases_eq k 0) [
           | inl first ↦
-              let e : (k == 0) ≡ true = eq-eqb k 0 first in
-              let n : k * (task_at U h).period ≡ 0 * (task_at U h).period =
-              ap (λ x. x * (task_at U h).period) first in
+              let e = eq-eqb k 0 first in
+              let n = ap (λ x. x * (task_at U h).period) first in
               rw e (omega (arith, p, late_is, first_is), omega (arith, p, late_is, first_is))
           | inr later ↦
-              let e : (k == 0) ≡ false = ne_eqb k 0 later in
+              let e = ne_eqb k 0 later in
               let one : 1 * (task_at U h).period ≤ k * (task_at U h).period =
               mul-le-mul_right (task_at U h).period (omega arith) in
               rw e (
@@ -108,26 +107,22 @@ module _ (U : List Task) (set : IsTaskSet U) (ss : List Stream) (index : ℕ →
 
     ready_before : (k t : ℕ) → 0 < t → k < releases_within (task_at U h) t → ready k < instant + t
     ready_before k t some less =
-        let v : IsValidSheet (task_at U h) = sheet in
+        let v = sheet in
         let n : ℕ = releases_within (task_at U h) t in
-        let b : (t + lateness_of (task_at U h) ≤ n * (task_at U h).period)
-        × (n * (task_at U h).period < t + lateness_of (task_at U h) + (task_at U h).period) =
-        div_ceil_times (t + lateness_of (task_at U h)) (task_at U h).period
+        let b = div_ceil_times (t + lateness_of (task_at U h)) (task_at U h).period
         (omega (arith, v.period_from)) in
         let up : (k + 1) * (task_at U h).period ≤ n * (task_at U h).period =
         mul-le-mul_right (task_at U h).period (omega arith) in
         let step : (k + 1) * (task_at U h).period
         ≡ k * (task_at U h).period + (task_at U h).period = omega arith in
-        let p : k * s.period ≡ k * (task_at U h).period = ap (λ x. k * x) period_is in
+        let p = ap (λ x. k * x) period_is in
         elim (cases_eq k 0) [
           | inl first ↦
-              let z : k * (task_at U h).period ≡ 0 * (task_at U h).period =
-              ap (λ x. x * (task_at U h).period) first in
-              let c : (instant ≤ ready k) × (ready k ≤ instant + k * (task_at U h).period) =
-              ready_cases k in
+              let z = ap (λ x. x * (task_at U h).period) first in
+              let c = ready_cases k in
               omega (arith, c.1, z)
           | inr later ↦
-              let z : (k == 0) ≡ false = ne_eqb k 0 later in
+              let z = ne_eqb k 0 later in
               let e : (job_release s k).late ≡ 0 = rw z refl in
               omega (arith, b.1, up, step, p, e, first_is)
         ]
@@ -143,21 +138,19 @@ module _ (U : List Task) (set : IsTaskSet U) (ss : List Stream) (index : ℕ →
     counted : (t k : ℕ) → 0 < t → instant + t ≤ until → k < releases_within (task_at U h) t
         → Counted t k
     counted t k some within less =
-        let early : ready k < instant + t = ready_before k t some less in
-        let c : (instant ≤ ready k) × (ready k ≤ instant + k * (task_at U h).period) =
-        ready_cases k in
-        let found_at : IsIn rs (job_release s k) =
-        job_in ss until (some_period set fit) q k lt (omega (arith, early, within)) in
+        let early = ready_before k t some less in
+        let c = ready_cases k in
+        let found_at = job_in ss until (some_period set fit) q k lt (omega (arith, early, within))
+        in
         let p : ℕ = found_at.0 in
-        let job : job_at (jobs_of U rs) p ≡ job_of U (job_release s k) = job_is U rs p found_at.1
+        let job = job_is U rs p found_at.1
         ∙ ap (job_of U) found_at.2 in
         let a : nat_le instant (ready k) ≡ true = le-leb instant (ready k) c.0 in
         let b : nat_lt (ready k) (instant + t) ≡ true = lt-ltb (ready k) (instant + t) early in
-        let e : (task_number U (job_release s k) == h) ≡ true =
-        eq-eqb (task_number U (job_release s k)) h (job_number k) in
+        let e = eq-eqb (task_number U (job_release s k)) h (job_number k) in
         let one : ◌≡◌ {A = ℕ} (if (nat_le instant (ready k) && nat_lt (ready k) (instant + t))
         && (task_number U (job_release s k) == h) then 1 else 0) 1 = rw (a, b, e) refl in
-        let long : length (jobs_of U rs) ≡ length rs = jobs_length U rs in (
+        let long = jobs_length U rs in (
           p,
           omega (arith, found_at.1, long),
           ap (λ (x : Job). let n : ℕ =
@@ -168,20 +161,19 @@ module _ (U : List Task) (set : IsTaskSet U) (ss : List Stream) (index : ℕ →
 
     rises : (t j k : ℕ) (x : Counted t j) (y : Counted t k) → j < k → x.0 < y.0
     rises t j k x y less =
-        let v : IsValidSheet (task_at U h) = sheet in
+        let v = sheet in
         let up : (j + 1) * s.period ≤ k * s.period = mul-le-mul_right s.period (omega arith) in
         let step : (j + 1) * s.period ≡ j * s.period + s.period = omega arith in
-        let some : 0 < s.period = some_period set fit q lt in
+        let some = some_period set fit q lt in
         let apart : arrival_of s j < arrival_of s k = omega arith in
-        let tx : (release_at rs x.0).time ≡ arrival_of s j = ap (λ (r : Release). r.time) x.3 in
-        let ty : (release_at rs y.0).time ≡ arrival_of s k = ap (λ (r : Release). r.time) y.3 in
+        let tx = ap (λ (r : Release). r.time) x.3 in
+        let ty = ap (λ (r : Release). r.time) y.3 in
         elim (cases_lt x.0 y.0) [
           | inl before ↦ before
           | inr not ↦ elim (cases_eq x.0 y.0) [
-            | inl same ↦ (let e : (release_at rs x.0).time ≡ (release_at rs y.0).time =
-                ap (λ p. (release_at rs p).time) same in absurd (omega arith))
+            | inl same ↦ (let e = ap (λ p. (release_at rs p).time) same in absurd (omega arith))
             | inr differ ↦
-                let long : length (jobs_of U rs) ≡ length rs = jobs_length U rs in
+                let long = jobs_length U rs in
                 let o = order_at ss until y.0 x.0 (omega arith) (omega (arith, x.1, long)) in
                 let le : (release_at rs y.0).time ≤ (release_at rs x.0).time =
                 elim o.4 [
@@ -195,11 +187,9 @@ module _ (U : List Task) (set : IsTaskSet U) (ss : List Stream) (index : ℕ →
     pub dense : (t : ℕ) → 0 < t → instant + t ≤ until
         → releases_within (task_at U h) t ≤ ready_within (jobs_of U rs) h instant t
     dense t some within =
-        let m : releases_within (task_at U h) t ≤ total (counts t) (length (jobs_of U rs)) =
-        many (counts t) (releases_within (task_at U h) t) (length (jobs_of U rs))
+        let m = many (counts t) (releases_within (task_at U h) t) (length (jobs_of U rs))
         (λ k less. (let c : Counted t k = counted t k some within less in (c.0, c.1, c.2)))
         (λ j k lj lk less. rises t j k (counted t j some within lj) (counted t k some within lk)
         less) in
-        let sum : total (counts t) (length (jobs_of U rs)) ≡ ready_within (jobs_of U rs) h instant
-        t = total-sum (counts t) (length (jobs_of U rs)) in
+        let sum = total-sum (counts t) (length (jobs_of U rs)) in
         omega arith

@@ -12,13 +12,11 @@ pub exact_law : (node : Node) (jobs : List Job) → IsNode node → AreLegalJobs
     → WorstIsExact node jobs
 exact_law node jobs ok legal j r worst ends covers least =
     let i : ℕ = (job_at jobs j).task in
-    let before : executed_before node jobs ((job_at jobs j).ready + (r - 1)) j
-    < (job_at jobs j).executes =
-    comes_law node jobs ok legal j (blocking_of node.tasks i (above_of node i) - 1) (r - 1) worst
+    let before = comes_law node jobs ok legal j (blocking_of node.tasks i (above_of node i) - 1) (r
+    - 1) worst
     ends (omega (arith, covers.in_time))
     (λ u some le. least u some (omega (arith, le, covers.from_one))) in
-    let after : (job_at jobs j).executes ≤ executed_before node jobs ((job_at jobs j).ready + r) j =
-    tighter_law node jobs ok legal j r worst.is_job covers in
+    let after = tighter_law node jobs ok legal j r worst.is_job covers in
     let at : (job_at jobs j).ready + (r - 1) ≡ (job_at jobs j).ready + r - 1 =
     omega (arith, covers.from_one) in
     record {

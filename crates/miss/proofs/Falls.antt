@@ -1,4 +1,5 @@
--- What is to do of a window falls by at most one a tick, over any machine that executes one job a tick.
+-- What is to do of a window falls by at most one a tick, over any machine that executes one job a
+-- tick.
 use Rattle.std.proofs.Common.{ℕ, zero, suc, ◌+◌, ◌<◌, ◌≤◌, ◌≡◌, ◌≢◌, inl, inr, refl, sym, ap, subst}
 use Rattle.std.proofs.Common.{arith, Bool, Option, Some, None, nat_le, nat_lt, ◌&&◌}
 use Rattle.std.proofs.lemmas.Bool.{cases_eq, cases_Bool}
@@ -13,14 +14,12 @@ total-step f g zero p h one = omega arith
 total-step f g (suc n) p h one =
     elim (cases_eq n p) [
       | inl e ↦
-          let before : total f n ≤ total g n =
-          total-le f g n (λ j lt. h j (omega arith) (λ same. absurd (omega arith))) in
-          let here : f n ≤ suc (g n) = subst (λ x. f x ≤ suc (g x)) (sym e) one in
+          let before = total-le f g n (λ j lt. h j (omega arith) (λ same. absurd (omega arith))) in
+          let here = subst (λ x. f x ≤ suc (g x)) (sym e) one in
           omega arith
       | inr ne ↦
-          let before : total f n ≤ suc (total g n) =
-          total-step f g n p (λ j lt differ. h j (omega arith) differ) one in
-          let here : f n ≤ g n = h n (omega arith) ne in
+          let before = total-step f g n p (λ j lt differ. h j (omega arith) differ) one in
+          let here = h n (omega arith) ne in
           omega arith
     ]
 
@@ -30,7 +29,7 @@ unfolding total
 total-some f zero h = absurd (omega arith)
 total-some f (suc n) h =
     elim (cases_eq (f n) 0) [
-      | inl none ↦ let found : (p : ℕ) × (p < n) × (0 < f p) = total-some f n (omega arith) in
+      | inl none ↦ let found = total-some f n (omega arith) in
           (found.0, omega (arith, found.1), found.2)
       | inr some ↦ (n, omega arith, omega arith)
     ]
@@ -54,9 +53,8 @@ module _ (n : ℕ) (ready cost : ℕ → ℕ) (high : ℕ → Bool) (rest : ℕ 
         | inr is_low ↦ elim (cases_eq (rest p (done u p)) 0) [
           | inl none ↦ rw is_low (omega arith)
           | inr some ↦
-              let next : rest p (done u p) ≡ suc (rest p (suc (done u p))) =
-              machine.rest_next p (done u p) (omega arith) in
-              let same : rest p (done (suc u) p) ≡ rest p (suc (done u p)) = ap (rest p) e in
+              let next = machine.rest_next p (done u p) (omega arith) in
+              let same = ap (rest p) e in
               rw is_low (omega arith)
         ]
       ]
@@ -65,7 +63,7 @@ module _ (n : ℕ) (ready cost : ℕ → ℕ) (high : ℕ → Bool) (rest : ℕ 
   one_tick a b u =
       elim (run u) as (λ r. run u ≡ r → total (left a b u) n ≤ suc (total (left a b (suc u)) n)) [
         | None ↦ λ e. (
-            let same : total (left a b u) n ≤ total (left a b (suc u)) n = total-le (left a b u)
+            let same = total-le (left a b u)
             (left a b (suc u)) n (λ j lt. same_left a b u j (machine.when_idle u j e)) in
             omega arith)
         | Some p ↦ λ e.
@@ -80,9 +78,8 @@ module _ (n : ℕ) (ready cost : ℕ → ℕ) (high : ℕ → Bool) (rest : ℕ 
       ap (λ x. total (left a b x) n) (omega arith) in
       omega arith
   ticks a b u (suc m) =
-      let before : total (left a b u) n ≤ m + total (left a b (u + m)) n = ticks a b u m in
-      let step : total (left a b (u + m)) n ≤ suc (total (left a b (suc (u + m))) n) =
-      one_tick a b (u + m) in
+      let before = ticks a b u m in
+      let step = one_tick a b (u + m) in
       let same : total (left a b (suc (u + m))) n ≡ total (left a b (u + suc m)) n =
       ap (λ x. total (left a b x) n) (omega arith) in
       omega arith

@@ -15,8 +15,8 @@ section_within : (from cost : ℕ) (ss : List CriticalSection) (p : ℕ) (s d : 
     → AreSections from cost ss → p < length ss → s ≡ get_or ss p d → s.at + 1 ≤ cost
 section_within from cost [] p s d h lt e = absurd (omega arith)
 section_within from cost (x ∷ ss) zero s d h lt e =
-    let here : IsSection from cost x = h.0 in
-    let at : s.at ≡ x.at = ap (λ (y : CriticalSection). y.at) e in
+    let here = h.0 in
+    let at = ap (λ (y : CriticalSection). y.at) e in
     omega (arith, here.within, here.runs)
 section_within from cost (x ∷ ss) (suc p) s d h lt e =
     section_within (x.at + x.len) cost ss p s d h.1 (omega arith) e
@@ -28,11 +28,11 @@ pub section_small : (U : List Task) → IsTaskSet U → (sheets : List Task) (t 
     → sheet ≡ get_or sheets t sheet → ss ≡ sheet.sections → s ≡ get_or ss p s
     → s.at + 1 ≤ 10000000
 section_small U tasks sheets t p t' p' sheet ss s same et ep placed is sections at =
-    let v : IsValidSheet (task_at U t') = tasks.valid t' no_task placed.0 in
-    let is' : sheet ≡ get_or sheets t' sheet = is ∙ ap (λ k. get_or sheets k sheet) et in
-    let own : ss ≡ (task_at U t').sections = sections
+    let v = tasks.valid t' no_task placed.0 in
+    let is' = is ∙ ap (λ k. get_or sheets k sheet) et in
+    let own = sections
     ∙ ap (λ (x : Task). x.sections) (task_read U sheets t' sheet same placed.0 is') in
-    let at' : s ≡ get_or (task_at U t').sections p' s = at
+    let at' = at
     ∙ ap (λ (xs : List CriticalSection). get_or xs p s) own
     ∙ ap (λ k. get_or (task_at U t').sections k s) ep in
     omega (
@@ -47,7 +47,7 @@ section_small U tasks sheets t p t' p' sheet ss s same et ep placed is sections 
 pub blocker_in : (U : List Task) (i : ℕ) (H : Indexes) (b : Option BlockerData)
     → IsBlockerOf U i H b → IsInSet U b
 blocker_in U i H None h = tt
-blocker_in U i H (Some b) h = (let f : IsFirstBlocker U i H b = h in
+blocker_in U i H (Some b) h = (let f = h in
     let at : BlocksAt U i H b.task b.place f.section = f.blocks in
     (at.in_set, slice_get_within (task_at U b.task).sections b.place f.section at.section))
 
@@ -55,6 +55,6 @@ blocker_in U i H (Some b) h = (let f : IsFirstBlocker U i H b = h in
 pub limit_small : (U : List Task) → IsTaskSet U → (sheets : List Task) (k : ℕ) (sheet : Task)
     → sheets ≡ U → k < length U → sheet ≡ get_or sheets k sheet → limit_of sheet ≤ 10000000
 limit_small U tasks sheets k sheet same known is =
-    let v : IsValidSheet (task_at U k) = tasks.valid k no_task known in
-    let e : sheet ≡ task_at U k = task_read U sheets k sheet same known is in
+    let v = tasks.valid k no_task known in
+    let e = task_read U sheets k sheet same known is in
     subst (λ t. limit_of t ≤ 10000000) (sym e) (omega (arith, v.deadline_to, v.period_to))

@@ -23,24 +23,20 @@ module _ (node : Node) (jobs : List Job) (b lead : ℕ) (lt : b < length jobs)
   leads zero le =
       elim (cases_eq (executed_before node jobs ((job_at jobs b).ready + 0) b) 0) [
         | inl none ↦ none
-        | inr some ↦ let early : (job_at jobs b).ready < (job_at jobs b).ready + 0 = began_strictly
+        | inr some ↦ let early = began_strictly
             node jobs ((job_at jobs b).ready + 0) b (omega arith) in absurd (omega arith)
       ]
   leads (suc m) le =
       let t : ℕ = (job_at jobs b).ready + m in
-      let ih : executed_before node jobs t b ≡ m = leads m (omega arith) in
-      let w : (p : ℕ) × (picked node jobs t ≡ Some p) =
-      works_of node jobs t b lt (omega arith) (omega arith) in
-      let is : IsPicked node jobs t w.0 = picked_is_first node jobs t w.0 w.1 in
-      let pp : ((job_at jobs w.0).ready ≤ t)
-      × (executed_before node jobs t w.0 < (job_at jobs w.0).executes) =
-      pending_parts node jobs t w.0 is.pending in
+      let ih = leads m (omega arith) in
+      let w = works_of node jobs t b lt (omega arith) (omega arith) in
+      let is = picked_is_first node jobs t w.0 w.1 in
+      let pp = pending_parts node jobs t w.0 is.pending in
       let mine : w.0 ≡ b = elim (cases_eq w.0 b) [
         | inl same ↦ same
         | inr other ↦ absurd (omega (arith, others w.0 is.is_job other, pp.0))
       ] in
-      let pick : picked node jobs t ≡ Some b = subst (λ p. picked node jobs t ≡ Some p) mine w.1 in
-      let one : executed_before node jobs (suc t) b ≡ suc (executed_before node jobs t b) =
-      own_of node jobs t b pick in
+      let pick = subst (λ p. picked node jobs t ≡ Some p) mine w.1 in
+      let one = own_of node jobs t b pick in
       let at : suc t ≡ (job_at jobs b).ready + suc m = omega arith in
       subst (λ x. executed_before node jobs x b ≡ suc m) at (omega arith)

@@ -27,8 +27,7 @@ among_place [] k h = absurd (true≢false (sym h))
 among_place (x ∷ xs) k h =
     elim (or_cases (x == k) (among xs k) h) [
       | inl here ↦ (0, omega arith, eqb-true x k here)
-      | inr later ↦ let f : (q : ℕ) × (q < length xs) × (get_or xs q 0 ≡ k) =
-          among_place xs k later in (suc f.0, omega (arith, f.1), f.2)
+      | inr later ↦ let f = among_place xs k later in (suc f.0, omega (arith, f.1), f.2)
     ]
 
 times_at : (xs : List ℕ) (q : ℕ) → q < length xs → 0 < times (get_or xs q 0) xs
@@ -44,11 +43,10 @@ level_at l [] q once lt = absurd (omega arith)
 level_at l (x ∷ xs) zero once lt = rw (eq-eqb x x refl) (omega arith)
 level_at l (x ∷ xs) (suc q) once lt =
     let inner : q < length xs = omega arith in
-    let differ : x ≢ get_or xs q 0 = λ e. (let here : times (get_or xs q 0) (x ∷ xs)
-    ≡ 1 + times (get_or xs q 0) xs = times-here (get_or xs q 0) x xs (eq-eqb x (get_or xs q 0) e) in
+    let differ : x ≢ get_or xs q 0 = λ e. (let here = times-here (get_or xs q 0) x xs (eq-eqb x
+    (get_or xs q 0) e) in
     omega (arith, here, times_at xs q inner, once (get_or xs q 0))) in
-    let rest : level_from (l + 1) xs (get_or xs q 0) ≡ l + 1 + q =
-    level_at (l + 1) xs q (λ k. omega (arith, once k, times-grow k x xs)) inner in
+    let rest = level_at (l + 1) xs q (λ k. omega (arith, once k, times-grow k x xs)) inner in
     rw (ne_eqb x (get_or xs q 0) differ) (omega (arith, rest))
 
 -- those after a task are the end of the order
@@ -57,7 +55,7 @@ after_drop [] i = (0, refl)
 after_drop (x ∷ order) i =
     elim (cases_Bool (x == i)) [
       | inl here ↦ (1, rw here refl)
-      | inr not ↦ (let r : (p : ℕ) × (after_of order i ≡ drop p order) = after_drop order i in
+      | inr not ↦ (let r = after_drop order i in
           (suc r.0, rw not r.1))
     ]
 
@@ -68,7 +66,7 @@ module _ (node : Node) (ok : IsNode node) where
 
   at_most_once : (i : ℕ) → times i node.order ≤ 1
   at_most_once i =
-      let once : times i node.order ≡ cond (nat_lt i (length node.tasks)) 1 0 = times-order i in
+      let once = times-order i in
       elim (cases_Bool (nat_lt i (length node.tasks))) [
         | inl t ↦ (let e : times i node.order ≡ 1 = rw t at once in omega arith)
         | inr f ↦ (let e : times i node.order ≡ 0 = rw f at once in omega arith)
@@ -80,8 +78,7 @@ module _ (node : Node) (ok : IsNode node) where
       elim (cases_Bool (nat_lt k (length node.tasks))) [
         | inl t ↦ ltb-true k (length node.tasks) t
         | inr f ↦
-            let once : times k node.order ≡ cond (nat_lt k (length node.tasks)) 1 0 =
-            times-order k in
+            let once = times-order k in
             let none : times k node.order ≡ 0 = rw f at once in
             absurd (omega (arith, level_past 1 node.order k none))
       ]
@@ -97,26 +94,22 @@ module _ (node : Node) (ok : IsNode node) where
     pub higher : (q : ℕ) → q < length above
         → level_in_order node i < level_in_order node (get_or above q 0)
     higher q small =
-        let on : above_of node i (get_or above q 0) ≡ true =
-        sym (after_is_above node ok i (get_or above q 0) lt) ∙ among_at above q small in
+        let on = sym (after_is_above node ok i (get_or above q 0) lt) ∙ among_at above q small in
         ltb-true (level_in_order node i) (level_in_order node (get_or above q 0)) on
 
     pub member_in : (q : ℕ) → q < length members → (get_or members q 0 < length node.tasks)
         × (level_in_order node i ≤ level_in_order node (get_or members q 0))
     member_in zero small = (lt, omega arith)
     member_in (suc q) small =
-        let up : level_in_order node i < level_in_order node (get_or above q 0) =
-        higher q (omega arith) in
+        let up = higher q (omega arith) in
         (has_level (get_or above q 0) (omega arith), omega arith)
 
     level_above : (q : ℕ) → q < length above
         → level_in_order node (get_or above q 0) ≡ 1 + (after_drop node.order i).0 + q
     level_above q small =
-        let d : (p : ℕ) × (after_of node.order i ≡ drop p node.order) = after_drop node.order i in
-        let long : length above ≡ length node.order - d.0 =
-        ap length d.1 ∙ length-drop d.0 node.order in
-        let same : get_or above q 0 ≡ get_or node.order (d.0 + q) 0 =
-        ap (λ xs. get_or xs q 0) d.1 ∙ get_or-drop d.0 node.order q 0 in
+        let d = after_drop node.order i in
+        let long = ap length d.1 ∙ length-drop d.0 node.order in
+        let same = ap (λ xs. get_or xs q 0) d.1 ∙ get_or-drop d.0 node.order q 0 in
         ap (λ k. level_in_order node k) same
         ∙ (level_at 1 node.order (d.0 + q) at_most_once (omega arith) ∙ omega arith)
 
@@ -124,34 +117,28 @@ module _ (node : Node) (ok : IsNode node) where
         → get_or members q 0 ≡ get_or members r 0 → q ≡ r
     members_differ zero zero lq lr e = refl
     members_differ zero (suc r) lq lr e =
-        let up : level_in_order node i < level_in_order node (get_or above r 0) =
-        higher r (omega arith) in
-        let same : level_in_order node i ≡ level_in_order node (get_or above r 0) =
-        ap (λ k. level_in_order node k) e in
+        let up = higher r (omega arith) in
+        let same = ap (λ k. level_in_order node k) e in
         absurd (omega arith)
     members_differ (suc q) zero lq lr e =
-        let up : level_in_order node i < level_in_order node (get_or above q 0) =
-        higher q (omega arith) in
-        let same : level_in_order node (get_or above q 0) ≡ level_in_order node i =
-        ap (λ k. level_in_order node k) e in
+        let up = higher q (omega arith) in
+        let same = ap (λ k. level_in_order node k) e in
         absurd (omega arith)
     members_differ (suc q) (suc r) lq lr e =
-        let same : level_in_order node (get_or above q 0) ≡ level_in_order node (get_or above r 0) =
-        ap (λ k. level_in_order node k) e in
+        let same = ap (λ k. level_in_order node k) e in
         omega (arith, same, level_above q (omega arith), level_above r (omega arith))
 
     -- each task above has a place
     pub above_place : (h : ℕ) → above_of node i h ≡ true → (q : ℕ) × (q < length members)
         × (get_or members q 0 ≡ h)
     above_place h on =
-        let f : (q : ℕ) × (q < length above) × (get_or above q 0 ≡ h) =
-        among_place above h (after_is_above node ok i h lt ∙ on) in
+        let f = among_place above h (after_is_above node ok i h lt ∙ on) in
         (suc f.0, omega (arith, f.1), f.2)
 
     -- ---- as a list that is read
     module _ (xs : List ℕ) (are : xs ≡ after_of node.order i) where
       pub above_at : (q : ℕ) → q < length xs → get_or xs q 0 < length node.tasks
-      above_at q small = (let long : length xs ≡ length above = ap length are in
+      above_at q small = (let long = ap length are in
           subst (λ ys. get_or ys q 0 < length node.tasks) (sym are)
           (member_in (suc q) (omega arith)).0)
 
@@ -161,7 +148,7 @@ module _ (node : Node) (ok : IsNode node) where
           (above_at q small)
 
       pub above_few : All (λ k. k < 32) xs
-      above_few q d small = (let U : IsTaskSet node.tasks = ok.tasks in
+      above_few q d small = (let U = ok.tasks in
           omega (arith, above_known q d small, U.few))
 
       -- each task above is one of them
@@ -172,7 +159,7 @@ module _ (node : Node) (ok : IsNode node) where
 
       level_in : (q : ℕ) → q < length xs
           → level_in_order node (get_or xs q 0) ≡ 1 + (after_drop node.order i).0 + q
-      level_in q small = (let long : length xs ≡ length above = ap length are in
+      level_in q small = (let long = ap length are in
           ap (λ ys. level_in_order node (get_or ys q 0)) are ∙ level_above q (omega arith))
 
       -- the first that doesn't pass is the lowest
@@ -185,11 +172,9 @@ module _ (node : Node) (ok : IsNode node) where
             ∙ (ap (λ ys. among ys (get_or xs q 0)) (sym are) ∙ among_at xs q small);
         fails = fails;
         lowest = λ k known on under.
-            let w : (r : ℕ) × (r < length xs) × (get_or xs r 0 ≡ k) = place_in k known on in
-            let up : level_in_order node k < level_in_order node (get_or xs q 0) =
-            ltb-true (level_in_order node k) (level_in_order node (get_or xs q 0)) under in
-            let same : level_in_order node (get_or xs w.0 0) ≡ level_in_order node k =
-            ap (λ x. level_in_order node x) w.2 in
+            let w = place_in k known on in
+            let up = ltb-true (level_in_order node k) (level_in_order node (get_or xs q 0)) under in
+            let same = ap (λ x. level_in_order node x) w.2 in
             subst (λ x. PassesThere node x) w.2 (before w.0
             (omega (arith, up, same, level_in w.0 w.1, level_in q small)));
       }
@@ -197,5 +182,5 @@ module _ (node : Node) (ok : IsNode node) where
       pub all_above : ((q : ℕ) → q < length xs → PassesThere node (get_or xs q 0))
           → AboveAllPass node i
       all_above each h known on =
-          let w : (r : ℕ) × (r < length xs) × (get_or xs r 0 ≡ h) = place_in h known on in
+          let w = place_in h known on in
           subst (λ x. PassesThere node x) w.2 (each w.0 w.1)

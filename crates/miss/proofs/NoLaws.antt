@@ -1,4 +1,5 @@
--- Without locks, timers and interrupts a task that doesn't pass must miss its deadline, or one above it must.
+-- Without locks, timers and interrupts a task that doesn't pass must miss its deadline, or one
+-- above it must.
 use Rattle.std.proofs.Common.{◌≡◌, ℕ, zero, suc, ◌+◌, ◌-◌, ◌<◌, ◌≤◌, inl, inr, List, [], ◌∷◌}
 use Rattle.std.proofs.Common.{length, sym, ◌∙◌, ap, subst, arith, max}
 use Rattle.std.specs.Prelude.{Contains}
@@ -27,7 +28,7 @@ module _ (node : Node) (ok : IsNode node) (free : IsLockFree node.tasks) (plain 
     node.tasks) (none : (i : ℕ) → i < length node.tasks → MustMiss node i → ⊥) where
   none_in : (xs : List CriticalSection) (s : CriticalSection) → xs ≡ [] → Contains xs s → ⊥
   none_in [] s e h = omega (arith, h.1)
-  none_in (x ∷ xs) s e h = (let l : suc (length xs) ≡ 0 = ap length e in omega arith)
+  none_in (x ∷ xs) s e h = (let l = ap length e in omega arith)
 
   none_blocks : (i : ℕ) → blocking_of node.tasks i (above_of node i) ≡ 0
   none_blocks i =
@@ -59,16 +60,13 @@ module _ (node : Node) (ok : IsNode node) (free : IsLockFree node.tasks) (plain 
               (work_of node i (blocking_of node.tasks i (above_of node i) - 1) u)) [
                 | inl more ↦ more
                 | inr covered ↦
-                    let z : blocking_of node.tasks i (above_of node i) ≡ 0 = none_blocks i in
-                    let d : demand_of node.tasks i (above_of node i) u
-                    ≡ work_of node i (blocking_of node.tasks i (above_of node i)) u =
-                    demand-plain node.tasks i (above_of node i) u plain in
+                    let z = none_blocks i in
+                    let d = demand-plain node.tasks i (above_of node i) u plain in
                     absurd (not (u, omega (arith, some), le, omega (arith, covered, z, d)))
               ];
           ends_low = ends i lt;
           above_pass = λ h small on. pass_from fuel h small
-              (let up : level_in_order node i < level_in_order node h =
-              ltb-true (level_in_order node i) (level_in_order node h) on in omega arith);
+              (let up = ltb-true (level_in_order node i) (level_in_order node h) on in omega arith);
         }))
       ]
 
@@ -79,31 +77,29 @@ no_law node ok free plain none i lt =
 pub refused_law : (node : Node) → IsNode node → MissesAreRefused node
 refused_law node ok rs until i has passes =
     let j : ℕ = has.0 in
-    let m : IsMissOf node rs until i j = has.1 in
+    let m = has.1 in
     let jobs : List Job = jobs_of node.tasks rs in
     let legal : AreLegalJobs node (jobs_of node.tasks rs) =
     legal_from node rs until ok m.accepted in
-    let job : job_at (jobs_of node.tasks rs) j ≡ job_of node.tasks (release_at rs j) =
-    job_is node.tasks rs j m.is_job in
-    let task : (job_at (jobs_of node.tasks rs) j).task ≡ i = ap (λ (x : Job). x.task) job
+    let job = job_is node.tasks rs j m.is_job in
+    let task = ap (λ (x : Job). x.task) job
     ∙ m.of_task in
-    let arrives : (job_at (jobs_of node.tasks rs) j).arrival ≡ (release_at rs j).time =
-    ap (λ (x : Job). x.arrival) job in
+    let arrives = ap (λ (x : Job). x.arrival) job in
     let by : PassesBy node i passes.0 =
     record { from_one = omega (arith, passes.1); in_time = passes.2; enough = passes.3 } in
     let by' : PassesBy node (job_at (jobs_of node.tasks rs) j).task passes.0 =
     subst (λ x. PassesBy node x passes.0) (sym task) by in
-    let long : length (jobs_of node.tasks rs) ≡ length rs = jobs_length node.tasks rs in
-    let fin : (job_at (jobs_of node.tasks rs) j).executes ≤ executed_before node
-    (jobs_of node.tasks rs) ((job_at (jobs_of node.tasks rs) j).arrival + response_by
-    (job_task node (jobs_of node.tasks rs) j) passes.0) j = bound_law node
+    let long = jobs_length node.tasks rs in
+    let fin = bound_law node
     (jobs_of node.tasks rs) ok legal j passes.0 (omega (arith, m.is_job, long)) by' in
-    let late : lateness_of (job_task node (jobs_of node.tasks rs) j)
-    ≡ lateness_of (task_at node.tasks i) = ap (λ x. lateness_of (task_at node.tasks x)) task in
-    let set : IsTaskSet node.tasks = ok.tasks in
-    let known : i < length node.tasks =
-    subst (λ x. x < length node.tasks) task (legal.known j (omega (arith, m.is_job, long))) in
-    let v : IsValidSheet (task_at node.tasks i) = set.valid i no_task known in
+    let late = ap (λ x. lateness_of (task_at node.tasks x)) task in
+    let set = ok.tasks in
+    let known = subst (λ x. x < length node.tasks) task (legal.known j (omega (
+      arith,
+      m.is_job,
+      long,
+    ))) in
+    let v = set.valid i no_task known in
     let end : ℕ = (job_at (jobs_of node.tasks rs) j).arrival + response_by
     (job_task node (jobs_of node.tasks rs) j) passes.0 in
     omega (

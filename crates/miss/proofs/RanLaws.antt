@@ -92,11 +92,10 @@ module _ (node : Node) (ok : IsNode node) (i : ℕ) (lt : i < length node.tasks)
         → (AboveAllPass node i → ⊥) × IsStopped node i
     stopped fault.OutOfMemory ne ran = absurd (ne refl)
     stopped (fault.Overrun name time) ne ran =
-        let o : IsOverrun node rs name time = ran.1 in
-        let f : IsFirstOverrun node jobs o.place = o.first in
+        let o = ran.1 in
+        let f = o.first in
         let small : o.place < length rs = omega (arith, f.is_job, jobs_length node.tasks rs) in
-        let task : (job_at jobs o.place).task ≡ task_number node.tasks (release_at rs o.place) =
-        ap (λ (x : Job). x.task) (job_is node.tasks rs o.place small) in (
+        let task = ap (λ (x : Job). x.task) (job_is node.tasks rs o.place small) in (
           λ pass. facts.no_overrun pass o.place f.is_job f.overruns,
           record {
             releases = rs;
@@ -133,8 +132,8 @@ module _ (node : Node) (ok : IsNode node) (i : ℕ) (lt : i < length node.tasks)
         let small : j < length trace.jobs.items =
         omega (arith, found.0, trace_length node rs until trace run) in
         let z : 0 + j ≡ j = omega arith in
-        let finish : job.finish ≡ finish_before node jobs until j =
-        ap (λ (x : JobRecord). x.finish) (sym (read_at trace.jobs.items j job no_record small read)
+        let finish = ap (λ (x : JobRecord). x.finish) (sym (read_at trace.jobs.items j job no_record
+        small read)
         ∙ (ap (λ (x : List JobRecord). get_or x j no_record) run.2.jobs
         ∙ records_at node jobs until 0 rs j found.0))
         ∙ ap (λ n. finish_before node jobs until n) z in
@@ -146,17 +145,13 @@ module _ (node : Node) (ok : IsNode node) (i : ℕ) (lt : i < length node.tasks)
         } in (
           record { ran = run_of; finish_is = finish },
           λ pass low r least.
-              let one : facts.job ≡ j = sym (facts.only j found.0 found.1) in
-              let f : IsFinishAt node jobs j (ready_of (release_at rs j) + r) =
-              subst (λ k. IsFinishAt node jobs k (ready_of (release_at rs k) + r)) one
+              let one = sym (facts.only j found.0 found.1) in
+              let f = subst (λ k. IsFinishAt node jobs k (ready_of (release_at rs k) + r)) one
               (facts.reaches low r least) in
               let covers : CoversBy node i r = least.covers in
-              let end : ready_of (release_at rs facts.job) ≡ ready_of (release_at rs j) =
-              ap (λ k. ready_of (release_at rs k)) one in
-              let some : 0 < (job_at jobs j).executes =
-              some_executes node rs until j facts.accepted found.0 in
-              let g : (g : ℕ) × (finish_before node jobs until j ≡ Some g) =
-              finish_some node jobs j until some
+              let end = ap (λ k. ready_of (release_at rs k)) one in
+              let some = some_executes node rs until j facts.accepted found.0 in
+              let g = finish_some node jobs j until some
               (omega (
                 arith,
                 f.after,
@@ -174,15 +169,15 @@ module _ (node : Node) (ok : IsNode node) (i : ℕ) (lt : i < length node.tasks)
 
     due : (release_at run.releases.items run.job).time + (task_at node.tasks i).deadline
         ≡ run.until
-    due = (let f : IsFinishIn node run.releases.items run.until i run.job run.finish = is.finish in
-        let one : run.job ≡ facts_of.job = facts_of.only run.job f.ran.is_job f.ran.of_task in
+    due = (let f = is.finish in
+        let one = facts_of.only run.job f.ran.is_job f.ran.of_task in
         subst (λ k. (release_at run.releases.items k).time + (task_at node.tasks i).deadline
         ≡ run.until) (sym one) facts_of.due)
 
     pub is_miss : is_some run.finish ≡ false
         → IsMissOf node run.releases.items run.until i run.job
     is_miss open_ =
-        let f : IsFinishIn node run.releases.items run.until i run.job run.finish = is.finish in
+        let f = is.finish in
         record {
           accepted = f.ran.accepted;
           no_overrun = f.ran.no_overrun;
@@ -196,7 +191,7 @@ module _ (node : Node) (ok : IsNode node) (i : ℕ) (lt : i < length node.tasks)
 
     pub is_done : is_some run.finish ≡ true → IsDoneInTime node i
     is_done some =
-        let f : IsFinishIn node run.releases.items run.until i run.job run.finish = is.finish in
+        let f = is.finish in
         let list : List Job = jobs_of node.tasks run.releases.items in
         record {
           releases = run.releases.items;
@@ -218,20 +213,16 @@ module _ (node : Node) (ok : IsNode node) (i : ℕ) (lt : i < length node.tasks)
   pub done_below : AboveAllPass node i → ShowsNone node i → IsDoneInTime node i
   done_below pass (inr done) = done
   done_below pass (inl s) =
-      let f : CaseFacts node i s.releases s.until =
-      case_law node ok i s.releases s.until lt s.case s.few in
+      let f = case_law node ok i s.releases s.until lt s.case s.few in
       absurd (f.no_overrun pass s.place
       (omega (arith, s.is_job, jobs_length node.tasks s.releases)) s.overruns)
 
   -- one whose worst case shows no miss need not miss
   pub need_not : ShowsNone node i → MustMiss node i → ⊥
   need_not none must =
-      let d : IsDoneInTime node i = done_below must.above_pass none in
-      let f : CaseFacts node i d.releases d.until =
-      case_law node ok i d.releases d.until lt d.case d.few in
-      let one : d.job ≡ f.job = f.only d.job d.ran.is_job d.ran.of_task in
-      let late : executed_before node (jobs_of node.tasks d.releases) d.until d.job
-      < (job_at (jobs_of node.tasks d.releases) d.job).executes =
-      subst (λ k. executed_before node (jobs_of node.tasks d.releases) d.until k
+      let d = done_below must.above_pass none in
+      let f = case_law node ok i d.releases d.until lt d.case d.few in
+      let one = f.only d.job d.ran.is_job d.ran.of_task in
+      let late = subst (λ k. executed_before node (jobs_of node.tasks d.releases) d.until k
       < (job_at (jobs_of node.tasks d.releases) k).executes) (sym one) (f.late must) in
       omega (arith, late, d.done)

@@ -23,7 +23,7 @@ top_user node ok k [] h = absurd (true≢false (sym h))
 top_user node ok k (r ∷ rs) h =
     elim (or_cases (uses (task_at node.tasks k) r)
     (list_any (λ lock. uses (task_at node.tasks k) lock) rs) h) [
-      | inl here ↦ (let s : IsSound node = sound node ok in omega (arith, s.users_below k r here))
+      | inl here ↦ (let s = sound node ok in omega (arith, s.users_below k r here))
       | inr later ↦ omega (arith, top_user node ok k rs later)
     ]
 
@@ -32,11 +32,9 @@ reached_by : (node : Node) → IsNode node → (H : Indexes) (s : CriticalSectio
     → reaches node.tasks H s ≡ true
     → (k : ℕ) × (H k ≡ true) × (level_in_order node k ≤ top_ceiling node s.locks)
 reached_by node ok H s h =
-    let w : (k : ℕ) × (k < length node.tasks)
-    × ((H k && shares_lock (task_at node.tasks k) s) ≡ true) = some_below-witness
+    let w = some_below-witness
     (length node.tasks) (λ k. H k && shares_lock (task_at node.tasks k) s) h in
-    let p : (H w.0 ≡ true) × (shares_lock (task_at node.tasks w.0) s ≡ true) =
-    and_parts (H w.0) (shares_lock (task_at node.tasks w.0) s) w.2 in
+    let p = and_parts (H w.0) (shares_lock (task_at node.tasks w.0) s) w.2 in
     (w.0, p.0, top_user node ok w.0 s.locks p.1)
 
 pub ceiling_reaches : (node : Node) → IsNode node → (i : ℕ) (s : CriticalSection)
@@ -45,8 +43,11 @@ pub ceiling_reaches : (node : Node) → IsNode node → (i : ℕ) (s : CriticalS
 ceiling_reaches node ok i s h =
     let u = reached_by node ok (with_index (above_of node i) i) s h in
     elim (or_cases (u.0 == i) (above_of node i u.0) u.1) [
-      | inl same ↦ (let e : level_in_order node u.0 ≡ level_in_order node i =
-          ap (λ x. level_in_order node x) (eqb-true u.0 i same) in omega (arith, e, u.2))
+      | inl same ↦ (let e = ap (λ x. level_in_order node x) (eqb-true u.0 i same) in omega (
+        arith,
+        e,
+        u.2,
+      ))
       | inr up ↦ omega (arith, ltb-true (level_in_order node i) (level_in_order node u.0) up, u.2)
     ]
 
@@ -60,8 +61,7 @@ above_reaches node ok i s h = (let u = reached_by node ok (above_of node i) s h 
 pub reached_above : (node : Node) → IsNode node → (i : ℕ) (s : CriticalSection) → level_in_order
     node i < top_ceiling node s.locks → reaches node.tasks (above_of node i) s ≡ true
 reached_above node ok i s up =
-    let u : IsTopOf node (suc (level_in_order node i)) s.locks =
-    top_of node ok (suc (level_in_order node i)) s.locks (omega arith) (omega arith) in
+    let u = top_of node ok (suc (level_in_order node i)) s.locks (omega arith) (omega arith) in
     let above : above_of node i u.0 ≡ true =
     lt-ltb (level_in_order node i) (level_in_order node u.0) (omega (arith, u.2)) in
     some_below-at (length node.tasks)
@@ -77,8 +77,7 @@ module _ (node : Node) (ok : IsNode node) (i : ℕ) where
   held_low [] e h = omega arith
   held_low (s ∷ ss) e h =
       let here : raises e s ≡ false = (or_parts (raises e s) (list_any (raises e) ss) h).0 in
-      let ih : held_ceiling node ss e ≤ level_in_order node i =
-      held_low ss e (or_parts (raises e s) (list_any (raises e) ss) h).1 in
+      let ih = held_low ss e (or_parts (raises e s) (list_any (raises e) ss) h).1 in
       elim (cases_Bool (is_inside s e)) [
         | inr out ↦ rw out (omega arith)
         | inl in_ ↦ elim (cases_lt (level_in_order node i) (top_ceiling node s.locks)) [
@@ -94,22 +93,17 @@ module _ (node : Node) (ok : IsNode node) (i : ℕ) where
   held_high (s ∷ ss) e h =
       elim (or_cases (raises e s) (list_any (raises e) ss) h) [
         | inl here ↦
-            let p : (is_inside s e ≡ true) × (reaches node.tasks (above_of node i) s ≡ true) =
-            and_parts (is_inside s e) (reaches node.tasks (above_of node i) s) here in
-            let up : level_in_order node i < top_ceiling node s.locks =
-            above_reaches node ok i s p.1 in
+            let p = and_parts (is_inside s e) (reaches node.tasks (above_of node i) s) here in
+            let up = above_reaches node ok i s p.1 in
             rw p.0 (omega arith)
-        | inr later ↦ (let ih : level_in_order node i < held_ceiling node ss e =
-            held_high ss e later in omega arith)
+        | inr later ↦ (let ih = held_high ss e later in omega arith)
       ]
 
   -- the last tick is executed at the task's own level exactly where it isn't inside such a section
   pub ends_low : ends_inside node.tasks i (above_of node i) ≡ false → EndsLow node i
-  ends_low h = (let low : held_ceiling node (task_at node.tasks i).sections
-      ((task_at node.tasks i).cost - 1) ≤ level_in_order node i =
-      held_low (task_at node.tasks i).sections ((task_at node.tasks i).cost - 1) h in omega arith)
+  ends_low h = (let low = held_low (task_at node.tasks i).sections ((task_at node.tasks i).cost - 1)
+      h in omega arith)
 
   pub ends_raised : ends_inside node.tasks i (above_of node i) ≡ true → EndsLow node i → ⊥
-  ends_raised h low = (let up : level_in_order node i
-      < held_ceiling node (task_at node.tasks i).sections ((task_at node.tasks i).cost - 1) =
-      held_high (task_at node.tasks i).sections ((task_at node.tasks i).cost - 1) h in omega arith)
+  ends_raised h low = (let up = held_high (task_at node.tasks i).sections ((task_at node.tasks
+      i).cost - 1) h in omega arith)

@@ -19,8 +19,8 @@ use Rattle.miss.specs.Shown.{AboveAllPass, IsShown}
 module _ (node : Node) (i : ℕ) where
   covered_not : (t : ℕ) → CoversBy node i t → MustMiss node i → ⊥
   covered_not t covers must =
-      (let more : t < work_of node i (blocking_of node.tasks i (above_of node i) - 1) t =
-      must.none_covers t covers.from_one covers.in_time in omega (arith, covers.enough, more))
+      (let more = must.none_covers t covers.from_one covers.in_time in
+      omega (arith, covers.enough, more))
 
   passes_not : PassesThere node i → MustMiss node i → ⊥
   passes_not passes must =
@@ -43,7 +43,7 @@ module _ (node : Node) (i : ℕ) where
   shown_law (shown.NoRun (why.MustOutrank other)) is must = absurd (passes_not is.0 must)
   shown_law (shown.NoRun why.TooMany) is must = inr refl
   shown_law (shown.NoRun (why.Below above)) is must =
-      (let f : IsLowestFailing node i above = is.2 in
+      (let f = is.2 in
       absurd (f.fails (must.above_pass above f.in_set f.above)))
   shown_law (shown.NoRun why.EndsInside) is must = absurd (is.3 must.ends_low)
   shown_law (shown.NoRun why.WithinTick) is must = absurd (covered_not is.5.0 is.5.1 must)

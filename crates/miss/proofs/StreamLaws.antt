@@ -25,14 +25,14 @@ module _ (U : List Task) (tasks : IsTaskSet U) (task : ℕ) (above : List ℕ) (
   all_streams known knowns placed small items is q d lt =
       let ss : List Stream =
       map (member_stream U instant) (task ∷ above) ++ blocker_streams U instant until b in
-      let lt' : q < length ss = subst (λ (xs : List Stream). q < length xs) is lt in
-      let same : stream_at ss q ≡ get_or items q d = get_or_default ss q no_stream d lt'
+      let lt' = subst (λ (xs : List Stream). q < length xs) is lt in
+      let same = get_or_default ss q no_stream d lt'
       ∙ ap (λ (xs : List Stream). get_or xs q d) (sym is) in
       subst (λ s. IsStream s) same
       (elim (which U (task ∷ above) instant until b q lt') as (λ _. IsStream (stream_at ss q)) [
         | inl m ↦
             let k : ℕ = get_or (task ∷ above) q 0 in
-            let v : IsValidSheet (task_at U k) = tasks.valid k no_task (member q m.place) in
+            let v = tasks.valid k no_task (member q m.place) in
             let s : IsStream (member_stream U instant k) = record {
               some =
                   omega (arith, v.period_from);
@@ -40,9 +40,8 @@ module _ (U : List Task) (tasks : IsTaskSet U) (task : ℕ) (above : List ℕ) (
             } in
             subst (λ x. IsStream x) (sym m.stream) s
         | inr m ↦
-            let in_set : IsInSet U (Some m.blocker) = subst (λ x. IsInSet U x) m.is placed in
-            let v : IsValidSheet (task_at U m.blocker.task) =
-            tasks.valid m.blocker.task no_task in_set.0 in
+            let in_set = subst (λ x. IsInSet U x) m.is placed in
+            let v = tasks.valid m.blocker.task no_task in_set.0 in
             subst (λ x. IsStream x) (sym m.stream)
             (record { some = omega (arith, v.period_from); small = omega (arith, v.period_to) })
       ])
@@ -60,9 +59,9 @@ pub too_long_case : (U : List Task) (i : ℕ) (above : List ℕ) (H : Indexes) (
     → streams ≡ map (member_stream U instant) (i ∷ above) ++ blocker_streams U instant until b
     → count_refusal streams until ≡ Some fault.TooMany → IsTooLong U i above
 too_long_case U i above H b streams instant lead limit until eh blocks el ei eu es items refused =
-    let at : instant ≡ instant_of U (i ∷ above) b = ei
+    let at = ei
     ∙ ap (λ l. max (greatest_of (λ k. lateness_of (task_at U k)) (i ∷ above)) l) el in
-    let is : streams ≡ worst_streams U (i ∷ above) b until = items ∙ ap (λ s. let xs : List Stream =
+    let is = items ∙ ap (λ s. let xs : List Stream =
     map (member_stream U s) (i ∷ above) ++ blocker_streams U s until b in xs) at in
     record {
       releases = list_of streams until;

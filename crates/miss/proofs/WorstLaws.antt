@@ -35,13 +35,11 @@ held-place : (node : Node) (ss : List CriticalSection) (s : CriticalSection) (e 
     → top_ceiling node s.locks ≤ held_ceiling node ss e
 held-place node [] s e k lt is inside = absurd (omega arith)
 held-place node (x ∷ ss) s e zero lt is inside =
-    let inside' : is_inside x e ≡ true = subst (λ y. is_inside y e ≡ true) (sym is) inside in
-    let same : top_ceiling node x.locks ≡ top_ceiling node s.locks =
-    ap (λ (y : CriticalSection). top_ceiling node y.locks) is in
+    let inside' = subst (λ y. is_inside y e ≡ true) (sym is) inside in
+    let same = ap (λ (y : CriticalSection). top_ceiling node y.locks) is in
     rw inside' (omega arith)
 held-place node (x ∷ ss) s e (suc k) lt is inside =
-    let ih : top_ceiling node s.locks ≤ held_ceiling node ss e =
-    held-place node ss s e k (omega arith) is inside in
+    let ih = held-place node ss s e k (omega arith) is inside in
     omega arith
 
 -- where the ceiling that is held reaches the level for m ticks, as many are left
@@ -51,12 +49,10 @@ stretch-ge node level ss zero n e le h = omega arith
 stretch-ge node level ss (suc m) zero e le h = absurd (omega arith)
 stretch-ge node level ss (suc m) (suc n) e le h =
     let z : e + 0 ≡ e = omega arith in
-    let here : level ≤ held_ceiling node ss e =
-    subst (λ x. level ≤ held_ceiling node ss x) z (h 0 (omega arith)) in
+    let here = subst (λ x. level ≤ held_ceiling node ss x) z (h 0 (omega arith)) in
     let t : nat_le level (held_ceiling node ss e) ≡ true =
     le-leb level (held_ceiling node ss e) here in
-    let ih : m ≤ stretch node level ss n (suc e) =
-    stretch-ge node level ss m n (suc e) (omega arith)
+    let ih = stretch-ge node level ss m n (suc e) (omega arith)
     (λ d lt. let s : e + suc d ≡ suc e + d = omega arith in
     subst (λ x. level ≤ held_ceiling node ss x) s (h (suc d) (omega arith))) in
     rw t (omega arith)
@@ -88,7 +84,7 @@ module _ (node : Node) (jobs : List Job) (is_node : IsNode node)
     level = level_in_order node i
 
     level_some : 0 < level
-    level_some = (let v : IsSoundTask node i = valid.each i is in v.level_from_one)
+    level_some = (let v = valid.each i is in v.level_from_one)
 
     abbrev s : ℕ
     s = (job_at jobs j0).ready
@@ -124,7 +120,7 @@ module _ (node : Node) (jobs : List Job) (is_node : IsNode node)
     none_done j u le =
         elim (cases_eq (done u j) 0) [
           | inl none ↦ none
-          | inr some ↦ let early : ready_of j < u = began_strictly node jobs u j (omega arith) in
+          | inr some ↦ let early = began_strictly node jobs u j (omega arith) in
               absurd (omega arith)
         ]
 
@@ -154,8 +150,7 @@ module _ (node : Node) (jobs : List Job) (is_node : IsNode node)
           | inr ne ↦ off_is (counts t j) (is_ready_in jobs s t j) ((job_at jobs j).task == h)
               (ne_eqb (job_at jobs j).task h ne)
           | inl e ↦ (
-              let same : level_of_job node jobs j ≡ level_in_order node h =
-              ap (λ x. level_in_order node x) e in
+              let same = ap (λ x. level_in_order node x) e in
               let up : nat_le level (level_of_job node jobs j) ≡ true =
               le-leb level (level_of_job node jobs j) (omega arith) in
               rw up refl)
@@ -169,7 +164,7 @@ module _ (node : Node) (jobs : List Job) (is_node : IsNode node)
         let a : nat_le level level ≡ true = le-leb level level (omega arith) in
         let b : nat_le s s ≡ true = le-leb s s (omega arith) in
         let c : nat_lt s (s + t) ≡ true = lt-ltb s (s + t) (omega arith) in
-        let e : eqb i i ≡ true = eq-eqb i i refl in
+        let e = eq-eqb i i refl in
         let one : of_task (λ j. (job_at jobs j).task) (λ j. (job_at jobs j).arrival) (counts t) i j0
         ≡ 1 = rw (a, b, c, e) refl in
         omega (
@@ -190,27 +185,25 @@ module _ (node : Node) (jobs : List Job) (is_node : IsNode node)
     term-ge t h some within lt =
         elim (cases_eq i h) [
           | inl e ↦
-              let own : eqb i h ≡ true = eq-eqb i h e in
-              let same : level_in_order node h ≡ level = ap (λ x. level_in_order node x) (sym e) in
+              let own = eq-eqb i h e in
+              let same = ap (λ x. level_in_order node x) (sym e) in
               let not_above : nat_lt level (level_in_order node h) ≡ false =
               le-ltb level (level_in_order node h) (omega arith) in
-              let one : 1 ≤ number t h = subst (λ x. 1 ≤ number t x) e (own_counts t some) in
+              let one = subst (λ x. 1 ≤ number t x) e (own_counts t some) in
               let product : 1 * (task_at node.tasks h).cost
               ≤ number t h * (task_at node.tasks h).cost =
               mul-le-mul_right (task_at node.tasks h).cost one in
               rw (own, not_above) (omega arith)
           | inr ne ↦
-              let differ : eqb i h ≡ false = ne_eqb i h ne in
+              let differ = ne_eqb i h ne in
               elim (cases_lt level (level_in_order node h)) [
                 | inr low ↦ (let not_above : nat_lt level (level_in_order node h) ≡ false = le-ltb
                     level (level_in_order node h) low in rw (differ, not_above) (omega arith))
                 | inl up ↦
                     let above : nat_lt level (level_in_order node h) ≡ true =
                     lt-ltb level (level_in_order node h) up in
-                    let most : releases_within (task_at node.tasks h) t ≤ ready_within jobs h s t =
-                    worst.dense h t lt above some within in
-                    let counted : number t h ≡ ready_within jobs h s t =
-                    number-is t h (omega arith) in
+                    let most = worst.dense h t lt above some within in
+                    let counted = number-is t h (omega arith) in
                     let most' : releases_within (task_at node.tasks h) t ≤ number t h =
                     omega arith in
                     let product : releases_within (task_at node.tasks h)
@@ -224,52 +217,37 @@ module _ (node : Node) (jobs : List Job) (is_node : IsNode node)
     costs : (t : ℕ) → 0 < t → t ≤ limit → (task_at node.tasks i).cost + interference_within
         node.tasks (above_of node i) t ≤ total (held_cost t) (length jobs)
     costs t some within =
-        let tasks_first : total (held_cost t) (length jobs)
-        ≡ total (λ h. number t h * (task_at node.tasks h).cost) (length node.tasks) =
-        by_tasks (λ j. (job_at jobs j).task) (λ j. (job_at jobs j).arrival) (counts t)
+        let tasks_first = by_tasks (λ j. (job_at jobs j).task) (λ j. (job_at jobs j).arrival)
+        (counts t)
         (λ h. (task_at node.tasks h).cost) (length node.tasks) (length jobs)
         (λ j lt c. legal.known j lt) in
-        let each : total (λ h. own_term h + higher_term t h) (length node.tasks)
-        ≤ total (λ h. number t h * (task_at node.tasks h).cost) (length node.tasks) =
-        total-le (λ h. own_term h + higher_term t h) (λ h. number t h * (task_at node.tasks h).cost)
+        let each = total-le (λ h. own_term h + higher_term t h) (λ h. number t h * (task_at
+        node.tasks h).cost)
         (length node.tasks) (λ h lt. term-ge t h some within lt) in
-        let split : total (λ h. own_term h + higher_term t h) (length node.tasks)
-        ≡ total own_term (length node.tasks) + total (higher_term t) (length node.tasks) =
-        total-add own_term (higher_term t) (length node.tasks) in
-        let own : total own_term (length node.tasks) ≡ (task_at node.tasks i).cost =
-        total-single (λ h. (task_at node.tasks h).cost) (length node.tasks) i is in
-        let sum : total (higher_term t) (length node.tasks) ≡ interference_within node.tasks
-        (above_of node i) t = total-sum (higher_term t) (length node.tasks) in
+        let split = total-add own_term (higher_term t) (length node.tasks) in
+        let own = total-single (λ h. (task_at node.tasks h).cost) (length node.tasks) i is in
+        let sum = total-sum (higher_term t) (length node.tasks) in
         omega arith
 
     -- ---- no other job of the task is in the window
     alone : (k t : ℕ) → k < length jobs → (job_at jobs k).task ≡ i → k ≢ j0 → s ≤ ready_of k
         → ready_of k < s + t → t ≤ limit → ⊥
     alone k t lt mine ne from before within =
-        let v : IsSoundTask node i = valid.each i is in
-        let room : limit_of (task_at node.tasks i) + lateness_of (task_at node.tasks i)
-        ≤ (task_at node.tasks i).deadline = v.late_within in
-        let in_period : (task_at node.tasks i).deadline ≤ (task_at node.tasks i).period =
-        v.deadline_within in
-        let short : lateness_of (task_at node.tasks i) < (task_at node.tasks i).period =
-        v.late_before in
-        let period_k : (job_task node jobs k).period ≡ (task_at node.tasks i).period =
-        ap (λ x. (task_at node.tasks x).period) mine in
-        let late_k : lateness_of (job_task node jobs k) ≡ lateness_of (task_at node.tasks i) =
-        ap (λ x. lateness_of (task_at node.tasks x)) mine in
-        let latest : s ≡ (job_at jobs j0).arrival + lateness_of (task_at node.tasks i) =
-        worst.latest in
+        let v = valid.each i is in
+        let room = v.late_within in
+        let in_period = v.deadline_within in
+        let short = v.late_before in
+        let period_k = ap (λ x. (task_at node.tasks x).period) mine in
+        let late_k = ap (λ x. lateness_of (task_at node.tasks x)) mine in
+        let latest = worst.latest in
         elim (cases_lt k j0) [
           | inl less ↦
-              let gap : (job_at jobs k).arrival + (job_task node jobs j0).period
-              ≤ (job_at jobs j0).arrival = legal.spaced k j0 less worst.is_job mine in
-              let by : ready_of k ≤ (job_at jobs k).arrival + lateness_of (job_task node jobs k) =
-              legal.not_late k lt in
+              let gap = legal.spaced k j0 less worst.is_job mine in
+              let by = legal.not_late k lt in
               omega arith
           | inr more ↦
-              let gap : (job_at jobs j0).arrival + (job_task node jobs k).period
-              ≤ (job_at jobs k).arrival = legal.spaced j0 k (omega arith) lt (sym mine) in
-              let early : (job_at jobs k).arrival ≤ ready_of k = legal.not_early k lt in
+              let gap = legal.spaced j0 k (omega arith) lt (sym mine) in
+              let early = legal.not_early k lt in
               omega arith
         ]
 
@@ -278,7 +256,7 @@ module _ (node : Node) (jobs : List Job) (is_node : IsNode node)
         → s ≤ ready_of j → ready_of j < s + t → executes_of j ≡ cost_of j
     full t j lt within up from before =
         elim (cases_eq j j0) [
-          | inl same ↦ (let w : IsWhole (job_task node jobs j0) (job_at jobs j0) = worst.whole in
+          | inl same ↦ (let w = worst.whole in
               subst (λ x. executes_of x ≡ cost_of x) (sym same) w.executes)
           | inr other ↦ elim (cases_eq (job_at jobs j).task i) [
             | inl mine ↦ absurd (alone j t lt mine other from before within)
@@ -299,12 +277,10 @@ module _ (node : Node) (jobs : List Job) (is_node : IsNode node)
         elim (cases_Bool (nat_le s (ready_of j) && nat_lt (ready_of j) (s + t))) [
           | inr outside ↦ rw (up, outside) refl
           | inl in_window ↦
-              let p : (nat_le s (ready_of j) ≡ true) × (nat_lt (ready_of j) (s + t) ≡ true) =
-              and_parts (nat_le s (ready_of j)) (nat_lt (ready_of j) (s + t)) in_window in
-              let from : s ≤ ready_of j = leb-true s (ready_of j) p.0 in
-              let none : done s j ≡ 0 = none_done j s from in
-              let all : executes_of j ≡ cost_of j =
-              full t j lt within (leb-true level (level_of_job node jobs j) up) from
+              let p = and_parts (nat_le s (ready_of j)) (nat_lt (ready_of j) (s + t)) in_window in
+              let from = leb-true s (ready_of j) p.0 in
+              let none = none_done j s from in
+              let all = full t j lt within (leb-true level (level_of_job node jobs j) up) from
               (ltb-true (ready_of j) (s + t) p.1) in
               rw (up, in_window, none) (omega arith)
         ]
@@ -315,12 +291,10 @@ module _ (node : Node) (jobs : List Job) (is_node : IsNode node)
     -- what is to do at the instant
     start : (t : ℕ) → 0 < t → t ≤ limit → work_of node i left t ≤ total (todo t s) (length jobs)
     start t some within =
-        let c : (task_at node.tasks i).cost + interference_within node.tasks (above_of node i) t
-        ≤ total (held_cost t) (length jobs) = costs t some within in
+        let c = costs t some within in
         elim worst.held_up [
           | inl none ↦
-              let le : total (held_cost t) (length jobs) ≤ total (todo t s) (length jobs) =
-              total-le (held_cost t) (todo t s) (length jobs)
+              let le = total-le (held_cost t) (todo t s) (length jobs)
               (λ j lt. elim (cases_Bool (nat_le level (level_of_job node jobs j))) [
                 | inl up ↦ omega (arith, high-todo t j lt within up)
                 | inr low ↦ omega (arith, low-cost t j low)
@@ -330,31 +304,22 @@ module _ (node : Node) (jobs : List Job) (is_node : IsNode node)
               let k : ℕ = held_up.job in
               let low_k : nat_le level (level_of_job node jobs k) ≡ false =
               lt-leb level (level_of_job node jobs k) held_up.lower in
-              let b : (held_up.section.at < done s k)
-              × (done s k < held_up.section.at + held_up.section.len) =
-              inside_true held_up.section (done s k) held_up.inside in
-              let to_go : held_up.section.at + held_up.section.len ≡ done s k + left =
-              held_up.to_go in
+              let b = inside_true held_up.section (done s k) held_up.inside in
+              let to_go = held_up.to_go in
               let holds : (d : ℕ) → d < left
               → level ≤ held_ceiling node (job_at jobs k).sections (done s k + d) = λ d less.
-              let in_ : is_inside held_up.section (done s k + d) ≡ true = inside_from
+              let in_ = inside_from
               held_up.section (done s k + d) (omega (arith, b.0)) (omega (arith, less)) in
               let c : Contains (job_at jobs k).sections held_up.section = held_up.of_job in
-              let top : top_ceiling node held_up.section.locks
-              ≤ held_ceiling node (job_at jobs k).sections (done s k + d) = held-place node
+              let top = held-place node
               (job_at jobs k).sections held_up.section (done s k + d) c.0 c.1 c.2 in_ in
               omega (arith, top, held_up.reaches) in
               let ends_in : done s k + left ≤ executes_of k =
-              (let last : done s k + (left - 1) < executes_of k =
-              before_end node jobs level level_some spanned k (done s k + (left - 1))
+              (let last = before_end node jobs level level_some spanned k (done s k + (left - 1))
               (holds (left - 1) (omega (arith, b.1))) in omega (arith, b.1)) in
-              let r : left ≤ stretch node level (job_at jobs k).sections (executes_of k - done s k)
-              (done s k) =
-              stretch-ge node level (job_at jobs k).sections left (executes_of k - done s k)
+              let r = stretch-ge node level (job_at jobs k).sections left (executes_of k - done s k)
               (done s k) (omega arith) holds in
-              let le : total (λ j. held_cost t j + held k j) (length jobs)
-              ≤ total (todo t s) (length jobs) =
-              total-le (λ j. held_cost t j + held k j) (todo t s) (length jobs)
+              let le = total-le (λ j. held_cost t j + held k j) (todo t s) (length jobs)
               (λ j lt. elim (cases_eq k j) [
                 | inl e ↦
                     let same : eqb k j ≡ true = eq-eqb k j e in
@@ -372,26 +337,23 @@ module _ (node : Node) (jobs : List Job) (is_node : IsNode node)
                       | inr low ↦ rw (low, differ) (omega arith)
                     ]
               ]) in
-              let split : total (λ j. held_cost t j + held k j) (length jobs)
-              ≡ total (held_cost t) (length jobs) + total (held k) (length jobs) =
-              total-add (held_cost t) (held k) (length jobs) in
-              let single : total (held k) (length jobs) ≡ left =
-              total-single (λ j. left) (length jobs) k held_up.is_job in
+              let split = total-add (held_cost t) (held k) (length jobs) in
+              let single = total-single (λ j. left) (length jobs) k held_up.is_job in
               omega arith
         ]
 
     -- ---- the tick in which it would finish
-    -- another job that is pending with a priority of the level or above keeps it from its last tick, unless it is of the same task
+    -- another job that is pending with a priority of the level or above keeps it from its last
+    -- tick, unless it is of the same task
     no_last : (u k : ℕ) → picked node jobs u ≡ Some j0 → suc (done u j0) ≡ executes_of j0
         → k < length jobs → ready_of k ≤ u → done u k < executes_of k
         → level ≤ active_of node jobs (executed_before node jobs u) k
         → (level_of_job node jobs k ≢ level) → ⊥
     no_last u k mine last lt r c hot ne =
-        let p : IsPicked node jobs u j0 = picked_is_first node jobs u j0 mine in
-        let w : IsWhole (job_task node jobs j0) (job_at jobs j0) = worst.whole in
+        let p = picked_is_first node jobs u j0 mine in
+        let w = worst.whole in
         let at_end : done u j0 ≡ cost_of j0 - 1 = omega (arith, w.executes) in
-        let own : active_of node jobs (executed_before node jobs u) j0 ≡ level =
-        ap (λ (ss : List CriticalSection). max level (held_ceiling node ss (done u j0)))
+        let own = ap (λ (ss : List CriticalSection). max level (held_ceiling node ss (done u j0)))
         w.sections ∙ (ap (λ e. active_at node i e) at_end ∙ ends) in
         elim (p.first k lt (pending_from node jobs u k r c)) [
           | inl less ↦ omega arith
@@ -409,39 +371,34 @@ module _ (node : Node) (jobs : List Job) (is_node : IsNode node)
         → done (suc (s + m)) j0 ≡ executes_of j0 → ⊥
     no_finish m within none mine last fin =
         let t : ℕ = suc m in
-        let more : t < work_of node i left t = none t (omega arith) (omega arith) in
-        let begin : work_of node i left t ≤ total (todo t s) (length jobs) =
-        start t (omega arith) within in
-        let fall : total (todo t s) (length jobs) ≤ t + total (todo t (s + t)) (length jobs) =
-        ticks (length jobs) ready_of executes_of (is_high node jobs level level_some spanned)
+        let more = none t (omega arith) (omega arith) in
+        let begin = start t (omega arith) within in
+        let fall = ticks (length jobs) ready_of executes_of (is_high node jobs level level_some
+        spanned)
         (rest_at node jobs level level_some spanned) (executed_before node jobs)
         (picked node jobs) (machine node jobs level level_some spanned) s (s + t) s t in
-        let found : (k : ℕ) × (k < length jobs) × (0 < todo t (s + t) k) =
-        total-some (todo t (s + t)) (length jobs) (omega arith) in
+        let found = total-some (todo t (s + t)) (length jobs) (omega arith) in
         let k : ℕ = found.0 in
         let at_end : s + t ≡ suc (s + m) = omega arith in
         elim (cases_Bool (nat_le level (level_of_job node jobs k))) [
           | inl up ↦
-              let up' : level ≤ level_of_job node jobs k =
-              leb-true level (level_of_job node jobs k) up in
+              let up' = leb-true level (level_of_job node jobs k) up in
               elim (cases_Bool (nat_le s (ready_of k) && nat_lt (ready_of k) (s + t))) [
                 | inr outside ↦ (let nothing : todo t (s + t) k ≡ 0 = rw (up, outside) refl in
                     omega (arith, found.2, nothing))
                 | inl in_window ↦
-                    let p : (nat_le s (ready_of k) ≡ true) × (nat_lt (ready_of k) (s + t) ≡ true) =
-                    and_parts (nat_le s (ready_of k)) (nat_lt (ready_of k) (s + t)) in_window in
-                    let lo : s ≤ ready_of k = leb-true s (ready_of k) p.0 in
-                    let hi : ready_of k < s + t = ltb-true (ready_of k) (s + t) p.1 in
+                    let p = and_parts (nat_le s (ready_of k)) (nat_lt (ready_of k) (s + t))
+                    in_window in
+                    let lo = leb-true s (ready_of k) p.0 in
+                    let hi = ltb-true (ready_of k) (s + t) p.1 in
                     let lacks : todo t (s + t) k ≡ executes_of k - done (s + t) k =
                     rw (up, in_window) refl in
-                    let open_ : done (suc (s + m)) k < executes_of k = subst (λ x. done x k
+                    let open_ = subst (λ x. done x k
                     < executes_of k) at_end (omega (arith, found.2, lacks)) in
-                    let grown : done (s + m) k ≤ done (suc (s + m)) k =
-                    done_grows node jobs k (s + m) (suc (s + m)) (omega arith) in
+                    let grown = done_grows node jobs k (s + m) (suc (s + m)) (omega arith) in
                     let other : k ≢ j0 =
-                    λ e. (let c : done (suc (s + m)) k ≡ done (suc (s + m)) j0 =
-                    ap (λ x. done (suc (s + m)) x) e in let d : executes_of k ≡ executes_of j0 =
-                    ap (λ x. executes_of x) e in absurd (omega arith)) in
+                    λ e. (let c = ap (λ x. done (suc (s + m)) x) e in let d = ap (λ x. executes_of
+                    x) e in absurd (omega arith)) in
                     no_last (s + m) k mine last found.1 (omega arith) (omega arith) (omega arith)
                     (λ same. alone k t found.1 (valid.levels_differ (job_at jobs k).task i
                     (legal.known k found.1) is same) other lo hi within)
@@ -453,43 +410,40 @@ module _ (node : Node) (jobs : List Job) (is_node : IsNode node)
                 | inr ge ↦
                     absurd (true≢false (sym (le-leb level (level_of_job node jobs k) ge) ∙ low))
               ] in
-              let other : k ≢ j0 = λ e. (let c : level_of_job node jobs k ≡ level_of_job node jobs
-              j0 = ap (λ x. level_of_job node jobs x) e in absurd (omega arith)) in
+              let other : k ≢ j0 = λ e. (let c = ap (λ x. level_of_job node jobs x) e in
+              absurd (omega arith)) in
               let inside : 0 < stretch node level (job_at jobs k).sections
               (executes_of k - done (s + t) k) (done (s + t) k) = rw low at found.2 in
-              let same : done (s + t) k ≡ done (s + m) k = ap (λ x. done x k) at_end
+              let same = ap (λ x. done x k) at_end
               ∙ other_of node jobs (s + m) j0 k mine other in
-              let inside' : 0 < stretch node level (job_at jobs k).sections
-              (executes_of k - done (s + m) k) (done (s + m) k) =
-              subst (λ x. 0 < stretch node level (job_at jobs k).sections (executes_of k - x) x)
+              let inside' = subst (λ x. 0 < stretch node level (job_at jobs k).sections (executes_of
+              k - x) x)
               same inside in
               let inside'' : 0 < rest k (done (s + m) k) = rw low inside' in
-              let held : level ≤ held_ceiling node (job_at jobs k).sections (done (s + m) k) =
-              stretch_held node level (job_at jobs k).sections (executes_of k - done (s + m) k)
+              let held = stretch_held node level (job_at jobs k).sections (executes_of k - done (s
+              + m) k)
               (done (s + m) k) inside' in
               let m' = machine node jobs level level_some spanned in
-              let lacks : done (s + m) k < executes_of k =
-              m'.rest_inside k (done (s + m) k) inside'' in
+              let lacks = m'.rest_inside k (done (s + m) k) inside'' in
               let some : 0 < done (s + m) k = elim (cases_eq (done (s + m) k) 0) [
-                | inl z ↦ (let first : rest k 0 ≡ 0 = m'.rest_first k in let same0 : rest k
-                    (done (s + m) k) ≡ rest k 0 = ap (λ e. rest k e) z in absurd (omega arith))
+                | inl z ↦ (let first = m'.rest_first k in let same0 = ap (λ e. rest k e) z in absurd
+                    (omega arith))
                 | inr nz ↦ omega arith
               ] in
-              let early : ready_of k < s + m = began_strictly node jobs (s + m) k some in
+              let early = began_strictly node jobs (s + m) k some in
               no_last (s + m) k mine last found.1 (omega arith) lacks (omega arith)
               (λ e. absurd (omega arith))
         ]
 
     pub not_done : (t : ℕ) → t ≤ limit → NoneCovers node i left t → done (s + t) j0 < executes_of j0
     not_done zero within none =
-        let v : IsSoundTask node i = valid.each i is in
-        let some : 0 < (task_at node.tasks i).cost = v.takes_time in
-        let w : IsWhole (job_task node jobs j0) (job_at jobs j0) = worst.whole in
-        let z : done (s + 0) j0 ≡ 0 = none_done j0 (s + 0) (omega arith) in
+        let v = valid.each i is in
+        let some = v.takes_time in
+        let w = worst.whole in
+        let z = none_done j0 (s + 0) (omega arith) in
         omega (arith, w.executes)
     not_done (suc m) within none =
-        let ih : done (s + m) j0 < executes_of j0 =
-        not_done m (omega arith) (λ u some le. none u some (omega arith)) in
+        let ih = not_done m (omega arith) (λ u some le. none u some (omega arith)) in
         let at_end : s + suc m ≡ suc (s + m) = omega arith in
         let to_show : done (suc (s + m)) j0 < executes_of j0 =
         elim (tick_cases (length jobs) ready_of executes_of (is_high node jobs level level_some
@@ -507,12 +461,10 @@ module _ (node : Node) (jobs : List Job) (is_node : IsNode node)
     pub by_deadline : NoneCovers node i left limit
         → done ((job_at jobs j0).arrival + (task_at node.tasks i).deadline) j0 < executes_of j0
     by_deadline none =
-        let open_ : done (s + limit) j0 < executes_of j0 = not_done limit (omega arith) none in
-        let latest : s ≡ (job_at jobs j0).arrival + lateness_of (task_at node.tasks i) =
-        worst.latest in
-        let later : done ((job_at jobs j0).arrival + (task_at node.tasks i).deadline) j0
-        ≤ done (s + limit) j0 =
-        done_grows node jobs j0 ((job_at jobs j0).arrival + (task_at node.tasks i).deadline)
+        let open_ = not_done limit (omega arith) none in
+        let latest = worst.latest in
+        let later = done_grows node jobs j0 ((job_at jobs j0).arrival + (task_at node.tasks
+        i).deadline)
         (s + limit) (omega arith) in
         omega arith
 

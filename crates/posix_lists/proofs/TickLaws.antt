@@ -1,4 +1,5 @@
--- Lists with the running thread at the head of its own: what they keep from tick to tick, and whom the tick rule picks.
+-- Lists with the running thread at the head of its own: what they keep from tick to tick, and whom
+-- the tick rule picks.
 use Rattle.std.proofs.Common.{ℕ, suc, ◌+◌, ◌<◌, ◌≤◌, ◌≡◌, ◌≢◌, inl, inr, refl, sym, ap, ◌∙◌, subst}
 use Rattle.std.proofs.Common.{arith, Bool, true, false, ◌==◌, if◌then◌else◌, max, List, [], length}
 use Rattle.std.proofs.Common.{Some, None}

@@ -2,7 +2,7 @@
 use Rattle.std.proofs.Common.{◌≡◌, ◌∙◌, ◌==◌, ◌+◌, ◌<◌, ◌≤◌, ◌^◌, ℕ, suc, true, false, List, []}
 use Rattle.std.proofs.Common.{◌∷◌, ◌++◌, map, length, codes, bytes_eq, Option, Some, None, Result}
 use Rattle.std.proofs.Common.{Ok, Err, IfSome, inl, inr, refl, sym, ap, subst, arith, append_assoc}
-use Rattle.std.proofs.Common.{slice_index_or, nat_lt, nat_le}
+use Rattle.std.proofs.Common.{slice_index_or}
 use Rattle.std.specs.List.{join_with_byte, AllByRecursion}
 use Rattle.std.specs.Char.{is_ascii_digit}
 use Rattle.std.specs.Fmt.{decimal}
@@ -39,14 +39,19 @@ pub record IsJobLine (job : JobRecord) : Type 0 where
   pub arrives : job.release < 10 ^ 10
   pub finishes : IfSome job.finish (λ f. (job.release ≤ f) × (f < 10 ^ 10))
 
--- ---- their texts
+-- ---- their words and texts
+abbrev slice_words : List JobRecord → Slice → List (List ℕ)
+slice_words jobs s =
+    decimal s.start ∷ decimal s.stop ∷ (slice_index_or jobs s.job no_record).name ∷ []
+
 abbrev slice_text : List JobRecord → Slice → List ℕ
-slice_text jobs s = join_with_byte 32
-    (decimal s.start ∷ decimal s.stop ∷ (slice_index_or jobs s.job no_record).name ∷ [])
+slice_text jobs s = join_with_byte 32 (slice_words jobs s)
+
+abbrev job_words : JobRecord → List (List ℕ)
+job_words job = codes "job" ∷ job.name ∷ decimal job.release ∷ finish_words job.finish ∷ []
 
 abbrev job_text : JobRecord → List ℕ
-job_text job =
-    join_with_byte 32 (codes "job" ∷ job.name ∷ decimal job.release ∷ finish_words job.finish ∷ [])
+job_text job = join_with_byte 32 (job_words job)
 
 -- a byte that stands in none of their words
 record IsApart (c : ℕ) : Type 0 where
@@ -60,8 +65,7 @@ space = record {
   name = refl;
   digit = refl;
   dash = refl;
-  job =
-      record { none = (refl, (refl, (refl, tt))) };
+  job = record { none = (refl, (refl, (refl, tt))) };
 }
 
 line_end : IsApart 10
@@ -69,19 +73,17 @@ line_end = record {
   name = refl;
   digit = refl;
   dash = refl;
-  job =
-      record { none = (refl, (refl, (refl, tt))) };
+  job = record { none = (refl, (refl, (refl, tt))) };
 }
 
-finish_lacks : (c : ℕ) (arrival : ℕ) (finish : Option ℕ) → IsApart c
+finish_lacks : {c : ℕ} (arrival : ℕ) (finish : Option ℕ) → IsApart c
     → IfSome finish (λ f. (arrival ≤ f) × (f < 10 ^ 10)) → Lacks c (finish_words finish)
-finish_lacks c arrival None apart is = record { none = (apart.dash, tt) }
-finish_lacks c arrival (Some f) apart is = number_lacks c f apart.digit (omega (arith, is.1))
+finish_lacks arrival None apart is = record { none = (apart.dash, tt) }
+finish_lacks {c} arrival (Some f) apart is = number_lacks c f apart.digit (omega (arith, is.1))
 
-slice_words : (c : ℕ) (jobs : List JobRecord) (s : Slice) → IsApart c → IsSliceLine jobs s
-    → AllByRecursion (λ w. Lacks c w)
-    (decimal s.start ∷ decimal s.stop ∷ (slice_index_or jobs s.job no_record).name ∷ [])
-slice_words c jobs s apart is = (
+slice_lacks : {c : ℕ} {jobs : List JobRecord} {s : Slice} → IsApart c → IsSliceLine jobs s
+    → AllByRecursion (λ w. Lacks c w) (slice_words jobs s)
+slice_lacks {c} {jobs} {s} apart is = (
   number_lacks c s.start apart.digit (omega (arith, is.lasts, is.short)),
   (
     number_lacks c s.stop apart.digit (omega (arith, is.short)),
@@ -89,15 +91,15 @@ slice_words c jobs s apart is = (
   ),
 )
 
-job_words : (c : ℕ) (job : JobRecord) → IsApart c → IsJobLine job → AllByRecursion (λ w. Lacks c w)
-    (codes "job" ∷ job.name ∷ decimal job.release ∷ finish_words job.finish ∷ [])
-job_words c job apart is = (
+job_lacks : {c : ℕ} {job : JobRecord} → IsApart c → IsJobLine job
+    → AllByRecursion (λ w. Lacks c w) (job_words job)
+job_lacks {c} {job} apart is = (
   apart.job,
   (
     name_lacks c job.name apart.name is.named,
     (
       number_lacks c job.release apart.digit (omega (arith, is.arrives)),
-      (finish_lacks c job.release job.finish apart is.finishes, tt),
+      (finish_lacks job.release job.finish apart is.finishes, tt),
     ),
   ),
 )
@@ -119,17 +121,15 @@ slice_kept jobs s is =
 slice_again : (jobs : List JobRecord) (s : Slice) (line : ℕ) → IsSliceLine jobs s
     → trace_row_in line (words (slice_text jobs s)) ≡ Some (row.Slice (slice_row jobs line s))
 slice_again jobs s line is =
-    let lacks = slice_words 32 jobs s space is in
+    let lacks = slice_lacks space is in
     let name : List ℕ = (slice_index_or jobs s.job no_record).name in
-    let cut : words (slice_text jobs s) ≡ decimal s.start ∷ decimal s.stop ∷ name ∷ [] =
-    joined_again 32 (decimal s.start) (decimal s.stop ∷ name ∷ []) lacks.0 lacks.1 in
     let named : is_name name ≡ true = is.named in
-    let lasts : nat_lt s.start s.stop ≡ true = lt-ltb s.start s.stop is.lasts in
-    ap (trace_row_in line) cut ∙ rw (
+    ap (trace_row_in line)
+    (joined_again 32 (decimal s.start) (decimal s.stop ∷ name ∷ []) lacks.0 lacks.1) ∙ rw (
       number_again s.start (omega (arith, is.lasts, is.short)),
       number_again s.stop is.short,
       named,
-      lasts,
+      lt-ltb s.start s.stop is.lasts,
     ) refl
 
 -- the word of a finish
@@ -138,9 +138,9 @@ not_dash f short =
     elim (cases_Bool (bytes_eq (decimal f) (codes "-"))) [
       | inr differ ↦ differ
       | inl same ↦
-          let lacks : Lacks 45 (decimal f) = number_lacks 45 f refl (omega (arith, short)) in
           let dash : Lacks 45 (codes "-") = subst (λ (w : List ℕ). Lacks 45 w)
-          ((bytes_eq-Decides (decimal f) (codes "-")).0 same) lacks in
+          ((bytes_eq-Decides (decimal f) (codes "-")).0 same)
+          (number_lacks 45 f refl (omega (arith, short))) in
           absurd (true≢false dash.none.0)
     ]
 
@@ -148,22 +148,18 @@ finish_again : (arrival : ℕ) (finish : Option ℕ) → IfSome finish
     (λ f. (arrival ≤ f) × (f < 10 ^ 10)) → finish_in arrival (finish_words finish) ≡ Some finish
 finish_again arrival None is = refl
 finish_again arrival (Some f) is =
-    let after : nat_le arrival f ≡ true = le-leb arrival f is.0 in
-    rw (not_dash f is.1, number_again f is.1, after) refl
+    rw (not_dash f is.1, number_again f is.1, le-leb arrival f is.0) refl
 
 job_again : (job : JobRecord) (line : ℕ) → IsJobLine job
     → trace_row_in line (words (job_text job)) ≡ Some (row.Job (job_row line job))
 job_again job line is =
-    let lacks = job_words 32 job space is in
-    let cut : words (job_text job) ≡ codes "job" ∷ job.name ∷ decimal job.release
-    ∷ finish_words job.finish ∷ [] = joined_again 32 (codes "job")
-    (job.name ∷ decimal job.release ∷ finish_words job.finish ∷ []) lacks.0 lacks.1 in
+    let lacks = job_lacks space is in
     let named : is_name job.name ≡ true = is.named in
-    ap (trace_row_in line) cut ∙ rw (
+    ap (trace_row_in line) (joined_again 32 (codes "job")
+    (job.name ∷ decimal job.release ∷ finish_words job.finish ∷ []) lacks.0 lacks.1) ∙ rw (
       named,
       number_again job.release is.arrives,
-      finish_again
-          job.release job.finish is.finishes,
+      finish_again job.release job.finish is.finishes,
     ) refl
 
 -- ---- lines
@@ -196,8 +192,7 @@ pub jobs_again : (jobs : List JobRecord) (line : ℕ) → AllByRecursion IsJobLi
     (kept_from line (lines_of (job_lines jobs))) ≡ Ok (map row.Job (jobs_from line jobs))
 jobs_again [] line each = refl
 jobs_again (job ∷ jobs) line each =
-    let lacks : Lacks 10 (job_text job) = joined_lacks 32 10 (codes "job" ∷ job.name ∷ decimal
-    job.release ∷ finish_words job.finish ∷ []) refl (job_words 10 job line_end each.0) in
+    let lacks = joined_lacks 32 10 (job_words job) refl (job_lacks line_end each.0) in
     let cut : lines_of (job_lines (job ∷ jobs)) ≡ job_text job ∷ lines_of (job_lines jobs) =
     ap lines_of (job_shape job.name (decimal job.release) (finish_words job.finish)
     (job_lines jobs)) ∙ one_more (job_text job) (job_lines jobs) lacks in
@@ -220,8 +215,7 @@ slices_again jobs [] line more each =
     ∙ ap (λ n. ahead [] (rows_from (kept_from n (lines_of more)))) z
 slices_again jobs (s ∷ ss) line more each =
     let name : List ℕ = (slice_index_or jobs s.job no_record).name in
-    let lacks : Lacks 10 (slice_text jobs s) = joined_lacks 32 10 (decimal s.start ∷ decimal s.stop
-    ∷ name ∷ []) refl (slice_words 10 jobs s line_end each.0) in
+    let lacks = joined_lacks 32 10 (slice_words jobs s) refl (slice_lacks line_end each.0) in
     let cut : lines_of (slice_lines jobs (s ∷ ss) ++ more) ≡ slice_text jobs s
     ∷ lines_of (slice_lines jobs ss ++ more) =
     ap lines_of (slice_shape (decimal s.start) (decimal s.stop) name (slice_lines jobs ss) more)

@@ -1,11 +1,10 @@
 -- What the lines of a run say can be spelled, and stands in order.
-use Rattle.std.proofs.Common.{◌≡◌, ◌∙◌, ◌+◌, ◌<◌, ◌≤◌, ◌^◌, ◌⊎◌, ℕ, zero, suc, Bool, true, false}
-use Rattle.std.proofs.Common.{◌||◌, List, [], ◌∷◌, ◌++◌, map, length, Option, Some, None, Result}
-use Rattle.std.proofs.Common.{Ok, IfSome, inl, inr, refl, sym, ap, subst, arith, nat_lt}
-use Rattle.std.specs.List.{AllByRecursion, list_any}
-use Rattle.std.specs.Option.{option_map, option_or}
-use Rattle.std.proofs.lemmas.Bool.{cases_Bool, cases_eq, cases_lt, le-leb, le-ltb, ltb-false}
-use Rattle.std.proofs.lemmas.Bool.{or_parts, true≢false}
+use Rattle.std.proofs.Common.{◌≡◌, ◌∙◌, ◌+◌, ◌<◌, ◌≤◌, ◌^◌, ◌⊎◌, ℕ, zero, suc, Bool}
+use Rattle.std.proofs.Common.{List, [], ◌∷◌, ◌++◌, map, length, Option, Some, None, Result}
+use Rattle.std.proofs.Common.{Ok, IfSome, inl, inr, refl, sym, ap, subst, arith, cond}
+use Rattle.std.specs.List.{AllByRecursion}
+use Rattle.std.proofs.lemmas.Bool.{cases_cond, cases_eq, cases_lt, le-ltb, leb-false, lt-ltb}
+use Rattle.std.proofs.lemmas.Option.{none-some}
 use Rattle.std.proofs.lemmas.Slice.Eq.{bytes_eq-Decides}
 use Rattle.task_sheet.specs.Name.{IsName}
 use Rattle.task_sheet.specs.Sheet.{Task, task_at}
@@ -14,13 +13,12 @@ use Rattle.task_sheet.proofs.TaskLaws.{valid_at}
 use Rattle.ceiling_kernel.specs.Tick.{Job, Node, executed_before, job_at, node_in, picked}
 use Rattle.ceiling_kernel.specs.Trace.{finish_before}
 use Rattle.ceiling_kernel.specs.Readings.{AreLongestRuns}
-use Rattle.ceiling_kernel.specs.Releases.{is_outside_cost, is_past, is_too_late, is_too_soon}
-use Rattle.ceiling_kernel.specs.Releases.{is_unknown, is_unsorted, first_where, jobs_of, no_release}
-use Rattle.ceiling_kernel.specs.Releases.{ready_of, refuse_if, release_at, task_number}
+use Rattle.ceiling_kernel.specs.Releases.{is_past}
+use Rattle.ceiling_kernel.specs.Releases.{jobs_of, no_release}
+use Rattle.ceiling_kernel.specs.Releases.{ready_of, release_at, task_number}
 use Rattle.ceiling_kernel.specs.Runs.{Runs, record_of, records_from}
 use Rattle.ceiling_kernel.specs.declared.trace.JobRecord.{JobRecord}
 use Rattle.ceiling_kernel.specs.declared.trace.Release.{Release}
-use Rattle.ceiling_kernel.specs.declared.trace.RunFault.{RunFault}
 use Rattle.ceiling_kernel.specs.declared.trace.RunFault.TheVariants as fault
 use Rattle.ceiling_kernel.specs.declared.trace.Slice.{Slice}
 use Rattle.ceiling_kernel.specs.declared.trace.Trace.{Trace}
@@ -43,7 +41,7 @@ use Rattle.trace_text.specs.declared.rows.TraceRow.{TraceRow}
 use Rattle.trace_text.specs.declared.rows.TraceRow.TheVariants as row
 use Rattle.trace_text.specs.declared.rows.TraceSlice.{TraceSlice}
 use Rattle.kept_promises.specs.Rows.{Say, jobs_from, slices_from}
-use Rattle.kept_promises.proofs.JobLaws.{named}
+use Rattle.kept_promises.proofs.SeenLaws.{named}
 use Rattle.printed_runs.specs.RunRows.{rows_of}
 use Rattle.printed_runs.specs.TraceLines.{job_lines, trace_lines}
 use Rattle.printed_runs.proofs.LineLaws.{IsJobLine, IsSliceLine, jobs_again, slices_again}
@@ -74,8 +72,7 @@ apart : (run : ℕ → Option ℕ) (until : ℕ) (records : List JobRecord) (lin
     → overlap_from from (slices_from records line ss) ≡ None
 apart run until records line from [] h = refl
 apart run until records line from (s ∷ ss) h =
-    let later : nat_lt s.start from ≡ false = le-ltb s.start from h.0 in
-    rw later (apart run until records (line + 1) s.stop ss h.6)
+    rw (le-ltb s.start from h.0) (apart run until records (line + 1) s.stop ss h.6)
 
 -- no job arrives before the one before it
 rising : (node : Node) (jobs : List Job) (until line k earliest : ℕ) (rs : List Release)
@@ -84,23 +81,10 @@ rising : (node : Node) (jobs : List Job) (until line k earliest : ℕ) (rs : Lis
     → unsorted_from earliest (jobs_from line (records_from node jobs until k rs)) ≡ None
 rising node jobs until line k earliest [] from sorted = refl
 rising node jobs until line k earliest (r ∷ rs) from sorted =
-    let later : nat_lt r.time earliest ≡ false = le-ltb r.time earliest (from 0 (omega arith)) in
-    rw later (rising node jobs until (line + 1) (k + 1) r.time rs
+    rw (le-ltb r.time earliest (from 0 (omega arith))) (rising node jobs until (line + 1) (k + 1)
+    r.time rs
     (λ j lt. sorted 0 (suc j) (omega arith) (omega (arith, lt)))
     (λ i j le lt. sorted (suc i) (suc j) (omega (arith, le)) (omega (arith, lt))))
-
--- ---- the end of a run
-last : (a b : Option RunFault) → option_or a b ≡ None → b ≡ None
-last None b e = e
-last (Some x) b e = absurd (cc)
-
-first : (a b : Option RunFault) → option_or a b ≡ None → a ≡ None
-first None b e = refl
-first (Some x) b e = absurd (cc)
-
-not_refused : (b : Bool) (r : RunFault) → refuse_if b r ≡ None → b ≡ false
-not_refused true r e = absurd (cc)
-not_refused false r e = refl
 
 module _ (U : List Task) (order : List ℕ) (rs : List Release) (until : ℕ) (trace : Trace)
     (set : IsTaskSet U) (ran : Runs (node_in U order) rs until (Ok trace)) where
@@ -117,34 +101,23 @@ module _ (U : List Task) (order : List ℕ) (rs : List Release) (until : ℕ) (t
   is_accepted = accepted U rs until ran.0
 
   until_short : until ≤ 60000000
-  until_short =
-      let b = last (option_map (λ k. fault.Unsorted (k + 1))
-      (first_where (is_unsorted rs) (length rs))) _ ran.0 in
-      let c = last (option_map (λ k. fault.UnknownTask (k + 1))
-      (first_where (is_unknown U rs) (length rs))) _ b in
-      let l = last (option_map (λ k. fault.TooSoon (k + 1))
-      (first_where (is_too_soon U (jobs_of U rs)) (length rs))) _ c in
-      let o = last (option_map (λ k. fault.TooLate (k + 1))
-      (first_where (is_too_late U rs) (length rs))) _ l in
-      let d = last (option_map (λ k. fault.OutsideCost (k + 1))
-      (first_where (is_outside_cost U rs) (length rs))) _ o in
-      let e = first (refuse_if (nat_lt 60000000 until || list_any (is_past until) rs)
-      fault.PastHorizon) _ d in
-      ltb-false 60000000 until
-      (or_parts (nat_lt 60000000 until) (list_any (is_past until) rs) (not_refused
-      (nat_lt 60000000 until || list_any (is_past until) rs) fault.PastHorizon e)).0
+  until_short = elim (cases_lt 60000000 until) [
+    | inl past ↦ absurd (none-some fault.PastHorizon (sym (rw (
+      is_accepted.sorted,
+      is_accepted.known,
+      is_accepted.spaced,
+      is_accepted.prompt,
+      is_accepted.in_cost,
+      lt-ltb 60000000 until past,
+    ) at ran.0)))
+    | inr within ↦ within
+  ]
 
   -- ---- a job
-  ready_from : (j : ℕ) → j < length rs → (job_at jobs j).ready ≡ ready_of (release_at rs j)
-  ready_from j lt = ap (λ (x : Job). x.ready) (job_is U rs j lt)
-
   ready_in : (j : ℕ) → j < length rs → ready_of (release_at rs j) < until
   ready_in j lt =
-      elim (cases_lt (ready_of (release_at rs j)) until) [
-        | inl early ↦ early
-        | inr past ↦ absurd (true≢false (sym (le-leb until (ready_of (release_at rs j)) past)
-            ∙ none_passes (is_past until) rs j no_release lt is_accepted.before))
-      ]
+      leb-false until (ready_of (release_at rs j))
+      (none_passes (is_past until) rs j no_release lt is_accepted.before)
 
   -- a job that has executed was ready
   began : (t j : ℕ) → 0 < executed_before node jobs t j → (job_at jobs j).ready ≤ t
@@ -168,7 +141,11 @@ module _ (U : List Task) (order : List ℕ) (rs : List Release) (until : ℕ) (t
         | Some f ↦ λ is.
             let some = some_executes node rs until j ran.0 lt in
             let ends = finish_is node jobs j until f some is in (
-              omega (arith, began f j (omega (arith, some, ends.1.after)), ready_from j lt),
+              omega (
+                arith,
+                began f j (omega (arith, some, ends.1.after)),
+                ap (λ (x : Job). x.ready) (job_is U rs j lt),
+              ),
               omega (arith, ends.0, until_short),
             )
       ] refl
@@ -196,16 +173,14 @@ module _ (U : List Task) (order : List ℕ) (rs : List Release) (until : ℕ) (t
       → AllByRecursion IsJobLine (records_from node jobs until k more)
   each_record k [] each = tt
   each_record k (r ∷ more) each = (
-    (let z : k + 0 ≡ k = omega arith in
-        subst (λ n. IsJobLine (record_of node jobs until n r)) z (each 0 (omega arith))),
-    each_record (k + 1) more
-        (λ j lt. (let e : k + suc j ≡ k + 1 + j = omega arith in subst (λ n. IsJobLine
-        (record_of node jobs until n (release_at more j))) e (each (suc j) (omega (arith, lt))))),
+    (let z : k + 0 ≡ k = omega arith in rw z at (each 0 (omega arith))),
+    each_record (k + 1) more (λ j lt. (let e : k + suc j ≡ k + 1 + j = omega arith in
+        rw e at (each (suc j) (omega (arith, lt))))),
   )
 
   each_job : AllByRecursion IsJobLine records
-  each_job = each_record 0 rs (λ j lt. (let e : j ≡ 0 + j = omega arith in
-      subst (λ n. IsJobLine (record_of node jobs until n (release_at rs j))) e (job_line j lt)))
+  each_job = each_record 0 rs
+      (λ j lt. (let e : 0 + j ≡ j = omega arith in rw e (job_line j lt)))
 
   each_slice : (from : ℕ) (ss : List Slice) → AreLongestRuns (picked node jobs) from until ss
       → AllByRecursion (λ s. IsSliceLine records s) ss
@@ -257,26 +232,16 @@ module _ (U : List Task) (order : List ℕ) (rs : List Release) (until : ℕ) (t
       0 (jobs_from (1 + length trace.slices.items) js) ≡ None) (sym ran.2.jobs)
       (rising node jobs until (1 + length trace.slices.items) 0 0 rs (λ j lt. omega arith)
       (sorted_from rs is_accepted.sorted)) in
-      let here : trace_fault (trace_lines trace) ≡ rows_fault (Ok (rows_of trace)) =
-      ap rows_fault read_back in
-      elim (cases_Bool (are_too_many said_slices said_jobs)) [
-        | inl many ↦ inr (here ∙ rw (
-          slices_said said_slices said_jobs,
-          jobs_said said_slices
-              said_jobs,
-          disjoint,
-          sorted,
-          many,
-        ) refl)
-        | inr few ↦ inl (here ∙ rw (
-          slices_said said_slices said_jobs,
-          jobs_said said_slices
-              said_jobs,
-          disjoint,
-          sorted,
-          few,
-        ) refl)
-      ]
+      let many : Bool = are_too_many said_slices said_jobs in
+      let said : trace_fault (trace_lines trace)
+      ≡ cond many (Some trace_fault_is.TooManyLines) None = ap rows_fault read_back ∙ rw (
+        slices_said said_slices said_jobs,
+        jobs_said said_slices said_jobs,
+        disjoint,
+        sorted,
+      ) in
+      elim (cases_cond many (Some trace_fault_is.TooManyLines) None
+      (trace_fault (trace_lines trace)) said) [ inl many ↦ inr many | inr none ↦ inl none ]
 
   -- and what it is read as says the trace
   pub says : (lines : TraceLines) → IsTraceIn (trace_lines trace) lines → Say 1 lines trace

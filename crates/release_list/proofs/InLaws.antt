@@ -84,8 +84,8 @@ pub to_map : {X Y : Type 0} (f : X → Y) {x : X} {xs : List X} → In x xs → 
 to_map f here = here
 to_map f (there at) = there (to_map f at)
 
-pub from_map : {X Y : Type 0} (f : X → Y) (xs : List X) {y : Y} → In y (map f xs) → (x : X) × In x xs
-    × (f x ≡ y)
+pub from_map : {X Y : Type 0} (f : X → Y) (xs : List X) {y : Y} → In y (map f xs)
+    → (x : X) × In x xs × (f x ≡ y)
 from_map f [] at = elim at [ ]
 from_map f (x ∷ xs) here = (x, here, refl)
 from_map f (x ∷ xs) (there at) = (let m = from_map f xs at in (m.0, there m.1, m.2))

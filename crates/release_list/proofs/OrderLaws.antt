@@ -79,7 +79,10 @@ module _ (number period : Release → ℕ) where
           | inl is ↦ absurd (omega (arith, ap (λ r. r.time) is))
           | inr either ↦ elim either [
             | inl r ↦ elim r [ inl less ↦ absurd (omega arith) | inr s ↦ s.2 ]
-            | inr r ↦ elim r [ inl less ↦ absurd (omega arith) | inr s ↦ absurd (omega (arith, s.1)) ]
+            | inr r ↦ elim r [
+              | inl less ↦ absurd (omega arith)
+              | inr s ↦ absurd (omega (arith, s.1))
+            ]
           ]
         ];
       })

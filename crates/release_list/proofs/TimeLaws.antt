@@ -62,7 +62,8 @@ none_refused until n within few = rw (le-ltb 60000000 until within, le-ltb 10000
 pub longer : (list more : ℕ → List Release) → ((n : ℕ) → list (suc n) ≡ list n ++ more n)
     → (k n : ℕ) → k ≤ n → length (list k) ≤ length (list n)
 longer list more step k zero le =
-    (let e : length (list k) ≡ length (list 0) = ap (λ m. length (list m)) (omega arith) in omega arith)
+    (let e : length (list k) ≡ length (list 0) = ap (λ m. length (list m)) (omega arith) in
+    omega arith)
 longer list more step k (suc n) le = elim (cases_eq k (suc n)) [
   | inl same ↦ rw same (omega arith)
   | inr other ↦ omega (
@@ -85,7 +86,8 @@ none_at (s ∷ ss) time until h =
     rw off (none_at ss time until (λ i lt. h (suc i) (omega arith)))
 
 -- those of the streams before a place stand behind others
-pub record ArePushed (ss : List Stream) (time until : ℕ) (old items : List Release) (i : ℕ) : Type 0 where
+pub record ArePushed (ss : List Stream) (time until : ℕ) (old items : List Release)
+    (i : ℕ) : Type 0 where
   pub rest : items ++ releases_at (drop i ss) time until ≡ old ++ releases_at ss time until
   pub few : length items ≤ 10000
 
@@ -113,7 +115,8 @@ module _ {ss : List Stream} {time until : ℕ} {old items : List Release} {i : �
       ≡ Some fault.TooMany
   too_many on full =
       let more = rw on at next in
-      let long = length-append items (release_of time s ∷ releases_at (drop (i + 1) ss) time until) in
+      let long = length-append items (release_of time s ∷ releases_at (drop (i + 1) ss) time until)
+      in
       rw (lt-ltb 10000 (length (old ++ releases_at ss time until))
       (omega (arith, ap length more, long))) refl
 

@@ -1,4 +1,5 @@
--- A list that a kernel doesn't refuse: each of its releases is a legal job, and they come by time and a period apart.
+-- A list that a kernel doesn't refuse: each of its releases is a legal job, and they come by time
+-- and a period apart.
 use Rattle.std.proofs.Common.{◌≡◌, ℕ, zero, suc, ◌+◌, ◌<◌, ◌≤◌, inl, inr, Bool, false, ◌==◌, nat_lt}
 use Rattle.std.proofs.Common.{Option, Some, None, List, length, refl, ◌∙◌, ap, arith}
 use Rattle.std.specs.Prelude.{is_none, unwrap_or}

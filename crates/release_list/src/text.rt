@@ -1,5 +1,5 @@
 //! The lines of a release list.
-ghost use Rattle.std.specs.Prelude.{◌≡◌, ◌++◌, OnOk, IfOk, string_bytes};
+ghost use Rattle.std.specs.Prelude.{◌≡◌, ◌++◌, OnOk, IfOk, codes, string_bytes};
 ghost use Rattle.release_list.specs.Text.{late_words, runs_words, list_lines, release_line, release_lines};
 
 use ceiling_kernel::Release;
@@ -15,13 +15,14 @@ fn push_late(text: &mut String, late: u64) -> Result<(), AllocError>
     write!(text, " {late}")
 }
 
-// For how long its job executes, where it says so.
+// For how long its job executes, where it says so, and the end of the line.
 fn push_runs(text: &mut String, runs: Option<u64>) -> Result<(), AllocError>
-    ensures { OnOk result (string_bytes text.new ≡ string_bytes text.old ++ runs_words runs) }
+    ensures { OnOk result
+        (string_bytes text.new ≡ string_bytes text.old ++ runs_words runs ++ codes "\n") }
 {
     match runs {
-        Some(runs) => write!(text, " runs {runs}"),
-        None => Ok(()),
+        Some(runs) => writeln!(text, " runs {runs}"),
+        None => text.push_str("\n"),
     }
 }
 
@@ -33,8 +34,7 @@ fn push_release(text: &mut String, release: Release) -> Result<(), AllocError>
     let name = release.name;
     write!(text, "{time} {name}")?;
     push_late(text, release.late)?;
-    push_runs(text, release.runs)?;
-    text.push_str("\n")
+    push_runs(text, release.runs)
 }
 
 // A line for each release.
