@@ -10,7 +10,7 @@ use lines::{LineRow, TextPlace, Words, name_of, next_kept, number_of, read_lines
 use std::alloc::{AllocError, Global};
 
 /// Why a text is no release list, or out of memory. Lines are counted from 1.
-#[derive(Clone, Copy)]
+#[derive(Clone, Copy, Debug)]
 pub enum TextFault {
     /// The line is not one that may stand there; one past the last where the line `until N` is missing.
     BadLine { line: u64 },
