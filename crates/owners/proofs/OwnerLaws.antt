@@ -1,15 +1,12 @@
 -- The owners of the documents that were read so far.
-use Rattle.std.proofs.Common.{◌≡◌, ◌∙◌, ◌++◌, ℕ, List, [], ◌∷◌, inl, inr, Err, refl, sym, ap}
+use Rattle.std.proofs.Common.{◌≡◌, ◌∙◌, ◌++◌, ℕ, List, [], ◌∷◌, refl, sym, ap}
 use Rattle.std.proofs.Common.{append_assoc, append-nil}
-use Rattle.task_sheet.specs.ReadsSet.{ReadsSet}
 use Rattle.task_sheet.specs.declared.read.Document.{Document}
-use Rattle.task_sheet.specs.declared.read.SetFault.{SetFault}
-use Rattle.task_sheet.specs.declared.read.SetFault.TheVariants as fault
-use Rattle.teams.specs.Gathering.{AreGathered, HasNoHead, IsFirstPart}
+use Rattle.teams.specs.Gathering.{AreGathered, IsFirstPart}
 use Rattle.teams.specs.Owned.{TeamSetData}
 use Rattle.teams.specs.declared.reading.Part.{Part}
 use Rattle.teams.proofs.TeamLaws.{gathered_more}
-use Rattle.owners.specs.Owners.{AreOwnersIn, IsDocumentOf, IsNoDocument, owned_by, owners_of}
+use Rattle.owners.specs.Owners.{IsDocumentOf, owned_by, owners_of}
 use Rattle.owners.specs.declared.owner.Owner.{Owner}
 
 -- these have the tasks of the documents that a text begins with, up to what stands behind them
@@ -27,8 +24,7 @@ owners_more (r ∷ sets) s = ap (λ (l : List Owner). owned_by r.team r.set ++ l
 -- one document more
 pub gathers_more : (text rest after : List ℕ) (owners more : List Owner) (p : Part) (d : Document)
     → Gathers text rest owners → IsFirstPart rest p.team p.text.now after → IsDocumentOf p d
-    → more ≡ owners ++ owned_by p.team d.set
-    → Gathers text after more
+    → more ≡ owners ++ owned_by p.team d.set → Gathers text after more
 gathers_more text rest after owners more p d all first says is =
     let s : TeamSetData = record {
       team = p.team;
@@ -43,19 +39,3 @@ gathers_more text rest after owners more p d all first says is =
       are = is ∙ ap (λ (l : List Owner). l ++ owned_by p.team d.set) all.are
           ∙ sym (owners_more all.sets s);
     }
-
--- nothing stands behind them that is a set
-pub ends : (text rest : List ℕ) (owners : List Owner) → Gathers text rest owners → HasNoHead rest
-    → AreOwnersIn text owners
-ends text rest owners all none = (all.sets, rest, all.gathered, inl none, all.are)
-
-pub ends_at : (text rest after : List ℕ) (owners : List Owner) (p : Part) → Gathers text rest owners
-    → IsFirstPart rest p.team p.text.now after → IsNoDocument p → AreOwnersIn text owners
-ends_at text rest after owners p all first none =
-    (all.sets, rest, all.gathered, inr (p, after, first, none), all.are)
-
--- a document that is refused, and not out of memory, is no set
-pub refused : (p : Part) (e : SetFault) → (e ≡ fault.OutOfMemory → ⊥) → ReadsSet p.text.now (Err e)
-    → IsNoDocument p
-refused p fault.OutOfMemory never why = absurd (never refl)
-refused p e never why = (e, (refl, why))

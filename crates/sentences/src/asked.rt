@@ -1,25 +1,22 @@
 //! That what a call asks for isn't there: a task, or a part of a run.
 
-use crate::lists::until_of;
+use crate::lists::{task_named, until_of};
 use crate::told::{Told, between};
 use std::alloc::Global;
-use task_sheet::{Name, TaskSet};
+use task_sheet::TaskSet;
 
 // The most tasks of a set that a sentence names.
 const MOST_NAMED: usize = 8;
 
 // Whether a task of the set has the name that a word says.
 fn has_task(set: &TaskSet, word: &str) -> bool {
-    match Name::read(word.as_bytes()) {
-        Ok(name) => set.find(name).is_some(),
-        Err(_) => false,
-    }
+    task_named(Some(set), word.as_bytes()).is_some()
 }
 
 // That no task of the set has the name, and which there are by rank, with how many more.
 fn no_task(alloc: Global, set: &TaskSet, word: &str) -> Option<String> {
     let mut told = Told::new(alloc);
-    told.quoted("no task is called ", Some(word.as_bytes()));
+    told.quoted("no task is called ", word.as_bytes());
     if set.is_empty() {
         told.words(": the set has none");
         return told.whole();
@@ -29,8 +26,7 @@ fn no_task(alloc: Global, set: &TaskSet, word: &str) -> Option<String> {
         told.name(between(i), sheet.name());
     }
     if set.len() > MOST_NAMED {
-        told.number(" and ", (set.len() - MOST_NAMED) as u64);
-        told.words(" more");
+        told.numbers(" and {} more", &[(set.len() - MOST_NAMED) as u64]);
     }
     told.whole()
 }
@@ -57,8 +53,10 @@ pub fn of_tasks(alloc: Global, set: &TaskSet, words: &str) -> Option<String> {
 /// What a person is told where nothing of a list's run lies in the window that is asked for; none where memory runs out.
 pub fn of_window(alloc: Global, bytes: &[u8], from: usize, to: Option<usize>) -> Option<String> {
     let mut told = Told::new(alloc);
-    told.number("its run ends at ", until_of(bytes));
-    told.number(": nothing of it lies from ", from as u64);
+    told.numbers(
+        "its run ends at {}: nothing of it lies from {}",
+        &[until_of(bytes), from as u64],
+    );
     match to {
         Some(to) => {
             told.number(" to ", to as u64);

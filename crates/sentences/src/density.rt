@@ -52,8 +52,9 @@ pub fn greatest_until(set: &TaskSet) -> u64 {
 /// What a person is told where the densest list has too many releases; none where memory runs out.
 pub fn of_density(alloc: Global, until: u64) -> Option<String> {
     let mut told = Told::new(alloc);
-    told.number("more than ", RELEASE_LIMIT as u64);
-    told.number(" releases; UNTIL may be ", until);
-    told.words(" at most");
+    told.numbers(
+        "more than {} releases; UNTIL may be {} at most",
+        &[RELEASE_LIMIT as u64, until],
+    );
     told.whole()
 }

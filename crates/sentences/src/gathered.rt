@@ -8,7 +8,7 @@ use crate::told::Told;
 use overheads::PadFault;
 use std::alloc::Global;
 use task_sheet::{Name, Node, SetFault, read_document};
-use teams::{TeamsFault, first_part, node_part};
+use teams::{Part, TeamsFault, first_part, node_part};
 
 /// What a person is told of the fault of a set's text, from its bytes; none where memory runs out. What is said of a
 /// team's document names it as a file, `TEAM.toml`, and its own lines; what is said of the node's, `node.toml`.
@@ -69,8 +69,10 @@ fn tell_head(told: &mut Told, bytes: &[u8], part: usize) {
             rest = after;
         }
     }
-    told.number("part ", part as u64);
-    told.words(": no line `#% TEAM COUNT` that so many bytes follow");
+    told.numbers(
+        "part {}: no line `#% TEAM COUNT` that so many bytes follow",
+        &[part as u64],
+    );
     tell_unseen(told, rest, 1);
 }
 
@@ -100,19 +102,19 @@ fn is_sought(alloc: Global, team: Name, text: &[u8], sought: &Sought) -> bool {
     }
 }
 
-// What stands from the first document on that is sought; nothing where there is none.
-fn from_sought<'a>(alloc: Global, bytes: &'a [u8], sought: &Sought) -> &'a [u8] {
+// The first document that is sought.
+fn first_sought<'a>(alloc: Global, bytes: &'a [u8], sought: &Sought) -> Option<Part<'a>> {
     let mut rest = bytes;
     while !rest.is_empty() {
         let Some((part, after)) = first_part(rest) else {
-            return b"";
+            return None;
         };
         if is_sought(alloc, part.team, part.text, sought) {
-            return rest;
+            return Some(part);
         }
         rest = after;
     }
-    b""
+    None
 }
 
 // Whose document what follows is said of.
@@ -123,8 +125,8 @@ fn tell_file(told: &mut Told, team: Name) {
 
 // The fault of a team's document.
 fn tell_document(told: &mut Told, alloc: Global, bytes: &[u8], team: Name, fault: SetFault) {
-    match first_part(from_sought(alloc, bytes, &Sought::Faulty(team))) {
-        Some((part, _)) => {
+    match first_sought(alloc, bytes, &Sought::Faulty(team)) {
+        Some(part) => {
             tell_file(told, team);
             tell_set(told, alloc, part.text, fault);
         }
@@ -144,15 +146,15 @@ fn node_said(alloc: Global, document: &[u8]) -> Option<Node> {
 
 // Documents of teams without room for what the node takes, of the one with the task; another one may say the node.
 fn tell_padded_teams(told: &mut Told, alloc: Global, bytes: &[u8], fault: PadFault) {
-    let node = match first_part(from_sought(alloc, bytes, &Sought::Node)) {
-        Some((part, _)) => node_said(alloc, part.text),
+    let node = match first_sought(alloc, bytes, &Sought::Node) {
+        Some(part) => node_said(alloc, part.text),
         None => None,
     };
     let (Some(node), Some(task)) = (node, task_of(&fault)) else {
         return told.give_up();
     };
-    match first_part(from_sought(alloc, bytes, &Sought::Task(task))) {
-        Some((part, _)) => {
+    match first_sought(alloc, bytes, &Sought::Task(task)) {
+        Some(part) => {
             tell_file(told, part.team);
             tell_padding(told, alloc, part.text, &node, &fault);
         }

@@ -28,8 +28,8 @@ pub fn of_release_line(alloc: Global, bytes: &[u8], line: u64) -> Option<String>
 }
 
 // Whether a line has a word at a place.
-fn has_word(line: &[u8], place: usize, word: &[u8]) -> bool {
-    word_at(line, place).unwrap_or(&[]) == word
+fn has_word(line: &[u8], place: u64, word: &[u8]) -> bool {
+    word_at(line, place) == word
 }
 
 // Whether a line has a place in a release list: it isn't skipped, and sets no thread or mutex, as those do that may stand
@@ -65,14 +65,13 @@ pub fn of_run(
     let mut told = Told::new(alloc);
     match fault {
         RunFault::PastHorizon => tell_horizon(&mut told, bytes),
-        RunFault::TooMany => {
-            told.number("more than ", RELEASE_LIMIT as u64);
-            told.words(" releases");
-        }
+        RunFault::TooMany => told.numbers("more than {} releases", &[RELEASE_LIMIT as u64]),
         RunFault::Overrun { name, time } => {
             told.name("a job of ", name);
-            told.number(" becomes ready at ", time);
-            told.words(", while the one before it isn't finished");
+            told.numbers(
+                " becomes ready at {}, while the one before it isn't finished",
+                &[time],
+            );
         }
         RunFault::Unsorted { place } => {
             tell_release(&mut told, bytes, place, " arrives before the one above it");
@@ -103,28 +102,31 @@ fn tell_release(told: &mut Told, bytes: &[u8], place: usize, wrong: &str) {
 // The line of a release; an empty one where there is none.
 fn release_at(bytes: &[u8], place: usize) -> &[u8] {
     match line_of_place(bytes, place) {
-        Some(line) => line_at(bytes, line).unwrap_or(&[]),
+        Some(line) => line_at(bytes, line),
         None => &[],
     }
 }
 
-// The task of a release, where the set is at hand.
-fn task_of<'a>(set: Option<&'a TaskSet>, line: &[u8]) -> Option<&'a Sheet> {
+/// The task that a word names, where the set is at hand.
+pub(crate) fn task_named<'a>(set: Option<&'a TaskSet>, word: &[u8]) -> Option<&'a Sheet> {
     let set = set?;
-    let name = name_of(word_at(line, 1)?)?;
-    set.get(set.find(name)?)
+    set.get(set.find(name_of(word)?)?)
 }
 
-// When the release before this place arrives that has the name of the one there.
-fn arrival_before(bytes: &[u8], place: usize) -> Option<u64> {
-    let last = line_of_place(bytes, place)?;
-    let name = word_at(line_at(bytes, last)?, 1)?;
-    let mut arrival = None;
-    let mut number = 0u64;
+// When the release before this place arrives that has the name of the one there; 0 where there is none.
+fn arrival_before(bytes: &[u8], place: usize) -> u64 {
+    let name = word_at(release_at(bytes, place), 1);
+    let mut arrival = 0u64;
+    let mut left = place;
     for line in bytes.split(is_line_end) {
-        number = number.saturating_add(1);
-        if number < last && is_listed(line) && has_word(line, 1, name) {
-            arrival = Some(time_at(line, 0));
+        if is_listed(line) {
+            if left == 0 {
+                return arrival;
+            }
+            left -= 1;
+            if has_word(line, 1, name) {
+                arrival = time_at(line, 0);
+            }
         }
     }
     arrival
@@ -135,9 +137,11 @@ fn tell_soon(told: &mut Told, bytes: &[u8], set: Option<&TaskSet>, place: usize)
     let wrong = " arrives less than the task's period after the one before it";
     tell_release(told, bytes, place, wrong);
     let line = release_at(bytes, place);
-    told.number(": at ", time_at(line, 0));
-    told.value(", that one at ", arrival_before(bytes, place));
-    if let Some(task) = task_of(set, line) {
+    told.numbers(
+        ": at {}, that one at {}",
+        &[time_at(line, 0), arrival_before(bytes, place)],
+    );
+    if let Some(task) = task_named(set, word_at(line, 1)) {
         told.number(", period ", task.period());
     }
 }
@@ -148,7 +152,7 @@ fn tell_late(told: &mut Told, bytes: &[u8], set: Option<&TaskSet>, place: usize)
     tell_release(told, bytes, place, wrong);
     let line = release_at(bytes, place);
     told.number(": late ", time_at(line, 2));
-    if let Some(task) = task_of(set, line) {
+    if let Some(task) = task_named(set, word_at(line, 1)) {
         told.number(", jitter ", task.jitter());
     }
 }
@@ -165,14 +169,14 @@ fn tell_cost(told: &mut Told, bytes: &[u8], set: Option<&TaskSet>, place: usize)
     };
     tell_release(told, bytes, place, wrong);
     told.number(": runs ", runs);
-    if let Some(task) = task_of(set, line) {
+    if let Some(task) = task_named(set, word_at(line, 1)) {
         told.number(", cost ", task.cost());
     }
 }
 
 // The number of a word of a line; 0 where there is none.
-fn time_at(line: &[u8], place: usize) -> u64 {
-    number_of(word_at(line, place).unwrap_or(&[])).unwrap_or(0)
+fn time_at(line: &[u8], place: u64) -> u64 {
+    number_of(word_at(line, place)).unwrap_or(0)
 }
 
 /// The time of the line until.
@@ -200,10 +204,7 @@ fn line_ready_at(bytes: &[u8], until: u64) -> Option<u64> {
 fn tell_horizon(told: &mut Told, bytes: &[u8]) {
     let until = until_of(bytes);
     if until > HORIZON {
-        told.number("until ", until);
-        told.number(" is above ", HORIZON);
-        told.words(" microseconds");
-        return;
+        return told.numbers("until {} is above {} microseconds", &[until, HORIZON]);
     }
     if let Some(line) = line_ready_at(bytes, until) {
         tell_line(told, bytes, line, ": ");
@@ -216,35 +217,60 @@ fn tell_horizon(told: &mut Told, bytes: &[u8]) {
 /// What a person is told of a fault of settings; none where memory runs out.
 pub fn of_settings(alloc: Global, bytes: &[u8], fault: SettingsFault) -> Option<String> {
     let mut told = Told::new(alloc);
-    let (line, wrong) = match fault {
+    match fault {
         SettingsFault::BadLine { line } => {
             let wanted =
                 " has to be thread NAME NUMBER or mutex NAME NUMBER, with a number from 1 to 1000000";
             tell_bad_line(&mut told, bytes, line, wanted);
-            return told.whole();
         }
-        SettingsFault::UnknownTask { line } => (line, ": the set has no task of that name"),
-        SettingsFault::UnknownLock { line } => (line, ": no task of the set uses that lock"),
-        SettingsFault::SameTask { line } => (line, ": a thread line before it has that name"),
-        SettingsFault::SameLock { line } => (line, ": a mutex line before it has that name"),
-        SettingsFault::SameNumber { line } => (line, ": a thread line before it has that number"),
+        SettingsFault::UnknownTask { line } => {
+            tell_line(&mut told, bytes, line, ": the set has no task of that name");
+        }
+        SettingsFault::UnknownLock { line } => {
+            tell_line(
+                &mut told,
+                bytes,
+                line,
+                ": no task of the set uses that lock",
+            );
+        }
+        SettingsFault::SameTask { line } => {
+            tell_line(
+                &mut told,
+                bytes,
+                line,
+                ": a thread line before it has that name",
+            );
+        }
+        SettingsFault::SameLock { line } => {
+            tell_line(
+                &mut told,
+                bytes,
+                line,
+                ": a mutex line before it has that name",
+            );
+        }
+        SettingsFault::SameNumber { line } => {
+            tell_line(
+                &mut told,
+                bytes,
+                line,
+                ": a thread line before it has that number",
+            );
+        }
         SettingsFault::MissingTask { name } => {
             told.name("no line thread ", name);
             told.words(" NUMBER");
-            return told.whole();
         }
         SettingsFault::MissingLock { name } => {
             told.name("no line mutex ", name);
             told.words(" NUMBER; there is one for each lock or for none");
-            return told.whole();
         }
         SettingsFault::WrongCeiling { name, number } => {
             tell_ceiling(&mut told, bytes, name, number);
-            return told.whole();
         }
-        SettingsFault::OutOfMemory => return None,
-    };
-    tell_line(&mut told, bytes, line, wrong);
+        SettingsFault::OutOfMemory => told.give_up(),
+    }
     told.whole()
 }
 
@@ -266,6 +292,8 @@ fn tell_ceiling(told: &mut Told, bytes: &[u8], lock: Name, number: u64) {
         Some(line) => tell_line(told, bytes, line, ""),
         None => told.name("mutex ", lock),
     }
-    told.number(" isn't at ", number);
-    told.words(", the number of the highest thread that uses it");
+    told.numbers(
+        " isn't at {}, the number of the highest thread that uses it",
+        &[number],
+    );
 }

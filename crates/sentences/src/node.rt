@@ -27,8 +27,7 @@ fn line_of_team(bytes: &[u8], team: Name) -> Option<u64> {
 fn tell_place(told: &mut Told, bytes: &[u8], team: Name) {
     told.words("node.toml: ");
     if let Some(line) = line_of_team(bytes, team) {
-        told.number("line ", line);
-        told.words(": ");
+        told.numbers("line {}: ", &[line]);
     }
 }
 
@@ -36,7 +35,10 @@ fn tell_place(told: &mut Told, bytes: &[u8], team: Name) {
 
 // The table of all budgets.
 fn budgets_in<'a>(root: &'a Table) -> Option<&'a Table> {
-    root.get("team")?.as_table()
+    match root.get("team") {
+        Some(Value::Table(budgets)) => Some(budgets),
+        _ => None,
+    }
 }
 
 // What stands at a team's name.
@@ -47,17 +49,18 @@ fn value_of<'a>(root: &'a Table, team: Name) -> Option<&'a Value> {
 // What stands in place of a value of another kind.
 fn tell_found(told: &mut Told, value: Option<&Value>) {
     if let Some(value) = value {
-        told.words("; it is ");
-        tell_value(told, value);
+        tell_value(told, "; it is ", value);
     }
 }
 
 // A key of the document that is not known.
 fn tell_unknown_root(told: &mut Told, root: &Table) {
     let key = unknown_key(Known::Words("team", "team"), root).unwrap_or("");
-    told.words("node.toml: unknown key ");
-    told.shown(key);
-    told.words("; it has budgets of teams alone, each headed by [team.NAME]");
+    told.shown(
+        "node.toml: unknown key ",
+        key,
+        "; it has budgets of teams alone, each headed by [team.NAME]",
+    );
     if key == "node" {
         told.words("; [node] stands in a team's document");
     }
@@ -66,11 +69,15 @@ fn tell_unknown_root(told: &mut Told, root: &Table) {
 // A key of a team's table that is not known.
 fn tell_unknown(told: &mut Told, root: &Table, team: Name) {
     told.name("", team);
-    told.words(": unknown key ");
-    if let Some(Value::Table(table)) = value_of(root, team) {
-        told.shown(unknown_key(Known::Words("load", "section"), table).unwrap_or(""));
-    }
-    told.words("; a budget has load, section");
+    let key = match value_of(root, team) {
+        Some(Value::Table(table)) => unknown_key(Known::Words("load", "section"), table),
+        _ => None,
+    };
+    told.shown(
+        ": unknown key ",
+        key.unwrap_or(""),
+        "; a budget has load, section",
+    );
 }
 
 // The value at a key of a team's table that is no number.
@@ -96,11 +103,11 @@ fn tell_fault(told: &mut Told, bytes: &[u8], root: &Table, fault: NodeFault) {
             tell_found(told, root.get("team"));
         }
         NodeFault::BadName => {
-            told.words("node.toml: ");
-            if let Some(table) = budgets_in(root) {
-                told.shown(unknown_key(Known::Names, table).unwrap_or(""));
-            }
-            told.words(" is no name of a team");
+            let name = match budgets_in(root) {
+                Some(table) => unknown_key(Known::Names, table),
+                None => None,
+            };
+            told.shown("node.toml: ", name.unwrap_or(""), " is no name of a team");
         }
         NodeFault::NoBudget { team } => {
             tell_place(told, bytes, team);
@@ -151,13 +158,13 @@ pub(crate) fn tell_budget(
     tell_place(told, bytes, team);
     told.name("", team);
     match quantity {
-        Quantity::Load => {
-            told.number(" takes ", number);
-            told.number(" thousandths of the processor, and may take ", limit);
-        }
-        Quantity::Section => {
-            told.number(" holds a lock that another team uses, too, for ", number);
-            told.number(" microseconds, and may hold it for ", limit);
-        }
+        Quantity::Load => told.numbers(
+            " takes {} thousandths of the processor, and may take {}",
+            &[number, limit],
+        ),
+        Quantity::Section => told.numbers(
+            " holds a lock that another team uses, too, for {} microseconds, and may hold it for {}",
+            &[number, limit],
+        ),
     }
 }

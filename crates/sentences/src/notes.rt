@@ -25,10 +25,10 @@ fn lock_of(sheets: &[Sheet], number: usize) -> Option<Name> {
 }
 
 // The locks that are known. Each has the first slot that was free from its home on, where the number of its first use
-// stands, and whether another task uses it, too.
+// stands, and whether another task uses it, too. A free slot has the number behind the last.
 #[derive(Drop)]
 struct KnownLocks {
-    slots: [Option<u16>; SLOTS],
+    slots: [usize; SLOTS],
     are_shared: [bool; SLOTS],
 }
 
@@ -51,9 +51,9 @@ impl KnownLocks {
         let home = home(&lock);
         for step in 0..SLOTS {
             let slot = (home + step) % SLOTS;
-            match self.slots[slot] {
-                Some(first) if lock_of(sheets, usize::from(first)) != Some(lock) => {}
-                _ => return Some(slot),
+            let first = self.slots[slot];
+            if first == USES || lock_of(sheets, first) == Some(lock) {
+                return Some(slot);
             }
         }
         None
@@ -62,10 +62,10 @@ impl KnownLocks {
     // The lock of a use, if there is such a use, is known.
     fn note_use(&mut self, sheets: &[Sheet], number: usize) -> Option<()> {
         let slot = self.slot_of(sheets, lock_of(sheets, number)?)?;
-        match self.slots[slot] {
-            Some(first) if usize::from(first) / 32 != number / 32 => self.are_shared[slot] = true,
-            Some(_) => {}
-            None => self.slots[slot] = u16::try_from(number).ok(),
+        if self.slots[slot] == USES {
+            self.slots[slot] = number;
+        } else if self.slots[slot] / 32 != number / 32 {
+            self.are_shared[slot] = true;
         }
         Some(())
     }
@@ -74,7 +74,7 @@ impl KnownLocks {
     fn one_user<'a>(&self, sheets: &'a [Sheet], number: usize) -> Option<(&'a Sheet, Name)> {
         let lock = lock_of(sheets, number)?;
         let slot = self.slot_of(sheets, lock)?;
-        if self.are_shared[slot] || self.slots[slot] != u16::try_from(number).ok() {
+        if self.are_shared[slot] || self.slots[slot] != number {
             return None;
         }
         Some((user_of(sheets, number)?, lock))
@@ -84,7 +84,7 @@ impl KnownLocks {
 // The locks of some sheets.
 fn known_locks(sheets: &[Sheet]) -> KnownLocks {
     let mut known = KnownLocks {
-        slots: [None; SLOTS],
+        slots: [USES; SLOTS],
         are_shared: [false; SLOTS],
     };
     for number in 0..USES {

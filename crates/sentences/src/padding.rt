@@ -2,7 +2,7 @@
 
 use crate::causes::{tell_padded_cost, tell_padded_jitter};
 use crate::told::Told;
-use crate::tree::{line_of_task, place_of_name, table_of, tell_place};
+use crate::tree::{place_of_name, table_of, tell_place};
 use crate::values::{locks_in, numbers_in};
 use overheads::PadFault;
 use std::alloc::Global;
@@ -43,17 +43,14 @@ fn tell_tree(
     let Some(place) = place_of(root, fault) else {
         return told.give_up();
     };
-    match line_of_task(alloc, bytes, place) {
-        Ok(line) => tell_place(told, root, line, place, 0),
-        Err(_) => told.give_up(),
-    }
+    tell_place(told, alloc, bytes, root, place, 0);
     if let Some(table) = table_of(root, place, 0) {
         let numbers = numbers_in(table);
         match fault {
             PadFault::CostPastPeriod { .. } => {
-                tell_padded_cost(told, &numbers, node, locks_in(table));
+                tell_padded_cost(told, numbers, node, locks_in(table));
             }
-            PadFault::JitterPastDeadline { .. } => tell_padded_jitter(told, &numbers, node.late),
+            PadFault::JitterPastDeadline { .. } => tell_padded_jitter(told, numbers, node.late),
             PadFault::OutOfMemory => {}
         }
     }
@@ -61,6 +58,5 @@ fn tell_tree(
 
 // The place, from 1, of the task that a fault names.
 fn place_of(root: &Table, fault: &PadFault) -> Option<usize> {
-    let task = task_of(fault)?;
-    place_of_name(root, task.as_str())
+    place_of_name(root, task_of(fault)?.as_str())
 }

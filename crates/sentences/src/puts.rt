@@ -11,7 +11,7 @@ use std::alloc::Global;
 use task_sheet::{INTERRUPT_FROM, INTERRUPT_LIMIT, PERIOD_FROM, PERIOD_TO, SheetCause};
 
 // The place of the first word of a put that may be a section, from 0.
-const BEHIND_COST: usize = 7;
+const BEHIND_COST: u64 = 7;
 
 /// What a person is told of a script's fault; none where memory runs out.
 pub fn of_script(alloc: Global, bytes: &[u8], fault: ScriptFault) -> Option<String> {
@@ -20,28 +20,29 @@ pub fn of_script(alloc: Global, bytes: &[u8], fault: ScriptFault) -> Option<Stri
         ScriptFault::BadLine { line } => tell_bad_line(&mut told, bytes, line),
         ScriptFault::Sheet { line, cause } => {
             tell_line(&mut told, bytes, line, ": ");
-            tell_sheet(&mut told, line_at(bytes, line).unwrap_or(&[]), cause);
+            tell_sheet(&mut told, line_at(bytes, line), cause);
         }
         ScriptFault::BadJitter { line } => {
             tell_line(&mut told, bytes, line, ": ");
-            tell_jitter(&mut told, &numbers_in(line_at(bytes, line).unwrap_or(&[])));
+            tell_jitter(&mut told, numbers_in(line_at(bytes, line)));
         }
         ScriptFault::Outranks { line, cause } => {
             tell_line(&mut told, bytes, line, ": over: ");
             told.show(cause);
         }
         ScriptFault::BadOverhead { line } => {
-            let limits = ": node: job, lock and late are at most ";
-            tell_line(&mut told, bytes, line, limits);
-            told.number("", PERIOD_TO);
-            told.number(" microseconds, release at most ", PERIOD_FROM);
+            tell_line(&mut told, bytes, line, ": ");
+            told.numbers(
+                "node: job, lock and late are at most {} microseconds, release at most {}",
+                &[PERIOD_TO, PERIOD_FROM],
+            );
         }
         ScriptFault::BadInterrupt { line } => {
-            tell_line(&mut told, bytes, line, ": irq: at most ");
-            told.number("", INTERRUPT_LIMIT as u64);
-            told.number(", each with a period from ", INTERRUPT_FROM);
-            told.number(" to ", PERIOD_TO);
-            told.words(" microseconds and a cost of at most its period");
+            tell_line(&mut told, bytes, line, ": ");
+            told.numbers(
+                "irq: at most {}, each with a period from {} to {} microseconds and a cost of at most its period",
+                &[INTERRUPT_LIMIT as u64, INTERRUPT_FROM, PERIOD_TO],
+            );
         }
         ScriptFault::OutOfMemory => told.give_up(),
     }
@@ -78,7 +79,7 @@ fn form_of(word: &[u8]) -> &'static str {
 
 // A line that a script doesn't have.
 fn tell_bad_line(told: &mut Told, bytes: &[u8], line: u64) {
-    let form = form_of(word_at(line_at(bytes, line).unwrap_or(&[]), 0).unwrap_or(&[]));
+    let form = form_of(word_at(line_at(bytes, line), 0));
     tell_line(told, bytes, line, " has to be ");
     told.words(form);
     if form.contains("DRAFT") {
@@ -89,9 +90,9 @@ fn tell_bad_line(told: &mut Told, bytes: &[u8], line: u64) {
 
 // ---- values
 
-// The number that a word is.
-fn number_at(line: &[u8], place: usize) -> Option<u64> {
-    number_of(word_at(line, place)?)
+// The number that a word is; 0 where it is none.
+fn number_at(line: &[u8], place: u64) -> u64 {
+    number_of(word_at(line, place)).unwrap_or(0)
 }
 
 // Whether a word is a section.
@@ -99,11 +100,11 @@ fn is_section(word: &[u8]) -> bool {
     cut(word, b'@').is_some()
 }
 
-// The number of a word `j=NUMBER` behind the cost.
-fn jitter_in(line: &[u8]) -> Option<u64> {
-    match cut(word_at(line, BEHIND_COST).unwrap_or(&[]), b'=') {
-        Some(([b'j'], value)) => number_of(value),
-        _ => None,
+// The number of a word `j=NUMBER` behind the cost; 0 where there is none.
+fn jitter_in(line: &[u8]) -> u64 {
+    match cut(word_at(line, BEHIND_COST), b'=') {
+        Some(([b'j'], value)) => number_of(value).unwrap_or(0),
+        _ => 0,
     }
 }
 
@@ -126,73 +127,65 @@ fn numbers_in(line: &[u8]) -> Numbers {
         deadline: number_at(line, 5),
         cost: number_at(line, 6),
         jitter: jitter_in(line),
-        sections: Some(sections_in(line)),
+        sections: sections_in(line),
     }
 }
 
-// The section of a place in a put, from 1.
-fn section_at(line: &[u8], place: usize) -> Option<&[u8]> {
-    let mut left = place;
+// The section of a place in a put, from 1; an empty one where there is none.
+fn section_at(line: &[u8], place: usize) -> &[u8] {
+    let mut count = 0usize;
     for word in line.split(is_space) {
         if is_section(word) {
-            left = left.saturating_sub(1);
-            if left == 0 {
-                return Some(word);
+            count = count.saturating_add(1);
+            if count == place {
+                return word;
             }
         }
     }
-    None
+    &[]
 }
 
-// Where a section begins, and how long it is.
-fn ends_of(section: &[u8]) -> Option<(u64, u64)> {
-    let (_, span) = cut(section, b'@')?;
-    let (at, len) = cut(span, b':')?;
-    Some((number_of(at)?, number_of(len)?))
-}
-
-// Where the section before this place ends.
-fn end_before(line: &[u8], place: usize) -> Option<u64> {
-    let before = place.checked_sub(1)?;
-    if before == 0 {
-        return None;
+// Where a section begins, and how long it is; 0 where there is none.
+fn ends_of(section: &[u8]) -> (u64, u64) {
+    if let Some((_, span)) = cut(section, b'@') {
+        if let Some((at, len)) = cut(span, b':') {
+            return (number_of(at).unwrap_or(0), number_of(len).unwrap_or(0));
+        }
     }
-    let (at, len) = ends_of(section_at(line, before)?)?;
-    Some(at.saturating_add(len))
+    (0, 0)
 }
 
 // How many locks a section has.
-fn locks_in(section: &[u8]) -> Option<u64> {
-    let (locks, _) = cut(section, b'@')?;
+fn locks_in(section: &[u8]) -> u64 {
     let mut count = 1u64;
-    for byte in locks {
+    for byte in section {
         if *byte == b'+' {
             count = count.saturating_add(1);
         }
     }
-    Some(count)
+    count
 }
 
 // The values of the section at a place of a put, from 1.
-fn span_at(line: &[u8], place: usize) -> Option<Span> {
-    let section = section_at(line, place)?;
-    let (at, len) = ends_of(section)?;
-    Some(Span {
-        at: Some(at),
-        len: Some(len),
+fn span_at(line: &[u8], place: usize) -> Span {
+    let section = section_at(line, place);
+    let (at, len) = ends_of(section);
+    let (before, long) = ends_of(section_at(line, place.saturating_sub(1)));
+    Span {
+        at,
+        len,
         locks: locks_in(section),
-        from: end_before(line, place),
-    })
+        from: before.saturating_add(long),
+    }
 }
 
 // A put whose values are no sheet, with the section that the cause names, as it stands in the line.
 fn tell_sheet(told: &mut Told, put: &[u8], cause: SheetCause) {
     match section_of(cause) {
         Some(place) => {
-            let span = span_at(put, place).unwrap_or(NO_SPAN);
-            tell_cause(told, cause, &numbers_in(put), &span);
+            tell_cause(told, cause, numbers_in(put), span_at(put, place));
             told.quoted(", in ", section_at(put, place));
         }
-        None => tell_cause(told, cause, &numbers_in(put), &NO_SPAN),
+        None => tell_cause(told, cause, numbers_in(put), NO_SPAN),
     }
 }

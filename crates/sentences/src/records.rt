@@ -1,10 +1,11 @@
 //! Why a text is no certificate, or doesn't show what it says.
 
+use crate::lists::task_named;
 use crate::texts::{is_line_end, line_at, tell_bad_line, tell_unseen, word_at};
 use crate::told::Told;
 use cert_checker::CheckFault;
 use certificate::CertFault;
-use lines::{name_of, number_of};
+use lines::number_of;
 use std::alloc::Global;
 use task_sheet::{Name, TaskSet};
 
@@ -52,8 +53,8 @@ pub fn of_check(
         CheckFault::BadPass { level } => tell_pass(&mut told, bytes, set, level),
         CheckFault::BadChain { level, name } => tell_chain(&mut told, level, name),
         CheckFault::MissingFail { level, name } => {
-            told.number("level ", level as u64);
-            told.name(": ", name);
+            told.numbers("level {}: ", &[level as u64]);
+            told.name("", name);
             told.words(
                 " is left and of smaller rank than the level's task, but no line fails says why it can't have the level",
             );
@@ -78,30 +79,22 @@ fn may_be_of_other(fault: CheckFault) -> bool {
 // The line of a level; an empty one where there is none.
 fn level_line(bytes: &[u8], level: u64) -> &[u8] {
     for line in bytes.split(is_line_end) {
-        let is_one = word_at(line, 0).unwrap_or(&[]) == b"level".as_slice();
-        if is_one && number_of(word_at(line, 1).unwrap_or(&[])) == Some(level) {
+        let is_one = word_at(line, 0) == b"level".as_slice();
+        if is_one && number_of(word_at(line, 1)) == Some(level) {
             return line;
         }
     }
     &[]
 }
 
-// What the jitter leaves of the deadline of a level's task.
-fn limit_of(set: Option<&TaskSet>, line: &[u8]) -> Option<u64> {
-    let set = set?;
-    let name = name_of(word_at(line, 2)?)?;
-    Some(set.get(set.find(name)?)?.limit())
-}
-
 // The number of a level that its task can't have, with its limit.
 fn tell_pass(told: &mut Told, bytes: &[u8], set: Option<&TaskSet>, level: usize) {
     let line = level_line(bytes, level as u64);
-    let number = number_of(word_at(line, 3).unwrap_or(&[])).unwrap_or(0);
-    told.number("level ", level as u64);
-    told.number(": its number, ", number);
-    match limit_of(set, line) {
-        Some(limit) if number > limit => {
-            told.number(", is past the deadline less the jitter, ", limit);
+    let number = number_of(word_at(line, 3)).unwrap_or(0);
+    told.numbers("level {}: its number, {}", &[level as u64, number]);
+    match task_named(set, word_at(line, 2)) {
+        Some(task) if number > task.limit() => {
+            told.number(", is past the deadline less the jitter, ", task.limit());
         }
         _ => told.words(
             ", is below what the task may need, or its task has to outrank one above it",
@@ -116,9 +109,9 @@ fn tell_tasks(told: &mut Told, level: usize) {
             "its levels don't name each task of the set once, or a member is no task or named twice",
         );
     } else {
-        told.number("level ", level as u64);
-        told.words(
-            ": its lines fails have to name tasks that are left and of smaller rank, by rank",
+        told.numbers(
+            "level {}: its lines fails have to name tasks that are left and of smaller rank, by rank",
+            &[level as u64],
         );
     }
 }

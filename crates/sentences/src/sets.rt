@@ -4,8 +4,8 @@ use crate::causes::{tell_cause, tell_jitter};
 use crate::texts::line_at;
 use crate::told::{Told, between};
 use crate::tree::{
-    Known, bad_name_in, is_name, items_at, line_of_task, name_of, number_at, place_of_name,
-    repeated_in, table_at, table_of, tell_place, unknown_key,
+    Known, bad_name_in, is_name, items_at, name_of, number_at, place_of_name, repeated_in,
+    table_at, table_of, tell_place, unknown_key,
 };
 use crate::values::{NO_SPAN, count_at, numbers_in, span_at};
 use std::alloc::Global;
@@ -18,7 +18,11 @@ use toml::{Table, Value};
 /// A set's fault, from the document's bytes.
 pub(crate) fn tell_set(told: &mut Told, alloc: Global, bytes: &[u8], fault: SetFault) {
     match toml::table_from_slice(alloc, bytes) {
-        Ok(root) => tell_tree(told, alloc, bytes, &root, fault),
+        Ok(root) => {
+            let (task, section) = place_of(fault);
+            tell_place(told, alloc, bytes, &root, task, section);
+            tell_fault(told, &root, fault);
+        }
         Err(error) => tell_syntax(told, bytes, &error),
     }
 }
@@ -43,24 +47,12 @@ pub(crate) fn tell_syntax(told: &mut Told, bytes: &[u8], error: &toml::de::Error
     match error.span() {
         Some(span) if !error.is_memory() => {
             let (line, column) = position(bytes, span.start);
-            told.number("line ", line);
-            told.number(", column ", column);
-            told.words(": ");
+            told.numbers("line {}, column {}: ", &[line, column]);
             told.words(error.message());
             told.quoted(", in ", line_at(bytes, line));
         }
         _ => told.give_up(),
     }
-}
-
-// What the tree of a document shows of a fault.
-fn tell_tree(told: &mut Told, alloc: Global, bytes: &[u8], root: &Table, fault: SetFault) {
-    let (task, section) = place_of(fault);
-    match line_of_task(alloc, bytes, task) {
-        Ok(line) => tell_place(told, root, line, task, section),
-        Err(_) => told.give_up(),
-    }
-    tell_fault(told, root, fault);
 }
 
 // The task and the section that a fault names, from 1; a sheet's cause names its section itself.
@@ -91,7 +83,7 @@ fn tell_fault(told: &mut Told, root: &Table, fault: SetFault) {
         SetFault::UnknownKey { task, section } => tell_unknown(told, root, task, section),
         SetFault::MissingKey { section, key, .. } => tell_missing(told, section, key),
         SetFault::WrongKind { task, section, key } => tell_kind(told, root, task, section, key),
-        SetFault::BadPreference => tell_preference(told, root),
+        SetFault::BadPreference => tell_kind_in(told, Some(root), Key::Prefer),
         SetFault::UnknownOverhead => tell_overhead(told, root),
         SetFault::BadOverhead { key } => tell_past_limit(told, root, key),
         SetFault::BadInterrupt { interrupt } => tell_interrupt(told, root, interrupt),
@@ -109,8 +101,9 @@ fn tell_fault(told: &mut Told, root: &Table, fault: SetFault) {
 
 // ---- keys
 
-// The words of keys, with commas.
-fn tell_keys(told: &mut Told, keys: &[Key]) {
+// The words of keys, with commas, behind other words.
+fn tell_keys(told: &mut Told, words: &str, keys: &[Key]) {
+    told.words(words);
     for (i, key) in keys.iter().enumerate() {
         told.words(between(i));
         told.words(key.word());
@@ -123,8 +116,7 @@ fn tell_unknown_key<'a>(told: &mut Told, keys: &[Key], table: Option<&'a Table>)
         Some(table) => unknown_key(Known::Keys(keys), table).unwrap_or(""),
         None => "",
     };
-    told.words("unknown key ");
-    told.shown(key);
+    told.shown("unknown key ", key, "");
     key
 }
 
@@ -140,42 +132,39 @@ fn tell_unknown(told: &mut Told, root: &Table, task: usize, section: usize) {
         });
     } else if section > 0 {
         tell_unknown_key(told, &SECTION_KEYS, table);
-        told.words("; a section has");
-        tell_keys(told, &SECTION_KEYS);
+        tell_keys(told, "; a section has", &SECTION_KEYS);
     } else if tell_unknown_key(told, &TASK_KEYS, table) == Key::Prefer.word() {
         told.words("; prefer stands in front of the first [[task]]");
     } else {
-        told.words("; a task has");
-        tell_keys(told, &TASK_KEYS);
+        tell_keys(told, "; a task has", &TASK_KEYS);
     }
 }
 
 // The node's table, where it is one.
 fn node_table<'a>(root: &'a Table) -> Option<&'a Table> {
-    root.get(Key::Node.word())?.as_table()
+    match root.get(Key::Node.word()) {
+        Some(Value::Table(node)) => Some(node),
+        _ => None,
+    }
 }
 
 // A key of the node's table that is not known, and those that are.
 fn tell_overhead(told: &mut Told, root: &Table) {
     tell_unknown_key(told, &NODE_KEYS, node_table(root));
-    told.words("; [node] has");
-    tell_keys(told, &NODE_KEYS);
+    tell_keys(told, "; [node] has", &NODE_KEYS);
 }
 
 // A number of the node's table that is past its limit.
 fn tell_past_limit(told: &mut Told, root: &Table, key: Key) {
-    let is_release = matches!(key, Key::Release);
     told.words(key.word());
-    if is_release {
-        told.number(" has to be at most ", PERIOD_FROM);
-        told.words(" and at most job");
-    } else {
-        told.number(" has to be at most ", PERIOD_TO);
-    }
     if let Some(table) = node_table(root) {
-        told.number("; it is ", number_at(key, table).unwrap_or(0));
-        if is_release {
-            told.number(", job ", number_at(Key::Job, table).unwrap_or(0));
+        let number = number_at(key, table);
+        match key {
+            Key::Release => told.numbers(
+                " has to be at most {} and at most job; it is {}, job {}",
+                &[PERIOD_FROM, number, number_at(Key::Job, table)],
+            ),
+            _ => told.numbers(" has to be at most {}; it is {}", &[PERIOD_TO, number]),
         }
     }
 }
@@ -185,11 +174,10 @@ fn tell_missing(told: &mut Told, section: usize, key: Key) {
     told.words("no key ");
     told.words(key.word());
     if section == 0 {
-        told.words("; a task needs");
-        tell_keys(told, &[Key::Name, Key::Period, Key::Deadline, Key::Cost]);
+        let needed = [Key::Name, Key::Period, Key::Deadline, Key::Cost];
+        tell_keys(told, "; a task needs", &needed);
     } else {
-        told.words("; a section needs");
-        tell_keys(told, &[Key::Locks, Key::Len]);
+        tell_keys(told, "; a section needs", &[Key::Locks, Key::Len]);
     }
 }
 
@@ -197,23 +185,24 @@ fn tell_missing(told: &mut Told, section: usize, key: Key) {
 
 // A table that says no interrupt: a key that is not known, or numbers past their limits.
 fn tell_interrupt(told: &mut Told, root: &Table, place: usize) {
-    told.number("interrupt ", place as u64);
-    told.words(": ");
+    told.numbers("interrupt {}: ", &[place as u64]);
     if let Some(table) = table_at(Key::Interrupt, place, root) {
-        if unknown_key(Known::Keys(&INTERRUPT_KEYS), table).is_none() {
-            return tell_numbers(told, table);
+        match unknown_key(Known::Keys(&INTERRUPT_KEYS), table) {
+            Some(key) => {
+                told.shown("unknown key ", key, "");
+                tell_keys(told, "; an interrupt has", &INTERRUPT_KEYS);
+            }
+            None => tell_numbers(told, table),
         }
-        tell_unknown_key(told, &INTERRUPT_KEYS, Some(table));
-        told.words("; an interrupt has");
-        tell_keys(told, &INTERRUPT_KEYS);
     }
 }
 
 // The first key of an interrupt that its table lacks, or whose value is no whole number from 0.
 fn key_without_number(table: &Table) -> Option<Key> {
     for key in INTERRUPT_KEYS {
-        if number_at(key, table).is_none() {
-            return Some(key);
+        match table.get(key.word()) {
+            Some(Value::Integer(number)) if *number >= 0 => {}
+            _ => return Some(key),
         }
     }
     None
@@ -225,16 +214,15 @@ fn tell_numbers(told: &mut Told, table: &Table) {
         Some(key) if table.get(key.word()).is_none() => {
             told.words("no key ");
             told.words(key.word());
-            told.words("; an interrupt needs");
-            tell_keys(told, &INTERRUPT_KEYS);
+            tell_keys(told, "; an interrupt needs", &INTERRUPT_KEYS);
         }
         Some(key) => tell_kind_in(told, Some(table), key),
         None => {
-            told.number("period has to be from ", INTERRUPT_FROM);
-            told.number(" to ", PERIOD_TO);
-            told.words(", and cost at most period");
-            told.value("; period is ", number_at(Key::Period, table));
-            told.value(", cost is ", number_at(Key::Cost, table));
+            let (period, cost) = (number_at(Key::Period, table), number_at(Key::Cost, table));
+            told.numbers(
+                "period has to be from {} to {}, and cost at most period; period is {}, cost is {}",
+                &[INTERRUPT_FROM, PERIOD_TO, period, cost],
+            );
         }
     }
 }
@@ -266,14 +254,11 @@ fn kind_of(key: Key) -> &'static str {
     }
 }
 
-/// A value, or its kind.
-pub(crate) fn tell_value(told: &mut Told, value: &Value) {
+/// A value, or its kind, behind words.
+pub(crate) fn tell_value(told: &mut Told, words: &str, value: &Value) {
+    told.words(words);
     match value {
-        Value::String(text) => {
-            told.words("the string \"");
-            told.shown(text.as_str());
-            told.words("\"");
-        }
+        Value::String(text) => told.shown("the string \"", text.as_str(), "\""),
         Value::Integer(number) => told.show(*number),
         Value::Float(_) => told.words("a number with a fraction"),
         Value::Boolean(true) => told.words("true"),
@@ -297,11 +282,10 @@ fn stranger<'a>(key: Key, items: &'a [Value]) -> Option<&'a Value> {
 
 // What stands at a key in place of what has to.
 fn tell_found(told: &mut Told, key: Key, value: &Value) {
-    tell_value(told, value);
-    if let Some(items) = value.as_array() {
+    tell_value(told, "; it is ", value);
+    if let Value::Array(items) = value {
         if let Some(item) = stranger(key, items) {
-            told.words(" with ");
-            tell_value(told, item);
+            tell_value(told, " with ", item);
         }
     }
 }
@@ -322,19 +306,8 @@ fn tell_kind_in(told: &mut Told, table: Option<&Table>, key: Key) {
     told.words(kind_of(key));
     if let Some(table) = table {
         if let Some(value) = table.get(key.word()) {
-            told.words("; it is ");
             tell_found(told, key, value);
         }
-    }
-}
-
-// A word that says no preference, and those that do.
-fn tell_preference(told: &mut Told, root: &Table) {
-    told.words("prefer has to be ");
-    told.words(kind_of(Key::Prefer));
-    told.words("; it is ");
-    if let Some(value) = root.get(Key::Prefer.word()) {
-        tell_value(told, value);
     }
 }
 
@@ -355,9 +328,7 @@ fn tell_no_name(told: &mut Told, key: Key, table: &Table) -> bool {
         return false;
     };
     told.words(key.word());
-    told.words(": \"");
-    told.shown(name);
-    told.words("\" is no name; ");
+    told.shown(": \"", name, "\" is no name; ");
     true
 }
 
@@ -370,8 +341,10 @@ fn tell_bad_name(told: &mut Told, root: &Table, task: usize, section: usize) {
             tell_no_name(told, Key::Outranks, table);
         }
     }
-    told.number("a name is 1 to ", NAME_LIMIT as u64);
-    told.words(" of the letters a to z and A to Z, digits, _ and -, a letter first");
+    told.numbers(
+        "a name is 1 to {} of the letters a to z and A to Z, digits, _ and -, a letter first",
+        &[NAME_LIMIT as u64],
+    );
 }
 
 // The name of a task before it.
@@ -395,7 +368,7 @@ fn tell_sheet(told: &mut Told, root: &Table, task: usize, cause: SheetCause) {
         Some(place) => span_at(place, table),
         None => NO_SPAN,
     };
-    tell_cause(told, cause, &numbers_in(table), &span);
+    tell_cause(told, cause, numbers_in(table), span);
     if let SheetCause::LockTwice { section } = cause {
         if let Some(section) = table_at(Key::Section, section, table) {
             tell_twice(told, items_at(Key::Locks, section));
@@ -404,17 +377,16 @@ fn tell_sheet(told: &mut Told, root: &Table, task: usize, cause: SheetCause) {
 }
 
 // The name that stands twice in an array.
-fn tell_twice(told: &mut Told, items: Option<&[Value]>) {
-    if let Some(name) = repeated_in(items.unwrap_or(&[])) {
-        told.words(": ");
-        told.shown(name);
+fn tell_twice(told: &mut Told, items: &[Value]) {
+    if let Some(name) = repeated_in(items) {
+        told.shown(": ", name, "");
     }
 }
 
 // A task's jitter that isn't below its deadline.
 fn tell_bad_jitter(told: &mut Told, root: &Table, task: usize) {
     if let Some(table) = table_of(root, task, 0) {
-        tell_jitter(told, &numbers_in(table));
+        tell_jitter(told, numbers_in(table));
     }
 }
 
@@ -438,7 +410,7 @@ fn tell_outranks(told: &mut Told, root: &Table, task: usize, cause: OutranksCaus
     if let Some(table) = table_of(root, task, 0) {
         match cause {
             OutranksCause::TooManyOutranks => {
-                told.value(": there are ", count_at(Key::Outranks, table));
+                told.number(": there are ", count_at(Key::Outranks, table));
             }
             OutranksCause::OutranksTwice => tell_twice(told, items_at(Key::Outranks, table)),
             OutranksCause::OutranksSelf => {}
@@ -448,9 +420,7 @@ fn tell_outranks(told: &mut Told, root: &Table, task: usize, cause: OutranksCaus
 
 // How many tables stand at a key, which are more than its limit.
 fn tell_count(told: &mut Told, root: &Table, limit: usize, key: Key) {
-    told.number("more than ", limit as u64);
-    told.words(" ");
+    told.numbers("more than {} ", &[limit as u64]);
     told.words(key.word());
-    told.words("s");
-    told.value(": there are ", count_at(key, root));
+    told.number("s: there are ", count_at(key, root));
 }

@@ -24,8 +24,8 @@ pub fn push_clean(text: &mut String, foreign: &str) -> Result<(), AllocError> {
 }
 
 impl Told {
-    /// The same, cut where it is long.
-    pub(crate) fn shown(&mut self, foreign: &str) {
+    // The same, cut where it is long.
+    fn cut(&mut self, foreign: &str) {
         let mut left = MOST_SHOWN;
         for letter in foreign.chars() {
             if left == 0 {
@@ -52,18 +52,23 @@ impl Told {
         }
     }
 
-    /// Bytes in quotes behind words, where there are such bytes, cut where they are long. Of bytes that are no text those
-    /// of ASCII are shown.
-    pub(crate) fn quoted(&mut self, words: &str, foreign: Option<&[u8]>) {
-        let Some(foreign) = foreign else {
-            return;
-        };
+    /// Foreign text between words.
+    pub(crate) fn shown(&mut self, before: &str, foreign: &str, after: &str) {
+        self.words(before);
+        self.cut(foreign);
+        self.words(after);
+    }
+
+    /// Bytes in quotes behind words, cut where they are long. Of bytes that are no text those of ASCII are shown.
+    pub(crate) fn quoted(&mut self, words: &str, foreign: &[u8]) {
         self.words(words);
-        self.words("\"");
         match std::str::from_utf8(foreign) {
-            Ok(text) => self.shown(text),
-            Err(_) => self.ascii(foreign),
+            Ok(text) => self.shown("\"", text, "\""),
+            Err(_) => {
+                self.words("\"");
+                self.ascii(foreign);
+                self.words("\"");
+            }
         }
-        self.words("\"");
     }
 }

@@ -16,32 +16,29 @@ pub(crate) fn is_space(byte: &u8) -> bool {
     *byte == b' '
 }
 
-// The bytes in front of the first such byte, or all.
-fn front(bytes: &[u8], byte: u8) -> &[u8] {
-    match cut(bytes, byte) {
-        Some((front, _)) => front,
-        None => bytes,
-    }
-}
-
-/// The line of a number, from 1, without its LF.
-pub(crate) fn line_at(bytes: &[u8], number: u64) -> Option<&[u8]> {
+// The piece at a place, from 0, of what has such a byte between two pieces; an empty one where there is none.
+fn piece_at(bytes: &[u8], byte: u8, place: u64) -> &[u8] {
     let mut rest = bytes;
-    for _ in 1..number {
-        let (_, after) = cut(rest, b'\n')?;
-        rest = after;
+    for _ in 0..place {
+        match cut(rest, byte) {
+            Some((_, after)) => rest = after,
+            None => return &[],
+        }
     }
-    Some(front(rest, b'\n'))
+    match cut(rest, byte) {
+        Some((front, _)) => front,
+        None => rest,
+    }
 }
 
-/// The word at a place of a line, from 0. Between two words stands a space.
-pub(crate) fn word_at(line: &[u8], place: usize) -> Option<&[u8]> {
-    let mut rest = line;
-    for _ in 0..place {
-        let (_, after) = cut(rest, b' ')?;
-        rest = after;
-    }
-    Some(front(rest, b' '))
+/// The line of a number, from 1, without its LF; an empty one where there is none.
+pub(crate) fn line_at(bytes: &[u8], number: u64) -> &[u8] {
+    piece_at(bytes, b'\n', number.saturating_sub(1))
+}
+
+/// The word at a place of a line, from 0; an empty one where there is none. Between two words stands a space.
+pub(crate) fn word_at(line: &[u8], place: u64) -> &[u8] {
+    piece_at(line, b' ', place)
 }
 
 /// Whether the line is empty or begins with `#`.
@@ -63,24 +60,25 @@ fn is_digits(word: &[u8]) -> bool {
 }
 
 // What is wrong with a word of digits that is no number.
-fn slip_in_number(word: &[u8]) -> Option<&'static str> {
+fn slip_in_number(word: &[u8]) -> &'static str {
     if word.len() > 1 && word.starts_with(b"0") && is_digits(word) {
-        Some("; a number has no leading zero")
+        "; a number has no leading zero"
     } else if word.len() > 10 && is_digits(word) {
-        Some("; a number has 10 digits at most")
+        "; a number has 10 digits at most"
     } else {
-        None
+        ""
     }
 }
 
 // The same of the first such word of a line.
-fn slip_in_numbers(line: &[u8]) -> Option<&'static str> {
+fn slip_in_numbers(line: &[u8]) -> &'static str {
     for word in line.split(is_space) {
-        if let Some(slip) = slip_in_number(word) {
-            return Some(slip);
+        let slip = slip_in_number(word);
+        if !slip.is_empty() {
+            return slip;
         }
     }
-    None
+    ""
 }
 
 // A slip in a line: a tab, a comment, a space too many, or a number that is none.
@@ -88,15 +86,17 @@ fn slip_in(line: &[u8]) -> &'static str {
     if line.contains(&b'\t') {
         return "; a tab stands in it, where one space stands between words";
     }
+    let mut is_first = true;
     let mut is_spaced = true;
-    for (place, word) in line.split(is_space).enumerate() {
-        if place > 0 && word.starts_with(b"#") {
+    for word in line.split(is_space) {
+        if !is_first && word.starts_with(b"#") {
             return "; a comment has to be a line of its own, which begins with #";
         }
+        is_first = false;
         is_spaced = is_spaced && !word.is_empty();
     }
     if is_spaced {
-        slip_in_numbers(line).unwrap_or("")
+        slip_in_numbers(line)
     } else {
         "; one space stands between words, none before or after them"
     }
@@ -117,9 +117,7 @@ pub(crate) fn tell_bad_line(told: &mut Told, bytes: &[u8], number: u64, wanted: 
 
 /// A slip that the eye misses in a line of a text.
 pub(crate) fn tell_unseen(told: &mut Told, bytes: &[u8], number: u64) {
-    let Some(line) = line_at(bytes, number) else {
-        return;
-    };
+    let line = line_at(bytes, number);
     if line.starts_with(MARK) {
         told.words("; it begins with a byte order mark, which only a set may have");
     }

@@ -44,11 +44,16 @@ impl Told {
         self.show(number);
     }
 
-    /// The same, where there is a number.
-    pub(crate) fn value(&mut self, words: &str, number: Option<u64>) {
-        if let Some(number) = number {
-            self.number(words, number);
+    /// A sentence, each `{}` of which is a number.
+    pub(crate) fn numbers(&mut self, sentence: &str, numbers: &[u64]) {
+        let mut rest = sentence;
+        for number in numbers {
+            if let Some((words, after)) = rest.split_once("{}") {
+                self.number(words, *number);
+                rest = after;
+            }
         }
+        self.words(rest);
     }
 
     /// What is shown as it is.

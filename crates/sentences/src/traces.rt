@@ -22,9 +22,10 @@ pub fn of_trace(alloc: Global, bytes: &[u8], fault: TraceFault) -> Option<String
             tell_line(&mut told, bytes, line, " arrives before the job above it");
         }
         TraceFault::TooManyLines => {
-            told.number("more than ", SLICE_LIMIT as u64);
-            told.number(" slices or ", JOB_LIMIT as u64);
-            told.words(" jobs");
+            told.numbers(
+                "more than {} slices or {} jobs",
+                &[SLICE_LIMIT as u64, JOB_LIMIT as u64],
+            );
         }
         TraceFault::NoJob { line } => {
             let wrong = " lies in no job of its task, between its arrival and its finish";

@@ -6,15 +6,20 @@ use std::alloc::{AllocError, Global};
 use task_sheet::{Key, Name};
 use toml::{Table, Value};
 
-/// The items of the array at a key.
-pub(crate) fn items_at<'a>(key: Key, table: &'a Table) -> Option<&'a [Value]> {
-    Some(table.get(key.word())?.as_array()?.as_slice())
+/// The items of the array at a key; none where there is no array.
+pub(crate) fn items_at<'a>(key: Key, table: &'a Table) -> &'a [Value] {
+    match table.get(key.word()) {
+        Some(Value::Array(items)) => items,
+        _ => &[],
+    }
 }
 
 /// The table at a place of the array at a key, from 1.
 pub(crate) fn table_at<'a>(key: Key, place: usize, table: &'a Table) -> Option<&'a Table> {
-    let items = items_at(key, table)?;
-    items.get(place.wrapping_sub(1))?.as_table()
+    match items_at(key, table).get(place.wrapping_sub(1)) {
+        Some(Value::Table(own)) => Some(own),
+        _ => None,
+    }
 }
 
 /// The table that a fault names: the root where the task is 0, the task's own where the section is 0.
@@ -22,43 +27,41 @@ pub(crate) fn table_of<'a>(root: &'a Table, task: usize, section: usize) -> Opti
     if task == 0 {
         return Some(root);
     }
-    let own = table_at(Key::Task, task, root);
-    match own {
-        Some(own) if section > 0 => table_at(Key::Section, section, own),
-        _ => own,
+    let own = table_at(Key::Task, task, root)?;
+    if section == 0 {
+        return Some(own);
     }
+    table_at(Key::Section, section, own)
 }
 
-/// The number at a key.
-pub(crate) fn number_at(key: Key, table: &Table) -> Option<u64> {
-    u64::try_from(table.get(key.word())?.as_integer()?).ok()
-}
-
-/// The text at a key.
-pub(crate) fn text_at<'a>(key: Key, table: &'a Table) -> Option<&'a str> {
-    table.get(key.word())?.as_str()
+/// The number at a key; 0 where there is none.
+pub(crate) fn number_at(key: Key, table: &Table) -> u64 {
+    match table.get(key.word()) {
+        Some(Value::Integer(number)) => u64::try_from(*number).unwrap_or(0),
+        _ => 0,
+    }
 }
 
 /// The place of a task, with the line that heads it and its name where it has them, and of a section.
 pub(crate) fn tell_place(
     told: &mut Told,
+    alloc: Global,
+    bytes: &[u8],
     root: &Table,
-    line: Option<u64>,
     task: usize,
     section: usize,
 ) {
     if task == 0 {
         return;
     }
-    if let Some(line) = line {
-        told.number("line ", line);
-        told.words(", ");
+    match line_of_task(alloc, bytes, task) {
+        Ok(Some(line)) => told.numbers("line {}, ", &[line]),
+        Ok(None) => {}
+        Err(_) => told.give_up(),
     }
     told.number("task ", task as u64);
     if let Some(name) = name_of(root, task) {
-        told.words(" (");
-        told.shown(name);
-        told.words(")");
+        told.shown(" (", name, ")");
     }
     if section > 0 {
         told.number(", section ", section as u64);
@@ -68,27 +71,25 @@ pub(crate) fn tell_place(
 
 /// The name of a task.
 pub(crate) fn name_of<'a>(root: &'a Table, task: usize) -> Option<&'a str> {
-    text_at(Key::Name, table_at(Key::Task, task, root)?)
+    match table_at(Key::Task, task, root)?.get(Key::Name.word()) {
+        Some(Value::String(name)) => Some(name.as_str()),
+        _ => None,
+    }
 }
 
 /// What a line has between what opens and what closes a table's head; nothing where it is none.
 pub(crate) fn head_in<'a>(line: &'a [u8], opens: &str, closes: &str) -> &'a str {
-    let Ok(line) = std::str::from_utf8(line) else {
-        return "";
-    };
-    match line.trim().strip_prefix(opens) {
-        Some(inside) => inside.split(closes).next().unwrap_or(""),
-        None => "",
+    let line = std::str::from_utf8(line).unwrap_or("");
+    let inside = line.trim().strip_prefix(opens).unwrap_or("");
+    match inside.split_once(closes) {
+        Some((front, _)) => front,
+        None => inside,
     }
 }
 
 // Whether a line heads a task.
 fn heads_task(line: &[u8]) -> bool {
-    let bare = if line.starts_with(MARK) {
-        line.get(MARK.len()..).unwrap_or(line)
-    } else {
-        line
-    };
+    let bare = line.strip_prefix(MARK).unwrap_or(line);
     head_in(bare, "[[", "]]").trim() == Key::Task.word()
 }
 
@@ -113,19 +114,15 @@ fn header_of(bytes: &[u8], task: usize) -> Option<(u64, usize)> {
 
 // Whether a table has so many tasks, the last of them without a key.
 fn has_begun(root: &Table, task: usize) -> bool {
-    match (items_at(Key::Task, root), table_at(Key::Task, task, root)) {
-        (Some(items), Some(own)) => items.len() == task && own.is_empty(),
-        _ => false,
+    match table_at(Key::Task, task, root) {
+        Some(own) => items_at(Key::Task, root).len() == task && own.is_empty(),
+        None => false,
     }
 }
 
-/// The number of the line that heads a task, where the document up to that line says so: none heads a task that stands
-/// in an array, and no line inside a string heads one.
-pub(crate) fn line_of_task(
-    alloc: Global,
-    bytes: &[u8],
-    task: usize,
-) -> Result<Option<u64>, AllocError> {
+// The number of the line that heads a task, where the document up to that line says so: none heads a task that stands
+// in an array, and no line inside a string heads one.
+fn line_of_task(alloc: Global, bytes: &[u8], task: usize) -> Result<Option<u64>, AllocError> {
     let Some((number, end)) = header_of(bytes, task) else {
         return Ok(None);
     };
@@ -136,16 +133,6 @@ pub(crate) fn line_of_task(
         Err(error) if error.is_memory() => Err(AllocError),
         _ => Ok(None),
     }
-}
-
-// The text is the word of one of the keys.
-fn is_word_of(keys: &[Key], text: &str) -> bool {
-    for key in keys {
-        if key.word() == text {
-            return true;
-        }
-    }
-    false
 }
 
 /// The keys that a table may have.
@@ -162,7 +149,14 @@ pub(crate) enum Known<'a> {
 // Whether a text is one of the keys.
 fn is_known(known: Known<'_>, text: &str) -> bool {
     match known {
-        Known::Keys(keys) => is_word_of(keys, text),
+        Known::Keys(keys) => {
+            for key in keys {
+                if key.word() == text {
+                    return true;
+                }
+            }
+            false
+        }
         Known::Words(one, other) => text == one || text == other,
         Known::Names => is_name(text),
     }
@@ -219,7 +213,7 @@ fn has_text(items: &[Value], text: &str) -> bool {
 
 /// The place, from 1, of the first task of a name.
 pub(crate) fn place_of_name(root: &Table, name: &str) -> Option<usize> {
-    for place in 1..=items_at(Key::Task, root)?.len() {
+    for place in 1..=items_at(Key::Task, root).len() {
         if name_of(root, place) == Some(name) {
             return Some(place);
         }

@@ -1,5 +1,5 @@
 -- Documents that were read one after the other, and where a name first repeats.
-use Rattle.std.proofs.Common.{◌≡◌, ◌≢◌, ◌∙◌, ◌<◌, ◌≤◌, ◌+◌, ◌-◌, ◌==◌, ℕ, count_by, codes, inl, inr}
+use Rattle.std.proofs.Common.{◌≡◌, ◌≢◌, ◌∙◌, ◌<◌, ◌≤◌, ◌+◌, ◌-◌, ◌==◌, ℕ, suc, inl, inr}
 use Rattle.std.proofs.Common.{true, false, cond, map, List, [], ◌∷◌, ◌++◌, length, Option, Some}
 use Rattle.std.proofs.Common.{None, Err, Ok, refl, sym, ap, subst, arith, nat_lt}
 use Rattle.std.proofs.lemmas.Bool.{cases_Bool}
@@ -7,7 +7,6 @@ use Rattle.std.specs.List.{join_with_byte}
 use Rattle.std.proofs.lemmas.List.{length-append, length-map}
 use Rattle.std.proofs.lemmas.List.Splits.{join_with_byte-slice_split, length-slice_split}
 use Rattle.lines.specs.Lines.{parts}
-use Rattle.lines.specs.Words.{number_in}
 use Rattle.task_sheet.specs.Sheet.{Task}
 use Rattle.task_sheet.specs.TaskSet.{first_repeat, has_name}
 use Rattle.task_sheet.specs.SheetsFault.{sheets_fault}
@@ -25,11 +24,11 @@ use Rattle.teams.specs.declared.fault.TeamsFault.{TeamsFault}
 use Rattle.teams.specs.declared.fault.TeamsFault.TheVariants.{Of, OutOfMemory}
 
 -- ---- one document more
-read_push : (parts : List Part) (sets : List TeamSetData) (p : Part) (s : TeamSetData)
-    → AreRead parts sets → ReadsPart p (Ok s) → AreRead (parts ++ p ∷ []) (sets ++ s ∷ [])
+read_push : (ps : List Part) (sets : List TeamSetData) (p : Part) (s : TeamSetData)
+    → AreRead ps sets → ReadsPart p (Ok s) → AreRead (ps ++ p ∷ []) (sets ++ s ∷ [])
 read_push [] [] p s all one = (one, tt)
-read_push (q ∷ parts) (r ∷ sets) p s all one = (all.0, read_push parts sets p s all.1 one)
-read_push parts sets p s all one = absurd all
+read_push (q ∷ ps) (r ∷ sets) p s all one = (all.0, read_push ps sets p s all.1 one)
+read_push ps sets p s all one = absurd all
 
 begins_push : (text : List ℕ) (ps : List Part) (p : Part) (rest after : List ℕ) → Begins text ps
     rest → IsFirstPart rest p.team p.text.now after → Begins text (ps ++ p ∷ []) after
@@ -40,14 +39,9 @@ begins_push text (q ∷ ps) p rest after begins first =
 
 pub gathered_more : (text rest after : List ℕ) (sets : List TeamSetData) (p : Part)
     (s : TeamSetData) → AreGathered text rest sets → IsFirstPart rest p.team p.text.now after
-    → ReadsPart p (Ok s)
-    → AreGathered text after (sets ++ s ∷ [])
-gathered_more text rest after sets p s all first one = (
-  all.0 ++ p
-      ∷ [],
-  begins_push text all.0 p rest after all.1 first,
-  read_push all.0 sets p s all.2 one,
-)
+    → ReadsPart p (Ok s) → AreGathered text after (sets ++ s ∷ [])
+gathered_more text rest after sets p s (ps, begins, read) first one =
+    (ps ++ p ∷ [], begins_push text ps p rest after begins first, read_push ps sets p s read one)
 
 -- ---- a text of documents that is none
 pub stopped : (text rest after : List ℕ) (sets : List TeamSetData) (p : Part) (e : TeamsFault)
@@ -60,58 +54,45 @@ stopped text rest after sets p e all first why = absurd why
 
 read_length : (ps : List Part) (sets : List TeamSetData) → AreRead ps sets → length ps ≡ length sets
 read_length [] [] all = refl
-read_length (p ∷ ps) (s ∷ sets) all = let rest = read_length ps sets all.1 in omega (arith, rest)
+read_length (p ∷ ps) (s ∷ sets) all = ap suc (read_length ps sets all.1)
 read_length ps sets all = absurd all
 
 pub cut_off : (text rest : List ℕ) (sets : List TeamSetData) (n : ℕ) → AreGathered text rest sets
     → rest ≢ [] → HasNoHead rest → n ≡ length sets → IsCutOff text (n + 1)
-cut_off text rest sets n all some none is =
-    let same = read_length all.0 sets all.2 in
-    (all.0, sets, rest, all.1, all.2, some, none, omega (arith, same, is))
+cut_off text rest sets n (ps, begins, read) some none is =
+    let same = read_length ps sets read in
+    (ps, sets, rest, begins, read, some, none, omega (arith, same, is))
 
 -- ---- a text that begins with no document
 -- of its first line none of the counts is of bytes that follow it
 pub none_by : (H : List ℕ → ℕ → Type 0) (text line rest : List ℕ) → parts text ≡ line ∷ parts rest
     → ((count : ℕ) → H line count → count ≤ length rest → ⊥) → (document after : List ℕ)
     → IsPartBy H text document after → ⊥
-none_by H text line rest e none document after first =
-    let both : line ∷ parts rest ≡ first.0 ∷ parts first.1 = sym e ∙ first.2 in
-    let heads : line ≡ first.0 = cc in
-    let tails : parts rest ≡ parts first.1 = cc in
-    let same : rest ≡ first.1 = sym (join_with_byte-slice_split 10 rest)
-    ∙ ap (join_with_byte 10) tails ∙ join_with_byte-slice_split 10 first.1 in
-    let long : length rest ≡ length document + length after = ap length (same ∙ first.4)
+none_by H text line rest e none document after (front, behind, split, head, is) =
+    let heads : line ≡ front = cc in
+    let tails : parts rest ≡ parts behind = cc in
+    let same : rest ≡ behind = sym (join_with_byte-slice_split 10 rest)
+    ∙ ap (join_with_byte 10) tails ∙ join_with_byte-slice_split 10 behind in
+    let long : length rest ≡ length document + length after = ap length (same ∙ is)
     ∙ length-append document after in
-    none (length document) (subst (λ (l : List ℕ). H l (length document)) (sym heads) first.3)
+    none (length document) (subst (λ (l : List ℕ). H l (length document)) (sym heads) head)
     (omega (arith, long))
 
 -- it is one line without an end
 pub uncut : (H : List ℕ → ℕ → Type 0) (text : List ℕ) → parts text ≡ text ∷ []
     → (document after : List ℕ) → IsPartBy H text document after → ⊥
-uncut H text e document after first =
-    let both : text ∷ [] ≡ first.0 ∷ parts first.1 = sym e ∙ first.2 in
-    let none : [] ≡ parts first.1 = cc in
-    let some : length (parts first.1) ≡ count_by (λ b. b == 10) first.1 + 1 =
-    length-slice_split (λ (b : ℕ). b == 10) first.1 in
-    omega (arith, some, ap length none)
+uncut H text e document after (front, behind, split, _, _) =
+    let none : [] ≡ parts behind = cc in
+    omega (arith, length-slice_split (λ (b : ℕ). b == 10) behind, ap length none)
 
 -- a line has one count
 pub head_count : (line team other : List ℕ) (count n : ℕ) → IsHead line team count
     → IsHead line other n → count ≡ n
-head_count line team other count n head again =
-    let same : codes "#%" ∷ head.0 ∷ head.1 ∷ [] ≡ codes "#%" ∷ again.0 ∷ again.1 ∷ [] =
-    sym head.2 ∙ again.2 in
-    let number : head.1 ≡ again.1 = cc in
-    let counts : Some count ≡ Some n = sym head.4 ∙ ap number_in number ∙ again.4 in
-    cc
+head_count line team other count n head again = cc (head.2, head.4, again.2, again.4)
 
 pub node_count : (line : List ℕ) (count n : ℕ) → IsNodeHead line count → IsNodeHead line n
     → count ≡ n
-node_count line count n head again =
-    let same : codes "#%" ∷ head.0 ∷ [] ≡ codes "#%" ∷ again.0 ∷ [] = sym head.1 ∙ again.1 in
-    let number : head.0 ≡ again.0 = cc in
-    let counts : Some count ≡ Some n = sym head.2 ∙ ap number_in number ∙ again.2 in
-    cc
+node_count line count n head again = cc (head.1, head.2, again.1, again.2)
 
 -- ---- where a name repeats
 repeat_within : (seen : List Task) (place : ℕ) (xs : List Task) (n : ℕ)
@@ -119,13 +100,16 @@ repeat_within : (seen : List Task) (place : ℕ) (xs : List Task) (n : ℕ)
 repeat_within seen place [] n e = cc
 repeat_within seen place (x ∷ xs) n e =
     elim (cases_Bool (has_name seen x.name)) [
-      | inl taken ↦ let here : Some place ≡ Some n = (rw taken at e) in let same : place ≡ n = cc in
+      | inl taken ↦
+          let here : Some place ≡ Some n = (rw taken at e) in
+          let same : place ≡ n = cc in
           (omega (arith, same), omega (arith, same))
-      | inr new ↦ let rest = repeat_within (seen ++ x ∷ []) (place + 1) xs n (rw new at e) in
+      | inr new ↦
+          let rest = repeat_within (seen ++ x ∷ []) (place + 1) xs n (rw new at e) in
           (omega (arith, rest.0), omega (arith, rest.1))
     ]
 
-pub repeat_at : (xs : List Task) (n : ℕ) → sheets_fault xs ≡ Some (cause.SameName n) → (1 ≤ n)
+repeat_at : (xs : List Task) (n : ℕ) → sheets_fault xs ≡ Some (cause.SameName n) → (1 ≤ n)
     × (n - 1 < length xs)
 repeat_at xs n e = by (first_repeat [] 1 xs) refl
   where
@@ -150,9 +134,7 @@ pub taken : (tasks : List OwnedData) (why : SetCause) (n : ℕ) → why ≡ caus
     → (sheets_fault (map (λ o. o.sheet) tasks) ≡ Some (cause.SameName n)) × (1 ≤ n)
     × (n - 1 < length tasks)
 taken tasks why n is known =
-    let fault =
-    known (λ never. let both : cause.SameName n ≡ cause.OutOfMemory = sym is ∙ never in absurd (cc))
-    ∙ ap Some is in
+    let fault = known (λ never. absurd (cc (is, never))) ∙ ap Some is in
     let at = repeat_at (map (λ (o : OwnedData). o.sheet) tasks) n fault in
     (fault, at.0, omega (arith, at.1, length-map tasks (λ (o : OwnedData). o.sheet)))
 

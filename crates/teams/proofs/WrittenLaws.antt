@@ -51,10 +51,9 @@ united_within : (ps : List Part) (sets : List TeamSetData) (d : Document) → Ar
 united_within ps sets d read all =
     let each = each_within ps sets read in
     record {
-      node = subst (λ (o : Option Node). IfSome o AreOverheads) (sym all.2) (node_within sets each);
+      node = rw (all.2) (node_within sets each);
       interrupts = record {
-        valid = subst (λ (xs : List Interrupt). All IsInterrupt xs) (sym all.3)
-            (interrupts_within sets each);
+        valid = rw (all.3) (interrupts_within sets each);
         few = omega (arith, all.0.interrupts, ap length all.3);
       };
     }
@@ -74,11 +73,11 @@ pub written_within : (text : List ℕ) (d : Document) → ReadsWritten text (Ok 
 written_within text d reads = either_within (is_gathered text) text d reads
 
 -- ---- the same answer
-pub record SaySame (u d : Document) : Type 0 where
-  pub set : d.set ≡ u.set
-  pub prefers : d.prefers ≡ u.prefers
-  pub node : d.node ≡ u.node
-  pub interrupts : d.interrupts.items ≡ u.interrupts.items
+record SaySame (u d : Document) : Type 0 where
+  set : d.set ≡ u.set
+  prefers : d.prefers ≡ u.prefers
+  node : d.node ≡ u.node
+  interrupts : d.interrupts.items ≡ u.interrupts.items
 
 either_same : (b : Bool) (text : List ℕ) (u d : Document) → SaySame u d → ReadsEither b text (Ok u)
     → ReadsEither b text (Ok d)
@@ -86,19 +85,10 @@ either_same false text u d same says =
     rw (same.set, same.prefers, same.node, same.interrupts) says
 either_same true text u d same says = rw (same.set, same.prefers, same.node, same.interrupts) says
 
-pub written_same : (text : List ℕ) (u d : Document) → SaySame u d → ReadsWritten text (Ok u)
-    → ReadsWritten text (Ok d)
-written_same text u d same reads = either_same (is_gathered text) text u d same reads
-
 -- ---- one document
 plain : (said : Option Node) (xs : List Interrupt) (U V : List Task) → said ≡ None → xs ≡ []
     → IsPadded said xs U V → V ≡ U
 plain said xs U V none bare is = rw (none, bare) at is.1
-
-pub pads_none : (u : Document) → u.node ≡ None → u.interrupts.items ≡ [] → Pads u (Ok u)
-pads_none u none bare =
-    let is : IsPadded u.node u.interrupts.items u.set u.set = rw (none, bare) (refl, refl) in
-    (is, refl, refl, refl)
 
 -- ---- the text
 pub reads_padded : (text : List ℕ) (u : Document) (answer : Result Document TeamsFault)
@@ -110,18 +100,17 @@ reads_padded text u (Err e) reads pads = inr (u, reads, pads)
 -- ---- without a node and interrupts
 pub as_written : (text : List ℕ) (d : Document) → d.node ≡ None → d.interrupts.items ≡ []
     → ReadsText text (Ok d) → ReadsWritten text (Ok d)
-as_written text d none bare reads =
-    let u = reads.0 in
-    let pads = reads.2 in
+as_written text d none bare (u, reads, (is, prefers, node, interrupts)) =
     let same : SaySame u d = record {
-      set = plain u.node u.interrupts.items u.set d.set (sym pads.2 ∙ none)
-          (sym pads.3 ∙ bare) pads.0;
-      prefers = pads.1;
-      node = pads.2;
-      interrupts = pads.3;
+      set = plain u.node u.interrupts.items u.set d.set (sym node ∙ none) (sym interrupts ∙ bare) is;
+      prefers = prefers;
+      node = node;
+      interrupts = interrupts;
     } in
-    written_same text u d same reads.1
+    either_same (is_gathered text) text u d same reads
 
 pub written : (text : List ℕ) (d : Document) → d.node ≡ None → d.interrupts.items ≡ []
     → ReadsWritten text (Ok d) → ReadsText text (Ok d)
-written text d none bare reads = (d, reads, pads_none d none bare)
+written text d none bare reads =
+    let is : IsPadded d.node d.interrupts.items d.set d.set = rw (none, bare) (refl, refl) in
+    (d, reads, (is, refl, refl, refl))
