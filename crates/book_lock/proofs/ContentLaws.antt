@@ -1,5 +1,5 @@
 -- What the tests of lines say.
-use Rattle.std.proofs.Common.{◌≡◌, ◌↔◌, Bool, IsTrue, List, sym, ◌∙◌, ap, subst}
+use Rattle.std.proofs.Common.{◌≡◌, ◌↔◌, Bool, IsTrue, List, sym, ◌∙◌, ap}
 use Rattle.task_sheet.specs.Sheet.{Task, same_sheet}
 use Rattle.task_sheet.specs.TaskSet.{IsTaskSet}
 use Rattle.task_sheet.specs.Verdicts.{FailureData, Infeasible, IsStuck}
@@ -25,17 +25,13 @@ one_obstruction U a b valid h g =
     let e : Infeasible a ≡ Infeasible b =
     IsVerdictOf-one U (AllTasks-from_set U valid) (Infeasible a) (Infeasible b) h g in cc
 
-pub same_obstructions : (first second : ObstructionData) (r : Bool) → IsTaskSet first.set
+pub same_obstructions : (first second : ObstructionData) {r : Bool} → IsTaskSet first.set
     → IsStuck first.set first.members → IsStuck second.set second.members
-    → (U V : List Task) → U ≡ first.set → V ≡ second.set → IsTrue r ↔ (U ≡ V) → IsTrue r
-    ↔ (first ≡ second)
-same_obstructions first second r valid h g U V e f told = (
+    → IsTrue r ↔ (first.set ≡ second.set) → IsTrue r ↔ (first ≡ second)
+same_obstructions first second valid h g told = (
   λ yes.
-      let sets : first.set ≡ second.set = sym e ∙ told.0 yes ∙ f in
-      let here : IsStuck first.set second.members =
-      subst (λ (W : List Task). IsStuck W second.members) (sym sets) g in
-      let members : first.members ≡ second.members =
-      one_obstruction first.set first.members second.members valid h here in
+      let sets = told.0 yes in
+      let members = one_obstruction first.set first.members second.members valid h (rw sets g) in
       λ i. let o : ObstructionData = record { set = sets i; members = members i } in o,
-  λ same. told.1 (e ∙ ap (λ (o : ObstructionData). o.set) same ∙ sym f),
+  λ same. told.1 (ap (λ (o : ObstructionData). o.set) same),
 )

@@ -1,7 +1,6 @@
 -- The first name on which two rosters differ.
 use Rattle.std.proofs.Common.{◌≡◌, ◌≢◌, ℕ, true, inl, inr, ◌⊎◌, List, [], ◌∷◌, ◌++◌, Option, None}
-use Rattle.std.proofs.Common.{Some, MatchOption, IfSome, refl, sym, ◌∙◌, ap, subst}
-use Rattle.std.specs.Option.{option_or}
+use Rattle.std.proofs.Common.{Some, MatchOption, IfSome, refl, sym, ◌∙◌, ap, subst, arith}
 use Rattle.std.specs.Ordering.{nat_cmp, is_lt}
 use Rattle.std.specs.Cmp.{tied_itself}
 use Rattle.std.specs.Cmp.Lexicographic.{slice_cmp, nat_list_cmp_total}
@@ -19,7 +18,8 @@ use Rattle.book_lock.specs.Own.{IsForeignName}
 abbrev pub IsBefore : List ℕ → Option (List ℕ) → Type 0
 IsBefore name first = IfSome first (λ f. is_lt (slice_cmp nat_cmp name f) ≡ true)
 
--- what was found among the names of some tasks: a name on which the two differ, or none, and they agree on those before
+-- what was found among the names of some tasks: a name on which the two differ, or none, and they
+-- agree on those before
 pub record IsFound (book pass seen : List Owned) (first : Option (List ℕ)) : Type 0 where
   pub differs : IfSome first (λ name. held name book ≢ held name pass)
   pub agree : (name : List ℕ) → IsBefore name first
@@ -40,7 +40,7 @@ more name seen o A (inl none) new = elim (cases_Bool (bears_name name o)) [
   | inr away ↦ inl (find-append (bears_name name) seen (o ∷ []) ∙ rw (none, away) refl)
 ]
 
-module _ (book pass seen : List Owned) (o : Owned) (first : Option (List ℕ)) where
+module _ {book pass seen : List Owned} {first : Option (List ℕ)} (o : Owned) where
   pub found-same : IsFound book pass seen first
       → (IsBefore o.sheet.name first → held o.sheet.name book ≡ held o.sheet.name pass)
       → IsFound book pass (seen ++ o ∷ []) first
@@ -67,20 +67,14 @@ whole : (book pass : List Owned) (name : List ℕ)
     → (held name (book ++ pass) ≡ None) ⊎ (held name book ≡ held name pass)
     → held name book ≡ held name pass
 whole book pass name (inr same) = same
-whole book pass name (inl none) =
-    neither (held name book) (held name pass)
-    (sym (find-append (bears_name name) book pass) ∙ none)
-  where
-    neither : (a b : Option Owned) → option_or a b ≡ None → a ≡ b
-    neither None b e = sym e
-    neither (Some x) b e = cc
+whole book pass name (inl none) = grind (arith, find-append (bears_name name) book pass)
 
-pub foreign-found : (book pass : List Owned) (first : Option (List ℕ)) → IsRoster book
+pub foreign-found : {book pass : List Owned} {first : Option (List ℕ)} → IsRoster book
     → IsRoster pass → IsFound book pass (book ++ pass) first
     → MatchOption first (book ≡ pass) (λ name. IsForeignName book pass name)
-foreign-found book pass None b p is =
+foreign-found {book} {pass} {first = None} b p is =
     reached book pass b p (λ name. whole book pass name (is.agree name tt))
-foreign-found book pass (Some name) b p is = record {
+foreign-found {book} {pass} {first = Some name} b p is = record {
   differs = is.differs;
   first = λ other lt. whole book pass other (is.agree other lt);
 }

@@ -16,8 +16,8 @@ use Rattle.drafts.specs.declared.change.Refusal.{Refusal}
 use Rattle.drafts.specs.Applied.{set_of, bears_name, held, is_foreign, without_name, placed}
 use Rattle.drafts.specs.Applied.{with_task, after_change, then_on, if_few, all_changes, applied}
 use Rattle.drafts.specs.Machine.{MachineState, empty_desk, Ruling, Admitted, Refused, Infeasible}
-use Rattle.drafts.specs.Machine.{Entry, IsRuling, IsDecision, moved, after_entry, replay}
-use Rattle.drafts.specs.Books.{Book, logged, IsLegalBook}
+use Rattle.drafts.specs.Machine.{Entry, IsRuling, moved, after_entry, replay}
+use Rattle.drafts.specs.Books.{Book, IsLegalBook}
 use Rattle.drafts.specs.Edits.{Draft}
 use Rattle.drafts.specs.Proposals.{ProposalData}
 use Rattle.drafts.proofs.HolderLaws.{few}
@@ -25,7 +25,7 @@ use Rattle.drafts.proofs.PutLaws.{then-ok, put-made, remove-made}
 use Rattle.drafts.proofs.RosterLaws.{apart-without, ranked-kept, ranked-placed, less}
 use Rattle.book_lock.specs.Own.{own_of, own_after}
 use Rattle.book_lock.specs.Opening.{IsOwn}
-use Rattle.book_lock.specs.TeamPass.{Known, receiving}
+use Rattle.book_lock.specs.TeamPass.{Known}
 use Rattle.book_lock.specs.Settles.{IsEntered, Settles}
 use Rattle.book_lock.specs.declared.answer.Settlement.TheVariants.{Decided}
 
@@ -48,36 +48,21 @@ module _ (team : ℕ) where
   own-without : (name : List ℕ) (ts : List Owned)
       → own_of team (without_name name ts) ≡ without_name name (own_of team ts)
   own-without name [] = refl
-  own-without name (x ∷ ts) = elim (cases_Bool (bears_name name x)) [
-    | inl here ↦ elim (cases_Bool (x.team == team)) [
-      | inl own ↦ rw (here, own, here) (own-without name ts)
-      | inr other ↦ rw (here, other) (own-without name ts)
-    ]
-    | inr away ↦ elim (cases_Bool (x.team == team)) [
-      | inl own ↦ rw (away, own, away) (ap (λ ys. x ∷ ys) (own-without name ts))
-      | inr other ↦ rw (away, other) (own-without name ts)
-    ]
-  ]
+  own-without name (x ∷ ts) = grind (arith, own-without name ts)
 
   -- a task that is below the first of these is below all
   first_of : (o : Owned) (ts : List Owned)
       → AllByRecursion (λ y. is_lt (rank_cmp y o.sheet) ≡ false) (set_of ts)
       → placed o (own_of team ts) ≡ o ∷ own_of team ts
   first_of o [] all = refl
-  first_of o (x ∷ ts) all = elim (cases_Bool (x.team == team)) [
-    | inl own ↦ rw (own, all.0) refl
-    | inr other ↦ rw other (first_of o ts all.1)
-  ]
+  first_of o (x ∷ ts) all = grind (arith, first_of o ts all.1)
 
   own-placed : (o : Owned) (ts : List Owned) → (o.team == team) ≡ true → IsRanked ts
       → own_of team (placed o ts) ≡ placed o (own_of team ts)
   unfolding IsStrictlySortedBy
   own-placed o [] own up = rw own refl
   own-placed o (x ∷ ts) own up = elim (cases_Bool (is_lt (rank_cmp x.sheet o.sheet))) [
-    | inl lt ↦ elim (cases_Bool (x.team == team)) [
-      | inl mine ↦ rw (lt, mine, lt) (ap (λ ys. x ∷ ys) (own-placed o ts own up.1))
-      | inr other ↦ rw (lt, other) (own-placed o ts own up.1)
-    ]
+    | inl lt ↦ grind (arith, own-placed o ts own up.1)
     | inr ge ↦ rw (ge, own)
         (sym (first_of o (x ∷ ts) (ge, not_below x.sheet o.sheet (set_of ts) ge up.0)))
   ]
@@ -85,16 +70,7 @@ module _ (team : ℕ) where
   own-held : (n : List ℕ) (ts : List Owned) → is_foreign team (held n ts) ≡ false
       → held n (own_of team ts) ≡ held n ts
   own-held n [] mine = refl
-  own-held n (x ∷ ts) mine = elim (cases_Bool (bears_name n x)) [
-    | inl here ↦ elim (cases_Bool (x.team == team)) [
-      | inl own ↦ rw (own, here) refl
-      | inr other ↦ let no : true ≡ false = (rw (here, other) at mine) in absurd (cc)
-    ]
-    | inr away ↦ elim (cases_Bool (x.team == team)) [
-      | inl own ↦ rw (own, away) (own-held n ts (rw away at mine))
-      | inr other ↦ rw (other, away) (own-held n ts (rw away at mine))
-    ]
-  ]
+  own-held n (x ∷ ts) mine = grind (arith, own-held n ts)
 
   -- ---- what changes come to on all tasks, they come to on the team's own
   abbrev Goes : List Owned → List (List ℕ × Change) → List Owned → Type 0
@@ -112,21 +88,21 @@ module _ (team : ℕ) where
       let same : (team == team) ≡ true = grind (arith, nat_tests) in
       let own : own_of team next ≡ with_task sheet.name o (own_of team ts) = ap (own_of team) made.1
       ∙ own-placed o others same rest ∙ ap (placed o) (own-without sheet.name ts) in (
-        subst IsRanked (sym made.1) (ranked-placed o others rest (apart-without sheet ts)),
+        rw made.1 (ranked-placed o others rest (apart-without sheet ts)),
         rw (own-held sheet.name ts made.0, made.0) (ap Ok (sym own)),
       )
   one-goes ts next name Remove up is =
       let made = remove-made team ts next name is in
       let own : own_of team next ≡ without_name name (own_of team ts) = ap (own_of team) made.2
       ∙ own-without name ts in (
-        subst IsRanked (sym made.2) (ranked-kept (λ x. not (bears_name name x)) ts up),
+        rw made.2 (ranked-kept (λ x. not (bears_name name x)) ts up),
         rw (own-held name ts made.0, made.0, made.1) (ap Ok (sym own)),
       )
 
   all-go : (ts last : List Owned) (changes : List (List ℕ × Change)) → IsRanked ts
       → all_changes team ts changes ≡ Ok last → Goes ts changes last
   all-go ts last [] up is = let e : ts ≡ last = cc in
-      (subst IsRanked e up, ap (λ xs. Ok (own_of team xs)) e)
+      (rw (← e) up, ap (λ xs. Ok (own_of team xs)) e)
   all-go ts last (c ∷ changes) up is =
       let made = then-ok (after_change team ts c.0 c.1) (λ next. all_changes team next changes) last
       is in
@@ -184,22 +160,13 @@ pub known-stays : (b : Book) (d : Draft) (old new : Known) (place : ℕ) (next :
 known-stays b d old new place next legal team own is =
     let e = is.0 in
     let tasks = b.desk.tasks in
-    let answer : IsDecision b.desk e.team e.changes e.decision =
-    rw (is.1.1, is.1.2) (is.1.3) in
-    let after = own-moved e.team b.desk e.decision (applied e.team tasks e.changes)
-    (all_changes e.team (own_of e.team tasks) e.changes) answer
-    (λ last applies. own-goes b e.team e.changes last legal applies) in
-    let mine : own_of old.team (logged b e).desk.tasks ≡ (receiving old place e).tasks =
-    subst (λ t. own_of t (logged b e).desk.tasks ≡ own_after e.decision
-    (all_changes t (own_of t tasks) e.changes) (own_of t tasks)) (is.1.1 ∙ team) after
-    ∙ ap (λ ts. own_after e.decision (all_changes old.team ts e.changes) ts) own in
-    subst (λ (p : Known). IsOwn next.desk p) (sym is.3)
-    (subst (λ (x : Book). IsOwn x.desk (receiving old place e)) (sym is.2) mine)
+    rw (is.2, is.3, ← own, ← team, ← is.1.1) (own-moved e.team b.desk e.decision
+    (applied e.team tasks e.changes) (all_changes e.team (own_of e.team tasks) e.changes)
+    (rw (is.1.1, is.1.2) is.1.3) (λ last. own-goes b e.team e.changes last legal))
 
 pub known-settled : (b : Book) (p : ProposalData) (old new : Known) (place : ℕ) (next : Book)
     → IsLegalBook b → p.draft.team ≡ old.team → IsOwn b.desk old
     → Settles b p old (Ok (Decided place)) next new → IsOwn next.desk new
-known-settled b p old new place next legal team own is =
-    let entered = is.2 in
+known-settled b p old new place next legal team own is = let entered = is.2 in
     known-stays b p.draft old new place next legal team own
     (entered.0, entered.2, entered.3, entered.4)

@@ -1,7 +1,7 @@
 -- One receipt more.
-use Rattle.std.proofs.Math.Bool.{and_assoc, and-true}
-use Rattle.std.proofs.Common.{◌≡◌, ◌∙◌, ℕ, Bool, ◌&&◌, nat_le, List, [], ◌∷◌, ◌++◌, map, sym, ap}
-use Rattle.std.proofs.Common.{subst}
+use Rattle.std.proofs.Math.Bool.{and-true}
+use Rattle.std.proofs.Common.{◌≡◌, ℕ, ◌&&◌, nat_le, List, [], ◌∷◌, ◌++◌, map, sym}
+use Rattle.std.proofs.Common.{arith}
 use Rattle.std.proofs.lemmas.List.{map_push}
 use Rattle.drafts.specs.Machine.{Entry}
 use Rattle.book_lock.specs.declared.pass.Receipt.{Receipt}
@@ -12,10 +12,7 @@ use Rattle.book_lock.specs.PassFields.{receipt_of, IsLatest}
 is_up_to-push : (version : ℕ) (rs : List (ℕ × Entry)) (r : ℕ × Entry) → is_up_to version
     (rs ++ r ∷ []) ≡ (is_up_to version rs && nat_le (admitted_version r.1.decision) version)
 is_up_to-push version [] r = and-true _
-is_up_to-push version (x ∷ rs) r =
-    ap (λ (b : Bool). nat_le (admitted_version x.1.decision) version && b)
-    (is_up_to-push version rs r) ∙ sym (and_assoc (nat_le (admitted_version x.1.decision) version)
-    (is_up_to version rs) (nat_le (admitted_version r.1.decision) version))
+is_up_to-push version (x ∷ rs) r = grind (arith, is_up_to-push version rs r)
 
 -- with one receipt more it is the later one
 pub IsLatest-push : (latest next : ℕ) (rs : List (ℕ × Entry)) (r : ℕ × Entry) → IsLatest latest rs
@@ -23,9 +20,7 @@ pub IsLatest-push : (latest next : ℕ) (rs : List (ℕ × Entry)) (r : ℕ × E
     ≡ (nat_le latest version && nat_le (admitted_version r.1.decision) version))
     → IsLatest next (rs ++ r ∷ [])
 IsLatest-push latest next rs r before is version =
-    is_up_to-push version rs r
-    ∙ ap (λ (b : Bool). b && nat_le (admitted_version r.1.decision) version) (before version)
-    ∙ sym (is version)
+    rw (is_up_to-push version rs r, before version) (sym (is version))
 
 -- so it is of the receipts, with room for one more, to which one is pushed
 pub IsLatest-received : (latest next : ℕ) (before roomy after : List Receipt) (r : Receipt)
@@ -34,8 +29,5 @@ pub IsLatest-received : (latest next : ℕ) (before roomy after : List Receipt) 
     ≡ (nat_le latest version && nat_le (admitted_version (receipt_of r).1.decision) version))
     → IsLatest next (map receipt_of after)
 IsLatest-received latest next before roomy after r same pushed was is =
-    let all : map receipt_of after ≡ map receipt_of before ++ receipt_of r ∷ [] =
-    ap (map receipt_of) pushed ∙ map_push receipt_of roomy r
-    ∙ ap (λ (xs : List Receipt). map receipt_of xs ++ receipt_of r ∷ []) same in
-    subst (λ (rs : List (ℕ × Entry)). IsLatest next rs) (sym all)
+    rw (pushed, map_push receipt_of roomy r, same)
     (IsLatest-push latest next (map receipt_of before) (receipt_of r) was is)

@@ -1,5 +1,5 @@
 -- From the rounds of a commit to its answer.
-use Rattle.std.proofs.Common.{◌≡◌, ◌⊎◌, inl, inr, ℕ, List, refl, sym, ap, ◌∙◌, subst}
+use Rattle.std.proofs.Common.{◌≡◌, ◌⊎◌, inl, inr, ℕ, List, ◌∙◌}
 use Rattle.std.specs.Prelude.{Result, Ok, Err}
 use Rattle.assignment.specs.Questions.{QuestionData}
 use Rattle.candidate_workers.specs.Faults.{IsBadCount}
@@ -10,7 +10,7 @@ use Rattle.drafts.specs.Machine.{MachineState}
 use Rattle.drafts.specs.Edits.{Draft, on_base}
 use Rattle.drafts.specs.Proposals.{ProposalData}
 use Rattle.book_lock.specs.Reached.{IsReached}
-use Rattle.book_lock.specs.TeamPass.{Known, receiving}
+use Rattle.book_lock.specs.TeamPass.{Known}
 use Rattle.book_lock.specs.Asking.{NoneShutApplied, IsUntested}
 use Rattle.book_lock.specs.Settles.{IsReceived, SettlesSome, HoldsSome}
 use Rattle.book_lock.specs.declared.answer.Settlement.TheVariants.{Decided}
@@ -20,52 +20,23 @@ use Rattle.book_lock.specs.declared.commit.CommitCause.{CommitCause}
 use Rattle.book_lock.specs.declared.commit.CommitCause.TheVariants.{OtherTeam, BadWorkers}
 
 -- what is settled is a decision on the proposal's changes
-pub received-settled : (p : ProposalData) (old new : Known) (place : ℕ)
+pub received-settled : {p : ProposalData} {old new : Known} {place : ℕ}
     → SettlesSome p old (Ok (Decided place)) new → IsReceived p.draft old place new
-received-settled p old new place is =
-    let entered = is.settles.2 in
-    record {
-      book = is.book;
-      next = is.next;
-      legal = is.legal;
-      entered =
-          (entered.0, entered.2, entered.3, entered.4);
-    }
+received-settled is = let entered = is.settles.2 in record {
+  book = is.book;
+  next = is.next;
+  legal = is.legal;
+  entered = (entered.0, entered.2, entered.3, entered.4);
+}
 
-pub received-held : (d : Draft) (old new : Known) (place : ℕ) → HoldsSome d old (Ok place) new
+pub received-held : {d : Draft} {old new : Known} {place : ℕ} → HoldsSome d old (Ok place) new
     → IsReceived d old place new
-received-held d old new place is =
+received-held is =
     record { book = is.book; next = is.next; legal = is.legal; entered = is.holds }
 
 -- on the draft's own base, or on a state that the node came to
 abbrev pub IsBaseOf : Draft → MachineState → Type 0
 IsBaseOf d desk = (desk ≡ d.base) ⊎ IsReached desk
-
-untested_on : (may : QuestionData → Type 0) (d e : Draft) (cause : CommitCause) → IsSameChange d e
-    → IsBaseOf d e.base → IsUntested may (on_base e) cause → IsUntestedOn may d cause
-untested_on may d e cause same from h = (e.base, from, rw (← same.0, ← same.1) h)
-
-pub on_its_base : (d e f : Draft) (base kept : MachineState) → f ≡ e → IsSameChange d e
-    → kept ≡ base → (let x : Draft = record { team = f.team; base = kept; changes = f.changes } in
-    x) ≡ (let y : Draft = record { team = d.team; base = base; changes = d.changes } in y)
-on_its_base d e f base kept back same k =
-    let team : f.team ≡ d.team = ap (λ (x : Draft). x.team) back ∙ same.0 in
-    let changes : f.changes ≡ d.changes = ap (λ (x : Draft). x.changes) back ∙ same.1 in
-    λ i. let x : Draft = record { team = team i; base = k i; changes = changes i } in x
-
-pub later_fault : (may : QuestionData → Type 0) (d e : Draft) (base kept : MachineState)
-    (old p new : Known) (f g : CommitFault)
-    → IsSameChange d e → IsBaseOf d e.base → p ≡ old → kept ≡ base
-    → IsUntested may (on_base e) f.cause → f.draft ≡ e → new ≡ p
-    → g.cause ≡ f.cause → g.draft ≡ (let x : Draft =
-    record { team = f.draft.team; base = kept; changes = f.draft.changes } in x)
-    → IsLater may d base old (Err g) new
-later_fault may d e base kept old p new f g same from pass k h back unchanged cause draft = (
-  untested_on may d e g.cause same from
-      (subst (λ (x : CommitCause). IsUntested may (on_base e) x) (sym cause) h),
-  draft ∙ on_its_base d e f.draft base kept back same k,
-  unchanged ∙ pass,
-)
 
 -- a cause that no test has
 untested_never : (may : QuestionData → Type 0) (outcome : Result (List Owned) Refusal)
@@ -83,38 +54,34 @@ undecided may workers d p BadWorkers team good h =
 undecided may workers d p cause team good h = (team, good, h)
 
 -- a decision on the same changes is one on these
-pub received_for : (d back : Draft) (p old new : Known) (place : ℕ) → IsSameChange d back → p ≡ old
+pub received_for : {d back : Draft} {p old new : Known} {place : ℕ} → IsSameChange d back → p ≡ old
     → IsReceived back p place new → IsReceived d old place new
-received_for d back p old new place same pass h =
-    let e = h.entered.0 in
-    let is = h.entered.1 in
-    record {
-      book = h.book;
-      next = h.next;
-      legal = h.legal;
-      entered = (
-        e,
-        (is.0, is.1 ∙ same.0, is.2 ∙ same.1, rw (← same.0, ← same.1) is.3),
-        h.entered.2,
-        h.entered.3 ∙ ap (λ (k : Known). receiving k place e) pass,
-      );
-    }
+received_for same pass h = let is = h.entered.1 in record {
+  book = h.book;
+  next = h.next;
+  legal = h.legal;
+  entered = (
+    h.entered.0,
+    (is.0, is.1 ∙ same.0, is.2 ∙ same.1, rw (← same.0, ← same.1) is.3),
+    h.entered.2,
+    rw (← pass) h.entered.3,
+  );
+}
 
 pub commits_later : (may always : QuestionData → Type 0) (workers : ℕ) (d back : Draft)
-    (base : MachineState) (old p new : Known) (r : Result ℕ CommitFault)
-    → d.team ≡ old.team → ¬ IsBadCount workers → NoneShutApplied always (on_base d)
-    → IsSameChange d back → base ≡ d.base → IsReached back.base → p ≡ old
-    → IsLater may back base p r new → Commits may always workers d old r new
+    (base : MachineState) (old p new : Known) (r : Result ℕ CommitFault) → d.team ≡ old.team
+    → ¬ IsBadCount workers → NoneShutApplied always (on_base d) → IsSameChange d back
+    → base ≡ d.base → IsReached back.base → p ≡ old → IsLater may back base p r new
+    → Commits may always workers d old r new
 commits_later may always workers d back base old p new (Ok place) team good none same b reached
-    pass h =
-    (team, good, none, received_for d back p old new place same pass h)
+    pass h = (team, good, none, received_for same pass h)
 commits_later may always workers d back base old p new (Err fault) team good none same b reached
     pass h =
-    let from : IsReached h.0.0 =
-    elim h.0.1 [ inl e ↦ subst IsReached (sym e) reached | inr r ↦ r ] in
+    let from : IsReached h.0.0 = elim h.0.1 [ inl e ↦ rw e reached | inr r ↦ r ] in
     let untested : IsUntestedOn may d fault.cause =
     (h.0.0, inr from, rw (← same.0, ← same.1) h.0.2) in (
       undecided may workers d old fault.cause team good untested,
-      h.1 ∙ on_its_base d back back d.base base refl same b,
+      h.1 ∙ (λ i. let x : Draft =
+          record { team = same.0 i; base = b i; changes = same.1 i } in x),
       h.2 ∙ pass,
     )

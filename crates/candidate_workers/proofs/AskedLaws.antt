@@ -7,6 +7,7 @@ use Rattle.std.specs.FinSet as members
 use Rattle.std.proofs.lemmas.List.Folds.{list_any-append, list_any_at}
 use Rattle.std.proofs.lemmas.Option.{slice_get_within, get_or_from_slice_get}
 use Rattle.std.proofs.lemmas.Bool.{cases_Bool, cases_order, or_cases, both_ways, eqb-true, eq-eqb}
+use Rattle.std.proofs.lemmas.Bool.Decides.{nat_tests}
 use Rattle.task_sheet.specs.Sheet.{Task, AllTasks}
 use Rattle.task_sheet.specs.TaskSet.{IsTaskSet}
 use Rattle.task_sheet.specs.MembersWords.{all_below}
@@ -55,17 +56,12 @@ found_of l j (inr (i, least)) member none = elim (cases_order j i) [
 among_listed : (n : ℕ) (L : Indexes) (k : ℕ) → among (listed_below n L) k ≡ true → (k < n)
     × (L k ≡ true)
 among_listed zero L k named = absurd (both_ways false refl named)
-among_listed (suc n) L k named = elim (cases_Bool (L n)) [
-  | inl member ↦ elim (or_cases (among (listed_below n L) k) (among (n ∷ []) k)
-      (sym (list_any-append (λ x. x == k) (listed_below n L) (n ∷ [])) ∙ rw member at named)) [
-        | inl before ↦ let h = among_listed n L k before in (omega arith, h.1)
-        | inr last ↦ elim (or_cases (n == k) false last) [
-          | inl e ↦ let is : n ≡ k = eqb-true n k e in (omega arith, rw is at member)
-          | inr none ↦ absurd (both_ways false refl none)
-        ]
-      ]
-  | inr out ↦ let h = among_listed n L k (rw out at named) in (omega arith, h.1)
-]
+among_listed (suc n) L k named = grind (
+  arith,
+  nat_tests,
+  among_listed n L k,
+  list_any-append (λ x. x == k) (listed_below n L) (n ∷ []),
+)
 
 -- ---- the candidate at a place
 pub candidate_member : (n : ℕ) (L : Indexes) (place k : ℕ)

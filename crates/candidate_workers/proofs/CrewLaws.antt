@@ -8,8 +8,8 @@ use Rattle.std.specs.Prelude.{IfErr}
 use Rattle.std.specs.List.{Contains}
 use Rattle.std.specs.Global.{Vec}
 use Rattle.std.proofs.lemmas.List.{map-append, append_assoc}
-use Rattle.std.proofs.lemmas.List.Elements.{All-nil, All-cons, All-append, Contains-append_left}
-use Rattle.std.proofs.lemmas.List.Elements.{Contains-append_right, Contains-append_cases}
+use Rattle.std.proofs.lemmas.List.Elements.{All-push, Contains-append_left, Contains-append_right}
+use Rattle.std.proofs.lemmas.List.Elements.{Contains-append_cases}
 use Rattle.task_sheet.specs.Sheet.{Task}
 use Rattle.assignment.specs.Questions.{QuestionData, FindingData}
 use Rattle.assignment.specs.Levels.{LevelState}
@@ -47,18 +47,12 @@ work_faults-append (Err fault ∷ hs) more =
     ap (λ fs. fault_of fault ∷ fs) (work_faults-append hs more)
 
 -- ---- the first of the faults
-goes_on : (fault other : AssayFault) (faults : List AssayFault)
-    → All (λ x. rank_of fault ≤ rank_of x) faults → rank_of fault ≤ rank_of other
-    → All (λ x. rank_of fault ≤ rank_of x) (faults ++ other ∷ [])
-goes_on fault other faults all le = let P = λ (x : AssayFault). rank_of fault ≤ rank_of x in
-    All-append P faults (other ∷ []) all (All-cons P other [] le (All-nil P))
-
 pub first_of_later : (other : AssayFault) (faults : List AssayFault)
     → All (λ x. rank_of other ≤ rank_of x) faults
     → IsFirstFault (faults ++ other ∷ []) (Some other)
 first_of_later other faults all = (
   Contains-append_right faults (other ∷ []) other (0, omega arith, refl),
-  goes_on other other faults all (omega arith),
+  All-push (λ x. rank_of other ≤ rank_of x) faults other all (omega arith),
 )
 
 pub first_of_earlier : (fault other : AssayFault) (faults : List AssayFault)
@@ -66,7 +60,7 @@ pub first_of_earlier : (fault other : AssayFault) (faults : List AssayFault)
     → IsFirstFault (faults ++ other ∷ []) (Some fault)
 first_of_earlier fault other faults less first = (
   Contains-append_left faults (other ∷ []) fault first.0,
-  goes_on fault other faults first.1 less,
+  All-push (λ x. rank_of fault ≤ rank_of x) faults other first.1 less,
 )
 
 -- of one more worker

@@ -73,7 +73,7 @@ found_other l (Err fault) none = λ k some. absurd (omega arith)
 get_last : (xs : List ℕ) (y p i : ℕ) → slice_get (xs ++ y ∷ []) p ≡ Some i
     → (slice_get xs p ≡ Some i) ⊎ ((p ≡ length xs) × (y ≡ i))
 get_last [] y zero i at = inr (refl, cc)
-get_last [] y (suc p) i at = absurd (cc)
+get_last [] y (suc p) i at = cc
 get_last (x ∷ xs) y zero i at = inl at
 get_last (x ∷ xs) y (suc p) i at = elim (get_last xs y p i at) [
   | inl h ↦ inl h
@@ -95,18 +95,13 @@ place_is (suc n) L p i at = elim (cases_Bool (L n)) [
 fewer_below : (L : Indexes) (j i : ℕ) → j < i → IsTrue (L j)
     → length (listed_below j L) < length (listed_below i L)
 fewer_below L j zero less member = absurd (omega arith)
-fewer_below L j (suc i) less member = elim (cases_eq j i) [
-  | inl e ↦
-      let here : L i ≡ true = ap L (sym e) ∙ member in
-      let same : length (listed_below j L) ≡ length (listed_below i L) =
-      ap (λ k. length (listed_below k L)) e in
-      rw here (omega (arith, length-append (listed_below i L) (i ∷ [])))
-  | inr ne ↦
-      let fewer = fewer_below L j i (omega arith) member in
-      elim (cases_Bool (L i)) [
-        | inl here ↦ rw here (omega (arith, length-append (listed_below i L) (i ∷ [])))
-        | inr out ↦ rw out fewer
-      ]
+fewer_below L j (suc i) less member = let all = listed_below i L in elim (cases_eq j i) [
+  | inl e ↦ let here : L i ≡ true = ap L (sym e) ∙ member in
+      rw (e, here) (omega (arith, length-append all (i ∷ [])))
+  | inr ne ↦ let fewer = fewer_below L j i (omega arith) member in elim (cases_Bool (L i)) [
+    | inl here ↦ rw here (omega (arith, length-append all (i ∷ [])))
+    | inr out ↦ rw out fewer
+  ]
 ]
 
 -- a candidate whose place is among those that have a finding

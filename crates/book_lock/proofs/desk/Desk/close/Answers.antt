@@ -1,4 +1,4 @@
-use Rattle.std.proofs.Common.{◌≡◌, ◌≤◌, ℕ, map, sym, ap, subst, ◌∙◌}
+use Rattle.std.proofs.Common.{◌≡◌, map, sym, ap, subst, ◌∙◌}
 use Rattle.drafts.specs.Books.{Book, IsLegalBook}
 use Rattle.book_lock.proofs.desk.Desk.close.Goals as goal
 
@@ -15,12 +15,10 @@ returns-clause-ok g c =
     let state : b.desk ≡ held.desk = c.into_parts-state.ensures.state
     ∙ ap (λ (x : Book). x.desk) c.audit.ensures.same in
     let same : b ≡ held = λ i. let x : Book = record { desk = state i; log = log i } in x in
-    let within : (team : ℕ) → team ≤ c.args.self → team ≤ c.self.inside.teams =
-    λ team high. subst (λ (n : ℕ). team ≤ n) (sym c.self.view_is) high in
     record {
       legal = subst IsLegalBook (sym same) c.audit.ensures.legal;
       there = λ team low high.
-          rw c.deref.ensures.value at (c.in_default.ensures team low (within team high));
+          rw c.deref.ensures.value at (c.in_default.ensures team low (rw c.self.view_is high));
       receipted = λ team low high. rw (c.log.ensures ∙ sym log, c.deref-2.ensures.value) at
-          (c.in_default-mismatch.ensures team low (within team high));
+          (c.in_default-mismatch.ensures team low (rw c.self.view_is high));
     }

@@ -6,14 +6,10 @@ use Rattle.book_lock.proofs.desk.Desk.commit.Goals as goal
 
 pub returns-in-Ok-Overtaken : goal.returns-in-Ok-Overtaken
 returns-in-Ok-Overtaken g c =
-    let may : QuestionData → Type 0 = λ q. g.G.Gate.may_shut c.args.gate.now q in
-    let always : QuestionData → Type 0 = λ q. g.G.Gate.always_shuts c.args.gate.now q in
     let h = rw c.in-Ok-Overtaken.field-0-is at c.in-Ok-Overtaken.ensures in
     let team : c.args.draft.team ≡ c.args.pass.now.team = search rules in
     let good : ¬ IsBadCount c.args.workers = search rules in
-    commits_later may always c.args.workers c.args.draft c.in-Ok-Overtaken.draft
-    c.in-Ok-Overtaken.base.value c.args.pass.now c.round.new.pass c.later_rounds.new.pass
-    c.later_rounds.result team good h.0 h.1 h.2 h.4 h.5 c.later_rounds.ensures
+    commits_later _ _ _ _ _ _ _ _ _ _ team good h.0 h.1 h.2 h.4 h.5 c.later_rounds.ensures
 
 pub returns-in-Err : goal.returns-in-Err
 returns-in-Err g c =
