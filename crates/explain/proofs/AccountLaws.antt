@@ -1,5 +1,5 @@
 -- The responses of an order, each with its parts.
-use Rattle.std.proofs.Common.{◌≡◌, ℕ, ◌<◌, ◌≤◌, List, [], ◌∷◌, length, All, sym, subst, arith}
+use Rattle.std.proofs.Common.{◌≡◌, ℕ, ◌<◌, ◌≤◌, List, [], ◌∷◌, length, All, arith}
 use Rattle.std.proofs.lemmas.Bool.{ltb-true}
 use Rattle.std.proofs.lemmas.List.Elements.{All-from_recursion}
 use Rattle.task_sheet.specs.Sheet.{Task, AllTasks}
@@ -29,8 +29,7 @@ module _ (U : List Task) (valid : AllTasks U) where
       IsOrderOf-among (without_index L p.task) above rest in
       let lt : p.task < length U =
       ltb-true p.task (length U) (part p.task (IsOrderOf-head L p.task above each)) in
-      let response : IsResponseOf U p.task (among above) p.response =
-      subst (λ (X : Indexes). IsResponseOf U p.task X p.response) (sym same) responds.0 in
+      let response : IsResponseOf U p.task (among above) p.response = rw same responds.0 in
       let found = (Passes-iff_response U valid p.task (among above) lt).0 stands.0.0 in (
         record {
           in_set = lt;

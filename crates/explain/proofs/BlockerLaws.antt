@@ -1,8 +1,7 @@
 -- The first of the sections that block longest.
 use Rattle.std.proofs.Common.{◌≡◌, ◌≢◌, ℕ, zero, suc, ◌+◌, ◌<◌, inl, inr, Bool, true, false, ◌&&◌}
 use Rattle.std.proofs.Common.{◌||◌, List, [], ◌∷◌, length, slice_get, Some, None, is_some, refl}
-use Rattle.std.proofs.Common.{sym}
-use Rattle.std.proofs.Common.{◌∙◌, ap, subst, arith}
+use Rattle.std.proofs.Common.{sym, ◌∙◌, ap, arith}
 use Rattle.std.specs.List.{find, list_any}
 use Rattle.std.proofs.lemmas.Bool.{cases_Bool, cases_eq, both_ways, and_right}
 use Rattle.std.proofs.lemmas.Option.{same_Some, slice_get_within, slice_get-get_or}
@@ -64,7 +63,7 @@ HasNoneBefore-more U X task len place s before at here =
       | inl e ↦
           let same : s ≡ other = same_Some s other
           (sym at ∙ sym (ap (λ n. slice_get (task_at U task).sections n) e) ∙ there) in
-          subst (λ (x : CriticalSection). reaches U X x ≡ true → x.len ≢ len) same here reached
+          (rw same at here) reached
       | inr ne ↦ before k other (omega arith) there reached
     ]
 
@@ -90,8 +89,7 @@ pub NoneAmong-more : (U : List Task) (X : Indexes) (len n : ℕ) → NoneAmong U
     → (X n ≡ false → HasNoneBefore U X n len (length (task_at U n).sections))
     → NoneAmong U X len (n + 1)
 NoneAmong-more U X len n before here = λ k lt outside. elim (cases_eq k n) [
-  | inl e ↦ subst (λ j. X j ≡ false → HasNoneBefore U X j len (length (task_at U j).sections))
-      (sym e) here outside
+  | inl e ↦ rw e (here (rw e at outside))
   | inr ne ↦ before k (omega arith) outside
 ]
 
@@ -105,10 +103,9 @@ first-blocks U i H owner b lt outside before is =
     record {
       section = is.section;
       blocks = record {
-        in_set = subst (λ k. k < length U) (sym is.owner) lt;
-        outside = subst (λ k. X k ≡ false) (sym is.owner) outside;
-        section = subst (λ k. slice_get (task_at U k).sections b.place ≡ Some is.section)
-            (sym is.owner) is.placed;
+        in_set = rw is.owner lt;
+        outside = rw is.owner outside;
+        section = rw is.owner is.placed;
         reached = lock-reaches U X is.section b.lock is.lock;
       };
       len = is.len_is ∙ sym is.long;
@@ -116,15 +113,14 @@ first-blocks U i H owner b lt outside before is =
       first = λ task place s blocks earlier.
           let most = blocking-above U i H s (BlocksAt-Blocks U i H task place s blocks) in
           let shorter : s.len ≢ longest = elim earlier [
-            | inl lower ↦ before task (subst (λ k. task < k) is.owner lower) blocks.outside place s
+            | inl lower ↦ before task (rw is.owner at lower) blocks.outside place s
                 (slice_get_within (task_at U task).sections place s blocks.section) blocks.section
                 blocks.reached
             | inr same ↦
                 let e : task ≡ owner = same.0 ∙ is.owner in
-                is.first place s same.1 (subst (λ k. slice_get (task_at U k).sections place
-                ≡ Some s) e blocks.section) blocks.reached
+                is.first place s same.1 (rw e at blocks.section) blocks.reached
           ] in
-          subst (λ n. s.len < n) (sym is.len_is) (omega (arith, most, shorter));
+          rw is.len_is (omega (arith, most, shorter));
       lock = is.lock;
     }
 

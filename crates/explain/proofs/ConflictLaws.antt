@@ -1,6 +1,6 @@
 -- Greatest obstructions within some tasks, and what is left where the tasks are gone through one by one.
 use Rattle.std.proofs.Common.{◌≡◌, ℕ, zero, suc, ◌+◌, ◌<◌, ◌≤◌, ◌⊎◌, inl, inr, true, false, List}
-use Rattle.std.proofs.Common.{length, refl, sym, ◌∙◌, ap, subst, arith}
+use Rattle.std.proofs.Common.{length, refl, sym, ◌∙◌, subst, arith}
 use Rattle.std.specs.Ordering.{nat_cmp}
 use Rattle.std.specs.FinSet as members
 use Rattle.std.proofs.lemmas.Bool.{cases_Bool, cases_eq, both_ways, ltb-true}
@@ -38,7 +38,7 @@ pub IsPeeled-remove : (U : List Task) (L : Indexes) (left left' : members.FinSet
     → AllTasks U → IsPeeled U L (indexes_of left) → left' ≡ members.remove left i
     → Stands U i (without_index (indexes_of left) i) → IsPeeled U L (indexes_of left')
 IsPeeled-remove U L left left' i valid so removed stands =
-    subst (λ (X : Indexes). IsPeeled U L X) (sym (ap indexes_of removed ∙ indexes_of-remove left i))
+    rw (removed, indexes_of-remove left i)
     (IsPeeled-less U L (indexes_of left) i valid so stands)
 
 pub IsPeeled-stuck : (U : List Task) (L left : Indexes) (k : ℕ) → IsPart L (all_of U)
@@ -93,21 +93,20 @@ IsThin-stays U S L n thin none = record {
   obstruction = thin.obstruction;
   part = thin.part;
   spared = λ j lt member. elim (cases_eq j n) [
-    | inl e ↦ subst (λ i. ¬ HoldsObstruction U (without_index L i)) (sym e) (none (rw e at member))
+    | inl e ↦ rw e (none (rw e at member))
     | inr ne ↦ thin.spared j (omega arith) member
   ];
 }
 
 pub IsThin-left : (U : List Task) (S : Indexes) (n : ℕ) (M : Indexes) → IsObstruction U S
     → IsLeftOf U S n M → IsThin U S n M
-IsThin-left U S zero M o left = subst (λ X. IsThin U S 0 X) (sym left)
-    (record { obstruction = o; part = λ k h. h; spared = λ j lt. absurd (omega arith) })
+IsThin-left U S zero M o left =
+    rw left (record { obstruction = o; part = λ k h. h; spared = λ j lt. absurd (omega arith) })
 IsThin-left U S (suc n) M o left =
     let thin = IsThin-left U S n left.0 o left.1 in
     elim left.2 [
       | inl replaced ↦ IsThin-replaced U S left.0 M n thin replaced.1
-      | inr stays ↦ subst (λ X. IsThin U S (suc n) X) (sym stays.1)
-          (IsThin-stays U S left.0 n thin stays.0)
+      | inr stays ↦ rw stays.1 (IsThin-stays U S left.0 n thin stays.0)
     ]
 
 pub IsThin-least : (U : List Task) (S M : Indexes) → IsThin U S (length U) M → IsLeastConflict U M

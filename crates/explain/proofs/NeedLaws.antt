@@ -58,8 +58,7 @@ last-step W limit before last (a ∷ rest) full =
 pub ends-step : (W : ℕ → ℕ) (limit before last : ℕ) (chain : List ℕ) → IsFullChain W limit chain
     → EndsWith chain before last → IsLastStep W limit before last
 ends-step W limit before last chain full ends =
-    last-step W limit before last ends.0
-    (subst (λ (ns : List ℕ). IsFullChain W limit ns) ends.1 full)
+    last-step W limit before last ends.0 (rw ends.1 at full)
 
 -- ---- lists of tasks
 pub order-reverse : (L : Indexes) (order : List ℕ) → IsOrderOf L order → IsOrderOf L (reverse order)
@@ -80,18 +79,14 @@ pub AreNeedsOf-in : (U : List Task) (C : Indexes) (n : ℕ) (before after : List
     → C n ≡ true → after ≡ before ++ need ∷ [] → AreNeedsOf U C (listed_below n C) before
     → IsNeedOf U C n need → AreNeedsOf U C (listed_below (n + 1) C) after
 AreNeedsOf-in U C n before after need member pushed are is =
-    subst (λ (ns : List Need). AreNeedsOf U C (listed_below (n + 1) C) ns) (sym pushed)
-    (subst (λ (tasks : List ℕ). AreNeedsOf U C tasks (before ++ need ∷ []))
-    (sym (listed_below-member n C member))
-    (AreNeedsOf-push U C (listed_below n C) before n need are is))
+    rw (pushed, listed_below-member n C member)
+    (AreNeedsOf-push U C (listed_below n C) before n need are is)
 
 pub AreNeedsOf-out : (U : List Task) (C : Indexes) (n : ℕ) (before after : List Need) → C n ≡ false
     → after ≡ before → AreNeedsOf U C (listed_below n C) before
     → AreNeedsOf U C (listed_below (n + 1) C) after
 AreNeedsOf-out U C n before after outside same are =
-    subst (λ (ns : List Need). AreNeedsOf U C (listed_below (n + 1) C) ns) (sym same)
-    (subst (λ (tasks : List ℕ). AreNeedsOf U C tasks before)
-    (sym (listed_below-other n C outside)) are)
+    rw (same, listed_below-other n C outside) are
 
 -- ---- what holds of each
 pub All-reversed : (P : ℕ → Type 0) (xs : List ℕ) → All P xs → All P (reverse xs)
@@ -100,20 +95,16 @@ All-reversed P xs all k d lt =
     subst P (sym (get_or-reverse xs k d (omega (arith, lt, length-reverse xs))))
     (all (length xs - 1 - k) d far)
 
-push-below : (m n : ℕ) (xs : List ℕ) → n < m → AllByRecursion (λ k. k < m) xs
-    → AllByRecursion (λ k. k < m) (xs ++ n ∷ [])
-push-below m n [] lt all = (lt, tt)
-push-below m n (x ∷ xs) lt all = (all.0, push-below m n xs lt all.1)
-
-either-below : (m n : ℕ) (xs : List ℕ) (b : Bool) → n < m → AllByRecursion (λ k. k < m) xs
-    → AllByRecursion (λ k. k < m) (cond b (xs ++ n ∷ []) xs)
-either-below m n xs true lt all = push-below m n xs lt all
-either-below m n xs false lt all = all
-
 listed-below : (n m : ℕ) (L : Indexes) → n ≤ m → AllByRecursion (λ k. k < m) (listed_below n L)
 listed-below zero m L le = tt
 listed-below (suc n) m L le =
-    either-below m n (listed_below n L) (L n) (omega arith) (listed-below n m L (omega arith))
+    grown (L n) (listed_below n L) (listed-below n m L (omega arith))
+  where
+    grown : (b : Bool) (ks : List ℕ) → AllByRecursion (λ k. k < m) ks
+        → AllByRecursion (λ k. k < m) (cond b (ks ++ n ∷ []) ks)
+    grown false ks h = h
+    grown true [] h = (omega arith, tt)
+    grown true (k ∷ ks) h = (h.0, grown true ks h.1)
 
 pub falling-within : (n : ℕ) (L : Indexes) → All (λ k. k < n) (reverse (listed_below n L))
 falling-within n L = All-reversed (λ k. k < n) (listed_below n L)

@@ -3,7 +3,6 @@ use Rattle.std.proofs.Common.{◌≡◌, ℕ, zero, suc, ◌+◌, ◌<◌, ◌�
 use Rattle.std.proofs.Common.{length, map, sum_by, Option, Some, None, refl, sym, ◌∙◌, ap, arith}
 use Rattle.std.proofs.lemmas.Bool.{cases_eq, ltb-true}
 use Rattle.std.proofs.lemmas.List.Sums.{sum_by-append, sum_by-cons}
-use Rattle.task_sheet.specs.declared.node.Interrupt.{Interrupt}
 use Rattle.task_sheet.specs.Sheet.{Task, task_at}
 use Rattle.task_sheet.specs.Indexes.{Indexes, IsPart, below, no_index, without_index, sum_below}
 use Rattle.task_sheet.specs.Demand.{interference_of, interference_within, interrupt_within}
@@ -68,15 +67,11 @@ sum_first : (n : ℕ) (f : ℕ → ℕ) → sum_below (suc n) f ≡ f 0 + sum_be
 sum_first zero f = omega arith
 sum_first (suc n) f = omega (arith, sum_first n f)
 
-times_of : (U : List Task) (time : ℕ) (order : List ℕ) → sum_by (λ (a : AboveData). a.time)
-    (map (above_at U time) order) ≡ sum_by (λ h. interference_of (task_at U h) time) order
-times_of U time [] = refl
-times_of U time (h ∷ order) =
-    rw (
-      sum_by-cons (λ (a : AboveData). a.time) (above_at U time h) (map (above_at U time) order),
-      sum_by-cons (λ h. interference_of (task_at U h) time) h order,
-      times_of U time order,
-    ) refl
+sum_map : {A B : Type 0} (g : B → ℕ) (f : A → B) (xs : List A)
+    → sum_by g (map f xs) ≡ sum_by (λ x. g (f x)) xs
+sum_map g f [] = refl
+sum_map g f (x ∷ xs) =
+    rw (sum_by-cons g (f x) (map f xs), sum_by-cons (λ x. g (f x)) x xs, sum_map g f xs) refl
 
 -- ---- timers and interrupts
 -- what is summed over the tasks of a set, by their indexes
@@ -85,17 +80,6 @@ sum_tasks : (f : Task → ℕ) (U : List Task)
 sum_tasks f [] = refl
 sum_tasks f (t ∷ U) =
     rw (sum_by-cons f t U, sym (sum_tasks f U)) (sum_first (length U) (λ k. f (task_at (t ∷ U) k)))
-
-interruptions_of : (time : ℕ) (xs : List Interrupt) → sum_by (λ (x : Interruption). x.time)
-    (map (interruption_at time) xs) ≡ sum_by (interrupt_within time) xs
-interruptions_of time [] = refl
-interruptions_of time (x ∷ xs) =
-    rw (
-      sum_by-cons (λ (x : Interruption). x.time) (interruption_at time x) (map (interruption_at
-          time) xs),
-      sum_by-cons (interrupt_within time) x xs,
-      interruptions_of time xs,
-    ) refl
 
 -- those of a task, and those of the rest
 interrupted_sum : (time : ℕ) (U : List Task) → timers_within U time + sum_by (interrupt_within time)
@@ -117,10 +101,9 @@ unfolding interrupts_within
 interrupts-parts U time =
     omega (
       arith,
-      interruptions_of time (all_interrupts U),
+      sum_map (λ (x : Interruption). x.time) (interruption_at time) (all_interrupts U),
       interrupted_sum time U,
-      sum_tasks
-          (interrupts_of time) U,
+      sum_tasks (interrupts_of time) U,
     )
 
 blocked_is : (U : List Task) (i : ℕ) (H : Indexes) (b : Option BlockerData) → IsBlockerOf U i H b
@@ -134,8 +117,9 @@ pub parts-demand : (U : List Task) (i : ℕ) (H : Indexes) (order : List ℕ) (t
 unfolding demand_of
 parts-demand U i H order time parts is each part =
     let above : sum_by (λ (a : AboveData). a.time) parts.above ≡ interference_within U H time =
-    ap (λ (xs : List AboveData). sum_by (λ (a : AboveData). a.time) xs) is.above ∙ times_of U time
-    order ∙ sum-order (λ h. interference_of (task_at U h) time) (length U) H order each part in
+    ap (λ (xs : List AboveData). sum_by (λ (a : AboveData). a.time) xs) is.above
+    ∙ sum_map (λ (a : AboveData). a.time) (above_at U time) order
+    ∙ sum-order (λ h. interference_of (task_at U h) time) (length U) H order each part in
     let interrupts : sum_by (λ (x : Interruption). x.time) parts.interrupts
     ≡ sum_by (λ (x : Interruption). x.time) (map (interruption_at time) (all_interrupts U)) =
     ap (λ (xs : List Interruption). sum_by (λ (x : Interruption). x.time) xs) is.interrupts in

@@ -1,8 +1,7 @@
-use Rattle.std.proofs.Common.{inl, inr, refl, ◌∙◌, ap, sym, subst}
+use Rattle.std.proofs.Common.{inl, inr, refl, ◌∙◌, ap, sym}
 use Rattle.task_sheet.specs.Indexes.{Indexes, indexes_of}
 use Rattle.task_sheet.proofs.IndexLaws.{without-parts}
 use Rattle.task_sheet.proofs.MembersIndexes.{indexes_of-remove}
-use Rattle.explain.specs.Conflict.{HoldsObstruction, IsGreatestWithin}
 use Rattle.explain.proofs.conflict.gone_through.Goals as goal
 
 pub greatest_within-requires : goal.greatest_within-requires
@@ -13,20 +12,10 @@ greatest_within-requires c = λ k h.
 
 pub returns-in-Some : goal.returns-in-Some
 returns-in-Some c =
-    let U = c.args.set.now in
     let less = ap indexes_of c.without.ensures ∙ indexes_of-remove c.args.tasks c.args.task in
-    inl (
-      sym c.has.ensures ∙ c.if-not-has.false,
-      subst (λ (X : Indexes). IsGreatestWithin U X
-          (indexes_of c.in-Some.rest)) less c.in-Some.ensures.some,
-    )
+    inl (sym c.has.ensures ∙ c.if-not-has.false, rw less at c.in-Some.ensures.some)
 
 pub returns-in-None : goal.returns-in-None
 returns-in-None c =
-    let U = c.args.set.now in
     let less = ap indexes_of c.without.ensures ∙ indexes_of-remove c.args.tasks c.args.task in
-    inr (
-      λ member. subst (λ (X : Indexes). ¬ HoldsObstruction U X) less
-          c.in-None.ensures.none,
-      refl,
-    )
+    inr (λ member. rw less at c.in-None.ensures.none, refl)
