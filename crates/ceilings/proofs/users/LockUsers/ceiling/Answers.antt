@@ -1,12 +1,11 @@
-use Rattle.std.proofs.Common.{◌≡◌, ℕ, Some, cond, ◌+◌, slice_index_or}
-use Rattle.std.proofs.lemmas.List.{get_or_default}
-use Rattle.task_sheet.specs.Indexes.{indexes_of}
-use Rattle.ceilings.proofs.Highest.{highest_more, ceiling_found}
+use Rattle.std.proofs.Common.{◌≡◌, ◌∙◌, ℕ, Some, cond, ◌+◌, slice_index_or}
+use Rattle.std.proofs.lemmas.List.{get_or_default, take_all}
+use Rattle.ceilings.proofs.Highest.{ceiling_more}
 use Rattle.ceilings.proofs.users.LockUsers.ceiling.Goals as goal
 use Rattle.ceilings.proofs.users.LockUsers.ceiling.Goals.{then-has, else-has}
 
 pub loop-below-preserved : goal.loop-below-preserved
-loop-below-preserved c =
+loop-below-preserved c = λ U table.
     let order = c.args.order.now in
     let k = c.loop-below.below in
     let i : ℕ = slice_index_or order k 0 in
@@ -15,11 +14,10 @@ loop-below-preserved c =
       | then-has w ↦ rw (w.if-has.true) w.highest-is
       | else-has w ↦ rw (w.if-has.false) w.highest-is
     ] in
-    highest_more (indexes_of c.users-users.result) order k i c.has.result c.loop-below.highest
-    c.if-has.highest c.loop-below-test.true
-    (get_or_default order k 0 i c.loop-below-test.true) c.has.ensures c.loop-below.invariant next
+    ceiling_more U c.args.lock order k i c.has.result c.loop-below.highest c.if-has.highest
+    c.loop-below-test.true (get_or_default order k 0 i c.loop-below-test.true)
+    (c.has.ensures ∙ c.users-users.ensures.uses U table i) (c.loop-below.invariant U table) next
 
 pub returns : goal.returns
-returns c = λ U table. ceiling_found U (indexes_of c.users-users.result) c.args.lock
-    c.args.order.now c.loop-below.below c.loop-below.highest
-    (c.users-users.ensures.uses U table) c.loop-below-test.false c.loop-below.invariant
+returns c = λ U table. rw (take_all c.loop-below.below c.args.order.now c.loop-below-test.false)
+    at (c.loop-below.invariant U table)

@@ -1,7 +1,9 @@
-use Rattle.std.proofs.Common.{◌≡◌, take}
-use Rattle.task_sheet.specs.Indexes.{indexes_of}
-use Rattle.ceilings.proofs.Highest.{highest_from}
+use Rattle.std.proofs.Common.{◌≡◌, List, take}
+use Rattle.task_sheet.specs.Sheet.{Task}
+use Rattle.task_sheet.specs.Locks.{ceiling_of}
+use Rattle.ceilings.specs.IsTableOf.{AreUsersOf}
 use Rattle.ceilings.proofs.users.LockUsers.ceiling.Given as goal
 
 abbrev pub invariant-loop-below : goal.invariant-loop-below
-invariant-loop-below l = l.highest ≡ highest_from 1 (indexes_of l.users) (take l.below l.order)
+invariant-loop-below l = (U : List Task) → AreUsersOf U l.self
+    → l.highest ≡ ceiling_of U (take l.below l.order) l.fn.lock
