@@ -1,5 +1,5 @@
-use Rattle.std.proofs.Common.{◌++◌, ◌+◌, ◌<◌, ◌∙◌, ℕ, List, [], length, get_or, drop, option_map}
-use Rattle.std.proofs.Common.{ap, sym, append_assoc, arith, string_bytes}
+use Rattle.std.proofs.Common.{◌+◌, ◌<◌, ◌∙◌, [], length, get_or, drop, option_map}
+use Rattle.std.proofs.Common.{append_assoc, arith, string_bytes}
 use Rattle.std.proofs.lemmas.List.{drop_more}
 use Rattle.std.proofs.lemmas.Option.{slice_get-get_or}
 use Rattle.ceilings.specs.IsTableOf.{locks_of}
@@ -9,20 +9,13 @@ use Rattle.settings.proofs.text.push_mutexes.Goals as goal
 
 pub loop-place-preserved : goal.loop-place-preserved
 loop-place-preserved c =
-    let U = c.args.set.now in
-    let order = c.args.order.now in
-    let base = c.args.base in
-    let locks = locks_of U in
+    let locks = locks_of c.args.set.now in
     let place = c.loop-place.place in
-    let before = string_bytes c.loop-place.text in
     let lt : place < length locks =
     omega (arith, c.lock_count-place-end.ensures, c.loop-place-test.true) in
-    let lock : List ℕ = get_or locks place [] in
-    let rest : List ℕ = mutex_lines_from U base order (drop (place + 1) locks) in
-    ap (λ (text : List ℕ). text ++ rest)
-    (c.in_ok-push_lock.ensures lock (slice_get-get_or locks place [] lt))
-    ∙ append_assoc before
-    (mutex_line lock (option_map (priority_of base) (ceiling_of U order lock))) rest
-    ∙ ap (λ (ls : List (List ℕ)). before ++ mutex_lines_from U base order ls)
-    (sym (drop_more locks place [] lt))
-    ∙ c.loop-place.invariant
+    rw (c.in_ok-push_lock.ensures (get_or locks place []) (slice_get-get_or locks place [] lt))
+    (append_assoc (string_bytes c.loop-place.text) (mutex_line (get_or locks place [])
+    (option_map (priority_of c.args.base)
+    (ceiling_of c.args.set.now c.args.order.now (get_or locks place []))))
+    (mutex_lines_from c.args.set.now c.args.base c.args.order.now (drop (place + 1) locks))
+    ∙ rw (drop_more locks place [] lt) at c.loop-place.invariant)
