@@ -1,5 +1,5 @@
 -- A set with interrupts on the account of its first task is a set, by the same ranks.
-use Rattle.std.proofs.Common.{◌≡◌, ◌<◌, None, List, [], ◌∷◌, length, get_or, refl, ◌∙◌, ap, arith}
+use Rattle.std.proofs.Common.{◌≡◌, ◌<◌, None, List, [], ◌∷◌, length, get_or, refl, ◌∙◌, arith}
 use Rattle.std.specs.List.{All, insert, remove}
 use Rattle.std.specs.List.Sorted.{IsStrictlySortedBy}
 use Rattle.std.proofs.lemmas.List.Elements.{All-from_recursion, recursion_from_All}
@@ -18,18 +18,12 @@ count-charged U [] = refl
 count-charged [] (x ∷ xs) = refl
 count-charged (t ∷ ts) (x ∷ xs) = refl
 
-ranked-charged : (U : List Task) (xs : List Interrupt) → IsStrictlySortedBy rank_cmp U
-    → IsStrictlySortedBy rank_cmp (charged xs U)
+kept-charged : (U : List Task) (xs : List Interrupt) → IsTaskSet U
+    → IsStrictlySortedBy rank_cmp (charged xs U) × AreDistinct same_name (charged xs U)
 unfolding IsStrictlySortedBy
-ranked-charged U [] h = h
-ranked-charged [] (x ∷ xs) h = h
-ranked-charged (t ∷ ts) (x ∷ xs) h = h
-
-distinct-charged : (U : List Task) (xs : List Interrupt) → AreDistinct same_name U
-    → AreDistinct same_name (charged xs U)
-distinct-charged U [] h = h
-distinct-charged [] (x ∷ xs) h = h
-distinct-charged (t ∷ ts) (x ∷ xs) h = h
+kept-charged U [] set = (set.ranked, set.distinct)
+kept-charged [] (x ∷ xs) set = (set.ranked, set.distinct)
+kept-charged (t ∷ ts) (x ∷ xs) set = (set.ranked, set.distinct)
 
 valid-charged : (U : List Task) (xs : List Interrupt) → AreInterrupts xs → All IsValidSheet U
     → All IsValidSheet (charged xs U)
@@ -44,20 +38,20 @@ pub set-charged : (U : List Task) (xs : List Interrupt) → IsTaskSet U → AreI
     → IsTaskSet (charged xs U)
 set-charged U xs set limits = record {
   valid = valid-charged U xs limits set.valid;
-  ranked = ranked-charged U xs set.ranked;
-  distinct = distinct-charged U xs set.distinct;
+  ranked = (kept-charged U xs set).0;
+  distinct = (kept-charged U xs set).1;
   few = omega (arith, set.few, count-charged U xs);
 }
 
 pub IsByRank-charged : (U V : List Task) (xs : List Interrupt) → IsTaskSet U
     → IsByRank (charged xs U) V → V ≡ charged xs U
 IsByRank-charged U V xs set by_rank =
-    IsByRank-is (charged xs U) V (ranked-charged U xs set.ranked) by_rank
+    IsByRank-is (charged xs U) V (kept-charged U xs set).0 by_rank
 
 -- the sheets are no fault
 pub no_fault-charged : (U : List Task) (xs : List Interrupt) → IsTaskSet U
     → sheets_fault (charged xs U) ≡ None
-no_fault-charged U xs set = no_fault (charged xs U) (distinct-charged U xs set.distinct)
+no_fault-charged U xs set = no_fault (charged xs U) (kept-charged U xs set).1
     (omega (arith, set.few, count-charged U xs))
 
 -- the first task, taken out and put back with them
@@ -67,7 +61,4 @@ pub charged-first : (U V : List Task) (xs ys : List Interrupt) (t y : Task) → 
 charged-first U V [] ys t y some any same is holds put = absurd (omega (arith, some))
 charged-first [] V (x ∷ xs) ys t y some any same is holds put = absurd (omega (arith, any))
 charged-first (u ∷ us) V (x ∷ xs) ys t y some any same is holds put =
-    put
-    ∙ ap (λ (z : Task). z ∷ us) holds
-    ∙ ap (λ (zs : List Interrupt). interrupted t zs ∷ us) same
-    ∙ ap (λ (z : Task). interrupted z (x ∷ xs) ∷ us) is
+    put ∙ rw (holds, same, is) refl

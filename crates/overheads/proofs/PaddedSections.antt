@@ -1,6 +1,6 @@
 -- Sections with what the node takes: one after the other, as many, and as they were where it takes nothing.
 use Rattle.std.proofs.Common.{◌≡◌, ℕ, zero, suc, ◌+◌, ◌-◌, ◌<◌, ◌≤◌, List, [], ◌∷◌, ◌++◌, length}
-use Rattle.std.proofs.Common.{get_or, take, refl, sym, ◌∙◌, ap, subst, arith}
+use Rattle.std.proofs.Common.{get_or, take, refl, sym, ◌∙◌, ap, arith}
 use Rattle.std.proofs.Math.Nat.{mul-le-mul_right, zero-mul}
 use Rattle.std.proofs.lemmas.List.{take_more}
 use Rattle.std.proofs.lemmas.List.Sums.{sum_by-cons, sum_by_more_le}
@@ -13,9 +13,7 @@ use Rattle.overheads.specs.Padding.{padded_section, padded_sections, padded_cost
 pub calls-within : (node : Node) (xs : List CriticalSection) (i : ℕ) (x : CriticalSection)
     → i < length xs → x ≡ get_or xs i x
     → calls_in node (take i xs) + calls node x ≤ calls_in node xs
-calls-within node xs i x lt is =
-    subst (λ (y : CriticalSection). calls_in node (take i xs) + calls node y ≤ calls_in node xs)
-    (sym is) (sum_by_more_le (calls node) xs i x lt)
+calls-within node xs i x lt is = rw is (sum_by_more_le (calls node) xs i x lt)
 
 pub calls-mono : (light heavy : Node) (x : CriticalSection) → light.lock ≤ heavy.lock
     → calls light x ≤ calls heavy x
@@ -29,8 +27,7 @@ calls_in-mono light heavy (x ∷ xs) le =
       arith,
       calls-mono light heavy x le,
       calls_in-mono light heavy xs le,
-      sum_by-cons
-          (calls light) x xs,
+      sum_by-cons (calls light) x xs,
       sum_by-cons (calls heavy) x xs,
     )
 
@@ -97,16 +94,6 @@ sections-push node before (x ∷ xs) y =
     (sections-push node (before + calls node x) xs y ∙ ap (λ b. padded_sections node
     (before + calls node x) xs ++ padded_section node b y ∷ []) same)
 
-sections-more : (node : Node) (before : ℕ) (xs : List CriticalSection) (i : ℕ) (x : CriticalSection)
-    → i < length xs → x ≡ get_or xs i x
-    → padded_sections node before (take (i + 1) xs) ≡ padded_sections node before (take i xs)
-    ++ padded_section node (before + calls_in node (take i xs)) x ∷ []
-sections-more node before xs i x lt is =
-    ap (padded_sections node before) (take_more xs i x lt)
-    ∙ sections-push node before (take i xs) (get_or xs i x)
-    ∙ ap (λ (y : CriticalSection). padded_sections node before (take i xs)
-    ++ padded_section node (before + calls_in node (take i xs)) y ∷ []) (sym is)
-
 pub sections-step : (node : Node) (before : ℕ) (items : List CriticalSection) (i : ℕ)
     (x y : CriticalSection) (b : ℕ) (xs ys : List CriticalSection) → i < length items
     → x ≡ get_or items i x
@@ -114,18 +101,14 @@ pub sections-step : (node : Node) (before : ℕ) (items : List CriticalSection) 
     → y ≡ padded_section node b x → ys ≡ xs ++ y ∷ []
     → ys ≡ padded_sections node before (take (i + 1) items)
 sections-step node before items i x y b xs ys lt is begins held pads pushed =
-    pushed
-    ∙ ap (λ (zs : List CriticalSection). zs ++ y ∷ []) held
-    ∙ ap (λ (z : CriticalSection). padded_sections node before (take i items) ++ z ∷ [])
-    (pads ∙ ap (λ n. padded_section node n x) begins)
-    ∙ sym (sections-more node before items i x lt is)
+    pushed ∙ rw (held, pads, begins, take_more items i x lt, ← is)
+    (sym (sections-push node before (take i items) x))
 
 -- a section lies within the cost
 pub section-within : (from cost : ℕ) (xs : List CriticalSection) (i : ℕ) (x : CriticalSection)
     → AreSections from cost xs → i < length xs → x ≡ get_or xs i x → x.at + x.len ≤ cost
 section-within from cost [] i x are lt is = absurd (omega arith)
-section-within from cost (y ∷ ys) zero x are lt is =
-    subst (λ (z : CriticalSection). z.at + z.len ≤ cost) (sym is) are.0.within
+section-within from cost (y ∷ ys) zero x are lt is = rw is are.0.within
 section-within from cost (y ∷ ys) (suc i) x are lt is =
     section-within (y.at + y.len) cost ys i x are.1 (omega arith) is
 
@@ -136,14 +119,11 @@ pub section-fits : (node : Node) (t : Task) (items : List CriticalSection) (i : 
     → x ≡ get_or items i x → before ≡ node.job - node.release + calls_in node (take i items)
     → x.at + x.len + (before + calls node x) ≤ 10000000
 section-fits node t items i x before valid room same lt is begins =
-    let are : AreSections 0 t.cost items =
-    subst (λ (xs : List CriticalSection). AreSections 0 t.cost xs) (sym same) valid.sections in
-    let whole : calls_in node items ≡ calls_in node t.sections = ap (calls_in node) same in
     omega (
       arith,
-      section-within 0 t.cost items i x are lt is,
+      section-within 0 t.cost items i x (rw same valid.sections) lt is,
       calls-within node items i x lt is,
-      whole,
+      ap (calls_in node) same,
       room,
       begins,
       valid.period_to,

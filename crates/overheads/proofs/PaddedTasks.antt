@@ -1,5 +1,5 @@
 -- Tasks with what the node takes: valid where there is room for it, and as they were where it takes nothing.
-use Rattle.std.proofs.Common.{◌≡◌, ℕ, zero, suc, ◌+◌, ◌-◌, ◌*◌, ◌<◌, ◌≤◌, min, inl, inr, nat_lt}
+use Rattle.std.proofs.Common.{◌≡◌, ℕ, zero, suc, ◌+◌, ◌-◌, ◌*◌, ◌<◌, ◌≤◌, inl, inr, nat_lt}
 use Rattle.std.proofs.Common.{List, Some, None, refl, sym, arith}
 use Rattle.std.proofs.Math.Nat.{mul-le-mul_left}
 use Rattle.std.proofs.lemmas.Bool.{cases_Bool, ltb-false, ltb-true, le-ltb, lt-ltb}
@@ -41,14 +41,6 @@ faultless node t cost jitter = rw (
       (t.jitter + node.late) t.deadline jitter,
 ) refl
 
--- the timer comes to what the padded cost is short of
-pub cost-whole : (node : Node) (t : Task)
-    → padded_cost node t + min node.release node.job ≡ whole_cost node t
-cost-whole node t = omega arith
-
-pub cost-within : (node : Node) (t : Task) → padded_cost node t ≤ whole_cost node t
-cost-within node t = omega arith
-
 pub valid-padded : (node : Node) (t : Task) → AreOverheads node → IsValidSheet t → whole_cost node t
     ≤ t.period → t.jitter + node.late < t.deadline → IsValidSheet (padded_task node t)
 valid-padded node t limits valid cost jitter = record {
@@ -59,7 +51,7 @@ valid-padded node t limits valid cost jitter = record {
   deadline_from = valid.deadline_from;
   deadline_to = valid.deadline_to;
   cost_from = omega (arith, valid.cost_from);
-  cost_to = omega (arith, cost, cost-within node t);
+  cost_to = omega (arith, cost);
   few = omega (arith, valid.few, count-sections node (node.job - node.release) t.sections);
   sections = sections-are node (node.job - node.release) 0 0 t.cost (padded_cost node t) t.sections
       valid.sections (omega arith) (omega arith);

@@ -15,7 +15,6 @@ use Rattle.task_sheet.proofs.Below.{sum_below-both, sum_below-fits}
 use Rattle.task_sheet.proofs.TaskLaws.{valid_at}
 use Rattle.overheads.specs.Padding.{padded_cost, whole_cost, padded_task, padded, charged}
 use Rattle.overheads.specs.Rule.{taken_of, demand_by_rule, IsRuled}
-use Rattle.overheads.proofs.PaddedTasks.{cost-whole}
 use Rattle.overheads.proofs.PaddedSets.{count-padded, padded-at}
 use Rattle.overheads.proofs.ChargedSets.{count-charged}
 
@@ -52,7 +51,7 @@ account xs zero = xs
 account xs (suc k) = []
 
 bare-task : (t : Task) → t.interrupts ≡ [] → t ≡ record t { interrupts = [] }
-bare-task t bare = ap (λ (xs : List Interrupt). record t { interrupts = xs }) bare
+bare-task t bare = λ i. record t { interrupts = bare i }
 
 charged-at : (W : List Task) (xs : List Interrupt) (k : ℕ) → k < length W
     → ((j : ℕ) → j < length W → (task_at W j).interrupts ≡ [])
@@ -105,7 +104,7 @@ module _ (node : Node) (xs : List Interrupt) (U : List Task) (i : ℕ) (H : Inde
 
   -- a task's cost and its timer are its whole cost
   whole : (k : ℕ) → padded_cost node (task_at U k) + node.release ≡ whole_cost node (task_at U k)
-  whole k = omega (arith, cost-whole node (task_at U k), ruled.part)
+  whole k = omega (arith, ruled.part)
 
   spread : (jobs cost : ℕ) → jobs * (cost + node.release) ≡ jobs * cost + jobs * node.release
   spread jobs cost = grind arith
@@ -117,24 +116,16 @@ module _ (node : Node) (xs : List Interrupt) (U : List Task) (i : ℕ) (H : Inde
       ap (λ (y : Task). cond (H k) (interference_of y t) 0 + interrupts_of t y) (task-at k lt)
 
   other : (k : ℕ) → k < length U → (k ≡ i → ⊥) → takes k ≡ rules k + own k
-  other k lt ne = elim (cases_Bool (H k)) [
-    | inl above ↦
-        let jobs = releases_within (pads k) t in
-        let all : jobs * (padded_cost node (task_at U k) + node.release)
-        ≡ jobs * whole_cost node (task_at U k) = ap (λ n. jobs * n) (whole k) in
-        let taken : rules k ≡ jobs * whole_cost node (task_at U k) = rw above refl in
-        let here : takes k ≡ jobs * padded_cost node (task_at U k) + (jobs * node.release + own k) =
-        read k lt ∙ ap (λ b. cond b (jobs * padded_cost node (task_at U k))
-        0 + (jobs * node.release + own k)) above in
-        omega (arith, here, taken, all, spread jobs (padded_cost node (task_at U k)))
-    | inr below ↦
-        let jobs = releases_within (pads k) t in
-        let taken : rules k ≡ jobs * node.release = rw (below, ne_eqb k i ne) refl in
-        let here : takes k ≡ 0 + (jobs * node.release + own k) =
-        read k lt ∙ ap (λ b. cond b (jobs * padded_cost node (task_at U k))
-        0 + (jobs * node.release + own k)) below in
-        omega (arith, here, taken)
-  ]
+  other k lt ne =
+      let jobs = releases_within (pads k) t in
+      elim (cases_Bool (H k)) [
+        | inl above ↦ rw (read k lt, above) (omega (
+          arith,
+          spread jobs (padded_cost node (task_at U k)),
+          ap (λ n. jobs * n) (whole k),
+        ))
+        | inr below ↦ rw (read k lt, below, ne_eqb k i ne) (omega arith)
+      ]
 
   itself : takes i ≡ rules i + own i + node.release
   itself =
@@ -142,11 +133,7 @@ module _ (node : Node) (xs : List Interrupt) (U : List Task) (i : ℕ) (H : Inde
       let one : jobs ≡ 1 = once t (pads i).jitter (pads i).deadline (pads i).period ruled.some
       ruled.within (valid_at U i ruled.set ruled.inside).deadline_to in
       let timer : jobs * node.release ≡ 1 * node.release = ap (λ n. n * node.release) one in
-      let taken : rules i ≡ jobs * 0 = rw (ruled.below, eq-eqb i i refl) refl in
-      let here : takes i ≡ 0 + (jobs * node.release + own i) =
-      read i ruled.inside ∙ ap (λ b. cond b (jobs * padded_cost node (task_at U i))
-      0 + (jobs * node.release + own i)) ruled.below in
-      omega (arith, here, timer, taken, mul-zero jobs)
+      rw (read i ruled.inside, ruled.below, eq-eqb i i refl) (omega (arith, timer, mul-zero jobs))
 
   -- the interrupts are on one account
   charges : sum_below (length U) own ≡ sum_by (interrupt_within t) xs
