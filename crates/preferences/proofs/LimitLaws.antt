@@ -1,9 +1,8 @@
 -- In a set by limits the ranks are by limits, and the best order is the nearest to limit-monotonic.
 use Rattle.std.proofs.Common.{◌≡◌, ◌↔◌, ℕ, zero, suc, ◌+◌, ◌<◌, ◌≤◌, ◌⊎◌, inl, inr, true, false}
 use Rattle.std.proofs.Common.{cond, nat_lt, List, [], ◌∷◌, length, get_or, map, Ordering, Less}
-use Rattle.std.proofs.Common.{Equal, Greater, refl, sym, ◌∙◌, ap, subst, arith}
+use Rattle.std.proofs.Common.{Equal, Greater, refl, sym, ◌∙◌, ap, arith}
 use Rattle.std.specs.List.{AllByRecursion, All}
-use Rattle.std.specs.List.Sorted.{IsPermutation}
 use Rattle.std.specs.Ordering.{nat_cmp, ordering_then, ordering_reverse}
 use Rattle.std.specs.Cmp.Lexicographic.{slice_cmp, nat_list_cmp_total}
 use Rattle.std.proofs.lemmas.Bool.{cases_lt, cases_order, lt-ltb, le-ltb}
@@ -22,9 +21,9 @@ use Rattle.preferences.specs.Preferences.{longer_limits, reweighed_in, reweighed
 use Rattle.preferences.specs.LimitOrders.{IsLower, IsNearer}
 
 -- ---- counts of longer limits
-one-more : (a b : ℕ) (t : Task) (ts : List Task)
+one-more : (a : ℕ) (t : Task) (ts : List Task)
     → longer_limits (t ∷ ts) a ≡ cond (nat_lt a (limit_of t)) 1 0 + longer_limits ts a
-one-more a b t ts = sum_by-cons (λ (u : Task). cond (nat_lt a (limit_of u)) 1 0) t ts
+one-more a t ts = sum_by-cons (λ (u : Task). cond (nat_lt a (limit_of u)) 1 0) t ts
 
 step-le : (a b d : ℕ) → b ≤ a → cond (nat_lt a d) 1 0 ≤ cond (nat_lt b d) 1 0
 step-le a b d le = elim (cases_lt a d) [
@@ -43,26 +42,24 @@ later-lt [] a b k lt within is = absurd (omega arith)
 later-lt (t ∷ ts) a b zero lt within is =
     let here : nat_lt a (limit_of t) ≡ false = le-ltb a (limit_of t) (omega (arith, is)) in
     let there : nat_lt b (limit_of t) ≡ true = lt-ltb b (limit_of t) (omega (arith, is)) in
-    let c : cond {A = ℕ} (nat_lt a (limit_of t)) 1 0 ≡ 0 = rw here in
-    let d : cond {A = ℕ} (nat_lt b (limit_of t)) 1 0 ≡ 1 = rw there in
-    omega (arith, one-more a a t ts, one-more b b t ts, c, d, later-le ts a b (omega arith))
-later-lt (t ∷ ts) a b (suc k) lt within is =
-    omega (
-      arith,
-      one-more a a t ts,
-      one-more b b t ts,
-      step-le a b (limit_of t) (omega arith),
-      later-lt ts a b k lt (omega arith) is,
-    )
+    rw (one-more a t ts, one-more b t ts, here, there)
+    (omega (arith, later-le ts a b (omega arith)))
+later-lt (t ∷ ts) a b (suc k) lt within is = omega (
+  arith,
+  one-more a t ts,
+  one-more b t ts,
+  step-le a b (limit_of t) (omega arith),
+  later-lt ts a b k lt (omega arith) is,
+)
 
 -- ---- the weights of a set by limits
 later-weighed : (weight : Task → ℕ) (xs : List Task) (d : ℕ)
     → longer_limits (map (λ t. weighing t (weight t)) xs) d ≡ longer_limits xs d
 later-weighed weight [] d = refl
 later-weighed weight (t ∷ ts) d =
-    one-more d d (weighing t (weight t)) (map (λ t. weighing t (weight t)) ts)
+    one-more d (weighing t (weight t)) (map (λ t. weighing t (weight t)) ts)
     ∙ ap (λ n. cond (nat_lt d (limit_of t)) 1 0 + n) (later-weighed weight ts d)
-    ∙ sym (one-more d d t ts)
+    ∙ sym (one-more d t ts)
 
 weighed-all : (U xs : List Task)
     → AllByRecursion (λ t. t.weight ≡ longer_limits U (limit_of t)) (map (reweighed_in U) xs)
@@ -72,22 +69,17 @@ weighed-all U (t ∷ ts) = (refl, weighed-all U ts)
 same-map : (U xs : List Task) → AllByRecursion (λ t. t.weight ≡ longer_limits U (limit_of t)) xs
     → map (reweighed_in U) xs ≡ xs
 same-map U [] h = refl
-same-map U (t ∷ ts) h =
-    ap (λ n. weighing t n ∷ map (reweighed_in U) ts) (sym h.0)
-    ∙ ap (λ (us : List Task). t ∷ us) (same-map U ts h.1)
+same-map U (t ∷ ts) h = rw (← h.0, same-map U ts h.1) refl
 
 less-once : (a b : List ℕ) → slice_cmp nat_cmp a b ≡ Less → slice_cmp nat_cmp b a ≡ Less → ⊥
 less-once a b p q = let e : Less ≡ Greater = sym p ∙ nat_list_cmp_total.antisymm a b
     ∙ ap ordering_reverse q in cc
 
 lower-once : (x y : Task) → IsLower x y → IsLower y x → ⊥
-lower-once x y first second = elim first [
-  | inl lt ↦ elim second [ inl lt' ↦ omega arith | inr same ↦ omega (arith, same.0) ]
-  | inr same ↦ elim second [
-    | inl lt ↦ omega (arith, same.0)
-    | inr same' ↦ less-once x.name y.name same.1 same'.1
-  ]
-]
+lower-once x y (inl lt) (inl lt') = omega arith
+lower-once x y (inl lt) (inr same) = omega (arith, same.0)
+lower-once x y (inr same) (inl lt) = omega (arith, same.0)
+lower-once x y (inr same) (inr same') = less-once x.name y.name same.1 same'.1
 
 -- by weight and then by name
 rank-by : (a b : ℕ) (o : Ordering) → ordering_then (nat_cmp a b) o ≡ Less → (a < b)
@@ -95,12 +87,11 @@ rank-by : (a b : ℕ) (o : Ordering) → ordering_then (nat_cmp a b) o ≡ Less 
 rank-by a b o e = elim (cases_order a b) [
   | inl same ↦
       let here : nat_cmp a b ≡ Equal = grind (arith, nat_tests) in
-      inr (same, ap (λ r. ordering_then r o) (sym here) ∙ e)
-  | inr apart ↦ elim apart [
-    | inl lt ↦ inl lt
-    | inr lt ↦ let here : nat_cmp a b ≡ Greater = grind (arith, nat_tests) in
-        let no : Greater ≡ Less = ap (λ r. ordering_then r o) (sym here) ∙ e in cc
-  ]
+      inr (same, rw here at e)
+  | inr (inl lt) ↦ inl lt
+  | inr (inr lt) ↦
+      let here : nat_cmp a b ≡ Greater = grind (arith, nat_tests) in
+      let no : Greater ≡ Less = (rw here at e) in cc
 ]
 
 module _ (U V : List Task) (preferred : IsByRank (reweighed U) V) where
@@ -129,33 +120,17 @@ module _ (U V : List Task) (preferred : IsByRank (reweighed U) V) where
       let there = weight-at j within' in (
         λ less. elim (cases_lt (limit_of (task_at V j)) (limit_of (task_at V i))) [
           | inl lt ↦ lt
-          | inr le ↦ absurd (omega (
-            arith,
-            here,
-            there,
-            later-le V (limit_of (task_at V j))
-                (limit_of (task_at V i)) le,
-          ))
+          | inr le ↦ absurd (omega (arith, here, there, later-le V _ _ le))
         ],
-        λ lt. omega (
-          arith,
-          here,
-          there,
-          later-lt V (limit_of (task_at V i))
-              (limit_of (task_at V j)) i lt within refl,
-        ),
+        λ lt. omega (arith, here, there, later-lt V _ _ i lt within refl),
       )
 
   -- preferred once more, the set is as it is
   pub preferred-again : IsByRank (reweighed V) V
   preferred-again =
-      let same : reweighed V ≡ V = same-map V V
+      let same = same-map V V
       (recursion_from_All (λ t. t.weight ≡ longer_limits V (limit_of t)) V weights) in
-      record {
-        permutation = subst (λ (xs : List Task). IsPermutation xs V) (sym same)
-            (IsPermutation-refl V);
-        ranked = preferred.ranked;
-      }
+      record { permutation = rw same (IsPermutation-refl V); ranked = preferred.ranked }
 
   -- ---- ranks
   lower-from : (i j : ℕ) → i < j → j < length V → IsLower (task_at V i) (task_at V j)
@@ -167,12 +142,10 @@ module _ (U V : List Task) (preferred : IsByRank (reweighed U) V) where
         | inl lighter ↦ inl ((weight-compare i j within' within).0 lighter)
         | inr tied ↦ elim (cases_order (limit_of (task_at V i)) (limit_of (task_at V j))) [
           | inl same ↦ inr (same, tied.1)
-          | inr apart ↦ elim apart [
-            | inl before ↦
-                absurd (omega (arith, tied.0, (weight-compare j i within within').1 before))
-            | inr after ↦
-                absurd (omega (arith, tied.0, (weight-compare i j within' within).1 after))
-          ]
+          | inr (inl before) ↦
+              absurd (omega (arith, tied.0, (weight-compare j i within within').1 before))
+          | inr (inr after) ↦
+              absurd (omega (arith, tied.0, (weight-compare i j within' within).1 after))
         ]
       ]
 
@@ -181,13 +154,11 @@ module _ (U V : List Task) (preferred : IsByRank (reweighed U) V) where
   rank-lower i j within within' = (
     λ lt. lower-from i j lt within',
     λ lower. elim (cases_order i j) [
-      | inl same ↦ absurd (let own : IsLower (task_at V i) (task_at V i) =
-          subst (λ k. IsLower (task_at V i) (task_at V k)) (sym same) lower in
-          lower-once (task_at V i) (task_at V i) own own)
-      | inr apart ↦ elim apart [
-        | inl lt ↦ lt
-        | inr gt ↦ absurd (lower-once (task_at V i) (task_at V j) lower (lower-from j i gt within))
-      ]
+      | inl same ↦ let own : IsLower (task_at V i) (task_at V i) = rw (← same) at lower in
+          absurd (lower-once (task_at V i) (task_at V i) own own)
+      | inr (inl lt) ↦ lt
+      | inr (inr gt) ↦
+          absurd (lower-once (task_at V i) (task_at V j) lower (lower-from j i gt within))
     ],
   )
 
@@ -222,8 +193,7 @@ module _ (U V : List Task) (preferred : IsByRank (reweighed U) V) where
       let each = best.passing.each_once in
       elim (compare_orders (all_of V) order other each passing.each_once) [
         | inl same ↦ inl same
-        | inr either ↦ elim either [
-          | inl better ↦ inr ((better-nearer_order order other each passing.each_once).0 better)
-          | inr better ↦ absurd (best.unbeaten other passing better)
-        ]
+        | inr (inl better) ↦
+            inr ((better-nearer_order order other each passing.each_once).0 better)
+        | inr (inr better) ↦ absurd (best.unbeaten other passing better)
       ]

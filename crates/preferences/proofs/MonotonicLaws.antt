@@ -1,14 +1,14 @@
 -- Where a limit-monotonic order of a set by limits passes, the best order is limit-monotonic.
 use Rattle.std.proofs.Common.{◌≡◌, ℕ, ◌<◌, ◌≤◌, inl, inr, true, false, ◌==◌, List, [], ◌∷◌, length}
-use Rattle.std.proofs.Common.{refl, sym, ◌∙◌, ap, subst, arith}
+use Rattle.std.proofs.Common.{refl, sym, ◌∙◌, ap, arith}
 use Rattle.std.specs.List.{AllByRecursion}
-use Rattle.std.proofs.lemmas.Bool.{cases_eq, cases_order, eq-eqb, ne_eqb, or_cases, or_left}
+use Rattle.std.proofs.lemmas.Bool.{cases_order, eq-eqb, eqb-true, or_cases, or_left}
 use Rattle.std.proofs.lemmas.Bool.{or_right, ltb-true}
 use Rattle.task_sheet.specs.Sheet.{Task, AllTasks, task_at}
 use Rattle.task_sheet.specs.Rank.{IsByRank}
 use Rattle.task_sheet.specs.Indexes.{Indexes, IsPart, among, without_index}
 use Rattle.task_sheet.specs.Demand.{limit_of}
-use Rattle.task_sheet.specs.Orders.{all_of, Stands, IsOrderOf, AllStand, IsPassingOrder, IsBetter}
+use Rattle.task_sheet.specs.Orders.{all_of, IsOrderOf, AllStand, IsPassingOrder, IsBetter}
 use Rattle.task_sheet.specs.Orders.{IsBest}
 use Rattle.task_sheet.proofs.IndexLaws.{without-parts, without-part_of, IsOrderOf-among}
 use Rattle.task_sheet.proofs.IndexLaws.{IsOrderOf-head, IsOrderOf-rest, IsOrderOf-cons}
@@ -30,12 +30,9 @@ less-monotonic U b (x ∷ xs) falls =
 -- each index that a list names has what all of the list have
 all-among : (P : ℕ → Type 0) (xs : List ℕ) → AllByRecursion P xs → (k : ℕ) → among xs k ≡ true → P k
 all-among P [] all k h = cc
-all-among P (x ∷ xs) all k h = elim (cases_eq x k) [
-  | inl e ↦ subst P e all.0
-  | inr ne ↦ elim (or_cases (x == k) (among xs k) h) [
-    | inl here ↦ let no : true ≡ false = sym here ∙ ne_eqb x k ne in cc
-    | inr later ↦ all-among P xs all.1 k later
-  ]
+all-among P (x ∷ xs) all k h = elim (or_cases (x == k) (among xs k) h) [
+  | inl here ↦ rw (← eqb-true x k here) all.0
+  | inr later ↦ all-among P xs all.1 k later
 ]
 
 -- and the other way
@@ -54,12 +51,10 @@ module _ (U V : List Task) (preferred : IsByRank (reweighed U) V) (valid : AllTa
       → limit_of (task_at V s) ≤ limit_of (task_at V b)
   latest b s within within' not-before = elim (cases_order s b) [
     | inl e ↦ omega (arith, ap (λ k. limit_of (task_at V k)) e)
-    | inr apart ↦ elim apart [
-      | inl lt ↦ absurd (not-before lt)
-      | inr gt ↦ elim ((rank-lower U V preferred b s within within').0 gt) [
-        | inl later ↦ omega arith
-        | inr same ↦ omega (arith, same.0)
-      ]
+    | inr (inl lt) ↦ absurd (not-before lt)
+    | inr (inr gt) ↦ elim ((rank-lower U V preferred b s within within').0 gt) [
+      | inl later ↦ omega arith
+      | inr same ↦ omega (arith, same.0)
     ]
   ]
 
@@ -93,11 +88,8 @@ module _ (U V : List Task) (preferred : IsByRank (reweighed U) V) (valid : AllTa
             )),
         monotonic-from (without_index L b) bs (less b (s ∷ ss))
             (without-part_of (length V) L b part) rest all.1
-            (λ xs order stand better. unbeaten (b ∷ xs) (IsOrderOf-cons L b xs member order) (
-              subst (λ (X : Indexes). Stands V b X)
-                  (left ∙ sym (IsOrderOf-among (without_index L b) xs order)) all.0,
-              stand,
-            )
+            (λ xs order stand better. unbeaten (b ∷ xs) (IsOrderOf-cons L b xs member order)
+            (rw (IsOrderOf-among (without_index L b) xs order, ← left) all.0, stand)
             (inr (refl, better)))
             (less-order L b (s ∷ ss) member each') (less-stand V valid b (s ∷ ss) all')
             (less-monotonic V b (s ∷ ss) falls),

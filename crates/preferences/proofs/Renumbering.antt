@@ -88,19 +88,15 @@ module _ (n : ℕ) (turn : ℕ → ℕ) (turns : IsRenumbering n turn) where
     where
       along : (xs : List ℕ) (k : ℕ) → among (map turn xs) k ≡ among xs (turn k)
       along [] k = refl
-      along (x ∷ xs) k = rw (along xs k) (ap (λ b. b || among xs (turn k)) (turned-number x k))
-        where
-          turned-number : (x k : ℕ) → (turn x == k) ≡ (x == turn k)
-          turned-number x k = sym (same-number k x)
+      along (x ∷ xs) k = rw (along xs k, ← same-number k x) refl
 
   count-turned : (order : List ℕ) (k : ℕ)
       → count_by (λ x. x == k) (map turn order) ≡ count_by (λ x. x == turn k) order
   count-turned [] k = refl
   count-turned (x ∷ xs) k =
       sum_by-cons (λ y. cond (y == k) 1 0) (turn x) (map turn xs)
-      ∙ ap (λ m. cond (turn x == k) 1 0 + m) (count-turned xs k)
-      ∙ ap (λ b. cond b 1 0 + count_by (λ y. y == turn k) xs) (sym (same-number k x))
-      ∙ sym (sum_by-cons (λ y. cond (y == turn k) 1 0) x xs)
+      ∙ rw (count-turned xs k, ← same-number k x)
+      (sym (sum_by-cons (λ y. cond (y == turn k) 1 0) x xs))
 
   below-turned : (k : ℕ) → below n (turn k) ≡ below n k
   below-turned k = elim (cases_lt k n) [
@@ -114,13 +110,20 @@ module _ (n : ℕ) (turn : ℕ → ℕ) (turns : IsRenumbering n turn) where
 
 -- ---- the analysis of a renumbered set
 module _ (turn : ℕ → ℕ) (U V : List Task) (are : AreRenumbered turn U V) where
+  -- what is gathered of the numbers of one set, and of those of the other
+  along : {A : Type 0} (gather : ℕ → (ℕ → A) → A) (f g : ℕ → A)
+      → gather (length U) (λ k. g (turn k)) ≡ gather (length U) g
+      → ((k : ℕ) → f k ≡ g (turn k)) → gather (length V) f ≡ gather (length U) g
+  along gather f g turned same = ap (λ m. gather m f) are.count
+      ∙ ap (gather (length U)) (fun_ext same) ∙ turned
+
   reaches-turned : (X : Indexes) (s : CriticalSection)
       → reaches V (λ k. X (turn k)) s ≡ reaches U X s
   reaches-turned X s =
-      ap (λ m. some_below m (λ k. X (turn k) && shares_lock (task_at V k) s)) are.count
-      ∙ ap (λ (p : ℕ → Bool). some_below (length U) p)
-      (fun_ext (λ k. ap (λ (t : Task). X (turn k) && shares_lock t s) (are.same k).1))
-      ∙ some-turned (length U) turn are.turns (λ k. X k && shares_lock (task_at U k) s)
+      let p : Indexes = λ k. X k && shares_lock (task_at U k) s in
+      along some_below (λ k. X (turn k) && shares_lock (task_at V k) s) p
+      (some-turned (length U) turn are.turns p)
+      (λ k. ap (λ (t : Task). X (turn k) && shares_lock t s) (are.same k).1)
 
   longest-turned : (X : Indexes) (t : Task)
       → longest_reached V (λ k. X (turn k)) t ≡ longest_reached U X t
@@ -132,32 +135,30 @@ module _ (turn : ℕ → ℕ) (U V : List Task) (are : AreRenumbered turn U V) w
   unfolding blocking_of
   blocking-turned i H =
       let W : Indexes = with_index H i in
-      ap (λ m. greatest_below m (λ k. cond (with_index (λ j. H (turn j)) (turn i) k) 0
-      (longest_reached V (with_index (λ j. H (turn j)) (turn i)) (task_at V k)))) are.count
-      ∙ ap (λ (X : Indexes). greatest_below (length U) (λ k. cond (X k) 0
+      let f : ℕ → ℕ = λ k. cond (W k) 0 (longest_reached U W (task_at U k)) in
+      ap (λ (X : Indexes). greatest_below (length V) (λ k. cond (X k) 0
       (longest_reached V X (task_at V k)))) (with-turned (length U) turn are.turns H i)
-      ∙ ap (λ (f : ℕ → ℕ). greatest_below (length U) f) (fun_ext (λ k.
-      ap (λ m. cond (W (turn k)) 0 m) (longest-turned W (task_at V k)
-      ∙ ap (λ (t : Task). longest_reached U W t) (are.same k).1)))
-      ∙ greatest-turned (length U) turn are.turns
-      (λ k. cond (W k) 0 (longest_reached U W (task_at U k)))
+      ∙ along greatest_below (λ k. cond (W (turn k)) 0
+      (longest_reached V (λ j. W (turn j)) (task_at V k))) f
+      (greatest-turned (length U) turn are.turns f)
+      (λ k. ap (λ m. cond (W (turn k)) 0 m) (longest-turned W (task_at V k)
+      ∙ ap (λ (t : Task). longest_reached U W t) (are.same k).1))
 
   interference-turned : (H : Indexes) (t : ℕ)
       → sum_below (length V) (λ h. cond (H (turn h)) (interference_of (task_at V h) t) 0)
       ≡ sum_below (length U) (λ h. cond (H h) (interference_of (task_at U h) t) 0)
   interference-turned H t =
-      ap (λ m. sum_below m (λ h. cond (H (turn h)) (interference_of (task_at V h) t) 0)) are.count
-      ∙ ap (λ (f : ℕ → ℕ). sum_below (length U) f) (fun_ext
-      (λ h. ap (λ (x : Task). cond (H (turn h)) (interference_of x t) 0) (are.same h).1))
-      ∙ are.turns.sums (λ h. cond (H h) (interference_of (task_at U h) t) 0)
+      let f : ℕ → ℕ = λ h. cond (H h) (interference_of (task_at U h) t) 0 in
+      along sum_below (λ h. cond (H (turn h)) (interference_of (task_at V h) t) 0) f
+      (are.turns.sums f)
+      (λ h. ap (λ (x : Task). cond (H (turn h)) (interference_of x t) 0) (are.same h).1)
 
   interrupts-turned : (t : ℕ) → interrupts_within V t ≡ interrupts_within U t
   unfolding interrupts_within
   interrupts-turned t =
-      ap (λ m. sum_below m (λ k. interrupts_of t (task_at V k))) are.count
-      ∙ ap (λ (f : ℕ → ℕ). sum_below (length U) f)
-      (fun_ext (λ k. ap (λ (x : Task). interrupts_of t x) (are.same k).1))
-      ∙ are.turns.sums (λ k. interrupts_of t (task_at U k))
+      along sum_below (λ k. interrupts_of t (task_at V k)) (λ k. interrupts_of t (task_at U k))
+      (are.turns.sums (λ k. interrupts_of t (task_at U k)))
+      (λ k. ap (λ (x : Task). interrupts_of t x) (are.same k).1)
 
   own : (i : ℕ) → (weight : ℕ) × (task_at V (turn i) ≡ weighing (task_at U i) weight)
   own i =
@@ -178,12 +179,9 @@ module _ (turn : ℕ → ℕ) (U V : List Task) (are : AreRenumbered turn U V) w
   bound-turned : (i : ℕ) (H : Indexes) → is_bound V (turn i) (λ k. H (turn k)) ≡ is_bound U i H
   unfolding is_bound
   bound-turned i H =
-      let named : (k : ℕ) → must_outrank V (turn i) k ≡ must_outrank U i (turn k) =
-      λ k. rw ((are.same k).1, (own i).1) refl in
-      ap (λ m. some_below m (λ k. H (turn k) && must_outrank V (turn i) k)) are.count
-      ∙ ap (λ (p : ℕ → Bool). some_below (length U) p)
-      (fun_ext (λ k. ap (λ b. H (turn k) && b) (named k)))
-      ∙ some-turned (length U) turn are.turns (λ k. H k && must_outrank U i k)
+      let p : Indexes = λ k. H k && must_outrank U i k in
+      along some_below (λ k. H (turn k) && must_outrank V (turn i) k) p
+      (some-turned (length U) turn are.turns p) (λ k. rw ((are.same k).1, (own i).1) refl)
 
   Stands-turned : (i : ℕ) (H : Indexes) → Stands U i H → Stands V (turn i) (λ k. H (turn k))
   Stands-turned i H stands =
@@ -201,8 +199,7 @@ module _ (turn : ℕ → ℕ) (U V : List Task) (are : AreRenumbered turn U V) w
   AllStand-turned : (order : List ℕ) → AllStand U order → AllStand V (map turn order)
   AllStand-turned [] all = tt
   AllStand-turned (i ∷ above) all = (
-    subst (λ (X : Indexes). Stands V (turn i) X)
-        (sym (among-turned (length U) turn are.turns above)) (Stands-turned i (among above) all.0),
+    rw (among-turned (length U) turn are.turns above) (Stands-turned i (among above) all.0),
     AllStand-turned above all.1,
   )
 
@@ -254,19 +251,13 @@ sum_below-same : (n : ℕ) (f g : ℕ → ℕ) → ((k : ℕ) → k < n → f k 
     → sum_below n f ≡ sum_below n g
 sum_below-same zero f g same = refl
 sum_below-same (suc n) f g same =
-    let rest : sum_below n f ≡ sum_below n g =
-    sum_below-same n f g (λ k lt. let lt' : k < suc n = omega arith in same k lt') in
-    let last : n < suc n = omega arith in
-    omega (arith, rest, same n last)
+    omega (arith, sum_below-same n f g (λ k lt. same k (omega arith)), same n (omega arith))
 
 sum_below-one : (n : ℕ) (f g : ℕ → ℕ) (a : ℕ) → a < n → ((k : ℕ) → (k ≡ a → ⊥) → f k ≡ g k)
     → sum_below n f + g a ≡ sum_below n g + f a
 sum_below-one zero f g a lt same = absurd (omega arith)
 sum_below-one (suc n) f g a lt same = elim (cases_eq a n) [
-  | inl e ↦
-      let rest : sum_below n f ≡ sum_below n g =
-      sum_below-same n f g (λ k less. same k (λ is. omega arith)) in
-      omega (arith, rest, ap f e, ap g e)
+  | inl e ↦ omega (arith, sum_below-same n f g (λ k less. same k (λ is. omega arith)), ap f e, ap g e)
   | inr ne ↦ omega (arith, sum_below-one n f g a (omega arith) same, same n (λ is. ne (sym is)))
 ]
 
@@ -324,25 +315,16 @@ task-exchanged : (U : List Task) (a b k : ℕ) → a < length U → b < length U
 task-exchanged U a b k la lb =
     let W : List Task = slice_set U a (task_at U b) in
     let lw : b < length W = omega (arith, length-set U a (task_at U b)) in
-    ap (λ (xs : List Task). task_at xs k) (sym (swap_is U a b no_task la lb))
-    ∙ elim (cases_eq k b) as
-    (λ _. task_at (slice_set W b (task_at U a)) k ≡ task_at U (exchange a b k)) [
-      | inl e ↦
-          ap (λ j. task_at (slice_set W b (task_at U a)) j) e
-          ∙ get_or-set_same W b (task_at U a) no_task lw
-          ∙ sym (ap (λ j. task_at U j) (exchange-second a b k e))
-      | inr ne ↦
-          get_or-set_other W b k (task_at U a) no_task ne
-          ∙ elim (cases_eq k a) as (λ _. task_at W k ≡ task_at U (exchange a b k)) [
+    rw (← swap_is U a b no_task la lb) (elim (cases_eq k b) [
+      | inl e ↦ rw (exchange-second a b k e, e) (get_or-set_same W b (task_at U a) no_task lw)
+      | inr ne ↦ get_or-set_other W b k (task_at U a) no_task ne ∙ elim (cases_eq k a) as
+          (λ _. task_at W k ≡ task_at U (exchange a b k)) [
             | inl e ↦
-                ap (λ j. task_at W j) e
-                ∙ get_or-set_same U a (task_at U b) no_task la
-                ∙ sym (ap (λ j. task_at U j) (exchange-first a b k e))
+                rw (exchange-first a b k e, e) (get_or-set_same U a (task_at U b) no_task la)
             | inr ne' ↦
-                get_or-set_other U a k (task_at U b) no_task ne'
-                ∙ sym (ap (λ j. task_at U j) (exchange-other a b k ne' ne))
+                rw (exchange-other a b k ne' ne) (get_or-set_other U a k (task_at U b) no_task ne')
           ]
-    ]
+    ])
 
 AreRenumbered-exchange : (U : List Task) (a b : ℕ) → a < length U → b < length U
     → AreRenumbered (exchange a b) U (swap U a b)
@@ -387,8 +369,7 @@ AreRenumbered-weighed U = record {
 
 pub ShareOrders-preferred : (preference : Preference) (U V : List Task) → IsPreferred preference U V
     → ShareOrders U V
-ShareOrders-preferred Weights U V same =
-    subst (λ (xs : List Task). ShareOrders U xs) (sym same) (KeepsOrders-self U, KeepsOrders-self U)
+ShareOrders-preferred Weights U V same = rw same (KeepsOrders-self U, KeepsOrders-self U)
 ShareOrders-preferred Deadline U V preferred =
     ShareOrders-trans U (reweighed U) V (ShareOrders-turned (λ k. k) U (reweighed U)
     (AreRenumbered-weighed U)) (ShareOrders-permutation (reweighed U) V preferred.permutation)
@@ -406,9 +387,6 @@ unweighed-all U (t ∷ ts) = ap (λ (us : List Task). weighing t 0 ∷ us) (unwe
 
 pub unweighed-preferred : (preference : Preference) (U V : List Task) → IsPreferred preference U V
     → IsPermutation (unweighed U) (unweighed V)
-unweighed-preferred Weights U V same =
-    subst (λ (xs : List Task). IsPermutation (unweighed U) (unweighed xs)) (sym same)
-    (IsPermutation-refl (unweighed U))
-unweighed-preferred Deadline U V preferred =
-    subst (λ (xs : List Task). IsPermutation xs (unweighed V)) (unweighed-all U U)
-    (IsPermutation-map (λ (t : Task). weighing t 0) (reweighed U) V preferred.permutation)
+unweighed-preferred Weights U V same = rw same (IsPermutation-refl (unweighed U))
+unweighed-preferred Deadline U V preferred = rw (unweighed-all U U)
+    at (IsPermutation-map (λ (t : Task). weighing t 0) (reweighed U) V preferred.permutation)
