@@ -1,12 +1,10 @@
 -- What the tasks above execute within a window, of the set's first ones.
 use Rattle.std.proofs.Common.{◌≡◌, ℕ, ◌+◌, ◌≤◌, Bool, true, false, cond, List, length, refl, sym}
-use Rattle.std.proofs.Common.{◌∙◌, ap, arith}
-use Rattle.std.proofs.lemmas.Bool.{cond-true, cond-false}
+use Rattle.std.proofs.Common.{◌∙◌, add-one, arith}
 use Rattle.task_sheet.specs.Sheet.{Task, task_at, IsValidSheet}
 use Rattle.task_sheet.specs.Indexes.{Indexes, sum_below}
 use Rattle.task_sheet.specs.Demand.{interference_of, blocking_of, interrupts_within, demand_of}
 use Rattle.task_sheet.specs.Demand.{has_interrupts}
-use Rattle.task_sheet.proofs.Below.{sum_step}
 use Rattle.task_sheet.proofs.InterruptLaws.{interrupts-none, uninterrupted-iff}
 use Rattle.task_sheet.proofs.Releases.{cost-le-interference}
 use Rattle.task_sheet.proofs.TaskLaws.{IsTask-from_valid}
@@ -17,15 +15,10 @@ abbrev pub interference_first : List Task → Indexes → ℕ → ℕ → ℕ
 interference_first U H time n = sum_below n (λ h. cond (H h) (interference_of (task_at U h) time) 0)
 
 module _ (U : List Task) (H : Indexes) (time n : ℕ) where
-  abbrev term : ℕ → ℕ
-  term h = cond (H h) (interference_of (task_at U h) time) 0
-
   -- one task more, which is above
   pub first-with : H n ≡ true → interference_first U H time (n + 1)
       ≡ interference_first U H time n + interference_of (task_at U n) time
-  first-with above = sym (sum_step n term (sum_below n term) (interference_of (task_at U n) time)
-      (sum_below n term + interference_of (task_at U n) time) refl
-      (cond-true {A = ℕ} (H n) (interference_of (task_at U n) time) 0 above) refl)
+  first-with above = rw (add-one, above) refl
 
   -- it executes its cost once at least
   pub first-once : IsValidSheet (task_at U n) → H n ≡ true → 1 ≤ time
@@ -33,15 +26,13 @@ module _ (U : List Task) (H : Indexes) (time n : ℕ) where
   first-once valid above some = omega (
     arith,
     first-with above,
-    cost-le-interference (task_at U n)
-        time (IsTask-from_valid (task_at U n) valid) some,
+    cost-le-interference (task_at U n) time (IsTask-from_valid (task_at U n) valid) some,
   )
 
   -- one task more, which isn't
   pub first-without : H n ≡ false
       → interference_first U H time (n + 1) ≡ interference_first U H time n
-  first-without out = sym (sum_step n term (sum_below n term) 0 (sum_below n term) refl
-      (cond-false {A = ℕ} (H n) (interference_of (task_at U n) time) 0 out) (omega arith))
+  first-without out = rw (add-one, out) (omega arith)
 
 -- all tasks
 pub first-all : (U V : List Task) (i : ℕ) (H : Indexes) (time n : ℕ) → V ≡ U → n ≡ length V
@@ -68,6 +59,5 @@ with-is U i H false time is = omega (
 pub next-is : (U : List Task) (i : ℕ) (H : Indexes) (time next work : ℕ) (interrupted : Bool)
     → next ≡ work + cond interrupted (interrupts_within U time) 0
     → interrupted ≡ has_interrupts U → work ≡ work_of U i H time → next ≡ demand_of U i H time
-next-is U i H time next work interrupted is some same = is
-    ∙ ap (λ w. w + cond interrupted (interrupts_within U time) 0) same
-    ∙ with-is U i H interrupted time some
+next-is U i H time next work interrupted is some same =
+    is ∙ rw same (with-is U i H interrupted time some)

@@ -1,6 +1,6 @@
 -- A window below which none covers its demand.
 use Rattle.std.proofs.Common.{◌≡◌, ℕ, inl, inr, ◌+◌, ◌-◌, ◌*◌, ◌/◌, ◌<◌, ◌≤◌, List, length, take}
-use Rattle.std.proofs.Common.{get_or, sum_by, sym, subst, arith}
+use Rattle.std.proofs.Common.{get_or, sum_by, arith}
 use Rattle.std.proofs.lemmas.Bool.{cases_lt}
 use Rattle.std.proofs.lemmas.List.{take_more}
 use Rattle.std.proofs.lemmas.List.Sums.{sum_by_push}
@@ -43,17 +43,11 @@ once-le s time pos some =
     omega (arith, mul-le-mul_right s.cost one)
 
 -- one share more
-pub least_added : (whole time once once' parts parts' always i : ℕ) (shares : List ShareData)
-    (s : ShareData) → i < length shares → s ≡ get_or shares i s
-    → time * parts + whole * once ≤ whole * (always + sum_by (share_within time) (take i shares))
-    → time * parts' + whole * once' ≤ time * parts + whole * once + whole * share_within time s
-    → time * parts' + whole * once'
-    ≤ whole * (always + sum_by (share_within time) (take (i + 1) shares))
-least_added whole time once once' parts parts' always i shares s lt is before here =
-    let sum : sum_by (share_within time) (take (i + 1) shares)
-    ≡ sum_by (share_within time) (take i shares) + share_within time s =
-    rw (take_more shares i s lt, ← is) (sum_by_push (share_within time) (take i shares) s) in
-    rw sum (omega (arith, before, here))
+pub share_more : (time i : ℕ) (shares : List ShareData) (s : ShareData) → i < length shares
+    → s ≡ get_or shares i s → sum_by (share_within time) (take (i + 1) shares)
+    ≡ sum_by (share_within time) (take i shares) + share_within time s
+share_more time i shares s lt is =
+    rw (take_more shares i s lt, ← is) (sum_by_push (share_within time) (take i shares) s)
 
 -- a window that covers its demand is no less than what the shares leave of it allows
 left_over : (always parts rest work time : ℕ) → time * parts + (parts + rest) * always
@@ -74,8 +68,5 @@ pub window-least : (whole always parts work time : ℕ) → parts < whole
     → div_ceil (always * whole) (whole - parts) ≤ time
 window-least whole always parts work time lt h le =
     let e : parts + (whole - parts) ≡ whole = omega arith in
-    let P : ℕ → Type 0 = λ w. time * parts + w * always ≤ w * work in
-    let Q : ℕ → Type 0 = λ w. always * w ≤ time * (whole - parts) in
-    let left : Q whole =
-    subst Q e (left_over always parts (whole - parts) work time (subst P (sym e) h) le) in
-    ceil_least (always * whole) (whole - parts) time (omega arith) left
+    ceil_least (always * whole) (whole - parts) time (omega arith)
+    (rw e at (left_over always parts (whole - parts) work time (rw e h) le))

@@ -1,7 +1,6 @@
-use Rattle.std.proofs.Common.{inl, inr, ◌+◌, ◌∙◌, ap, arith, cond}
+use Rattle.std.proofs.Common.{inl, inr, ◌∙◌, arith}
 use Rattle.std.proofs.lemmas.Bool.{cases_lt}
 use Rattle.task_sheet.specs.Indexes.{indexes_of}
-use Rattle.task_sheet.specs.Demand.{interrupts_within}
 use Rattle.task_sheet.proofs.TaskLaws.{AllTasks-from_set}
 use Rattle.response_time.proofs.UninterruptedLaws.{with-mono}
 use Rattle.response_time.proofs.first_cover.Goals as goal
@@ -19,9 +18,8 @@ pub returns-then-next-window : goal.returns-then-next-window
 returns-then-next-window c =
     let inv = c.loop-window.invariant in
     let t = c.loop-window.window in
-    let next = c.next_demand-next.ensures.is
-    ∙ ap (λ w. w + cond c.args.interrupted (interrupts_within c.args.set.now t) 0)
-    (inv.work t inv.positive c.loop-window-test.true) in
+    let next =
+    rw (inv.work t inv.positive c.loop-window-test.true) at c.next_demand-next.ensures.is in
     record {
       some = record {
         positive = inv.positive;
@@ -40,9 +38,8 @@ loop-window-preserved c =
     let U = c.args.set.now in
     let inv = c.loop-window.invariant in
     let t = c.loop-window.window in
-    let next = c.next_demand-next.ensures.is
-    ∙ ap (λ w. w + cond c.args.interrupted (interrupts_within U t) 0)
-    (inv.work t inv.positive c.loop-window-test.true) in
+    let next =
+    rw (inv.work t inv.positive c.loop-window-test.true) at c.next_demand-next.ensures.is in
     record {
       work = λ s from to. c.next_demand-next.ensures.same s ∙ inv.work s from to;
       carried = omega (arith, c.if-next-window.false, c.next_demand-next.ensures.time);

@@ -1,12 +1,10 @@
-use Rattle.std.proofs.Common.{◌≡◌, ◌+◌, ◌<◌, [], ◌∷◌, ◌++◌, length, sym, ◌∙◌, ap, subst, arith}
+use Rattle.std.proofs.Common.{◌≡◌, ◌+◌, ◌<◌, [], ◌∷◌, ◌++◌, length, sym, ◌∙◌, ap, arith}
 use Rattle.task_sheet.specs.Sheet.{task_at}
 use Rattle.task_sheet.specs.Indexes.{indexes_of}
-use Rattle.task_sheet.specs.Demand.{demand_of, limit_of, IsResponseOf}
-use Rattle.task_sheet.specs.Responses.{IsFullChain}
 use Rattle.task_sheet.proofs.TaskLaws.{AllTasks-from_set}
 use Rattle.task_sheet.proofs.DemandLaws.{demand-mono, demand_does_not_fall}
 use Rattle.task_sheet.proofs.PassingLaws.{IsResponseOf-from}
-use Rattle.task_sheet.proofs.Trails.{IsWalk, walk_start, walk_next, next_is_no_less}
+use Rattle.task_sheet.proofs.Trails.{walk_start, walk_next, next_is_no_less}
 use Rattle.response_time.proofs.AboveLaws.{next-is}
 use Rattle.response_time.proofs.Walks.{short_passes, short_fails}
 use Rattle.response_time.proofs.respond.Goals as goal
@@ -37,7 +35,7 @@ returns-then-next-time c =
     let count = c.len.ensures ∙ c.push.new.self.ok.0 ∙ ap length c.in_ok-push.ensures.items in
     record {
       answer = (
-        subst (λ r. IsResponseOf U i H r) (sym late) (IsResponseOf-from U i H t record {
+        rw late (IsResponseOf-from U i H t record {
           positive = inv.positive;
           fixed = fixed;
           least = λ s pos e. inv.first s pos (omega (arith, e));
@@ -85,9 +83,7 @@ loop-time-preserved c =
       demand = λ t from to. c.next_demand-next.ensures.same t ∙ inv.demand t from to;
       positive = omega (arith, rises, inv.positive);
       carried = omega (arith, rises, c.next_demand-next.ensures.time);
-      walk = subst
-          (λ ns. IsWalk (demand_of U i H) (limit_of (task_at U i)) ns c.next_demand-next.result)
-          (sym c.in_ok-push.ensures.items) on;
+      walk = rw c.in_ok-push.ensures.items on;
       first = λ s pos covers. omega (
         arith,
         next,
@@ -106,8 +102,7 @@ returns c =
     c.loop-time.invariant.walk (omega (arith, limit.is, c.loop-time-test.false)) in
     let count = c.len-evaluations.ensures ∙ c.loop-time.numbers.ok.0 in
     record {
-      answer = subst (λ ns. IsFullChain (demand_of U i H) (limit_of (task_at U i)) ns)
-          (sym c.in_ok-push-2.ensures.items) fail.0;
+      answer = rw c.in_ok-push-2.ensures.items fail.0;
       evaluations = (c.loop-time.numbers.items, fail.1.0, count);
       bound = omega (arith, fail.1.1, count);
     }

@@ -1,7 +1,7 @@
-use Rattle.std.proofs.Common.{ℕ, ◌≡◌, ◌+◌, sym, subst, arith}
+use Rattle.std.proofs.Common.{ℕ, ◌≡◌, ◌+◌, arith}
 use Rattle.task_sheet.specs.Sheet.{task_at}
 use Rattle.task_sheet.specs.Indexes.{indexes_of}
-use Rattle.task_sheet.specs.Demand.{demand_of, IsResponseOf}
+use Rattle.task_sheet.specs.Demand.{demand_of}
 use Rattle.task_sheet.proofs.TaskLaws.{AllTasks-from_set}
 use Rattle.task_sheet.proofs.DemandLaws.{demand_does_not_fall}
 use Rattle.task_sheet.proofs.PassingLaws.{IsResponseOf-from}
@@ -26,7 +26,7 @@ returns-in-Some c =
     omega (arith, c.jitter_of.ensures.is) in
     record {
       some = (
-        subst (λ r. IsResponseOf U i H r) (sym late) (IsResponseOf-from U i H t response),
+        rw late (IsResponseOf-from U i H t response),
         omega (arith, late, is.within, is.positive),
       );
       passes = (t, is.positive, is.within, omega (arith, is.covers, same t));

@@ -1,5 +1,5 @@
 use Rattle.std.proofs.Common.{List, ℕ, ◌≡◌, ◌≤◌, ◌+◌, ◌∙◌, ◌++◌, sum_by, refl, take, drop, length}
-use Rattle.std.proofs.Common.{ap, sym, subst, arith}
+use Rattle.std.proofs.Common.{ap, arith}
 use Rattle.std.proofs.lemmas.List.{length-take, length-take-le, take-append-le, take_all}
 use Rattle.response_time.specs.Workload.{ShareData, WorkloadData, IsCarried, work_within}
 use Rattle.response_time.specs.Workload.{further_work, share_within}
@@ -45,13 +45,10 @@ returns-clause-fits c = omega (
 
 pub returns-clause-is : goal.returns-clause-is
 returns-clause-is c =
-    let w = workload_of c.self.inside in
-    let longer : w.time ≤ c.args.time =
-    subst (λ (v : WorkloadData). v.time ≤ c.args.time) (sym c.self.view_is) c.requires.longer in
-    subst (λ (v : WorkloadData). c.self.inside.total + c.count_all-work.result
-    ≡ work_within c.args.time v) c.self.view_is
-    (total-is w c.args.time c.count_all-work.result c.self.invariant.3 longer
-    c.count_all-work.ensures.work)
+    let longer : c.self.inside.time ≤ c.args.time =
+    omega (arith, ap (λ (v : WorkloadData). v.time) c.self.view_is, c.requires.longer) in
+    total-is (workload_of c.self.inside) c.args.time c.count_all-work.result c.self.invariant.3
+    longer c.count_all-work.ensures.work ∙ ap (work_within c.args.time) c.self.view_is
 
 -- the first shares of the array are those that were written
 written : (count : ℕ) (new rest : List ShareData) → length new ≡ count
@@ -63,7 +60,7 @@ pub invariant_of-self : goal.invariant_of-self
 invariant_of-self c =
     let w = workload_of c.self.inside in
     let longer : w.time ≤ c.args.time =
-    subst (λ (v : WorkloadData). v.time ≤ c.args.time) (sym c.self.view_is) c.requires.longer in
+    omega (arith, ap (λ (v : WorkloadData). v.time) c.self.view_is, c.requires.longer) in
     let shares = take c.self.inside.count
     (c.count_all-work.new.shares ++ drop c.self.inside.count c.self.inside.shares) in
     let v : WorkloadData = record {
@@ -98,5 +95,4 @@ returns-clause-same c = λ t.
     ≡ sum_by (share_within t) (take c.self.inside.count c.self.inside.shares) =
     ap (sum_by (share_within t)) (same ∙ c.count_all-work.ensures.counted)
     ∙ sum-counted t c.args.time (take c.self.inside.count c.self.inside.shares) in
-    subst (λ (v : WorkloadData). c.self.inside.always + sum_by (share_within t) shares
-    ≡ work_within t v) c.self.view_is (ap (λ n. c.self.inside.always + n) sums)
+    ap (λ n. c.self.inside.always + n) sums ∙ ap (work_within t) c.self.view_is
