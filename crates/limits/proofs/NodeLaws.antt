@@ -1,6 +1,6 @@
 -- A set with what a lighter node takes asks no more of whoever is below others.
 use Rattle.std.proofs.Common.{◌≡◌, ℕ, zero, suc, ◌+◌, ◌-◌, ◌*◌, ◌<◌, ◌≤◌, inl, inr, false, cond}
-use Rattle.std.proofs.Common.{None, List, [], ◌∷◌, length, refl, sym, ◌∙◌, ap, subst, arith}
+use Rattle.std.proofs.Common.{None, List, [], ◌∷◌, length, refl, sym, ◌∙◌, ap, arith}
 use Rattle.std.proofs.Math.Nat.{mul-le-mul, mul-le-mul_right}
 use Rattle.std.specs.Int.{div_ceil}
 use Rattle.std.proofs.lemmas.Grind.{common_steps}
@@ -13,7 +13,7 @@ use Rattle.task_sheet.specs.Demand.{blocking_of, demand_of, interference_of, int
 use Rattle.task_sheet.specs.Demand.{interrupts_within, releases_within, Passes}
 use Rattle.task_sheet.specs.Orders.{all_of, AllStand, IsOrderOf, IsPassingOrder, IsFeasible}
 use Rattle.task_sheet.specs.declared.node.Node.{Node}
-use Rattle.task_sheet.proofs.Below.{sum_below-le}
+use Rattle.task_sheet.proofs.Below.{sum_below-both, sum_below-le}
 use Rattle.task_sheet.proofs.IndexLaws.{without-gone, without-part_of, IsOrderOf-among}
 use Rattle.task_sheet.proofs.IndexLaws.{IsOrderOf-head, IsOrderOf-rest}
 use Rattle.task_sheet.proofs.Releases.{div_ceil-mono}
@@ -27,34 +27,24 @@ use Rattle.limits.specs.Easier.{AreShorter}
 use Rattle.limits.proofs.NearLaws.{AreShorter-refl, IsNear, AreNear, blocking-near, limit-near}
 use Rattle.limits.proofs.NearLaws.{is_bound-near}
 
--- ---- sums
-sum_below-both : (n : ℕ) (f g : ℕ → ℕ)
-    → sum_below n (λ k. f k + g k) ≡ sum_below n f + sum_below n g
-sum_below-both zero f g = omega arith
-sum_below-both (suc n) f g = omega (arith, sum_below-both n f g)
-
 -- of sums with one term more each, where one term is no more together with that
 sum_below-own : (n : ℕ) (f g : ℕ → ℕ) (i a b : ℕ) → i < n
     → ((k : ℕ) → k < n → (k ≡ i → ⊥) → f k ≤ g k) → a + f i ≤ b + g i
     → a + sum_below n f ≤ b + sum_below n g
 sum_below-own zero f g i a b lt le own = absurd (omega (arith, lt))
 sum_below-own (suc n) f g i a b lt le own = elim (cases_eq i n) [
-  | inl e ↦
-      let here : a + f n ≤ b + g n = subst (λ k. a + f k ≤ b + g k) e own in
-      omega (
-        arith,
-        here,
-        sum_below-le n f g
-            (λ k l. le k (omega (arith, l)) (λ same. omega (arith, same, l, e))),
-      )
-  | inr ne ↦
-      let last : f n ≤ g n = le n (omega arith) (λ same. ne (sym same)) in
-      omega (
-        arith,
-        last,
-        sum_below-own n f g i a b (omega (arith, lt, ne))
-            (λ k l. le k (omega (arith, l))) own,
-      )
+  | inl e ↦ omega (
+    arith,
+    own,
+    ap f e,
+    ap g e,
+    sum_below-le n f g (λ k l. le k (omega (arith, l)) (λ same. omega (arith, same, l, e))),
+  )
+  | inr ne ↦ omega (
+    arith,
+    le n (omega arith) (λ same. ne (sym same)),
+    sum_below-own n f g i a b (omega (arith, lt, ne)) (λ k l. le k (omega (arith, l))) own,
+  )
 ]
 
 -- ---- sets that differ in what the node takes
@@ -92,19 +82,13 @@ near-same x easy hard e f = rw (e, f) record {
 abbrev taken : List Task → Indexes → ℕ → ℕ → ℕ
 taken U H t k = cond (H k) (interference_of (task_at U k) t) 0 + interrupts_of t (task_at U k)
 
-interrupts-are : (U : List Task) (t : ℕ)
-    → interrupts_within U t ≡ sum_below (length U) (λ k. interrupts_of t (task_at U k))
-unfolding interrupts_within
-interrupts-are U t = refl
-
 demand-taken : (U : List Task) (i : ℕ) (H : Indexes) (t : ℕ) → demand_of U i H t
     ≡ (task_at U i).cost + blocking_of U i H + sum_below (length U) (taken U H t)
-unfolding demand_of
+unfolding demand_of interrupts_within
 demand-taken U i H t = omega (
   arith,
-  interrupts-are U t,
-  sum_below-both (length U)
-      (λ k. cond (H k) (interference_of (task_at U k) t) 0) (λ k. interrupts_of t (task_at U k)),
+  sum_below-both (length U) (λ k. cond (H k) (interference_of (task_at U k) t) 0)
+      (λ k. interrupts_of t (task_at U k)),
 )
 
 -- ---- one task
@@ -241,5 +225,4 @@ module _ (U : List Task) (light heavy : Node) (set : IsTaskSet U) (is : IsLighte
 pub IsFeasible-plain : (U : List Task) (node : Node) → IsTaskSet U → IsUnpadded U
     → padding_fault node U ≡ None → IsFeasible (padded node U) → IsFeasible U
 IsFeasible-plain U node set none room feasible =
-    subst (λ (V : List Task). IsFeasible V) (padded-none U none)
-    (feasible-padded U no_overhead node set (lightest node) feasible)
+    rw (padded-none U none) at (feasible-padded U no_overhead node set (lightest node) feasible)

@@ -1,6 +1,6 @@
 -- What another value of a number does to a set.
 use Rattle.std.proofs.Common.{◌≡◌, ◌↔◌, ℕ, zero, suc, ◌<◌, ◌≤◌, inl, inr, min, max, List, [], ◌∷◌}
-use Rattle.std.proofs.Common.{length, slice_set, refl, sym, ◌∙◌, ap, subst, arith}
+use Rattle.std.proofs.Common.{length, slice_set, refl, sym, ◌∙◌, ap, arith}
 use Rattle.std.proofs.lemmas.Bool.{cases_eq, cases_lt}
 use Rattle.std.proofs.lemmas.List.{length-set, set-get_or}
 use Rattle.task_sheet.specs.Sheet.{CriticalSection, Task, AllTasks, IsValidSheet, no_task, task_at}
@@ -86,11 +86,8 @@ AreEasier-numbered U i number low high inside le =
       count = length-set U i x ∙ sym (length-set U i y);
       each = λ k. elim (cases_eq k i) [
         | inr ne ↦ easier-same (task_at U k) _ _ (placed-other U i x k ne) (placed-other U i y k ne)
-        | inl e ↦ subst (λ j. IsEasier (task_at (slice_set U i x) j) (task_at (slice_set U i y) j))
-            (sym e)
-            (subst (λ z. IsEasier z (task_at (slice_set U i y) i)) (sym (placed-same U i x inside))
-            (subst (λ z. IsEasier x z) (sym (placed-same U i y inside))
-            (easier-number number (task_at U i) low high le)))
+        | inl e ↦ rw (e, placed-same U i x inside, placed-same U i y inside)
+            (easier-number number (task_at U i) low high le)
       ];
     }
 
@@ -116,7 +113,7 @@ pub may-own : (U : List Task) (i : ℕ) (number : Number) → IsTaskSet U → i 
     → MayHave U i number (value_of number (task_at U i))
 may-own U i number set inside =
     let valid = valid_at U i set inside in
-    subst IsValidSheet (sym (number-own number (task_at U i) valid)) valid
+    rw (number-own number (task_at U i) valid) valid
 
 -- ---- what the furthest says, in a sense in which a set that asks less is feasible too
 same-far : (number : Number) (first second : ℕ) → IsNoFurther number first second
@@ -151,15 +148,13 @@ module _ (P : List Task → Type 0) (eased : (V U : List Task) → AreEasier V U
 
   pub furthest-own : (most : ℕ) → IsFurthestFor P U i number most
       → P U ↔ IsNoFurther number (value_of number (task_at U i)) most
-  furthest-own most is =
-      subst (λ (V : List Task). P V ↔ IsNoFurther number (value_of number (task_at U i)) most)
-      (numbered-own U i number set inside)
-      (furthest-each most (value_of number (task_at U i)) is (may-own U i number set inside))
+  furthest-own most is = rw (numbered-own U i number set inside)
+      at (furthest-each most (value_of number (task_at U i)) is (may-own U i number set inside))
 
   pub furthest-none : ((value : ℕ) → MayHave U i number value → ¬ P (numbered U i number value))
       → ¬ P U
-  furthest-none none = subst (λ (V : List Task). ¬ P V) (numbered-own U i number set inside)
-      (none (value_of number (task_at U i)) (may-own U i number set inside))
+  furthest-none none = rw (numbered-own U i number set inside)
+      at (none (value_of number (task_at U i)) (may-own U i number set inside))
 
   -- ---- a search over the values of a sheet
   module _ (easiest long : ℕ) (span : IsSpan (task_at U i) number easiest long) where
@@ -177,8 +172,7 @@ module _ (P : List Task → Type 0) (eased : (V U : List Task) → AreEasier V U
     known-far value far may is here =
         let known = far-known (task_at U i) number easiest long value span may in (
           omega (arith, is, known.0),
-          subst (λ v. P (numbered U i number v))
-              (sym (ap (λ f. at_distance number easiest f) is ∙ known.1)) here,
+          rw (is, known.1) here,
         )
 
     -- the last that passes is the furthest
@@ -191,10 +185,8 @@ module _ (P : List Task → Type 0) (eased : (V U : List Task) → AreEasier V U
       furthest = λ other may feasible.
           let there = span.all other may in
           elim (cases_lt far there.0) [
-            | inl lt ↦ absurd (fails there.0 lt there.1
-                (subst (λ v. P (numbered U i number v)) there.2 feasible))
-            | inr le ↦ subst (λ v. IsNoFurther number v (at_distance number easiest far))
-                (sym there.2) (span.rises there.0 far le)
+            | inl lt ↦ absurd (fails there.0 lt there.1 (rw there.2 at feasible))
+            | inr le ↦ rw there.2 (span.rises there.0 far le)
           ];
     }
 

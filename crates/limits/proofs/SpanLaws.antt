@@ -1,6 +1,6 @@
 -- Which values a number of a valid sheet may have.
 use Rattle.std.proofs.Common.{◌≡◌, ℕ, zero, suc, ◌+◌, ◌-◌, ◌<◌, ◌≤◌, max, min, List, [], ◌∷◌}
-use Rattle.std.proofs.Common.{length, get_or, refl, sym, ◌∙◌, ap, subst, arith}
+use Rattle.std.proofs.Common.{length, get_or, refl, ◌∙◌, ap, arith}
 use Rattle.std.proofs.lemmas.List.{length-set, get_or_read}
 use Rattle.task_sheet.specs.Sheet.{CriticalSection, Task, AreSections, IsValidSheet}
 use Rattle.headroom.specs.Costs.{with_cost, last_end}
@@ -266,6 +266,6 @@ pub far-known : (t : Task) (number : Number) (easiest length value : ℕ)
 far-known t number easiest length value span may =
     let there = span.all value may in
     let back = far-back number easiest there.0 in (
-      omega (arith, there.1, subst (λ v. distance number easiest v ≤ there.0) (sym there.2) back.0),
-      subst (λ v. at_distance number easiest (distance number easiest v) ≡ v) (sym there.2) back.1,
+      rw there.2 (omega (arith, there.1, back.0)),
+      rw there.2 back.1,
     )

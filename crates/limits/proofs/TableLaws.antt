@@ -13,7 +13,7 @@ use Rattle.ceilings.specs.IsTableOf.{AreUsersOf, IsTableOf, names_in, first_sigh
 use Rattle.headroom.proofs.CostLaws.{longest-same}
 use Rattle.limits.specs.declared.number.Number.{Number}
 use Rattle.limits.specs.declared.number.Number.TheVariants.{Cost, Period, Deadline, Jitter, Len}
-use Rattle.limits.specs.Numbers.{with_number, numbered, KeepsSections}
+use Rattle.limits.specs.Numbers.{numbered, KeepsSections}
 
 same-placed : {R : Type 0} (of : Task → R) (x : Task) (U : List Task) (i : ℕ)
     → of x ≡ of (task_at U i) → (k : ℕ) → of (task_at (slice_set U i x) k) ≡ of (task_at U k)
@@ -69,11 +69,11 @@ module _ (U : List Task) (i : ℕ) (x : Task) (name : x.name ≡ (task_at U i).n
 pub IsTableOf-numbered : (U : List Task) (i : ℕ) (number : Number) (value : ℕ) (table : TableData)
     → KeepsSections number → IsTableOf U table → IsTableOf (numbered U i number value) table
 IsTableOf-numbered U i Cost value table keeps is =
-    IsTableOf-placed U i (with_number Cost (task_at U i) value) refl refl refl table is
+    IsTableOf-placed U i _ refl refl refl table is
 IsTableOf-numbered U i Period value table keeps is =
-    IsTableOf-placed U i (with_number Period (task_at U i) value) refl refl refl table is
+    IsTableOf-placed U i _ refl refl refl table is
 IsTableOf-numbered U i Deadline value table keeps is =
-    IsTableOf-placed U i (with_number Deadline (task_at U i) value) refl refl refl table is
+    IsTableOf-placed U i _ refl refl refl table is
 IsTableOf-numbered U i Jitter value table keeps is =
-    IsTableOf-placed U i (with_number Jitter (task_at U i) value) refl refl refl table is
+    IsTableOf-placed U i _ refl refl refl table is
 IsTableOf-numbered U i (Len k) value table keeps is = absurd keeps
