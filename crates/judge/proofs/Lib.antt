@@ -1,6 +1,5 @@
 pub mod JudgedLaws
 pub mod TaskLaws
-pub mod ExplainedLaws
 pub mod PlaceLaws
 pub mod FaultLaws
 pub mod NumberLaws

@@ -1,25 +1,23 @@
 -- The order that the numbers of threads give.
-use Rattle.std.proofs.Common.{◌≡◌, ◌∙◌, ℕ, zero, suc, ◌+◌, ◌<◌, ◌≤◌, Bool, true, false, cond, ◌==◌}
-use Rattle.std.proofs.Common.{inl, inr, List, [], ◌∷◌, ◌++◌, map, length, get_or, append_assoc}
-use Rattle.std.proofs.Common.{append-nil, length-append, Some, None, All, refl, sym, ap, subst}
-use Rattle.std.proofs.Common.{arith, count_by}
-use Rattle.std.specs.List.{list_any}
+use Rattle.std.proofs.Common.{◌≡◌, ◌∙◌, ℕ, zero, suc, ◌+◌, ◌<◌, Bool, true, false, cond, ◌==◌}
+use Rattle.std.proofs.Common.{inl, inr, List, [], ◌∷◌, ◌++◌, map, length, get_or, append-nil, Some}
+use Rattle.std.proofs.Common.{None, All, refl, sym, ap, arith, count_by}
+use Rattle.std.specs.List.{list_any, position_or_len, AllByRecursion}
 use Rattle.std.specs.List.Sorted.{IsPermutation, IsNonDecreasingBy}
-use Rattle.std.proofs.lemmas.Bool.{cases_Bool, cases_eq, cases_lt, cases_order, both_ways}
-use Rattle.std.proofs.lemmas.Bool.{true≢false, lt-ltb, ltb-true, eq-eqb, and_parts, and_from}
-use Rattle.std.proofs.lemmas.Bool.{or_left, or_right, or_parts}
-use Rattle.std.proofs.lemmas.List.{get_or-map, get_or_append_left, map_push, length-map}
-use Rattle.std.proofs.Math.Seq.{get_or-append_seam}
-use Rattle.std.proofs.lemmas.Slice.Eq.{bytes_eq-Decides}
+use Rattle.std.proofs.lemmas.Bool.{cases_Bool, cases_lt, both_ways, true≢false, lt-ltb, ltb-true}
+use Rattle.std.proofs.lemmas.Bool.{eq-eqb, and_parts, and_from, or_parts}
+use Rattle.std.proofs.lemmas.List.{get_or-map, map_push, length-map}
+use Rattle.std.proofs.lemmas.List.Folds.{list_any-append, list_any_at}
 use Rattle.std.proofs.lemmas.List.Elements.{All-push, All-from_recursion}
 use Rattle.std.proofs.lemmas.List.Sorted.{All-permutation, IsPermutation-map, sum_by-IsPermutation}
-use Rattle.std.specs.Cmp.Lexicographic.{nat_list_eq_equiv}
 use Rattle.task_sheet.specs.Sheet.{Task, same_bytes, no_task, task_at}
-use Rattle.task_sheet.specs.TaskSet.{IsTaskSet, AreDistinct, same_name}
+use Rattle.task_sheet.specs.TaskSet.{IsTaskSet, AreDistinct}
 use Rattle.task_sheet.specs.Indexes.{Indexes, among, listed_below, without_index}
 use Rattle.task_sheet.specs.Orders.{all_of, IsOrderOf}
 use Rattle.task_sheet.proofs.IndexLaws.{without-parts, IsOrderOf-among, IsOrderOf-head}
 use Rattle.task_sheet.proofs.IndexLaws.{IsOrderOf-rest, listed-order}
+use Rattle.task_sheet.proofs.NameLaws.{same_is}
+use Rattle.task_sheet.proofs.TaskLaws.{place_of_name}
 use Rattle.assignment.proofs.GatherLaws.{listed_below-member, listed_below-other}
 use Rattle.judge.specs.Faults.{is_set, line_again, thread_number, setting_number, same_number}
 use Rattle.judge.specs.Faults.{threadless}
@@ -28,264 +26,202 @@ use Rattle.judge.specs.Node.{IsOrderBy}
 use Rattle.judge.specs.declared.order.Numbered.{Numbered}
 use Rattle.judge.specs.declared.rows.Setting.{Setting}
 
--- one more task, by rank
-pub numbered_step : (U : List Task) (threads : List Setting) (k : ℕ) (xs xs' : List Numbered)
-    (name : List ℕ) → k < length U → name ≡ (task_at U k).name
-    → map (λ n. n.task) xs ≡ listed_below k (with_thread_in U threads) → All
-    (λ n. n.number ≡ thread_number U threads n.task) xs → xs' ≡ xs ++ numbered_at threads name k
-    → (map (λ n. n.task) xs' ≡ listed_below (k + 1) (with_thread_in U threads))
-    × All (λ n. n.number ≡ thread_number U threads n.task) xs'
-numbered_step U threads k xs xs' name lt is tasks numbers pushed =
-    let here : all_of U k ≡ true = lt-ltb k (length U) lt in
-    let task : Numbered → ℕ = λ n. n.task in
-    elim (cases_Bool (is_set threads name)) [
-      | inl has ↦
-          let one : Numbered = record { number = setting_number threads name; task = k } in
-          let more : xs' ≡ xs ++ one ∷ [] = rw has at pushed in
-          let member : with_thread_in U threads k ≡ true =
-          and_from _ _ here (ap (is_set threads) (sym is) ∙ has) in (
-            ap (map task) more ∙ map_push task xs one ∙ ap (λ (ts : List ℕ). ts ++ k ∷ []) tasks
-                ∙ sym (listed_below-member k (with_thread_in U threads) member),
-            rw more (All-push (λ (n : Numbered). n.number ≡ thread_number U threads n.task) xs one
-                numbers (ap (setting_number threads) is)),
-          )
-      | inr none ↦
-          let same : xs' ≡ xs = (rw none at pushed) ∙ append-nil xs in
-          let other : with_thread_in U threads k ≡ false = rw (here, ← is, none) refl in (
-            ap (map task) same ∙ tasks
-                ∙ sym (listed_below-other k (with_thread_in U threads) other),
-            rw same numbers,
-          )
-    ]
+-- an element of a list is among it
+pub among_at : (xs : List ℕ) (k : ℕ) → k < length xs → among xs (get_or xs k 0) ≡ true
+among_at xs k lt = list_any_at (λ x. x == get_or xs k 0) xs k 0 lt (eq-eqb (get_or xs k 0) _ refl)
+
+-- two tasks of one name are one
+pub one_of_name : (U : List Task) → IsTaskSet U → (i j : ℕ) → i < length U → j < length U
+    → (task_at U i).name ≡ (task_at U j).name → i ≡ j
+one_of_name U kept i j lt lt' same = sym (place_of_name U kept.distinct i lt)
+    ∙ ap (λ name. position_or_len (λ (t : Task). same_bytes t.name name) U) same
+    ∙ place_of_name U kept.distinct j lt'
 
 -- ---- names and numbers
--- stands past the end of a list
-abbrev no_setting : Setting
-no_setting = record { line = 0; name = []; number = 0 }
-
--- where some setting is of a name, its number is that of one of them
-number_found : (settings : List Setting) (name : List ℕ) → is_set settings name ≡ true
-    → (p : ℕ) × (p < length settings) × (same_bytes (get_or settings p no_setting).name name ≡ true)
-    × (setting_number settings name ≡ (get_or settings p no_setting).number)
-number_found [] name h = absurd (true≢false (sym h))
-number_found (s ∷ settings) name h = elim (cases_Bool (same_bytes s.name name)) [
-  | inl here ↦ (0, omega arith, here, rw here refl)
-  | inr other ↦
-      let found = number_found settings name (rw other at h) in
-      (suc found.0, omega (arith, found.1), found.2, rw other found.3)
+-- what holds of each number holds of that of a name that is set
+number_holds : (P : ℕ → Type 0) (settings : List Setting) (name : List ℕ)
+    → is_set settings name ≡ true → AllByRecursion (λ s. P s.number) settings
+    → P (setting_number settings name)
+number_holds P [] name is each = absurd (true≢false (sym is))
+number_holds P (s ∷ settings) name is each = elim (cases_Bool (same_bytes s.name name)) [
+  | inl here ↦ rw here each.0
+  | inr other ↦ rw other (number_holds P settings name (rw other at is) each.1)
 ]
 
--- a test that fails on all of a list fails on each
-any_not : {X : Type 0} (p : X → Bool) (xs : List X) (k : ℕ) (d : X) → list_any p xs ≡ false
-    → k < length xs → p (get_or xs k d) ≡ false
-any_not p [] k d h lt = absurd (omega arith)
-any_not p (x ∷ xs) zero d h lt = (or_parts (p x) (list_any p xs) h).0
-any_not p (x ∷ xs) (suc k) d h lt =
-    any_not p xs k d (or_parts (p x) (list_any p xs) h).1 (omega arith)
-
--- where none is like one before it, no two are alike
-apart_at : (alike : Setting → Setting → Bool) (seen xs : List Setting) → line_again alike seen xs
-    ≡ None → (p q : ℕ) → p < q → length seen ≤ q → q < length (seen ++ xs)
-    → alike (get_or (seen ++ xs) p no_setting) (get_or (seen ++ xs) q no_setting) ≡ false
-apart_at alike seen [] none p q lt from within = absurd (omega (arith, length-append seen []))
-apart_at alike seen (x ∷ xs) none p q lt from within =
-    elim (cases_Bool (list_any (λ before. alike before x) seen)) [
-      | inl e ↦ let some : Some x.line ≡ None = (rw e at none) in absurd cc
-      | inr e ↦ elim (cases_eq q (length seen)) [
-        | inl here ↦
-            let last : get_or (seen ++ x ∷ xs) q no_setting ≡ x =
-            ap (λ n. get_or (seen ++ x ∷ xs) n no_setting) here
-            ∙ get_or-append_seam seen x xs no_setting in
-            let first : get_or (seen ++ x ∷ xs) p no_setting ≡ get_or seen p no_setting =
-            get_or_append_left seen (x ∷ xs) no_setting p (omega (arith, here)) in
-            rw (last, first)
-            (any_not (λ before. alike before x) seen p no_setting e (omega (arith, here)))
-        | inr past ↦
-            let same : (seen ++ x ∷ []) ++ xs ≡ seen ++ x ∷ xs = append_assoc seen (x ∷ []) xs in
-            subst (λ (ys : List Setting). alike (get_or ys p no_setting) (get_or ys q no_setting)
-            ≡ false) same
-            (apart_at alike (seen ++ x ∷ []) xs (rw e at none) p q lt
-            (omega (arith, length-append seen (x ∷ []), past))
-            (omega (arith, ap (λ (ys : List Setting). length ys) same)))
+-- where no two numbers are the same, those of one number have one name
+one_name : (settings : List Setting) (a b : List ℕ) → AreDistinct same_number settings
+    → is_set settings a ≡ true → is_set settings b ≡ true
+    → setting_number settings a ≡ setting_number settings b → a ≡ b
+one_name [] a b apart is is' same = absurd (true≢false (sym is))
+one_name (s ∷ settings) a b apart is is' same =
+    let other = λ (name : List ℕ) (set : is_set settings name ≡ true).
+    number_holds (λ n. (s.number == n) ≡ false) settings name set apart.0 in
+    elim (cases_Bool (same_bytes s.name a)) [
+      | inl here ↦ elim (cases_Bool (same_bytes s.name b)) [
+        | inl here' ↦ sym (same_is s.name a here) ∙ same_is s.name b here'
+        | inr not' ↦ absurd (both_ways _ (other b (rw not' at is'))
+            (eq-eqb s.number _ (rw (here, not') at same)))
+      ]
+      | inr not ↦ elim (cases_Bool (same_bytes s.name b)) [
+        | inl here' ↦ absurd (both_ways _ (other a (rw not at is))
+            (eq-eqb s.number _ (sym (rw (not, here') at same))))
+        | inr not' ↦ one_name settings a b apart.1 (rw not at is) (rw not' at is')
+            (rw (not, not') at same)
       ]
     ]
 
--- ---- tasks
-pub distinct_at : (U : List Task) → AreDistinct same_name U → (i j : ℕ) → i < j → j < length U
-    → same_name (task_at U i) (task_at U j) ≡ false
-distinct_at (x ∷ U) h zero (suc j) lt within =
-    All-from_recursion (λ y. same_name x y ≡ false) U h.0 j no_task (omega arith)
-distinct_at (x ∷ U) h (suc i) (suc j) lt within = distinct_at U h.1 i j (omega arith) (omega arith)
-distinct_at U h i j lt within = absurd (omega arith)
+module _ (alike : Setting → Setting → Bool) where
+  unlike : (seen xs : List Setting) (s : Setting)
+      → AllByRecursion (λ x. list_any (λ b. alike b x) (seen ++ s ∷ []) ≡ false) xs
+      → AllByRecursion (λ x. list_any (λ b. alike b x) seen ≡ false) xs
+      × AllByRecursion (λ x. alike s x ≡ false) xs
+  unlike seen [] s each = (tt, tt)
+  unlike seen (x ∷ xs) s each =
+      let rest = unlike seen xs s each.1 in
+      let both = or_parts (list_any (λ b. alike b x) seen) _
+      (sym (list_any-append (λ b. alike b x) seen (s ∷ [])) ∙ each.0) in
+      ((both.0, rest.0), ((or_parts (alike s x) false both.1).0, rest.1))
 
-all_of_rest : (t : Task) (U : List Task) (threads : List Setting) → is_set threads t.name ≡ true
-    → ((k : ℕ) → k < length U → is_set threads (task_at U k).name ≡ true) → (k : ℕ)
-    → k < length (t ∷ U) → is_set threads (task_at (t ∷ U) k).name ≡ true
-all_of_rest t U threads has rest zero lt = has
-all_of_rest t U threads has rest (suc k) lt = rest k (omega arith)
+  -- where none is like one before it, no two are alike
+  apart : (seen xs : List Setting) → line_again alike seen xs ≡ None
+      → AllByRecursion (λ x. list_any (λ b. alike b x) seen ≡ false) xs × AreDistinct alike xs
+  apart seen [] none = (tt, tt)
+  apart seen (s ∷ xs) none = elim (cases_Bool (list_any (λ b. alike b s) seen)) [
+    | inl is ↦ let some : Some s.line ≡ None = (rw is at none) in absurd cc
+    | inr new ↦
+        let rest = apart (seen ++ s ∷ []) xs (rw new at none) in
+        let both = unlike seen xs s rest.0 in
+        ((new, both.0), (both.1, rest.1))
+  ]
 
 -- where no task lacks a thread, each has one
-all_threads : (U : List Task) (threads : List Setting) → threadless U threads ≡ None → (k : ℕ)
-    → k < length U → is_set threads (task_at U k).name ≡ true
-all_threads [] threads none k lt = absurd (omega arith)
-all_threads (t ∷ U) threads none k lt = elim (cases_Bool (is_set threads t.name)) [
-  | inl has ↦ all_of_rest t U threads has (all_threads U threads (rw has at none)) k lt
+all_threads : (U : List Task) (threads : List Setting) → threadless U threads ≡ None
+    → AllByRecursion (λ t. is_set threads t.name ≡ true) U
+all_threads [] threads none = tt
+all_threads (t ∷ U) threads none = elim (cases_Bool (is_set threads t.name)) [
+  | inl has ↦ (has, all_threads U threads (rw has at none))
   | inr out ↦ let some : Some t.name ≡ None = (rw out at none) in absurd cc
 ]
 
--- where each task has a thread, those that have one are all
-pub all_ordered : (U : List Task) (threads : List Setting) → threadless U threads ≡ None
-    → (order : List ℕ) → IsOrderOfThreads U threads order → IsOrderBy U threads order
-all_ordered U threads all order is =
-    record { each_once = λ k. is.each_once k ∙ ap (λ b. cond b 1 0) (same k); rises = is.rises }
-  where
-    same : (k : ℕ) → with_thread_in U threads k ≡ all_of U k
-    same k = elim (cases_Bool (all_of U k)) [
-      | inl here ↦ and_from _ _ here (all_threads U threads all k (ltb-true k (length U) here))
-          ∙ sym here
-      | inr out ↦ rw out refl
-    ]
+-- no two neighbours of an order are one
+adjacent : (L : Indexes) (order : List ℕ) → IsOrderOf L order → (k : ℕ) → k + 1 < length order
+    → get_or order k 0 ≡ get_or order (k + 1) 0 → ⊥
+adjacent L [] each k lt e = omega arith
+adjacent L (i ∷ []) each k lt e = omega arith
+adjacent L (i ∷ j ∷ above) each zero lt e = (without-parts L i j
+    (IsOrderOf-head (without_index L i) j above (IsOrderOf-rest L i (j ∷ above) each))).1 (sym e)
+adjacent L (i ∷ j ∷ above) each (suc k) lt e =
+    let next : suc k + 1 ≡ suc (k + 1) = omega arith in
+    adjacent (without_index L i) (j ∷ above) (IsOrderOf-rest L i (j ∷ above) each) k (omega arith)
+    (e ∙ ap (λ m. get_or (i ∷ j ∷ above) m 0) next)
 
--- an element of a list is among it
-pub among_at : (xs : List ℕ) (k : ℕ) → k < length xs → among xs (get_or xs k 0) ≡ true
-among_at [] k lt = absurd (omega arith)
-among_at (x ∷ xs) zero lt = or_left _ _ (eq-eqb x x refl)
-among_at (x ∷ xs) (suc k) lt = or_right _ _ (among_at xs k (omega (arith, lt)))
+module _ (U : List Task) (threads : List Setting) where
+  -- ---- the tasks that have a thread
+  abbrev IsNumbered : Numbered → Type 0
+  IsNumbered n = n.number ≡ thread_number U threads n.task
 
--- each task of an order of threads is one of the set that has a thread
-pub order_member : (U : List Task) (threads : List Setting) (order : List ℕ)
-    → IsOrderOf (with_thread_in U threads) order → (k : ℕ) → k < length order
-    → (get_or order k 0 < length U) × (is_set threads (task_at U (get_or order k 0)).name ≡ true)
-order_member U threads order each k lt =
-    let member =
-    sym (ap (λ X. X (get_or order k 0)) (IsOrderOf-among (with_thread_in U threads) order each))
-    ∙ among_at order k lt in
-    let both = and_parts (all_of U (get_or order k 0)) _ member in
-    (ltb-true (get_or order k 0) (length U) both.0, both.1)
+  abbrev pub tasks_in : List Numbered → List ℕ
+  tasks_in xs = map (λ n. n.task) xs
 
-module _ (U : List Task) (threads : List Setting) (kept : IsTaskSet U)
-    (apart : line_again same_number [] threads ≡ None) where
-  -- two settings of one number are one
-  one_place : (p q : ℕ) → p < length threads → q < length threads
-      → (get_or threads p no_setting).number ≡ (get_or threads q no_setting).number → p ≡ q
-  one_place p q lt lt' same = elim (cases_order p q) [
-    | inl e ↦ e
-    | inr either ↦ elim either [
-      | inl less ↦ absurd (both_ways _
-          (apart_at same_number [] threads apart p q less (omega arith) lt') (eq-eqb _ _ same))
-      | inr more ↦ absurd (both_ways _
-          (apart_at same_number [] threads apart q p more (omega arith) lt) (eq-eqb _ _ (sym same)))
-    ]
-  ]
+  -- one more task, by rank
+  pub numbered_step : (k : ℕ) (xs xs' : List Numbered) (name : List ℕ) → k < length U
+      → name ≡ (task_at U k).name → tasks_in xs ≡ listed_below k (with_thread_in U threads)
+      → All IsNumbered xs → xs' ≡ xs ++ numbered_at threads name k
+      → (tasks_in xs' ≡ listed_below (k + 1) (with_thread_in U threads)) × All IsNumbered xs'
+  numbered_step k xs xs' name lt is tasks numbers pushed =
+      let here : all_of U k ≡ true = lt-ltb k (length U) lt in
+      elim (cases_Bool (is_set threads name)) [
+        | inl has ↦
+            let one : Numbered = record { number = setting_number threads name; task = k } in
+            let more : xs' ≡ xs ++ one ∷ [] = rw has at pushed in
+            let member = and_from _ _ here (ap (is_set threads) (sym is) ∙ has) in (
+              ap tasks_in more ∙ map_push (λ n. n.task) xs one ∙ rw tasks
+                  (sym (listed_below-member k (with_thread_in U threads) member)),
+              rw more (All-push IsNumbered xs one numbers (ap (setting_number threads) is)),
+            )
+        | inr none ↦
+            let same : xs' ≡ xs = (rw none at pushed) ∙ append-nil xs in
+            let other : with_thread_in U threads k ≡ false = rw (here, ← is, none) refl in (
+              ap tasks_in same ∙ tasks
+                  ∙ sym (listed_below-other k (with_thread_in U threads) other),
+              rw same numbers,
+            )
+      ]
 
-  -- two tasks of one number have one name
-  one_name : (i j : ℕ) → is_set threads (task_at U i).name ≡ true → is_set threads
-      (task_at U j).name ≡ true → thread_number U threads i ≡ thread_number U threads j
-      → same_name (task_at U i) (task_at U j) ≡ true
-  one_name i j has has' same =
-      let first = number_found threads (task_at U i).name has in
-      let second = number_found threads (task_at U j).name has' in
-      let place = one_place first.0 second.0 first.1 second.1 (sym first.3 ∙ same ∙ second.3) in
-      let own = (bytes_eq-Decides (get_or threads first.0 no_setting).name (task_at U i).name).0
-      first.2 in
-      let other = (bytes_eq-Decides (get_or threads second.0 no_setting).name (task_at U j).name).0
-      second.2 in
-      let names : (task_at U i).name ≡ (task_at U j).name = sym own
-      ∙ ap (λ p. (get_or threads p no_setting).name) place ∙ other in
-      subst (λ name. same_bytes (task_at U i).name name ≡ true) names
-      (nat_list_eq_equiv.refl (task_at U i).name)
+  -- where each task has a thread, those that have one are all
+  pub all_ordered : threadless U threads ≡ None → (order : List ℕ)
+      → IsOrderOfThreads U threads order → IsOrderBy U threads order
+  all_ordered all order is =
+      record { each_once = λ k. is.each_once k ∙ ap (λ b. cond b 1 0) (same k); rises = is.rises }
+    where
+      same : (k : ℕ) → with_thread_in U threads k ≡ all_of U k
+      same k = elim (cases_Bool (all_of U k)) [
+        | inl here ↦ and_from _ _ here (All-from_recursion (λ t. is_set threads t.name ≡ true) U
+            (all_threads U threads all) k no_task (ltb-true k (length U) here)) ∙ sym here
+        | inr out ↦ rw out refl
+      ]
 
-  one_task : (i j : ℕ) → (i < length U) × (is_set threads (task_at U i).name ≡ true)
-      → (j < length U) × (is_set threads (task_at U j).name ≡ true)
-      → thread_number U threads i ≡ thread_number U threads j → i ≡ j
-  one_task i j here there same = elim (cases_order i j) [
-    | inl e ↦ e
-    | inr either ↦ elim either [
-      | inl less ↦ absurd (both_ways _ (distinct_at U kept.distinct i j less there.0)
-          (one_name i j here.1 there.1 same))
-      | inr more ↦ absurd (both_ways _ (distinct_at U kept.distinct j i more here.0)
-          (one_name j i there.1 here.1 (sym same)))
-    ]
-  ]
+  -- each task of an order of threads is one of the set that has a thread
+  pub order_member : (order : List ℕ) → IsOrderOf (with_thread_in U threads) order → (k : ℕ)
+      → k < length order
+      → (get_or order k 0 < length U) × (is_set threads (task_at U (get_or order k 0)).name ≡ true)
+  order_member order each k lt =
+      let i = get_or order k 0 in
+      let both = and_parts (all_of U i) _
+      (sym (ap (λ X. X i) (IsOrderOf-among (with_thread_in U threads) order each))
+      ∙ among_at order k lt) in
+      (ltb-true i (length U) both.0, both.1)
 
-  -- ---- the order
-  -- no two neighbours of an order are one
-  adjacent : (L : Indexes) (order : List ℕ) → IsOrderOf L order → (k : ℕ) → suc k < length order
-      → get_or order k 0 ≡ get_or order (suc k) 0 → ⊥
-  adjacent L [] each k lt e = omega arith
-  adjacent L (i ∷ []) each k lt e = omega arith
-  adjacent L (i ∷ j ∷ above) each zero lt e = (without-parts L i j
-      (IsOrderOf-head (without_index L i) j above (IsOrderOf-rest L i (j ∷ above) each))).1 (sym e)
-  adjacent L (i ∷ j ∷ above) each (suc k) lt e = adjacent (without_index L i) (j ∷ above)
-      (IsOrderOf-rest L i (j ∷ above) each) k (omega arith) e
-
-  -- stands past the end of a list
-  abbrev no_numbered : Numbered
-  no_numbered = record { number = 0; task = 0 }
-
-  module _ (xs ys : List Numbered)
-      (tasks : map (λ n. n.task) xs ≡ listed_below (length U) (with_thread_in U threads))
-      (numbers : All (λ n. n.number ≡ thread_number U threads n.task) xs)
-      (moved : IsPermutation xs ys) (rising : IsNonDecreasingBy (λ n. n.number) ys) where
-    abbrev order : List ℕ
-    order = map (λ n. n.task) ys
-
-    each : IsOrderOf (with_thread_in U threads) order
+  module _ (kept : IsTaskSet U) (none_again : line_again same_number [] threads ≡ None)
+      (xs ys : List Numbered)
+      (tasks : tasks_in xs ≡ listed_below (length U) (with_thread_in U threads))
+      (numbers : All IsNumbered xs) (moved : IsPermutation xs ys)
+      (rising : IsNonDecreasingBy (λ n. n.number) ys) where
+    each : IsOrderOf (with_thread_in U threads) (tasks_in ys)
     each k =
-        sum_by-IsPermutation (λ x. cond (x == k) 1 0) (map (λ (n : Numbered). n.task) xs) order
+        sum_by-IsPermutation (λ x. cond (x == k) 1 0) (tasks_in xs) (tasks_in ys)
         (IsPermutation-map (λ (n : Numbered). n.task) xs ys moved)
         ∙ ap (λ ts. count_by (λ x. x == k) ts) tasks ∙ listed-order (length U)
         (with_thread_in U threads) (λ j h. (and_parts (all_of U j) _ h).0) k
 
-    task_here : (k : ℕ) → k < length ys → get_or order k 0 ≡ (get_or ys k no_numbered).task
-    task_here k lt = get_or-map (λ (n : Numbered). n.task) ys k no_numbered 0 lt
+    number_here : (k : ℕ) (d : Numbered) → k < length ys
+        → thread_number U threads (get_or (tasks_in ys) k 0) ≡ (get_or ys k d).number
+    number_here k d lt =
+        ap (thread_number U threads) (get_or-map (λ (n : Numbered). n.task) ys k d 0 lt)
+        ∙ sym (All-permutation IsNumbered xs ys moved numbers k d lt)
 
-    number_here : (k : ℕ) → k < length ys
-        → thread_number U threads (get_or order k 0) ≡ (get_or ys k no_numbered).number
-    number_here k lt = ap (thread_number U threads) (task_here k lt)
-        ∙ sym (All-permutation (λ (n : Numbered). n.number ≡ thread_number U threads n.task) xs ys
-        moved numbers k no_numbered lt)
-
-    in_set : (k : ℕ) → k < length ys → (get_or order k 0 < length U)
-        × (is_set threads (task_at U (get_or order k 0)).name ≡ true)
-    in_set k lt = order_member U threads order each k
-        (omega (arith, lt, length-map ys (λ (n : Numbered). n.task)))
-
-    step : (k : ℕ) → k + 1 < length ys → thread_number U threads (get_or order k 0)
-        < thread_number U threads (get_or order (k + 1) 0)
+    -- the numbers of neighbours don't fall, and aren't the same
+    step : (k : ℕ) → k + 1 < length (tasks_in ys)
+        → thread_number U threads (get_or (tasks_in ys) k 0)
+        < thread_number U threads (get_or (tasks_in ys) (k + 1) 0)
     step k lt =
-        let le = rising k (k + 1) no_numbered (omega arith) lt in
-        let here = number_here k (omega arith) in
-        let next = number_here (k + 1) lt in
+        let order = tasks_in ys in
+        let next : k + 1 < length ys =
+        omega (arith, lt, length-map ys (λ (n : Numbered). n.task)) in
+        let d : Numbered = record { number = 0; task = 0 } in
+        let le = rising k (k + 1) d (omega arith) next in
         elim (cases_lt (thread_number U threads (get_or order k 0))
         (thread_number U threads (get_or order (k + 1) 0))) [
           | inl less ↦ less
           | inr not_less ↦
-              let same : get_or order k 0 ≡ get_or order (k + 1) 0 =
-              one_task _ _ (in_set k (omega arith)) (in_set (k + 1) lt) (omega arith) in
-              let after : suc k ≡ k + 1 = omega arith in
-              absurd (adjacent (with_thread_in U threads) order each k (omega (
-                arith,
-                length-map ys
-                    (λ (n : Numbered). n.task),
-              )) (same ∙ ap (λ m. get_or order m 0) (sym after)))
+              let first = order_member order each k (omega arith) in
+              let second = order_member order each (k + 1) lt in
+              let name = one_name threads (task_at U (get_or order k 0)).name
+              (task_at U (get_or order (k + 1) 0)).name
+              (apart same_number [] threads none_again).1 first.1 second.1
+              (omega (arith, number_here k d (omega arith), number_here (k + 1) d next)) in
+              absurd (adjacent (with_thread_in U threads) order each k lt
+              (one_of_name U kept _ _ first.0 second.0 name))
         ]
 
-    pub ordered : IsOrderOfThreads U threads order
+    pub ordered : IsOrderOfThreads U threads (tasks_in ys)
     ordered = record {
       each_once = each;
       rises = λ k lt.
-          let short : k + 1 < length ys = omega (
-            arith,
-            length-map order (thread_number U threads),
-            length-map ys (λ (n : Numbered). n.task),
-          ) in
-          let here : k < length order = omega (arith, length-map ys (λ (n : Numbered). n.task)) in
-          let next : k + 1 < length order =
-          omega (arith, length-map ys (λ (n : Numbered). n.task)) in
+          let next : k + 1 < length (tasks_in ys) =
+          omega (arith, lt, length-map (tasks_in ys) (thread_number U threads)) in
           rw (
-            get_or-map (thread_number U threads) order k 0 0 here,
-            get_or-map
-                (thread_number U threads) order (k + 1) 0 0 next,
-          ) (step k short);
+            get_or-map (thread_number U threads) (tasks_in ys) k 0 0 (omega arith),
+            get_or-map (thread_number U threads) (tasks_in ys) (k + 1) 0 0 next,
+          ) (step k next);
     }

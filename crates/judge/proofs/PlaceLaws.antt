@@ -1,11 +1,10 @@
 -- The places of an order whose tasks all meet their deadlines.
-use Rattle.std.proofs.Common.{◌≡◌, ◌∙◌, List, ap, subst}
-use Rattle.std.specs.Prelude.{IsTrue}
+use Rattle.std.proofs.Common.{◌≡◌, List}
 use Rattle.task_sheet.specs.Sheet.{Task}
-use Rattle.task_sheet.specs.Orders.{AllStand, IsOrder, IsPassingOrder}
+use Rattle.task_sheet.specs.Orders.{IsOrder, IsPassingOrder}
 use Rattle.assignment.specs.Places.{PlaceData}
 use Rattle.assignment.specs.Placings.{tasks_of_places}
-use Rattle.judge.specs.Judgements.{AllJudged, all_meet, judged_of, order_judged}
+use Rattle.judge.specs.Judgements.{AllJudged, judged_of, order_judged}
 use Rattle.judge.specs.declared.judging.JudgedTask.{JudgedTask}
 use Rattle.judge.proofs.OrderLaws.{judged_meet, judged_passing, judged_tasks}
 
@@ -14,10 +13,8 @@ pub places_pass : (U : List Task) (judged : List JudgedTask) (places : List Plac
     → IsOrder U (order_judged judged) → AllJudged U judged → judged ≡ judged_of places
     → IsPassingOrder U (tasks_of_places places)
 places_pass U judged places each are is =
-    let same : order_judged judged ≡ tasks_of_places places =
-    ap (λ (js : List JudgedTask). order_judged js) is ∙ judged_tasks places in
-    let meets : IsTrue (all_meet judged) = rw is (judged_meet places) in
+    let same : order_judged judged ≡ tasks_of_places places = rw is (judged_tasks places) in
     record {
-      each_once = subst (IsOrder U) same each;
-      each_stands = subst (AllStand U) same (judged_passing U judged are meets);
+      each_once = rw (← same) each;
+      each_stands = rw (← same) (judged_passing U judged are (rw is (judged_meet places)));
     }

@@ -1,14 +1,14 @@
 -- The lines of judgements, one task after the other.
-use Rattle.std.proofs.Common.{◌≡◌, ◌++◌, ◌∙◌, ◌+◌, ◌<◌, ◌==◌, ◌&&◌, ◌||◌, not, ℕ, Bool, true, false}
-use Rattle.std.proofs.Common.{cond, List, [], ◌∷◌, length, get_or, take, slice_get, Bor, Option}
+use Rattle.std.proofs.Common.{◌≡◌, ◌∙◌, ◌+◌, ◌<◌, ◌==◌, ◌&&◌, not, ℕ, Bool, true, false}
+use Rattle.std.proofs.Common.{cond, List, length, get_or, take, slice_get, Bor, Option}
 use Rattle.std.proofs.Common.{Some, None, refl, ap, sym}
 use Rattle.std.proofs.Math.Path.{fun_ext}
 use Rattle.std.specs.Ordering.{nat_cmp}
 use Rattle.std.specs.FinSet as set
 use Rattle.std.specs.Option.{option_copied}
 use Rattle.std.specs.Slice.{IsItemAt}
-use Rattle.std.proofs.lemmas.List.{take_more}
-use Rattle.std.proofs.lemmas.List.Folds.{list_any-append}
+use Rattle.std.proofs.Math.Bool.{and_comm, or-false, or_comm}
+use Rattle.std.proofs.lemmas.List.Folds.{list_any_more}
 use Rattle.std.proofs.lemmas.Option.{slice_get_past, slice_get_read}
 use Rattle.task_sheet.specs.Indexes.{indexes_of, with_index}
 use Rattle.task_sheet.proofs.MembersIndexes.{indexes_of-insert}
@@ -22,42 +22,25 @@ use Rattle.assignment.proofs.MemberLaws.{turned}
 abbrev pub no_judged : JudgedTask
 no_judged = record { task = 0; judgement = Meets 0 }
 
--- one task more, which meets its deadline or misses it
-kept : (b c : Bool) → (b || ((c && not true) || false)) ≡ b
-kept true true = refl
-kept true false = refl
-kept false true = refl
-kept false false = refl
-
-more : (b c : Bool) → (b || ((c && not false) || false)) ≡ (c || b)
-more true true = refl
-more true false = refl
-more false true = refl
-more false false = refl
-
-missed_push : (xs : List JudgedTask) (j : JudgedTask) (meets : Bool) → meets ≡ does_meet j.judgement
-    → missed_of (xs ++ j ∷ []) ≡ cond meets (missed_of xs) (with_index (missed_of xs) j.task)
-missed_push xs j true is = fun_ext (λ k.
-    list_any-append (λ x. (x.task == k) && not (does_meet x.judgement)) xs (j ∷ [])
-    ∙ ap (λ m. missed_of xs k || (((j.task == k) && not m) || false)) (sym is)
-    ∙ kept (missed_of xs k) (j.task == k))
-missed_push xs j false is = fun_ext (λ k.
-    list_any-append (λ x. (x.task == k) && not (does_meet x.judgement)) xs (j ∷ [])
-    ∙ ap (λ m. missed_of xs k || (((j.task == k) && not m) || false)) (sym is)
-    ∙ more (missed_of xs k) (j.task == k) ∙ ap (λ b. b || missed_of xs k) (turned j.task k))
+-- the task misses its deadline
+abbrev is_missed : ℕ → JudgedTask → Bool
+is_missed k j = (j.task == k) && not (does_meet j.judgement)
 
 pub missed_step : (m n : set.FinSet nat_cmp) (xs : List JudgedTask) (k : ℕ) (d : JudgedTask)
     (meets : Bool) → k < length xs → meets ≡ does_meet (get_or xs k d).judgement
     → indexes_of m ≡ missed_of (take k xs)
     → n ≡ cond meets m (set.insert m (get_or xs k d).task)
     → indexes_of n ≡ missed_of (take (k + 1) xs)
-missed_step m n xs k d true lt is so next =
-    ap indexes_of next ∙ so
-    ∙ sym (ap missed_of (take_more xs k d lt) ∙ missed_push (take k xs) (get_or xs k d) true is)
+missed_step m n xs k d true lt is so next = ap indexes_of next ∙ so
+    ∙ fun_ext (λ i. sym (list_any_more (is_missed i) xs k d lt
+    ∙ rw (← is, and_comm ((get_or xs k d).task == i) false) (or-false (missed_of (take k xs) i))))
 missed_step m n xs k d false lt is so next =
     ap indexes_of next ∙ indexes_of-insert m (get_or xs k d).task
     ∙ ap (λ H. with_index H (get_or xs k d).task) so
-    ∙ sym (ap missed_of (take_more xs k d lt) ∙ missed_push (take k xs) (get_or xs k d) false is)
+    ∙ fun_ext (λ i. rw (← turned (get_or xs k d).task i)
+    (sym (list_any_more (is_missed i) xs k d lt
+    ∙ rw (← is, and_comm ((get_or xs k d).task == i) true)
+    (or_comm (missed_of (take k xs) i) ((get_or xs k d).task == i)))))
 
 -- what is copied of an element that is lent
 pub copied_at : (xs : List ℕ) (k : ℕ) (r : Option (Bor ℕ)) → IsItemAt xs k r

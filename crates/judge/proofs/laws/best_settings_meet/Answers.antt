@@ -12,7 +12,7 @@ pub returns : goal.returns
 returns c = λ U base places judged kept best some few order each.
     let tasks = tasks_of_places places in
     let same = one_node_order false U (settings_from U base tasks) (order_judged judged) tasks order
-    (comes_back U kept base tasks best.best.passing.each_once some
+    (comes_back U base tasks kept best.best.passing.each_once some
     (omega (arith, length-map places (λ p. p.task)))) in
     one_judged U judged (judged_of places) (same ∙ sym (judged_tasks places)) each
     (best_judged U places (AllTasks-from_set U kept) best)
