@@ -136,7 +136,7 @@ fn level_text(
         }
         Judgement::Misses => {
             let account = missed_account(alloc, set, entry.task, above)?;
-            missed_text(alloc, set.tasks(), number, account)
+            missed_text(alloc, set.tasks(), number, &account)
         }
         Judgement::Below { .. } => line_text(alloc, set.tasks(), number, entry),
     }

@@ -7,7 +7,7 @@ use task_sheet::Name;
 
 /// Why a text is no settings of a set. Lines are counted from 1. Each is looked for over the whole text before the
 /// next.
-#[derive(Clone, Copy, Debug, PartialEq, Eq)]
+#[derive(Clone, Copy, Debug)]
 pub enum SettingsFault {
     /// The line is none that settings may have.
     BadLine { line: u64 },

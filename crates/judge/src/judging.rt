@@ -10,7 +10,7 @@ use std::alloc::{AllocError, Global};
 use task_sheet::Members;
 
 /// What becomes of a task in an order.
-#[derive(Clone, Copy, Debug, PartialEq, Eq)]
+#[derive(Clone, Copy)]
 pub enum Judgement {
     /// It meets its deadline, with this response in microseconds from the arrival.
     Meets { response: u64 },

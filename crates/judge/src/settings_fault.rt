@@ -60,24 +60,20 @@ fn is_no_lock(set: &Tabled<'_>, mutex: &Setting) -> bool
 fn unknown_task(set: &TaskSet, threads: &[Setting]) -> Option<u64>
     ensures { result ≡ line_where (is_no_task set.now) threads.now }
 {
-    threads
-        .iter()
-        .find(|thread| is_no_task(set, thread))
-        .map(|thread| thread.line)
+    let thread = threads.iter().find(|thread| is_no_task(set, thread))?;
+    Some(thread.line)
 }
 
 // The line of the first mutex that has the name of no lock.
 fn unknown_lock(set: &Tabled<'_>, mutexes: &[Setting]) -> Option<u64>
     ensures { result ≡ line_where (is_no_lock set.now) mutexes.now }
 {
-    mutexes
-        .iter()
-        .find(|mutex| is_no_lock(set, mutex))
-        .map(|mutex| mutex.line)
+    let mutex = mutexes.iter().find(|mutex| is_no_lock(set, mutex))?;
+    Some(mutex.line)
 }
 
 // What no two settings may share.
-#[derive(Clone, Copy, Debug, PartialEq, Eq)]
+#[derive(Clone, Copy)]
 pub(crate) enum SettingField {
     Name,
     Number,
@@ -116,10 +112,11 @@ pub(crate) fn first_again(settings: &[Setting], field: SettingField) -> Option<u
 fn threadless(set: &TaskSet, threads: &[Setting]) -> Option<Name>
     ensures { result ≡ threadless set.now threads.now }
 {
-    set.sheets()
+    let sheet = set
+        .sheets()
         .iter()
-        .find(|sheet| !is_set(threads, sheet.name()))
-        .map(|sheet| sheet.name())
+        .find(|sheet| !is_set(threads, sheet.name()))?;
+    Some(sheet.name())
 }
 
 // The first lock, in the order of first sight, that passes a test.
