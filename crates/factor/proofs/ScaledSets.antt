@@ -120,15 +120,15 @@ module _ (P : List Task → Type 0) (eased : (V U : List Task) → AreEasier V U
   pub scales-tested : (factor : ℕ) (V : List Task) (b : Bool) → V ≡ scaled factor U
       → MayScale U factor → IsTrue b ↔ P V → IsTrue b ↔ ScalesFor P U factor
   scales-tested factor V b same may tested = (
-    λ yes. record { may = may; feasible = subst (λ (W : List Task). P W) same (tested.0 yes) },
-    λ scales. tested.1 (subst (λ (W : List Task). P W) (sym same) scales.feasible),
+    λ yes. record { may = may; feasible = rw (← same) (tested.0 yes) },
+    λ scales. tested.1 (rw same scales.feasible),
   )
 
   -- feasible as it is, it is so with 1000
   pub scales-same : P U → ScalesFor P U 1000
   scales-same feasible = record {
     may = may-same U set;
-    feasible = subst (λ (V : List Task). P V) (sym (scaled-same U set)) feasible;
+    feasible = rw (scaled-same U set) feasible;
   }
 
   pub factor-each : (most factor : ℕ) → IsFactorFor P U most → MayScale U factor
@@ -142,8 +142,7 @@ module _ (P : List Task → Type 0) (eased : (V U : List Task) → AreEasier V U
   )
 
   pub factor-own : (most : ℕ) → IsFactorFor P U most → P U ↔ (1000 ≤ most)
-  factor-own most is = subst (λ (V : List Task). P V ↔ (1000 ≤ most)) (scaled-same U set)
-      (factor-each most 1000 is (may-same U set))
+  factor-own most is = rw (scaled-same U set) at (factor-each most 1000 is (may-same U set))
 
   pub factor-one : (first second : ℕ) → IsFactorFor P U first → IsFactorFor P U second
       → first ≡ second
@@ -154,8 +153,7 @@ module _ (P : List Task → Type 0) (eased : (V U : List Task) → AreEasier V U
   )
 
 pub factor-none : (U : List Task) → IsTaskSet U → HasNoFactor U → ¬ IsFeasible U
-factor-none U set none =
-    subst (λ (V : List Task). ¬ IsFeasible V) (scaled-same U set) (none 1000 (may-same U set))
+factor-none U set none = rw (scaled-same U set) at (none 1000 (may-same U set))
 
 pub factor-in-any : (U : List Task) (order : List ℕ) (own most : ℕ) → IsTaskSet U
     → IsFactorIn U order own → IsFactor U most → own ≤ most

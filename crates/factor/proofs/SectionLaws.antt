@@ -126,28 +126,14 @@ pub end-more : (factor : ℕ) (xs : List CriticalSection) (i : ℕ) (x : Critica
     → i < length xs → x ≡ get_or xs i x
     → scaled_end factor 0 (take (i + 1) xs)
     ≡ section_end (scaled_section factor (scaled_end factor 0 (take i xs)) x)
-end-more factor xs i x lt is =
-    ap (scaled_end factor 0) (take_more xs i x lt)
-    ∙ end-push factor 0 (take i xs) (get_or xs i x)
-    ∙ ap (λ (y : CriticalSection). section_end
-    (scaled_section factor (scaled_end factor 0 (take i xs)) y)) (sym is)
-
-pub sections-more : (factor : ℕ) (xs : List CriticalSection) (i : ℕ) (x : CriticalSection)
-    → i < length xs → x ≡ get_or xs i x
-    → scaled_sections factor 0 (take (i + 1) xs) ≡ scaled_sections factor 0 (take i xs)
-    ++ scaled_section factor (scaled_end factor 0 (take i xs)) x ∷ []
-sections-more factor xs i x lt is =
-    ap (scaled_sections factor 0) (take_more xs i x lt)
-    ∙ sections-push factor 0 (take i xs) (get_or xs i x)
-    ∙ ap (λ (y : CriticalSection). scaled_sections factor 0 (take i xs)
-    ++ scaled_section factor (scaled_end factor 0 (take i xs)) y ∷ []) (sym is)
+end-more factor xs i x lt is = rw (take_more xs i x lt, ← is) (end-push factor 0 (take i xs) x)
 
 -- a section of a valid sheet is within the longest period
 pub section-short : (from cost : ℕ) (xs : List CriticalSection) (i : ℕ) (x : CriticalSection)
     → AreSections from cost xs → i < length xs → x ≡ get_or xs i x → section_end x ≤ cost
 section-short from cost [] i x are lt is = absurd (omega arith)
 section-short from cost (y ∷ ys) zero x are lt is =
-    subst (λ z. section_end z ≤ cost) (sym is) are.0.within
+    rw is are.0.within
 section-short from cost (y ∷ ys) (suc i) x are lt is =
     section-short (y.at + y.len) cost ys i x are.1 (omega arith) is
 
@@ -155,9 +141,8 @@ pub section-within : (t : Task) (items : List CriticalSection) (i : ℕ) (x : Cr
     → IsValidSheet t → items ≡ t.sections → i < length items → x ≡ get_or items i x
     → section_end x ≤ 10000000
 section-within t items i x valid same lt is =
-    let are : AreSections 0 t.cost items =
-    subst (λ (xs : List CriticalSection). AreSections 0 t.cost xs) (sym same) valid.sections in
-    omega (arith, section-short 0 t.cost items i x are lt is, valid.cost_to, valid.period_to)
+    let short = section-short 0 t.cost items i x (rw same valid.sections) lt is in
+    omega (arith, short, valid.cost_to, valid.period_to)
 
 -- one scaled section more
 pub sections-step : (factor : ℕ) (items : List CriticalSection) (i : ℕ) (x y : CriticalSection)
@@ -166,8 +151,5 @@ pub sections-step : (factor : ℕ) (items : List CriticalSection) (i : ℕ) (x y
     → y ≡ scaled_section factor end x → ys ≡ xs ++ y ∷ []
     → ys ≡ scaled_sections factor 0 (take (i + 1) items)
 sections-step factor items i x y end xs ys lt is ends before scales pushed =
-    pushed
-    ∙ ap (λ (zs : List CriticalSection). zs ++ y ∷ []) before
-    ∙ ap (λ (z : CriticalSection). scaled_sections factor 0 (take i items) ++ z ∷ [])
-    (scales ∙ ap (λ e. scaled_section factor e x) ends)
-    ∙ sym (sections-more factor items i x lt is)
+    pushed ∙ rw (before, scales, ends, take_more items i x lt, ← is)
+    (sym (sections-push factor 0 (take i items) x))

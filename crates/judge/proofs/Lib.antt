@@ -1,4 +1,5 @@
 pub mod JudgedLaws
+pub mod CopyLaws
 pub mod TaskLaws
 pub mod PlaceLaws
 pub mod FaultLaws

@@ -1,4 +1,4 @@
-use Rattle.std.proofs.Common.{rules, ◌≡◌, ◌∙◌, ◌++◌, ◌∷◌, [], ℕ, List, max, ap, arith}
+use Rattle.std.proofs.Common.{rules, ◌≡◌, ◌∙◌, ◌++◌, ◌∷◌, [], max, ap, arith}
 use Rattle.task_sheet.specs.Sheet.{CriticalSection}
 use Rattle.task_sheet.proofs.Below.{ord_max-is}
 use Rattle.factor.specs.Factors.{thousandths, scaled_section}
@@ -40,14 +40,7 @@ loop-section-preserved c =
       len = c.thousandths-len.result;
     } in
     let scales : y ≡ scaled_section f c.loop-section.end x =
-    ap (λ (l : List (List ℕ)). record y { locks = l }) locks
-    ∙ ap (λ n. record y { locks = x.locks; at = n }) begin
-    ∙ ap (λ n. record y {
-      locks = x.locks;
-      at = max c.loop-section.end (thousandths f x.at);
-      len =
-          n;
-    }) len in
+    λ i. record { locks = locks i; at = begin i; len = len i } in
     let pushed : c.push.new.self.items ≡ c.loop-section.others.items ++ y ∷ [] = search rules in
     record {
       is = omega (arith, more, begin, len, inv.is);
