@@ -35,13 +35,6 @@ module _ (g : Task → Task) where
   pub mapped-past : (U : List Task) (k : ℕ) → length U ≤ k → task_at (map g U) k ≡ no_task
   mapped-past U k past = get_or-eq_default (map g U) no_task (omega (arith, count-mapped U))
 
-  -- one sheet more
-  pub mapped-more : (U xs ys : List Task) (i : ℕ) (x y : Task) → i < length U → x ≡ get_or U i x
-      → y ≡ g x → xs ≡ map g (take i U) → ys ≡ xs ++ y ∷ []
-      → ys ≡ map g (take (i + 1) U)
-  mapped-more U xs ys i x y lt is maps before pushed =
-      pushed ∙ rw (before, maps, is) (sym (map_more g U i x lt))
-
   all-mapped : (P Q : Task → Type 0) → ((y : Task) → P y → Q (g y)) → (U : List Task)
       → AllByRecursion P U → AllByRecursion Q (map g U)
   all-mapped P Q kept [] h = tt

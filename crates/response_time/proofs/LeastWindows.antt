@@ -22,11 +22,6 @@ parts-le cost period jitter time whole pos =
     let two : n * (q * period) ≤ n * (cost * whole) = mul-le-mul_left n down in
     omega (arith, one, two)
 
-pub parts-fits : (cost period whole : ℕ) → 0 < period → cost ≤ period
-    → cost * whole / period ≤ whole
-parts-fits cost period whole pos le =
-    div-le_of_le-mul period (mul-le-mul_right whole le)
-
 -- what a share takes once
 positive_count : (n period time : ℕ) → time ≤ n * period → 1 ≤ time → 1 ≤ n
 positive_count n period time up some = elim (cases_lt 0 n) [

@@ -141,21 +141,6 @@ share_within-still s first time h le short =
     ap (λ k. k * s.cost) (ceil_unique m n s.period (time + s.jitter) end.0 end.1
     (omega (arith, h.all, short)) (omega (arith, start.1, le)))
 
--- a share that is counted to a window, of so many jobs
-pub IsCountedTo-of : (s : ShareData) (time jobs : ℕ) → IsShare s → jobs
-    ≡ div_ceil (time + s.jitter) s.period → s.due ≡ jobs * s.period - s.jitter → IsCountedTo time s
-IsCountedTo-of s time jobs h is due =
-    let up = (div_ceil_times (time + s.jitter) s.period h.some).0 in
-    let same : jobs * s.period ≡ div_ceil (time + s.jitter) s.period * s.period =
-    ap (λ n. n * s.period) is in
-    record {
-      some = h.some;
-      short = h.short;
-      late = h.late;
-      within = h.within;
-      all = omega (arith, up, same, due);
-    }
-
 pub IsCarried-further : (w v : WorkloadData) → IsCarried w → w.time ≤ v.time → v.always ≡ w.always
     → v.shares ≡ map (counted_to v.time) w.shares
     → v.total ≡ w.total + sum_by (further_work v.time) w.shares → IsCarried v

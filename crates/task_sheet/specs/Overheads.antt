@@ -18,11 +18,3 @@ overhead_of t = t.node.job - t.node.release + calls_in t.node t.sections
 -- what a job executes at most of its own
 abbrev pub own_cost : Task → ℕ
 own_cost t = t.cost - overhead_of t
-
--- how long a section is without the calls on its locks
-abbrev pub own_len : Task → CriticalSection → ℕ
-own_len t x = x.len - calls t.node x
-
--- how late a job becomes ready at most but for its node
-abbrev pub own_jitter : Task → ℕ
-own_jitter t = t.jitter - t.node.late
