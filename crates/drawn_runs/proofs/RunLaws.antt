@@ -28,7 +28,7 @@ use Rattle.ceiling_kernel.proofs.EndLaws.{records_at}
 use Rattle.run_lines.specs.Reached.{done_of, is_done_of, response_of}
 use Rattle.run_lines.specs.Responses.{AllDoneWithin, AllReachWithin, DoneWithin}
 use Rattle.run_lines.proofs.ResponseLaws.{all_within}
-use Rattle.job_boxes.specs.Misses.{is_behind}
+use Rattle.drawn_jobs.specs.Misses.{is_behind}
 use Rattle.drawn_runs.proofs.ListLaws.{kept_most}
 
 -- ---- the records of a run

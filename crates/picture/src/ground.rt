@@ -10,11 +10,10 @@ use crate::legend::LEGEND;
 use crate::margin::put_group;
 use crate::style::STYLE;
 use crate::title::put_title_head;
-use bars::{locks_high, put_lane_line, put_locks_group};
+use drawn_jobs::{all_missed, locks_high, put_badge, put_lane_line, put_locks_group};
 use frames::{
     Chart, Frame, Millis, Page, end_of, start_of, step_of, steps_before, top_of, unit_of, x_of,
 };
-use job_boxes::{all_missed, put_badge};
 
 // Where the number of a line stands in the scale.
 fn number_x(frame: Frame, number: u64, x: u64) -> u64

@@ -4,10 +4,9 @@ ghost use Rattle.frames.specs.Page.{Adds};
 ghost use Rattle.picture.specs.Document.{margin_group, margins_text};
 ghost use Rattle.picture.specs.Margin.{level_text, limits_text, margin_text, name_class, name_text, second_line};
 
-use bars::put_lane_head;
 use ceiling_kernel::JobRecord;
+use drawn_jobs::{missed_in, put_greatest, put_lane_head};
 use frames::{Chart, Known, Lane, Millis, Page, level_of, step_of, tone_of, top_of, unit_name};
-use job_boxes::{missed_in, put_greatest};
 use run_lines::outcome_of;
 
 // A name is red where a deadline is missed.
