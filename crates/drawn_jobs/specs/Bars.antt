@@ -11,7 +11,7 @@ use Rattle.frames.specs.Frame.{Frame, x_of, sees, right_of, top_of, tone_of}
 use Rattle.frames.specs.Rows.{each, on_spot, of_job}
 use Rattle.frames.specs.Boxes.{box_path, span_text}
 use Rattle.drawn_jobs.specs.Stripes.{stripes_text}
-use Rattle.drawn_jobs.specs.Sections.{dark_from, dark_to, nth_section, fits, times_text}
+use Rattle.drawn_jobs.specs.Sections.{dark_from, dark_to, nth_section, fits}
 use Rattle.frames.specs.Slices.{slice_at, executed_in}
 
 -- a slice
@@ -19,8 +19,8 @@ abbrev pub bar_text : Frame → Slice → Spot → TaskRow → List ℕ
 bar_text f s spot row =
     concat (codes "<path class=\"e f" ∷ decimal (tone_of spot.rank) ∷ codes "\" d=\""
     ∷ span_text f spot.k s.start s.stop
-    ∷ codes "\"><title>" ∷ row.sheet.name ∷ codes " "
-    ∷ times_text s.start s.stop ∷ codes "</title></path>\n" ∷ [])
+    ∷ codes "\"><title>" ∷ row.sheet.name ∷ codes " " ∷ decimal s.start ∷ codes " to "
+    ∷ decimal s.stop ∷ codes " us</title></path>\n" ∷ [])
 
 -- names, each after one space
 abbrev pub names_text : List (List ℕ) → List ℕ
@@ -48,7 +48,7 @@ abbrev pub part_box : ℕ → TaskRow → List (List ℕ) → (start stop x righ
 part_box k row locks start stop x right =
     concat (codes "<path class=\"h\" d=\"" ∷ box_path x right (top_of k + 165) 180
     ∷ codes "\"><title>" ∷ row.sheet.name ∷ codes " holds" ∷ names_text locks ∷ codes " "
-    ∷ times_text start stop ∷ codes "</title></path>\n" ∷ [])
+    ∷ decimal start ∷ codes " to " ∷ decimal stop ∷ codes " us</title></path>\n" ∷ [])
 
 -- the same with stripes and names, from a place up to another
 abbrev pub seen_part : List (List ℕ) → ℕ → TaskRow → List (List ℕ) → (start stop x right : ℕ) → List ℕ

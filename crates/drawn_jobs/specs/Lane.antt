@@ -8,7 +8,6 @@ use Rattle.frames.specs.Frame.{Frame, x_of, sees, frame_end, level_of, tone_of}
 use Rattle.pieces.specs.Pieces.{clipped}
 use Rattle.frames.specs.Slices.{ticks_of, slice_at}
 use Rattle.frames.specs.Boxes.{box_path}
-use Rattle.drawn_jobs.specs.Sections.{times_text}
 use Rattle.ceiling_kernel.specs.declared.trace.JobRecord.{JobRecord}
 use Rattle.frames.specs.Rows.{each, on_row, of_job}
 
@@ -52,8 +51,8 @@ abbrev pub lane_bar : Frame → Slice → ℕ → TaskRow → List ℕ
 lane_bar f s k row =
     concat (codes "<path class=\"f" ∷ decimal (tone_of k) ∷ edge_class (lane_right f s - x_of f s.start)
     ∷ codes "\" d=\"" ∷ box_path (x_of f s.start) (lane_right f s) 1350 220
-    ∷ codes "\"><title>" ∷ row.sheet.name ∷ codes " executes "
-    ∷ times_text s.start s.stop ∷ codes "</title></path>\n" ∷ [])
+    ∷ codes "\"><title>" ∷ row.sheet.name ∷ codes " executes " ∷ decimal s.start ∷ codes " to "
+    ∷ decimal s.stop ∷ codes " us</title></path>\n" ∷ [])
 
 -- a word in the middle of a bar
 abbrev pub lane_word : (x right : ℕ) → List ℕ → List ℕ

@@ -1,7 +1,5 @@
--- Which ticks of a slice are darker: those that its job executes inside a section. And how times are told.
-use Rattle.std.specs.Prelude.{◌≡◌, ℕ, ◌+◌, ◌-◌, min, Bool, true, false, nat_lt, if◌then◌else◌, List, [], ◌∷◌, length, set, slice_index, slice_index_or, codes}
-use Rattle.std.specs.Fmt.{decimal}
-use Rattle.std.specs.List.{concat}
+-- Which ticks of a slice are darker: those that its job executes inside a section.
+use Rattle.std.specs.Prelude.{◌≡◌, ℕ, ◌+◌, ◌-◌, min, Bool, true, false, nat_lt, if◌then◌else◌, List, [], ◌∷◌, length, set, slice_index, slice_index_or}
 use Rattle.task_sheet.specs.Sheet.{CriticalSection}
 use Rattle.ceiling_kernel.specs.declared.trace.Slice.{Slice}
 use Rattle.frames.specs.Slices.{ticks_of}
@@ -35,7 +33,3 @@ abbrev pub fits : ℕ → List (List ℕ) → Bool
 fits room [] = true
 fits room (name ∷ names) =
     if nat_lt (length name) room then fits (room - length name - 1) names else false
-
--- from when to when
-abbrev pub times_text : (start stop : ℕ) → List ℕ
-times_text start stop = concat (decimal start ∷ codes " to " ∷ decimal stop ∷ codes " us" ∷ [])

@@ -1,5 +1,5 @@
 //! Jobs of a task that are too close to be drawn apart.
-ghost use Rattle.std.specs.Prelude.{◌<◌, ◌≡◌, ◌≤◌, Some, length};
+ghost use Rattle.std.specs.Prelude.{◌<◌, ◌≡◌, ◌≤◌, length};
 ghost use Rattle.run_lines.specs.Lines.{greatest_words};
 ghost use Rattle.frames.specs.Numbers.{known_text};
 ghost use Rattle.frames.specs.Page.{Adds};
@@ -12,12 +12,11 @@ use crate::jobs::{goes_on, limit_box, limit_of, put_job_in, put_sign, put_signs}
 use crate::marks::is_shown;
 use ceiling_kernel::JobRecord;
 use frames::{
-    Bar, Frame, Known, Lane, Millis, Page, is_before, job_at, sees_up_to, top_of, x_after,
+    Bar, Frame, Lane, Page, is_before, job_at, put_bar, put_known, put_millis, sees_up_to, top_of,
+    x_after,
 };
 use pieces::{Band, band_in, joins, stretch_of};
 use run_lines::{Outcome, outcome_of};
-use std::fmt;
-use std::io::Write;
 use task_sheet::Name;
 
 // How many microseconds 20 pixels are.
@@ -31,20 +30,23 @@ pub(crate) fn gap_of(frame: Frame) -> u64
 fn any_on(frame: Frame, name: Name, jobs: &[JobRecord]) -> bool
     ensures { result ≡ any_on frame name jobs.now }
 {
-    jobs.iter()
-        .any(|job| job.name == name && goes_on(frame, job.finish))
+    for job in jobs {
+        if job.name == name && goes_on(frame, job.finish) {
+            return true;
+        }
+    }
+    false
 }
 
 // The greatest response of jobs that are done, if some are.
-fn greatest_of(outcome: Outcome) -> Known
-    ensures { known_text result.bound ≡ greatest_words outcome.done outcome.greatest }
+fn greatest_of(outcome: Outcome) -> Option<u64>
+    ensures { known_text result ≡ greatest_words outcome.done outcome.greatest }
 {
-    let bound = if outcome.done == 0 {
+    if outcome.done == 0 {
         None
     } else {
         Some(outcome.greatest)
-    };
-    Known { bound }
+    }
 }
 
 // The box of a band, how many jobs are in it, and when they arrive.
@@ -52,49 +54,37 @@ fn put_band_box(bar: Bar, first: &JobRecord, band: Band, page: &mut Page)
     ensures { Adds page.old page.new (band_box (box_path bar.x bar.right bar.y bar.high) first.now
         band.count band.latest) }
 {
-    write!(
-        page,
-        "<path class=\"l w\" d=\"{bar}\"><title>{}: {} jobs, arrivals {} to {}",
-        first.name, band.count, first.release, band.latest
-    )
+    put_bar(b"<path class=\"l w\" d=\"", bar, page);
+    page.name(b"\"><title>", first.name);
+    page.number(b": ", band.count as u64);
+    page.number(b" jobs, arrivals ", first.release);
+    page.number(b" to ", band.latest)
 }
 
 // How many of them are done, the greatest response among those, their bound and their deadline.
 fn put_band_words(outcome: Outcome, bound: Option<u64>, deadline: u64, page: &mut Page)
     ensures { Adds page.old page.new (band_words outcome.done outcome.greatest bound deadline) }
 {
-    let bound = Known { bound };
-    write!(
-        page,
-        ", done {}, longest response {}, bound {bound}, deadline {deadline} us</title></path>\n",
-        outcome.done,
-        greatest_of(outcome)
-    )
+    page.number(b", done ", outcome.done as u64);
+    page.put(b", longest response ");
+    put_greatest(outcome, page);
+    put_known(b", bound ", bound, page);
+    page.number(b", deadline ", deadline);
+    page.put(b" us</title></path>\n")
 }
 
 // What stands behind the number of jobs of a band so wide.
-#[derive(Clone, Copy)]
-struct Wide {
-    wide: u64,
-    done: usize,
-    greatest: u64,
-}
-
-impl fmt::Display for Wide {
-    ghost output = { λ w. Some (wide_words w.wide w.done w.greatest) };
-
-    fn fmt<W: fmt::Write>(&self, f: &mut fmt::Formatter<W>) -> fmt::Result {
-        let greatest = Millis {
-            micros: self.greatest,
-        };
-        if self.wide < 1_860 {
-            Ok(())
-        } else if self.done == 0 {
-            write!(f, " jobs")
-        } else {
-            write!(f, " jobs, longest {greatest} ms")
-        }
+fn put_wide(wide: u64, outcome: Outcome, page: &mut Page)
+    ensures { Adds page.old page.new (wide_words wide outcome.done outcome.greatest) }
+{
+    if wide < 1_860 {
+        return;
     }
+    if outcome.done == 0 {
+        return page.put(b" jobs");
+    }
+    put_millis(b" jobs, longest ", outcome.greatest, page);
+    page.put(b" ms")
 }
 
 // What stands below a band that reaches from a place up to another.
@@ -103,17 +93,11 @@ fn put_label(x: u64, right: u64, k: usize, count: usize, outcome: Outcome, page:
     requires row { k ≤ TASK_LIMIT }
     ensures { Adds page.old page.new (band_label x right k count outcome.done outcome.greatest) }
 {
-    let wide = Wide {
-        wide: right.saturating_sub(x),
-        done: outcome.done,
-        greatest: outcome.greatest,
-    };
-    write!(
-        page,
-        "<text x=\"{}\" y=\"{}\">{count}{wide}</text>\n",
-        x + 20,
-        top_of(k) + 455
-    )
+    page.number(b"<text x=\"", x + 20);
+    page.number(b"\" y=\"", top_of(k) + 455);
+    page.number(b"\">", count as u64);
+    put_wide(right.saturating_sub(x), outcome, page);
+    page.put(b"</text>\n")
 }
 
 // A bracket at a bound behind the latest arrival, if there is one, where that is in the picture.
@@ -127,7 +111,7 @@ fn put_last_bound(lane: &Lane<'_>, latest: u64, page: &mut Page)
     let shown = is_shown(lane.frame, latest, bound);
     let x = x_after(lane.frame, latest, bound);
     let y = top_of(lane.spot.k) + 155;
-    put_sign(shown, "b", x, y, "h-35m35 0v40m0 120v40h-35", page)
+    put_sign(shown, b"b", x, y, b"h-35m35 0v40m0 120v40h-35", page)
 }
 
 // A band, where its box is in the window.
@@ -181,5 +165,5 @@ pub(crate) fn put_place(lane: &Lane<'_>, jobs: &[JobRecord], i: usize, page: &mu
 pub fn put_greatest(outcome: Outcome, page: &mut Page)
     ensures { Adds page.old page.new (greatest_words outcome.done outcome.greatest) }
 {
-    write!(page, "{}", greatest_of(outcome))
+    put_known(b"", greatest_of(outcome), page)
 }

@@ -5,9 +5,8 @@ ghost use Rattle.drawn_jobs.specs.Bars.{bar_text, slice_by, slice_text, slices_t
 ghost use Rattle.drawn_jobs.specs.Sections.{AreUncounted, counted};
 
 use crate::parts::put_dark;
-use crate::ticks::Times;
 use ceiling_kernel::Slice;
-use frames::{Chart, Lane, Page, bar_of, executed_after, sees, tone_of, x_of};
+use frames::{Chart, Lane, Page, bar_of, executed_after, put_bar, put_times, sees, tone_of, x_of};
 
 // Counts the ticks of a slice, and says how many its job executed before; none where there is no such job.
 #[tactic(auto, using(std::proofs::lemmas::List::set_past))]
@@ -24,20 +23,15 @@ fn count_slice(executed: &mut [u64], slice: Slice) -> u64
 }
 
 // A slice.
-fn put_bar(slice: Slice, lane: &Lane<'_>, page: &mut Page)
+fn put_slice_bar(slice: Slice, lane: &Lane<'_>, page: &mut Page)
     ensures { Adds page.old page.new (bar_text lane.now.frame slice lane.now.spot lane.now.row.now) }
 {
     let start = x_of(lane.frame, slice.start);
     let stop = x_of(lane.frame, slice.stop);
-    let bar = bar_of(start, stop, lane.spot.k);
-    let tone = tone_of(lane.spot.rank);
-    let name = lane.row.sheet.name();
-    let Slice { start, stop, .. } = slice;
-    let times = Times { start, stop };
-    write!(
-        page,
-        "<path class=\"e f{tone}\" d=\"{bar}\"><title>{name} {times}</title></path>\n"
-    )
+    page.number(b"<path class=\"e f", tone_of(lane.spot.rank));
+    put_bar(b"\" d=\"", bar_of(start, stop, lane.spot.k), page);
+    page.name(b"\"><title>", lane.row.sheet.name());
+    put_times(b" ", slice.start, slice.stop, page)
 }
 
 // A slice and its darker parts, where it is in the window.
@@ -49,7 +43,7 @@ fn put_slice_in(executed: u64, slice: Slice, lane: &Lane<'_>, page: &mut Page)
     if !sees(lane.frame, slice.start, slice.stop) {
         return;
     }
-    put_bar(slice, lane, page);
+    put_slice_bar(slice, lane, page);
     for section in lane.row.sheet.sections() {
         put_dark(executed, slice, lane, section, page);
     }

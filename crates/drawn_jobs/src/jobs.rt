@@ -1,5 +1,5 @@
 //! Jobs, from their arrivals up to their bounds.
-ghost use Rattle.std.specs.Prelude.{◌+◌, ◌<◌, ◌≡◌, ◌≤◌, Some, length};
+ghost use Rattle.std.specs.Prelude.{◌+◌, ◌++◌, ◌<◌, ◌≡◌, ◌≤◌, codes, length};
 ghost use Rattle.frames.specs.Boxes.{box_path};
 ghost use Rattle.frames.specs.Frame.{right_of, x_of};
 ghost use Rattle.frames.specs.declared.frame.TheConstants.{RIGHTMOST};
@@ -11,11 +11,9 @@ ghost use Rattle.drawn_jobs.specs.Jobs.{goes_back, goes_on, job_box, job_signs, 
 use crate::band::put_place;
 use ceiling_kernel::JobRecord;
 use frames::{
-    Bar, Chart, Frame, Known, Lane, Page, TaskRow, bar_of, end_of, ended, name_of, sees_from,
-    start_of, top_of, x_after, x_of,
+    Bar, Chart, Frame, Lane, Page, TaskRow, bar_of, end_of, ended, name_of, put_bar, put_known,
+    sees_from, start_of, top_of, x_after, x_of,
 };
-use std::fmt;
-use std::io::Write;
 
 // How long after its arrival a job of a row's task is done at the latest, or without a bound has to be.
 pub(crate) fn limit_of(row: &TaskRow) -> u64
@@ -41,28 +39,19 @@ pub(crate) fn goes_on(frame: Frame, finish: Option<u64>) -> bool
     }
 }
 
-// A job as it is told: whose it is, when it arrives and is done, and how long after its arrival.
-#[derive(Clone, Copy)]
-pub(crate) struct Told {
-    pub(crate) job: JobRecord,
-}
-
-impl fmt::Display for Told {
-    ghost output = { λ t. Some (job_words t.job.name t.job.release t.job.finish) };
-
-    fn fmt<W: fmt::Write>(&self, f: &mut fmt::Formatter<W>) -> fmt::Result {
-        let name = self.job.name;
-        let arrival = self.job.release;
-        match self.job.finish {
-            Some(finish) => {
-                let response = finish.saturating_sub(arrival);
-                write!(
-                    f,
-                    "{name}: arrival {arrival}, done {finish}, response {response}"
-                )
-            }
-            None => write!(f, "{name}: arrival {arrival}, not done"),
+// The title of a job's path: whose it is, when it arrives and is done, and how long after its arrival.
+pub(crate) fn put_told(job: &JobRecord, page: &mut Page)
+    ensures { Adds page.old page.new (codes "\"><title>" ++ job_words job.now.name job.now.release
+        job.now.finish) }
+{
+    page.name(b"\"><title>", job.name);
+    page.number(b": arrival ", job.release);
+    match job.finish {
+        Some(finish) => {
+            page.number(b", done ", finish);
+            page.number(b", response ", finish.saturating_sub(job.release))
         }
+        None => page.put(b", not done"),
     }
 }
 
@@ -84,22 +73,26 @@ fn put_box(bar: Bar, bound: Option<u64>, deadline: u64, job: &JobRecord, page: &
     ensures { Adds page.old page.new (job_box (box_path bar.x bar.right bar.y bar.high) bound
         deadline job.now) }
 {
-    let told = Told { job: *job };
-    let bound = Known { bound };
-    write!(
-        page,
-        "<path class=\"w\" d=\"{bar}\"><title>{told}, bound {bound}, deadline {deadline} us</title></path>\n"
-    )
+    put_bar(b"<path class=\"w\" d=\"", bar, page);
+    put_told(job, page);
+    put_known(b", bound ", bound, page);
+    page.number(b", deadline ", deadline);
+    page.put(b" us</title></path>\n")
 }
 
 // A sign of a class and a shape, where it is wanted.
-pub(crate) fn put_sign(wanted: bool, class: &str, x: u64, y: u64, shape: &str, page: &mut Page)
+pub(crate) fn put_sign(wanted: bool, class: &[u8], x: u64, y: u64, shape: &[u8], page: &mut Page)
     ensures { Adds page.old page.new (sign_text wanted class.now x y shape.now) }
 {
     if !wanted {
         return;
     }
-    write!(page, "<path class=\"{class}\" d=\"M{x} {y}{shape}\"/>\n")
+    page.put(b"<path class=\"");
+    page.put(class);
+    page.number(b"\" d=\"M", x);
+    page.number(b" ", y);
+    page.put(shape);
+    page.put(b"\"/>\n")
 }
 
 // Signs at the beginning and at the end, for what goes on before the window and behind it.
@@ -107,10 +100,10 @@ pub(crate) fn put_signs(lane: &Lane<'_>, back: bool, on: bool, page: &mut Page)
     ensures { Adds page.old page.new (signs_text lane.now.frame lane.now.spot.k back on) }
 {
     let y = top_of(lane.spot.k) + 195;
-    let shape = "m-20 0l-60 60 60 60m-60-120l-60 60 60 60";
-    put_sign(back, "a", start_of(lane.frame), y, shape, page);
-    let shape = "m20 0l60 60-60 60m60-120l60 60-60 60";
-    put_sign(on, "a", end_of(lane.frame), y, shape, page)
+    let shape = b"m-20 0l-60 60 60 60m-60-120l-60 60 60 60";
+    put_sign(back, b"a", start_of(lane.frame), y, shape, page);
+    let shape = b"m20 0l60 60-60 60m60-120l60 60-60 60";
+    put_sign(on, b"a", end_of(lane.frame), y, shape, page)
 }
 
 // Those of a job.

@@ -1,16 +1,14 @@
 //! The lane of the processor.
-ghost use Rattle.std.specs.Prelude.{◌*◌, ◌+◌, ◌≡◌, ◌≤◌, IfSome};
+ghost use Rattle.std.specs.Prelude.{◌*◌, ◌+◌, ◌≡◌, ◌≤◌};
 ghost use Rattle.frames.specs.Page.{Adds};
-ghost use Rattle.drawn_jobs.specs.Lane.{busy_from, busy_of, busy_with, edge_class, lane_bar, lane_by, lane_head, lane_label, lane_line, lane_right, lane_text, lane_word, lanes_text, level_room};
+ghost use Rattle.drawn_jobs.specs.Lane.{busy_from, busy_of, busy_with, edge_class, lane_bar, lane_by, lane_head, lane_label, lane_line, lane_right, lane_text, lanes_text, level_room};
 ghost use Rattle.frames.specs.declared.frame.TheConstants.{RIGHTMOST};
 
-use crate::ticks::Times;
 use ceiling_kernel::Slice;
 use frames::{
-    Bar, Chart, Frame, Lane, Page, Spot, TaskRow, end_of, find_row, has_room, level_of, sees,
-    start_of, tone_of, x_of,
+    Bar, Chart, Frame, Lane, Page, Spot, TaskRow, end_of, find_row, has_room, level_of, put_bar,
+    put_times, sees, tone_of, x_of,
 };
-use std::fmt::Display;
 
 // For how long a slice executes in the window, and what was before.
 fn busy_with(frame: Frame, before: u64, slice: Slice) -> u64
@@ -49,10 +47,12 @@ fn lane_right(frame: Frame, slice: Slice) -> u64
 }
 
 // An edge round a bar that has room for it.
-fn edge_class(wide: u64) -> &'static str
-    ensures { result.now ≡ edge_class wide }
+fn put_edge(wide: u64, page: &mut Page)
+    ensures { Adds page.old page.new (edge_class wide) }
 {
-    if wide < 60 { "" } else { " o" }
+    if wide >= 60 {
+        page.put(b" o")
+    }
 }
 
 // How much room a level needs.
@@ -67,20 +67,21 @@ pub fn put_lane_head(chart: &Chart<'_>, page: &mut Page)
     ensures { Adds page.old page.new (lane_head chart.now.frame chart.now.slices.now) }
 {
     let busy = busy_of(chart.frame, chart.slices);
-    let (whole, tenths) = (busy / 10, busy % 10);
-    write!(
-        page,
-        "<text class=\"n\" x=\"500\" y=\"1460\">processor</text><text x=\"500\" y=\"1580\">busy {whole}.{tenths} %</text>\n"
-    )
+    page.number(
+        b"<text class=\"n\" x=\"500\" y=\"1460\">processor</text><text x=\"500\" y=\"1580\">busy ",
+        busy / 10,
+    );
+    page.number(b".", busy % 10);
+    page.put(b" %</text>\n")
 }
 
 /// Puts its line.
 pub fn put_lane_line(frame: Frame, page: &mut Page)
     ensures { Adds page.old page.new (lane_line frame) }
 {
-    let left = start_of(frame);
-    let end = end_of(frame);
-    write!(page, "<path class=\"l\" d=\"M{left} 1570H{end}\"/>\n")
+    page.number(b"<path class=\"l\" d=\"M", frame.left);
+    page.number(b" 1570H", end_of(frame));
+    page.put(b"\"/>\n")
 }
 
 // The bar of a slice.
@@ -96,27 +97,11 @@ fn put_lane_bar(slice: Slice, lane: &Lane<'_>, page: &mut Page)
         y: 1_350,
         high: 220,
     };
-    let tone = tone_of(lane.spot.rank);
-    let edge = edge_class(right.saturating_sub(x));
-    let name = lane.row.sheet.name();
-    let Slice { start, stop, .. } = slice;
-    let times = Times { start, stop };
-    write!(
-        page,
-        "<path class=\"f{tone}{edge}\" d=\"{bar}\"><title>{name} executes {times}</title></path>\n"
-    )
-}
-
-// A word in the middle of a bar.
-fn put_lane_word<W: Display + Drop>(x: u64, right: u64, word: W, page: &mut Page)
-    requires { x + right ≤ 2 * RIGHTMOST + 1 }
-    ensures { IfSome (W.output word) (λ text. Adds page.old page.new (lane_word x right text)) }
-{
-    let middle = (x + right) / 2;
-    write!(
-        page,
-        "<text class=\"u\" x=\"{middle}\" y=\"1498\">{word}</text>\n"
-    )
+    page.number(b"<path class=\"f", tone_of(lane.spot.rank));
+    put_edge(right.saturating_sub(x), page);
+    put_bar(b"\" d=\"", bar, page);
+    page.name(b"\"><title>", lane.row.sheet.name());
+    put_times(b" executes ", slice.start, slice.stop, page)
 }
 
 // The task's name where a bar has room for it, else its level, else nothing.
@@ -126,9 +111,13 @@ fn put_lane_label(x: u64, right: u64, level: u64, row: &TaskRow, page: &mut Page
 {
     let wide = right.saturating_sub(x);
     if has_room(row.sheet.name(), wide) {
-        put_lane_word(x, right, row.sheet.name(), page)
+        page.number(b"<text class=\"u\" x=\"", (x + right) / 2);
+        page.name(b"\" y=\"1498\">", row.sheet.name());
+        page.put(b"</text>\n")
     } else if wide >= level_room(level) {
-        put_lane_word(x, right, level, page)
+        page.number(b"<text class=\"u\" x=\"", (x + right) / 2);
+        page.number(b"\" y=\"1498\">", level);
+        page.put(b"</text>\n")
     }
 }
 

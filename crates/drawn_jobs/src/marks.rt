@@ -49,18 +49,22 @@ fn put_ready(frame: Frame, release: Release, y: u64, page: &mut Page)
     }
     let x = x_of(frame, release.time);
     let ready = x_after(frame, release.time, release.late);
-    write!(page, "M{x} {y}H{ready}\n")
+    page.number(b"M", x);
+    page.number(b" ", y);
+    page.number(b"H", ready);
+    page.put(b"\n")
 }
 
 // A mark so long after the arrival, where that is in the picture.
-fn put_later(frame: Frame, release: Release, len: u64, y: u64, shape: &str, page: &mut Page)
+fn put_later(frame: Frame, release: Release, len: u64, y: u64, shape: &[u8], page: &mut Page)
     ensures { Adds page.old page.new (later_text frame release len y shape.now) }
 {
     if !is_shown(frame, release.time, len) {
         return;
     }
-    let x = x_after(frame, release.time, len);
-    write!(page, "M{x} {y}{shape}")
+    page.number(b"M", x_after(frame, release.time, len));
+    page.number(b" ", y);
+    page.put(shape)
 }
 
 // The mark of a release in a row.
@@ -73,19 +77,19 @@ fn put_mark_in(mark: Mark, release: Release, lane: &Lane<'_>, page: &mut Page)
     let top = top_of(lane.spot.k);
     match mark {
         Mark::Arrival => {
-            let shape = "v-100m-35 50l35-50 35 50\n";
+            let shape = b"v-100m-35 50l35-50 35 50\n";
             put_later(frame, release, 0, top + 450, shape, page)
         }
         Mark::Ready => put_ready(frame, release, top + 255, page),
         Mark::Bound => match row.bound {
             None => {}
             Some(len) => {
-                let shape = "h-35m35 0v40m0 120v40h-35\n";
+                let shape = b"h-35m35 0v40m0 120v40h-35\n";
                 put_later(frame, release, len, top + 155, shape, page)
             }
         },
         Mark::Deadline => {
-            let shape = "v100m0 0l-35-50h70z\n";
+            let shape = b"v100m0 0l-35-50h70z\n";
             let len = row.sheet.deadline();
             put_later(frame, release, len, top + 60, shape, page)
         }
@@ -110,12 +114,14 @@ fn put_mark_alone(chart: &Chart<'_>, mark: Mark, i: usize, page: &mut Page)
 }
 
 // The marks of a kind, as one path of a class.
-fn put_marks(chart: &Chart<'_>, mark: Mark, class: &str, page: &mut Page)
+fn put_marks(chart: &Chart<'_>, mark: Mark, class: &[u8], page: &mut Page)
     ensures { Adds page.old page.new (marks_text chart.now.frame chart.now.rows.now
         chart.now.shown.now chart.now.jobs.now mark class.now
         chart.now.releases.now) }
 {
-    write!(page, "<path class=\"{class}\" d=\"\n");
+    page.put(b"<path class=\"");
+    page.put(class);
+    page.put(b"\" d=\"\n");
     for i in 0..chart.releases.len() {
         put_mark_alone(chart, mark, i, page);
     }
@@ -128,8 +134,8 @@ pub fn put_all_marks(chart: &Chart<'_>, page: &mut Page)
         chart.now.shown.now chart.now.jobs.now
         chart.now.releases.now) }
 {
-    put_marks(chart, Mark::Ready, "r", page);
-    put_marks(chart, Mark::Arrival, "a", page);
-    put_marks(chart, Mark::Bound, "b", page);
-    put_marks(chart, Mark::Deadline, "d", page)
+    put_marks(chart, Mark::Ready, b"r", page);
+    put_marks(chart, Mark::Arrival, b"a", page);
+    put_marks(chart, Mark::Bound, b"b", page);
+    put_marks(chart, Mark::Deadline, b"d", page)
 }

@@ -4,11 +4,11 @@ ghost use Rattle.frames.specs.Page.{Adds};
 ghost use Rattle.frames.specs.Boxes.{box_path};
 ghost use Rattle.drawn_jobs.specs.Misses.{all_missed, badge_after, badge_text, due_badge, has_badge, hatch_path, hatch_text, is_clear, is_late, is_seen_miss, late_signs, miss_text, missed_in, misses, misses_in, misses_text, row_misses};
 
-use crate::jobs::{Told, limit_of, put_job_signs};
+use crate::jobs::{limit_of, put_job_signs, put_told};
 use ceiling_kernel::JobRecord;
 use frames::{
     Bar, Chart, Frame, Lane, Page, TaskRow, ended, find_row, is_by_end, is_from_start, job_at,
-    sees_from, top_of, x_after, x_of,
+    put_bar, sees_from, top_of, x_after, x_of,
 };
 
 // Whether a job of a row's task misses its deadline.
@@ -108,10 +108,11 @@ fn badge_after(frame: Frame, row: &TaskRow, last: Option<u64>, job: &JobRecord) 
 pub fn put_badge(x: u64, y: u64, page: &mut Page)
     ensures { Adds page.old page.new (badge_text x y) }
 {
-    write!(
-        page,
-        "<path class=\"x\" d=\"M{x} {y}h1\"/><path class=\"y\" d=\"M{x} {y}m-38-38l76 76m0-76l-76 76\"/>\n"
-    )
+    page.number(b"<path class=\"x\" d=\"M", x);
+    page.number(b" ", y);
+    page.number(b"h1\"/><path class=\"y\" d=\"M", x);
+    page.number(b" ", y);
+    page.put(b"m-38-38l76 76m0-76l-76 76\"/>\n")
 }
 
 // From the deadline up to the finish, or to the end.
@@ -134,12 +135,10 @@ fn put_hatch(bar: Bar, row: &TaskRow, job: &JobRecord, page: &mut Page)
     ensures { Adds page.old page.new (hatch_text (box_path bar.x bar.right bar.y bar.high) row.now
         job.now) }
 {
-    let told = Told { job: *job };
-    let deadline = row.sheet.deadline();
-    write!(
-        page,
-        "<path class=\"z\" d=\"{bar}\"><title>{told}, deadline {deadline} us missed</title></path>\n"
-    )
+    put_bar(b"<path class=\"z\" d=\"", bar, page);
+    put_told(job, page);
+    page.number(b", deadline ", row.sheet.deadline());
+    page.put(b" us missed</title></path>\n")
 }
 
 // A badge at the deadline, where that has one.

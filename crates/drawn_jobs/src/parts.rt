@@ -1,32 +1,22 @@
 //! The parts of a slice in which its job holds locks.
-ghost use Rattle.std.specs.Prelude.{◌*◌, ◌+◌, ◌≡◌, ◌≤◌, Some};
+ghost use Rattle.std.specs.Prelude.{◌*◌, ◌+◌, ◌≡◌, ◌≤◌};
 ghost use Rattle.frames.specs.Page.{Adds};
 ghost use Rattle.task_sheet.specs.declared.set.TheConstants.{TASK_LIMIT};
 ghost use Rattle.drawn_jobs.specs.Bars.{dark_text, label_text, names_text, part_box, part_left, part_right, part_text};
 ghost use Rattle.frames.specs.declared.frame.TheConstants.{RIGHTMOST};
 
 use crate::stripes::put_stripes;
-use crate::ticks::{Times, dark_from, dark_to, fits};
+use crate::ticks::{dark_from, dark_to, fits};
 use ceiling_kernel::Slice;
-use frames::{Bar, Frame, Lane, Page, sees, top_of, x_of};
-use std::fmt;
-use std::io::Write;
+use frames::{Bar, Frame, Lane, Page, put_bar, put_times, sees, top_of, x_of};
 use task_sheet::{Name, Section};
 
 // Names, each after one space.
-#[derive(Clone, Copy)]
-struct Names<'a> {
-    names: &'a [Name],
-}
-
-impl fmt::Display for Names<'_> {
-    ghost output = { λ n. Some (names_text n.names.now) };
-
-    fn fmt<W: fmt::Write>(&self, f: &mut fmt::Formatter<W>) -> fmt::Result {
-        for name in self.names {
-            write!(f, " {name}")?;
-        }
-        Ok(())
+fn put_names(names: &[Name], page: &mut Page)
+    ensures { Adds page.old page.new (names_text names.now) }
+{
+    for name in names {
+        page.name(b" ", *name);
     }
 }
 
@@ -51,13 +41,11 @@ fn put_label(x: u64, right: u64, k: usize, names: &[Name], page: &mut Page)
     if !fits(right.saturating_sub(x) / 68, names) {
         return;
     }
-    write!(
-        page,
-        "<text class=\"k\" x=\"{}\" y=\"{}\">{}</text>\n",
-        (x + right) / 2,
-        top_of(k) + 293,
-        Names { names }
-    )
+    page.number(b"<text class=\"k\" x=\"", (x + right) / 2);
+    page.number(b"\" y=\"", top_of(k) + 293);
+    page.put(b"\">");
+    put_names(names, page);
+    page.put(b"</text>\n")
 }
 
 // The box of a part in which a job holds locks.
@@ -79,13 +67,11 @@ fn put_part_box(
         y: top_of(lane.spot.k) + 165,
         high: 180,
     };
-    write!(
-        page,
-        "<path class=\"h\" d=\"{bar}\"><title>{} holds{} {}</title></path>\n",
-        lane.row.sheet.name(),
-        Names { names },
-        Times { start, stop }
-    )
+    put_bar(b"<path class=\"h\" d=\"", bar, page);
+    page.name(b"\"><title>", lane.row.sheet.name());
+    page.put(b" holds");
+    put_names(names, page);
+    put_times(b" ", start, stop, page)
 }
 
 // The same with stripes and names, where it is in the window.

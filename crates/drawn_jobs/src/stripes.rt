@@ -6,7 +6,7 @@ ghost use Rattle.drawn_jobs.specs.Stripes.{lock_text, lock_texts, locks_group, l
 ghost use Rattle.frames.specs.declared.frame.TheConstants.{RIGHTMOST};
 ghost use Rattle.frames.specs.declared.locks.TheConstants.{LOCKS_LIMIT};
 
-use frames::{Bar, Chart, Frame, Page, end_of, lock_tone, top_of};
+use frames::{Bar, Chart, Frame, Page, end_of, lock_tone, put_bar, top_of};
 use task_sheet::Name;
 
 // Where stripe i of n begins, in a bar.
@@ -53,7 +53,6 @@ fn put_stripe(
     requires place { i < n }
     ensures { Adds page.old page.new (stripe_text locks.now x right k n i name) }
 {
-    let tone = lock_tone(locks, name);
     let start = stripe_top(n, i);
     let stripe = Bar {
         x,
@@ -61,7 +60,9 @@ fn put_stripe(
         y: top_of(k) + 165 + start,
         high: stripe_top(n, i + 1).saturating_sub(start),
     };
-    write!(page, "<path class=\"k{tone}\" d=\"{stripe}\"/>\n")
+    page.number(b"<path class=\"k", lock_tone(locks, name));
+    put_bar(b"\" d=\"", stripe, page);
+    page.put(b"\"/>\n")
 }
 
 // The stripes of some locks.
@@ -96,13 +97,12 @@ fn put_lock(frame: Frame, bottom: u64, i: usize, name: Name, page: &mut Page)
         y,
         high: 180,
     };
-    write!(
-        page,
-        "<path class=\"k{}\" d=\"{lock}\"/><text class=\"c\" x=\"{}\" y=\"{}\">{name}</text>\n",
-        i % 6,
-        x + 250,
-        y + 128
-    )
+    page.number(b"<path class=\"k", i as u64 % 6);
+    put_bar(b"\" d=\"", lock, page);
+    page.number(b"\"/><text class=\"c\" x=\"", x + 250);
+    page.number(b"\" y=\"", y + 128);
+    page.name(b"\">", name);
+    page.put(b"</text>\n")
 }
 
 // The locks, each once.
@@ -124,8 +124,8 @@ fn put_locks_head(bottom: u64, n: usize, page: &mut Page)
     if n == 0 {
         return;
     }
-    let y = bottom + 128;
-    write!(page, "<text x=\"100\" y=\"{y}\">holds a lock:</text>\n")
+    page.number(b"<text x=\"100\" y=\"", bottom + 128);
+    page.put(b"\">holds a lock:</text>\n")
 }
 
 /// Puts the legend of the locks, as a group.

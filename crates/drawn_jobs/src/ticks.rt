@@ -1,30 +1,11 @@
-//! Which ticks of a slice are darker, and how times are told.
-ghost use Rattle.std.specs.Prelude.{◌≡◌, ◌≤◌, Some};
-ghost use Rattle.drawn_jobs.specs.Sections.{dark_from, dark_to, fits, times_text};
+//! Which ticks of a slice are darker.
+ghost use Rattle.std.specs.Prelude.{◌≡◌, ◌≤◌};
+ghost use Rattle.drawn_jobs.specs.Sections.{dark_from, dark_to, fits};
 ghost use Rattle.frames.specs.Slices.{ticks_of};
 
 use ceiling_kernel::Slice;
 use frames::ticks_of;
-use std::fmt;
-use std::io::Write;
 use task_sheet::{Name, Section};
-
-// From when to when.
-#[derive(Clone, Copy)]
-pub(crate) struct Times {
-    pub(crate) start: u64,
-    pub(crate) stop: u64,
-}
-
-impl fmt::Display for Times {
-    ghost output = { λ t. Some (times_text t.start t.stop) };
-
-    fn fmt<W: fmt::Write>(&self, f: &mut fmt::Formatter<W>) -> fmt::Result {
-        let start = self.start;
-        let stop = self.stop;
-        write!(f, "{start} to {stop} us")
-    }
-}
 
 // Where the darker part of a slice begins.
 pub(crate) fn dark_from(section: &Section, executed: u64) -> u64

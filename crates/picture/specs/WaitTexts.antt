@@ -20,11 +20,14 @@ abbrev pub ink_text : (gathered : Bool) → (tone : ℕ) → List ℕ
 ink_text gathered tone = if gathered then codes "n" else decimal tone
 
 -- a line in the middle of the row at place k, up to its title
-abbrev pub wait_path : (class ink : List ℕ) → (x right k : ℕ) → List ℕ
-wait_path class ink x right k =
-    concat (codes "<path class=\"" ∷ class ∷ ink ∷ codes "\" d=\"M" ∷ decimal x ∷ codes " "
-    ∷ decimal (top_of k + 255)
+abbrev pub wait_line : (x right k : ℕ) → List ℕ
+wait_line x right k =
+    concat (codes "\" d=\"M" ∷ decimal x ∷ codes " " ∷ decimal (top_of k + 255)
     ∷ codes "H" ∷ decimal right ∷ codes "\"><title>" ∷ [])
+
+-- the same of a class, in an ink
+abbrev pub wait_path : (class ink : List ℕ) → (x right k : ℕ) → List ℕ
+wait_path class ink x right k = codes "<path class=\"" ++ class ++ ink ++ wait_line x right k
 
 -- by which lock
 abbrev pub lock_words : Option (List ℕ) → List ℕ
@@ -58,12 +61,14 @@ link_to f k w tone (Some m) =
     ∷ codes " " ∷ decimal (top_of k + 255)
     ∷ codes "V" ∷ decimal (top_of m + 165) ∷ codes "\"/>\n" ∷ [])
 
--- the same where the wait ends in the window and is at least 2 pixels wide
+-- a wait ends in the window and is at least 2 pixels wide
+abbrev pub has_link : Frame → Wait → Bool
+has_link f w = nat_le w.stop f.to && nat_le (x_of f w.start + 20) (x_of f w.stop)
+
+-- the link of such a wait
 abbrev pub link_text : Scene → ℕ → Wait → (tone : ℕ) → List ℕ
 link_text c k w tone =
-    if nat_le w.stop c.frame.to && nat_le (x_of c.frame w.start + 20) (x_of c.frame w.stop)
-    then link_to c.frame k w tone (place_in c.shown w.row)
-    else []
+    if has_link c.frame w then link_to c.frame k w tone (place_in c.shown w.row) else []
 
 -- a wait of a row for a task below, which blocks by a lock: dots in its tone, and a link
 abbrev pub blocked_text : Scene → Spot → Wait → Option (List ℕ) → List ℕ

@@ -2,30 +2,26 @@
 ghost use Rattle.std.specs.List.{find};
 ghost use Rattle.std.specs.Prelude.{◌<◌, ◌≡◌, ◌≤◌, length};
 ghost use Rattle.ceiling_kernel.specs.Tick.{is_inside};
-ghost use Rattle.task_sheet.specs.Locks.{uses};
 ghost use Rattle.frames.specs.Slices.{executed_in};
 ghost use Rattle.picture.specs.Blocking.{blocking_lock, is_raised, lock_inside};
 
 use ceiling_kernel::Slice;
+use explain::sheet_uses;
 use frames::{TaskRow, executed_with, slice_at};
-use task_sheet::{Name, Section, Sheet};
-
-// Whether some section of a task names a lock.
-fn uses(sheet: &Sheet, lock: Name) -> bool
-    ensures { result ≡ uses sheet.now lock }
-{
-    sheet
-        .sections()
-        .iter()
-        .any(|section| section.locks.contains(&lock))
-}
+use task_sheet::{Name, Section};
 
 // Whether a task from row k up uses a lock.
 fn is_raised(rows: &[TaskRow], k: usize, lock: Name) -> bool
     requires { k < length rows.now }
     ensures { result ≡ is_raised rows.now k lock }
 {
-    rows[..k + 1].iter().any(|row| uses(&row.sheet, lock))
+    let above = &rows[..k + 1];
+    for row in above {
+        if sheet_uses(&row.sheet, lock) {
+            return true;
+        }
+    }
+    false
 }
 
 // The first such lock of some.

@@ -114,10 +114,10 @@ pub(crate) fn wait_at(chart: &Chart<'_>, stay: Stay, n: usize) -> Option<Wait>
     ensures wait { result ≡ wait_at (scene_of chart.now) stay n }
     ensures within { IfSome result (λ w. w.row < length chart.now.rows.now) }
 {
-    match chart.slices.get(n) {
-        None => None,
-        Some(slice) => wait_during(chart, stay, *slice),
+    if n >= chart.slices.len() {
+        return None;
     }
+    wait_during(chart, stay, slice_at(chart.slices, n))
 }
 
 // The wait in the slice before slice n.

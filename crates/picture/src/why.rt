@@ -1,21 +1,20 @@
 //! How the waits of jobs are drawn.
-ghost use Rattle.std.specs.Prelude.{◌<◌, ◌≡◌, ◌≤◌, Some, length};
+ghost use Rattle.std.specs.Prelude.{◌++◌, ◌<◌, ◌≡◌, ◌≤◌, codes, length};
 ghost use Rattle.frames.specs.Page.{Adds};
 ghost use Rattle.task_sheet.specs.declared.set.TheConstants.{TASK_LIMIT};
-ghost use Rattle.picture.specs.WaitTexts.{above_text, blocked_text, ink_text, job_waits, link_text, lock_words, nth_wait_text, stay_text, tone_of_lock, wait_path, wait_title, waits_text, who_text, why_text};
+ghost use Rattle.picture.specs.WaitTexts.{above_text, blocked_text, has_link, ink_text, job_waits, link_text, lock_words, nth_wait_text, stay_text, tone_of_lock, wait_line, wait_title, waits_text, who_text, why_text};
 ghost use Rattle.picture.specs.Waits.{EndBy, scene_of, stay_of};
 
 use crate::blocker::blocking_lock;
 use crate::waits::{Past, Stay, Wait, is_behind, is_gathered, past_before, stay_of, wait_at};
 use frames::{
-    Chart, Page, Spot, has_room, lock_tone, name_in, name_of, place_in, sees, tone_of, top_of, x_of,
+    Chart, Frame, Page, Spot, has_room, lock_tone, name_in, name_of, place_in, put_times, sees,
+    tone_of, top_of, x_of,
 };
-use std::fmt;
-use std::io::Write;
 use task_sheet::Name;
 
 // The tone of a lock, if there is one.
-fn tone_of_lock(locks: &[Name], lock: &Option<Name>) -> usize
+fn tone_of_lock(locks: &[Name], lock: &Option<Name>) -> u64
     ensures { result ≡ tone_of_lock locks.now lock.now }
 {
     match lock {
@@ -25,67 +24,55 @@ fn tone_of_lock(locks: &[Name], lock: &Option<Name>) -> usize
 }
 
 // By which lock, if it is known.
-#[derive(Drop)]
-struct ByLock {
-    lock: Option<Name>,
-}
-
-impl fmt::Display for ByLock {
-    ghost output = { λ b. Some (lock_words b.lock) };
-
-    fn fmt<W: fmt::Write>(&self, f: &mut fmt::Formatter<W>) -> fmt::Result {
-        match &self.lock {
-            Some(lock) => write!(f, "with {lock} "),
-            None => Ok(()),
-        }
-    }
-}
-
-// A tone, or the neutral ink.
-#[derive(Drop)]
-struct Ink {
-    gathered: bool,
-    tone: usize,
-}
-
-impl fmt::Display for Ink {
-    ghost output = { λ i. Some (ink_text i.gathered i.tone) };
-
-    fn fmt<W: fmt::Write>(&self, f: &mut fmt::Formatter<W>) -> fmt::Result {
-        if self.gathered {
-            return write!(f, "n");
-        }
-        let tone = self.tone;
-        write!(f, "{tone}")
-    }
-}
-
-// A line in the middle of the row at place k, up to its title.
-fn put_path(class: &str, ink: Ink, x: u64, right: u64, k: usize, page: &mut Page)
-    requires { k ≤ TASK_LIMIT }
-    ensures { Adds page.old page.new (wait_path class.now (ink_text ink.gathered ink.tone) x right
-        k) }
+fn put_lock(lock: &Option<Name>, page: &mut Page)
+    ensures { Adds page.old page.new (lock_words lock.now) }
 {
-    let y = top_of(k) + 255;
-    write!(
-        page,
-        "<path class=\"{class}{ink}\" d=\"M{x} {y}H{right}\"><title>"
-    )
+    if let Some(lock) = lock {
+        page.name(b"with ", *lock);
+        page.put(b" ")
+    }
+}
+
+// A path for a wait for a task above, in its tone or in the neutral ink.
+fn put_ink(gathered: bool, tone: u64, page: &mut Page)
+    ensures { Adds page.old page.new (codes "<path class=\"wa i" ++ ink_text gathered tone) }
+{
+    if gathered {
+        page.put(b"<path class=\"wa in")
+    } else {
+        page.number(b"<path class=\"wa i", tone)
+    }
+}
+
+// Where it goes: a line in the middle of the row at place k, up to the title.
+fn put_line(x: u64, right: u64, k: usize, page: &mut Page)
+    requires { k ≤ TASK_LIMIT }
+    ensures { Adds page.old page.new (wait_line x right k) }
+{
+    page.number(b"\" d=\"M", x);
+    page.number(b" ", top_of(k) + 255);
+    page.number(b"H", right);
+    page.put(b"\"><title>")
 }
 
 // The title: who waits for whom, and by which lock, from when to when.
-fn put_title(chart: &Chart<'_>, k: usize, wait: Wait, how: &str, by: ByLock, page: &mut Page)
+fn put_title(
+    chart: &Chart<'_>,
+    k: usize,
+    wait: Wait,
+    how: &[u8],
+    lock: &Option<Name>,
+    page: &mut Page,
+)
     requires row { k < length chart.now.rows.now }
     requires other { wait.row < length chart.now.rows.now }
-    ensures { Adds page.old page.new (wait_title chart.now.rows.now k wait how.now by.lock) }
+    ensures { Adds page.old page.new (wait_title chart.now.rows.now k wait how.now lock.now) }
 {
-    let name = name_in(chart.rows, k);
-    let other = name_in(chart.rows, wait.row);
-    let Wait { start, stop, .. } = wait;
-    write!(
-        page,
-        "{name}{how}{other} {by}{start} to {stop} us</title></path>\n"
-    )
+    page.name(b"", name_in(chart.rows, k));
+    page.name(how, name_in(chart.rows, wait.row));
+    page.put(b" ");
+    put_lock(lock, page);
+    put_times(b"", wait.start, wait.stop, page)
 }
 
 // A wait of a row for a task above.
@@ -97,29 +84,34 @@ fn put_above(chart: &Chart<'_>, spot: Spot, wait: Wait, gathered: bool, page: &m
 {
     let x = x_of(chart.frame, wait.start);
     let right = x_of(chart.frame, wait.stop).max(x + 1);
-    let tone = tone_of(wait.row);
-    put_path("wa i", Ink { gathered, tone }, x, right, spot.k, page);
-    let by = ByLock { lock: None };
-    put_title(chart, spot.rank, wait, " waits for ", by, page)
+    put_ink(gathered, tone_of(wait.row), page);
+    put_line(x, right, spot.k, page);
+    put_title(chart, spot.rank, wait, b" waits for ", &None, page)
 }
 
-// A link in a tone, from the end of a wait at place k down to the bar of the task below, where that is shown, and the
-// wait ends in the window and is at least 2 pixels wide.
-fn put_link(chart: &Chart<'_>, k: usize, wait: Wait, tone: usize, page: &mut Page)
+// Whether a wait ends in the window and is at least 2 pixels wide.
+fn has_link(frame: Frame, wait: Wait) -> bool
+    ensures { result ≡ has_link frame wait }
+{
+    wait.stop <= frame.to && x_of(frame, wait.start) + 20 <= x_of(frame, wait.stop)
+}
+
+// A link in a tone, from the end of such a wait at place k down to the bar of the task below, where that is shown.
+fn put_link(chart: &Chart<'_>, k: usize, wait: Wait, tone: u64, page: &mut Page)
     requires { k ≤ TASK_LIMIT }
     ensures { Adds page.old page.new (link_text (scene_of chart.now) k wait tone) }
 {
-    let x = x_of(chart.frame, wait.stop);
-    if wait.stop <= chart.frame.to && x_of(chart.frame, wait.start) + 20 <= x {
-        match place_in(chart.shown, wait.row) {
-            None => {}
-            Some(m) => {
-                let y = top_of(k) + 255;
-                let bar = top_of(m) + 165;
-                write!(page, "<path class=\"wj d{tone}\" d=\"M{x} {y}V{bar}\"/>\n")
-            }
-        }
+    if !has_link(chart.frame, wait) {
+        return;
     }
+    let Some(m) = place_in(chart.shown, wait.row) else {
+        return;
+    };
+    page.number(b"<path class=\"wj d", tone);
+    page.number(b"\" d=\"M", x_of(chart.frame, wait.stop));
+    page.number(b" ", top_of(k) + 255);
+    page.number(b"V", top_of(m) + 165);
+    page.put(b"\"/>\n")
 }
 
 // A wait of a row for a task below, which blocks by a lock: dots in its tone.
@@ -133,23 +125,9 @@ fn put_blocked(chart: &Chart<'_>, spot: Spot, wait: Wait, lock: Option<Name>, pa
     let start = x_of(chart.frame, wait.start);
     let stop = x_of(chart.frame, wait.stop);
     let right = stop.saturating_sub(16).max(start + 17);
-    let gathered = false;
-    put_path(
-        "wb d",
-        Ink { gathered, tone },
-        start + 16,
-        right,
-        spot.k,
-        page,
-    );
-    put_title(
-        chart,
-        spot.rank,
-        wait,
-        " is blocked by ",
-        ByLock { lock },
-        page,
-    );
+    page.number(b"<path class=\"wb d", tone);
+    put_line(start + 16, right, spot.k, page);
+    put_title(chart, spot.rank, wait, b" is blocked by ", &lock, page);
     put_link(chart, spot.k, wait, tone, page)
 }
 
@@ -163,12 +141,10 @@ fn put_who(chart: &Chart<'_>, k: usize, wait: Wait, page: &mut Page)
     let right = x_of(chart.frame, wait.stop);
     let name = name_in(chart.rows, wait.row);
     if has_room(name, right.saturating_sub(x)) {
-        let middle = (x + right) / 2;
-        let y = top_of(k) + 225;
-        write!(
-            page,
-            "<text class=\"wl\" x=\"{middle}\" y=\"{y}\">{name}</text>\n"
-        )
+        page.number(b"<text class=\"wl\" x=\"", (x + right) / 2);
+        page.number(b"\" y=\"", top_of(k) + 225);
+        page.name(b"\">", name);
+        page.put(b"</text>\n")
     }
 }
 

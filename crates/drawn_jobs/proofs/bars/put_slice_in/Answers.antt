@@ -10,7 +10,7 @@ use Rattle.drawn_jobs.proofs.bars.put_slice_in.Goals as goal
 pub loop-section-init : goal.loop-section-init
 loop-section-init c = adds_head (λ i. dark_text c.args.lane.now.frame c.args.lane.now.locks.now
     c.args.executed c.args.slice c.args.lane.now.spot.k c.args.lane.now.row.now
-    (nth_section c.args.lane.now.row.now.sheet.sections i)) c.put_bar.ensures
+    (nth_section c.args.lane.now.row.now.sheet.sections i)) c.put_slice_bar.ensures
 
 pub loop-section-preserved : goal.loop-section-preserved
 loop-section-preserved c =

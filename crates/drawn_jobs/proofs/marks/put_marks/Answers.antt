@@ -1,8 +1,6 @@
-use Rattle.std.proofs.Common.{◌≡◌, ◌++◌, ℕ, List, [], ◌∷◌, length, arith, subst}
+use Rattle.std.proofs.Common.{◌≡◌, [], ◌∷◌, length, arith}
 use Rattle.std.specs.Prelude.{codes}
 use Rattle.std.specs.List.{concat}
-use Rattle.frames.specs.Page.{Adds}
-use Rattle.frames.specs.Rows.{each}
 use Rattle.ceiling_kernel.specs.Releases.{release_at}
 use Rattle.drawn_jobs.specs.Marks.{mark_alone}
 use Rattle.frames.proofs.Adds.{adds_both, adds_head, adds_one_more_behind}
@@ -11,7 +9,8 @@ use Rattle.drawn_jobs.proofs.marks.put_marks.Goals as goal
 pub loop-i-init : goal.loop-i-init
 loop-i-init c = adds_head (λ i. mark_alone c.args.chart.now.frame c.args.chart.now.rows.now
     c.args.chart.now.shown.now c.args.chart.now.jobs.now c.args.mark i
-    (release_at c.args.chart.now.releases.now i)) c.write.ensures
+    (release_at c.args.chart.now.releases.now i))
+    (adds_both (adds_both c.put.ensures c.put-2.ensures) c.put-3.ensures)
 
 pub loop-i-preserved : goal.loop-i-preserved
 loop-i-preserved c =
@@ -23,13 +22,6 @@ loop-i-preserved c =
 
 pub returns : goal.returns
 returns c =
-    let chart = c.args.chart.now in
-    let all : c.loop-i.i ≡ length chart.releases.now =
+    let all : c.loop-i.i ≡ length c.args.chart.now.releases.now =
     omega (arith, c.loop-i.auto.i-end, c.loop-i-test.false) in
-    let mark : ℕ → List ℕ =
-    λ i. mark_alone chart.frame chart.rows.now chart.shown.now chart.jobs.now c.args.mark i
-    (release_at chart.releases.now i) in
-    adds_both (subst (λ (n : ℕ). Adds c.args.page.now c.loop-i.page
-    (concat (codes "<path class=\"" ∷ c.args.class.now ∷ codes "\" d=\"\n" ∷ []) ++ each n mark))
-    all
-    c.loop-i.invariant) c.put.ensures
+    adds_both (rw all at c.loop-i.invariant) c.put-4.ensures

@@ -1,4 +1,5 @@
 use Rattle.std.proofs.Common.{sym, ◌∙◌}
+use Rattle.frames.proofs.Adds.{adds_4}
 use Rattle.picture.proofs.why.put_who.Goals as goal
 
 pub returns-then-has_room : goal.returns-then-has_room
@@ -9,4 +10,4 @@ returns-then-has_room c = rw (
   ← c.saturating_sub.ensures,
   ← c.top_of.ensures.value,
   sym c.has_room.ensures ∙ c.if-has_room.true,
-) c.write.ensures
+) (adds_4 c.number.ensures c.number-then-has_room.ensures c.name.ensures c.put.ensures)

@@ -1,11 +1,11 @@
 use Rattle.std.proofs.Common.{◌≡◌, ◌<◌, ◌+◌, ◌++◌, List, ℕ, [], ◌∷◌, length, get_or, take}
-use Rattle.std.proofs.Common.{append-nil, sym, ap, ◌∙◌, rules}
+use Rattle.std.proofs.Common.{append-nil, sym, ap, ◌∙◌}
 use Rattle.std.specs.Prelude.{codes, flat_map}
-use Rattle.std.proofs.Output.{has_written_append, has_written_of_eq}
 use Rattle.std.proofs.lemmas.Grind.{flat_map-append}
 use Rattle.std.proofs.lemmas.List.{take_more}
 use Rattle.drawn_jobs.specs.Bars.{names_text}
-use Rattle.drawn_jobs.proofs.parts.NamesDisplay.fmt.Goals as goal
+use Rattle.frames.proofs.Adds.{adds_both, adds_same}
+use Rattle.drawn_jobs.proofs.parts.put_names.Goals as goal
 
 more : (names : List (List ℕ)) (i : ℕ) (name : List ℕ) → i < length names
     → name ≡ get_or names i name
@@ -18,7 +18,6 @@ more names i name lt is =
     (append-nil (each (get_or names i name)) ∙ ap each (sym is)))
 
 pub loop-name-preserved : goal.loop-name-preserved
-loop-name-preserved g c = λ plain.
-    has_written_of_eq _ _ _ _ _ (more c.args.self.now.names.now c.loop-name.name-index
-    c.name-item.result c.loop-name-test.true c.name-item.is)
-    (has_written_append _ _ _ _ _ _ (c.loop-name.invariant plain) (search rules))
+loop-name-preserved c = adds_same (λ (text : List ℕ). text) (more c.args.names.now
+    c.loop-name.name-index c.name-item.result c.loop-name-test.true c.name-item.is)
+    (adds_both c.loop-name.invariant c.name.ensures)
