@@ -18,7 +18,7 @@ use Rattle.run_lines.specs.TaskBounds.{bounds_of}
 use Rattle.frames.specs.declared.rows.TaskRow.{TaskRow}
 use Rattle.frames.specs.declared.view.View.{View}
 use Rattle.frames.specs.Frame.{Frame, frame_of}
-use Rattle.job_boxes.specs.Misses.{all_missed, is_late, is_late_at, misses}
+use Rattle.drawn_jobs.specs.Misses.{all_missed, is_late, is_late_at, misses}
 use Rattle.frames.specs.Rows.{no_row, record_at, row_at, row_named}
 use Rattle.frames.specs.View.{end_of_run}
 use Rattle.drawn_runs.specs.Late.{IsBestRun, IsRowOf, NoneIsLate}

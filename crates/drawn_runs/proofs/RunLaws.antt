@@ -30,7 +30,7 @@ use Rattle.run_lines.specs.Responses.{AllDoneWithin, AllReachWithin, DoneWithin}
 use Rattle.run_lines.proofs.ResponseLaws.{all_within}
 use Rattle.frames.specs.declared.rows.TaskRow.{TaskRow}
 use Rattle.frames.specs.Rows.{record_at}
-use Rattle.job_boxes.specs.Misses.{is_behind}
+use Rattle.drawn_jobs.specs.Misses.{is_behind}
 use Rattle.drawn_runs.specs.Late.{IsBestRun}
 use Rattle.drawn_runs.specs.Stand.{AreByArrival}
 use Rattle.drawn_runs.proofs.ListLaws.{kept_most}

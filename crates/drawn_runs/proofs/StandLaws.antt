@@ -14,8 +14,8 @@ use Rattle.ceiling_kernel.specs.declared.trace.JobRecord.{JobRecord}
 use Rattle.pieces.specs.Bands.{arrival_of, band_of, is_banded, is_of, job_of, joins, next_of}
 use Rattle.pieces.specs.Bands.{stretch_of}
 use Rattle.frames.specs.declared.rows.TaskRow.{TaskRow}
-use Rattle.job_boxes.specs.Bands.{band_text, gap_of, place_text, stand_text}
-use Rattle.job_boxes.specs.Jobs.{job_text, limit_of, seen_job}
+use Rattle.drawn_jobs.specs.Bands.{band_text, gap_of, place_text, stand_text}
+use Rattle.drawn_jobs.specs.Jobs.{job_text, limit_of, seen_job}
 use Rattle.frames.specs.Frame.{Frame, sees}
 use Rattle.frames.specs.Rows.{in_spot, on_spot, record_at, row_at, spot_at, spot_of}
 use Rattle.drawn_runs.specs.Stand.{AreByArrival, IsSeenAt, StandsOnce, band_at, count_at, drawn_at}

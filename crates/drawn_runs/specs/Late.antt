@@ -11,7 +11,7 @@ use Rattle.ceiling_kernel.specs.declared.trace.Release.{Release}
 use Rattle.ceiling_kernel.specs.declared.trace.Trace.{Trace}
 use Rattle.frames.specs.declared.rows.TaskRow.{TaskRow}
 use Rattle.frames.specs.Frame.{Frame}
-use Rattle.job_boxes.specs.Misses.{is_late}
+use Rattle.drawn_jobs.specs.Misses.{is_late}
 
 -- the row is of a task of the set, with whatever bound
 abbrev pub IsRowOf : List Task → TaskRow → Type 0

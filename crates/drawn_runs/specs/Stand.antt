@@ -5,8 +5,8 @@ use Rattle.ceiling_kernel.specs.declared.trace.JobRecord.{JobRecord}
 use Rattle.run_lines.specs.Reached.{done_of, response_of}
 use Rattle.pieces.specs.Bands.{arrival_of, band_of, holds_job, is_banded, stretch_of}
 use Rattle.frames.specs.declared.rows.TaskRow.{TaskRow}
-use Rattle.job_boxes.specs.Bands.{gap_of, place_text, seen_band}
-use Rattle.job_boxes.specs.Jobs.{limit_of, seen_job}
+use Rattle.drawn_jobs.specs.Bands.{gap_of, place_text, seen_band}
+use Rattle.drawn_jobs.specs.Jobs.{limit_of, seen_job}
 use Rattle.frames.specs.Frame.{Frame, sees}
 use Rattle.frames.specs.Rows.{on_spot, place_in, record_at, row_at, row_named}
 

@@ -19,6 +19,31 @@ adds_both {a = a} {xs = xs} {ys = ys} one two = record {
       ∙ append_assoc a.text.items xs ys;
 }
 
+-- the first of two parts
+pub adds_parts : {a b c : Page} (xs ys : List ℕ) {zs : List ℕ}
+    → Adds a b (xs ++ ys) → Adds b c zs → Adds a c (xs ++ (ys ++ zs))
+adds_parts {a = a} {c = c} xs ys {zs = zs} one two =
+    subst (Adds a c) (append_assoc xs ys zs) (adds_both one two)
+
+-- the last of some, as `concat` has it
+pub adds_last : {a b : Page} (xs ys : List ℕ) → Adds a b (xs ++ ys) → Adds a b (xs ++ (ys ++ []))
+adds_last {a = a} {b = b} xs ys put =
+    subst (λ (l : List ℕ). Adds a b (xs ++ l)) (sym (append-nil ys)) put
+
+-- three, and more, as `concat` has them
+pub adds_3 : {a b c d : Page} {xs ys zs : List ℕ}
+    → Adds a b xs → Adds b c ys → Adds c d zs → Adds a d (xs ++ (ys ++ zs))
+adds_3 one two three = adds_both one (adds_both two three)
+
+pub adds_4 : {a b c d e : Page} {ws xs ys zs : List ℕ}
+    → Adds a b ws → Adds b c xs → Adds c d ys → Adds d e zs → Adds a e (ws ++ (xs ++ (ys ++ zs)))
+adds_4 one two three four = adds_both one (adds_3 two three four)
+
+pub adds_5 : {a b c d e f : Page} {vs ws xs ys zs : List ℕ}
+    → Adds a b vs → Adds b c ws → Adds c d xs → Adds d e ys → Adds e f zs
+    → Adds a f (vs ++ (ws ++ (xs ++ (ys ++ zs))))
+adds_5 one two three four five = adds_both one (adds_4 two three four five)
+
 -- a text for what is the same
 pub adds_same : {a b : Page} {X : Type 0} (text : X → List ℕ) {x y : X}
     → x ≡ y → Adds a b (text x) → Adds a b (text y)

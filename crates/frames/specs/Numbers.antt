@@ -1,4 +1,4 @@
--- Numbers: milliseconds with no more digits than they need, and bounds that may not be known.
+-- Numbers: milliseconds with no more digits than they need, bounds that may not be known, and from when to when.
 use Rattle.std.specs.Prelude.{ℕ, ◌/◌, ◌%◌, ◌==◌, if◌then◌else◌, Option, Some, None, List, [], ◌∷◌, ◌++◌, codes}
 use Rattle.std.specs.Fmt.{decimal}
 use Rattle.std.specs.List.{concat}
@@ -19,3 +19,8 @@ millis_text n = decimal (n / 1000) ++ rest_text (n % 1000)
 abbrev pub known_text : Option ℕ → List ℕ
 known_text (Some bound) = decimal bound
 known_text None = codes "-"
+
+-- from when to when, with which the title of a path ends
+abbrev pub times_end : (start stop : ℕ) → List ℕ
+times_end start stop =
+    concat (decimal start ∷ codes " to " ∷ decimal stop ∷ codes " us</title></path>\n" ∷ [])

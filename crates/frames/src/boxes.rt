@@ -1,13 +1,13 @@
 //! Boxes.
-ghost use Rattle.std.specs.Prelude.{◌*◌, ◌+◌, ◌≡◌, ◌≤◌, Some, length, max, nat_le};
+ghost use Rattle.frames.specs.Page.{Adds};
+ghost use Rattle.std.specs.Prelude.{◌*◌, ◌+◌, ◌++◌, ◌≡◌, ◌≤◌, length, max, nat_le};
 ghost use Rattle.task_sheet.specs.declared.set.TheConstants.{TASK_LIMIT};
 ghost use Rattle.frames.specs.Boxes.{box_path};
 ghost use Rattle.frames.specs.Frame.{top_of};
 ghost use Rattle.frames.specs.declared.frame.TheConstants.{RIGHTMOST};
 
 use crate::frame::top_of;
-use std::fmt;
-use std::io::Write;
+use crate::page::Page;
 use task_sheet::Name;
 
 /// From where to where a box goes, its upper edge, and how high it is.
@@ -19,13 +19,17 @@ pub struct Bar {
     pub high: u64,
 }
 
-impl fmt::Display for Bar {
-    ghost output = { λ b. Some (box_path b.x b.right b.y b.high) };
-
-    fn fmt<W: fmt::Write>(&self, f: &mut fmt::Formatter<W>) -> fmt::Result {
-        let Bar { x, right, y, high } = *self;
-        write!(f, "M{x} {y}H{right}v{high}H{x}z")
-    }
+/// Puts bytes, and the path of a bar behind them.
+pub fn put_bar(before: &[u8], bar: Bar, page: &mut Page)
+    ensures { Adds page.old page.new (before.now ++ box_path bar.x bar.right bar.y bar.high) }
+{
+    page.put(before);
+    page.number(b"M", bar.x);
+    page.number(b" ", bar.y);
+    page.number(b"H", bar.right);
+    page.number(b"v", bar.high);
+    page.number(b"H", bar.x);
+    page.put(b"z")
 }
 
 /// The bar from a place up to another, in row k; at least half a pixel wide.

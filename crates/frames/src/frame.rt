@@ -221,10 +221,10 @@ pub fn level_of(frame: Frame, rank: usize) -> u64
 }
 
 /// The tone of a task by its rank.
-pub fn tone_of(rank: usize) -> usize
+pub fn tone_of(rank: usize) -> u64
     ensures { result ≡ tone_of rank }
 {
-    rank % 10
+    rank as u64 % 10
 }
 
 // Whether a step is wide enough.

@@ -71,11 +71,11 @@ pub fn locks_of(alloc: Global, rows: &[TaskRow]) -> Result<Vec<Name>, AllocError
 }
 
 /// The tone of a lock.
-pub fn lock_tone(locks: &[Name], name: Name) -> usize
+pub fn lock_tone(locks: &[Name], name: Name) -> u64
     ensures { result ≡ lock_tone locks.now name }
 {
     match lock_place(locks, name) {
         None => 0,
-        Some(k) => k % 6,
+        Some(k) => k as u64 % 6,
     }
 }

@@ -1,64 +1,54 @@
 //! Numbers as text.
-ghost use Rattle.std.specs.Prelude.{Some};
-ghost use Rattle.frames.specs.Numbers.{known_text, millis_text, rest_text};
+ghost use Rattle.std.specs.Prelude.{◌++◌};
+ghost use Rattle.frames.specs.Numbers.{known_text, millis_text, rest_text, times_end};
+ghost use Rattle.frames.specs.Page.{Adds};
 
-use std::fmt;
-use std::io::Write;
+use crate::page::Page;
 
 // What stands behind whole milliseconds, of so many microseconds below one.
-#[derive(Clone, Copy)]
-struct Rest {
-    micros: u64,
+fn put_rest(micros: u64, page: &mut Page)
+    ensures { Adds page.old page.new (rest_text micros) }
+{
+    let (first, second, third) = (micros / 100, micros / 10 % 10, micros % 10);
+    if micros == 0 {
+        return;
+    }
+    page.number(b".", first);
+    if micros % 100 == 0 {
+        return;
+    }
+    page.number(b"", second);
+    if third > 0 {
+        page.number(b"", third)
+    }
 }
 
-impl fmt::Display for Rest {
-    ghost output = { λ r. Some (rest_text r.micros) };
+/// Puts bytes, and so many microseconds, in milliseconds.
+pub fn put_millis(before: &[u8], micros: u64, page: &mut Page)
+    ensures { Adds page.old page.new (before.now ++ millis_text micros) }
+{
+    page.number(before, micros / 1_000);
+    put_rest(micros % 1_000, page)
+}
 
-    fn fmt<W: fmt::Write>(&self, f: &mut fmt::Formatter<W>) -> fmt::Result {
-        let (first, second, third) = (self.micros / 100, self.micros / 10 % 10, self.micros % 10);
-        if self.micros == 0 {
-            Ok(())
-        } else if self.micros % 100 == 0 {
-            write!(f, ".{first}")
-        } else if third == 0 {
-            write!(f, ".{first}{second}")
-        } else {
-            write!(f, ".{first}{second}{third}")
+/// Puts bytes, and a bound, or `-` where none is known.
+pub fn put_known(before: &[u8], bound: Option<u64>, page: &mut Page)
+    ensures { Adds page.old page.new (before.now ++ known_text bound) }
+{
+    match bound {
+        Some(bound) => page.number(before, bound),
+        None => {
+            page.put(before);
+            page.put(b"-")
         }
     }
 }
 
-/// So many microseconds, in milliseconds.
-#[derive(Clone, Copy)]
-pub struct Millis {
-    pub micros: u64,
-}
-
-impl fmt::Display for Millis {
-    ghost output = { λ m. Some (millis_text m.micros) };
-
-    fn fmt<W: fmt::Write>(&self, f: &mut fmt::Formatter<W>) -> fmt::Result {
-        let whole = self.micros / 1_000;
-        let rest = Rest {
-            micros: self.micros % 1_000,
-        };
-        write!(f, "{whole}{rest}")
-    }
-}
-
-/// A bound, or `-` where none is known.
-#[derive(Clone, Copy)]
-pub struct Known {
-    pub bound: Option<u64>,
-}
-
-impl fmt::Display for Known {
-    ghost output = { λ k. Some (known_text k.bound) };
-
-    fn fmt<W: fmt::Write>(&self, f: &mut fmt::Formatter<W>) -> fmt::Result {
-        match self.bound {
-            Some(bound) => write!(f, "{bound}"),
-            None => write!(f, "-"),
-        }
-    }
+/// Puts bytes, and from when to when, with which the title of a path ends.
+pub fn put_times(before: &[u8], start: u64, stop: u64, page: &mut Page)
+    ensures { Adds page.old page.new (before.now ++ times_end start stop) }
+{
+    page.number(before, start);
+    page.number(b" to ", stop);
+    page.put(b" us</title></path>\n")
 }

@@ -1,10 +1,11 @@
 //! The document of a picture, while it grows.
-ghost use Rattle.std.specs.Prelude.{◌≡◌, [], true, false, IfSome, MatchResult};
+ghost use Rattle.std.specs.Fmt.{decimal};
+ghost use Rattle.std.specs.Prelude.{◌≡◌, ◌++◌, [], true, false, MatchResult};
 ghost use Rattle.frames.specs.Page.{Adds};
 
 use std::alloc::{AllocError, Global};
-use std::fmt::Display;
 use std::io::Write;
+use task_sheet::Name;
 
 /// A document that grows. Where memory runs out it stays as it is, and there is none in the end: so who puts something
 /// on it need not ask.
@@ -35,13 +36,22 @@ impl Page {
         }
     }
 
-    /// What `write!` calls: puts a value as its `Display` gives it.
-    pub fn write_fmt<D: Display + Drop>(&mut self, text: D)
-        ensures { IfSome (D.output text) (Adds self.old self.new) }
+    /// Puts bytes, and a number behind them.
+    pub fn number(&mut self, before: &[u8], n: u64)
+        ensures { Adds self.old self.new (before.now ++ decimal n) }
     {
+        self.put(before);
         if self.is_whole {
-            self.is_whole = write!(self.text, "{text}").is_ok();
+            self.is_whole = write!(self.text, "{n}").is_ok();
         }
+    }
+
+    /// Puts bytes, and a name behind them.
+    pub fn name(&mut self, before: &[u8], name: Name)
+        ensures { Adds self.old self.new (before.now ++ name) }
+    {
+        self.put(before);
+        self.put(name.bytes())
     }
 
     /// What is on it, where memory was there for all of it.

@@ -1,1 +1,2 @@
 mod Documents
+mod Quiet

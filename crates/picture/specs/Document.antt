@@ -15,16 +15,16 @@ use Rattle.picture.specs.declared.legend.TheConstants.{LEGEND}
 use Rattle.frames.specs.Frame.{Frame, frame_of, frame_end, step_of, steps_before, top_of, unit_name}
 use Rattle.frames.specs.Rows.{each, row_at, spot_in}
 use Rattle.frames.specs.Numbers.{millis_text}
-use Rattle.job_boxes.specs.Misses.{all_missed, badge_text, misses_text}
+use Rattle.drawn_jobs.specs.Misses.{all_missed, badge_text, misses_text}
 use Rattle.picture.specs.Margin.{margin_text}
 use Rattle.frames.specs.Locks.{locks_of}
-use Rattle.bars.specs.Stripes.{locks_high, locks_group}
-use Rattle.reasons.specs.WaitTexts.{waits_text}
-use Rattle.bars.specs.Lane.{lane_head, lane_line, lanes_text}
-use Rattle.job_boxes.specs.Bands.{jobs_text}
+use Rattle.drawn_jobs.specs.Stripes.{locks_high, locks_group}
+use Rattle.picture.specs.WaitTexts.{waits_text}
+use Rattle.drawn_jobs.specs.Lane.{lane_head, lane_line, lanes_text}
+use Rattle.drawn_jobs.specs.Bands.{jobs_text}
 use Rattle.picture.specs.Scale.{tick_text, line_text}
-use Rattle.bars.specs.Bars.{slices_text}
-use Rattle.job_boxes.specs.Marks.{all_marks}
+use Rattle.drawn_jobs.specs.Bars.{slices_text}
+use Rattle.drawn_jobs.specs.Marks.{all_marks}
 
 -- how wide the picture is
 abbrev pub width_of : Frame → ℕ

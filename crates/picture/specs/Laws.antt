@@ -10,8 +10,8 @@ use Rattle.frames.specs.declared.rows.TaskRow.{TaskRow}
 use Rattle.frames.specs.declared.view.View.{View}
 use Rattle.frames.specs.Frame.{Frame, frame_of}
 use Rattle.frames.specs.Slices.{ticks_of}
-use Rattle.bars.specs.Sections.{dark_from, dark_to}
-use Rattle.job_boxes.specs.Misses.{is_late}
+use Rattle.drawn_jobs.specs.Sections.{dark_from, dark_to}
+use Rattle.drawn_jobs.specs.Misses.{is_late}
 use Rattle.picture.specs.Document.{width_of}
 
 -- a job's tick number e, from 0, is executed inside a section

@@ -1,3 +1,6 @@
+pub mod Blocking
+pub mod Waits
+pub mod WaitTexts
 pub mod Titles
 pub mod Margin
 pub mod Scale

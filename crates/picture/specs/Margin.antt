@@ -10,7 +10,7 @@ use Rattle.frames.specs.declared.rows.TaskRow.{TaskRow}
 use Rattle.frames.specs.declared.rows.Spot.{Spot}
 use Rattle.frames.specs.Frame.{Frame, top_of, level_of, tone_of}
 use Rattle.frames.specs.Numbers.{millis_text, known_text}
-use Rattle.job_boxes.specs.Misses.{missed_in}
+use Rattle.drawn_jobs.specs.Misses.{missed_in}
 
 -- a row's level, and the tone of its task
 abbrev pub level_text : Frame → Spot → List ℕ

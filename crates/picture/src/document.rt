@@ -1,16 +1,15 @@
 //! The whole picture.
 ghost use Rattle.std.specs.Prelude.{◌≡◌, ◌≤◌, IfOk, length};
 ghost use Rattle.task_sheet.specs.declared.set.TheConstants.{TASK_LIMIT};
-ghost use Rattle.bars.specs.Sections.{AreUncounted};
+ghost use Rattle.drawn_jobs.specs.Sections.{AreUncounted};
 ghost use Rattle.frames.specs.Page.{Adds};
 ghost use Rattle.picture.specs.Document.{document, framed};
 
 use crate::ground::put_ground;
-use bars::{put_lanes, put_slices};
+use crate::why::put_waits;
 use ceiling_kernel::{Release, Trace};
+use drawn_jobs::{put_all_marks, put_jobs, put_lanes, put_misses, put_slices};
 use frames::{Chart, Page, TaskRow, View, frame_of, locks_of, shown_of, starts_rise};
-use job_boxes::{put_all_marks, put_jobs, put_misses};
-use reasons::put_waits;
 use std::alloc::{AllocError, Global};
 
 // The document, with the counts of the ticks that each job executed.

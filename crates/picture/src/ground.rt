@@ -10,11 +10,10 @@ use crate::legend::LEGEND;
 use crate::margin::put_group;
 use crate::style::STYLE;
 use crate::title::put_title_head;
-use bars::{locks_high, put_lane_line, put_locks_group};
+use drawn_jobs::{all_missed, locks_high, put_badge, put_lane_line, put_locks_group};
 use frames::{
-    Chart, Frame, Millis, Page, end_of, start_of, step_of, steps_before, top_of, unit_of, x_of,
+    Chart, Frame, Page, end_of, put_millis, start_of, step_of, steps_before, top_of, unit_of, x_of,
 };
-use job_boxes::{all_missed, put_badge};
 
 // Where the number of a line stands in the scale.
 fn number_x(frame: Frame, number: u64, x: u64) -> u64
@@ -36,17 +35,19 @@ fn put_head(chart: &Chart<'_>, page: &mut Page)
 {
     let high = top_of(chart.shown.len()) + 120 + locks_high(chart.frame, chart.locks.len());
     let wide = end_of(chart.frame) + 200;
-    let (width, height) = (wide / 10, high / 10);
-    write!(
-        page,
-        "<?xml version=\"1.0\" encoding=\"UTF-8\"?>\n<svg xmlns=\"http://www.w3.org/2000/svg\" version=\"1.1\" width=\"{width}\" height=\"{height}\" viewBox=\"0 0 {wide} {high}\">\n<title>"
+    page.put(
+        b"<?xml version=\"1.0\" encoding=\"UTF-8\"?>\n<svg xmlns=\"http://www.w3.org/2000/svg\"",
     );
+    page.number(b" version=\"1.1\" width=\"", wide / 10);
+    page.number(b"\" height=\"", high / 10);
+    page.number(b"\" viewBox=\"0 0 ", wide);
+    page.number(b" ", high);
+    page.put(b"\">\n<title>");
     put_title_head(chart.title, page);
-    let (rows, jobs, until) = (chart.rows.len(), chart.jobs.len(), chart.until);
-    write!(
-        page,
-        "tasks: {rows}, jobs: {jobs}, until {until} us</title>\n"
-    )
+    page.number(b"tasks: ", chart.rows.len() as u64);
+    page.number(b", jobs: ", chart.jobs.len() as u64);
+    page.number(b", until ", chart.until);
+    page.put(b" us</title>\n")
 }
 
 // A line down through the rows, and its time.
@@ -55,11 +56,11 @@ fn put_tick(frame: Frame, bottom: u64, step: u64, time: u64, page: &mut Page)
 {
     let x = x_of(frame, time);
     let number = time / unit_of(step);
-    let middle = number_x(frame, number, x);
-    write!(
-        page,
-        "<path class=\"g\" d=\"M{x} 1230V{bottom}\"/><text class=\"s\" x=\"{middle}\" y=\"1200\">{number}</text>\n"
-    )
+    page.number(b"<path class=\"g\" d=\"M", x);
+    page.number(b" 1230V", bottom);
+    page.number(b"\"/><text class=\"s\" x=\"", number_x(frame, number, x));
+    page.number(b"\" y=\"1200\">", number);
+    page.put(b"</text>\n")
 }
 
 // The scale.
@@ -81,13 +82,13 @@ fn put_line(frame: Frame, k: usize, page: &mut Page)
     ensures { Adds page.old page.new (line_text frame k) }
 {
     let top = top_of(k);
-    let y = top + 345;
-    let left = start_of(frame);
     let end = end_of(frame);
-    write!(
-        page,
-        "<path class=\"g\" d=\"M100 {top}H{end}\"/><path class=\"l\" d=\"M{left} {y}H{end}\"/>\n"
-    )
+    page.number(b"<path class=\"g\" d=\"M100 ", top);
+    page.number(b"H", end);
+    page.number(b"\"/><path class=\"l\" d=\"M", start_of(frame));
+    page.number(b" ", top + 345);
+    page.number(b"H", end);
+    page.put(b"\"/>\n")
 }
 
 // The lines of the rows.
@@ -111,7 +112,8 @@ fn put_verdict(title: &[u8], missed: usize, page: &mut Page)
         put_badge(190, 150, page);
         page.put(b"<text class=\"t q\" x=\"320\" y=\"200\">");
         put_title_head(title, page);
-        write!(page, "deadlines missed: {missed}</text>\n")
+        page.number(b"deadlines missed: ", missed as u64);
+        page.put(b"</text>\n")
     }
 }
 
@@ -122,20 +124,19 @@ fn put_window(frame: Frame, page: &mut Page)
     if frame.from == 0 && frame.to == frame.until {
         return;
     }
-    let from = Millis { micros: frame.from };
-    let to = Millis { micros: frame.to };
-    write!(page, ", shown: {from} to {to} ms")
+    put_millis(b", shown: ", frame.from, page);
+    put_millis(b" to ", frame.to, page);
+    page.put(b" ms")
 }
 
 // The run, and what part of it is drawn.
-fn put_what(frame: Frame, rows: usize, jobs: usize, micros: u64, page: &mut Page)
-    ensures { Adds page.old page.new (what_text frame rows jobs micros) }
+fn put_what(frame: Frame, rows: usize, jobs: usize, until: u64, page: &mut Page)
+    ensures { Adds page.old page.new (what_text frame rows jobs until) }
 {
-    let until = Millis { micros };
-    write!(
-        page,
-        "<text x=\"100\" y=\"390\">tasks: {rows}, jobs: {jobs}, until {until} ms"
-    );
+    page.number(b"<text x=\"100\" y=\"390\">tasks: ", rows as u64);
+    page.number(b", jobs: ", jobs as u64);
+    put_millis(b", until ", until, page);
+    page.put(b" ms");
     put_window(frame, page);
     page.put(b"</text>\n")
 }

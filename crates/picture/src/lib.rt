@@ -1,6 +1,7 @@
-//! The picture of a run: one SVG document.
+//! The picture of a run: one SVG document, with why jobs wait: for a task above, or for one below that blocks by a lock.
 #![tactic(auto)]
 
+mod blocker;
 mod document;
 mod ground;
 pub mod laws;
@@ -8,5 +9,7 @@ mod legend;
 mod margin;
 mod style;
 mod title;
+mod waits;
+mod why;
 
 pub use document::draw;

@@ -4,10 +4,11 @@ ghost use Rattle.frames.specs.Page.{Adds};
 ghost use Rattle.picture.specs.Document.{margin_group, margins_text};
 ghost use Rattle.picture.specs.Margin.{level_text, limits_text, margin_text, name_class, name_text, second_line};
 
-use bars::put_lane_head;
 use ceiling_kernel::JobRecord;
-use frames::{Chart, Known, Lane, Millis, Page, level_of, step_of, tone_of, top_of, unit_name};
-use job_boxes::{missed_in, put_greatest};
+use drawn_jobs::{missed_in, put_greatest, put_lane_head};
+use frames::{
+    Chart, Lane, Page, level_of, put_known, put_millis, step_of, tone_of, top_of, unit_name,
+};
 use run_lines::outcome_of;
 
 // A name is red where a deadline is missed.
@@ -22,33 +23,28 @@ fn put_level(lane: &Lane<'_>, page: &mut Page)
     ensures { Adds page.old page.new (level_text lane.now.frame lane.now.spot) }
 {
     let top = top_of(lane.spot.k);
-    let (y, chip) = (top + 230, top + 130);
-    let level = level_of(lane.frame, lane.spot.rank);
-    let tone = tone_of(lane.spot.rank);
-    write!(
-        page,
-        "<text class=\"v\" x=\"300\" y=\"{y}\">{level}</text><rect class=\"f{tone}\" x=\"350\" y=\"{chip}\" width=\"100\" height=\"100\" rx=\"20\"/>\n"
-    )
+    page.number(b"<text class=\"v\" x=\"300\" y=\"", top + 230);
+    page.number(b"\">", level_of(lane.frame, lane.spot.rank));
+    page.number(b"</text><rect class=\"f", tone_of(lane.spot.rank));
+    page.number(b"\" x=\"350\" y=\"", top + 130);
+    page.put(b"\" width=\"100\" height=\"100\" rx=\"20\"/>\n")
 }
 
 // The name of a row, with what its jobs came to.
 fn put_row_name(missed: usize, lane: &Lane<'_>, jobs: &[JobRecord], page: &mut Page)
     ensures { Adds page.old page.new (name_text missed jobs.now lane.now.spot.k lane.now.row.now) }
 {
-    let y = top_of(lane.spot.k) + 230;
-    let class = name_class(missed);
     let name = lane.row.sheet.name();
     let outcome = outcome_of(jobs, name);
-    let done = outcome.done;
-    write!(
-        page,
-        "<text class=\"{class}\" x=\"500\" y=\"{y}\"><title>done: {done}, greatest response: "
-    );
+    page.put(b"<text class=\"");
+    page.put(name_class(missed).as_bytes());
+    page.number(b"\" x=\"500\" y=\"", top_of(lane.spot.k) + 230);
+    page.number(b"\"><title>done: ", outcome.done as u64);
+    page.put(b", greatest response: ");
     put_greatest(outcome, page);
-    let bound = Known {
-        bound: lane.row.bound,
-    };
-    write!(page, ", bound: {bound} us</title>{name}</text>\n")
+    put_known(b", bound: ", lane.row.bound, page);
+    page.name(b" us</title>", name);
+    page.put(b"</text>\n")
 }
 
 // The bound and the deadline, in milliseconds; without a bound the deadline.
@@ -56,21 +52,18 @@ fn put_limits(lane: &Lane<'_>, page: &mut Page)
     ensures { Adds page.old page.new (limits_text lane.now.spot.k lane.now.row.now
         lane.now.row.now.bound) }
 {
-    let y = top_of(lane.spot.k) + 355;
-    let limit = lane.row.sheet.deadline();
-    let deadline = Millis { micros: limit };
+    let deadline = lane.row.sheet.deadline();
+    page.number(b"<text x=\"500\" y=\"", top_of(lane.spot.k) + 355);
     match lane.row.bound {
-        Some(micros) => {
-            let bound = Millis { micros };
-            write!(
-                page,
-                "<text x=\"500\" y=\"{y}\">bound {bound} of {deadline} ms</text>\n"
-            )
+        Some(bound) => {
+            put_millis(b"\">bound ", bound, page);
+            put_millis(b" of ", deadline, page);
+            page.put(b" ms</text>\n")
         }
-        None => write!(
-            page,
-            "<text x=\"500\" y=\"{y}\">deadline {deadline} ms</text>\n"
-        ),
+        None => {
+            put_millis(b"\">deadline ", deadline, page);
+            page.put(b" ms</text>\n")
+        }
     }
 }
 
@@ -81,11 +74,12 @@ fn put_second_line(missed: usize, lane: &Lane<'_>, page: &mut Page)
     if missed == 0 {
         return put_limits(lane, page);
     }
-    let y = top_of(lane.spot.k) + 355;
-    write!(
-        page,
-        "<text class=\"q\" x=\"500\" y=\"{y}\">deadlines missed: {missed}</text>\n"
-    )
+    page.number(
+        b"<text class=\"q\" x=\"500\" y=\"",
+        top_of(lane.spot.k) + 355,
+    );
+    page.number(b"\">deadlines missed: ", missed as u64);
+    page.put(b"</text>\n")
 }
 
 // A row's part of the margin.
@@ -115,11 +109,9 @@ pub(crate) fn put_group(chart: &Chart<'_>, page: &mut Page)
         chart.now.shown.now chart.now.jobs.now
         chart.now.slices.now) }
 {
-    let unit = unit_name(step_of(chart.frame));
-    write!(
-        page,
-        "<g id=\"n\">\n<text x=\"500\" y=\"1200\">time in {unit}</text>\n"
-    );
+    page.put(b"<g id=\"n\">\n<text x=\"500\" y=\"1200\">time in ");
+    page.put(unit_name(step_of(chart.frame)).as_bytes());
+    page.put(b"</text>\n");
     put_lane_head(chart, page);
     put_margins(chart, page);
     page.put(b"</g>\n")

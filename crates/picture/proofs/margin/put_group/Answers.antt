@@ -1,6 +1,9 @@
-use Rattle.frames.proofs.Adds.{adds_both}
+use Rattle.frames.proofs.Adds.{adds_both, adds_3}
 use Rattle.picture.proofs.margin.put_group.Goals as goal
 
 pub returns : goal.returns
-returns c = rw (← c.step_of.ensures.value) (rw (← c.unit_name-unit.ensures) (adds_both (adds_both
-    (adds_both c.write.ensures c.put_lane_head.ensures) c.put_margins.ensures) c.put.ensures))
+returns c =
+    let unit = rw (c.as_bytes.ensures.value, c.unit_name.ensures, c.step_of.ensures.value)
+    at c.put-2.ensures in
+    adds_both (adds_both (adds_both (adds_3 c.put.ensures unit c.put-3.ensures)
+    c.put_lane_head.ensures) c.put_margins.ensures) c.put-4.ensures

@@ -1,7 +1,7 @@
 use Rattle.std.proofs.Common.{◌≡◌, ◌∙◌, ap, length}
 use Rattle.task_sheet.specs.Demand.{greatest_of}
 use Rattle.run_lines.specs.Reached.{done_of, response_of}
-use Rattle.frames.proofs.Adds.{adds_both}
+use Rattle.frames.proofs.Adds.{adds_both, adds_3, adds_5}
 use Rattle.picture.proofs.margin.put_row_name.Goals as goal
 
 pub returns : goal.returns
@@ -14,6 +14,8 @@ returns c =
     let greatest : c.outcome_of-outcome.result.greatest
     ≡ greatest_of response_of (done_of name jobs) = c.outcome_of-outcome.ensures.greatest
     ∙ ap (λ n. greatest_of response_of (done_of n jobs)) named in
-    let last = rw named at c.write-2.ensures in
-    rw (← c.top_of.ensures.value) (rw (← c.name_class-class.ensures) (rw (← done)
-    (rw (← greatest) (adds_both (adds_both c.write.ensures c.put_greatest.ensures) last))))
+    let class = rw (c.as_bytes.ensures.value, c.name_class.ensures) at c.put-2.ensures in
+    rw (← c.top_of.ensures.value, ← done, ← greatest)
+    (adds_both (adds_both (adds_5 c.put.ensures class c.number.ensures c.number-2.ensures
+    c.put-3.ensures) c.put_greatest.ensures) (adds_3 c.put_known.ensures
+    (rw named at c.name.ensures) c.put-4.ensures))

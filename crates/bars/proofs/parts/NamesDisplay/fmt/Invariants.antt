@@ -1,8 +1,0 @@
-use Rattle.std.proofs.Common.{take}
-use Rattle.std.specs.Fmt.{HasWritten, IsPlainFormatter}
-use Rattle.bars.specs.Bars.{names_text}
-use Rattle.bars.proofs.parts.NamesDisplay.fmt.Given as goal
-
-abbrev pub invariant-loop-name : goal.invariant-loop-name
-invariant-loop-name g l = IsPlainFormatter l.initial.f → HasWritten g.W.Write.write_str_gives
-    l.initial.f (names_text (take l.name-index l.self.names.now)) l.f

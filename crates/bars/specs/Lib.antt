@@ -1,4 +1,0 @@
-pub mod Sections
-pub mod Stripes
-pub mod Bars
-pub mod Lane

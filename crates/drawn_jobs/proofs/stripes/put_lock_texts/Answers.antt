@@ -1,0 +1,13 @@
+use Rattle.std.proofs.Common.{ℕ, List, [], get_or}
+use Rattle.drawn_jobs.specs.Stripes.{lock_text}
+use Rattle.frames.proofs.Adds.{adds_none, adds_item}
+use Rattle.drawn_jobs.proofs.stripes.put_lock_texts.Goals as goal
+
+pub loop-i-init : goal.loop-i-init
+loop-i-init c = adds_none c.args.page.now (λ i. (λ (i : ℕ) (name : List ℕ).
+    lock_text c.args.frame c.args.bottom i name) i (get_or c.args.locks.now i []))
+
+pub loop-i-preserved : goal.loop-i-preserved
+loop-i-preserved c = adds_item (λ (i : ℕ) (name : List ℕ). lock_text c.args.frame c.args.bottom i
+    name) c.args.locks.now [] c.loop-i.i c.index-locks-i.result c.loop-i-test.true
+    c.index-locks-i.is c.loop-i.invariant c.put_lock.ensures

@@ -1,0 +1,169 @@
+//! Jobs of a task that are too close to be drawn apart.
+ghost use Rattle.std.specs.Prelude.{◌<◌, ◌≡◌, ◌≤◌, length};
+ghost use Rattle.run_lines.specs.Lines.{greatest_words};
+ghost use Rattle.frames.specs.Numbers.{known_text};
+ghost use Rattle.frames.specs.Page.{Adds};
+ghost use Rattle.frames.specs.Boxes.{box_path};
+ghost use Rattle.task_sheet.specs.declared.set.TheConstants.{TASK_LIMIT};
+ghost use Rattle.frames.specs.declared.frame.TheConstants.{RIGHTMOST};
+ghost use Rattle.drawn_jobs.specs.Bands.{any_on, band_box, band_label, band_with, band_words, gap_of, last_bound, place_text, wide_words};
+
+use crate::jobs::{goes_on, limit_box, limit_of, put_job_in, put_sign, put_signs};
+use crate::marks::is_shown;
+use ceiling_kernel::JobRecord;
+use frames::{
+    Bar, Frame, Lane, Page, is_before, job_at, put_bar, put_known, put_millis, sees_up_to, top_of,
+    x_after,
+};
+use pieces::{Band, band_in, joins, stretch_of};
+use run_lines::{Outcome, outcome_of};
+use task_sheet::Name;
+
+// How many microseconds 20 pixels are.
+pub(crate) fn gap_of(frame: Frame) -> u64
+    ensures { result ≡ gap_of frame }
+{
+    200 * (frame.to - frame.from) / frame.span
+}
+
+// Whether of some jobs one of the task with a name goes on behind the window.
+fn any_on(frame: Frame, name: Name, jobs: &[JobRecord]) -> bool
+    ensures { result ≡ any_on frame name jobs.now }
+{
+    for job in jobs {
+        if job.name == name && goes_on(frame, job.finish) {
+            return true;
+        }
+    }
+    false
+}
+
+// The greatest response of jobs that are done, if some are.
+fn greatest_of(outcome: Outcome) -> Option<u64>
+    ensures { known_text result ≡ greatest_words outcome.done outcome.greatest }
+{
+    if outcome.done == 0 {
+        None
+    } else {
+        Some(outcome.greatest)
+    }
+}
+
+// The box of a band, how many jobs are in it, and when they arrive.
+fn put_band_box(bar: Bar, first: &JobRecord, band: Band, page: &mut Page)
+    ensures { Adds page.old page.new (band_box (box_path bar.x bar.right bar.y bar.high) first.now
+        band.count band.latest) }
+{
+    put_bar(b"<path class=\"l w\" d=\"", bar, page);
+    page.name(b"\"><title>", first.name);
+    page.number(b": ", band.count as u64);
+    page.number(b" jobs, arrivals ", first.release);
+    page.number(b" to ", band.latest)
+}
+
+// How many of them are done, the greatest response among those, their bound and their deadline.
+fn put_band_words(outcome: Outcome, bound: Option<u64>, deadline: u64, page: &mut Page)
+    ensures { Adds page.old page.new (band_words outcome.done outcome.greatest bound deadline) }
+{
+    page.number(b", done ", outcome.done as u64);
+    page.put(b", longest response ");
+    put_greatest(outcome, page);
+    put_known(b", bound ", bound, page);
+    page.number(b", deadline ", deadline);
+    page.put(b" us</title></path>\n")
+}
+
+// What stands behind the number of jobs of a band so wide.
+fn put_wide(wide: u64, outcome: Outcome, page: &mut Page)
+    ensures { Adds page.old page.new (wide_words wide outcome.done outcome.greatest) }
+{
+    if wide < 1_860 {
+        return;
+    }
+    if outcome.done == 0 {
+        return page.put(b" jobs");
+    }
+    put_millis(b" jobs, longest ", outcome.greatest, page);
+    page.put(b" ms")
+}
+
+// What stands below a band that reaches from a place up to another.
+fn put_label(x: u64, right: u64, k: usize, count: usize, outcome: Outcome, page: &mut Page)
+    requires place { x ≤ RIGHTMOST }
+    requires row { k ≤ TASK_LIMIT }
+    ensures { Adds page.old page.new (band_label x right k count outcome.done outcome.greatest) }
+{
+    page.number(b"<text x=\"", x + 20);
+    page.number(b"\" y=\"", top_of(k) + 455);
+    page.number(b"\">", count as u64);
+    put_wide(right.saturating_sub(x), outcome, page);
+    page.put(b"</text>\n")
+}
+
+// A bracket at a bound behind the latest arrival, if there is one, where that is in the picture.
+fn put_last_bound(lane: &Lane<'_>, latest: u64, page: &mut Page)
+    ensures { Adds page.old page.new (last_bound lane.now.frame lane.now.spot.k latest
+        lane.now.row.now.bound) }
+{
+    let Some(bound) = lane.row.bound else {
+        return;
+    };
+    let shown = is_shown(lane.frame, latest, bound);
+    let x = x_after(lane.frame, latest, bound);
+    let y = top_of(lane.spot.k) + 155;
+    put_sign(shown, b"b", x, y, b"h-35m35 0v40m0 120v40h-35", page)
+}
+
+// A band, where its box is in the window.
+fn put_band(
+    lane: &Lane<'_>,
+    first: &JobRecord,
+    jobs: &[JobRecord],
+    band: Band,
+    outcome: Outcome,
+    page: &mut Page,
+)
+    ensures { Adds page.old page.new (band_with lane.now.frame lane.now.spot.k lane.now.row.now
+        first.now jobs.now
+        band.count band.latest outcome.done outcome.greatest) }
+{
+    if !sees_up_to(lane.frame, first.release, band.latest, limit_of(lane.row)) {
+        return;
+    }
+    let bar = limit_box(lane, first.release, band.latest);
+    let row = lane.row;
+    put_band_box(bar, first, band, page);
+    put_band_words(outcome, row.bound, row.sheet.deadline(), page);
+    put_label(bar.x, bar.right, lane.spot.k, band.count, outcome, page);
+    put_last_bound(lane, band.latest, page);
+    let back = is_before(lane.frame, first.release);
+    put_signs(lane, back, any_on(lane.frame, first.name, jobs), page)
+}
+
+// Job i in a row, alone or with those that join it in a band; what joins one before it has been drawn with that.
+pub(crate) fn put_place(lane: &Lane<'_>, jobs: &[JobRecord], i: usize, page: &mut Page)
+    requires { i < length jobs.now }
+    ensures { Adds page.old page.new (place_text lane.now.frame jobs.now i lane.now.spot.k
+        lane.now.row.now) }
+{
+    let gap = gap_of(lane.frame);
+    if joins(gap, jobs, i) {
+        return;
+    }
+    let first = job_at(jobs, i);
+    let stretch = stretch_of(gap, jobs, i);
+    let band = band_in(stretch, first.name);
+    if band.count > 1 {
+        let outcome = outcome_of(stretch, first.name);
+        put_band(lane, &first, stretch, band, outcome, page)
+    } else {
+        put_job_in(lane, &first, page)
+    }
+}
+
+/// Puts the greatest response of jobs that are done, or `-` for none.
+pub fn put_greatest(outcome: Outcome, page: &mut Page)
+    ensures { Adds page.old page.new (greatest_words outcome.done outcome.greatest) }
+{
+    put_known(b"", greatest_of(outcome), page)
+}

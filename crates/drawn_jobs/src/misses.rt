@@ -1,0 +1,202 @@
+//! Jobs that miss their deadlines.
+ghost use Rattle.std.specs.Prelude.{◌+◌, ◌≡◌};
+ghost use Rattle.frames.specs.Page.{Adds};
+ghost use Rattle.frames.specs.Boxes.{box_path};
+ghost use Rattle.drawn_jobs.specs.Misses.{all_missed, badge_after, badge_text, due_badge, has_badge, hatch_path, hatch_text, is_clear, is_late, is_seen_miss, late_signs, miss_text, missed_in, misses, misses_in, misses_text, row_misses};
+
+use crate::jobs::{limit_of, put_job_signs, put_told};
+use ceiling_kernel::JobRecord;
+use frames::{
+    Bar, Chart, Frame, Lane, Page, TaskRow, ended, find_row, is_by_end, is_from_start, job_at,
+    put_bar, sees_from, top_of, x_after, x_of,
+};
+
+// Whether a job of a row's task misses its deadline.
+fn is_late(frame: Frame, row: &TaskRow, job: &JobRecord) -> bool
+    ensures { result ≡ is_late frame row.now job.now }
+{
+    let deadline = row.sheet.deadline();
+    match job.finish {
+        Some(finish) => finish.saturating_sub(job.release) > deadline,
+        None => frame.until.saturating_sub(job.release) >= deadline,
+    }
+}
+
+// Whether it is one of a row's task, too.
+fn misses_in(frame: Frame, row: &TaskRow, job: &JobRecord) -> bool
+    ensures { result ≡ misses_in frame row.now job.now }
+{
+    job.name == row.sheet.name() && is_late(frame, row, job)
+}
+
+/// How many jobs of a row's task miss their deadlines.
+pub fn missed_in(frame: Frame, row: &TaskRow, jobs: &[JobRecord]) -> usize
+    ensures { result ≡ missed_in frame row.now jobs.now }
+{
+    let mut count = 0;
+    for job in jobs {
+        if misses_in(frame, row, job) {
+            count += 1;
+        }
+    }
+    count
+}
+
+// Whether a job does.
+fn misses(frame: Frame, rows: &[TaskRow], job: &JobRecord) -> bool
+    ensures { result ≡ misses frame rows.now job.now }
+{
+    match find_row(rows, job.name) {
+        None => false,
+        Some(k) => is_late(frame, &rows[k], job),
+    }
+}
+
+/// How many of all jobs do.
+pub fn all_missed(frame: Frame, rows: &[TaskRow], jobs: &[JobRecord]) -> usize
+    ensures { result ≡ all_missed frame rows.now jobs.now }
+{
+    let mut count = 0;
+    for job in jobs {
+        if misses(frame, rows, job) {
+            count += 1;
+        }
+    }
+    count
+}
+
+// Whether a job of a row's task misses its deadline in the window.
+fn is_seen_miss(frame: Frame, row: &TaskRow, job: &JobRecord) -> bool
+    ensures { result ≡ is_seen_miss frame row.now job.now }
+{
+    misses_in(frame, row, job)
+        && is_by_end(frame, job.release, row.sheet.deadline())
+        && frame.from < ended(frame, job)
+}
+
+// Whether the last badge, if there is one, is 18 pixels before a place.
+fn is_clear(last: Option<u64>, x: u64) -> bool
+    ensures { result ≡ is_clear last x }
+{
+    match last {
+        None => true,
+        Some(last) => x >= 180 && last <= x - 180,
+    }
+}
+
+// Whether the deadline of a job has a badge.
+fn has_badge(frame: Frame, row: &TaskRow, last: Option<u64>, job: &JobRecord) -> bool
+    ensures { result ≡ has_badge frame last (job.now.release + row.now.sheet.deadline) }
+{
+    let deadline = row.sheet.deadline();
+    let x = x_after(frame, job.release, deadline);
+    is_from_start(frame, job.release, deadline) && is_clear(last, x)
+}
+
+// The last badge behind a job.
+fn badge_after(frame: Frame, row: &TaskRow, last: Option<u64>, job: &JobRecord) -> Option<u64>
+    ensures { result ≡ badge_after frame row.now last job.now }
+{
+    if is_seen_miss(frame, row, job) && has_badge(frame, row, last, job) {
+        Some(x_after(frame, job.release, row.sheet.deadline()))
+    } else {
+        last
+    }
+}
+
+/// Puts a disc with a cross.
+pub fn put_badge(x: u64, y: u64, page: &mut Page)
+    ensures { Adds page.old page.new (badge_text x y) }
+{
+    page.number(b"<path class=\"x\" d=\"M", x);
+    page.number(b" ", y);
+    page.number(b"h1\"/><path class=\"y\" d=\"M", x);
+    page.number(b" ", y);
+    page.put(b"m-38-38l76 76m0-76l-76 76\"/>\n")
+}
+
+// From the deadline up to the finish, or to the end.
+fn hatch_box(lane: &Lane<'_>, job: &JobRecord) -> Bar
+    ensures { box_path result.x result.right result.y result.high ≡ hatch_path lane.now.frame
+        lane.now.spot.k
+        lane.now.row.now job.now }
+{
+    let x = x_after(lane.frame, job.release, lane.row.sheet.deadline());
+    Bar {
+        x,
+        right: x_of(lane.frame, ended(lane.frame, job)).max(x + 20),
+        y: top_of(lane.spot.k) + 145,
+        high: 220,
+    }
+}
+
+// That, and what is told of it.
+fn put_hatch(bar: Bar, row: &TaskRow, job: &JobRecord, page: &mut Page)
+    ensures { Adds page.old page.new (hatch_text (box_path bar.x bar.right bar.y bar.high) row.now
+        job.now) }
+{
+    put_bar(b"<path class=\"z\" d=\"", bar, page);
+    put_told(job, page);
+    page.number(b", deadline ", row.sheet.deadline());
+    page.put(b" us missed</title></path>\n")
+}
+
+// A badge at the deadline, where that has one.
+fn put_due_badge(lane: &Lane<'_>, last: Option<u64>, job: &JobRecord, page: &mut Page)
+    ensures { Adds page.old page.new (due_badge lane.now.frame lane.now.spot.k last
+        (job.now.release + lane.now.row.now.sheet.deadline)) }
+{
+    if !has_badge(lane.frame, lane.row, last, job) {
+        return;
+    }
+    let x = x_after(lane.frame, job.release, lane.row.sheet.deadline());
+    put_badge(x, top_of(lane.spot.k) + 85, page)
+}
+
+// Signs where a job goes on before and behind the window, whose box isn't in it.
+fn put_late_signs(lane: &Lane<'_>, job: &JobRecord, page: &mut Page)
+    ensures { Adds page.old page.new (late_signs lane.now.frame lane.now.spot.k lane.now.row.now
+        job.now) }
+{
+    if sees_from(lane.frame, job.release, limit_of(lane.row)) {
+        return;
+    }
+    put_job_signs(lane, job, page)
+}
+
+// A job in a row, if it misses its deadline in the window.
+fn put_miss(lane: &Lane<'_>, last: Option<u64>, job: &JobRecord, page: &mut Page)
+    ensures { Adds page.old page.new (miss_text lane.now.frame lane.now.spot.k lane.now.row.now
+        last job.now) }
+{
+    if !is_seen_miss(lane.frame, lane.row, job) {
+        return;
+    }
+    put_hatch(hatch_box(lane, job), lane.row, job, page);
+    put_due_badge(lane, last, job, page);
+    put_late_signs(lane, job, page)
+}
+
+// Those of a row.
+fn put_row_misses(lane: &Lane<'_>, jobs: &[JobRecord], page: &mut Page)
+    ensures { Adds page.old page.new (row_misses lane.now.frame jobs.now lane.now.spot.k
+        lane.now.row.now) }
+{
+    let mut last = None;
+    for i in 0..jobs.len() {
+        let job = job_at(jobs, i);
+        put_miss(lane, last, &job, page);
+        last = badge_after(lane.frame, lane.row, last, &job);
+    }
+}
+
+/// Puts what is missed in each row.
+pub fn put_misses(chart: &Chart<'_>, page: &mut Page)
+    ensures { Adds page.old page.new (misses_text chart.now.frame chart.now.rows.now
+        chart.now.shown.now
+        chart.now.jobs.now) }
+{
+    for k in 0..chart.shown.len() {
+        put_row_misses(&chart.lane(chart.spot(k)), chart.jobs, page);
+    }
+}

@@ -1,0 +1,111 @@
+//! The parts of a slice in which its job holds locks.
+ghost use Rattle.std.specs.Prelude.{◌*◌, ◌+◌, ◌≡◌, ◌≤◌};
+ghost use Rattle.frames.specs.Page.{Adds};
+ghost use Rattle.task_sheet.specs.declared.set.TheConstants.{TASK_LIMIT};
+ghost use Rattle.drawn_jobs.specs.Bars.{dark_text, label_text, names_text, part_box, part_left, part_right, part_text};
+ghost use Rattle.frames.specs.declared.frame.TheConstants.{RIGHTMOST};
+
+use crate::stripes::put_stripes;
+use crate::ticks::{dark_from, dark_to, fits};
+use ceiling_kernel::Slice;
+use frames::{Bar, Frame, Lane, Page, put_bar, put_times, sees, top_of, x_of};
+use task_sheet::{Name, Section};
+
+// Names, each after one space.
+fn put_names(names: &[Name], page: &mut Page)
+    ensures { Adds page.old page.new (names_text names.now) }
+{
+    for name in names {
+        page.name(b" ", *name);
+    }
+}
+
+// From where to where a part of a slice's bar goes.
+fn part_in(frame: Frame, slice: Slice, start: u64, stop: u64) -> (u64, u64)
+    ensures left { result.0 ≡ part_left frame slice start }
+    ensures right { result.1 ≡ part_right frame slice start stop }
+    ensures within { result.0 + result.1 ≤ 2 * RIGHTMOST + 1 }
+{
+    let end = x_of(frame, slice.stop).max(x_of(frame, slice.start) + 5);
+    let left = x_of(frame, start).min(end - 1);
+    let right = x_of(frame, stop).max(left + 1).min(end);
+    (left, right)
+}
+
+// The names of locks in the middle of a part, where there is room.
+fn put_label(x: u64, right: u64, k: usize, names: &[Name], page: &mut Page)
+    requires places { x + right ≤ 2 * RIGHTMOST + 1 }
+    requires row { k ≤ TASK_LIMIT }
+    ensures { Adds page.old page.new (label_text x right k names.now) }
+{
+    if !fits(right.saturating_sub(x) / 68, names) {
+        return;
+    }
+    page.number(b"<text class=\"k\" x=\"", (x + right) / 2);
+    page.number(b"\" y=\"", top_of(k) + 293);
+    page.put(b"\">");
+    put_names(names, page);
+    page.put(b"</text>\n")
+}
+
+// The box of a part in which a job holds locks.
+fn put_part_box(
+    lane: &Lane<'_>,
+    names: &[Name],
+    start: u64,
+    stop: u64,
+    x: u64,
+    right: u64,
+    page: &mut Page,
+)
+    ensures { Adds page.old page.new (part_box lane.now.spot.k lane.now.row.now names.now start stop
+        x right) }
+{
+    let bar = Bar {
+        x,
+        right,
+        y: top_of(lane.spot.k) + 165,
+        high: 180,
+    };
+    put_bar(b"<path class=\"h\" d=\"", bar, page);
+    page.name(b"\"><title>", lane.row.sheet.name());
+    page.put(b" holds");
+    put_names(names, page);
+    put_times(b" ", start, stop, page)
+}
+
+// The same with stripes and names, where it is in the window.
+fn put_part(lane: &Lane<'_>, slice: Slice, names: &[Name], start: u64, stop: u64, page: &mut Page)
+    ensures { Adds page.old page.new (part_text lane.now.frame lane.now.locks.now slice
+        lane.now.spot.k lane.now.row.now
+        names.now start stop) }
+{
+    if !sees(lane.frame, start, stop) {
+        return;
+    }
+    let (x, right) = part_in(lane.frame, slice, start, stop);
+    put_part_box(lane, names, start, stop, x, right, page);
+    put_stripes(lane.locks, x, right, lane.spot.k, names, page);
+    put_label(x, right, lane.spot.k, names, page)
+}
+
+// The darker part of a slice for a section, if there is one.
+pub(crate) fn put_dark(
+    executed: u64,
+    slice: Slice,
+    lane: &Lane<'_>,
+    section: &Section,
+    page: &mut Page,
+)
+    ensures { Adds page.old page.new (dark_text lane.now.frame lane.now.locks.now executed slice
+        lane.now.spot.k lane.now.row.now
+        section.now) }
+{
+    let from = dark_from(section, executed);
+    let to = dark_to(section, executed, slice);
+    if from < to {
+        let start = slice.start + from;
+        let stop = slice.start + to;
+        put_part(lane, slice, &section.locks, start, stop, page)
+    }
+}

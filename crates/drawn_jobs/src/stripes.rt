@@ -1,0 +1,141 @@
+//! Stripes of locks over bars, and what tells of them.
+ghost use Rattle.std.specs.Prelude.{◌*◌, ◌<◌, ◌≡◌, ◌≤◌, length};
+ghost use Rattle.frames.specs.Page.{Adds};
+ghost use Rattle.task_sheet.specs.declared.set.TheConstants.{TASK_LIMIT};
+ghost use Rattle.drawn_jobs.specs.Stripes.{lock_text, lock_texts, locks_group, locks_head, locks_high, per_line, stripe_text, stripe_top, stripes_text};
+ghost use Rattle.frames.specs.declared.frame.TheConstants.{RIGHTMOST};
+ghost use Rattle.frames.specs.declared.locks.TheConstants.{LOCKS_LIMIT};
+
+use frames::{Bar, Chart, Frame, Page, end_of, lock_tone, put_bar, top_of};
+use task_sheet::Name;
+
+// Where stripe i of n begins, in a bar.
+fn stripe_top(n: usize, i: usize) -> u64
+    ensures value { result ≡ stripe_top n i }
+    ensures within { result ≤ 32_400 }
+{
+    180 * (i as u64).min(180) / (n as u64).max(1)
+}
+
+// How many locks the legend has in a line.
+fn per_line(frame: Frame) -> u64
+    ensures value { result ≡ per_line frame }
+    ensures some { 0 < result }
+    ensures within { result ≤ 84 }
+{
+    ((end_of(frame) - 900) / 1_900).max(1)
+}
+
+/// How high the legend of so many locks is.
+pub fn locks_high(frame: Frame, n: usize) -> u64
+    requires { n ≤ LOCKS_LIMIT }
+    ensures value { result ≡ locks_high frame n }
+    ensures within { result ≤ 260_000 }
+{
+    if n == 0 {
+        return 0;
+    }
+    100 + 250 * ((n as u64 - 1) / per_line(frame) + 1)
+}
+
+// The stripe of a lock, number i of n, over a part of a bar.
+fn put_stripe(
+    locks: &[Name],
+    x: u64,
+    right: u64,
+    k: usize,
+    n: usize,
+    i: usize,
+    name: Name,
+    page: &mut Page,
+)
+    requires row { k ≤ TASK_LIMIT }
+    requires place { i < n }
+    ensures { Adds page.old page.new (stripe_text locks.now x right k n i name) }
+{
+    let start = stripe_top(n, i);
+    let stripe = Bar {
+        x,
+        right,
+        y: top_of(k) + 165 + start,
+        high: stripe_top(n, i + 1).saturating_sub(start),
+    };
+    page.number(b"<path class=\"k", lock_tone(locks, name));
+    put_bar(b"\" d=\"", stripe, page);
+    page.put(b"\"/>\n")
+}
+
+// The stripes of some locks.
+pub(crate) fn put_stripes(
+    locks: &[Name],
+    x: u64,
+    right: u64,
+    k: usize,
+    names: &[Name],
+    page: &mut Page,
+)
+    requires { k ≤ TASK_LIMIT }
+    ensures { Adds page.old page.new (stripes_text locks.now x right k names.now) }
+{
+    for i in 0..names.len() {
+        put_stripe(locks, x, right, k, names.len(), i, names[i], page);
+    }
+}
+
+// Lock i in the legend.
+fn put_lock(frame: Frame, bottom: u64, i: usize, name: Name, page: &mut Page)
+    requires place { i ≤ LOCKS_LIMIT }
+    requires row { bottom ≤ 2 * RIGHTMOST }
+    ensures { Adds page.old page.new (lock_text frame bottom i name) }
+{
+    let each = per_line(frame);
+    let x = 900 + 1_900 * (i as u64 % each);
+    let y = bottom + 250 * (i as u64 / each);
+    let lock = Bar {
+        x,
+        right: x + 200,
+        y,
+        high: 180,
+    };
+    page.number(b"<path class=\"k", i as u64 % 6);
+    put_bar(b"\" d=\"", lock, page);
+    page.number(b"\"/><text class=\"c\" x=\"", x + 250);
+    page.number(b"\" y=\"", y + 128);
+    page.name(b"\">", name);
+    page.put(b"</text>\n")
+}
+
+// The locks, each once.
+fn put_lock_texts(frame: Frame, bottom: u64, locks: &[Name], page: &mut Page)
+    requires few { length locks.now ≤ LOCKS_LIMIT }
+    requires row { bottom ≤ 2 * RIGHTMOST }
+    ensures { Adds page.old page.new (lock_texts frame bottom locks.now) }
+{
+    for i in 0..locks.len() {
+        put_lock(frame, bottom, i, locks[i], page);
+    }
+}
+
+// What stands before them, where there are some.
+fn put_locks_head(bottom: u64, n: usize, page: &mut Page)
+    requires { bottom ≤ 2 * RIGHTMOST }
+    ensures { Adds page.old page.new (locks_head bottom n) }
+{
+    if n == 0 {
+        return;
+    }
+    page.number(b"<text x=\"100\" y=\"", bottom + 128);
+    page.put(b"\">holds a lock:</text>\n")
+}
+
+/// Puts the legend of the locks, as a group.
+pub fn put_locks_group(chart: &Chart<'_>, page: &mut Page)
+    ensures { Adds page.old page.new (locks_group chart.now.frame (length chart.now.shown.now)
+        chart.now.locks.now) }
+{
+    let bottom = top_of(chart.shown.len()) + 120;
+    page.put(b"<g id=\"k\">\n");
+    put_locks_head(bottom, chart.locks.len(), page);
+    put_lock_texts(chart.frame, bottom, chart.locks, page);
+    page.put(b"</g>\n")
+}

@@ -1,4 +1,0 @@
-use Rattle.job_boxes.proofs.band.put_band_words.Goals as goal
-
-pub returns : goal.returns
-returns c = rw (← c.greatest_of.ensures) c.write.ensures

@@ -1,4 +1,0 @@
-use Rattle.job_boxes.proofs.misses.put_hatch.Goals as goal
-
-pub returns : goal.returns
-returns c = rw (← c.deadline-deadline.ensures) c.write.ensures

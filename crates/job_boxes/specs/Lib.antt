@@ -1,4 +1,0 @@
-pub mod Jobs
-pub mod Bands
-pub mod Marks
-pub mod Misses

@@ -1,0 +1,10 @@
+use Rattle.std.proofs.Common.{sym, ◌∙◌}
+use Rattle.frames.proofs.Adds.{adds_both}
+use Rattle.picture.proofs.why.put_nth_wait.Goals as goal
+
+pub returns-then-sees : goal.returns-then-sees
+returns-then-sees c = rw (
+  ← c.wait_at.ensures.wait,
+  c.in-Some.is,
+  sym c.sees.ensures ∙ c.if-sees.true,
+) (adds_both c.put_why.ensures c.put_who.ensures)

@@ -1,0 +1,227 @@
+//! How the waits of jobs are drawn.
+ghost use Rattle.std.specs.Prelude.{◌++◌, ◌<◌, ◌≡◌, ◌≤◌, codes, length};
+ghost use Rattle.frames.specs.Page.{Adds};
+ghost use Rattle.task_sheet.specs.declared.set.TheConstants.{TASK_LIMIT};
+ghost use Rattle.picture.specs.WaitTexts.{above_text, blocked_text, has_link, ink_text, job_waits, link_text, lock_words, nth_wait_text, stay_text, tone_of_lock, wait_line, wait_title, waits_text, who_text, why_text};
+ghost use Rattle.picture.specs.Waits.{EndBy, scene_of, stay_of};
+
+use crate::blocker::blocking_lock;
+use crate::waits::{Past, Stay, Wait, is_behind, is_gathered, past_before, stay_of, wait_at};
+use frames::{
+    Chart, Frame, Page, Spot, has_room, lock_tone, name_in, name_of, place_in, put_times, sees,
+    tone_of, top_of, x_of,
+};
+use task_sheet::Name;
+
+// The tone of a lock, if there is one.
+fn tone_of_lock(locks: &[Name], lock: &Option<Name>) -> u64
+    ensures { result ≡ tone_of_lock locks.now lock.now }
+{
+    match lock {
+        None => 0,
+        Some(lock) => lock_tone(locks, *lock),
+    }
+}
+
+// By which lock, if it is known.
+fn put_lock(lock: &Option<Name>, page: &mut Page)
+    ensures { Adds page.old page.new (lock_words lock.now) }
+{
+    if let Some(lock) = lock {
+        page.name(b"with ", *lock);
+        page.put(b" ")
+    }
+}
+
+// A path for a wait for a task above, in its tone or in the neutral ink.
+fn put_ink(gathered: bool, tone: u64, page: &mut Page)
+    ensures { Adds page.old page.new (codes "<path class=\"wa i" ++ ink_text gathered tone) }
+{
+    if gathered {
+        page.put(b"<path class=\"wa in")
+    } else {
+        page.number(b"<path class=\"wa i", tone)
+    }
+}
+
+// Where it goes: a line in the middle of the row at place k, up to the title.
+fn put_line(x: u64, right: u64, k: usize, page: &mut Page)
+    requires { k ≤ TASK_LIMIT }
+    ensures { Adds page.old page.new (wait_line x right k) }
+{
+    page.number(b"\" d=\"M", x);
+    page.number(b" ", top_of(k) + 255);
+    page.number(b"H", right);
+    page.put(b"\"><title>")
+}
+
+// The title: who waits for whom, and by which lock, from when to when.
+fn put_title(
+    chart: &Chart<'_>,
+    k: usize,
+    wait: Wait,
+    how: &[u8],
+    lock: &Option<Name>,
+    page: &mut Page,
+)
+    requires row { k < length chart.now.rows.now }
+    requires other { wait.row < length chart.now.rows.now }
+    ensures { Adds page.old page.new (wait_title chart.now.rows.now k wait how.now lock.now) }
+{
+    page.name(b"", name_in(chart.rows, k));
+    page.name(how, name_in(chart.rows, wait.row));
+    page.put(b" ");
+    put_lock(lock, page);
+    put_times(b"", wait.start, wait.stop, page)
+}
+
+// A wait of a row for a task above.
+fn put_above(chart: &Chart<'_>, spot: Spot, wait: Wait, gathered: bool, page: &mut Page)
+    requires row { spot.rank < length chart.now.rows.now }
+    requires place { spot.k ≤ TASK_LIMIT }
+    requires other { wait.row < length chart.now.rows.now }
+    ensures { Adds page.old page.new (above_text (scene_of chart.now) spot wait gathered) }
+{
+    let x = x_of(chart.frame, wait.start);
+    let right = x_of(chart.frame, wait.stop).max(x + 1);
+    put_ink(gathered, tone_of(wait.row), page);
+    put_line(x, right, spot.k, page);
+    put_title(chart, spot.rank, wait, b" waits for ", &None, page)
+}
+
+// Whether a wait ends in the window and is at least 2 pixels wide.
+fn has_link(frame: Frame, wait: Wait) -> bool
+    ensures { result ≡ has_link frame wait }
+{
+    wait.stop <= frame.to && x_of(frame, wait.start) + 20 <= x_of(frame, wait.stop)
+}
+
+// A link in a tone, from the end of such a wait at place k down to the bar of the task below, where that is shown.
+fn put_link(chart: &Chart<'_>, k: usize, wait: Wait, tone: u64, page: &mut Page)
+    requires { k ≤ TASK_LIMIT }
+    ensures { Adds page.old page.new (link_text (scene_of chart.now) k wait tone) }
+{
+    if !has_link(chart.frame, wait) {
+        return;
+    }
+    let Some(m) = place_in(chart.shown, wait.row) else {
+        return;
+    };
+    page.number(b"<path class=\"wj d", tone);
+    page.number(b"\" d=\"M", x_of(chart.frame, wait.stop));
+    page.number(b" ", top_of(k) + 255);
+    page.number(b"V", top_of(m) + 165);
+    page.put(b"\"/>\n")
+}
+
+// A wait of a row for a task below, which blocks by a lock: dots in its tone.
+fn put_blocked(chart: &Chart<'_>, spot: Spot, wait: Wait, lock: Option<Name>, page: &mut Page)
+    requires row { spot.rank < length chart.now.rows.now }
+    requires place { spot.k ≤ TASK_LIMIT }
+    requires other { wait.row < length chart.now.rows.now }
+    ensures { Adds page.old page.new (blocked_text (scene_of chart.now) spot wait lock) }
+{
+    let tone = tone_of_lock(chart.locks, &lock);
+    let start = x_of(chart.frame, wait.start);
+    let stop = x_of(chart.frame, wait.stop);
+    let right = stop.saturating_sub(16).max(start + 17);
+    page.number(b"<path class=\"wb d", tone);
+    put_line(start + 16, right, spot.k, page);
+    put_title(chart, spot.rank, wait, b" is blocked by ", &lock, page);
+    put_link(chart, spot.k, wait, tone, page)
+}
+
+// The name of who executes, in the middle of a wait, above, where it has room.
+fn put_who(chart: &Chart<'_>, k: usize, wait: Wait, page: &mut Page)
+    requires place { k ≤ TASK_LIMIT }
+    requires other { wait.row < length chart.now.rows.now }
+    ensures { Adds page.old page.new (who_text (scene_of chart.now) k wait) }
+{
+    let x = x_of(chart.frame, wait.start);
+    let right = x_of(chart.frame, wait.stop);
+    let name = name_in(chart.rows, wait.row);
+    if has_room(name, right.saturating_sub(x)) {
+        page.number(b"<text class=\"wl\" x=\"", (x + right) / 2);
+        page.number(b"\" y=\"", top_of(k) + 225);
+        page.name(b"\">", name);
+        page.put(b"</text>\n")
+    }
+}
+
+// Why a job in a row waits in slice n.
+fn put_why(chart: &Chart<'_>, stay: Stay, spot: Spot, n: usize, wait: Wait, page: &mut Page)
+    requires row { spot.rank < length chart.now.rows.now }
+    requires place { spot.k ≤ TASK_LIMIT }
+    requires other { wait.row < length chart.now.rows.now }
+    requires slice { n < length chart.now.slices.now }
+    ensures { Adds page.old page.new (why_text (scene_of chart.now) stay spot n wait) }
+{
+    if spot.rank < wait.row {
+        let lock = blocking_lock(chart.rows, chart.slices, spot.rank, n, wait.start, wait.row);
+        put_blocked(chart, spot, wait, lock, page)
+    } else {
+        let gathered = is_gathered(chart, stay, spot.rank, n);
+        put_above(chart, spot, wait, gathered, page)
+    }
+}
+
+// That, and the name of who executes, if the job waits in that slice, and in the window.
+fn put_nth_wait(chart: &Chart<'_>, stay: Stay, spot: Spot, n: usize, page: &mut Page)
+    requires row { spot.rank < length chart.now.rows.now }
+    requires place { spot.k ≤ TASK_LIMIT }
+    requires slice { n < length chart.now.slices.now }
+    ensures { Adds page.old page.new (nth_wait_text (scene_of chart.now) stay spot n) }
+{
+    let Some(wait) = wait_at(chart, stay, n) else {
+        return;
+    };
+    if sees(chart.frame, wait.start, wait.stop) {
+        put_why(chart, stay, spot, n, wait, page);
+        put_who(chart, spot.k, wait, page)
+    }
+}
+
+// The waits of a job in a row, by time: in the slices that end by then it isn't ready.
+fn put_stay(chart: &Chart<'_>, stay: Stay, spot: Spot, past: Past, page: &mut Page)
+    requires row { spot.rank < length chart.now.rows.now }
+    requires place { spot.k ≤ TASK_LIMIT }
+    requires within { past.count ≤ length chart.now.slices.now }
+    requires ended { EndBy chart.now.slices.now past.count past.time }
+    requires before { past.time ≤ stay.from }
+    ensures { Adds page.old page.new (stay_text (scene_of chart.now) stay spot) }
+{
+    for n in past.count..chart.slices.len() {
+        if is_behind(chart, stay, n) {
+            return;
+        }
+        put_nth_wait(chart, stay, spot, n, page);
+    }
+}
+
+// The waits of job j, in the row of its task.
+fn put_job_waits(chart: &Chart<'_>, j: usize, past: Past, page: &mut Page)
+    requires job { j < length chart.now.jobs.now }
+    requires within { past.count ≤ length chart.now.slices.now }
+    requires ended { EndBy chart.now.slices.now past.count past.time }
+    requires before { past.time ≤ (stay_of (scene_of chart.now) j).from }
+    ensures { Adds page.old page.new (job_waits (scene_of chart.now) j) }
+{
+    let name = name_of(chart.jobs, j);
+    match chart.spot_of(name) {
+        None => {}
+        Some(spot) => put_stay(chart, stay_of(chart, j), spot, past, page),
+    }
+}
+
+// Puts the waits of each job into the row of its task.
+pub(crate) fn put_waits(chart: &Chart<'_>, page: &mut Page)
+    ensures { Adds page.old page.new (waits_text chart.now.frame chart.now.locks.now
+        chart.now.rows.now chart.now.shown.now
+        chart.now.releases.now chart.now.jobs.now chart.now.slices.now) }
+{
+    let mut past = Past { count: 0, time: 0 };
+    for j in 0..chart.jobs.len() {
+        past = past_before(chart, j, past);
+        put_job_waits(chart, j, past, page);
+    }
+}

@@ -1,5 +1,0 @@
-use Rattle.reasons.specs.Waits.{EndBy}
-use Rattle.reasons.proofs.waits.ended_by.Given as goal
-
-abbrev pub invariant-loop-n : goal.invariant-loop-n
-invariant-loop-n l = EndBy l.fn.slices l.n l.fn.time

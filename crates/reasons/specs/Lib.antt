@@ -1,3 +1,0 @@
-pub mod Blocking
-pub mod Waits
-pub mod WaitTexts
