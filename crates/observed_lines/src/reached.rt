@@ -6,8 +6,8 @@ ghost use Rattle.observed_lines.specs.Reached.{is_done_of, least_gap, lesser_gap
 
 use observed::Seen;
 
-// The jobs of a level: how many there are, for how long one executed at most, and the least gap before one, if there is
-// one.
+// The jobs of a level: how many there are, for how long one executed at most, and the least gap
+// before one, if there is one.
 #[derive(Clone, Copy)]
 pub(crate) struct Reached {
     pub jobs: usize,
