@@ -1,5 +1,5 @@
 -- What is printed of what a command finds is what the command says.
-use Rattle.std.proofs.Common.{◌≡◌, ℕ, true, false, List, Option, Ok, Err, inl, inr, subst}
+use Rattle.std.proofs.Common.{◌≡◌, ℕ, true, false, List, Option, Ok, Err, inl, inr}
 use Rattle.std.specs.Io.KnownBytes.{Appends}
 use Rattle.task_sheet.specs.Sheet.{Task}
 use Rattle.owners.specs.declared.owner.Owner.{Owner}
@@ -7,7 +7,6 @@ use Rattle.command_line.specs.declared.calls.Options.{Options}
 use Rattle.command_line.specs.declared.calls.OfTwo.{OfTwo}
 use Rattle.command_line.specs.declared.calls.OfTwo.TheVariants as command
 use Rattle.desk_cli.specs.Found.{FindsIn, found_said, found_status}
-use Rattle.two_input_commands.specs.Keep.{keeping_lines}
 use Rattle.answering.specs.Outcomes.{failed_read}
 use Rattle.answering.specs.Printed.{IsPrinted}
 use Rattle.answering.specs.Refusals.{refusal_line, status_of}
@@ -29,15 +28,7 @@ use Rattle.desk_cli.proofs.Refused.{two_refused}
 pub never_unread : (c : OfTwo) (options : Options) (U : List Task) (text : List ℕ)
     → FindsIn c options U text (Err failed_read) → ⊥
 never_unread command.Check options U text never = never
-never_unread command.Diff options U text never = never
-never_unread command.Judge options U text never = never
-never_unread command.Simulate options U text never = never
-never_unread command.Draw options U text never = never
-never_unread command.Observe options U text never = never
-never_unread command.Keep options U text never = never
-never_unread command.WorstAt options U text never = never
-never_unread command.LimitsAt options U text never = never
-never_unread command.ExplainAt options U text never = never
+never_unread _ options U text never = never
 
 module _ (options : Options) (owners : List Owner) (U : List Task) (text : List ℕ)
     (before after : Option (List ℕ)) (s : Status) where
@@ -49,12 +40,6 @@ module _ (options : Options) (owners : List Owner) (U : List Task) (text : List 
   pub refused_in : (c : OfTwo) (r : CommandRefusal) → FindsIn c options U text (Err r)
       → Appends before after (refusal_line r) → s ≡ status_of r
       → SaysOfBoth c options owners U text before after s
-  refused_in command.Check r why wrote is =
-      λ set other has. (Err r, inr (U, text, both set other has, why), wrote, is)
-  refused_in command.Diff r why wrote is =
-      λ set other has. (Err r, inr (U, text, both set other has, why), wrote, is)
-  refused_in command.Judge r why wrote is =
-      λ set other has. (Err r, inr (U, text, both set other has, why), wrote, is)
   refused_in command.Simulate r why wrote is =
       elim options.by_task as (λ b. (set other : Option (List ℕ))
       → HaveOwned (preference_of options) set other U owners text
@@ -62,17 +47,7 @@ module _ (options : Options) (owners : List Owner) (U : List Task) (text : List 
         | true ↦ λ set other has. (Err r, inr (U, text, both set other has, why), wrote, is)
         | false ↦ λ set other has. (Err r, inr (U, text, both set other has, why), wrote, is)
       ]
-  refused_in command.Draw r why wrote is =
-      λ set other has. (Err r, inr (U, text, both set other has, why), wrote, is)
-  refused_in command.Observe r why wrote is =
-      λ set other has. (Err r, inr (U, text, both set other has, why), wrote, is)
-  refused_in command.Keep r why wrote is =
-      λ set other has. (Err r, inr (U, text, both set other has, why), wrote, is)
-  refused_in command.WorstAt r why wrote is =
-      λ set other has. (Err r, inr (U, text, both set other has, why), wrote, is)
-  refused_in command.LimitsAt r why wrote is =
-      λ set other has. (Err r, inr (U, text, both set other has, why), wrote, is)
-  refused_in command.ExplainAt r why wrote is =
+  refused_in _ r why wrote is =
       λ set other has. (Err r, inr (U, text, both set other has, why), wrote, is)
 
   -- what was found was printed
@@ -81,8 +56,8 @@ module _ (options : Options) (owners : List Owner) (U : List Task) (text : List 
       → SaysOfBoth c options owners U text before after s
   said_in command.Check (Shown kind) finds wrote is =
       λ set other has. (Ok kind, (U, text, both set other has, finds), wrote, is)
-  said_in command.Diff (Compared c) finds wrote is = λ set other has.
-      (Ok (record { set = U; owners = owners; compared = c }), (text, has, finds), wrote, is)
+  said_in command.Diff (Compared c) finds wrote is =
+      λ set other has. (Ok (U, owners, c), (text, has, finds), wrote, is)
   said_in command.Judge (Judged judged) finds wrote is =
       λ set other has. (Ok (U, judged), (text, both set other has, finds), wrote, is)
   said_in command.Simulate (Simulated answer) finds wrote is =
@@ -93,19 +68,14 @@ module _ (options : Options) (owners : List Owner) (U : List Task) (text : List 
       λ set other has. (Ok (U, drawing), (text, both set other has, finds), wrote, is)
   said_in command.Observe (Observed tolerance sight) finds wrote is = λ set other has.
       rw (← finds.0) (Ok (U, sight), (text, both set other has, finds.1), wrote, is)
-  said_in command.Keep (Keeping keeping base) finds wrote is =
-      λ set other has. (
-        Ok (U, keeping),
-        (text, both set other has, finds.1),
-        subst (λ (b : ℕ). Appends before after (keeping_lines U b keeping)) finds.0 wrote,
-        is,
-      )
+  said_in command.Keep (Keeping keeping base) finds wrote is = λ set other has.
+      rw (← finds.0) (Ok (U, keeping), (text, both set other has, finds.1), wrote, is)
   said_in command.WorstAt (WorstAt worst) finds wrote is =
       λ set other has. (Ok (U, worst), (text, both set other has, finds), wrote, is)
   said_in command.LimitsAt (LimitedAt found) finds wrote is =
       λ set other has. (Ok (U, found), (text, both set other has, finds), wrote, is)
-  said_in command.ExplainAt (ExplainedAt found) finds wrote is = λ set other has.
-      (Ok (record { set = U; owners = owners; found = found }), (text, has, finds), wrote, is)
+  said_in command.ExplainAt (ExplainedAt found) finds wrote is =
+      λ set other has. (Ok (U, owners, found), (text, has, finds), wrote, is)
   said_in _ _ finds wrote is = absurd finds
 
   -- the same; or that memory ran out for it, which is an answer of its own

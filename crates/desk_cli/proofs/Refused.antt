@@ -2,12 +2,9 @@
 use Rattle.std.proofs.Common.{◌≡◌, ℕ, true, false, List, Option, Some, None, Err, inl, refl}
 use Rattle.std.specs.Io.KnownBytes.{Appends}
 use Rattle.command_line.specs.declared.calls.OfOne.{OfOne}
-use Rattle.command_line.specs.declared.calls.OfOne.TheVariants.{Admit, Certify, Limits, Settings}
-use Rattle.command_line.specs.declared.calls.OfOne.TheVariants.{Explain, Worst, Play}
+use Rattle.command_line.specs.declared.calls.OfOne.TheVariants.{Limits, Explain, Worst, Play}
 use Rattle.command_line.specs.declared.calls.OfTwo.{OfTwo}
-use Rattle.command_line.specs.declared.calls.OfTwo.TheVariants.{Check, Judge, Diff, Simulate, Draw}
-use Rattle.command_line.specs.declared.calls.OfTwo.TheVariants.{Observe, Keep, WorstAt, ExplainAt}
-use Rattle.command_line.specs.declared.calls.OfTwo.TheVariants.{LimitsAt}
+use Rattle.command_line.specs.declared.calls.OfTwo.TheVariants.{Simulate}
 use Rattle.command_line.specs.declared.calls.Options.{Options}
 use Rattle.task_sheet.specs.declared.prefer.Preference.{Preference}
 use Rattle.desk_cli.specs.Commands.{OneSays, TwoSay}
@@ -34,49 +31,33 @@ module _ (before after : Option (List ℕ)) (s : Status) (r : CommandRefusal)
   part_refused : (p : TaskPart) (asked : Option (List ℕ)) (preference : Option Preference)
       (known : Option (List ℕ)) → HasNoSet known r
       → SaysPart p asked preference known before after s
-  part_refused part.Limits None preference known why = (Err r, why, wrote, is)
-  part_refused part.Reasons None preference known why = (Err r, why, wrote, is)
-  part_refused part.Worst None preference known why = (Err r, why, wrote, is)
   part_refused p (Some word) preference known why =
       (Err r, no_set p word preference known r why, wrote, is)
+  part_refused part.Limits None preference known why = (Err r, why, wrote, is)
+  part_refused _ None preference known why = (Err r, why, wrote, is)
 
   pub one_refused : (c : OfOne) (options : Options) (known : Option (List ℕ))
       → IsRefusalOf c known r → OneSays c options known before after s
-  one_refused Admit options known why = (Err r, why, wrote, is)
-  one_refused Certify options known why = (Err r, why, wrote, is)
   one_refused Limits options known why =
       part_refused part.Limits (task_of options) (preference_of options) known why
-  one_refused Settings options known why = (Err r, why, wrote, is)
   one_refused Explain options known why =
       part_refused part.Reasons (task_of options) (preference_of options) known why
   one_refused Worst options known why =
       part_refused part.Worst (task_of options) (preference_of options) known why
   one_refused Play options known why = (refusal_line r, wrote, inl (r, why, refl, is))
+  one_refused _ options known why = (Err r, why, wrote, is)
 
   pub placed_refused : (c : OfOne) (options : Options) (known : Option (List ℕ)) → (c ≡ Play → ⊥)
       → HasNoSet known r → OneSays c options known before after s
-  placed_refused Admit options known other why = one_refused Admit options known why
-  placed_refused Certify options known other why = one_refused Certify options known why
-  placed_refused Limits options known other why = one_refused Limits options known why
-  placed_refused Settings options known other why = one_refused Settings options known why
-  placed_refused Explain options known other why = one_refused Explain options known why
-  placed_refused Worst options known other why = one_refused Worst options known why
   placed_refused Play options known other why = absurd (other refl)
+  placed_refused c options known other why = one_refused c options known why
 
   pub two_refused : (c : OfTwo) (options : Options) (first second : Option (List ℕ))
       → HaveNotBoth first second r → TwoSay c options first second before after s
-  two_refused Check options first second why = (Err r, inl why, wrote, is)
-  two_refused Judge options first second why = (Err r, inl why, wrote, is)
-  two_refused Diff options first second why = (Err r, inl why, wrote, is)
   two_refused Simulate options first second why =
       elim options.by_task as
       (λ b. SaysSimulation b (preference_of options) first second before after s) [
         | true ↦ (Err r, inl why, wrote, is)
         | false ↦ (Err r, inl why, wrote, is)
       ]
-  two_refused Draw options first second why = (Err r, inl why, wrote, is)
-  two_refused Observe options first second why = (Err r, inl why, wrote, is)
-  two_refused Keep options first second why = (Err r, inl why, wrote, is)
-  two_refused WorstAt options first second why = (Err r, inl why, wrote, is)
-  two_refused LimitsAt options first second why = (Err r, inl why, wrote, is)
-  two_refused ExplainAt options first second why = (Err r, inl why, wrote, is)
+  two_refused _ options first second why = (Err r, inl why, wrote, is)

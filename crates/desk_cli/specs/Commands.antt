@@ -28,41 +28,26 @@ use Rattle.answering.specs.Chosen.{base_of, preference_of, task_of}
 -- what the words choose
 abbrev pub OneSays : OfOne → Options → Option (List ℕ) → (before after : Option (List ℕ))
     → Status → Type 0
-OneSays Admit options known before after s =
-    SaysPlacing order.Levels (preference_of options) known before after s
-OneSays Certify options known before after s =
-    SaysCertified (preference_of options) known before after s
-OneSays Limits options known before after s =
-    SaysPart part.Limits (task_of options) (preference_of options) known before after s
-OneSays Settings options known before after s =
-    SaysPlacing (order.Settings (base_of options)) (preference_of options) known before after s
-OneSays Explain options known before after s =
-    SaysPart part.Reasons (task_of options) (preference_of options) known before after s
-OneSays Worst options known before after s =
-    SaysPart part.Worst (task_of options) (preference_of options) known before after s
-OneSays Play options known before after s = SaysPlayed known before after s
+OneSays Admit options = SaysPlacing order.Levels (preference_of options)
+OneSays Certify options = SaysCertified (preference_of options)
+OneSays Limits options = SaysPart part.Limits (task_of options) (preference_of options)
+OneSays Settings options =
+    SaysPlacing (order.Settings (base_of options)) (preference_of options)
+OneSays Explain options = SaysPart part.Reasons (task_of options) (preference_of options)
+OneSays Worst options = SaysPart part.Worst (task_of options) (preference_of options)
+OneSays Play options = SaysPlayed
 
 -- the same of a command of two inputs
 abbrev pub TwoSay :
     OfTwo → Options → (first second : Option (List ℕ)) → (before after : Option (List ℕ))
     → Status → Type 0
-TwoSay Check options first second before after s =
-    SaysChecked (preference_of options) first second before after s
-TwoSay Judge options first second before after s =
-    SaysJudged options.lower_is_higher (preference_of options) first second before after s
-TwoSay Diff options first second before after s =
-    SaysCompared (preference_of options) first second before after s
-TwoSay Simulate options first second before after s =
-    SaysSimulation options.by_task (preference_of options) first second before after s
-TwoSay Draw options first second before after s =
-    SaysDrawn options (preference_of options) first second before after s
-TwoSay Observe options first second before after s =
-    SaysObserved (tolerance_of options) (preference_of options) first second before after s
-TwoSay Keep options first second before after s =
-    SaysKeeping (base_of options) (preference_of options) first second before after s
-TwoSay WorstAt options first second before after s =
-    SaysWorstAt (task_of options) (preference_of options) first second before after s
-TwoSay LimitsAt options first second before after s =
-    SaysLimitsAt (task_of options) (preference_of options) first second before after s
-TwoSay ExplainAt options first second before after s =
-    SaysExplainedAt (task_of options) (preference_of options) first second before after s
+TwoSay Check options = SaysChecked (preference_of options)
+TwoSay Judge options = SaysJudged options.lower_is_higher (preference_of options)
+TwoSay Diff options = SaysCompared (preference_of options)
+TwoSay Simulate options = SaysSimulation options.by_task (preference_of options)
+TwoSay Draw options = SaysDrawn options (preference_of options)
+TwoSay Observe options = SaysObserved (tolerance_of options) (preference_of options)
+TwoSay Keep options = SaysKeeping (base_of options) (preference_of options)
+TwoSay WorstAt options = SaysWorstAt (task_of options) (preference_of options)
+TwoSay LimitsAt options = SaysLimitsAt (task_of options) (preference_of options)
+TwoSay ExplainAt options = SaysExplainedAt (task_of options) (preference_of options)

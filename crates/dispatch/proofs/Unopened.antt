@@ -2,8 +2,7 @@
 use Rattle.std.proofs.Common.{◌≡◌, ℕ, List, Option, Err, inl, refl}
 use Rattle.std.specs.Io.KnownBytes.{Appends}
 use Rattle.command_line.specs.declared.calls.OfOne.{OfOne}
-use Rattle.command_line.specs.declared.calls.OfOne.TheVariants.{Admit, Certify, Limits, Settings}
-use Rattle.command_line.specs.declared.calls.OfOne.TheVariants.{Explain, Worst, Play}
+use Rattle.command_line.specs.declared.calls.OfOne.TheVariants.{Play}
 use Rattle.command_line.specs.declared.calls.OfTwo.{OfTwo}
 use Rattle.command_line.specs.declared.calls.OfNumber.{OfNumber}
 use Rattle.command_line.specs.declared.calls.OfNumber.TheVariants.{Releases, Script, Rush}
@@ -20,13 +19,8 @@ use Rattle.dispatch.specs.Running.{NumberSays}
 
 -- a failed read may come at any time
 any_time : (c : OfOne) (known : Option (List ℕ)) → IsRefusalOf c known failed_read
-any_time Admit known = tt
-any_time Certify known = tt
-any_time Limits known = tt
-any_time Settings known = tt
-any_time Explain known = tt
-any_time Worst known = tt
 any_time Play known = tt
+any_time _ known = tt
 
 module _ (before after : Option (List ℕ)) (s : Status)
     (says : Appends before after (refusal_line failed_read)) (is : s ≡ InputOrOutputFailed) where

@@ -1,6 +1,6 @@
 //! The lines of the promises that jobs break.
 ghost use Rattle.std.specs.Prelude.{◌≡◌, ◌++◌, OnOk, string_bytes};
-ghost use Rattle.observed_lines.specs.Broken.{at_words, blocked_words, bound_words, broken_lines, broken_words, by_words, cost_words, foreign_words, idle_words, late_words, period_words, short_words};
+ghost use Rattle.observed_lines.specs.Broken.{at_words, blocked_words, bound_words, broken_lines, broken_words, by_words, cost_words, foreign_words, idle_words, period_words};
 
 use crate::breaks::{
     breaks_blocking, breaks_bound, breaks_cost, breaks_foreign, breaks_idle, breaks_period,
@@ -43,16 +43,6 @@ fn push_cost(text: &mut String, tolerance: u64, seen: &Seen) -> Result<(), Alloc
     writeln!(text, " {executed} of {cost}")
 }
 
-// How long after the one before it it arrived, of the period.
-fn push_short(text: &mut String, gap: Option<u64>, period: u64) -> Result<(), AllocError>
-    ensures { OnOk result (string_bytes text.new ≡ string_bytes text.old ++ short_words gap period) }
-{
-    match gap {
-        Some(gap) => writeln!(text, " {gap} of {period}"),
-        None => text.push_str("\n"),
-    }
-}
-
 // It arrived sooner than a period after the one before it.
 fn push_period(text: &mut String, tolerance: u64, seen: &Seen) -> Result<(), AllocError>
     ensures { OnOk result (string_bytes text.new
@@ -61,22 +51,12 @@ fn push_period(text: &mut String, tolerance: u64, seen: &Seen) -> Result<(), All
     if !breaks_period(tolerance, seen) {
         return Ok(());
     }
+    let period = seen.promise.period;
     push_at(text, "period", seen)?;
-    push_short(text, seen.gap, seen.promise.period)
-}
-
-// How late it is.
-fn push_late(text: &mut String, seen: &Seen) -> Result<(), AllocError>
-    ensures { OnOk result (string_bytes text.new ≡ string_bytes text.old ++ late_words seen.now) }
-{
-    if !seen.is_finished {
-        push_at(text, "open", seen)?;
-        return text.push_str("\n");
+    match seen.gap {
+        Some(gap) => writeln!(text, " {gap} of {period}"),
+        None => text.push_str("\n"),
     }
-    let lasted = seen.lasted;
-    let bound = seen.promise.bound;
-    push_at(text, "bound", seen)?;
-    writeln!(text, " {lasted} of {bound}")
 }
 
 // It took longer than its bound, or isn't done and its bound is past.
@@ -87,7 +67,14 @@ fn push_bound(text: &mut String, tolerance: u64, seen: &Seen) -> Result<(), Allo
     if !breaks_bound(tolerance, seen) {
         return Ok(());
     }
-    push_late(text, seen)
+    if !seen.is_finished {
+        push_at(text, "open", seen)?;
+        return text.push_str("\n");
+    }
+    let lasted = seen.lasted;
+    let bound = seen.promise.bound;
+    push_at(text, "bound", seen)?;
+    writeln!(text, " {lasted} of {bound}")
 }
 
 // While it waited, tasks below it executed for longer than its blocking.

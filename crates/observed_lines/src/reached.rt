@@ -1,34 +1,18 @@
 //! What the jobs of a level came to.
 ghost use Rattle.std.specs.Prelude.{◌≡◌, length};
 ghost use Rattle.task_sheet.specs.Demand.{greatest_of};
-ghost use Rattle.observed_lines.specs.Reached.{done_of, is_done_of, least_gap, lesser_gap, of_level};
+ghost use Rattle.observed_lines.specs.Lines.{greatest_response};
+ghost use Rattle.observed_lines.specs.Reached.{is_done_of, least_gap, lesser_gap, of_level};
 
 use observed::Seen;
 
-// How many jobs of a level there are.
-pub(crate) fn jobs_of(level: usize, seen: &[Seen]) -> usize
-    ensures { result ≡ length (of_level level seen.now) }
-{
-    let mut jobs = 0;
-    for job in seen {
-        if job.level == level {
-            jobs += 1;
-        }
-    }
-    jobs
-}
-
-// For how long a job of a level executed at most.
-pub(crate) fn executed_of(level: usize, seen: &[Seen]) -> u128
-    ensures { result ≡ greatest_of (λ s. s.executed) (of_level level seen.now) }
-{
-    let mut greatest: u128 = 0;
-    for job in seen {
-        if job.level == level {
-            greatest = greatest.max(job.executed);
-        }
-    }
-    greatest
+// The jobs of a level: how many there are, for how long one executed at most, and the least gap
+// before one, if there is one.
+#[derive(Clone, Copy)]
+pub(crate) struct Reached {
+    pub jobs: usize,
+    pub executed: u128,
+    pub gap: Option<u64>,
 }
 
 // The lesser of two gaps, if there are any.
@@ -42,17 +26,27 @@ fn lesser_gap(one: Option<u64>, other: Option<u64>) -> Option<u64>
     }
 }
 
-// The least gap before a job of a level, if there is one.
-pub(crate) fn gap_of(level: usize, seen: &[Seen]) -> Option<u64>
-    ensures { result ≡ least_gap (of_level level seen.now) }
+// What the jobs of a level came to.
+pub(crate) fn reached_of(level: usize, seen: &[Seen]) -> Reached
+    ensures jobs { result.jobs ≡ length (of_level level seen.now) }
+    ensures executed { result.executed ≡ greatest_of (λ s. s.executed) (of_level level seen.now) }
+    ensures gap { result.gap ≡ least_gap (of_level level seen.now) }
 {
-    let mut least = None;
+    let mut jobs = 0;
+    let mut executed: u128 = 0;
+    let mut gap = None;
     for job in seen {
         if job.level == level {
-            least = lesser_gap(least, job.gap);
+            jobs += 1;
+            executed = executed.max(job.executed);
+            gap = lesser_gap(gap, job.gap);
         }
     }
-    least
+    Reached {
+        jobs,
+        executed,
+        gap,
+    }
 }
 
 // The job is of the level, and done.
@@ -62,28 +56,20 @@ fn is_done_of(level: usize, job: &Seen) -> bool
     job.level == level && job.is_finished
 }
 
-// How many jobs of a level are done.
-pub(crate) fn done_of(level: usize, seen: &[Seen]) -> usize
-    ensures { result ≡ length (done_of level seen.now) }
+// The greatest response of a level, where a job of it is done.
+pub(crate) fn greatest_response(level: usize, seen: &[Seen]) -> Option<u64>
+    ensures { result ≡ greatest_response level seen.now }
 {
-    let mut jobs = 0;
-    for job in seen {
-        if is_done_of(level, job) {
-            jobs += 1;
-        }
-    }
-    jobs
-}
-
-// The greatest response of those.
-pub(crate) fn response_of(level: usize, seen: &[Seen]) -> u64
-    ensures { result ≡ greatest_of (λ s. s.lasted) (done_of level seen.now) }
-{
+    let mut done: usize = 0;
     let mut greatest = 0;
     for job in seen {
         if is_done_of(level, job) {
+            done += 1;
             greatest = greatest.max(job.lasted);
         }
     }
-    greatest
+    if done == 0 {
+        return None;
+    }
+    Some(greatest)
 }

@@ -1,9 +1,9 @@
 //! What a trace shows: a line for each task, and then the promises that are broken.
 ghost use Rattle.std.specs.Prelude.{◌≡◌, ◌++◌, OnOk, IfOk, string_bytes};
-ghost use Rattle.observed_lines.specs.Lines.{beside_words, cost_part, greatest_response, observed_lines, task_line, task_lines};
+ghost use Rattle.observed_lines.specs.Lines.{beside_words, observed_lines, task_line, task_lines};
 
 use crate::broken::push_all_broken;
-use crate::reached::{done_of, executed_of, gap_of, jobs_of, response_of};
+use crate::reached::{greatest_response, reached_of};
 use observed::{Promise, Seen};
 use std::alloc::{AllocError, Global};
 
@@ -18,33 +18,6 @@ fn push_beside(text: &mut String, time: Option<u64>, promised: u64) -> Result<()
     }
 }
 
-// The greatest response of a level, where a job of it is done.
-fn greatest_response(level: usize, seen: &[Seen]) -> Option<u64>
-    ensures { result ≡ greatest_response level seen.now }
-{
-    if done_of(level, seen) == 0 {
-        return None;
-    }
-    Some(response_of(level, seen))
-}
-
-// The jobs of a task at a level, their longest execution, and its cost.
-fn push_cost_part(
-    text: &mut String,
-    level: usize,
-    promise: &Promise,
-    seen: &[Seen],
-) -> Result<(), AllocError>
-    ensures { OnOk result (string_bytes text.new
-        ≡ string_bytes text.old ++ cost_part level promise.now seen.now) }
-{
-    let name = promise.name;
-    let jobs = jobs_of(level, seen);
-    let executed = executed_of(level, seen);
-    let cost = promise.cost;
-    write!(text, "task {name} {jobs} {executed} {cost}")
-}
-
 // The line of a task at a level.
 fn push_task(
     text: &mut String,
@@ -55,8 +28,13 @@ fn push_task(
     ensures { OnOk result (string_bytes text.new
         ≡ string_bytes text.old ++ task_line level promise.now seen.now) }
 {
-    push_cost_part(text, level, promise, seen)?;
-    push_beside(text, gap_of(level, seen), promise.period)?;
+    let reached = reached_of(level, seen);
+    let name = promise.name;
+    let jobs = reached.jobs;
+    let executed = reached.executed;
+    let cost = promise.cost;
+    write!(text, "task {name} {jobs} {executed} {cost}")?;
+    push_beside(text, reached.gap, promise.period)?;
     push_beside(text, greatest_response(level, seen), promise.bound)?;
     text.push_str("\n")
 }

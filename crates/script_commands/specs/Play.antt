@@ -24,8 +24,7 @@ Scripts known (Ok lines) = IsScript known lines.items
 Scripts known (Err (refusal.Script fault)) =
     (bytes : List ℕ) × IsReadFrom known bytes × IsFault fault (script_in bytes)
 Scripts known (Err (refusal.Input input.TooLong)) = IsTooLong known
-Scripts known (Err (refusal.Input input.ReadFailed)) = Unit {0}
-Scripts known (Err (refusal.Input input.OutOfMemory)) = Unit {0}
+Scripts known (Err (refusal.Input _)) = Unit {0}
 Scripts known _ = ⊥
 
 -- the script was refused, and nothing of it was played

@@ -15,6 +15,10 @@ use Rattle.std.specs.declared.alloc.Global.{Global}
 use Rattle.owners.specs.declared.owner.Owner.{Owner}
 use Rattle.answering.specs.Owning.{HasOwned}
 
+-- what is said of a reader, by what the call prefers: what the writer held, what it holds then, and the status
+abbrev pub OfOneSays : Type 1
+OfOneSays = Option Preference → Option (List ℕ) → (before after : Option (List ℕ)) → Status → Type 0
+
 -- the answer on what a reader has: its set and the placing of that, or why there is none
 abbrev pub Places : Option Preference → Option (List ℕ) → Result (List Task × Placing) CommandRefusal
     → Type 0
@@ -23,9 +27,7 @@ Places preference known (Ok placed) =
 Places preference known (Err r) = HasNoSet known r
 
 -- so much of the placing of what the reader had is printed after what the writer held, and the status is the answer's
-abbrev pub SaysPlacing :
-    OrderPart → Option Preference → Option (List ℕ) → (before after : Option (List ℕ)) → Status
-    → Type 0
+abbrev pub SaysPlacing : OrderPart → OfOneSays
 SaysPlacing part preference known before after s =
     Prints (Places preference known) (λ placed. placing_said part placed.0 placed.1)
     (λ placed. placing_status placed.1) before after s

@@ -8,6 +8,7 @@ use Rattle.assignment.specs.declared.verdict.Verdict.TheVariants.{Admitted, Infe
 use Rattle.certificate.specs.CertificateOf.{certificate_of}
 use Rattle.certificate.specs.Spelling.{spelling}
 use Rattle.answering.specs.Printed.{Prints}
+use Rattle.set_commands.specs.Admit.{OfOneSays}
 use Rattle.answering.specs.Sets.{HasNoSet, HasSet}
 use Rattle.answering.specs.declared.refusal.CommandRefusal.{CommandRefusal}
 use Rattle.answering.specs.declared.status.Status.{Status}
@@ -29,7 +30,6 @@ abbrev pub certificate_lines : Verdict → List ℕ
 certificate_lines v = spelling (certificate_of (verdict_set v) (verdict_of v))
 
 -- the answer on what the reader had is printed after what the writer held, and the status is the answer's
-abbrev pub SaysCertified :
-    Option Preference → Option (List ℕ) → (before after : Option (List ℕ)) → Status → Type 0
+abbrev pub SaysCertified : OfOneSays
 SaysCertified preference known before after s =
     Prints (Admits preference known) certificate_lines verdict_status before after s

@@ -1,5 +1,5 @@
 -- What `desk explain` answers and prints.
-use Rattle.std.specs.Prelude.{◌≡◌, ℕ, List, [], ◌++◌, Option, None, Result, Ok, Err}
+use Rattle.std.specs.Prelude.{◌≡◌, ℕ, List, [], ◌++◌, Option, Some, None, Result, Ok, Err}
 use Rattle.task_sheet.specs.declared.prefer.Preference.{Preference}
 use Rattle.task_sheet.specs.Sheet.{Task}
 use Rattle.assignment.specs.Placings.{IsPlacingOf}
@@ -7,6 +7,7 @@ use Rattle.assignment.specs.declared.placing.Placing.{Placing}
 use Rattle.assignment.specs.declared.placing.Placing.TheVariants.{Best, Stuck}
 use Rattle.explain.specs.Explanations.{Explains}
 use Rattle.explain.specs.Lines.{explanation_lines}
+use Rattle.explain.specs.TaskLines.{task_lines}
 use Rattle.explain.specs.declared.explanation.Explanation.{Explanation}
 use Rattle.judge.specs.Explained.{AreLevels}
 use Rattle.judge.specs.Judgements.{AllJudged, order_judged}
@@ -16,13 +17,12 @@ use Rattle.owners.specs.NamedLines.{named_lines}
 use Rattle.owners.specs.declared.owner.Owner.{Owner}
 use Rattle.owners.specs.declared.words.Naming.TheVariants.{Reasons}
 use Rattle.worst_lines.specs.Deciding.{IsDeciding}
-use Rattle.set_commands.specs.Admit.{Places}
+use Rattle.set_commands.specs.Admit.{OfOneSays, Places}
 use Rattle.answering.specs.Statuses.{placing_status}
 use Rattle.answering.specs.OrderParts.{placing_first}
 use Rattle.answering.specs.Printed.{Prints}
 use Rattle.answering.specs.Owning.{HasOwned}
 use Rattle.answering.specs.declared.refusal.CommandRefusal.{CommandRefusal}
-use Rattle.answering.specs.declared.status.Status.{Status}
 
 -- where no order passes, the text is the lines of each task in an order that decides, or of the one that is asked about: of
 -- one that misses its deadline what it needs there, with the parts; else it is nothing
@@ -48,19 +48,23 @@ AnswersExplained preference known (Ok e) =
     × Explains e.set e.placing e.explanation × AreDecided e.set None e.placing e.decided
 AnswersExplained preference known (Err r) = Places preference known (Err r)
 
--- what explains a placing, and the lines of an order that decides, each task with its team
-abbrev pub reasons_said : List Owner → List Task → Explanation → (decided : List ℕ) → List ℕ
-reasons_said owners U e decided =
-    named_lines Reasons owners (explanation_lines U e ++ decided)
+-- what explains a placing, or the lines of the task that is asked about in that
+abbrev pub asked_lines : List Task → Option ℕ → Explanation → List ℕ
+asked_lines U None e = explanation_lines U e
+asked_lines U (Some task) e = task_lines U task e
+
+-- that, and the lines of an order that decides, each task with its team
+abbrev pub reasons_said : List Owner → List Task → Option ℕ → Explanation → (decided : List ℕ) → List ℕ
+reasons_said owners U asked e decided =
+    named_lines Reasons owners (asked_lines U asked e ++ decided)
 
 -- what is printed of an explained placing: its first line, and then that
 abbrev pub explained_output : ExplainedData → List ℕ
 explained_output e =
-    placing_first e.set e.placing ++ reasons_said e.owners e.set e.explanation e.decided
+    placing_first e.set e.placing ++ reasons_said e.owners e.set None e.explanation e.decided
 
 -- the answer on what the reader had is printed after what the writer held, and the status is the answer's
-abbrev pub SaysExplained : Option Preference → Option (List ℕ) → (before after : Option (List ℕ)) → Status
-    → Type 0
+abbrev pub SaysExplained : OfOneSays
 SaysExplained preference known before after s =
     Prints (AnswersExplained preference known) explained_output (λ e. placing_status e.placing)
     before after s

@@ -7,7 +7,7 @@ use Rattle.assignment.specs.Placings.{IsPlacingOf}
 use Rattle.assignment.specs.declared.placing.Placing.{Placing}
 use Rattle.assignment.specs.declared.placing.Placing.TheVariants.{Best, Stuck}
 use Rattle.limit_lines.specs.Lines.{IsLast, order_in, places_in}
-use Rattle.set_commands.specs.Admit.{Places}
+use Rattle.set_commands.specs.Admit.{OfOneSays, Places}
 use Rattle.answering.specs.OrderParts.{placing_first}
 use Rattle.answering.specs.Printed.{Prints}
 use Rattle.answering.specs.Refusals.{refusal_line}
@@ -73,8 +73,7 @@ AnswersLimits preference known (Ok l) =
 AnswersLimits preference known (Err r) = Places preference known (Err r)
 
 -- the answer on what the reader had is printed after what the writer held, and the status is the answer's
-abbrev pub SaysLimits : Option Preference → Option (List ℕ) → (before after : Option (List ℕ)) → Status
-    → Type 0
+abbrev pub SaysLimits : OfOneSays
 SaysLimits preference known before after s =
     Prints (AnswersLimits preference known) (λ l. placing_first l.set l.placing ++ l.lines)
     (λ l. l.status) before after s

@@ -6,16 +6,13 @@ use Rattle.lines.specs.Words.{name_in}
 use Rattle.assignment.specs.Placings.{IsPlacingOf}
 use Rattle.assignment.specs.declared.placing.Placing.{Placing}
 use Rattle.explain.specs.Explanations.{Explains}
-use Rattle.explain.specs.TaskLines.{task_lines}
 use Rattle.explain.specs.declared.explanation.Explanation.{Explanation}
 use Rattle.limit_lines.specs.Lines.{AreTaskLines, places_in}
 use Rattle.worst_lines.specs.Lines.{AreWorstLines}
-use Rattle.owners.specs.NamedLines.{named_lines}
 use Rattle.owners.specs.declared.owner.Owner.{Owner}
-use Rattle.owners.specs.declared.words.Naming.TheVariants as naming
-use Rattle.set_commands.specs.Admit.{Places}
+use Rattle.set_commands.specs.Admit.{OfOneSays, Places}
 use Rattle.answering.specs.Statuses.{placing_status}
-use Rattle.set_commands.specs.Explain.{AreDecided, SaysExplained}
+use Rattle.set_commands.specs.Explain.{AreDecided, SaysExplained, reasons_said}
 use Rattle.set_commands.specs.Limits.{SaysLimits}
 use Rattle.answering.specs.OrderParts.{placing_first}
 use Rattle.answering.specs.Printed.{Prints}
@@ -28,11 +25,6 @@ use Rattle.answering.specs.declared.refusal.CommandRefusal.TheVariants as refusa
 use Rattle.answering.specs.declared.status.Status.{Status}
 use Rattle.answering.specs.Asked.{asked_task}
 
--- the lines of a task in an explanation, and those in an order that decides, each task with its team
-abbrev pub task_reasons : List Owner → List Task → ℕ → Explanation → (decided : List ℕ) → List ℕ
-task_reasons owners U task e decided =
-    named_lines naming.Reasons owners (task_lines U task e ++ decided)
-
 -- a text is what is said of a task of a placed set: how far its numbers may go, what explains its response, or that it has
 -- none, or its worst case
 abbrev pub AreLinesOf : TaskPart → List Owner → List Task → Placing → ℕ → List ℕ → Type 0
@@ -40,7 +32,7 @@ AreLinesOf Limits owners U placing task text = AreTaskLines U (places_in placing
 AreLinesOf Reasons owners U placing task text =
     (explanation : Explanation) × (decided : List ℕ) × Explains U placing explanation
     × AreDecided U (Some task) placing decided
-    × (text ≡ task_reasons owners U task explanation decided)
+    × (text ≡ reasons_said owners U (Some task) explanation decided)
 AreLinesOf Worst owners U placing task text = AreWorstLines U placing (Some task) text
 
 -- a set, whose its tasks are, its placing, and what is said of a task
@@ -72,31 +64,26 @@ abbrev pub task_said : TaskPart → OfTaskData → List ℕ
 task_said part d = first_said part d.set d.placing ++ d.lines
 
 -- the answer on what the reader had is printed after what the writer held, and the status is the answer's
-abbrev pub SaysTask : TaskPart → List ℕ → Option Preference → Option (List ℕ)
-    → (before after : Option (List ℕ)) → Status → Type 0
+abbrev pub SaysTask : TaskPart → List ℕ → OfOneSays
 SaysTask part word preference known before after s =
     Prints (AnswersOfTask part word preference known) (task_said part)
     (λ d. placing_status d.placing) before after s
 
 -- what is said of all tasks: how far their numbers may go, or what explains the placing; or the worst case of the one that the
 -- set's verdict is about
-abbrev pub SaysAll : TaskPart → Option Preference → Option (List ℕ)
-    → (before after : Option (List ℕ)) → Status → Type 0
-SaysAll Limits preference known before after s = SaysLimits preference known before after s
-SaysAll Reasons preference known before after s = SaysExplained preference known before after s
-SaysAll Worst preference known before after s = SaysWorst preference known before after s
+abbrev pub SaysAll : TaskPart → OfOneSays
+SaysAll Limits = SaysLimits
+SaysAll Reasons = SaysExplained
+SaysAll Worst = SaysWorst
 
 -- that, or what is said of the task that the words ask about
-abbrev pub SaysPart : TaskPart → Option (List ℕ) → Option Preference → Option (List ℕ)
-    → (before after : Option (List ℕ)) → Status → Type 0
-SaysPart part None preference known before after s = SaysAll part preference known before after s
-SaysPart part (Some word) preference known before after s =
-    SaysTask part word preference known before after s
+abbrev pub SaysPart : TaskPart → Option (List ℕ) → OfOneSays
+SaysPart part None = SaysAll part
+SaysPart part (Some word) = SaysTask part word
 
 -- this is said of each reader that has a set, whose tasks these have
 abbrev pub OfPlaced :
-    (Option Preference → Option (List ℕ) → (before after : Option (List ℕ)) → Status → Type 0)
-    → List Owner → List Task → (before after : Option (List ℕ)) → Status → Type 0
+    OfOneSays → List Owner → List Task → (before after : Option (List ℕ)) → Status → Type 0
 OfPlaced says owners U before after s =
     (preference : Option Preference) → (known : Option (List ℕ)) → HasOwned preference known U owners
     → says preference known before after s

@@ -4,11 +4,10 @@ use Rattle.task_sheet.specs.declared.prefer.Preference.{Preference}
 use Rattle.task_sheet.specs.Sheet.{Task}
 use Rattle.assignment.specs.declared.placing.Placing.{Placing}
 use Rattle.worst_lines.specs.Lines.{AreWorstLines}
-use Rattle.set_commands.specs.Admit.{Places}
+use Rattle.set_commands.specs.Admit.{OfOneSays, Places}
 use Rattle.answering.specs.Statuses.{placing_status}
 use Rattle.answering.specs.Printed.{Prints}
 use Rattle.answering.specs.declared.refusal.CommandRefusal.{CommandRefusal}
-use Rattle.answering.specs.declared.status.Status.{Status}
 
 -- a set, its placing, and the lines of a worst case
 pub record WorstData : Type 0 where
@@ -24,8 +23,7 @@ AnswersWorst preference known (Ok w) =
 AnswersWorst preference known (Err r) = Places preference known (Err r)
 
 -- the answer on what the reader had is printed after what the writer held, and the status is the answer's
-abbrev pub SaysWorst : Option Preference → Option (List ℕ) → (before after : Option (List ℕ)) → Status
-    → Type 0
+abbrev pub SaysWorst : OfOneSays
 SaysWorst preference known before after s =
     Prints (AnswersWorst preference known) (λ w. w.lines) (λ w. placing_status w.placing) before
     after s

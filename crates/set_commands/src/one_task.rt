@@ -1,15 +1,12 @@
 //! What is said of one task of a set, where the words ask about it.
-ghost use Rattle.std.specs.Prelude.{◌≡◌, ◌++◌, ◌<◌, ℕ, List, length, IfOk, option_map, Some, string_bytes};
+ghost use Rattle.std.specs.Prelude.{◌≡◌, ◌++◌, ◌<◌, length, IfOk, option_map, Some, string_bytes};
 ghost use Rattle.assignment.specs.Placings.{IsPlacingOf};
-ghost use Rattle.explain.specs.Explanations.{Explains};
-ghost use Rattle.explain.specs.declared.explanation.Explanation.{Explanation};
 ghost use Rattle.limit_lines.specs.Lines.{AreTaskLines, places_in};
 ghost use Rattle.worst_lines.specs.Lines.{AreWorstLines};
-ghost use Rattle.set_commands.specs.Explain.{AreDecided};
-ghost use Rattle.set_commands.specs.OneTask.{AreLinesOf, OfPlaced, SaysAll, SaysPart, SaysTask, first_said, task_reasons};
+ghost use Rattle.set_commands.specs.OneTask.{AreLinesOf, OfPlaced, SaysAll, SaysPart, SaysTask, first_said};
 ghost use Rattle.answering.specs.Outcomes.{IsSaidOn};
 
-use crate::explain_lines::{decided_text, explained_text};
+use crate::explain_lines::{explained_text, reasons_text};
 use crate::limits_lines::{order_of, print_placing};
 use answering::{
     OrderPart, Status, find_task, joined, no_such_task, placing_status, placing_text, print_bytes,
@@ -17,8 +14,7 @@ use answering::{
 };
 use assignment::Placing;
 use ceilings::{LockTable, Tabled};
-use explain::explain;
-use owners::{Naming, Owner, named_text};
+use owners::Owner;
 use std::alloc::{AllocError, Global};
 use std::io::Write;
 use streams::Watched;
@@ -57,31 +53,6 @@ fn limits_text(
     Ok(lines)
 }
 
-// What explains the response of a task, or that it has none.
-fn reasons_text(
-    alloc: Global,
-    owners: &[Owner],
-    set: &TaskSet,
-    placing: &Placing,
-    task: usize,
-) -> Result<Vec<u8>, AllocError>
-    requires { IsPlacingOf set.now placing.now }
-    ensures { IfOk result (λ text. (explanation : Explanation)
-        × (decided : List ℕ)
-        × Explains set.now placing.now explanation
-        × AreDecided set.now (Some task) placing.now decided
-        × (text.items ≡ task_reasons owners.now set.now task explanation decided)) }
-{
-    let table = LockTable::new(alloc, set)?;
-    let tabled = Tabled::of(set, &table);
-    let explanation = explain(alloc, &tabled, placing)?;
-    let decided = decided_text(alloc, &tabled, placing, Some(task))?;
-    let mut text = explain::task_text(alloc, set, &explanation, task)?;
-    text.push_str(decided.as_str())?;
-    let named = named_text(alloc, Naming::Reasons, owners, text.as_bytes())?;
-    Ok(named)
-}
-
 // The worst case of a task.
 fn case_text(
     alloc: Global,
@@ -114,7 +85,7 @@ fn part_text(
 {
     match part {
         TaskPart::Limits => limits_text(alloc, set, placing, task),
-        TaskPart::Reasons => reasons_text(alloc, owners, set, placing, task),
+        TaskPart::Reasons => reasons_text(alloc, owners, set, placing, Some(task)),
         TaskPart::Worst => case_text(alloc, set, placing, task),
     }
 }

@@ -10,14 +10,7 @@ use Rattle.answering.specs.declared.refusal.CommandRefusal.{CommandRefusal}
 use Rattle.answering.specs.declared.refusal.CommandRefusal.TheVariants as refusal
 use Rattle.two_input_commands.specs.declared.simulate.Simulated.{Simulated}
 
--- there is no run
-pub unrun : (options : Options) (U : List Task) (text : List ℕ) (r : CommandRefusal)
-    → SimulatesText U text (Err r) → DrawsText options U text (Err r)
-unrun options U text (refusal.NoSuchTask name) why = absurd why
-unrun options U text refusal.EmptyWindow why = absurd why
-unrun options U text _ why = why
-
--- or no view
+-- there is no view
 pub unseen : (options : Options) (U : List Task) (text : List ℕ) (answer : Simulated)
     (r : CommandRefusal) → SimulatesText U text (Ok answer) → AsksRows U (rows_word options) (Err r)
     → DrawsText options U text (Err r)

@@ -1,19 +1,19 @@
 -- What a trace shows in the order that settings give.
 use Rattle.std.proofs.Common.{◌≡◌, ◌<◌, ℕ, zero, suc, false, List, [], ◌∷◌, length, Result, Ok, All}
-use Rattle.std.proofs.Common.{refl, subst, arith}
+use Rattle.std.proofs.Common.{subst, arith}
 use Rattle.task_sheet.specs.Sheet.{Task}
 use Rattle.task_sheet.specs.Orders.{IsOrder}
 use Rattle.assignment.specs.Places.{PlaceData}
 use Rattle.judge.specs.Judgements.{AllJudged, judged_of, order_judged}
-use Rattle.judge.specs.Node.{AreNumbersOf, IsOrderOfRows}
+use Rattle.judge.specs.Node.{IsOrderOfRows}
 use Rattle.judge.specs.declared.judging.JudgedTask.{JudgedTask}
-use Rattle.judge.specs.declared.node.JudgedNode.{JudgedNode}
 use Rattle.judge.specs.declared.rows.SettingRow.{SettingRow}
 use Rattle.trace_text.specs.Faults.{IsTraceOf}
 use Rattle.trace_text.specs.declared.reading.TraceLines.{TraceLines}
 use Rattle.trace_text.specs.declared.rows.TraceRow.{TraceRow}
-use Rattle.two_input_commands.specs.Observe.{AreGiven, AreJudgedBy, IsNodeOf}
-use Rattle.two_input_commands.proofs.Ordered.{order_within}
+use Rattle.two_input_commands.specs.Observe.{AreGiven, AreJudgedBy}
+use Rattle.judge.proofs.TaskLaws.{in_set}
+use Rattle.two_input_commands.proofs.Ordered.{listed}
 
 -- the tasks of places are those of their order
 places_within : (n : ℕ) (places : List PlaceData) → All (λ k. k < n)
@@ -28,26 +28,14 @@ pub tasks_within : (U : List Task) (judged : List JudgedTask) (places : List Pla
     → All (λ (p : PlaceData). p.task < length U) places
 tasks_within U judged places each same =
     places_within (length U) places (subst (λ (js : List JudgedTask). All (λ k. k < length U)
-    (order_judged js)) same (order_within U (order_judged judged) each))
+    (order_judged js)) same (in_set U (order_judged judged) each))
 
 -- what becomes of each task in the order that some settings give
-judged_by : (U : List Task) (rows : List SettingRow) (judged : List JudgedTask) → 0 < length rows
-    → IsOrderOfRows false U rows (order_judged judged) → AllJudged U judged
+pub judged_by : (U : List Task) (rows : List SettingRow) (judged : List JudgedTask)
+    → 0 < length rows → IsOrderOfRows false U rows (order_judged judged) × AllJudged U judged
     → AreJudgedBy U (Ok rows) judged
-judged_by U [] judged some gives all = absurd (omega (arith, some))
-judged_by U (row ∷ rows) judged some gives all = record { order = gives; each = all }
-
-pub node_of : (U : List Task) (rows : List SettingRow) (node : JudgedNode) → 0 < length rows
-    → IsOrderOfRows false U rows (order_judged node.judged.items) × AllJudged U node.judged.items
-    → AreNumbersOf U rows (order_judged node.judged.items) node.numbers.items
-    → IsNodeOf U (Ok rows) node
-node_of U rows node some is numbers = record {
-  judged =
-      judged_by U rows node.judged.items some is.0 is.1;
-  rows = rows;
-  read = refl;
-  numbers = numbers;
-}
+judged_by U rows judged some is =
+    record { order = listed U rows (order_judged judged) some is.0; each = is.1 }
 
 -- where all tasks meet their deadlines
 pub given : (U : List Task) (rows : List SettingRow) (found : Result (List TraceRow) ℕ)
@@ -55,9 +43,8 @@ pub given : (U : List Task) (rows : List SettingRow) (found : Result (List Trace
     → IsTraceOf found trace
     → IsOrderOfRows false U rows (order_judged judged) × AllJudged U judged
     → judged ≡ judged_of places → AreGiven U (Ok rows) found places trace
-given U rows found trace judged places some read is same =
-    record {
-      judged = subst (λ (js : List JudgedTask). AreJudgedBy U (Ok rows) js) same
-          (judged_by U rows judged some is.0 is.1);
-      read = read;
-    }
+given U rows found trace judged places some read is same = record {
+  judged = subst (λ (js : List JudgedTask). AreJudgedBy U (Ok rows) js) same
+      (judged_by U rows judged some is);
+  read = read;
+}

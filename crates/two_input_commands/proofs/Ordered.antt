@@ -1,18 +1,15 @@
 -- Runs in an order that a release list gives.
 use Rattle.std.specs.Prelude.{IfOk}
-use Rattle.std.proofs.Common.{◌≡◌, ◌∙◌, ◌<◌, ℕ, false, List, [], ◌∷◌, length, Result, Ok, Err, inl}
-use Rattle.std.proofs.Common.{inr, All, refl, sym, ap, ap₂, subst, arith}
+use Rattle.std.proofs.Common.{◌≡◌, ◌∙◌, ◌<◌, ℕ, false, List, [], ◌∷◌, length, Result, Ok, Err, inr}
+use Rattle.std.proofs.Common.{refl, sym, ap, ap₂, subst, arith}
 use Rattle.task_sheet.specs.Sheet.{Task}
 use Rattle.task_sheet.specs.TaskSet.{IsTaskSet}
 use Rattle.task_sheet.specs.Indexes.{among}
 use Rattle.task_sheet.specs.Orders.{IsOrder}
-use Rattle.assignment.specs.Places.{PlaceData}
-use Rattle.assignment.specs.Placings.{IsBestPlacing, tasks_of_places}
 use Rattle.ceiling_kernel.specs.Runs.{Runs}
 use Rattle.ceiling_kernel.specs.Tick.{node_in}
 use Rattle.ceiling_kernel.specs.declared.trace.Release.{Release}
 use Rattle.ceiling_kernel.specs.declared.trace.Trace.{Trace}
-use Rattle.ceiling_kernel.proofs.OrderLaws.{order_iff}
 use Rattle.judge.specs.Faults.{IsSettingsFault, rows_fault}
 use Rattle.judge.specs.Node.{IsOrderOfRows}
 use Rattle.judge.specs.Judgements.{AllJudged, IsJudgementOf, order_judged}
@@ -22,14 +19,13 @@ use Rattle.judge.specs.declared.judging.Judgement.TheVariants.{Meets, Misses, Be
 use Rattle.judge.specs.declared.rows.SettingRow.{SettingRow}
 use Rattle.run_lines.specs.TaskBounds.{AreBounds, IsBoundBelow, tasks_of_bounds}
 use Rattle.run_lines.proofs.ResponseLaws.{all_kept}
-use Rattle.two_input_commands.specs.Simulate.{IsInOrder, IsOrderedRun, IsSimulated, RunsOrder}
+use Rattle.two_input_commands.specs.Simulate.{IsInOrder, IsListedOrder, IsOrderedRun, RunsOrder}
 use Rattle.two_input_commands.specs.Simulate.{SimulatesIn, SimulatesRead, bound_judged}
 use Rattle.two_input_commands.specs.Simulate.{bounds_judged, order_fault}
 use Rattle.answering.specs.declared.refusal.CommandRefusal.{CommandRefusal}
 use Rattle.answering.specs.declared.refusal.CommandRefusal.TheVariants as refusal
 use Rattle.two_input_commands.specs.declared.simulate.Simulated.{Simulated}
-use Rattle.two_input_commands.specs.declared.simulate.Simulated.TheVariants.{Infeasible, Ordered}
-use Rattle.two_input_commands.specs.declared.simulate.Simulated.TheVariants.{Ran}
+use Rattle.two_input_commands.specs.declared.simulate.Simulated.TheVariants.{Ordered, Ran}
 
 -- ---- bounds
 pub tasks_same : (judged : List JudgedTask)
@@ -51,11 +47,6 @@ are_bounds U (j ∷ above) all = (
   are_bounds U above all.1,
 )
 
--- the tasks of an order are tasks of the set
-pub order_within : (U : List Task) (order : List ℕ) → IsOrder U order
-    → All (λ k. k < length U) order
-order_within U order each = ((order_iff (length U) order).1 each).0
-
 -- a run of an order that was judged
 pub ordered_run : (U : List Task) (judged : List JudgedTask) (order : List ℕ) (rs : List Release)
     (until : ℕ) (trace : Trace) → IsTaskSet U → IsOrder U order → order_judged judged ≡ order
@@ -71,54 +62,40 @@ ordered_run U judged order rs until trace set each same all runs =
       tighter = (subst (λ (o : List ℕ). RunsOrder U o rs until (Ok trace)) (sym same) runs).1;
     }
 
--- ---- refusals
--- a list that isn't run in the best order
-pub stopped : (U : List Task) (places : List PlaceData) (until : ℕ) (rs : List Release)
-    (r : CommandRefusal) → IsBestPlacing U places
-    → RunsOrder U (tasks_of_places places) rs until (Err r)
-    → SimulatesRead U (Ok []) (Ok (until, rs)) (Err r)
-stopped U places until rs (refusal.Run fault) best runs =
-    inl (refl, (places, until, rs, best, refl, runs.0, runs.1 best.best.passing))
-stopped U places until rs refusal.OutOfMemory best runs = tt
-stopped U places until rs _ best runs = absurd runs
-
+-- ---- the order that settings give
 -- settings that give no order
 pub no_order : (U : List Task) (e : SettingsFault) (rows : List SettingRow) → 0 < length rows
     → IsSettingsFault e (rows_fault false U (Ok rows)) → IsSettingsFault e (order_fault U (Ok rows))
 no_order U e [] some is = absurd (omega arith)
 no_order U e (row ∷ rows) some is = is
 
--- ---- the order that settings give
+-- settings that give one
+pub listed : (U : List Task) (rows : List SettingRow) (order : List ℕ) → 0 < length rows
+    → IsOrderOfRows false U rows order → IsListedOrder U (Ok rows) order
+listed U [] order some gives = absurd (omega arith)
+listed U (row ∷ rows) order some gives = gives
+
 pub in_order : (U : List Task) (order : List ℕ) (rows : List SettingRow) (until : ℕ)
     (rs : List Release) (answer : Result Simulated CommandRefusal) → 0 < length rows
     → IsOrderOfRows false U rows order → SimulatesIn U order until rs answer
     → SimulatesRead U (Ok rows) (Ok (until, rs)) answer
-in_order U order [] until rs answer some gives said = absurd (omega arith)
-in_order U order (row ∷ rows) until rs (Ok (Ordered run)) some gives said = (
-  subst (λ (o : List ℕ). IsOrderOfRows false U (row ∷ rows) o) (sym said.0) gives,
+in_order U order rows until rs (Ok (Ordered run)) some gives said = (
+  subst (λ (o : List ℕ). IsListedOrder U (Ok rows) o) (sym said.0)
+      (listed U rows order some gives),
   said.1,
   ap₂ (λ (n : ℕ) (releases : List Release). Ok (n, releases)) (sym said.2) (sym said.3),
   said.4,
 )
-in_order U order (row ∷ rows) until rs (Ok (Infeasible left)) some gives said = absurd said
-in_order U order (row ∷ rows) until rs (Ok (Ran run)) some gives said = absurd said
-in_order U order (row ∷ rows) until rs (Err (refusal.Run fault)) some gives said =
-    inr (order, until, rs, gives, refl, said)
-in_order U order (row ∷ rows) until rs (Err refusal.OutOfMemory) some gives said = tt
-in_order U order (row ∷ rows) until rs (Err _) some gives said = absurd said
+in_order U order rows until rs (Err (refusal.Run fault)) some gives said =
+    inr (order, until, rs, listed U rows order some gives, refl, said)
+in_order U order rows until rs (Err refusal.OutOfMemory) some gives said = tt
+in_order U order rows until rs _ some gives said = absurd said
 
 -- what comes of a set is a run in an order of it
-in_order_of : (U : List Task) (settings : Result (List SettingRow) ℕ)
-    (list : Result (ℕ × List Release) ℕ) (answer : Simulated) → IsSimulated U settings list answer
-    → IsInOrder U answer
-in_order_of U settings list (Ran run) said = said.1.best.passing.each_once
-in_order_of U settings list (Infeasible left) said = tt
-in_order_of U (Ok []) list (Ordered run) said = absurd said.0
-in_order_of U (Ok (row ∷ rows)) list (Ordered run) said = said.0.by_numbers.each_once
-in_order_of U (Err line) list (Ordered run) said = absurd said.0
-
 pub in_order_ok : (U : List Task) (settings : Result (List SettingRow) ℕ)
     (list : Result (ℕ × List Release) ℕ) (answer : Result Simulated CommandRefusal)
     → SimulatesRead U settings list answer → IfOk answer (λ found. IsInOrder U found)
-in_order_ok U settings list (Ok found) said = in_order_of U settings list found said
-in_order_ok U settings list (Err r) said = tt
+in_order_ok U settings list (Ok (Ran run)) said = said.1.best.passing.each_once
+in_order_ok U (Ok (row ∷ rows)) list (Ok (Ordered run)) said = said.0.by_numbers.each_once
+in_order_ok U _ list (Ok (Ordered run)) said = absurd said.0
+in_order_ok U settings list _ said = tt

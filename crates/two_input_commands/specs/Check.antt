@@ -1,6 +1,5 @@
 -- What `desk check` answers and prints.
-use Rattle.std.specs.Prelude.{◌≡◌, ℕ, List, codes, Option, Some, Result, Ok, Err}
-use Rattle.task_sheet.specs.declared.prefer.Preference.{Preference}
+use Rattle.std.specs.Prelude.{◌≡◌, ℕ, List, codes, Some, Result, Ok, Err}
 use Rattle.task_sheet.specs.Sheet.{Task}
 use Rattle.task_sheet.specs.Orders.{IsBest, IsFeasible}
 use Rattle.certificate.specs.Body.{Cert}
@@ -11,10 +10,10 @@ use Rattle.cert_checker.specs.Answers.{kind_of, order_in}
 use Rattle.cert_checker.specs.declared.checking.Checked.{Checked}
 use Rattle.cert_checker.specs.declared.checking.Checked.TheVariants.{Best, NoOrder}
 use Rattle.answering.specs.Printed.{Prints}
+use Rattle.two_input_commands.specs.OnBoth.{OfTwoSays}
 use Rattle.answering.specs.Sets.{OnBoth}
 use Rattle.answering.specs.declared.refusal.CommandRefusal.{CommandRefusal}
 use Rattle.answering.specs.declared.refusal.CommandRefusal.TheVariants as refusal
-use Rattle.answering.specs.declared.status.Status.{Status}
 use Rattle.answering.specs.declared.status.Status.TheVariants as status
 
 -- the order of the certificate is the best, or no order passes
@@ -33,19 +32,13 @@ ChecksText U text (Err (refusal.Check fault)) =
 ChecksText U text (Err refusal.OutOfMemory) = Unit {0}
 ChecksText U text _ = ⊥
 
--- the answer on what the readers have of a set and of a certificate
-abbrev pub Checks : Option Preference → Option (List ℕ) → Option (List ℕ) → Result Checked CommandRefusal
-    → Type 0
-Checks preference set certificate answer = OnBoth ChecksText preference set certificate answer
-
 -- the line of what a certificate shows
 abbrev pub checked_line : Checked → List ℕ
 checked_line Best = codes "best\n"
 checked_line NoOrder = codes "no order\n"
 
 -- the answer on what the readers had is printed after what the writer held, and the status is the answer's
-abbrev pub SaysChecked :
-    Option Preference → (set certificate : Option (List ℕ)) → (before after : Option (List ℕ)) → Status
-    → Type 0
+abbrev pub SaysChecked : OfTwoSays
 SaysChecked preference set certificate before after s =
-    Prints (Checks preference set certificate) checked_line (λ _. status.Done) before after s
+    Prints (OnBoth ChecksText preference set certificate) checked_line (λ _. status.Done) before
+    after s

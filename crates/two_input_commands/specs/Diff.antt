@@ -16,13 +16,10 @@ use Rattle.assignment.specs.declared.placing.Placing.{Placing}
 use Rattle.diff.specs.Lines.{change_lines}
 use Rattle.answering.specs.Statuses.{placing_status}
 use Rattle.answering.specs.OrderParts.{placing_first}
-use Rattle.answering.specs.Printed.{Prints}
-use Rattle.answering.specs.Owning.{HaveOwned}
-use Rattle.answering.specs.Sets.{OnBoth}
+use Rattle.two_input_commands.specs.OnBoth.{OfTwoSays, SaysOnBothOwned}
 use Rattle.two_input_commands.specs.declared.diff_lines.Compared.{Compared}
 use Rattle.answering.specs.declared.refusal.CommandRefusal.{CommandRefusal}
 use Rattle.answering.specs.declared.refusal.CommandRefusal.TheVariants as refusal
-use Rattle.answering.specs.declared.status.Status.{Status}
 
 -- weights are the sheets' own
 abbrev pub does_weigh : Preference → Bool
@@ -49,20 +46,6 @@ ComparesText preference U text (Err (refusal.New fault)) = ReadsText text (Err f
 ComparesText preference U text (Err refusal.OutOfMemory) = Unit {0}
 ComparesText preference U text _ = ⊥
 
--- a set, whose its tasks are, and what becomes of it and of the new one
-pub record ComparedData : Type 0 where
-  pub set : List Task
-  pub owners : List Owner
-  pub compared : Compared
-
--- the answer on what the readers have of the two
-abbrev pub Compares : Option Preference → Option (List ℕ) → Option (List ℕ)
-    → Result ComparedData CommandRefusal → Type 0
-Compares preference set other (Ok d) =
-    (text : List ℕ) × HaveOwned preference set other d.set d.owners text
-    × ComparesText preference d.set text (Ok d.compared)
-Compares preference set other (Err r) = OnBoth (ComparesText preference) preference set other (Err r)
-
 -- what becomes of the new set, and what became of the old one
 abbrev pub both_lines : List Task → Placing → List Task → Placing → List ℕ
 both_lines U P V Q = placing_first V Q ++ codes "was " ++ placing_first U P
@@ -74,9 +57,6 @@ compared_lines owners U c =
     ++ named_lines Changes (c.owners.items ++ owners) (change_lines c.weighs U c.was c.set c.is)
 
 -- the answer on what the readers had is printed after what the writer held, and the status is that of the new set
-abbrev pub SaysCompared :
-    Option Preference → (set other : Option (List ℕ)) → (before after : Option (List ℕ)) → Status
-    → Type 0
-SaysCompared preference set other before after s =
-    Prints (Compares preference set other) (λ d. compared_lines d.owners d.set d.compared)
-    (λ d. placing_status d.compared.is) before after s
+abbrev pub SaysCompared : OfTwoSays
+SaysCompared preference =
+    SaysOnBothOwned (ComparesText preference) compared_lines (λ c. placing_status c.is) preference

@@ -1,6 +1,5 @@
 -- What `desk draw` answers and prints: the answer of `desk simulate`, as a picture.
-use Rattle.std.specs.Prelude.{◌≡◌, ℕ, true, false, List, length, Option, Result, Ok, Err}
-use Rattle.task_sheet.specs.declared.prefer.Preference.{Preference}
+use Rattle.std.specs.Prelude.{◌≡◌, ℕ, true, false, List, length, Result, Ok, Err}
 use Rattle.task_sheet.specs.Sheet.{Task}
 use Rattle.task_sheet.specs.Indexes.{indexes_of, listed_below}
 use Rattle.ceiling_kernel.specs.declared.trace.Release.{Release}
@@ -12,8 +11,7 @@ use Rattle.run_lines.specs.TaskBounds.{bounds_of}
 use Rattle.run_lines.specs.declared.bounds.TaskBound.{TaskBound}
 use Rattle.drawn_runs.specs.Rows.{rows_of}
 use Rattle.answering.specs.Lines.{infeasible_line}
-use Rattle.answering.specs.Printed.{Prints}
-use Rattle.answering.specs.Sets.{HaveBoth, OnBoth}
+use Rattle.two_input_commands.specs.OnBoth.{OfTwoSays, SaysOnBoth}
 use Rattle.two_input_commands.specs.Simulate.{SimulatesText, bounds_judged, simulation_status}
 use Rattle.two_input_commands.specs.View.{AsksRows, IsViewOf, is_unseen, rows_word}
 use Rattle.two_input_commands.specs.declared.draw.Drawing.{Drawing}
@@ -21,7 +19,6 @@ use Rattle.answering.specs.declared.refusal.CommandRefusal.{CommandRefusal}
 use Rattle.answering.specs.declared.refusal.CommandRefusal.TheVariants as refusal
 use Rattle.two_input_commands.specs.declared.simulate.Simulated.{Simulated}
 use Rattle.two_input_commands.specs.declared.simulate.Simulated.TheVariants.{Infeasible, Ordered, Ran}
-use Rattle.answering.specs.declared.status.Status.{Status}
 
 -- the picture of a run in an order of a set, as a view has it
 abbrev pub picture_of : List Task → List TaskBound → View → ℕ → List Release → Trace → List ℕ
@@ -53,18 +50,7 @@ DrawsText options U text (Err refusal.EmptyWindow) =
     × (is_unseen v answer ≡ true)
 DrawsText options U text (Err r) = SimulatesText U text (Err r)
 
--- the answer on what the readers have of a set and of a release list, with the set
-abbrev pub Draws : Options → Option Preference → (set releases : Option (List ℕ))
-    → Result (List Task × Drawing) CommandRefusal → Type 0
-Draws options preference set releases (Ok found) =
-    (text : List ℕ) × HaveBoth preference set releases found.0 text
-    × DrawsText options found.0 text (Ok found.1)
-Draws options preference set releases (Err r) =
-    OnBoth (DrawsText options) preference set releases (Err r)
-
 -- it is printed as a picture after what the writer held, and the status is that of `desk simulate`
-abbrev pub SaysDrawn : Options → Option Preference → (set releases : Option (List ℕ))
-    → (before after : Option (List ℕ)) → Status → Type 0
-SaysDrawn options preference set releases before after s =
-    Prints (Draws options preference set releases) (λ found. drawing_said found.0 found.1)
-    (λ found. simulation_status found.1.answer) before after s
+abbrev pub SaysDrawn : Options → OfTwoSays
+SaysDrawn options =
+    SaysOnBoth (DrawsText options) drawing_said (λ d. simulation_status d.answer)

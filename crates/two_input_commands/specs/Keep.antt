@@ -1,6 +1,5 @@
 -- What `desk settings SET --keep SETTINGS` answers and prints.
-use Rattle.std.specs.Prelude.{ℕ, List, ◌++◌, length, codes, Option, Result, Ok, Err}
-use Rattle.task_sheet.specs.declared.prefer.Preference.{Preference}
+use Rattle.std.specs.Prelude.{ℕ, List, ◌++◌, length, codes, Result, Ok, Err}
 use Rattle.task_sheet.specs.Sheet.{Task}
 use Rattle.task_sheet.specs.Indexes.{indexes_of, listed_below}
 use Rattle.task_sheet.specs.Orders.{IsOrder}
@@ -13,8 +12,7 @@ use Rattle.settings.specs.Settings.{settings_from}
 use Rattle.judge.specs.Faults.{IsSettingsFault}
 use Rattle.judge.specs.Kept.{IsKeptOrder, kept_fault}
 use Rattle.answering.specs.Lines.{infeasible_line}
-use Rattle.answering.specs.Printed.{Prints}
-use Rattle.answering.specs.Sets.{HaveBoth, OnBoth}
+use Rattle.two_input_commands.specs.OnBoth.{OfTwoSays, SaysOnBoth}
 use Rattle.answering.specs.declared.refusal.CommandRefusal.{CommandRefusal}
 use Rattle.answering.specs.declared.refusal.CommandRefusal.TheVariants as refusal
 use Rattle.answering.specs.declared.status.Status.{Status}
@@ -26,14 +24,6 @@ KeepsText U text (Ok keeping) = (kept : List ℕ) × IsKeptOrder U text kept × 
 KeepsText U text (Err (refusal.Settings fault)) = IsSettingsFault fault (kept_fault text)
 KeepsText U text (Err refusal.OutOfMemory) = Unit {0}
 KeepsText U text _ = ⊥
-
--- the answer on what the readers have of a set and of settings, with the set
-abbrev pub KeepsOrder : Option Preference → Option (List ℕ) → Option (List ℕ)
-    → Result (List Task × Keeping) CommandRefusal → Type 0
-KeepsOrder preference set settings (Ok found) =
-    (text : List ℕ) × HaveBoth preference set settings found.0 text
-    × KeepsText found.0 text (Ok found.1)
-KeepsOrder preference set settings (Err r) = OnBoth KeepsText preference set settings (Err r)
 
 -- the pair that has to change
 abbrev pub parted_line : List Task → (low high : ℕ) → List ℕ
@@ -59,9 +49,6 @@ IsKeptIn U (Kept places) = IsOrder U (tasks_of_places places.items)
 IsKeptIn U _ = Unit {0}
 
 -- the answer on what the readers had is printed after what the writer held, and the status is the answer's
-abbrev pub SaysKeeping :
-    (base : ℕ) → Option Preference → (set settings : Option (List ℕ)) → (before after : Option (List ℕ)) → Status
-    → Type 0
-SaysKeeping base preference set settings before after s =
-    Prints (KeepsOrder preference set settings) (λ found. keeping_lines found.0 base found.1)
-    (λ found. keeping_status found.1) before after s
+abbrev pub SaysKeeping : (base : ℕ) → OfTwoSays
+SaysKeeping base =
+    SaysOnBoth KeepsText (λ U keeping. keeping_lines U base keeping) keeping_status

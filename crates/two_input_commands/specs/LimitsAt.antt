@@ -1,6 +1,5 @@
 -- What `desk limits SET --at SETTINGS` answers and prints.
 use Rattle.std.specs.Prelude.{◌≡◌, ℕ, Bool, true, false, List, ◌++◌, length, Option, Some, None, Result, Ok, Err, string_bytes}
-use Rattle.task_sheet.specs.declared.prefer.Preference.{Preference}
 use Rattle.task_sheet.specs.Sheet.{Task}
 use Rattle.assignment.specs.Places.{PlaceData}
 use Rattle.judge.specs.Judgements.{all_meet, judged_of}
@@ -10,11 +9,9 @@ use Rattle.limit_lines.specs.Lines.{AreTaskLines, IsLast}
 use Rattle.two_input_commands.specs.InOrder.{AsksIn}
 use Rattle.two_input_commands.specs.Judge.{judged_status}
 use Rattle.answering.specs.LimitLines.{AreLines}
-use Rattle.answering.specs.Printed.{Prints}
-use Rattle.answering.specs.Sets.{HaveBoth, OnBoth}
+use Rattle.two_input_commands.specs.OnBoth.{OfTwoSays, SaysOnBoth}
 use Rattle.two_input_commands.specs.declared.in_order.InOrder.{InOrder}
 use Rattle.answering.specs.declared.refusal.CommandRefusal.{CommandRefusal}
-use Rattle.answering.specs.declared.status.Status.{Status}
 
 -- the text is the lines of the task that is asked about; else those of each task, by rank, and that of the factors
 abbrev pub AreLimitsOf : List Task → Option (List PlaceData) → (asked : Option ℕ) → List ℕ → Type 0
@@ -51,19 +48,8 @@ LimitsText word U text (Ok found) =
     × IsLimitsText U found.node asked (string_bytes found.text)
 LimitsText word U text (Err r) = AsksIn word U text (Err r)
 
--- the answer on what the readers have of a set and of settings, with the set
-abbrev pub LimitsAt : Option (List ℕ) → Option Preference → (set settings : Option (List ℕ))
-    → Result (List Task × InOrder) CommandRefusal → Type 0
-LimitsAt word preference set settings (Ok found) =
-    (text : List ℕ) × HaveBoth preference set settings found.0 text
-    × LimitsText word found.0 text (Ok found.1)
-LimitsAt word preference set settings (Err r) =
-    OnBoth (LimitsText word) preference set settings (Err r)
-
 -- the answer on what the readers had is printed after what the writer held, and the status is the answer's
-abbrev pub SaysLimitsAt :
-    Option (List ℕ) → Option Preference → (set settings : Option (List ℕ)) → (before after : Option (List ℕ)) → Status
-    → Type 0
-SaysLimitsAt word preference set settings before after s =
-    Prints (LimitsAt word preference set settings) (λ found. string_bytes found.1.text)
-    (λ found. judged_status found.1.node.judged.items) before after s
+abbrev pub SaysLimitsAt : Option (List ℕ) → OfTwoSays
+SaysLimitsAt word =
+    SaysOnBoth (LimitsText word) (λ _ found. string_bytes found.text)
+    (λ found. judged_status found.node.judged.items)

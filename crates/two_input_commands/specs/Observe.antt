@@ -1,6 +1,5 @@
 -- What `desk observe` answers and prints.
-use Rattle.std.specs.Prelude.{◌≡◌, ◌⊎◌, ℕ, ◌<◌, false, List, [], length, All, Option, None, Result, Ok, Err, unwrap_or, if◌then◌else◌}
-use Rattle.task_sheet.specs.declared.prefer.Preference.{Preference}
+use Rattle.std.specs.Prelude.{◌≡◌, ◌⊎◌, ℕ, ◌<◌, false, List, [], length, All, None, Result, Ok, Err, unwrap_or, if◌then◌else◌}
 use Rattle.task_sheet.specs.declared.set.TheConstants.{TASK_LIMIT}
 use Rattle.task_sheet.specs.Sheet.{Task}
 use Rattle.task_sheet.specs.Indexes.{indexes_of, listed_below}
@@ -30,8 +29,7 @@ use Rattle.observed_lines.specs.Breaks.{is_kept}
 use Rattle.observed_lines.specs.Lines.{observed_lines}
 use Rattle.two_input_commands.specs.Judge.{judged_status}
 use Rattle.answering.specs.Lines.{infeasible_line}
-use Rattle.answering.specs.Printed.{Prints}
-use Rattle.answering.specs.Sets.{HaveBoth, OnBoth}
+use Rattle.two_input_commands.specs.OnBoth.{OfTwoSays, SaysOnBoth}
 use Rattle.two_input_commands.specs.Simulate.{IsListedOrder, order_fault}
 use Rattle.two_input_commands.specs.declared.observe_lines.Observation.{Observation}
 use Rattle.two_input_commands.specs.declared.observe_lines.Observation.TheVariants.{Best, Ordered, Missed}
@@ -112,14 +110,6 @@ IsObservationOf (Best sight) = Unit {0}
 IsObservationOf (Ordered observed) = Unit {0}
 IsObservationOf (Missed node) = All (λ j. j.task < TASK_LIMIT) node.judged.items
 
--- the answer on what the readers have of a set and of a trace, with the set
-abbrev pub Observes : Option Preference → Option (List ℕ) → Option (List ℕ)
-    → Result (List Task × Observation) CommandRefusal → Type 0
-Observes preference set trace (Ok answer) =
-    (text : List ℕ) × HaveBoth preference set trace answer.0 text
-    × ObservesText answer.0 text (Ok answer.1)
-Observes preference set trace (Err r) = OnBoth ObservesText preference set trace (Err r)
-
 -- what is printed of what a trace shows of a set in its best order
 abbrev pub sight_said : ℕ → List Task → Sight → List ℕ
 sight_said tolerance U (Infeasible members) =
@@ -150,9 +140,7 @@ observation_status tolerance (Ordered shown) = observed_status tolerance shown.s
 observation_status tolerance (Missed node) = judged_status node.judged.items
 
 -- the answer on what the readers had is printed after what the writer held, and the status is the answer's
-abbrev pub SaysObserved :
-    ℕ → Option Preference → (set trace : Option (List ℕ)) → (before after : Option (List ℕ))
-    → Status → Type 0
-SaysObserved tolerance preference set trace before after s =
-    Prints (Observes preference set trace) (λ found. observation_said tolerance found.0 found.1)
-    (λ found. observation_status tolerance found.1) before after s
+abbrev pub SaysObserved : (tolerance : ℕ) → OfTwoSays
+SaysObserved tolerance =
+    SaysOnBoth ObservesText (λ U shown. observation_said tolerance U shown)
+    (λ shown. observation_status tolerance shown)

@@ -1,6 +1,5 @@
 -- What `desk simulate` answers and prints.
 use Rattle.std.specs.Prelude.{◌≡◌, ◌⊎◌, ℕ, ◌+◌, Bool, true, false, List, [], ◌∷◌, length, map, Option, Some, None, Result, Ok, Err}
-use Rattle.task_sheet.specs.declared.prefer.Preference.{Preference}
 use Rattle.task_sheet.specs.Sheet.{Task}
 use Rattle.task_sheet.specs.Indexes.{indexes_of, listed_below}
 use Rattle.task_sheet.specs.Levels.{IsGreatestObstruction}
@@ -29,8 +28,7 @@ use Rattle.run_lines.specs.TaskBounds.{bounds_of}
 use Rattle.run_lines.specs.declared.bounds.TaskBound.{TaskBound}
 use Rattle.printed_runs.specs.TraceLines.{trace_lines}
 use Rattle.answering.specs.Lines.{infeasible_line}
-use Rattle.answering.specs.Printed.{Prints}
-use Rattle.answering.specs.Sets.{HaveBoth, OnBoth}
+use Rattle.two_input_commands.specs.OnBoth.{OfTwoSays, SaysOnBoth}
 use Rattle.answering.specs.declared.refusal.CommandRefusal.{CommandRefusal}
 use Rattle.answering.specs.declared.refusal.CommandRefusal.TheVariants as refusal
 use Rattle.two_input_commands.specs.declared.simulate.Simulated.{Simulated}
@@ -152,14 +150,6 @@ SimulatesRead U settings list _ = ⊥
 abbrev pub SimulatesText : List Task → List ℕ → Result Simulated CommandRefusal → Type 0
 SimulatesText U text answer = SimulatesRead U (settings_in text) (list_in text) answer
 
--- the answer on what the readers have of a set and of a release list, with the set
-abbrev pub Simulates : Option Preference → Option (List ℕ) → Option (List ℕ)
-    → Result (List Task × Simulated) CommandRefusal → Type 0
-Simulates preference set releases (Ok answer) =
-    (text : List ℕ) × HaveBoth preference set releases answer.0 text
-    × SimulatesText answer.0 text (Ok answer.1)
-Simulates preference set releases (Err r) = OnBoth SimulatesText preference set releases (Err r)
-
 -- what is printed of what came of a set
 abbrev pub simulation_said : List Task → Simulated → List ℕ
 simulation_said U (Ran run) = trace_lines run.trace
@@ -171,14 +161,6 @@ abbrev pub simulation_status : Simulated → Status
 simulation_status (Ran run) = status.Done
 simulation_status (Ordered run) = status.Done
 simulation_status (Infeasible left) = status.Infeasible
-
--- the answer on what the readers had is printed by a rule after what the writer held, and the status is the answer's
-abbrev pub SaysRun : (List Task → Simulated → List ℕ)
-    → Option Preference → (set releases : Option (List ℕ)) → (before after : Option (List ℕ)) → Status
-    → Type 0
-SaysRun said preference set releases before after s =
-    Prints (Simulates preference set releases) (λ found. said found.0 found.1)
-    (λ found. simulation_status found.1) before after s
 
 -- what is printed of what came of a set, by task: a line for each, the lowest level first
 abbrev pub reached_said : List Task → Simulated → List ℕ
@@ -192,13 +174,12 @@ IsInOrder U (Ran run) = IsOrder U (tasks_of_places run.places.items)
 IsInOrder U (Ordered run) = IsOrder U (order_judged run.judged.items)
 IsInOrder U (Infeasible left) = Unit {0}
 
--- it is printed as the lines of a trace
-abbrev pub SaysSimulated : Option Preference → (set releases : Option (List ℕ))
-    → (before after : Option (List ℕ)) → Status → Type 0
-SaysSimulated = SaysRun simulation_said
+-- the answer on what the readers had is printed as the lines of a trace after what the writer held, and the status is the
+-- answer's
+abbrev pub SaysSimulated : OfTwoSays
+SaysSimulated = SaysOnBoth SimulatesText simulation_said simulation_status
 
 -- or as those of what the tasks came to, where the words say so
-abbrev pub SaysSimulation : Bool → Option Preference → (set releases : Option (List ℕ))
-    → (before after : Option (List ℕ)) → Status → Type 0
+abbrev pub SaysSimulation : Bool → OfTwoSays
 SaysSimulation false = SaysSimulated
-SaysSimulation true = SaysRun reached_said
+SaysSimulation true = SaysOnBoth SimulatesText reached_said simulation_status

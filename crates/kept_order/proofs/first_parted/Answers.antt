@@ -1,6 +1,5 @@
-use Rattle.std.proofs.Common.{ℕ, ◌+◌, List, take, sym, subst}
-use Rattle.kept_order.specs.Keeping.{IsKeepingOf, IsPassingKept}
-use Rattle.kept_order.specs.declared.Keeping.{Keeping}
+use Rattle.std.proofs.Common.{ℕ, ◌+◌, List, take}
+use Rattle.kept_order.specs.Keeping.{IsPassingKept}
 use Rattle.kept_order.proofs.KeepsLaws.{IsFirstParted-at}
 use Rattle.kept_order.proofs.first_parted.Goals as goal
 

@@ -1,11 +1,7 @@
-use Rattle.std.proofs.Common.{◌≡◌, List, Ok, Err, inl, inr, refl, sym, subst}
+use Rattle.std.proofs.Common.{◌≡◌, Ok, Err, inl, inr, refl}
 use Rattle.command_line.specs.declared.calls.OfOne.{OfOne}
-use Rattle.command_line.specs.declared.calls.OfOne.TheVariants.{Admit, Certify, Limits, Settings}
-use Rattle.command_line.specs.declared.calls.OfOne.TheVariants.{Explain, Worst, Play}
-use Rattle.owners.specs.declared.owner.Owner.{Owner}
-use Rattle.answering.specs.Chosen.{preference_of}
+use Rattle.command_line.specs.declared.calls.OfOne.TheVariants.{Certify, Play}
 use Rattle.desk_cli.specs.Saying.{IsOfPlacing}
-use Rattle.answering.specs.Owning.{HasOwned}
 use Rattle.answering.specs.declared.refusal.CommandRefusal.TheVariants as refusal
 use Rattle.answering.proofs.CarriedOut.{carried_out, refused, said_as}
 use Rattle.desk_cli.proofs.Refused.{one_refused, placed_refused}
@@ -13,13 +9,9 @@ use Rattle.desk_cli.proofs.of_one.carry_out.Goals as goal
 
 -- the commands that are left
 of_placing : (c : OfOne) → (c ≡ Certify → ⊥) → (c ≡ Play → ⊥) → IsOfPlacing c
-of_placing Admit one other = tt
 of_placing Certify one other = absurd (one refl)
-of_placing Limits one other = tt
-of_placing Settings one other = tt
-of_placing Explain one other = tt
-of_placing Worst one other = tt
 of_placing Play one other = absurd (other refl)
+of_placing _ one other = tt
 
 pub say_placing-requires-clause-command : goal.say_placing-requires-clause-command
 say_placing-requires-clause-command g c =
@@ -55,10 +47,9 @@ returns-in-Err-lines_of g c =
 pub returns-in-Ok-place : goal.returns-in-Ok-place
 returns-in-Ok-place g c =
     let placed = rw c.preference_of-preference.ensures at c.in-Ok-place.ensures.answer in
-    let has = subst (λ (owners : List Owner). HasOwned (preference_of c.args.options)
-    (g.R.Read.remaining c.args.input.now.inner) c.in-Ok-place.tasks owners)
-    (sym c.deref.ensures.value) placed.0 in
-    carried_out c.in-Ok-place.ensures.read (said_as c.say_placing.ensures (λ told. told _ has))
+    carried_out c.in-Ok-place.ensures.read (said_as c.say_placing.ensures
+    (λ told.
+    told (g.R.Read.remaining c.args.input.now.inner) (rw c.deref.ensures.value placed.0)))
 
 pub returns-in-Err-place : goal.returns-in-Err-place
 returns-in-Err-place g c =

@@ -1,6 +1,4 @@
-use Rattle.std.proofs.Common.{◌≡◌, ◌∙◌, ℕ, List, Option, Ok, Err, inl, inr, ap, refl, subst}
-use Rattle.std.proofs.Common.{string_bytes}
-use Rattle.std.specs.Io.KnownBytes.{Appends}
+use Rattle.std.proofs.Common.{ℕ, List, Option, Ok, Err, inl, inr, string_bytes}
 use Rattle.task_sheet.specs.Sheet.{Task}
 use Rattle.task_sheet.specs.declared.prefer.Preference.{Preference}
 use Rattle.assignment.specs.declared.placing.Placing.{Placing}
@@ -18,17 +16,13 @@ use Rattle.desk_cli.proofs.of_one.say_placing.Goals as goal
 
 -- what is printed of a placing is the answer on what a reader has; out of memory for it is an answer of its own
 printed_says : (part : OrderPart) (preference : Option Preference)
-    (known before after : Option (List ℕ)) (U : List Task) (p : Placing) (text : List ℕ)
-    (due s : Status) → Places preference known (Ok (U, p)) → text ≡ placing_said part U p
-    → due ≡ placing_status p → IsPrinted before after text due s
+    (known before after : Option (List ℕ)) (U : List Task) (p : Placing) (s : Status)
+    → Places preference known (Ok (U, p))
+    → IsPrinted before after (placing_said part U p) (placing_status p) s
     → SaysPlacing part preference known before after s
-printed_says part preference known before after U p text due s placed same status (inl wrote) = (
-  Ok (U, p),
-  placed,
-  subst (λ (t : List ℕ). Appends before after t) same wrote.0,
-  wrote.1 ∙ status,
-)
-printed_says part preference known before after U p text due s placed same status (inr want) =
+printed_says part preference known before after U p s placed (inl wrote) =
+    (Ok (U, p), placed, wrote.0, wrote.1)
+printed_says part preference known before after U p s placed (inr want) =
     (Err refusal.OutOfMemory, tt, want.0, want.1)
 
 pub returns-in-Admit : goal.returns-in-Admit
@@ -36,8 +30,8 @@ returns-in-Admit g c =
     rw c.in-Admit.is (said_as (made_printed c.placing_text-text.result (λ t. string_bytes t) _ _
     c.placing_text-text.ensures c.print_made.ensures) (λ told. λ known has.
     printed_says Levels (preference_of c.args.options) known _ _ c.args.set.now
-    c.args.placing.now _ _ _
-    ((has.0, has.1, has.2.set), c.requires.placing) refl c.placing_status-status.ensures told))
+    c.args.placing.now _ ((has.0, has.1, has.2.set), c.requires.placing)
+    (rw c.placing_status-status.ensures at told)))
 
 pub returns-in-Settings : goal.returns-in-Settings
 returns-in-Settings g c =
@@ -45,10 +39,8 @@ returns-in-Settings g c =
     (λ t. string_bytes t) _ _ c.placing_text-text-in-Settings.ensures
     c.print_made-in-Settings.ensures) (λ told. λ known has.
     printed_says (Settings (base_of c.args.options)) (preference_of c.args.options) known _ _
-    c.args.set.now c.args.placing.now _ _ _
-    ((has.0, has.1, has.2.set), c.requires.placing)
-    (ap (λ (base : ℕ). placing_said (Settings base) c.args.set.now c.args.placing.now)
-    c.base_of.ensures) c.placing_status-status.ensures told))
+    c.args.set.now c.args.placing.now _ ((has.0, has.1, has.2.set), c.requires.placing)
+    (rw (c.base_of.ensures, c.placing_status-status.ensures) at told)))
 
 pub returns-in-Explain : goal.returns-in-Explain
 returns-in-Explain g c = rw c.in-Explain.is

@@ -1,4 +1,4 @@
-use Rattle.std.proofs.Common.{Ok, Err, subst}
+use Rattle.std.proofs.Common.{Err}
 use Rattle.desk_cli.specs.Found.{FindsIn}
 use Rattle.answering.specs.declared.refusal.CommandRefusal.{CommandRefusal}
 use Rattle.answering.proofs.CarriedOut.{refusal_said, said_as}
@@ -7,21 +7,15 @@ use Rattle.desk_cli.proofs.of_two.say_both.Goals as goal
 
 pub returns-in-Ok : goal.returns-in-Ok
 returns-in-Ok g c =
-    let U = c.args.tasks.now in
-    let text = c.args.text.now in
-    let finds : FindsIn c.args.command c.args.options U text (Ok c.in-Ok.found) =
-    subst (FindsIn c.args.command c.args.options U text) c.in-Ok.is
-    c.find-answer.ensures.answer in
-    said_as c.print_found.ensures (λ told. printed_in c.args.options c.args.owners.now U text _ _ _
-    c.args.command c.in-Ok.found finds told)
+    let finds = rw c.in-Ok.is at c.find-answer.ensures.answer in
+    said_as c.print_found.ensures (λ told. printed_in c.args.options c.args.owners.now
+    c.args.tasks.now c.args.text.now _ _ _ c.args.command c.in-Ok.found finds told)
 
 pub returns-in-Err : goal.returns-in-Err
 returns-in-Err g c =
     let U = c.args.tasks.now in
     let text = c.args.text.now in
-    let why : FindsIn c.args.command c.args.options U text (Err c.in-Err.refusal) =
-    subst (FindsIn c.args.command c.args.options U text) c.in-Err.is
-    c.find-answer.ensures.answer in
+    let why = rw c.in-Err.is at c.find-answer.ensures.answer in
     refusal_said c.in-Err.refusal (λ (r : CommandRefusal). FindsIn c.args.command c.args.options U
     text (Err r)) why (never_unread c.args.command c.args.options U text) c.refuse.ensures
     (λ wrote is. refused_in c.args.options c.args.owners.now U text _ _ _ c.args.command

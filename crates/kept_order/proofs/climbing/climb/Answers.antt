@@ -1,6 +1,5 @@
-use Rattle.std.proofs.Common.{◌∙◌, ap, List, length}
+use Rattle.std.proofs.Common.{ap, List, length}
 use Rattle.std.proofs.lemmas.Bool.{both_ways}
-use Rattle.std.specs.FinSet as members
 use Rattle.task_sheet.specs.Sheet.{Task}
 use Rattle.task_sheet.specs.Indexes.{indexes_of}
 use Rattle.task_sheet.proofs.TaskLaws.{AllTasks-from_set}

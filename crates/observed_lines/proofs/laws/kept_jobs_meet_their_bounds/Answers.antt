@@ -1,37 +1,16 @@
-use Rattle.std.proofs.Common.{◌≡◌, ◌∙◌, ℕ, ◌+◌, ◌-◌, ◌≤◌, ◌<◌, Bool, true, false, ◌||◌, not, List}
-use Rattle.std.proofs.Common.{length, get_or, refl, sym, ap, arith}
-use Rattle.std.proofs.lemmas.Bool.{ltb-false, true≢false}
+use Rattle.std.proofs.Common.{◌≡◌, ◌∙◌, ◌-◌, false, not, get_or, sym, ap, arith}
+use Rattle.std.proofs.lemmas.Bool.{false_from_ne_true, ltb-false, or_parts, true≢false}
 use Rattle.std.proofs.lemmas.List.Folds.{list_all_at}
 use Rattle.observed.specs.declared.seen.Seen.{Seen}
-use Rattle.observed_lines.specs.Breaks.{is_kept, breaks_any, breaks_blocking, breaks_bound}
-use Rattle.observed_lines.specs.Breaks.{breaks_cost, breaks_foreign, breaks_idle, breaks_period}
+use Rattle.observed_lines.specs.Breaks.{breaks_any, breaks_bound, breaks_cost, breaks_period}
 use Rattle.observed_lines.proofs.laws.kept_jobs_meet_their_bounds.Goals as goal
 
-third : (a b c d : Bool) → (a || (b || (c || d))) ≡ false → c ≡ false
-third true b c d none = cc
-third false true c d none = cc
-third false false true d none = cc
-third false false false d none = refl
-
-within : (tolerance : ℕ) (s : Seen) → breaks_any tolerance s ≡ false
-    → s.lasted ≤ s.promise.bound + tolerance
-within tolerance s none =
-    let kept : breaks_bound tolerance s ≡ false = third (breaks_cost tolerance s)
-    (breaks_period tolerance s) (breaks_bound tolerance s) (breaks_blocking tolerance s
-    || (breaks_foreign tolerance s || breaks_idle tolerance s)) none in
-    let over : s.lasted - s.promise.bound ≤ tolerance =
-    ltb-false tolerance (s.lasted - s.promise.bound) kept in
-    omega (arith, over)
-
-checked : (tolerance : ℕ) (seen : List Seen) (k : ℕ) (d : Seen) (b : Bool)
-    → is_kept tolerance seen ≡ true → k < length seen
-    → breaks_any tolerance (get_or seen k d) ≡ b
-    → (get_or seen k d).lasted ≤ (get_or seen k d).promise.bound + tolerance
-checked tolerance seen k d true kept lt is =
-    absurd (true≢false (sym kept
-    ∙ list_all_at (λ (s : Seen). not (breaks_any tolerance s)) seen k d lt (ap not is)))
-checked tolerance seen k d false kept lt is = within tolerance (get_or seen k d) is
-
 pub returns : goal.returns
-returns c = λ tolerance seen kept k d lt. checked tolerance seen k d
-    (breaks_any tolerance (get_or seen k d)) kept lt refl
+returns c = λ tolerance seen kept k d lt.
+    let s = get_or seen k d in
+    let none : breaks_any tolerance s ≡ false = false_from_ne_true _ (λ broken. true≢false (sym kept
+    ∙ list_all_at (λ (s : Seen). not (breaks_any tolerance s)) seen k d lt (ap not broken))) in
+    let bound : breaks_bound tolerance s ≡ false =
+    (or_parts (breaks_bound tolerance s) _ (or_parts (breaks_period tolerance s) _
+    (or_parts (breaks_cost tolerance s) _ none).1).1).0 in
+    omega (arith, ltb-false tolerance (s.lasted - s.promise.bound) bound)

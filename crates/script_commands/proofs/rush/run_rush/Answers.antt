@@ -1,6 +1,4 @@
-use Rattle.std.proofs.Common.{List, inl, inr, refl, string_bytes, subst}
-use Rattle.scripts.specs.declared.line.Line.{Line}
-use Rattle.rushes.specs.Printed.{IsRushText}
+use Rattle.std.proofs.Common.{inl, inr, refl, string_bytes}
 use Rattle.answering.specs.Refusals.{refusal_line}
 use Rattle.answering.specs.declared.refusal.CommandRefusal.TheVariants.{Rush}
 use Rattle.script_commands.proofs.rush.run_rush.Goals as goal
@@ -9,9 +7,7 @@ pub returns-in-Ok-rush_lines-clause-printed : goal.returns-in-Ok-rush_lines-clau
 returns-in-Ok-rush_lines-clause-printed g c = λ sound.
     let texts = c.in-Ok-rush_lines.texts in
     let told = string_bytes texts.notes in
-    let rushed : IsRushText c.args.workers c.in-Ok.lines.items (string_bytes texts.log) told =
-    subst (λ (lines : List Line). IsRushText c.args.workers lines (string_bytes texts.log) told)
-    c.deref.ensures.value c.in-Ok-rush_lines.ensures in (
+    let rushed = rw c.deref.ensures.value at c.in-Ok-rush_lines.ensures in (
       string_bytes texts.log,
       c.print_both.ensures.printed sound,
       inr (

@@ -1,11 +1,7 @@
 use Rattle.std.proofs.Common.{◌≡◌, ◌∙◌, ◌++◌, ℕ, List, Err, inl, inr, refl, sym, ap, subst}
-use Rattle.std.proofs.Common.{append_assoc, string_bytes}
+use Rattle.std.proofs.Common.{append_assoc}
 use Rattle.std.specs.Prelude.{⊤, Result}
 use Rattle.std.specs.Io.KnownBytes.{Appends}
-use Rattle.task_sheet.specs.Sheet.{Task}
-use Rattle.assignment.specs.declared.placing.Placing.{Placing}
-use Rattle.limit_lines.specs.Lines.{order_in}
-use Rattle.set_commands.specs.Limits.{ListsAll, ListsSome}
 use Rattle.answering.specs.OrderParts.{placing_first}
 use Rattle.answering.specs.Refusals.{refusal_line}
 use Rattle.set_commands.specs.declared.limits_lines.ListFault.{ListFault}
@@ -27,25 +23,18 @@ print_lines-requires g c =
     let made = c.in-Ok-make_ready.ensures in
     record {
       placing = rw (made.set, c.of.ensures, made.placing) c.requires;
-      order = made.order ∙ ap order_in (sym made.placing);
+      order = rw made.placing made.order;
     }
 
 pub returns-in-Ok-print_lines : goal.returns-in-Ok-print_lines
 returns-in-Ok-print_lines g c =
     let made = c.in-Ok-make_ready.ensures in
     let said = c.in-Ok-print_lines.ensures.all in
-    let lists = subst (λ (U : List Task). ListsAll U c.args.placing.now said.0)
-    (made.set ∙ c.of.ensures) (subst (λ (p : Placing). ListsAll c.in-Ok-make_ready.listing.set p
-    said.0) made.placing said.1) in
-    let before = g.W.Write.contents c.args.output.now.inner in
-    let after = g.W.Write.contents c.print_lines.new.output.inner in
-    let begins =
-    made.first ∙ ap (λ (U : List Task). placing_first U c.args.placing.now) c.of.ensures in
     said_sound (c.in-Ok-print_lines.ensures.ok never_err)
     (λ is. placing_ends c.args.placing.now (sym c.placing_status.ensures ∙ is)) (inl (
       said.0,
-      inl (lists, c.placing_status.ensures),
-      subst (λ (first : List ℕ). Appends before after (first ++ said.0)) begins said.2,
+      inl (rw (made.set, c.of.ensures, made.placing) at said.1, c.placing_status.ensures),
+      rw (made.first, c.of.ensures) at said.2,
     ))
 
 pub returns-in-Err-OutOfMemory : goal.returns-in-Err-OutOfMemory
@@ -54,20 +43,15 @@ returns-in-Err-OutOfMemory g c =
     let printed = c.print_lines.ensures in
     let said =
     printed.some (c.in-Err-OutOfMemory.is ∙ ap (λ f. Err f) c.in-Err-OutOfMemory.field-0-is) in
-    let lists = subst (λ (U : List Task). ListsSome U c.args.placing.now said.0)
-    (made.set ∙ c.of.ensures) (subst (λ (p : Placing). ListsSome c.in-Ok-make_ready.listing.set p
-    said.0) made.placing said.1) in
     let before = g.W.Write.contents c.args.output.now.inner in
     let after = g.W.Write.contents c.refuse-in-Err-OutOfMemory.new.output.inner in
-    let first : List ℕ = string_bytes c.in-Ok-make_ready.listing.first in
+    let first = placing_first c.args.set.now c.args.placing.now in
     let none = refusal_line refusal.OutOfMemory in
-    let begins =
-    made.first ∙ ap (λ (U : List Task). placing_first U c.args.placing.now) c.of.ensures in
     wanting_after (first ++ said.0)
-    (printed.ok (apart _ _ c.in-Err-OutOfMemory.is c.in-Err-OutOfMemory.field-0-is)) said.2
-    c.refuse-in-Err-OutOfMemory.ensures (λ all is. inl (
+    (printed.ok (apart _ _ c.in-Err-OutOfMemory.is c.in-Err-OutOfMemory.field-0-is))
+    (rw (made.first, c.of.ensures) at said.2) c.refuse-in-Err-OutOfMemory.ensures
+    (λ all is. inl (
       said.0 ++ none,
-      inr (said.0, lists, refl, is),
-      subst (λ (text : List ℕ). Appends before after text)
-          (append_assoc first said.0 none ∙ ap (λ (t : List ℕ). t ++ (said.0 ++ none)) begins) all,
+      inr (said.0, rw (made.set, c.of.ensures, made.placing) at said.1, refl, is),
+      subst (λ (text : List ℕ). Appends before after text) (append_assoc first said.0 none) all,
     ))

@@ -1,11 +1,10 @@
-use Rattle.std.proofs.Common.{◌≡◌, ◌∙◌, ◌++◌, ◌==◌, ◌&&◌, ℕ, Bool, List, [], length, refl, sym, ap}
-use Rattle.std.proofs.Common.{subst, arith, append_assoc, append-nil, string_bytes}
+use Rattle.std.proofs.Common.{◌≡◌, ◌∙◌, ◌++◌, ◌==◌, ◌&&◌, ℕ, Bool, List, [], length, add-one}
+use Rattle.std.proofs.Common.{refl, sym, ap, subst, arith, append_assoc, append-nil, string_bytes}
 use Rattle.std.specs.Io.KnownBytes.{Appends, append_known}
 use Rattle.std.proofs.KnownBytes.{Appends-trans}
 use Rattle.limit_lines.specs.Lines.{places_in}
 use Rattle.answering.specs.LimitLines.{AreLines}
 use Rattle.set_commands.specs.Limits.{alone_line}
-use Rattle.answering.proofs.LimitLines.{lines_more}
 use Rattle.set_commands.proofs.ListedLimits.{silent_more, where_sound}
 use Rattle.set_commands.proofs.limits_lines.put_lines.Goals as goal
 
@@ -47,8 +46,7 @@ loop-task-preserved g c =
         silent_more c.loop-task.is_silent _ said.0 line said.1
             (subst (λ (bs : List ℕ). c.is_still_silent-is_silent.result ≡ (c.loop-task.is_silent
             && (length bs == 0))) c.as_str.ensures.value c.is_still_silent-is_silent.ensures),
-        lines_more c.args.listing.now.set (places_in c.args.listing.now.placing.now)
-            c.loop-task.task said.0 line said.2 c.in-Ok.ensures,
+        rw add-one (said.0, line, said.2, c.in-Ok.ensures, refl),
         subst (λ bs. Appends before after bs)
             (append_assoc (string_bytes c.args.listing.now.first) said.0 line) (Appends-trans before
             between after ((string_bytes c.args.listing.now.first) ++ said.0) line said.3 wrote),

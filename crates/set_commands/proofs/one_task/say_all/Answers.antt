@@ -1,5 +1,4 @@
-use Rattle.std.proofs.Common.{◌∙◌, ℕ, List, Ok, Err, inl, inr, refl, subst, string_bytes}
-use Rattle.std.specs.Io.KnownBytes.{Appends}
+use Rattle.std.proofs.Common.{◌∙◌, Ok, Err, inl, inr, refl, string_bytes}
 use Rattle.answering.specs.declared.refusal.CommandRefusal.TheVariants as refusal
 use Rattle.answering.proofs.CarriedOut.{made_said, said_as}
 use Rattle.set_commands.proofs.one_task.say_all.Goals as goal
@@ -24,23 +23,18 @@ returns-in-Limits g c =
 -- out of memory for the lines is an answer of its own
 pub returns-in-Reasons : goal.returns-in-Reasons
 returns-in-Reasons g c =
-    let before = g.W.Write.contents c.args.output.now.inner in
-    let after = g.W.Write.contents c.print_bytes.new.output.inner in
     rw c.in-Reasons.is (made_said c.explained_text.result (λ t. t.items) _ c.explained_text.ensures
     c.print_bytes.ensures
     (λ text found wrote is. λ preference known has. (
       Ok (record {
         set = c.args.set.now;
-        owners =
-            c.args.owners.now;
+        owners = c.args.owners.now;
         placing = c.args.placing.now;
         explanation = found.0;
-        decided =
-            found.1;
+        decided = found.1;
       }),
       (has, c.requires, found.2, found.3),
-      subst (λ (t : List ℕ). Appends
-          before after t) found.4 wrote,
+      rw found.4 at wrote,
       is ∙ c.placing_status-status.ensures,
     ))
     (λ wrote is. λ preference known has. (Err refusal.OutOfMemory, tt, wrote, is)))

@@ -1,5 +1,4 @@
-use Rattle.std.proofs.Common.{◌∙◌, ℕ, List, Ok, Err, ap, refl, sym, subst}
-use Rattle.std.specs.Io.KnownBytes.{Appends}
+use Rattle.std.proofs.Common.{◌∙◌, Ok, Err, ap, refl, sym}
 use Rattle.answering.specs.Asked.{no_such_task}
 use Rattle.answering.specs.Refusals.{refusal_line, status_of}
 use Rattle.answering.specs.declared.refusal.CommandRefusal.TheVariants as refusal
@@ -9,8 +8,6 @@ use Rattle.set_commands.proofs.one_task.say_task.Goals as goal
 -- out of memory for the lines is an answer of its own
 pub returns-in-Some : goal.returns-in-Some
 returns-in-Some g c =
-    let before = g.W.Write.contents c.args.output.now.inner in
-    let after = g.W.Write.contents c.print_bytes.new.output.inner in
     let named = sym c.find_task.ensures.found ∙ c.in-Some.is in
     made_said c.task_text.result (λ t. t.items) _ c.task_text.ensures c.print_bytes.ensures
     (λ text found wrote is. λ preference known has. (
@@ -21,7 +18,7 @@ returns-in-Some g c =
         lines = found.0;
       }),
       (has, c.requires, (c.in-Some.task, named, found.1)),
-      subst (λ (t : List ℕ). Appends before after t) found.2 wrote,
+      rw found.2 at wrote,
       is ∙ c.placing_status-status.ensures,
     ))
     (λ wrote is. λ preference known has. (Err refusal.OutOfMemory, tt, wrote, is))
@@ -33,13 +30,7 @@ returns-in-None g c =
     (ap status_of c.no_such_task.ensures) (λ is. cc)
     (λ wrote is. λ preference known has. (
       Err (no_such_task c.args.word.now),
-      (
-        c.args.set.now,
-        c.args.placing.now,
-        ((has.0, has.1, has.2.set), c.requires),
-        none,
-        refl,
-      ),
+      (c.args.set.now, c.args.placing.now, ((has.0, has.1, has.2.set), c.requires), none, refl),
       wrote,
       is,
     ))

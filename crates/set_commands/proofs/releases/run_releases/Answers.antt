@@ -1,6 +1,4 @@
-use Rattle.std.proofs.Common.{◌∙◌, List, Ok, Err, inl, refl, ap}
-use Rattle.ceiling_kernel.specs.declared.trace.Release.{Release}
-use Rattle.release_list.specs.Text.{list_lines}
+use Rattle.std.proofs.Common.{◌∙◌, Ok, Err, inl, refl}
 use Rattle.answering.specs.declared.refusal.CommandRefusal.TheVariants as refusal
 use Rattle.answering.proofs.CarriedOut.{carried_out, done_ends, refused, shown, wanting}
 use Rattle.set_commands.proofs.releases.run_releases.Goals as goal
@@ -8,8 +6,7 @@ use Rattle.set_commands.proofs.releases.run_releases.Goals as goal
 pub returns-in-Ok-list_text : goal.returns-in-Ok-list_text
 returns-in-Ok-list_text g c =
     let answer = rw c.preference_of-preference.ensures at c.in-Ok.ensures.answer in
-    let lines = c.as_bytes.ensures.value ∙ c.in-Ok-list_text.ensures
-    ∙ ap (λ (rs : List Release). list_lines c.args.until rs) c.deref.ensures.value in
+    let lines = c.as_bytes.ensures.value ∙ rw c.deref.ensures.value at c.in-Ok-list_text.ensures in
     carried_out c.in-Ok.ensures.read (shown c.print.ensures lines refl done_ends
     (λ wrote is. (Ok c.in-Ok.releases, answer, wrote, is)))
 

@@ -1,8 +1,8 @@
-use Rattle.std.proofs.Common.{ℕ, List, subst}
+use Rattle.std.proofs.Common.{ℕ, List}
 use Rattle.task_sheet.specs.Sheet.{Task}
 use Rattle.kept_order.specs.Keeping.{IsKeepingOf}
 use Rattle.kept_order.specs.declared.Keeping.{Keeping}
-use Rattle.kept_order.specs.declared.Keeping.TheVariants.{Kept, Parted, Stuck}
+use Rattle.kept_order.specs.declared.Keeping.TheVariants.{Kept}
 use Rattle.two_input_commands.specs.Keep.{IsKeptIn}
 use Rattle.two_input_commands.proofs.keep_lines.keep_text.Goals as goal
 
@@ -10,15 +10,13 @@ use Rattle.two_input_commands.proofs.keep_lines.keep_text.Goals as goal
 kept_in : (U : List Task) (kept : List ℕ) (keeping : Keeping) → IsKeepingOf U kept keeping
     → IsKeptIn U keeping
 kept_in U kept (Kept places) is = is.best.passing.passing.each_once
-kept_in U kept (Parted low high) is = tt
-kept_in U kept (Stuck left) is = tt
+kept_in U kept _ is = tt
 
 pub returns-clause-answer : goal.returns-clause-answer
 returns-clause-answer c = (
   c.in-Ok.kept.items,
   c.in-Ok.ensures.kept,
-  subst (λ (order : List ℕ). IsKeepingOf c.args.tasks.now order c.in_ok-keeping.keeping)
-      c.deref.ensures.value (rw c.of.ensures at c.in_ok-keeping.ensures),
+  rw (c.of.ensures, c.deref.ensures.value) at c.in_ok-keeping.ensures,
 )
 
 pub returns-clause-order : goal.returns-clause-order

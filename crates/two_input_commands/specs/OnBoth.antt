@@ -1,0 +1,48 @@
+-- What a command says of what its two readers have: a set and a text.
+use Rattle.std.specs.Prelude.{ℕ, List, Option, Result, Ok, Err}
+use Rattle.task_sheet.specs.Sheet.{Task}
+use Rattle.task_sheet.specs.declared.prefer.Preference.{Preference}
+use Rattle.owners.specs.declared.owner.Owner.{Owner}
+use Rattle.answering.specs.Owning.{HaveOwned}
+use Rattle.answering.specs.Printed.{Prints}
+use Rattle.answering.specs.Sets.{HaveBoth, OnBoth}
+use Rattle.answering.specs.declared.refusal.CommandRefusal.{CommandRefusal}
+use Rattle.answering.specs.declared.status.Status.{Status}
+
+-- what is said of two readers, by what the call prefers: what the writer held, what it holds then, and the status
+abbrev pub OfTwoSays : Type 1
+OfTwoSays = Option Preference → (set other : Option (List ℕ)) → (before after : Option (List ℕ)) → Status → Type 0
+
+-- the answer on what the readers have, where a set and a text have such answers, with the set
+abbrev pub WithSet :
+    {X : Type 0} → (List Task → List ℕ → Result X CommandRefusal → Type 0) → Option Preference
+    → (set other : Option (List ℕ)) → Result (List Task × X) CommandRefusal → Type 0
+WithSet answers preference set other (Ok found) =
+    (text : List ℕ) × HaveBoth preference set other found.0 text
+    × answers found.0 text (Ok found.1)
+WithSet answers preference set other (Err r) = OnBoth answers preference set other (Err r)
+
+-- the same with whose its tasks are, too
+abbrev pub WithOwners :
+    {X : Type 0} → (List Task → List ℕ → Result X CommandRefusal → Type 0) → Option Preference
+    → (set other : Option (List ℕ)) → Result (List Task × List Owner × X) CommandRefusal → Type 0
+WithOwners answers preference set other (Ok found) =
+    (text : List ℕ) × HaveOwned preference set other found.0 found.1 text
+    × answers found.0 text (Ok found.2)
+WithOwners answers preference set other (Err r) = OnBoth answers preference set other (Err r)
+
+-- the answer on what the readers had is printed after what the writer held, and the status is the answer's
+abbrev pub SaysOnBoth :
+    {X : Type 0} → (List Task → List ℕ → Result X CommandRefusal → Type 0) → (List Task → X → List ℕ)
+    → (X → Status) → OfTwoSays
+SaysOnBoth answers lines done preference set other before after s =
+    Prints (WithSet answers preference set other) (λ found. lines found.0 found.1)
+    (λ found. done found.1) before after s
+
+-- the same, where whose the tasks are is printed, too
+abbrev pub SaysOnBothOwned :
+    {X : Type 0} → (List Task → List ℕ → Result X CommandRefusal → Type 0)
+    → (List Owner → List Task → X → List ℕ) → (X → Status) → OfTwoSays
+SaysOnBothOwned answers lines done preference set other before after s =
+    Prints (WithOwners answers preference set other) (λ found. lines found.1 found.0 found.2)
+    (λ found. done found.2) before after s
