@@ -4,9 +4,7 @@ use Rattle.std.proofs.Common.{arith, below_more}
 use Rattle.std.specs.Ordering.{nat_cmp}
 use Rattle.std.specs.FinSet as members
 use Rattle.std.proofs.lemmas.Bool.{both_ways}
-use Rattle.task_sheet.specs.Sheet.{Task}
-use Rattle.task_sheet.specs.Indexes.{indexes_of, without_index, IsPart}
-use Rattle.task_sheet.specs.Orders.{all_of}
+use Rattle.task_sheet.proofs.Common.{Task, indexes_of, without_index, IsPart, all_of}
 use Rattle.task_sheet.proofs.IndexLaws.{without-parts, without-gone, without-kept}
 use Rattle.task_sheet.proofs.MembersIndexes.{indexes_of-remove}
 use Rattle.assignment.specs.Levels.{LevelState, with_finding}

@@ -6,13 +6,10 @@ use Rattle.std.specs.Ordering.{nat_cmp}
 use Rattle.std.specs.FinSet as members
 use Rattle.std.proofs.lemmas.Bool.{cases_Bool, both_ways}
 use Rattle.std.proofs.lemmas.List.{map_push}
-use Rattle.task_sheet.specs.Sheet.{Task}
-use Rattle.task_sheet.specs.MembersWords.{all_below}
-use Rattle.task_sheet.specs.Indexes.{indexes_of, below, IsPart, without_index}
-use Rattle.task_sheet.specs.Orders.{all_of}
-use Rattle.task_sheet.specs.Levels.{IsChosen, left_after, AllChosen}
-use Rattle.task_sheet.specs.Verdicts.{FailureData, LevelData, order_of, IsLevel, AllLevels}
-use Rattle.task_sheet.specs.Verdicts.{IsBestOrder, IsStuck}
+use Rattle.task_sheet.proofs.Common.{Task, all_below, indexes_of, below, IsPart, without_index}
+use Rattle.task_sheet.proofs.Common.{all_of, IsChosen, left_after, AllChosen, FailureData}
+use Rattle.task_sheet.proofs.Common.{LevelData, order_of, AllLevels, IsBestOrder, IsStuck}
+use Rattle.task_sheet.specs.Verdicts.{IsLevel}
 use Rattle.task_sheet.proofs.TaskLaws.{AllTasks-from_set}
 use Rattle.task_sheet.proofs.MembersIndexes.{indexes_of-all_below, indexes_of-remove}
 use Rattle.task_sheet.proofs.LevelLaws.{left_after-part, left_after-push, AllChosen-push}

@@ -4,11 +4,9 @@ use Rattle.std.proofs.Common.{Option, None, IsTrue, IsFalse, sym, ◌∙◌, ap,
 use Rattle.std.proofs.Common.{below_more}
 use Rattle.std.proofs.lemmas.Bool.{ltb-true, both_ways}
 use Rattle.std.proofs.lemmas.List.{map_push, length-set, get_or-set_other}
-use Rattle.task_sheet.specs.Sheet.{Task}
-use Rattle.task_sheet.specs.TaskSet.{IsTaskSet}
-use Rattle.task_sheet.specs.Indexes.{Indexes, IsPart, without_index, listed_below}
-use Rattle.task_sheet.specs.Orders.{all_of, Stands}
-use Rattle.task_sheet.specs.Verdicts.{ReasonData, FailureData, tasks_of, IsFailure, AllFailures}
+use Rattle.task_sheet.proofs.Common.{Task, IsTaskSet, Indexes, IsPart, without_index, listed_below}
+use Rattle.task_sheet.proofs.Common.{all_of, Stands, ReasonData, FailureData, tasks_of, AllFailures}
+use Rattle.task_sheet.specs.Verdicts.{IsFailure}
 use Rattle.task_sheet.proofs.VerdictLaws.{AllFailures-push}
 use Rattle.assignment.specs.declared.outcome.Outcome.{Outcome}
 use Rattle.assignment.specs.Levels.{IsObstructed}

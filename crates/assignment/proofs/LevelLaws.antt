@@ -3,12 +3,9 @@ use Rattle.std.proofs.Common.{◌↔◌, ℕ, ◌≤◌, false, List, IsTrue, Is
 use Rattle.std.proofs.Common.{◌&&◌, not, inl, inr, get_or, Option, None, Some, is_some, ◌∙◌, ap}
 use Rattle.std.proofs.Common.{subst, below_more, length, set, sym}
 use Rattle.std.proofs.lemmas.Bool.{both_ways, cases_eq, ne_eqb, eq-eqb}
-use Rattle.task_sheet.specs.Sheet.{Task, task_at}
-use Rattle.task_sheet.specs.TaskSet.{IsTaskSet}
-use Rattle.task_sheet.specs.Indexes.{Indexes, indexes_of, without_index}
-use Rattle.task_sheet.specs.Demand.{past_jitter, IsResponseOf}
-use Rattle.task_sheet.specs.Orders.{is_bound, Stands}
-use Rattle.task_sheet.specs.Verdicts.{ReasonData, IsReason}
+use Rattle.task_sheet.proofs.Common.{Task, task_at, IsTaskSet, Indexes, indexes_of, without_index}
+use Rattle.task_sheet.proofs.Common.{past_jitter, IsResponseOf, is_bound, Stands, ReasonData}
+use Rattle.task_sheet.specs.Verdicts.{IsReason}
 use Rattle.assignment.specs.Outcomes.{reason_of, IsOutcome}
 use Rattle.assignment.specs.declared.outcome.Outcome.{Outcome}
 use Rattle.assignment.specs.declared.outcome.Outcome.TheVariants.{Pass, Fail}

@@ -2,9 +2,7 @@
 use Rattle.std.proofs.Common.{◌≡◌, ℕ, ◌<◌, ◌≤◌, ◌&&◌, inl, inr, List, length, IsTrue, IsFalse, ◌∙◌}
 use Rattle.std.proofs.Common.{sym, arith}
 use Rattle.std.proofs.lemmas.Bool.{cases_Bool, and_parts, and_from, both_ways, ltb-true}
-use Rattle.task_sheet.specs.Sheet.{Task}
-use Rattle.task_sheet.specs.Indexes.{Indexes, IsPart, meet}
-use Rattle.task_sheet.specs.Orders.{all_of, must_outrank, is_bound}
+use Rattle.task_sheet.proofs.Common.{Task, Indexes, IsPart, meet, all_of, must_outrank, is_bound}
 use Rattle.task_sheet.proofs.Below.{some_below-at, some_below-witness}
 
 -- the row has the tasks of the set above which task i must stand

@@ -4,13 +4,10 @@ use Rattle.std.proofs.Common.{IfSome, sym, ◌∙◌, ap, subst}
 use Rattle.std.specs.Ordering.{nat_cmp}
 use Rattle.std.specs.FinSet as members
 use Rattle.std.proofs.lemmas.List.{map_push}
-use Rattle.task_sheet.specs.Sheet.{Task, AllTasks}
-use Rattle.task_sheet.specs.MembersWords.{all_below}
-use Rattle.task_sheet.specs.Indexes.{Indexes, indexes_of, without_index, below, IsPart}
-use Rattle.task_sheet.specs.Demand.{IsResponseOf, Passes}
-use Rattle.task_sheet.specs.Orders.{all_of, is_bound, Stands}
-use Rattle.task_sheet.specs.Levels.{IsChosen, NoneStands, IsGreatestObstruction, left_after}
-use Rattle.task_sheet.specs.Levels.{AllChosen}
+use Rattle.task_sheet.proofs.Common.{Task, AllTasks, all_below, Indexes, indexes_of, without_index}
+use Rattle.task_sheet.proofs.Common.{below, IsPart, IsResponseOf, Passes, all_of, is_bound, Stands}
+use Rattle.task_sheet.proofs.Common.{IsChosen, NoneStands, IsGreatestObstruction, left_after}
+use Rattle.task_sheet.proofs.Common.{AllChosen}
 use Rattle.task_sheet.proofs.MembersIndexes.{indexes_of-empty, indexes_of-all_below}
 use Rattle.task_sheet.proofs.MembersIndexes.{indexes_of-remove, member_of-len}
 use Rattle.task_sheet.proofs.LevelLaws.{left_after-part, left_after-push, AllChosen-push}

@@ -1,11 +1,9 @@
 -- A placing of a set says what the set's verdict says.
 use Rattle.std.proofs.Common.{◌≡◌, List, [], ◌∷◌, length, refl, sym, ◌∙◌, ap, subst}
-use Rattle.task_sheet.specs.Sheet.{Task, AllTasks}
-use Rattle.task_sheet.specs.Indexes.{Indexes, indexes_of, without_index, among, listed_below}
-use Rattle.task_sheet.specs.Demand.{IsResponseOf}
-use Rattle.task_sheet.specs.Orders.{all_of}
-use Rattle.task_sheet.specs.Verdicts.{LevelData, VerdictData, Admitted, Infeasible, tasks_of}
-use Rattle.task_sheet.specs.Verdicts.{order_of, AllLevels, IsVerdictOf}
+use Rattle.task_sheet.proofs.Common.{Task, AllTasks, Indexes, indexes_of, without_index, among}
+use Rattle.task_sheet.proofs.Common.{listed_below, IsResponseOf, all_of, LevelData, VerdictData}
+use Rattle.task_sheet.proofs.Common.{Admitted, Infeasible, tasks_of, order_of, AllLevels}
+use Rattle.task_sheet.proofs.Common.{IsVerdictOf}
 use Rattle.task_sheet.proofs.IndexLaws.{same_parts}
 use Rattle.task_sheet.proofs.PassingLaws.{IsResponseOf-one}
 use Rattle.task_sheet.proofs.LevelLaws.{IsBest-one}

@@ -1,8 +1,7 @@
 -- What the tests of lines say.
 use Rattle.std.proofs.Common.{◌≡◌, ◌↔◌, Bool, IsTrue, List, sym, ◌∙◌, ap}
-use Rattle.task_sheet.specs.Sheet.{Task, same_sheet}
-use Rattle.task_sheet.specs.TaskSet.{IsTaskSet}
-use Rattle.task_sheet.specs.Verdicts.{FailureData, Infeasible, IsStuck}
+use Rattle.task_sheet.proofs.Common.{Task, IsTaskSet, FailureData, Infeasible, IsStuck}
+use Rattle.task_sheet.specs.Sheet.{same_sheet}
 use Rattle.task_sheet.proofs.Equality.{same_sheet_told}
 use Rattle.task_sheet.proofs.TaskLaws.{AllTasks-from_set}
 use Rattle.task_sheet.proofs.VerdictLaws.{IsVerdictOf-one}

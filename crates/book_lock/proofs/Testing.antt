@@ -2,9 +2,7 @@
 use Rattle.std.proofs.Common.{◌≡◌, ◌<◌, ◌≤◌, ℕ, List, refl, arith, Global}
 use Rattle.std.specs.Prelude.{Result, Ok, Err}
 use Rattle.std.specs.declared.sync.Arc.{Arc}
-use Rattle.task_sheet.specs.Sheet.{Task}
-use Rattle.task_sheet.specs.TaskSet.{IsTaskSet}
-use Rattle.task_sheet.specs.Verdicts.{VerdictData, IsVerdictOf}
+use Rattle.task_sheet.proofs.Common.{Task, IsTaskSet, VerdictData, IsVerdictOf}
 use Rattle.task_sheet.proofs.TaskLaws.{AllTasks-from_set}
 use Rattle.task_sheet.proofs.VerdictLaws.{IsVerdictOf-one}
 use Rattle.assignment.specs.Questions.{QuestionData}

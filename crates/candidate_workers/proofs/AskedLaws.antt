@@ -8,15 +8,11 @@ use Rattle.std.proofs.lemmas.List.Folds.{list_any-append, list_any_at}
 use Rattle.std.proofs.lemmas.Option.{slice_get_within, get_or_from_slice_get}
 use Rattle.std.proofs.lemmas.Bool.{cases_Bool, cases_order, or_cases, both_ways, eqb-true, eq-eqb}
 use Rattle.std.proofs.lemmas.Bool.Decides.{nat_tests}
-use Rattle.task_sheet.specs.Sheet.{Task, AllTasks}
-use Rattle.task_sheet.specs.TaskSet.{IsTaskSet}
-use Rattle.task_sheet.specs.MembersWords.{all_below}
-use Rattle.task_sheet.specs.Indexes.{Indexes, indexes_of, without_index, among, listed_below}
-use Rattle.task_sheet.specs.Orders.{all_of, Stands, IsBest}
-use Rattle.task_sheet.specs.Levels.{IsChosen, NoneStands, left_after, AllChosen}
-use Rattle.task_sheet.specs.Levels.{IsGreatestObstruction}
-use Rattle.task_sheet.specs.Verdicts.{LevelData, VerdictData, Admitted, Infeasible}
-use Rattle.task_sheet.specs.Verdicts.{tasks_of, order_of, AllLevels, IsVerdictOf}
+use Rattle.task_sheet.proofs.Common.{Task, AllTasks, IsTaskSet, all_below, Indexes, indexes_of}
+use Rattle.task_sheet.proofs.Common.{without_index, among, listed_below, all_of, Stands, IsBest}
+use Rattle.task_sheet.proofs.Common.{IsChosen, NoneStands, left_after, AllChosen}
+use Rattle.task_sheet.proofs.Common.{IsGreatestObstruction, LevelData, VerdictData, Admitted}
+use Rattle.task_sheet.proofs.Common.{Infeasible, tasks_of, order_of, AllLevels, IsVerdictOf}
 use Rattle.task_sheet.proofs.IndexLaws.{same_parts}
 use Rattle.task_sheet.proofs.MembersIndexes.{indexes_of-all_below, indexes_of-remove, same_members}
 use Rattle.task_sheet.proofs.TaskLaws.{AllTasks-from_set}

@@ -6,10 +6,8 @@ use Rattle.std.proofs.lemmas.Bool.{and_from, ltb-true, lt-ltb}
 use Rattle.std.proofs.lemmas.List.{get_or_past}
 use Rattle.std.specs.List.{list_any}
 use Rattle.std.specs.Cmp.Lexicographic.{same_text}
-use Rattle.task_sheet.specs.Sheet.{CriticalSection, same_bytes}
-use Rattle.task_sheet.specs.Indexes.{Indexes}
-use Rattle.task_sheet.specs.Locks.{names_lock, uses, reaches}
-use Rattle.task_sheet.specs.Demand.{greatest_of}
+use Rattle.task_sheet.proofs.Common.{CriticalSection, same_bytes, Indexes, names_lock, uses}
+use Rattle.task_sheet.proofs.Common.{reaches, greatest_of}
 use Rattle.task_sheet.proofs.NameLaws.{same_own}
 use Rattle.ceiling_kernel.specs.Behaviours.{IsCovered, AreTaken, IsSpanned, AreSpanned}
 use Rattle.ceiling_kernel.specs.Behaviours.{IsWithinSheet, AreWithinSheets, AreApart, TakeTurns}

@@ -9,12 +9,10 @@ use Rattle.std.proofs.lemmas.List.{get_or_past}
 use Rattle.std.proofs.Math.Nat.{mul-le-mul_right, div-lt_iff_lt-mul, div-eq_of_lt-le}
 use Rattle.std.proofs.lemmas.Grind.{div_ceil_times}
 use Rattle.std.specs.List.{list_any}
-use Rattle.task_sheet.specs.Sheet.{no_task, Task, CriticalSection, task_at}
-use Rattle.task_sheet.specs.Indexes.{Indexes, with_index, greatest_below}
-use Rattle.task_sheet.specs.Locks.{uses, shares_lock, reaches}
-use Rattle.task_sheet.specs.Demand.{releases_within, longest_reached, blocking_of, interference_of}
-use Rattle.task_sheet.specs.Demand.{demand_of, limit_of, past_jitter}
-use Rattle.task_sheet.specs.Orders.{IsPassingOrder}
+use Rattle.task_sheet.proofs.Common.{no_task, Task, CriticalSection, task_at, Indexes, with_index}
+use Rattle.task_sheet.proofs.Common.{greatest_below, uses, shares_lock, reaches, releases_within}
+use Rattle.task_sheet.proofs.Common.{longest_reached, blocking_of, interference_of, demand_of}
+use Rattle.task_sheet.proofs.Common.{limit_of, past_jitter, IsPassingOrder}
 use Rattle.ceiling_kernel.specs.Tick.{Node, Job, job_at, job_task, level_in_order, level_of_job}
 use Rattle.ceiling_kernel.specs.Tick.{executed_before, picked, ceiling, top_ceiling}
 use Rattle.ceiling_kernel.specs.Waits.{IsNode, AreLegalJobs, lateness_of, NoOverrun}

@@ -5,8 +5,7 @@ use Rattle.std.proofs.Common.{nat_le, add-suc, add-zero}
 use Rattle.std.proofs.lemmas.Option.{none-some}
 use Rattle.std.specs.Option.{option_or}
 use Rattle.std.proofs.lemmas.Bool.{cases_eq, cases_lt, le-leb, lt-leb}
-use Rattle.ceiling_kernel.specs.Tick.{Node, Job, job_at, executed_before, picked}
-use Rattle.ceiling_kernel.specs.Trace.{finish_before}
+use Rattle.ceiling_kernel.proofs.Common.{Node, Job, job_at, executed_before, picked, finish_before}
 use Rattle.ceiling_kernel.specs.Readings.{IsFinishAt}
 use Rattle.ceiling_kernel.proofs.MachineLaws.{start_of, idle_of, own_of, other_of}
 

@@ -1,3 +1,4 @@
+pub mod Common
 pub mod NodeLaws
 pub mod SumLaws
 pub mod Busy

@@ -4,12 +4,10 @@ use Rattle.std.proofs.Common.{Bool, true, false, ◌==◌, ◌&&◌, ◌||◌, L
 use Rattle.std.proofs.lemmas.Bool.{cases_eq, cases_Bool, true≢false, and_parts, or_cases, or_right}
 use Rattle.std.proofs.lemmas.Bool.{eq-eqb, eqb-true}
 use Rattle.std.specs.List.{list_any}
-use Rattle.task_sheet.specs.Sheet.{CriticalSection}
-use Rattle.task_sheet.specs.Locks.{names_lock}
-use Rattle.ceiling_kernel.specs.Tick.{Node, Job, job_at, executed_before, picked, is_inside}
-use Rattle.ceiling_kernel.specs.Tick.{held_ceiling}
+use Rattle.task_sheet.proofs.Common.{CriticalSection, names_lock}
+use Rattle.ceiling_kernel.proofs.Common.{Node, Job, job_at, executed_before, picked, is_inside}
+use Rattle.ceiling_kernel.proofs.Common.{held_ceiling, AreApart, TakeTurns}
 use Rattle.ceiling_kernel.specs.Waits.{holds_lock, asks_lock, AskAnew}
-use Rattle.ceiling_kernel.specs.Behaviours.{AreApart, TakeTurns}
 use Rattle.ceiling_kernel.proofs.BehaviourLaws.{turns_apart}
 use Rattle.ceiling_kernel.proofs.SectionLaws.{inside_true, inside_from, outside_before}
 use Rattle.ceiling_kernel.proofs.SectionLaws.{outside_after}

@@ -4,8 +4,7 @@ use Rattle.std.proofs.Common.{ℕ, zero, suc, ◌+◌, ◌<◌, ◌≤◌, ◌�
 use Rattle.std.proofs.Common.{subst, arith, true, false, ◌&&◌, List, [], ◌∷◌, length, Some, None}
 use Rattle.std.proofs.lemmas.Bool.{cases_eq, cases_lt, cases_Bool, cases_order, true≢false}
 use Rattle.std.proofs.lemmas.Bool.{and_parts, or_cases}
-use Rattle.task_sheet.specs.Sheet.{CriticalSection}
-use Rattle.task_sheet.specs.Locks.{names_lock}
+use Rattle.task_sheet.proofs.Common.{CriticalSection, names_lock}
 use Rattle.ceiling_kernel.specs.Tick.{Node, Job, job_at, job_task, level_of_job, active_of}
 use Rattle.ceiling_kernel.specs.Tick.{executed_before, picked, is_inside, ceiling, top_ceiling}
 use Rattle.ceiling_kernel.specs.Tick.{held_ceiling}

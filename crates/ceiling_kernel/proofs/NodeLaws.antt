@@ -8,16 +8,11 @@ use Rattle.std.proofs.lemmas.Bool.{ltb-true, le-ltb, cases_eq}
 use Rattle.std.proofs.lemmas.List.{get_or_past}
 use Rattle.std.proofs.lemmas.List.Elements.{All-get_or}
 use Rattle.std.proofs.lemmas.List.Sums.{sum_by-cons}
-use Rattle.task_sheet.specs.Sheet.{Task, CriticalSection, AreSections, IsSection, IsValidSheet}
-use Rattle.task_sheet.specs.Sheet.{no_task, task_at}
-use Rattle.task_sheet.specs.Locks.{uses, ceiling_from}
-use Rattle.task_sheet.specs.Indexes.{among}
-use Rattle.task_sheet.specs.Orders.{Stands, AllStand}
-use Rattle.task_sheet.specs.Demand.{limit_of}
-use Rattle.ceiling_kernel.specs.Behaviours.{AreApart}
-use Rattle.ceiling_kernel.specs.Tick.{Node, level_from, level_in_order, ceiling}
-use Rattle.ceiling_kernel.specs.Waits.{IsNode, lateness_of}
-use Rattle.ceiling_kernel.specs.Bounds.{above_of, after_of}
+use Rattle.task_sheet.proofs.Common.{Task, CriticalSection, AreSections, IsSection, IsValidSheet}
+use Rattle.task_sheet.proofs.Common.{no_task, task_at, uses, ceiling_from, among, Stands, AllStand}
+use Rattle.task_sheet.proofs.Common.{limit_of}
+use Rattle.ceiling_kernel.proofs.Common.{AreApart, Node, level_from, level_in_order, ceiling}
+use Rattle.ceiling_kernel.proofs.Common.{IsNode, lateness_of, above_of, after_of}
 
 -- ---- sections
 apart_of : (begin cost : ℕ) (ss : List CriticalSection) → begin ≤ cost → AreSections begin cost ss

@@ -3,14 +3,9 @@ use Rattle.std.proofs.Common.{ℕ, suc, ◌+◌, ◌<◌, ◌≤◌, ◌≡◌, 
 use Rattle.std.proofs.Common.{List, [], ◌∷◌, length, true, false, Some, None, nat_le}
 use Rattle.std.specs.Option.{option_or, unwrap_or}
 use Rattle.std.proofs.lemmas.Bool.{cases_lt, cases_Bool, lt-leb, lt-ltb, le-ltb}
-use Rattle.task_sheet.specs.Sheet.{Task, CriticalSection, task_at}
-use Rattle.task_sheet.specs.Locks.{uses, ceiling_from}
-use Rattle.ceiling_kernel.specs.Tick.{Node, is_inside, level_from, level_in_order}
-use Rattle.ceiling_kernel.specs.Tick.{top_ceiling, held_ceiling}
-use Rattle.ceiling_kernel.specs.Jumps.{change_after}
-use Rattle.ceiling_kernel.specs.Waits.{IsNode}
-use Rattle.ceiling_kernel.specs.States.{active_at}
-use Rattle.ceiling_kernel.specs.Behaviours.{AreApart}
+use Rattle.task_sheet.proofs.Common.{Task, CriticalSection, task_at, uses, ceiling_from}
+use Rattle.ceiling_kernel.proofs.Common.{Node, is_inside, level_from, level_in_order, top_ceiling}
+use Rattle.ceiling_kernel.proofs.Common.{held_ceiling, change_after, IsNode, active_at, AreApart}
 use Rattle.ceiling_kernel.proofs.SectionLaws.{inside_from, outside_before, outside_after}
 use Rattle.ceiling_kernel.proofs.LockLaws.{held_before}
 use Rattle.ceiling_kernel.proofs.OrderLaws.{order_length}

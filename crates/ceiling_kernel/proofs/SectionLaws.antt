@@ -4,10 +4,7 @@ use Rattle.std.proofs.Common.{arith, if◌then◌else◌, true, false, ◌&&◌,
 use Rattle.std.proofs.Common.{nat_lt}
 use Rattle.std.proofs.lemmas.Bool.{cases_lt, cases_Bool, lt-ltb, le-ltb, le-leb, lt-leb, leb-true}
 use Rattle.std.proofs.lemmas.Bool.{ltb-true, and_parts, and_left, and_right, and_from}
-use Rattle.task_sheet.specs.Sheet.{CriticalSection}
-use Rattle.task_sheet.specs.Indexes.{Indexes}
-use Rattle.task_sheet.specs.Locks.{reaches}
-use Rattle.task_sheet.specs.Demand.{greatest_of}
+use Rattle.task_sheet.proofs.Common.{CriticalSection, Indexes, reaches, greatest_of}
 use Rattle.ceiling_kernel.specs.Tick.{Node, is_inside, top_ceiling, held_ceiling}
 use Rattle.ceiling_kernel.specs.Behaviours.{AreTaken, AreApart}
 use Rattle.ceiling_kernel.proofs.BehaviourLaws.{covered-le}

@@ -6,15 +6,13 @@ use Rattle.std.proofs.lemmas.Bool.{cases_lt}
 use Rattle.std.proofs.lemmas.List.{take_more, get_or_append_left, get_or_default}
 use Rattle.std.proofs.lemmas.List.Elements.{All-get_or}
 use Rattle.std.proofs.Math.Seq.{get_or-append_seam}
-use Rattle.task_sheet.specs.Sheet.{CriticalSection, Task, IsSection, AreSections, IsValidSheet}
-use Rattle.task_sheet.specs.Sheet.{no_task, task_at}
-use Rattle.task_sheet.specs.TaskSet.{IsTaskSet}
+use Rattle.task_sheet.proofs.Common.{CriticalSection, Task, IsSection, AreSections, IsValidSheet}
+use Rattle.task_sheet.proofs.Common.{no_task, task_at, IsTaskSet}
+use Rattle.ceiling_kernel.proofs.Common.{Node, held_ceiling, change_after, next_change, active_at}
 use Rattle.ceiling_kernel.specs.declared.tasks.NodeSection.{NodeSection}
 use Rattle.ceiling_kernel.specs.declared.tasks.NodeTask.{NodeTask}
-use Rattle.ceiling_kernel.specs.Tick.{Node, held_ceiling}
-use Rattle.ceiling_kernel.specs.Jumps.{change_after}
 use Rattle.ceiling_kernel.specs.NodeTasks.{IsSectionOf, AreSectionsOf, IsTaskOf, AreTasksOf}
-use Rattle.ceiling_kernel.specs.States.{held_top, next_change, active_at}
+use Rattle.ceiling_kernel.specs.States.{held_top}
 
 pub held_top-is : (node : Node) (xs : List CriticalSection) (ss : List NodeSection) (e : ℕ)
     → AreSectionsOf node xs ss → held_top ss e ≡ held_ceiling node xs e

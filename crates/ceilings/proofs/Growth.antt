@@ -12,8 +12,7 @@ use Rattle.std.specs.List.{list_any, fold, flat_map}
 use Rattle.std.specs.Map.{keys_of}
 use Rattle.std.specs.Ordering.{nat_cmp, eq_by_cmp}
 use Rattle.indexmap.specs.IndexMap.{insert_entry}
-use Rattle.task_sheet.specs.Sheet.{CriticalSection, Task, same_bytes}
-use Rattle.task_sheet.specs.Locks.{uses}
+use Rattle.task_sheet.proofs.Common.{CriticalSection, Task, same_bytes, uses}
 use Rattle.task_sheet.proofs.NameLaws.{same_own, same_is}
 use Rattle.ceilings.specs.Table.{Table, locks_in, users_in, with_user, with_section, with_user_of}
 use Rattle.ceilings.specs.IsTableOf.{with_name}

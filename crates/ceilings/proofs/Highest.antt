@@ -4,8 +4,7 @@ use Rattle.std.proofs.Common.{length, take, length-take-le, get_or, Option, Some
 use Rattle.std.proofs.Common.{◌∙◌, arith}
 use Rattle.std.proofs.lemmas.List.{take_more}
 use Rattle.std.specs.Option.{option_or}
-use Rattle.task_sheet.specs.Sheet.{Task, task_at}
-use Rattle.task_sheet.specs.Locks.{uses, ceiling_from, ceiling_of}
+use Rattle.task_sheet.proofs.Common.{Task, task_at, uses, ceiling_from, ceiling_of}
 use Rattle.task_sheet.proofs.OptionLaws.{option_or-none, option_or-assoc}
 
 module _ (U : List Task) (lock : List ℕ) where

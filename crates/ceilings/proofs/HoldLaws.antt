@@ -6,8 +6,7 @@ use Rattle.std.proofs.lemmas.List.{take_more}
 use Rattle.std.proofs.lemmas.List.Folds.{list_any-append}
 use Rattle.std.specs.FinSet as set
 use Rattle.std.specs.Ordering.{nat_cmp}
-use Rattle.task_sheet.specs.Indexes.{indexes_of, meet}
-use Rattle.task_sheet.specs.Demand.{greatest_of}
+use Rattle.task_sheet.proofs.Common.{indexes_of, meet, greatest_of}
 use Rattle.task_sheet.proofs.Below.{greatest_of-push}
 use Rattle.ceilings.specs.Table.{Table, users_in, some_uses}
 

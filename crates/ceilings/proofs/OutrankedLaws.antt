@@ -8,9 +8,7 @@ use Rattle.std.proofs.lemmas.Bool.{cases_eq, cases_lt}
 use Rattle.std.proofs.lemmas.Bool.Decides.{nat_tests}
 use Rattle.std.proofs.lemmas.List.{length-set, get_or-set_same, get_or-set_other, get_or-replicate}
 use Rattle.std.proofs.lemmas.List.{get_or_past, length-replicate}
-use Rattle.task_sheet.specs.Sheet.{Named, Task, task_at}
-use Rattle.task_sheet.specs.Indexes.{indexes_of}
-use Rattle.task_sheet.specs.Orders.{must_outrank}
+use Rattle.task_sheet.proofs.Common.{Named, Task, task_at, indexes_of, must_outrank}
 use Rattle.task_sheet.proofs.MembersIndexes.{indexes_of-empty, indexes_of-insert}
 use Rattle.ceilings.proofs.WholeTable.{nothing_below}
 

@@ -6,9 +6,8 @@ use Rattle.std.proofs.lemmas.Bool.{cases_eq, and_right}
 use Rattle.std.specs.FinSet as set
 use Rattle.std.specs.List.{list_any}
 use Rattle.std.specs.Ordering.{nat_cmp}
-use Rattle.task_sheet.specs.Sheet.{CriticalSection, Task, task_at}
-use Rattle.task_sheet.specs.Indexes.{indexes_of, some_below, meet}
-use Rattle.task_sheet.specs.Locks.{uses, reaches}
+use Rattle.task_sheet.proofs.Common.{CriticalSection, Task, task_at, indexes_of, some_below, meet}
+use Rattle.task_sheet.proofs.Common.{uses, reaches}
 use Rattle.task_sheet.proofs.Below.{some_below-none}
 use Rattle.task_sheet.proofs.MembersMeet.{some_below-congr}
 use Rattle.ceilings.specs.Table.{Table, users_in, some_uses}

@@ -9,9 +9,7 @@ use Rattle.std.proofs.Math.ListN.{get_or-eq_default}
 use Rattle.std.specs.FinSet as set
 use Rattle.std.specs.List.{fold, flat_map}
 use Rattle.std.specs.Ordering.{nat_cmp, eq_by_cmp}
-use Rattle.task_sheet.specs.Sheet.{Task, no_task, task_at}
-use Rattle.task_sheet.specs.Indexes.{indexes_of}
-use Rattle.task_sheet.specs.Locks.{uses}
+use Rattle.task_sheet.proofs.Common.{Task, no_task, task_at, indexes_of, uses}
 use Rattle.ceilings.specs.Table.{Table, locks_in, users_in, with_user_of}
 use Rattle.ceilings.specs.IsTableOf.{with_name, first_sights, names_in, AreUsersOf}
 use Rattle.ceilings.proofs.Growth.{task_added, task_noted}

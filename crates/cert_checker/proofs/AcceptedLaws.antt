@@ -4,13 +4,12 @@ use Rattle.std.proofs.Common.{Some, None, refl, sym, ◌∙◌, ap, subst, arith
 use Rattle.std.specs.Prelude.{unwrap_or}
 use Rattle.std.specs.List.{AllByRecursion}
 use Rattle.std.proofs.lemmas.Bool.{lt-ltb, ltb-true}
-use Rattle.task_sheet.specs.Sheet.{Task, task_at}
-use Rattle.task_sheet.specs.TaskSet.{IsTaskSet}
-use Rattle.task_sheet.specs.Indexes.{Indexes, IsPart, among, without_index}
-use Rattle.task_sheet.specs.Orders.{all_of, IsOrderOf}
-use Rattle.task_sheet.specs.Verdicts.{ReasonData, Chain, Over, FailureData, LevelData, VerdictData}
-use Rattle.task_sheet.specs.Verdicts.{Admitted, Infeasible, tasks_of, order_of, IsVerdictOf}
-use Rattle.task_sheet.specs.Ready.{time_of, AllReady, IsReadyOrder, IsReadySet}
+use Rattle.task_sheet.proofs.Common.{Task, task_at, IsTaskSet, Indexes, IsPart, among}
+use Rattle.task_sheet.proofs.Common.{without_index, all_of, IsOrderOf, ReasonData, FailureData}
+use Rattle.task_sheet.proofs.Common.{LevelData, VerdictData, Admitted, Infeasible, tasks_of}
+use Rattle.task_sheet.proofs.Common.{order_of, IsVerdictOf, AllReady, IsReadyOrder, IsReadySet}
+use Rattle.task_sheet.specs.Verdicts.{Chain, Over}
+use Rattle.task_sheet.specs.Ready.{time_of}
 use Rattle.task_sheet.proofs.TaskLaws.{AllTasks-from_set, place_of_name}
 use Rattle.task_sheet.proofs.IndexLaws.{IsOrderOf-head, IsOrderOf-rest, without-part_of}
 use Rattle.task_sheet.proofs.IndexLaws.{order-below}

@@ -1,9 +1,7 @@
 -- What the checker's answers mean.
 use Rattle.std.proofs.Common.{◌≡◌, ◌↔◌, List, Some, None, Result, Ok, Err, refl, sym, ◌∙◌}
 use Rattle.std.specs.Prelude.{MatchResult, IsOk, IfOk, IfErr}
-use Rattle.task_sheet.specs.Sheet.{Task}
-use Rattle.task_sheet.specs.TaskSet.{IsTaskSet}
-use Rattle.task_sheet.specs.Orders.{IsBest, IsFeasible}
+use Rattle.task_sheet.proofs.Common.{Task, IsTaskSet, IsBest, IsFeasible}
 use Rattle.task_sheet.proofs.TaskLaws.{AllTasks-from_set}
 use Rattle.task_sheet.proofs.ReadyLaws.{IsReadyOrder-best, IsReadySet-fails}
 use Rattle.certificate.specs.Body.{Body, Cert}

@@ -5,9 +5,8 @@ use Rattle.std.proofs.Common.{arith, inl, inr}
 use Rattle.std.specs.List.{AllByRecursion}
 use Rattle.std.proofs.lemmas.Bool.{cases_eq, and_parts, ltb-true}
 use Rattle.std.proofs.lemmas.List.Elements.{All-from_recursion}
-use Rattle.task_sheet.specs.Sheet.{Task}
-use Rattle.task_sheet.specs.Indexes.{Indexes, no_index, with_index, without_index, among}
-use Rattle.task_sheet.specs.Verdicts.{order_of}
+use Rattle.task_sheet.proofs.Common.{Task, Indexes, no_index, with_index, without_index, among}
+use Rattle.task_sheet.proofs.Common.{order_of}
 use Rattle.certificate.specs.Body.{CertLevelData}
 use Rattle.cert_checker.specs.Ready.{task_by_name, levels_of}
 use Rattle.cert_checker.specs.Faults.{are_new, has_all, first_unnamed, level_fault, levels_fault}

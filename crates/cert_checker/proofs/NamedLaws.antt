@@ -4,9 +4,8 @@ use Rattle.std.proofs.Common.{◌==◌, not, List, [], ◌∷◌, refl, ◌∙�
 use Rattle.std.specs.List.{count_by}
 use Rattle.std.proofs.lemmas.Bool.{cases_eq, and_parts, and_from, or_cases, both_ways, ltb-true}
 use Rattle.std.proofs.lemmas.Bool.{lt-ltb, eqb-true, ne_eqb, not-true}
-use Rattle.task_sheet.specs.Indexes.{Indexes, IsPart, no_index, below, with_index, without_index}
-use Rattle.task_sheet.specs.Indexes.{among}
-use Rattle.task_sheet.specs.Orders.{IsOrderOf}
+use Rattle.task_sheet.proofs.Common.{Indexes, IsPart, no_index, below, with_index, without_index}
+use Rattle.task_sheet.proofs.Common.{among, IsOrderOf}
 use Rattle.task_sheet.proofs.IndexLaws.{count-cons, same_parts, without-parts, IsOrderOf-among}
 use Rattle.task_sheet.proofs.IndexLaws.{IsOrderOf-head, IsOrderOf-rest}
 use Rattle.cert_checker.specs.Faults.{are_new, has_all}

@@ -6,13 +6,10 @@ use Rattle.std.specs.Option.{option_or}
 use Rattle.std.specs.List.{AllByRecursion}
 use Rattle.std.proofs.lemmas.Bool.{and_parts, both_ways, or_left, ltb-true, eq-eqb, not-true}
 use Rattle.std.proofs.lemmas.Bool.Decides.{nat_tests, Decides-and, Decides-ltb}
-use Rattle.task_sheet.specs.Sheet.{Task, task_at}
-use Rattle.task_sheet.specs.Indexes.{Indexes, IsPart, no_index, without_index, among}
-use Rattle.task_sheet.specs.Demand.{demand_of, limit_of}
-use Rattle.task_sheet.specs.Orders.{all_of, must_outrank, is_bound, IsOrderOf}
-use Rattle.task_sheet.specs.Verdicts.{tasks_of, order_of}
-use Rattle.task_sheet.specs.Ready.{time_of, Refutes, AllRefuted, IsReadyLevel, AllReady}
-use Rattle.task_sheet.specs.Ready.{IsReadyOrder, IsReadySet}
+use Rattle.task_sheet.proofs.Common.{Task, task_at, Indexes, IsPart, no_index, without_index, among}
+use Rattle.task_sheet.proofs.Common.{demand_of, limit_of, all_of, must_outrank, is_bound, IsOrderOf}
+use Rattle.task_sheet.proofs.Common.{tasks_of, order_of, AllReady, IsReadyOrder, IsReadySet}
+use Rattle.task_sheet.specs.Ready.{time_of, Refutes, AllRefuted, IsReadyLevel}
 use Rattle.task_sheet.proofs.IndexLaws.{IsOrderOf-head, IsOrderOf-rest, without-part_of}
 use Rattle.task_sheet.proofs.IndexLaws.{order-below}
 use Rattle.certificate.specs.Body.{CertReasonData, Chain, Over, Fail, CertLevelData, Body, Best}

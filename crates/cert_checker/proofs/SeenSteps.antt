@@ -7,9 +7,7 @@ use Rattle.std.proofs.Math.Bool.{and-false, or-false}
 use Rattle.std.proofs.Math.Seq.{drop-cons}
 use Rattle.std.proofs.Math.ListN.{drop_of_length-le}
 use Rattle.std.proofs.lemmas.Bool.{cases_eq, eq-eqb, ne_eqb, lt-ltb}
-use Rattle.task_sheet.specs.Sheet.{Task}
-use Rattle.task_sheet.specs.Indexes.{Indexes, no_index, with_index, among}
-use Rattle.task_sheet.specs.Verdicts.{tasks_of, order_of}
+use Rattle.task_sheet.proofs.Common.{Task, Indexes, no_index, with_index, among, tasks_of, order_of}
 use Rattle.certificate.specs.Body.{Fail, CertLevelData}
 use Rattle.cert_checker.specs.Ready.{task_by_name, failures_of, levels_of}
 use Rattle.cert_checker.specs.Faults.{are_new, has_all}

@@ -6,18 +6,15 @@ use Rattle.std.proofs.lemmas.Bool.{ltb-true}
 use Rattle.std.proofs.lemmas.List.{length-map}
 use Rattle.std.proofs.lemmas.List.Elements.{All-from_recursion}
 use Rattle.std.proofs.lemmas.List.Folds.{list_any_at}
-use Rattle.task_sheet.specs.Name.{IsName}
-use Rattle.task_sheet.specs.Sheet.{Task, no_task, outranks_task, task_at}
-use Rattle.task_sheet.specs.TaskSet.{IsTaskSet}
-use Rattle.task_sheet.specs.Indexes.{Indexes, IsPart, without_index, among, listed_below}
-use Rattle.task_sheet.specs.Responses.{ChainFrom}
-use Rattle.task_sheet.specs.Demand.{demand_of, limit_of, has_interrupts}
-use Rattle.task_sheet.specs.Orders.{all_of, must_outrank, IsOrderOf}
+use Rattle.task_sheet.proofs.Common.{IsName, Task, no_task, outranks_task, task_at, IsTaskSet}
+use Rattle.task_sheet.proofs.Common.{Indexes, IsPart, without_index, among, listed_below, ChainFrom}
+use Rattle.task_sheet.proofs.Common.{demand_of, limit_of, all_of, must_outrank, IsOrderOf}
+use Rattle.task_sheet.proofs.Common.{ReasonData, FailureData, LevelData, VerdictData, Admitted}
+use Rattle.task_sheet.proofs.Common.{Infeasible, tasks_of, order_of, IsBestOrder, IsStuck}
+use Rattle.task_sheet.proofs.Common.{IsVerdictOf, AllReady}
+use Rattle.task_sheet.specs.Demand.{has_interrupts}
+use Rattle.task_sheet.specs.Ready.{Refutes, AllRefuted}
 use Rattle.task_sheet.specs.Verdicts as verdict
-use Rattle.task_sheet.specs.Verdicts.{ReasonData, FailureData, LevelData, VerdictData, Admitted}
-use Rattle.task_sheet.specs.Verdicts.{Infeasible, tasks_of, order_of, IsBestOrder, IsStuck}
-use Rattle.task_sheet.specs.Verdicts.{IsVerdictOf}
-use Rattle.task_sheet.specs.Ready.{Refutes, AllRefuted, AllReady}
 use Rattle.task_sheet.proofs.IndexLaws.{without-part_of, IsOrderOf-head, IsOrderOf-rest}
 use Rattle.task_sheet.proofs.IndexLaws.{order-below, order-few}
 use Rattle.task_sheet.proofs.TaskLaws.{valid_at, AllTasks-from_set}

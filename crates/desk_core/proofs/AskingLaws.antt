@@ -6,10 +6,8 @@ use Rattle.std.specs.FinSet as members
 use Rattle.std.proofs.lemmas.Bool.{cases_Bool, ltb-true, lt-ltb}
 use Rattle.std.proofs.lemmas.List.Quantifiers.{position-Some}
 use Rattle.std.proofs.lemmas.Slice.Eq.{bytes_eq-Decides}
-use Rattle.task_sheet.specs.Sheet.{Task, same_bytes, no_task, task_at}
-use Rattle.task_sheet.specs.TaskSet.{IsTaskSet}
-use Rattle.task_sheet.specs.Indexes.{indexes_of}
-use Rattle.task_sheet.specs.Choices.{level_at}
+use Rattle.task_sheet.proofs.Common.{Task, same_bytes, no_task, task_at, IsTaskSet, indexes_of}
+use Rattle.task_sheet.proofs.Common.{level_at}
 use Rattle.task_sheet.proofs.ChosenLaws.{level_at-part}
 use Rattle.task_sheet.proofs.IndexLaws.{without-parts}
 use Rattle.task_sheet.proofs.MembersIndexes.{indexes_of-remove}

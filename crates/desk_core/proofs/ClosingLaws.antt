@@ -3,7 +3,7 @@ use Rattle.std.proofs.Common.{◌≡◌, ◌+◌, ◌-◌, ◌⊎◌, inl, inr, 
 use Rattle.std.proofs.Common.{get_or, None, refl, sym, ◌∙◌, ap, arith, length-append}
 use Rattle.std.proofs.lemmas.Bool.{both_ways}
 use Rattle.std.proofs.lemmas.List.{get_or_push}
-use Rattle.task_sheet.specs.Verdicts.{LevelData}
+use Rattle.task_sheet.proofs.Common.{LevelData}
 use Rattle.assignment.specs.Questions.{QuestionData}
 use Rattle.assignment.specs.Levels.{LevelState, IsDecided, with_finding}
 use Rattle.assignment.specs.Climbs.{ClimbState, IsPlaced, IsEnded, IsUnfinished}

@@ -1,8 +1,7 @@
 -- Replies are determined by the events, and so is the world that they lead to.
 use Rattle.std.proofs.Common.{◌≡◌, ◌∙◌, ℕ, ◌-◌, inl, inr, List, [], ◌∷◌, map, Option, None, Some}
 use Rattle.std.proofs.Common.{Result, Ok, Err, slice_set, refl, sym, ap, subst}
-use Rattle.task_sheet.specs.Sheet.{Task, task_at}
-use Rattle.task_sheet.specs.Verdicts.{FailureData, tasks_of}
+use Rattle.task_sheet.proofs.Common.{Task, task_at, FailureData, tasks_of}
 use Rattle.task_sheet.proofs.VerdictLaws.{IsStuck-one}
 use Rattle.assignment.specs.Kept.{ObstructionData}
 use Rattle.assignment.specs.Questions.{QuestionData}

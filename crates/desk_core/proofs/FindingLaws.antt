@@ -5,14 +5,12 @@ use Rattle.std.proofs.Math.Path.{fun_ext}
 use Rattle.std.specs.Ordering.{nat_cmp}
 use Rattle.std.specs.FinSet as members
 use Rattle.std.proofs.lemmas.Bool.{cases_Bool, cases_eq, cases_order, both_ways, eq-eqb, ne_eqb}
-use Rattle.task_sheet.specs.Sheet.{Task}
-use Rattle.task_sheet.specs.Indexes.{Indexes, indexes_of, with_index, without_index}
+use Rattle.task_sheet.proofs.Common.{Task, Indexes, indexes_of, with_index, without_index, level_at}
 use Rattle.task_sheet.specs.MembersLaws.{same_members-Decides}
 use Rattle.std.proofs.Math.Bool.{and-true}
 use Rattle.task_sheet.proofs.MembersIndexes.{indexes_of-insert, indexes_of-remove, same_members}
 use Rattle.assignment.specs.Questions.{QuestionData}
 use Rattle.assignment.specs.Levels.{LevelState, IsDecided, with_finding}
-use Rattle.task_sheet.specs.Choices.{level_at}
 use Rattle.desk_core.specs.Findings.{Asked, asked_of, is_on, missing_after, level_of, Decides}
 use Rattle.desk_core.specs.Findings.{IsPresent}
 use Rattle.desk_core.specs.Progress.{AreWide}

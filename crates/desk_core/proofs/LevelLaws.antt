@@ -1,11 +1,8 @@
 -- The levels of a set are what is left of it, one chosen task after the other.
 use Rattle.std.proofs.Common.{◌≡◌, ◌∙◌, ℕ, suc, ◌+◌, List, [], ◌∷◌, length, refl, sym, ap, subst}
 use Rattle.std.proofs.Common.{arith}
-use Rattle.task_sheet.specs.Sheet.{Task}
-use Rattle.task_sheet.specs.Indexes.{Indexes, indexes_of, without_index}
-use Rattle.task_sheet.specs.Orders.{all_of}
-use Rattle.task_sheet.specs.Levels.{IsChosen, AllChosen, left_after}
-use Rattle.task_sheet.specs.Choices.{level_at}
+use Rattle.task_sheet.proofs.Common.{Task, Indexes, indexes_of, without_index, all_of, IsChosen}
+use Rattle.task_sheet.proofs.Common.{AllChosen, left_after, level_at}
 use Rattle.task_sheet.proofs.MembersIndexes.{indexes_of-all_below, indexes_of-remove}
 use Rattle.task_sheet.proofs.ChosenLaws.{level_at-next, level_at-part}
 

@@ -7,10 +7,9 @@ use Rattle.std.specs.Ordering.{nat_cmp}
 use Rattle.std.specs.Cmp.{nat_cmp_total}
 use Rattle.std.specs.FinSet as members
 use Rattle.std.proofs.lemmas.Bool.{cases_Bool, cases_eq, and_parts}
-use Rattle.task_sheet.specs.Sheet.{Task}
-use Rattle.task_sheet.specs.Indexes.{Indexes, indexes_of, without_index}
-use Rattle.task_sheet.specs.MembersWords.{all_below}
-use Rattle.task_sheet.specs.Choices.{does_stand, or_last, least_below, chosen_of, level_at}
+use Rattle.task_sheet.proofs.Common.{Task, Indexes, indexes_of, without_index, all_below}
+use Rattle.task_sheet.proofs.Common.{does_stand, level_at}
+use Rattle.task_sheet.specs.Choices.{or_last, least_below, chosen_of}
 use Rattle.task_sheet.proofs.MembersEdits.{len-set_of, set_of-zero}
 use Rattle.task_sheet.proofs.MembersIndexes.{len-of_member, len-remove_member}
 use Rattle.assignment.specs.Questions.{QuestionData}

@@ -4,11 +4,7 @@ use Rattle.std.proofs.Common.{[], ◌∷◌, ◌++◌, length, MatchBool, None, 
 use Rattle.std.proofs.Common.{arith, IsTrue}
 use Rattle.std.specs.FinSet as members
 use Rattle.std.proofs.lemmas.Bool.{cases_Bool, cases_eq, cases_lt, both_ways}
-use Rattle.task_sheet.specs.Sheet.{Task}
-use Rattle.task_sheet.specs.Indexes.{indexes_of}
-use Rattle.task_sheet.specs.MembersWords.{all_below}
-use Rattle.task_sheet.specs.Levels.{NoneStands}
-use Rattle.task_sheet.specs.Choices.{level_at}
+use Rattle.task_sheet.proofs.Common.{Task, indexes_of, all_below, NoneStands, level_at}
 use Rattle.task_sheet.proofs.ChosenLaws.{level_at-next, level_at-stays}
 use Rattle.task_sheet.proofs.MembersIndexes.{indexes_of-all_below, len-remove_member}
 use Rattle.assignment.specs.Questions.{QuestionData}

@@ -7,10 +7,7 @@ use Rattle.std.specs.declared.sync.Arc.{Arc}
 use Rattle.std.specs.FinSet.{FinSet, contains, empty}
 use Rattle.std.proofs.lemmas.Bool.{lt-ltb}
 use Rattle.std.proofs.lemmas.List.{length-map}
-use Rattle.task_sheet.specs.Sheet.{Task, task_at}
-use Rattle.task_sheet.specs.Indexes.{listed_below, no_index}
-use Rattle.task_sheet.specs.MembersWords.{all_below}
-use Rattle.task_sheet.specs.Choices.{level_at}
+use Rattle.task_sheet.proofs.Common.{Task, task_at, listed_below, no_index, all_below, level_at}
 use Rattle.task_sheet.proofs.MembersIndexes.{indexes_of-all_below, indexes_of-empty}
 use Rattle.drafts.specs.declared.roster.Owned.{Owned}
 use Rattle.drafts.specs.declared.change.Refusal.{Refusal}

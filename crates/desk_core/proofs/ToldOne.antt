@@ -3,15 +3,12 @@ use Rattle.std.proofs.Common.{◌≡◌, ℕ, suc, inl, inr, List, [], ◌∷◌
 use Rattle.std.proofs.Common.{arith, IsFalse}
 use Rattle.std.specs.FinSet.{contains}
 use Rattle.std.proofs.lemmas.Bool.{cases_order, both_ways}
-use Rattle.task_sheet.specs.Sheet.{Task}
-use Rattle.task_sheet.specs.Indexes.{Indexes, indexes_of, without_index}
-use Rattle.task_sheet.specs.Levels.{IsChosen}
+use Rattle.task_sheet.proofs.Common.{Task, Indexes, indexes_of, without_index, IsChosen, level_at}
 use Rattle.task_sheet.proofs.PassingLaws.{IsResponseOf-one}
 use Rattle.assignment.specs.Questions.{QuestionData}
 use Rattle.desk_core.specs.declared.told.Told.{Told}
 use Rattle.desk_core.specs.declared.told.Told.TheVariants.{Stranger, Twice, Taken, LevelDone}
 use Rattle.desk_core.specs.declared.told.Told.TheVariants.{Tested}
-use Rattle.task_sheet.specs.Choices.{level_at}
 use Rattle.desk_core.specs.Findings.{Asked, asked_of, level_of, IsPresent, IsNews, IsLevelDone}
 use Rattle.desk_core.specs.Findings.{IsTold}
 use Rattle.desk_core.proofs.FindingLaws.{IsPresent-one}

@@ -4,10 +4,9 @@ use Rattle.std.proofs.Common.{List, [], length, Option, Some, None, refl, ap, ar
 use Rattle.std.specs.Cmp.{nat_eq_equiv}
 use Rattle.std.proofs.lemmas.Bool.{le-ltb, lt-ltb}
 use Rattle.std.proofs.lemmas.Slice.Eq.{slice_eq-Decides}
-use Rattle.task_sheet.specs.Sheet.{Task, task_at}
+use Rattle.task_sheet.proofs.Common.{Task, task_at, AreDistinct, same_name}
 use Rattle.task_sheet.specs.SheetEquality.{same_section-Decides, same_outranks-Decides}
 use Rattle.task_sheet.specs.SheetEquality.{same_node-Decides, same_interrupt-Decides}
-use Rattle.task_sheet.specs.TaskSet.{AreDistinct, same_name}
 use Rattle.task_sheet.proofs.TaskLaws.{place_of_name}
 use Rattle.assignment.specs.declared.placing.Placing.{Placing}
 use Rattle.diff.specs.Keys.{is_changed}

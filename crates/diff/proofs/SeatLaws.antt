@@ -2,11 +2,9 @@
 use Rattle.std.proofs.Common.{◌≡◌, ℕ, ◌+◌, ◌-◌, ◌<◌, ◌≤◌, inl, inr, List, [], ◌∷◌, length, Some}
 use Rattle.std.proofs.Common.{sym, subst, arith, eqb}
 use Rattle.std.proofs.lemmas.Bool.{cases_Bool, eqb-true, ltb-true}
-use Rattle.task_sheet.specs.Sheet.{Task, task_at, AllTasks}
-use Rattle.task_sheet.specs.TaskSet.{IsTaskSet}
-use Rattle.task_sheet.specs.Indexes.{Indexes, IsPart, without_index, among}
-use Rattle.task_sheet.specs.Demand.{IsResponseOf}
-use Rattle.task_sheet.specs.Orders.{all_of, IsOrderOf, AllStand}
+use Rattle.task_sheet.proofs.Common.{Task, task_at, AllTasks, IsTaskSet, Indexes, IsPart}
+use Rattle.task_sheet.proofs.Common.{without_index, among, IsResponseOf, all_of, IsOrderOf}
+use Rattle.task_sheet.proofs.Common.{AllStand}
 use Rattle.task_sheet.proofs.IndexLaws.{without-part_of, IsOrderOf-among, IsOrderOf-head}
 use Rattle.task_sheet.proofs.IndexLaws.{IsOrderOf-rest}
 use Rattle.task_sheet.proofs.PassingLaws.{IsResponseOf-one, Passes-iff_response}

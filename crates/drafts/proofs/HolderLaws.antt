@@ -7,10 +7,9 @@ use Rattle.std.proofs.lemmas.Bool.{cases_Bool, both_ways}
 use Rattle.std.proofs.lemmas.Bool.Decides.{Decides-eqb}
 use Rattle.std.proofs.lemmas.Slice.Eq.{bytes_eq-Decides}
 use Rattle.std.specs.Option.{option_map_or}
-use Rattle.task_sheet.specs.Sheet.{same_bytes}
+use Rattle.task_sheet.proofs.Common.{same_bytes, same_name, AreDistinct, IsTaskSet}
 use Rattle.std.specs.declared.sync.Arc.{Arc}
 use Rattle.assignment.specs.declared.verdict.Assignment.{Assignment}
-use Rattle.task_sheet.specs.TaskSet.{same_name, AreDistinct, IsTaskSet}
 use Rattle.drafts.specs.declared.roster.Owned.{Owned}
 use Rattle.drafts.specs.declared.change.Change.{Change}
 use Rattle.drafts.specs.declared.change.Change.TheVariants.{Put, Remove}

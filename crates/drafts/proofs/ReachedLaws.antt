@@ -7,9 +7,7 @@ use Rattle.std.specs.Ordering.{is_lt}
 use Rattle.std.specs.Cmp.{tied_itself}
 use Rattle.std.proofs.lemmas.Bool.{cases_Bool, both_ways}
 use Rattle.std.proofs.lemmas.Slice.Eq.{bytes_eq-Decides}
-use Rattle.task_sheet.specs.Sheet.{Task, same_bytes}
-use Rattle.task_sheet.specs.Rank.{rank_cmp}
-use Rattle.task_sheet.specs.TaskSet.{same_name, AreDistinct}
+use Rattle.task_sheet.proofs.Common.{Task, same_bytes, rank_cmp, same_name, AreDistinct}
 use Rattle.task_sheet.proofs.SetLaws.{rank_total, same_turned, below}
 use Rattle.drafts.specs.declared.roster.Owned.{Owned}
 use Rattle.drafts.specs.Applied.{set_of, bears_name, held, without_name, placed, with_task}

@@ -13,10 +13,8 @@ use Rattle.std.proofs.lemmas.List.Sums.{prefix_len-le-length}
 use Rattle.std.proofs.lemmas.List.Folds.{list_any-append}
 use Rattle.std.proofs.lemmas.List.Elements.{recursion_from_All}
 use Rattle.std.proofs.lemmas.List.Sorted.{IsPermutation-sym}
-use Rattle.task_sheet.specs.Sheet.{Task, IsValidSheet, same_bytes}
-use Rattle.task_sheet.specs.Rank.{rank_cmp, IsByRank}
-use Rattle.task_sheet.specs.TaskSet.{same_name, first_repeat, AreDistinct, IsTaskSet}
-use Rattle.task_sheet.specs.SheetsFault.{sheets_fault}
+use Rattle.task_sheet.proofs.Common.{Task, IsValidSheet, same_bytes, rank_cmp, IsByRank, same_name}
+use Rattle.task_sheet.proofs.Common.{first_repeat, AreDistinct, IsTaskSet, sheets_fault}
 use Rattle.task_sheet.proofs.SetLaws.{rank_total, same_turned, below}
 use Rattle.task_sheet.proofs.Unique.{sorted_unique}
 use Rattle.drafts.specs.declared.roster.Owned.{Owned}

@@ -3,17 +3,13 @@ use Rattle.std.proofs.Common.{◌≡◌, ◌∙◌, ℕ, ◌<◌, ◌≤◌, ref
 use Rattle.std.proofs.Common.{List, [], ◌∷◌, length, Option, Some, None}
 use Rattle.std.proofs.lemmas.List.Elements.{All-from_get_or, All-nil, All-push}
 use Rattle.std.proofs.lemmas.List.Quantifiers.{position-Some}
-use Rattle.task_sheet.specs.Sheet.{Task, same_bytes}
-use Rattle.task_sheet.specs.TaskSet.{IsTaskSet}
+use Rattle.task_sheet.proofs.Common.{Task, same_bytes, IsTaskSet}
 use Rattle.task_sheet.proofs.NameLaws.{same_is, same_own}
 use Rattle.assignment.specs.Places.{PlaceData}
 use Rattle.assignment.specs.Placings.{IsBestPlacing}
 use Rattle.explain.specs.Accounts.{AreInTime}
 use Rattle.explain.proofs.AccountLaws.{best-in_time}
-use Rattle.ceiling_kernel.specs.Runs.{no_record}
-use Rattle.ceiling_kernel.specs.declared.trace.JobRecord.{JobRecord}
-use Rattle.ceiling_kernel.specs.declared.trace.Release.{Release}
-use Rattle.ceiling_kernel.specs.declared.trace.Trace.{Trace}
+use Rattle.ceiling_kernel.proofs.Common.{no_record, JobRecord, Release, Trace}
 use Rattle.run_lines.specs.TaskBounds.{bounds_of}
 use Rattle.frames.specs.declared.rows.TaskRow.{TaskRow}
 use Rattle.frames.specs.declared.view.View.{View}

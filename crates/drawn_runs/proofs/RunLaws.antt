@@ -4,11 +4,8 @@ use Rattle.std.proofs.Common.{List, [], ◌∷◌, length, Option, Some, None, O
 use Rattle.std.proofs.Common.{refl, sym, ap, arith}
 use Rattle.std.proofs.lemmas.Bool.{and_from, cases_eq, cases_lt, le-ltb, leb-false, lt-leb, lt-ltb}
 use Rattle.std.proofs.lemmas.Bool.{ne_eqb, true≢false}
-use Rattle.task_sheet.specs.Sheet.{Task, same_bytes, task_at}
-use Rattle.task_sheet.specs.TaskSet.{IsTaskSet}
-use Rattle.task_sheet.specs.Indexes.{among}
-use Rattle.task_sheet.specs.Demand.{greatest_of}
-use Rattle.task_sheet.specs.Orders.{all_of}
+use Rattle.task_sheet.proofs.Common.{Task, same_bytes, task_at, IsTaskSet, among, greatest_of}
+use Rattle.task_sheet.proofs.Common.{all_of}
 use Rattle.task_sheet.proofs.IndexLaws.{IsOrderOf-among}
 use Rattle.task_sheet.proofs.NameLaws.{same_own}
 use Rattle.task_sheet.proofs.TaskLaws.{place_of_name}
@@ -16,13 +13,9 @@ use Rattle.assignment.specs.Places.{PlaceData}
 use Rattle.assignment.specs.Placings.{tasks_of_places}
 use Rattle.explain.specs.Accounts.{AreInTime}
 use Rattle.explain.proofs.AccountLaws.{best-in_time}
-use Rattle.ceiling_kernel.specs.Tick.{Job, Node, node_in}
-use Rattle.ceiling_kernel.specs.Releases.{is_past, jobs_of, no_release, ready_of, release_at}
-use Rattle.ceiling_kernel.specs.Releases.{task_named, task_number}
-use Rattle.ceiling_kernel.specs.Runs.{Runs, no_record, record_of, records_from}
-use Rattle.ceiling_kernel.specs.declared.trace.JobRecord.{JobRecord}
-use Rattle.ceiling_kernel.specs.declared.trace.Release.{Release}
-use Rattle.ceiling_kernel.specs.declared.trace.Trace.{Trace}
+use Rattle.ceiling_kernel.proofs.Common.{Job, Node, node_in, is_past, jobs_of, no_release, ready_of}
+use Rattle.ceiling_kernel.proofs.Common.{release_at, task_named, task_number, Runs, no_record}
+use Rattle.ceiling_kernel.proofs.Common.{record_of, records_from, JobRecord, Release, Trace}
 use Rattle.ceiling_kernel.proofs.AcceptLaws.{IsAccepted, accepted, none_passes, sorted_from}
 use Rattle.ceiling_kernel.proofs.EndLaws.{records_at}
 use Rattle.run_lines.specs.Reached.{done_of, is_done_of, response_of}

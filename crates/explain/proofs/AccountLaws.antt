@@ -2,11 +2,8 @@
 use Rattle.std.proofs.Common.{◌≡◌, ℕ, ◌<◌, ◌≤◌, List, [], ◌∷◌, length, All, arith}
 use Rattle.std.proofs.lemmas.Bool.{ltb-true}
 use Rattle.std.proofs.lemmas.List.Elements.{All-from_recursion}
-use Rattle.task_sheet.specs.Sheet.{Task, AllTasks}
-use Rattle.task_sheet.specs.TaskSet.{IsTaskSet}
-use Rattle.task_sheet.specs.Indexes.{Indexes, IsPart, without_index, among}
-use Rattle.task_sheet.specs.Demand.{IsResponseOf}
-use Rattle.task_sheet.specs.Orders.{all_of, IsOrderOf, AllStand}
+use Rattle.task_sheet.proofs.Common.{Task, AllTasks, IsTaskSet, Indexes, IsPart, without_index}
+use Rattle.task_sheet.proofs.Common.{among, IsResponseOf, all_of, IsOrderOf, AllStand}
 use Rattle.task_sheet.proofs.IndexLaws.{without-part_of, IsOrderOf-among, IsOrderOf-head}
 use Rattle.task_sheet.proofs.IndexLaws.{IsOrderOf-rest, order-below}
 use Rattle.task_sheet.proofs.PassingLaws.{IsResponseOf-one, Passes-iff_response}

@@ -6,10 +6,9 @@ use Rattle.std.specs.List.{find, list_any}
 use Rattle.std.proofs.lemmas.Bool.{cases_Bool, cases_eq, both_ways, and_right}
 use Rattle.std.proofs.lemmas.Option.{same_Some, slice_get_within, slice_get-get_or}
 use Rattle.std.proofs.lemmas.Option.{get_or_from_slice_get}
-use Rattle.task_sheet.specs.Sheet.{CriticalSection, Task, task_at}
-use Rattle.task_sheet.specs.Indexes.{Indexes, with_index, some_below}
-use Rattle.task_sheet.specs.Locks.{uses, reaches}
-use Rattle.task_sheet.specs.Demand.{blocking_of, Blocks}
+use Rattle.task_sheet.proofs.Common.{CriticalSection, Task, task_at, Indexes, with_index}
+use Rattle.task_sheet.proofs.Common.{some_below, uses, reaches, blocking_of}
+use Rattle.task_sheet.specs.Demand.{Blocks}
 use Rattle.task_sheet.proofs.Below.{some_below-none}
 use Rattle.task_sheet.proofs.BlockingLaws.{blocking-above, blocking-some}
 use Rattle.explain.specs.Blocking.{BlockerData, has_user, reached_lock, BlocksAt, IsFirstBlocker}

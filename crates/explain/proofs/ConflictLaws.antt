@@ -4,10 +4,8 @@ use Rattle.std.proofs.Common.{length, refl, sym, ◌∙◌, subst, arith}
 use Rattle.std.specs.Ordering.{nat_cmp}
 use Rattle.std.specs.FinSet as members
 use Rattle.std.proofs.lemmas.Bool.{cases_Bool, cases_eq, both_ways, ltb-true}
-use Rattle.task_sheet.specs.Sheet.{Task, AllTasks}
-use Rattle.task_sheet.specs.Indexes.{Indexes, indexes_of, IsPart, without_index}
-use Rattle.task_sheet.specs.Orders.{all_of, Stands}
-use Rattle.task_sheet.specs.Levels.{NoneStands, IsObstruction}
+use Rattle.task_sheet.proofs.Common.{Task, AllTasks, Indexes, indexes_of, IsPart, without_index}
+use Rattle.task_sheet.proofs.Common.{all_of, Stands, NoneStands, IsObstruction}
 use Rattle.task_sheet.proofs.IndexLaws.{same_parts, without-member, without-parts, without-part}
 use Rattle.task_sheet.proofs.IndexLaws.{without-part_of, count_below, without-fewer}
 use Rattle.task_sheet.proofs.Below.{find_below}

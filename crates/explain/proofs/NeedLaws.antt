@@ -7,10 +7,8 @@ use Rattle.std.proofs.lemmas.List.{drop_more, drop_all, take-append-drop, length
 use Rattle.std.proofs.lemmas.List.{get_or-reverse}
 use Rattle.std.proofs.lemmas.List.Elements.{All-from_recursion}
 use Rattle.std.proofs.lemmas.List.Sorted.{IsPermutation-reverse, sum_by-IsPermutation}
-use Rattle.task_sheet.specs.Sheet.{Task}
-use Rattle.task_sheet.specs.Indexes.{Indexes, listed_below}
-use Rattle.task_sheet.specs.Responses.{ChainFrom, FullFrom, IsFullChain}
-use Rattle.task_sheet.specs.Orders.{IsOrderOf}
+use Rattle.task_sheet.proofs.Common.{Task, Indexes, listed_below, ChainFrom, IsFullChain, IsOrderOf}
+use Rattle.task_sheet.specs.Responses.{FullFrom}
 use Rattle.assignment.proofs.GatherLaws.{listed_below-member, listed_below-other}
 use Rattle.explain.specs.Needs.{EndsWith, IsNeedOf, AreNeedsOf}
 use Rattle.explain.specs.declared.needs.Need.{Need}

@@ -3,12 +3,11 @@ use Rattle.std.proofs.Common.{◌≡◌, ℕ, zero, suc, ◌+◌, ◌<◌, ◌�
 use Rattle.std.proofs.Common.{length, map, sum_by, Option, Some, None, refl, sym, ◌∙◌, ap, arith}
 use Rattle.std.proofs.lemmas.Bool.{cases_eq, ltb-true}
 use Rattle.std.proofs.lemmas.List.Sums.{sum_by-append, sum_by-cons}
-use Rattle.task_sheet.specs.Sheet.{Task, task_at}
-use Rattle.task_sheet.specs.Indexes.{Indexes, IsPart, below, no_index, without_index, sum_below}
-use Rattle.task_sheet.specs.Demand.{interference_of, interference_within, interrupt_within}
-use Rattle.task_sheet.specs.Demand.{interrupts_of, interrupts_within, blocking_of, demand_of}
-use Rattle.task_sheet.specs.Demand.{past_jitter, IsResponseOf}
-use Rattle.task_sheet.specs.Orders.{all_of, IsOrderOf}
+use Rattle.task_sheet.proofs.Common.{Task, task_at, Indexes, IsPart, below, no_index, without_index}
+use Rattle.task_sheet.proofs.Common.{sum_below, interference_of, interference_within}
+use Rattle.task_sheet.proofs.Common.{interrupt_within, interrupts_of, interrupts_within}
+use Rattle.task_sheet.proofs.Common.{blocking_of, demand_of, past_jitter, IsResponseOf, all_of}
+use Rattle.task_sheet.proofs.Common.{IsOrderOf}
 use Rattle.task_sheet.proofs.IndexLaws.{without-gone, without-kept, without-part_of}
 use Rattle.task_sheet.proofs.IndexLaws.{IsOrderOf-among, IsOrderOf-head, IsOrderOf-rest}
 use Rattle.task_sheet.proofs.PassingLaws.{IsResponseOf-iff}

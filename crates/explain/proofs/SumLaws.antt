@@ -1,12 +1,9 @@
 -- Each time of an explanation is what its parts come to.
 use Rattle.std.proofs.Common.{◌≡◌, ℕ, List, [], ◌∷◌, length, reverse, sym, ◌∙◌, subst, arith}
 use Rattle.std.specs.List.{AllByRecursion}
-use Rattle.task_sheet.specs.Sheet.{Task, task_at}
-use Rattle.task_sheet.specs.TaskSet.{IsTaskSet}
-use Rattle.task_sheet.specs.Indexes.{Indexes, IsPart, indexes_of, without_index, among}
-use Rattle.task_sheet.specs.Indexes.{listed_below}
-use Rattle.task_sheet.specs.Demand.{demand_of, limit_of}
-use Rattle.task_sheet.specs.Orders.{all_of, IsOrderOf}
+use Rattle.task_sheet.proofs.Common.{Task, task_at, IsTaskSet, Indexes, IsPart, indexes_of}
+use Rattle.task_sheet.proofs.Common.{without_index, among, listed_below, demand_of, limit_of}
+use Rattle.task_sheet.proofs.Common.{all_of, IsOrderOf}
 use Rattle.task_sheet.proofs.IndexLaws.{without-part_of, listed-order, IsOrderOf-among}
 use Rattle.task_sheet.proofs.IndexLaws.{IsOrderOf-rest}
 use Rattle.assignment.specs.Places.{PlaceData}

@@ -1,11 +1,7 @@
 -- Where some order passes with one factor, some task of each obstruction with another one need not stand above another.
 use Rattle.std.proofs.Common.{◌≡◌, ℕ, true, List, refl, sym, ◌∙◌, ap, subst}
-use Rattle.task_sheet.specs.Sheet.{Task}
-use Rattle.task_sheet.specs.TaskSet.{IsTaskSet}
-use Rattle.task_sheet.specs.Indexes.{Indexes, IsPart, below, among, without_index}
-use Rattle.task_sheet.specs.Demand.{limit_of}
-use Rattle.task_sheet.specs.Orders.{all_of}
-use Rattle.task_sheet.specs.Levels.{IsObstruction}
+use Rattle.task_sheet.proofs.Common.{Task, IsTaskSet, Indexes, IsPart, below, among, without_index}
+use Rattle.task_sheet.proofs.Common.{limit_of, all_of, IsObstruction}
 use Rattle.task_sheet.proofs.IndexLaws.{IsOrderOf-among}
 use Rattle.task_sheet.proofs.TaskLaws.{AllTasks-from_set}
 use Rattle.latest_first.specs.LatestFirst.{AreAlike, IsFree}

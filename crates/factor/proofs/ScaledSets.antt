@@ -5,10 +5,8 @@ use Rattle.std.specs.List.{AllByRecursion}
 use Rattle.std.proofs.lemmas.Bool.{cases_lt}
 use Rattle.std.proofs.lemmas.List.{get_or_default}
 use Rattle.std.proofs.lemmas.List.Elements.{recursion_from_All}
-use Rattle.task_sheet.specs.Sheet.{Task, AllTasks, IsValidSheet, no_task, task_at}
-use Rattle.task_sheet.specs.TaskSet.{IsTaskSet}
-use Rattle.task_sheet.specs.Indexes.{below}
-use Rattle.task_sheet.specs.Orders.{IsOrder, IsFeasible}
+use Rattle.task_sheet.proofs.Common.{Task, AllTasks, IsValidSheet, no_task, task_at, IsTaskSet}
+use Rattle.task_sheet.proofs.Common.{below, IsOrder, IsFeasible}
 use Rattle.task_sheet.proofs.TaskLaws.{AllTasks-from_set, valid_at}
 use Rattle.overheads.proofs.MappedSets.{KeepsRanks, count-mapped, mapped-at, mapped-past}
 use Rattle.overheads.proofs.MappedSets.{set-mapped}

@@ -7,14 +7,13 @@ use Rattle.std.proofs.Math.Nat.{mul-le-mul}
 use Rattle.std.specs.List.{list_any, AllByRecursion}
 use Rattle.std.proofs.lemmas.Bool.{cases_Bool, cases_eq, cases_lt}
 use Rattle.std.proofs.lemmas.List.{get_or-set_same, get_or-set_other, length-set}
-use Rattle.task_sheet.specs.Sheet.{CriticalSection, Task, with_jitter, AreSections, IsValidSheet}
-use Rattle.task_sheet.specs.Sheet.{no_task, task_at}
-use Rattle.task_sheet.specs.Indexes.{Indexes, with_index, some_below, greatest_below, below, among}
-use Rattle.task_sheet.specs.Locks.{names_lock}
-use Rattle.task_sheet.specs.Demand.{limit_of, greatest_of, blocking_of, interrupts_within}
-use Rattle.task_sheet.specs.Demand.{demand_of, releases_within, interference_of, Passes}
-use Rattle.task_sheet.specs.Orders.{must_outrank, is_bound, Stands, AllStand, IsPassingOrder}
-use Rattle.task_sheet.specs.Orders.{IsFeasible}
+use Rattle.task_sheet.proofs.Common.{CriticalSection, Task, AreSections, IsValidSheet, no_task}
+use Rattle.task_sheet.proofs.Common.{task_at, Indexes, with_index, some_below, greatest_below}
+use Rattle.task_sheet.proofs.Common.{below, among, names_lock, limit_of, greatest_of, blocking_of}
+use Rattle.task_sheet.proofs.Common.{interrupts_within, demand_of, releases_within, interference_of}
+use Rattle.task_sheet.proofs.Common.{Passes, must_outrank, is_bound, Stands, AllStand}
+use Rattle.task_sheet.proofs.Common.{IsPassingOrder, IsFeasible}
+use Rattle.task_sheet.specs.Sheet.{with_jitter}
 use Rattle.task_sheet.proofs.Below.{sum_below-le, greatest_of-le}
 use Rattle.task_sheet.proofs.Releases.{div_ceil-mono}
 use Rattle.ceilings.specs.Holds.{longest_outside}

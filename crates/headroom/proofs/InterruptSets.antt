@@ -1,10 +1,8 @@
 -- What timers and interrupts take in two sets of as many tasks.
 use Rattle.std.proofs.Common.{◌≡◌, ℕ, ◌<◌, ◌≤◌, List, length, sum_by, ap, arith}
 use Rattle.std.proofs.Math.Nat.{mul-le-mul}
-use Rattle.task_sheet.specs.declared.node.Interrupt.{Interrupt}
-use Rattle.task_sheet.specs.Sheet.{Task, task_at}
-use Rattle.task_sheet.specs.Demand.{releases_within, interrupt_within, interrupts_of}
-use Rattle.task_sheet.specs.Demand.{interrupts_within}
+use Rattle.task_sheet.proofs.Common.{Interrupt, Task, task_at, releases_within, interrupt_within}
+use Rattle.task_sheet.proofs.Common.{interrupts_of, interrupts_within}
 use Rattle.task_sheet.proofs.Below.{sum_below-le}
 
 -- no more where a task is released no more often, its timer takes no more, and the interrupts are the same

@@ -5,9 +5,8 @@ use Rattle.std.specs.Ordering.{nat_cmp}
 use Rattle.std.specs.FinSet as members
 use Rattle.std.proofs.lemmas.Bool.{ltb-true}
 use Rattle.std.proofs.lemmas.List.{drop_more}
-use Rattle.task_sheet.specs.Sheet.{Task}
-use Rattle.task_sheet.specs.Indexes.{indexes_of, among, without_index, IsPart}
-use Rattle.task_sheet.specs.Orders.{all_of, Stands, IsOrderOf, AllStand}
+use Rattle.task_sheet.proofs.Common.{Task, indexes_of, among, without_index, IsPart, all_of, Stands}
+use Rattle.task_sheet.proofs.Common.{IsOrderOf, AllStand}
 use Rattle.task_sheet.proofs.IndexLaws.{without-part_of}
 use Rattle.task_sheet.proofs.IndexLaws.{IsOrderOf-among, IsOrderOf-head, IsOrderOf-rest}
 use Rattle.task_sheet.proofs.MembersIndexes.{indexes_of-remove}

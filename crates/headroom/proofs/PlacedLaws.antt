@@ -6,10 +6,8 @@ use Rattle.std.specs.List.Sorted.{IsStrictlySortedBy}
 use Rattle.std.proofs.lemmas.Bool.{cases_eq}
 use Rattle.std.proofs.lemmas.List.{length-set, get_or_default}
 use Rattle.std.proofs.lemmas.List.Sorted.{IsPermutation-refl}
-use Rattle.task_sheet.specs.Sheet.{Task, IsValidSheet, AllTasks, no_task, task_at}
-use Rattle.task_sheet.specs.Rank.{rank_cmp, IsByRank}
-use Rattle.task_sheet.specs.TaskSet.{same_name, AreDistinct, IsTaskSet}
-use Rattle.task_sheet.specs.SheetsFault.{sheets_fault}
+use Rattle.task_sheet.proofs.Common.{Task, IsValidSheet, AllTasks, no_task, task_at, rank_cmp}
+use Rattle.task_sheet.proofs.Common.{IsByRank, same_name, AreDistinct, IsTaskSet, sheets_fault}
 use Rattle.task_sheet.proofs.SetLaws.{by_rank_one, no_fault}
 use Rattle.task_sheet.proofs.TaskLaws.{IsTask-from_valid, task_read, valid_at}
 use Rattle.headroom.proofs.CostLaws.{placed-other, placed-same}

@@ -3,8 +3,7 @@ use Rattle.std.proofs.Common.{◌≡◌, ◌∙◌, ℕ, ◌+◌, ◌<◌, ◌�
 use Rattle.std.proofs.Common.{drop, append-nil, sym, ap, subst, append_assoc}
 use Rattle.std.proofs.lemmas.List.{drop_more, take_more, take_all, map_push}
 use Rattle.std.proofs.Math.ListN.{drop_of_length-le}
-use Rattle.task_sheet.specs.Sheet.{Task}
-use Rattle.task_sheet.specs.Indexes.{among}
+use Rattle.task_sheet.proofs.Common.{Task, among}
 use Rattle.judge.specs.Judgements.{AllJudged, IsJudgementOf, order_judged}
 use Rattle.judge.specs.declared.judging.JudgedTask.{JudgedTask}
 

@@ -10,10 +10,8 @@ use Rattle.std.proofs.lemmas.List.{get_or-map, map_push, length-map}
 use Rattle.std.proofs.lemmas.List.Folds.{list_any-append, list_any_at}
 use Rattle.std.proofs.lemmas.List.Elements.{All-push, All-from_recursion}
 use Rattle.std.proofs.lemmas.List.Sorted.{All-permutation, IsPermutation-map, sum_by-IsPermutation}
-use Rattle.task_sheet.specs.Sheet.{Task, same_bytes, no_task, task_at}
-use Rattle.task_sheet.specs.TaskSet.{IsTaskSet, AreDistinct}
-use Rattle.task_sheet.specs.Indexes.{Indexes, among, listed_below, without_index}
-use Rattle.task_sheet.specs.Orders.{all_of, IsOrderOf}
+use Rattle.task_sheet.proofs.Common.{Task, same_bytes, no_task, task_at, IsTaskSet, AreDistinct}
+use Rattle.task_sheet.proofs.Common.{Indexes, among, listed_below, without_index, all_of, IsOrderOf}
 use Rattle.task_sheet.proofs.IndexLaws.{without-parts, IsOrderOf-among, IsOrderOf-head}
 use Rattle.task_sheet.proofs.IndexLaws.{IsOrderOf-rest, listed-order}
 use Rattle.task_sheet.proofs.NameLaws.{same_is}

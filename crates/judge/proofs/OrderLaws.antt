@@ -5,11 +5,9 @@ use Rattle.std.proofs.Common.{arith}
 use Rattle.std.specs.List.Sorted.{IsStrictlyIncreasing}
 use Rattle.std.proofs.lemmas.Bool.{both_ways, cases_eq, cases_order, ne_eqb, true≢false, and_parts}
 use Rattle.std.proofs.lemmas.Bool.{and_from, ltb-true}
-use Rattle.task_sheet.specs.Sheet.{Task, AllTasks, task_at}
-use Rattle.task_sheet.specs.Indexes.{Indexes, among, without_index, IsPart}
-use Rattle.task_sheet.specs.Demand.{IsResponseOf, Passes}
-use Rattle.task_sheet.specs.Orders.{all_of, is_bound, Stands, AllStand, IsOrderOf}
-use Rattle.task_sheet.specs.Verdicts.{IsLeastOver}
+use Rattle.task_sheet.proofs.Common.{Task, AllTasks, task_at, Indexes, among, without_index, IsPart}
+use Rattle.task_sheet.proofs.Common.{IsResponseOf, Passes, all_of, is_bound, Stands, AllStand}
+use Rattle.task_sheet.proofs.Common.{IsOrderOf, IsLeastOver}
 use Rattle.task_sheet.proofs.PassingLaws.{IsResponseOf-one, is_bound-at, Passes-iff_response}
 use Rattle.task_sheet.proofs.IndexLaws.{IsOrderOf-among, IsOrderOf-head, IsOrderOf-rest}
 use Rattle.task_sheet.proofs.IndexLaws.{without-member, without-part_of}

@@ -1,7 +1,6 @@
 -- The places of an order whose tasks all meet their deadlines.
 use Rattle.std.proofs.Common.{◌≡◌, List}
-use Rattle.task_sheet.specs.Sheet.{Task}
-use Rattle.task_sheet.specs.Orders.{IsOrder, IsPassingOrder}
+use Rattle.task_sheet.proofs.Common.{Task, IsOrder, IsPassingOrder}
 use Rattle.assignment.specs.Places.{PlaceData}
 use Rattle.assignment.specs.Placings.{tasks_of_places}
 use Rattle.judge.specs.Judgements.{AllJudged, judged_of, order_judged}

@@ -10,13 +10,11 @@ use Rattle.std.proofs.lemmas.List.Folds.{list_any_at, Any-from_list_any}
 use Rattle.std.proofs.lemmas.List.Elements.{recursion_from_All}
 use Rattle.std.proofs.lemmas.List.{get_or-map, get_or_default, length-map}
 use Rattle.std.specs.Cmp.Lexicographic.{nat_list_eq_equiv}
-use Rattle.task_sheet.specs.Sheet.{CriticalSection, Task, IsValidSheet, same_bytes, task_at}
-use Rattle.task_sheet.specs.Sheet.{no_task, AreSections}
-use Rattle.task_sheet.specs.Name.{IsName}
-use Rattle.task_sheet.specs.TaskSet.{IsTaskSet, AreDistinct}
-use Rattle.task_sheet.specs.Indexes.{Indexes, IsPart, among, without_index, greatest_below}
-use Rattle.task_sheet.specs.Locks.{IsHighestUser, ceiling_of, uses}
-use Rattle.task_sheet.specs.Orders.{all_of, IsOrder, IsOrderOf}
+use Rattle.task_sheet.proofs.Common.{CriticalSection, Task, IsValidSheet, same_bytes, task_at}
+use Rattle.task_sheet.proofs.Common.{no_task, AreSections, IsName, IsTaskSet, AreDistinct, Indexes}
+use Rattle.task_sheet.proofs.Common.{IsPart, among, without_index, greatest_below, ceiling_of, uses}
+use Rattle.task_sheet.proofs.Common.{all_of, IsOrder, IsOrderOf}
+use Rattle.task_sheet.specs.Locks.{IsHighestUser}
 use Rattle.task_sheet.proofs.NameLaws.{same_own, same_is}
 use Rattle.task_sheet.proofs.TaskLaws.{place_of_name, valid_at}
 use Rattle.task_sheet.proofs.Below.{greatest_below-le, le-greatest_below}

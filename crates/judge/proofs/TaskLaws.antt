@@ -1,8 +1,7 @@
 -- The tasks of an order that was judged are the set's.
 use Rattle.std.proofs.Common.{ℕ, ◌<◌, List, length, All, arith}
 use Rattle.std.proofs.lemmas.List.{get_or-map, length-map}
-use Rattle.task_sheet.specs.Sheet.{Task}
-use Rattle.task_sheet.specs.Orders.{IsOrder}
+use Rattle.task_sheet.proofs.Common.{Task, IsOrder}
 use Rattle.ceiling_kernel.proofs.OrderLaws.{order_iff}
 use Rattle.judge.specs.Judgements.{order_judged}
 use Rattle.judge.specs.declared.judging.JudgedTask.{JudgedTask}

@@ -4,11 +4,9 @@ use Rattle.std.proofs.Common.{refl, sym, subst}
 use Rattle.std.specs.Ordering.{nat_cmp}
 use Rattle.std.specs.FinSet as members
 use Rattle.std.proofs.lemmas.Bool.{cases_Bool, or_cases, both_ways, eqb-true}
-use Rattle.task_sheet.specs.Sheet.{Task, AllTasks}
-use Rattle.task_sheet.specs.Indexes.{Indexes, indexes_of, without_index, among, IsPart}
-use Rattle.task_sheet.specs.Demand.{IsResponseOf}
-use Rattle.task_sheet.specs.Orders.{all_of, AllStand, IsOrderOf, IsBetter}
-use Rattle.task_sheet.specs.Levels.{left_after}
+use Rattle.task_sheet.proofs.Common.{Task, AllTasks, Indexes, indexes_of, without_index, among}
+use Rattle.task_sheet.proofs.Common.{IsPart, IsResponseOf, all_of, AllStand, IsOrderOf, IsBetter}
+use Rattle.task_sheet.proofs.Common.{left_after}
 use Rattle.task_sheet.proofs.MembersIndexes.{member_of-len}
 use Rattle.task_sheet.proofs.IndexLaws.{without-parts, IsOrderOf-among, IsOrderOf-head}
 use Rattle.task_sheet.proofs.IndexLaws.{IsOrderOf-rest, IsOrderOf-cons}

@@ -7,10 +7,7 @@ use Rattle.std.proofs.lemmas.Bool.{and_from, both_ways, false_from_ne_true, true
 use Rattle.std.proofs.lemmas.Bool.{eqb-true}
 use Rattle.std.proofs.lemmas.List.{at_drop_more, take_more, take-append-drop}
 use Rattle.std.proofs.lemmas.List.Folds.{list_any-append}
-use Rattle.task_sheet.specs.Sheet.{Task, AllTasks}
-use Rattle.task_sheet.specs.Indexes.{Indexes, IsPart, among}
-use Rattle.task_sheet.specs.Orders.{Stands}
-use Rattle.task_sheet.specs.Verdicts.{IsLeastOver}
+use Rattle.task_sheet.proofs.Common.{Task, AllTasks, Indexes, IsPart, among, Stands, IsLeastOver}
 use Rattle.task_sheet.proofs.PassingLaws.{Stands-part, is_bound-at}
 use Rattle.kept_order.specs.Keeping.{stands_below, Keeps, is_held, StandsKept, IsPassingKept}
 use Rattle.kept_order.specs.Keeping.{IsFirstParted}

@@ -5,16 +5,12 @@ use Rattle.std.proofs.Common.{nat_lt}
 use Rattle.std.proofs.lemmas.Bool.{cases_eq, cases_lt, eq-eqb, le-leb, le-ltb, lt-leb, lt-ltb}
 use Rattle.std.proofs.lemmas.Bool.{ne_eqb, true≢false}
 use Rattle.std.proofs.lemmas.List.{get_or_past}
-use Rattle.task_sheet.specs.Sheet.{CriticalSection, no_task, task_at}
-use Rattle.task_sheet.specs.Indexes.{Indexes, with_index}
-use Rattle.task_sheet.specs.Locks.{reaches, shares_lock}
-use Rattle.task_sheet.specs.Demand.{blocking_of, longest_reached}
+use Rattle.task_sheet.proofs.Common.{CriticalSection, no_task, task_at, Indexes, with_index}
+use Rattle.task_sheet.proofs.Common.{reaches, shares_lock, blocking_of, longest_reached}
 use Rattle.task_sheet.proofs.Below.{le-greatest_below, some_below-at}
-use Rattle.ceiling_kernel.specs.Tick.{Job, Node, executed_before, job_at, job_task, level_in_order}
-use Rattle.ceiling_kernel.specs.Tick.{level_of_job, picked, top_ceiling}
-use Rattle.ceiling_kernel.specs.Waits.{AreLegalJobs, IsNode}
-use Rattle.ceiling_kernel.specs.Bounds.{above_of}
-use Rattle.ceiling_kernel.specs.Behaviours.{AreApart}
+use Rattle.ceiling_kernel.proofs.Common.{Job, Node, executed_before, job_at, job_task}
+use Rattle.ceiling_kernel.proofs.Common.{level_in_order, level_of_job, picked, top_ceiling}
+use Rattle.ceiling_kernel.proofs.Common.{AreLegalJobs, IsNode, above_of, AreApart}
 use Rattle.ceiling_kernel.proofs.NodeLaws.{IsSound, IsSoundTask, sound}
 use Rattle.ceiling_kernel.proofs.SumLaws.{total, total-le, total-lt, total-one}
 use Rattle.ceiling_kernel.proofs.BehaviourLaws.{HasSpans, spans_of, taken_apart}

@@ -6,17 +6,12 @@ use Rattle.std.proofs.lemmas.Bool.{cases_Bool, cases_eq, eq-eqb, ne_eqb, lt-ltb}
 use Rattle.std.proofs.lemmas.List.Sums.{position_or_len_is}
 use Rattle.std.proofs.lemmas.Slice.Eq.{bytes_eq-Decides}
 use Rattle.std.specs.List.{position_or_len}
-use Rattle.task_sheet.specs.Sheet.{Task, same_bytes, task_at}
-use Rattle.task_sheet.specs.TaskSet.{IsTaskSet}
-use Rattle.task_sheet.specs.Indexes.{among}
+use Rattle.task_sheet.proofs.Common.{Task, same_bytes, task_at, IsTaskSet, among}
 use Rattle.task_sheet.proofs.NameLaws.{same_own}
 use Rattle.task_sheet.proofs.TaskLaws.{place_of_name}
 use Rattle.assignment.specs.Places.{PlaceData}
 use Rattle.assignment.specs.Placings.{tasks_of_places}
-use Rattle.ceiling_kernel.specs.Tick.{level_from}
-use Rattle.ceiling_kernel.specs.Bounds.{after_of}
-use Rattle.ceiling_kernel.specs.declared.trace.Release.{Release}
-use Rattle.ceiling_kernel.specs.declared.trace.Trace.{Trace}
+use Rattle.ceiling_kernel.proofs.Common.{level_from, after_of, Release, Trace}
 use Rattle.run_lines.specs.Responses.{AllDoneWithin, DoneWithin}
 use Rattle.observed.specs.Observed.{no_promise}
 use Rattle.observed.specs.Pieces.{level_of}

@@ -5,8 +5,7 @@ use Rattle.std.proofs.Common.{slice_index_or}
 use Rattle.std.proofs.lemmas.Bool.{cases_Bool}
 use Rattle.std.proofs.lemmas.Option.{same_Some}
 use Rattle.std.specs.List.{AllByRecursion}
-use Rattle.task_sheet.specs.Sheet.{same_bytes}
-use Rattle.task_sheet.specs.Demand.{greatest_of}
+use Rattle.task_sheet.proofs.Common.{same_bytes, greatest_of}
 use Rattle.trace_text.specs.declared.rows.TraceJob.{TraceJob}
 use Rattle.observed.specs.Observed.{no_promise, seen_from, with_seen}
 use Rattle.observed.specs.Pieces.{level_of}

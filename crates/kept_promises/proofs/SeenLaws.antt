@@ -10,23 +10,19 @@ use Rattle.std.proofs.lemmas.Bool.{le-leb, lt-leb, lt-ltb, cases_eq, and_parts, 
 use Rattle.std.proofs.lemmas.Bool.{leb-true, ltb-true, ne_eqb}
 use Rattle.std.proofs.lemmas.List.Quantifiers.{position-Some}
 use Rattle.std.proofs.lemmas.Slice.Eq.{bytes_eq-Decides}
-use Rattle.task_sheet.specs.Sheet.{Task, no_task, same_bytes, task_at}
-use Rattle.task_sheet.specs.Indexes.{among}
-use Rattle.task_sheet.specs.Orders.{all_of}
+use Rattle.task_sheet.proofs.Common.{Task, no_task, same_bytes, task_at, among, all_of, blocking_of}
+use Rattle.task_sheet.proofs.Common.{greatest_of}
 use Rattle.task_sheet.proofs.IndexLaws.{IsOrderOf-among}
 use Rattle.task_sheet.proofs.NameLaws.{same_own}
 use Rattle.assignment.specs.Places.{PlaceData}
 use Rattle.assignment.specs.Placings.{tasks_of_places}
-use Rattle.ceiling_kernel.specs.Tick.{Job, Node, executed_before, job_at, node_in, picked}
-use Rattle.ceiling_kernel.specs.Tick.{level_in_order, level_of_job}
-use Rattle.ceiling_kernel.specs.Trace.{finish_before, slices_of}
-use Rattle.ceiling_kernel.specs.Waits.{AreLegalJobs, IsNode}
-use Rattle.ceiling_kernel.specs.Releases.{is_past, jobs_of, no_release, ready_of, release_at}
-use Rattle.ceiling_kernel.specs.Releases.{task_named, task_number}
-use Rattle.ceiling_kernel.specs.Runs.{record_of, records_from, no_record}
-use Rattle.ceiling_kernel.specs.declared.trace.JobRecord.{JobRecord}
-use Rattle.ceiling_kernel.specs.declared.trace.Release.{Release}
-use Rattle.ceiling_kernel.specs.declared.trace.Slice.{Slice}
+use Rattle.ceiling_kernel.proofs.Common.{Job, Node, executed_before, job_at, node_in, picked}
+use Rattle.ceiling_kernel.proofs.Common.{level_in_order, level_of_job, finish_before, AreLegalJobs}
+use Rattle.ceiling_kernel.proofs.Common.{IsNode, is_past, jobs_of, no_release, ready_of, release_at}
+use Rattle.ceiling_kernel.proofs.Common.{task_named, task_number, record_of, records_from}
+use Rattle.ceiling_kernel.proofs.Common.{no_record, JobRecord, Release, Slice, AreLongestRuns}
+use Rattle.ceiling_kernel.proofs.Common.{above_of, after_of}
+use Rattle.ceiling_kernel.specs.Trace.{slices_of}
 use Rattle.ceiling_kernel.proofs.AcceptLaws.{IsAccepted, accepted, known_from, none_passes}
 use Rattle.ceiling_kernel.proofs.EndLaws.{legal_from, records_at, some_executes}
 use Rattle.ceiling_kernel.proofs.FinishLaws.{finish_is, finish_later, finish_some, grows_by}
@@ -50,9 +46,6 @@ use Rattle.std.proofs.lemmas.List.Elements.{All-from_recursion}
 use Rattle.std.proofs.lemmas.Option.{none-some, same_Some}
 use Rattle.std.specs.List.{find}
 use Rattle.std.specs.Option.{option_map}
-use Rattle.task_sheet.specs.Demand.{blocking_of, greatest_of}
-use Rattle.ceiling_kernel.specs.Readings.{AreLongestRuns}
-use Rattle.ceiling_kernel.specs.Bounds.{above_of, after_of}
 use Rattle.ceiling_kernel.proofs.NodeLaws.{after_is_above}
 use Rattle.ceiling_kernel.proofs.SliceLaws.{longest_runs}
 use Rattle.ceiling_kernel.proofs.SumLaws.{total}

@@ -2,10 +2,9 @@
 use Rattle.std.proofs.Common.{◌≡◌, ℕ, ◌<◌, inl, inr, List, [], ◌∷◌, length, refl, sym, ◌∙◌, ap}
 use Rattle.std.proofs.Common.{subst, arith}
 use Rattle.std.proofs.lemmas.Bool.{cases_lt, cases_order, ltb-true}
-use Rattle.task_sheet.specs.Sheet.{Task, AllTasks, task_at}
-use Rattle.task_sheet.specs.Indexes.{Indexes, IsPart, among, without_index}
-use Rattle.task_sheet.specs.Demand.{limit_of, Passes}
-use Rattle.task_sheet.specs.Orders.{all_of, Stands, IsOrderOf, AllStand, IsBetter, IsBest}
+use Rattle.task_sheet.proofs.Common.{Task, AllTasks, task_at, Indexes, IsPart, among, without_index}
+use Rattle.task_sheet.proofs.Common.{limit_of, Passes, all_of, Stands, IsOrderOf, AllStand}
+use Rattle.task_sheet.proofs.Common.{IsBetter, IsBest}
 use Rattle.task_sheet.proofs.IndexLaws.{without-part_of, IsOrderOf-among, IsOrderOf-head}
 use Rattle.task_sheet.proofs.IndexLaws.{IsOrderOf-rest, IsOrderOf-cons}
 use Rattle.latest_first.specs.LatestFirst.{AllPrompt, IsLatest, IsLatestFirst, FollowLimits}

@@ -6,13 +6,11 @@ use Rattle.std.proofs.Math.Path.{fun_ext}
 use Rattle.std.specs.Int.{div_ceil}
 use Rattle.std.proofs.lemmas.Bool.{cases_eq, eq-eqb, ne_eqb, ltb-true}
 use Rattle.std.proofs.lemmas.Grind.{common_steps}
-use Rattle.task_sheet.specs.Sheet.{Task, no_task, task_at}
-use Rattle.task_sheet.specs.Indexes.{Indexes, IsPart, with_index, without_index, sum_below}
-use Rattle.task_sheet.specs.Indexes.{greatest_below}
-use Rattle.task_sheet.specs.Demand.{limit_of, longest_reached, blocking_of, demand_of}
-use Rattle.task_sheet.specs.Demand.{interference_of, interference_within, interrupts_within}
-use Rattle.task_sheet.specs.Demand.{releases_within, Passes}
-use Rattle.task_sheet.specs.Orders.{all_of}
+use Rattle.task_sheet.proofs.Common.{Task, no_task, task_at, Indexes, IsPart, with_index}
+use Rattle.task_sheet.proofs.Common.{without_index, sum_below, greatest_below, limit_of}
+use Rattle.task_sheet.proofs.Common.{longest_reached, blocking_of, demand_of, interference_of}
+use Rattle.task_sheet.proofs.Common.{interference_within, interrupts_within, releases_within}
+use Rattle.task_sheet.proofs.Common.{Passes, all_of}
 use Rattle.task_sheet.proofs.IndexLaws.{without-gone, without-kept}
 use Rattle.latest_first.specs.LatestFirst.{IsPrompt, AllPrompt}
 

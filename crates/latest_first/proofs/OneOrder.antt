@@ -3,13 +3,10 @@ use Rattle.std.proofs.Common.{◌≡◌, ℕ, Bool, true, false, ◌&&◌, ◌==
 use Rattle.std.proofs.Common.{length, refl, sym, ◌∙◌, ap, subst, arith, cond}
 use Rattle.std.proofs.Math.Path.{fun_ext}
 use Rattle.std.proofs.lemmas.Bool.{cases_Bool, both_ways, or_cases, eqb-true}
-use Rattle.task_sheet.specs.Sheet.{Task, AllTasks}
-use Rattle.task_sheet.specs.TaskSet.{IsTaskSet}
-use Rattle.task_sheet.specs.Indexes.{Indexes, IsPart, below, without_index, among, some_below}
-use Rattle.task_sheet.specs.Demand.{Passes}
-use Rattle.task_sheet.specs.Orders.{all_of, must_outrank, is_bound, Stands, IsOrderOf, IsOrder}
-use Rattle.task_sheet.specs.Orders.{AllStand, IsPassingOrder, IsFeasible}
-use Rattle.task_sheet.specs.Levels.{NoneStands}
+use Rattle.task_sheet.proofs.Common.{Task, AllTasks, IsTaskSet, Indexes, IsPart, below}
+use Rattle.task_sheet.proofs.Common.{without_index, among, some_below, Passes, all_of, must_outrank}
+use Rattle.task_sheet.proofs.Common.{is_bound, Stands, IsOrderOf, IsOrder, AllStand, IsPassingOrder}
+use Rattle.task_sheet.proofs.Common.{IsFeasible, NoneStands}
 use Rattle.task_sheet.proofs.IndexLaws.{without-parts, without-part_of, IsOrderOf-among}
 use Rattle.task_sheet.proofs.IndexLaws.{IsOrderOf-head, IsOrderOf-rest}
 use Rattle.task_sheet.proofs.PassingLaws.{Stands-part}

@@ -3,9 +3,8 @@ use Rattle.std.proofs.Common.{◌≡◌, ℕ, inl, inr, true, false, cond, ◌==
 use Rattle.std.proofs.Common.{ap, subst}
 use Rattle.std.specs.List.{AllByRecursion}
 use Rattle.std.proofs.lemmas.Bool.{cases_eq, eq-eqb, ne_eqb, or_cases, or_left, or_right}
-use Rattle.task_sheet.specs.Sheet.{Task, AllTasks}
-use Rattle.task_sheet.specs.Indexes.{Indexes, IsPart, among, without_index}
-use Rattle.task_sheet.specs.Orders.{IsOrderOf, AllStand}
+use Rattle.task_sheet.proofs.Common.{Task, AllTasks, Indexes, IsPart, among, without_index}
+use Rattle.task_sheet.proofs.Common.{IsOrderOf, AllStand}
 use Rattle.task_sheet.proofs.IndexLaws.{same_parts, without-member, without-parts, IsOrderOf-among}
 use Rattle.task_sheet.proofs.IndexLaws.{IsOrderOf-head, IsOrderOf-rest, IsOrderOf-cons}
 use Rattle.task_sheet.proofs.PassingLaws.{Stands-part}

@@ -1,7 +1,6 @@
 -- The placing of a set's order, and the furthest value of a number in it.
 use Rattle.std.proofs.Common.{ℕ, List, Option, Some, None, IfSome}
-use Rattle.task_sheet.specs.Sheet.{Task}
-use Rattle.task_sheet.specs.Orders.{IsFeasible}
+use Rattle.task_sheet.proofs.Common.{Task, IsFeasible}
 use Rattle.assignment.specs.Places.{PlaceData}
 use Rattle.assignment.specs.Placings.{IsPlacingOf, tasks_of_places}
 use Rattle.assignment.specs.declared.placing.Placing.{Placing}

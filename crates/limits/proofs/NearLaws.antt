@@ -5,11 +5,10 @@ use Rattle.std.proofs.Common.{refl, ◌∙◌, ap, arith}
 use Rattle.std.proofs.Math.Path.{fun_ext}
 use Rattle.std.specs.List.{list_any}
 use Rattle.std.proofs.lemmas.Bool.{cases_Bool}
-use Rattle.task_sheet.specs.Sheet.{CriticalSection, Task, task_at, same_bytes}
-use Rattle.task_sheet.specs.Indexes.{Indexes, with_index, some_below, greatest_below}
-use Rattle.task_sheet.specs.Locks.{names_lock, uses, shares_lock, reaches}
-use Rattle.task_sheet.specs.Demand.{limit_of, greatest_of, longest_reached, blocking_of}
-use Rattle.task_sheet.specs.Orders.{must_outrank, is_bound}
+use Rattle.task_sheet.proofs.Common.{CriticalSection, Task, task_at, same_bytes, Indexes}
+use Rattle.task_sheet.proofs.Common.{with_index, some_below, greatest_below, names_lock, uses}
+use Rattle.task_sheet.proofs.Common.{shares_lock, reaches, limit_of, greatest_of, longest_reached}
+use Rattle.task_sheet.proofs.Common.{blocking_of, must_outrank, is_bound}
 use Rattle.task_sheet.proofs.Below.{greatest_below-le, le-greatest_below}
 use Rattle.limits.specs.Easier.{AreShorter}
 

@@ -5,14 +5,11 @@ use Rattle.std.proofs.Math.Nat.{mul-le-mul, mul-le-mul_right}
 use Rattle.std.specs.Int.{div_ceil}
 use Rattle.std.proofs.lemmas.Grind.{common_steps}
 use Rattle.std.proofs.lemmas.Bool.{cases_Bool, cases_eq, cases_lt, ltb-true}
-use Rattle.task_sheet.specs.Sheet.{CriticalSection, Task, no_task, no_overhead, task_at}
-use Rattle.task_sheet.specs.Overheads.{calls}
-use Rattle.task_sheet.specs.TaskSet.{IsTaskSet}
-use Rattle.task_sheet.specs.Indexes.{Indexes, IsPart, among, below, without_index, sum_below}
-use Rattle.task_sheet.specs.Demand.{blocking_of, demand_of, interference_of, interrupts_of}
-use Rattle.task_sheet.specs.Demand.{interrupts_within, releases_within, Passes}
-use Rattle.task_sheet.specs.Orders.{all_of, AllStand, IsOrderOf, IsPassingOrder, IsFeasible}
-use Rattle.task_sheet.specs.declared.node.Node.{Node}
+use Rattle.task_sheet.proofs.Common.{CriticalSection, Task, no_task, no_overhead, task_at, calls}
+use Rattle.task_sheet.proofs.Common.{IsTaskSet, Indexes, IsPart, among, below, without_index}
+use Rattle.task_sheet.proofs.Common.{sum_below, blocking_of, demand_of, interference_of}
+use Rattle.task_sheet.proofs.Common.{interrupts_of, interrupts_within, releases_within, Passes}
+use Rattle.task_sheet.proofs.Common.{all_of, AllStand, IsOrderOf, IsPassingOrder, IsFeasible, Node}
 use Rattle.task_sheet.proofs.Below.{sum_below-both, sum_below-le}
 use Rattle.task_sheet.proofs.IndexLaws.{without-gone, without-part_of, IsOrderOf-among}
 use Rattle.task_sheet.proofs.IndexLaws.{IsOrderOf-head, IsOrderOf-rest}

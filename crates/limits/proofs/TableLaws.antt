@@ -3,10 +3,8 @@ use Rattle.std.proofs.Common.{◌≡◌, ℕ, zero, suc, ◌≤◌, List, [], �
 use Rattle.std.proofs.Common.{flat_map, refl, sym, ◌∙◌, ap, arith}
 use Rattle.std.specs.List.{list_any}
 use Rattle.std.proofs.lemmas.List.{length-set}
-use Rattle.task_sheet.specs.Sheet.{CriticalSection, Task, task_at}
-use Rattle.task_sheet.specs.Indexes.{indexes_of}
-use Rattle.task_sheet.specs.Locks.{names_lock}
-use Rattle.task_sheet.specs.Orders.{must_outrank}
+use Rattle.task_sheet.proofs.Common.{CriticalSection, Task, task_at, indexes_of, names_lock}
+use Rattle.task_sheet.proofs.Common.{must_outrank}
 use Rattle.ceilings.specs.Table.{Table}
 use Rattle.ceilings.specs.Holds.{TableData}
 use Rattle.ceilings.specs.IsTableOf.{AreUsersOf, IsTableOf, names_in, first_sights}

@@ -2,10 +2,9 @@
 use Rattle.std.proofs.Common.{◌≡◌, ℕ, ◌<◌, ◌≤◌, false, true, ◌==◌, inl, inr, List, [], ◌∷◌}
 use Rattle.std.proofs.Common.{length, refl, sym, subst, arith}
 use Rattle.std.proofs.lemmas.Bool.{cases_Bool, both_ways, or_cases, eqb-true, ltb-true}
-use Rattle.task_sheet.specs.Sheet.{Task, AllTasks, no_task, task_at}
-use Rattle.task_sheet.specs.Indexes.{Indexes, IsPart, without_index, among}
-use Rattle.task_sheet.specs.Demand.{limit_of}
-use Rattle.task_sheet.specs.Orders.{all_of, is_bound, IsOrderOf, IsOrder}
+use Rattle.task_sheet.proofs.Common.{Task, AllTasks, no_task, task_at, Indexes, IsPart}
+use Rattle.task_sheet.proofs.Common.{without_index, among, limit_of, all_of, is_bound, IsOrderOf}
+use Rattle.task_sheet.proofs.Common.{IsOrder}
 use Rattle.task_sheet.proofs.Exchange.{demand-part}
 use Rattle.task_sheet.proofs.PassingLaws.{is_bound-part}
 use Rattle.task_sheet.proofs.IndexLaws.{without-parts, without-part_of, IsOrderOf-among}

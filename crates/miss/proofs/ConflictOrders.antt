@@ -4,18 +4,13 @@ use Rattle.std.proofs.Common.{[], ◌∷◌, length, refl, sym, ◌∙◌, ap, s
 use Rattle.std.proofs.Math.Path.{fun_ext}
 use Rattle.std.proofs.lemmas.Bool.{cases_Bool, cases_eq, true≢false, eq-eqb, ne_eqb, ltb-true}
 use Rattle.std.proofs.lemmas.Bool.{lt-ltb, eqb-true, or_cases, or_left, or_right}
-use Rattle.task_sheet.specs.Sheet.{Task}
-use Rattle.task_sheet.specs.TaskSet.{IsTaskSet}
-use Rattle.task_sheet.specs.Indexes.{Indexes, IsPart, below, among, with_index, without_index}
-use Rattle.task_sheet.specs.Orders.{IsOrderOf, IsOrder, Stands, AllStand}
-use Rattle.task_sheet.specs.Levels.{IsObstruction, IsChosen}
-use Rattle.task_sheet.specs.Demand.{Passes}
+use Rattle.task_sheet.proofs.Common.{Task, IsTaskSet, Indexes, IsPart, below, among, with_index}
+use Rattle.task_sheet.proofs.Common.{without_index, IsOrderOf, IsOrder, Stands, AllStand}
+use Rattle.task_sheet.proofs.Common.{IsObstruction, IsChosen, Passes}
 use Rattle.task_sheet.proofs.IndexLaws.{same_parts, without-parts, without-part_of, without-fewer}
 use Rattle.task_sheet.proofs.IndexLaws.{count_below, IsOrderOf-among, IsOrderOf-cons}
 use Rattle.task_sheet.proofs.Deciding.{NoneBelow, find_chosen}
-use Rattle.ceiling_kernel.specs.Tick.{node_in}
-use Rattle.ceiling_kernel.specs.Waits.{IsNode}
-use Rattle.ceiling_kernel.specs.Bounds.{above_of, after_of}
+use Rattle.ceiling_kernel.proofs.Common.{node_in, IsNode, above_of, after_of}
 use Rattle.ceiling_kernel.proofs.NodeLaws.{after_is_above}
 use Rattle.explain.specs.Conflict.{HoldsObstruction}
 use Rattle.explain.proofs.ConflictLaws.{none_spared}

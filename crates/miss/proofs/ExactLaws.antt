@@ -1,9 +1,8 @@
 -- In the worst case a job finishes exactly at the least time that covers its work.
 use Rattle.std.proofs.Common.{◌≡◌, ℕ, ◌+◌, ◌-◌, ◌<◌, ◌≤◌, List, subst, arith}
 use Rattle.task_sheet.specs.Demand.{blocking_of}
-use Rattle.ceiling_kernel.specs.Tick.{Node, Job, job_at, executed_before}
-use Rattle.ceiling_kernel.specs.Waits.{IsNode, AreLegalJobs}
-use Rattle.ceiling_kernel.specs.Bounds.{above_of}
+use Rattle.ceiling_kernel.proofs.Common.{Node, Job, job_at, executed_before, IsNode, AreLegalJobs}
+use Rattle.ceiling_kernel.proofs.Common.{above_of}
 use Rattle.ceiling_kernel.proofs.BoundLaws.{tighter_law}
 use Rattle.miss.specs.Exact.{WorstIsExact}
 use Rattle.miss.proofs.WorstLaws.{comes_law}

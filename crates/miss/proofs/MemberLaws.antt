@@ -6,11 +6,9 @@ use Rattle.std.proofs.Common.{◌-◌, subst, arith}
 use Rattle.std.proofs.lemmas.Bool.{cases_Bool, eq-eqb, eqb-true, ltb-true, true≢false, or_cases}
 use Rattle.std.proofs.lemmas.Bool.{or_left, or_right, ne_eqb}
 use Rattle.std.proofs.lemmas.List.{get_or_default, get_or-drop, length-drop}
-use Rattle.task_sheet.specs.TaskSet.{IsTaskSet}
-use Rattle.task_sheet.specs.Indexes.{among}
-use Rattle.ceiling_kernel.specs.Tick.{Node, level_from, level_in_order}
-use Rattle.ceiling_kernel.specs.Waits.{IsNode}
-use Rattle.ceiling_kernel.specs.Bounds.{above_of, after_of}
+use Rattle.task_sheet.proofs.Common.{IsTaskSet, among}
+use Rattle.ceiling_kernel.proofs.Common.{Node, level_from, level_in_order, IsNode, above_of}
+use Rattle.ceiling_kernel.proofs.Common.{after_of}
 use Rattle.ceiling_kernel.proofs.NodeLaws.{times, times-here, times-grow, level_past}
 use Rattle.ceiling_kernel.proofs.NodeLaws.{after_is_above}
 use Rattle.miss.specs.Shown.{PassesThere, IsLowestFailing, AboveAllPass}

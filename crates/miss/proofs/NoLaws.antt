@@ -4,22 +4,20 @@ use Rattle.std.proofs.Common.{◌≡◌, ℕ, zero, suc, ◌+◌, ◌-◌, ◌<�
 use Rattle.std.proofs.Common.{length, sym, ◌∙◌, ap, subst, arith, max}
 use Rattle.std.specs.Prelude.{Contains}
 use Rattle.std.proofs.lemmas.Bool.{cases_lt, ltb-true}
-use Rattle.task_sheet.specs.Sheet.{CriticalSection, IsValidSheet, no_task, task_at}
-use Rattle.task_sheet.specs.Demand.{Blocks, blocking_of, IsUninterrupted, demand_of, limit_of}
-use Rattle.task_sheet.specs.Demand.{Passes}
+use Rattle.task_sheet.proofs.Common.{CriticalSection, IsValidSheet, no_task, task_at, blocking_of}
+use Rattle.task_sheet.proofs.Common.{demand_of, limit_of, Passes, IsTaskSet}
+use Rattle.task_sheet.specs.Demand.{Blocks, IsUninterrupted}
 use Rattle.task_sheet.proofs.BlockingLaws.{blocking-some}
 use Rattle.task_sheet.proofs.InterruptLaws.{demand-plain}
 use Rattle.task_sheet.proofs.ResponseLaws.{decide_covers}
-use Rattle.ceiling_kernel.specs.Tick.{Node, Job, job_at, job_task, level_in_order, held_ceiling}
-use Rattle.ceiling_kernel.specs.Tick.{executed_before}
-use Rattle.ceiling_kernel.specs.Waits.{IsNode, AreLegalJobs, lateness_of}
-use Rattle.ceiling_kernel.specs.Bounds.{above_of, PassesBy, response_by, work_of}
+use Rattle.ceiling_kernel.proofs.Common.{Node, Job, job_at, job_task, level_in_order, held_ceiling}
+use Rattle.ceiling_kernel.proofs.Common.{executed_before, IsNode, AreLegalJobs, lateness_of}
+use Rattle.ceiling_kernel.proofs.Common.{above_of, PassesBy, response_by, work_of, job_of, jobs_of}
+use Rattle.ceiling_kernel.proofs.Common.{release_at}
 use Rattle.ceiling_kernel.proofs.PriorityLaws.{level_within}
 use Rattle.miss.proofs.LeadLaws.{done_grows}
 use Rattle.miss.specs.Exact.{EndsLow}
 use Rattle.miss.specs.Misses.{IsMissOf, MustMiss, IsLockFree, NoIsShown, MissesAreRefused}
-use Rattle.task_sheet.specs.TaskSet.{IsTaskSet}
-use Rattle.ceiling_kernel.specs.Releases.{job_of, jobs_of, release_at}
 use Rattle.ceiling_kernel.proofs.ReleaseLaws.{job_is, jobs_length}
 use Rattle.ceiling_kernel.proofs.EndLaws.{legal_from}
 use Rattle.ceiling_kernel.proofs.BoundLaws.{bound_law}

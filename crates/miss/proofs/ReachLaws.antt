@@ -4,13 +4,11 @@ use Rattle.std.proofs.Common.{List, [], ◌∷◌, length, sym, ◌∙◌, ap, a
 use Rattle.std.specs.List.{list_any}
 use Rattle.std.proofs.lemmas.Bool.{cases_Bool, cases_lt, true≢false, or_cases, and_parts, and_from}
 use Rattle.std.proofs.lemmas.Bool.{eqb-true, ltb-true, lt-ltb, or_parts}
-use Rattle.task_sheet.specs.Sheet.{CriticalSection, task_at}
-use Rattle.task_sheet.specs.Indexes.{Indexes, with_index}
-use Rattle.task_sheet.specs.Locks.{uses, shares_lock, reaches}
+use Rattle.task_sheet.proofs.Common.{CriticalSection, task_at, Indexes, with_index, uses}
+use Rattle.task_sheet.proofs.Common.{shares_lock, reaches}
 use Rattle.task_sheet.proofs.Below.{some_below-at, some_below-witness}
-use Rattle.ceiling_kernel.specs.Tick.{Node, level_in_order, is_inside, top_ceiling, held_ceiling}
-use Rattle.ceiling_kernel.specs.Waits.{IsNode}
-use Rattle.ceiling_kernel.specs.Bounds.{above_of}
+use Rattle.ceiling_kernel.proofs.Common.{Node, level_in_order, is_inside, top_ceiling, held_ceiling}
+use Rattle.ceiling_kernel.proofs.Common.{IsNode, above_of}
 use Rattle.ceiling_kernel.proofs.NodeLaws.{IsSound, sound}
 use Rattle.ceiling_kernel.proofs.BoundLaws.{IsTopOf, top_of}
 use Rattle.miss.specs.Exact.{EndsLow}

@@ -1,11 +1,9 @@
 -- What is shown of a task that must miss its deadline, and of one that doesn't pass and need not.
 use Rattle.std.proofs.Common.{◌≡◌, ℕ, ◌-◌, ◌<◌, ◌⊎◌, inl, inr, refl, arith}
 use Rattle.std.proofs.lemmas.Bool.{cases_lt}
-use Rattle.task_sheet.specs.Sheet.{task_at}
-use Rattle.task_sheet.specs.Demand.{blocking_of, limit_of}
+use Rattle.task_sheet.proofs.Common.{task_at, blocking_of, limit_of}
 use Rattle.task_sheet.proofs.ResponseLaws.{decide_covers}
-use Rattle.ceiling_kernel.specs.Tick.{Node}
-use Rattle.ceiling_kernel.specs.Bounds.{above_of, PassesBy, work_of, CoversBy}
+use Rattle.ceiling_kernel.proofs.Common.{Node, above_of, PassesBy, work_of, CoversBy}
 use Rattle.ceiling_kernel.proofs.BoundLaws.{covers_from}
 use Rattle.miss.specs.declared.shown.Miss.{Miss}
 use Rattle.miss.specs.declared.shown.Shown.{Shown}

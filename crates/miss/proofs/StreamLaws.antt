@@ -2,10 +2,8 @@
 use Rattle.std.proofs.Common.{◌≡◌, ◌<◌, ◌≤◌, ◌∷◌, ◌++◌, ℕ, zero, suc, inl, inr, Some, Option, List}
 use Rattle.std.proofs.Common.{length, get_or, map, sym, ◌∙◌, ap, subst, arith, All, max, ◌+◌}
 use Rattle.std.proofs.lemmas.List.{get_or_default}
-use Rattle.task_sheet.specs.Sheet.{Task, IsValidSheet, no_task, task_at}
-use Rattle.task_sheet.specs.TaskSet.{IsTaskSet}
-use Rattle.task_sheet.specs.Indexes.{Indexes, among}
-use Rattle.task_sheet.specs.Demand.{greatest_of, limit_of}
+use Rattle.task_sheet.proofs.Common.{Task, IsValidSheet, no_task, task_at, IsTaskSet, Indexes}
+use Rattle.task_sheet.proofs.Common.{among, greatest_of, limit_of}
 use Rattle.ceiling_kernel.specs.Waits.{lateness_of}
 use Rattle.ceiling_kernel.specs.declared.trace.RunFault.TheVariants as fault
 use Rattle.explain.specs.Blocking.{BlockerData, IsBlockerOf}

@@ -8,13 +8,12 @@ use Rattle.std.proofs.lemmas.Bool.{lt-leb, le-ltb, leb-true, ltb-true, and_parts
 use Rattle.std.proofs.Math.Nat.{mul-le-mul_right}
 use Rattle.task_sheet.specs.Sheet.{CriticalSection, task_at}
 use Rattle.task_sheet.specs.Demand.{releases_within, interference_of, interference_within, limit_of}
-use Rattle.ceiling_kernel.specs.Tick.{Node, Job, job_at, job_task, level_in_order, level_of_job}
-use Rattle.ceiling_kernel.specs.Tick.{is_inside, top_ceiling, held_ceiling, active_of}
-use Rattle.ceiling_kernel.specs.Tick.{executed_before, picked}
-use Rattle.ceiling_kernel.specs.States.{active_at}
+use Rattle.ceiling_kernel.proofs.Common.{Node, Job, job_at, job_task, level_in_order, level_of_job}
+use Rattle.ceiling_kernel.proofs.Common.{is_inside, top_ceiling, held_ceiling, active_of}
+use Rattle.ceiling_kernel.proofs.Common.{executed_before, picked, active_at, IsNode, AreLegalJobs}
+use Rattle.ceiling_kernel.proofs.Common.{lateness_of, above_of, ready_within, work_of}
 use Rattle.ceiling_kernel.specs.Readings.{IsPicked}
-use Rattle.ceiling_kernel.specs.Waits.{IsNode, AreLegalJobs, lateness_of}
-use Rattle.ceiling_kernel.specs.Bounds.{above_of, is_ready_in, ready_within, work_of}
+use Rattle.ceiling_kernel.specs.Bounds.{is_ready_in}
 use Rattle.ceiling_kernel.proofs.NodeLaws.{IsSoundTask, IsSound, sound}
 use Rattle.ceiling_kernel.proofs.SumLaws.{total, total-sum, total-le, total-add, total-same}
 use Rattle.ceiling_kernel.proofs.SumLaws.{total-single, term-le}

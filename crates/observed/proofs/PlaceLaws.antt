@@ -2,9 +2,8 @@
 use Rattle.std.proofs.Common.{◌≡◌, ℕ, zero, suc, ◌<◌, List, [], ◌∷◌, length, get_or, All, sym, ◌∙◌}
 use Rattle.std.proofs.Common.{ap₂, subst, arith}
 use Rattle.std.proofs.lemmas.List.{get_or_default}
-use Rattle.task_sheet.specs.Sheet.{Task, no_task, task_at}
+use Rattle.task_sheet.proofs.Common.{Task, no_task, task_at, all_of, IsOrder}
 use Rattle.std.specs.List.{AllByRecursion}
-use Rattle.task_sheet.specs.Orders.{all_of, IsOrder}
 use Rattle.task_sheet.proofs.IndexLaws.{order-below}
 use Rattle.assignment.specs.Places.{PlaceData}
 use Rattle.assignment.specs.Placings.{IsBestPlacing, tasks_of_places}

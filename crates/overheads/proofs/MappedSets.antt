@@ -6,10 +6,8 @@ use Rattle.std.specs.List.{AllByRecursion, All}
 use Rattle.std.specs.List.Sorted.{IsStrictlySortedBy}
 use Rattle.std.proofs.lemmas.List.{length-map, get_or-map, map_more}
 use Rattle.std.proofs.lemmas.List.Sorted.{IsPermutation-refl}
-use Rattle.task_sheet.specs.Sheet.{Task, IsValidSheet, no_task, task_at}
-use Rattle.task_sheet.specs.Rank.{rank_cmp, IsByRank}
-use Rattle.task_sheet.specs.TaskSet.{same_name, AreDistinct, IsTaskSet}
-use Rattle.task_sheet.specs.SheetsFault.{sheets_fault}
+use Rattle.task_sheet.proofs.Common.{Task, IsValidSheet, no_task, task_at, rank_cmp, IsByRank}
+use Rattle.task_sheet.proofs.Common.{same_name, AreDistinct, IsTaskSet, sheets_fault}
 use Rattle.task_sheet.proofs.SetLaws.{by_rank_one, no_fault}
 
 -- sheets that stand by rank are what they are by rank

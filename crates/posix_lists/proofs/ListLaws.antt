@@ -2,11 +2,10 @@
 use Rattle.std.proofs.Common.{ℕ, zero, suc, ◌<◌, ◌≤◌, ◌≡◌, inl, inr, refl, sym, ap, ◌∙◌, subst}
 use Rattle.std.proofs.Common.{arith, true, false, List, [], Option, Some, None}
 use Rattle.std.proofs.lemmas.Bool.{cases_lt, cases_eq, true≢false, eq-eqb}
-use Rattle.ceiling_kernel.specs.Tick.{Node, Job, job_at, level_of_job, active_of, held_ceiling}
-use Rattle.ceiling_kernel.specs.Tick.{picked}
-use Rattle.ceiling_kernel.specs.Waits.{IsNode, AreLegalJobs, NoOverrunBy, AskAnew, holds_lock}
+use Rattle.ceiling_kernel.proofs.Common.{Node, Job, job_at, level_of_job, active_of, held_ceiling}
+use Rattle.ceiling_kernel.proofs.Common.{picked, IsNode, AreLegalJobs, NoOverrunBy, TakeTurns}
+use Rattle.ceiling_kernel.specs.Waits.{AskAnew, holds_lock}
 use Rattle.ceiling_kernel.specs.Waits.{asks_lock}
-use Rattle.ceiling_kernel.specs.Behaviours.{TakeTurns}
 use Rattle.ceiling_kernel.proofs.MachineLaws.{start_of}
 use Rattle.ceiling_kernel.proofs.BehaviourLaws.{turns_apart}
 use Rattle.ceiling_kernel.proofs.LockLaws.{anew_law}

@@ -3,8 +3,7 @@ use Rattle.std.proofs.Common.{ℕ, suc, ◌+◌, ◌<◌, ◌≡◌, ◌⊎◌, 
 use Rattle.std.proofs.Common.{◌||◌, max, List, [], ◌∷◌}
 use Rattle.std.proofs.lemmas.Bool.{cases_lt, cases_Bool, true≢false, or_cases, eqb-true}
 use Rattle.task_sheet.specs.Sheet.{CriticalSection}
-use Rattle.ceiling_kernel.specs.Tick.{Node, is_inside, held_ceiling}
-use Rattle.ceiling_kernel.specs.Behaviours.{AreApart}
+use Rattle.ceiling_kernel.proofs.Common.{Node, is_inside, held_ceiling, AreApart}
 use Rattle.ceiling_kernel.proofs.SectionLaws.{inside_true, outside_before, outside_after}
 use Rattle.ceiling_kernel.proofs.LockLaws.{held_before}
 use Rattle.posix_lists.specs.ThreadLists.{changes_locks}

@@ -1,7 +1,6 @@
 -- By limits the ranks follow the limits.
 use Rattle.std.proofs.Common.{ℕ, ◌<◌, inl, inr, List, length, arith}
-use Rattle.task_sheet.specs.Sheet.{Task}
-use Rattle.task_sheet.specs.Rank.{IsByRank}
+use Rattle.task_sheet.proofs.Common.{Task, IsByRank}
 use Rattle.latest_first.specs.LatestFirst.{FollowLimits}
 use Rattle.preferences.specs.Preferences.{reweighed}
 use Rattle.preferences.proofs.LimitLaws.{rank-lower}

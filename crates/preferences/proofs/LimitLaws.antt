@@ -11,10 +11,9 @@ use Rattle.std.proofs.lemmas.List.Sums.{sum_by-cons, sum_by-le-sum_by}
 use Rattle.std.proofs.lemmas.List.Elements.{All-from_recursion, recursion_from_All}
 use Rattle.std.proofs.lemmas.List.Sorted.{All-permutation, sum_by-IsPermutation, IsPermutation-refl}
 use Rattle.std.proofs.lemmas.Map.Keys.{Less-from_sorted}
-use Rattle.task_sheet.specs.Sheet.{Task, weighing, no_task, task_at}
-use Rattle.task_sheet.specs.Rank.{rank_cmp, IsByRank}
-use Rattle.task_sheet.specs.Demand.{limit_of}
-use Rattle.task_sheet.specs.Orders.{all_of, IsOrder, IsPassingOrder, IsBetter, IsBest}
+use Rattle.task_sheet.proofs.Common.{Task, no_task, task_at, rank_cmp, IsByRank, limit_of, all_of}
+use Rattle.task_sheet.proofs.Common.{IsOrder, IsPassingOrder, IsBetter, IsBest}
+use Rattle.task_sheet.specs.Sheet.{weighing}
 use Rattle.task_sheet.proofs.IndexLaws.{order-below}
 use Rattle.task_sheet.proofs.LevelLaws.{compare_orders}
 use Rattle.preferences.specs.Preferences.{longer_limits, reweighed_in, reweighed}

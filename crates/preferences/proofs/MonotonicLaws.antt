@@ -4,12 +4,9 @@ use Rattle.std.proofs.Common.{refl, sym, ◌∙◌, ap, arith}
 use Rattle.std.specs.List.{AllByRecursion}
 use Rattle.std.proofs.lemmas.Bool.{cases_order, eq-eqb, eqb-true, or_cases, or_left}
 use Rattle.std.proofs.lemmas.Bool.{or_right, ltb-true}
-use Rattle.task_sheet.specs.Sheet.{Task, AllTasks, task_at}
-use Rattle.task_sheet.specs.Rank.{IsByRank}
-use Rattle.task_sheet.specs.Indexes.{Indexes, IsPart, among, without_index}
-use Rattle.task_sheet.specs.Demand.{limit_of}
-use Rattle.task_sheet.specs.Orders.{all_of, IsOrderOf, AllStand, IsPassingOrder, IsBetter}
-use Rattle.task_sheet.specs.Orders.{IsBest}
+use Rattle.task_sheet.proofs.Common.{Task, AllTasks, task_at, IsByRank, Indexes, IsPart, among}
+use Rattle.task_sheet.proofs.Common.{without_index, limit_of, all_of, IsOrderOf, AllStand}
+use Rattle.task_sheet.proofs.Common.{IsPassingOrder, IsBetter, IsBest}
 use Rattle.task_sheet.proofs.IndexLaws.{without-parts, without-part_of, IsOrderOf-among}
 use Rattle.task_sheet.proofs.IndexLaws.{IsOrderOf-head, IsOrderOf-rest, IsOrderOf-cons}
 use Rattle.latest_first.proofs.WithoutOne.{less, less-by, less-all, less-order, less-stand}

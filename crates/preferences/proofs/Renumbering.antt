@@ -8,14 +8,14 @@ use Rattle.std.specs.List.{count_by, swap}
 use Rattle.std.proofs.lemmas.Bool.{cases_Bool, cases_eq, cases_lt, both_ways, lt-ltb, le-ltb}
 use Rattle.std.proofs.lemmas.Bool.{eq-eqb, ne_eqb}
 use Rattle.std.proofs.lemmas.List.Sums.{sum_by-cons}
-use Rattle.task_sheet.specs.Sheet.{CriticalSection, Task, weighing, task_at, no_task}
-use Rattle.task_sheet.specs.Indexes.{Indexes, below, among, with_index, sum_below, greatest_below}
-use Rattle.task_sheet.specs.Indexes.{some_below}
-use Rattle.task_sheet.specs.Locks.{shares_lock, reaches}
-use Rattle.task_sheet.specs.Demand.{greatest_of, longest_reached, blocking_of, interference_of}
-use Rattle.task_sheet.specs.Demand.{interrupts_of, interrupts_within, demand_of, limit_of}
-use Rattle.task_sheet.specs.Orders.{must_outrank, is_bound, Stands, AllStand, IsPassingOrder}
-use Rattle.task_sheet.specs.Orders.{IsFeasible}
+use Rattle.task_sheet.proofs.Common.{CriticalSection, Task, task_at, no_task, Indexes, below, among}
+use Rattle.task_sheet.proofs.Common.{with_index, sum_below, greatest_below, some_below, shares_lock}
+use Rattle.task_sheet.proofs.Common.{reaches, greatest_of, longest_reached, blocking_of}
+use Rattle.task_sheet.proofs.Common.{interference_of, interrupts_of, interrupts_within, demand_of}
+use Rattle.task_sheet.proofs.Common.{limit_of, must_outrank, is_bound, Stands, AllStand}
+use Rattle.task_sheet.proofs.Common.{IsPassingOrder, IsFeasible, Preference}
+use Rattle.task_sheet.specs.Sheet.{weighing}
+use Rattle.task_sheet.specs.declared.prefer.Preference.TheVariants.{Weights, Deadline}
 use Rattle.preferences.specs.Preferences.{order_names, KeepsOrders, longer_limits, reweighed_in}
 use Rattle.preferences.specs.Preferences.{reweighed, unweighed, IsPreferred}
 use Rattle.task_sheet.proofs.Below.{greatest_below-le, le-greatest_below, some_below-at}
@@ -26,8 +26,6 @@ use Rattle.std.proofs.lemmas.List.{get_or-set_same, get_or-set_other, length-set
 use Rattle.std.proofs.lemmas.List.Edits.{swap_is, length-swap}
 use Rattle.std.proofs.lemmas.List.Sorted.{IsPermutation-refl, IsPermutation-map}
 use Rattle.std.proofs.lemmas.List.Sorted.{IsPermutation-keeps}
-use Rattle.task_sheet.specs.declared.prefer.Preference.{Preference}
-use Rattle.task_sheet.specs.declared.prefer.Preference.TheVariants.{Weights, Deadline}
 
 -- a renumbering of the tasks below n that turns itself back
 pub record IsRenumbering (n : ℕ) (turn : ℕ → ℕ) : Type 0 where

@@ -1,19 +1,14 @@
 -- Nothing is broken in the lines of a run.
 use Rattle.std.proofs.Common.{◌≡◌, ◌∙◌, ℕ, List, [], Some, Ok, true, inl, inr, sym, subst}
 use Rattle.std.proofs.lemmas.Option.{none-some, same_Some}
-use Rattle.task_sheet.specs.Sheet.{Task}
-use Rattle.task_sheet.specs.TaskSet.{IsTaskSet}
-use Rattle.task_sheet.specs.Indexes.{indexes_of}
+use Rattle.task_sheet.proofs.Common.{Task, IsTaskSet, indexes_of}
 use Rattle.task_sheet.proofs.LevelLaws.{IsBest-one}
 use Rattle.task_sheet.proofs.ObstructionLaws.{IsObstruction-fails}
 use Rattle.task_sheet.proofs.TaskLaws.{AllTasks-from_set}
 use Rattle.assignment.specs.Places.{PlaceData}
 use Rattle.assignment.specs.Placings.{IsBestPlacing, tasks_of_places}
 use Rattle.explain.proofs.AccountLaws.{best-in_time}
-use Rattle.ceiling_kernel.specs.Tick.{node_in}
-use Rattle.ceiling_kernel.specs.Runs.{Runs}
-use Rattle.ceiling_kernel.specs.declared.trace.Release.{Release}
-use Rattle.ceiling_kernel.specs.declared.trace.Trace.{Trace}
+use Rattle.ceiling_kernel.proofs.Common.{node_in, Runs, Release, Trace}
 use Rattle.trace_text.specs.Faults.{IsTraceIn, trace_fault}
 use Rattle.trace_text.specs.declared.fault.TraceFault.{TraceFault}
 use Rattle.trace_text.specs.declared.fault.TraceFault.TheVariants as fault

@@ -6,22 +6,13 @@ use Rattle.std.specs.List.{AllByRecursion}
 use Rattle.std.proofs.lemmas.Bool.{cases_cond, cases_eq, cases_lt, le-ltb, leb-false, lt-ltb}
 use Rattle.std.proofs.lemmas.Option.{none-some}
 use Rattle.std.proofs.lemmas.Slice.Eq.{bytes_eq-Decides}
-use Rattle.task_sheet.specs.Name.{IsName}
-use Rattle.task_sheet.specs.Sheet.{Task, task_at}
-use Rattle.task_sheet.specs.TaskSet.{IsTaskSet}
+use Rattle.task_sheet.proofs.Common.{IsName, Task, task_at, IsTaskSet}
 use Rattle.task_sheet.proofs.TaskLaws.{valid_at}
-use Rattle.ceiling_kernel.specs.Tick.{Job, Node, executed_before, job_at, node_in, picked}
-use Rattle.ceiling_kernel.specs.Trace.{finish_before}
-use Rattle.ceiling_kernel.specs.Readings.{AreLongestRuns}
-use Rattle.ceiling_kernel.specs.Releases.{is_past}
-use Rattle.ceiling_kernel.specs.Releases.{jobs_of, no_release}
-use Rattle.ceiling_kernel.specs.Releases.{ready_of, release_at, task_number}
-use Rattle.ceiling_kernel.specs.Runs.{Runs, record_of, records_from}
-use Rattle.ceiling_kernel.specs.declared.trace.JobRecord.{JobRecord}
-use Rattle.ceiling_kernel.specs.declared.trace.Release.{Release}
+use Rattle.ceiling_kernel.proofs.Common.{Job, Node, executed_before, job_at, node_in, picked}
+use Rattle.ceiling_kernel.proofs.Common.{finish_before, AreLongestRuns, is_past, jobs_of}
+use Rattle.ceiling_kernel.proofs.Common.{no_release, ready_of, release_at, task_number, Runs}
+use Rattle.ceiling_kernel.proofs.Common.{record_of, records_from, JobRecord, Release, Slice, Trace}
 use Rattle.ceiling_kernel.specs.declared.trace.RunFault.TheVariants as fault
-use Rattle.ceiling_kernel.specs.declared.trace.Slice.{Slice}
-use Rattle.ceiling_kernel.specs.declared.trace.Trace.{Trace}
 use Rattle.ceiling_kernel.proofs.AcceptLaws.{IsAccepted, accepted, known_from, none_passes}
 use Rattle.ceiling_kernel.proofs.AcceptLaws.{sorted_from}
 use Rattle.ceiling_kernel.proofs.EndLaws.{records_at, some_executes}

@@ -9,15 +9,14 @@ use Rattle.std.proofs.lemmas.Bool.{cases_Bool, eqb-true, or_parts}
 use Rattle.std.proofs.lemmas.List.{append-nil}
 use Rattle.std.proofs.lemmas.List.Elements.{All-append, All-from_recursion, recursion_from_All}
 use Rattle.std.proofs.lemmas.List.Splits.{slice_split_at, slice_split_none}
-use Rattle.task_sheet.specs.Sheet.{Task, IsValidSheet, no_task, task_at}
-use Rattle.task_sheet.specs.TaskSet.{IsTaskSet}
-use Rattle.task_sheet.specs.Name.{is_name, IsName}
+use Rattle.task_sheet.proofs.Common.{Task, IsValidSheet, no_task, task_at, IsTaskSet, is_name}
+use Rattle.task_sheet.proofs.Common.{IsName}
 use Rattle.lines.specs.Lines.{lines_of, is_skipped, kept_from}
 use Rattle.lines.specs.Words.{number_in, name_in, words}
 use Rattle.lines.proofs.NumberLaws.{number_again}
 use Rattle.lines.proofs.Parts.{line_cut}
 use Rattle.lines.proofs.Lacks.{decimal_lacks, name_lacks}
-use Rattle.ceiling_kernel.specs.declared.trace.Release.{Release}
+use Rattle.ceiling_kernel.proofs.Common.{Release}
 use Rattle.release_list.specs.Text.{late_words, runs_words, release_line, release_lines, list_lines}
 use Rattle.release_list.specs.Reading.{until_in, rest_in, release_in, releases_from, IsWritable}
 use Rattle.release_list.specs.Reading.{ReadsBack}

@@ -1,10 +1,9 @@
 -- The tasks of a set by their names.
 use Rattle.std.proofs.Common.{◌≡◌, ℕ, ◌<◌, true, nat_lt, List, length, Some}
 use Rattle.std.proofs.lemmas.Bool.{lt-ltb}
-use Rattle.task_sheet.specs.Sheet.{Task, task_at}
-use Rattle.task_sheet.specs.TaskSet.{AreDistinct, same_name}
+use Rattle.task_sheet.proofs.Common.{Task, task_at, AreDistinct, same_name}
 use Rattle.task_sheet.proofs.TaskLaws.{place_of_name}
-use Rattle.ceiling_kernel.specs.Releases.{task_named}
+use Rattle.ceiling_kernel.proofs.Common.{task_named}
 
 -- the task at an index is found by its name
 pub found : (U : List Task) → AreDistinct same_name U → (k : ℕ) → k < length U

@@ -5,15 +5,13 @@ use Rattle.std.proofs.Common.{Option, Some, None, List, length, refl, ◌∙◌,
 use Rattle.std.specs.Prelude.{is_none, unwrap_or}
 use Rattle.std.proofs.lemmas.List.Folds.{list_any_none}
 use Rattle.std.proofs.lemmas.Bool.{and_left, and_right, cases_eq, le-ltb, lt-leb, ne_eqb, or_from}
-use Rattle.task_sheet.specs.Sheet.{Task, task_at}
-use Rattle.task_sheet.specs.TaskSet.{IsTaskSet}
+use Rattle.task_sheet.proofs.Common.{Task, task_at, IsTaskSet}
 use Rattle.task_sheet.proofs.Below.{some_below-none}
-use Rattle.ceiling_kernel.specs.declared.trace.Release.{Release}
-use Rattle.ceiling_kernel.specs.Waits.{lateness_of}
-use Rattle.ceiling_kernel.specs.Releases.{task_named, task_number, jobs_of, ready_of, first_where}
-use Rattle.ceiling_kernel.specs.Releases.{no_release, release_at, is_unsorted, is_unknown}
-use Rattle.ceiling_kernel.specs.Releases.{is_soon_job, is_too_soon, is_too_late, is_outside_cost}
-use Rattle.ceiling_kernel.specs.Releases.{is_past, refusal_of}
+use Rattle.ceiling_kernel.proofs.Common.{Release, lateness_of, task_named, task_number, jobs_of}
+use Rattle.ceiling_kernel.proofs.Common.{ready_of, first_where, no_release, release_at, is_unsorted}
+use Rattle.ceiling_kernel.proofs.Common.{is_unknown, is_too_soon, is_too_late, is_outside_cost}
+use Rattle.ceiling_kernel.proofs.Common.{is_past, refusal_of}
+use Rattle.ceiling_kernel.specs.Releases.{is_soon_job}
 use Rattle.ceiling_kernel.proofs.ReleaseLaws.{job_is}
 use Rattle.release_list.proofs.TaskNumbers.{found}
 use Rattle.release_list.proofs.InLaws.{In, Pairs, in_at, pairs_at}

@@ -1,9 +1,8 @@
 -- What the tasks above execute within a window, of the set's first ones.
 use Rattle.std.proofs.Common.{◌≡◌, ℕ, ◌+◌, ◌≤◌, Bool, true, false, cond, List, length, refl, sym}
 use Rattle.std.proofs.Common.{◌∙◌, add-one, arith}
-use Rattle.task_sheet.specs.Sheet.{Task, task_at, IsValidSheet}
-use Rattle.task_sheet.specs.Indexes.{Indexes, sum_below}
-use Rattle.task_sheet.specs.Demand.{interference_of, blocking_of, interrupts_within, demand_of}
+use Rattle.task_sheet.proofs.Common.{Task, task_at, IsValidSheet, Indexes, sum_below}
+use Rattle.task_sheet.proofs.Common.{interference_of, blocking_of, interrupts_within, demand_of}
 use Rattle.task_sheet.specs.Demand.{has_interrupts}
 use Rattle.task_sheet.proofs.InterruptLaws.{interrupts-none, uninterrupted-iff}
 use Rattle.task_sheet.proofs.Releases.{cost-le-interference}

@@ -3,9 +3,7 @@ use Rattle.std.proofs.Common.{◌≡◌, ◌↔◌, ℕ, ◌≤◌, inl, inr, Bo
 use Rattle.std.proofs.Common.{IfSome, is_some, IsTrue, List, length, arith}
 use Rattle.std.specs.Prelude.{IfNone}
 use Rattle.std.proofs.lemmas.Bool.{cases_Bool, both_ways}
-use Rattle.task_sheet.specs.Sheet.{Task, AllTasks, no_task, task_at}
-use Rattle.task_sheet.specs.Indexes.{Indexes}
-use Rattle.task_sheet.specs.Demand.{limit_of}
+use Rattle.task_sheet.proofs.Common.{Task, AllTasks, no_task, task_at, Indexes, limit_of}
 use Rattle.task_sheet.specs.Responses.{Covers}
 use Rattle.task_sheet.proofs.Below.{sum_below-le}
 use Rattle.task_sheet.proofs.Exchange.{term}

@@ -1,9 +1,8 @@
 -- The walk of a task from 1 on: where it ends.
 use Rattle.std.proofs.Common.{◌≡◌, ℕ, ◌+◌, ◌<◌, ◌≤◌, List, [], ◌∷◌, ◌++◌, length, arith}
-use Rattle.task_sheet.specs.Sheet.{Task, AllTasks}
-use Rattle.task_sheet.specs.Indexes.{Indexes}
-use Rattle.task_sheet.specs.Responses.{IsFullChain, IsTrail}
-use Rattle.task_sheet.specs.Demand.{demand_of, evaluation_bound}
+use Rattle.task_sheet.proofs.Common.{Task, AllTasks, Indexes, IsFullChain, demand_of}
+use Rattle.task_sheet.specs.Responses.{IsTrail}
+use Rattle.task_sheet.specs.Demand.{evaluation_bound}
 use Rattle.task_sheet.proofs.DemandLaws.{demand_does_not_fall}
 use Rattle.task_sheet.proofs.Trails.{IsWalk, walk-count, walk-within, walk_passes, walk_fails}
 use Rattle.task_sheet.proofs.Evaluations.{walk-short}

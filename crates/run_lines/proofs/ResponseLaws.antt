@@ -6,11 +6,9 @@ use Rattle.std.proofs.lemmas.Bool.{and_parts, both_ways, cases_Bool, cases_lt, e
 use Rattle.std.proofs.lemmas.Bool.{false_from_ne_true, lt-ltb, ltb-true, or_left, or_right}
 use Rattle.std.proofs.lemmas.Bool.{true≢false}
 use Rattle.std.proofs.lemmas.Slice.Eq.{bytes_eq-Decides}
-use Rattle.task_sheet.specs.Sheet.{Task, task_at, same_bytes}
-use Rattle.task_sheet.specs.TaskSet.{IsTaskSet}
-use Rattle.task_sheet.specs.Indexes.{Indexes, among, without_index}
-use Rattle.task_sheet.specs.Demand.{IsResponseOf, greatest_of}
-use Rattle.task_sheet.specs.Orders.{all_of, IsOrder, IsOrderOf}
+use Rattle.task_sheet.proofs.Common.{Task, task_at, same_bytes, IsTaskSet, Indexes, among}
+use Rattle.task_sheet.proofs.Common.{without_index, IsResponseOf, greatest_of, all_of, IsOrder}
+use Rattle.task_sheet.proofs.Common.{IsOrderOf}
 use Rattle.task_sheet.proofs.IndexLaws.{IsOrderOf-among, IsOrderOf-rest, without-gone}
 use Rattle.task_sheet.proofs.TaskLaws.{place_of_name}
 use Rattle.lines.specs.Naming.{name_at}
@@ -18,14 +16,11 @@ use Rattle.assignment.specs.Places.{PlaceData}
 use Rattle.assignment.specs.Placings.{IsBestPlacing, tasks_of_places}
 use Rattle.explain.specs.Accounts.{AreInTime}
 use Rattle.explain.proofs.AccountLaws.{best-in_time}
-use Rattle.ceiling_kernel.specs.Tick.{Job, Node, node_in}
-use Rattle.ceiling_kernel.specs.Waits.{IsNode}
-use Rattle.ceiling_kernel.specs.Bounds.{PassesBy, above_of, after_of, response_by}
-use Rattle.ceiling_kernel.specs.Releases.{jobs_of, release_at, task_named, task_number}
-use Rattle.ceiling_kernel.specs.Runs.{MeetsBounds, Runs, no_record, record_of, records_from}
-use Rattle.ceiling_kernel.specs.declared.trace.JobRecord.{JobRecord}
-use Rattle.ceiling_kernel.specs.declared.trace.Release.{Release}
-use Rattle.ceiling_kernel.specs.declared.trace.Trace.{Trace}
+use Rattle.ceiling_kernel.proofs.Common.{Job, Node, node_in, IsNode, PassesBy, above_of, after_of}
+use Rattle.ceiling_kernel.proofs.Common.{response_by, jobs_of, release_at, task_named, task_number}
+use Rattle.ceiling_kernel.proofs.Common.{Runs, no_record, record_of, records_from, JobRecord}
+use Rattle.ceiling_kernel.proofs.Common.{Release, Trace}
+use Rattle.ceiling_kernel.specs.Runs.{MeetsBounds}
 use Rattle.ceiling_kernel.proofs.BoundLaws.{responses_law}
 use Rattle.ceiling_kernel.proofs.EndLaws.{bounded_trace, records_at, some_executes}
 use Rattle.ceiling_kernel.proofs.FinishLaws.{finish_is}

@@ -8,9 +8,7 @@ use Rattle.std.specs.Cmp.Lexicographic.{nat_list_eq_equiv}
 use Rattle.std.proofs.lemmas.Bool.{cases_Bool, true≢false, both_ways, or_cases, or_left, or_right}
 use Rattle.std.proofs.lemmas.List.{get_or_default}
 use Rattle.std.proofs.lemmas.List.Folds.{Any-from_list_any, list_any-append}
-use Rattle.task_sheet.specs.Sheet.{Task, no_task, same_bytes, task_at}
-use Rattle.task_sheet.specs.Locks.{uses, ceiling_of}
-use Rattle.task_sheet.specs.Orders.{IsOrder}
+use Rattle.task_sheet.proofs.Common.{Task, no_task, same_bytes, task_at, uses, ceiling_of, IsOrder}
 use Rattle.task_sheet.proofs.CeilingLaws.{ceiling-none}
 use Rattle.ceilings.specs.IsTableOf.{with_name, names_in, locks_of}
 

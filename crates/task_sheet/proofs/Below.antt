@@ -8,8 +8,7 @@ use Rattle.std.proofs.lemmas.Bool.{both_ways, cases_Bool, cases_eq, cases_lt, or
 use Rattle.std.proofs.lemmas.Bool.{false_from_ne_true}
 use Rattle.std.proofs.lemmas.Bool.Decides.{nat_tests}
 use Rattle.std.specs.Ordering.{ord_max, nat_cmp}
-use Rattle.task_sheet.specs.Indexes.{sum_below, greatest_below, some_below}
-use Rattle.task_sheet.specs.Demand.{greatest_of}
+use Rattle.task_sheet.proofs.Common.{sum_below, greatest_below, some_below, greatest_of}
 
 -- a choice is at most what both sides are at most
 pub cond-le : (b : Bool) (x y m : ℕ) → x ≤ m → y ≤ m → cond b x y ≤ m

@@ -1,10 +1,9 @@
 -- The blocking is the greatest length of the sections that block, and 0 where none does.
 use Rattle.std.proofs.Common.{◌≡◌, ℕ, ◌≤◌, ◌⊎◌, inl, inr, cond, List, length, ◌∙◌, arith}
 use Rattle.std.proofs.lemmas.Bool.{cases_Bool}
-use Rattle.task_sheet.specs.Sheet.{CriticalSection, Task, task_at}
-use Rattle.task_sheet.specs.Indexes.{Indexes, with_index}
-use Rattle.task_sheet.specs.Locks.{reaches}
-use Rattle.task_sheet.specs.Demand.{longest_reached, blocking_of, Blocks}
+use Rattle.task_sheet.proofs.Common.{CriticalSection, Task, task_at, Indexes, with_index, reaches}
+use Rattle.task_sheet.proofs.Common.{longest_reached, blocking_of}
+use Rattle.task_sheet.specs.Demand.{Blocks}
 use Rattle.task_sheet.proofs.Below.{le-greatest_below, greatest_below-some, le-greatest_of}
 use Rattle.task_sheet.proofs.Below.{greatest_of-some}
 

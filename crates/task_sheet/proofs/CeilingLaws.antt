@@ -6,10 +6,9 @@ use Rattle.std.specs.Option.{option_or}
 use Rattle.std.proofs.lemmas.Bool.{cases_order, both_ways, eqb-true, eq-eqb, ltb-true, lt-ltb}
 use Rattle.std.proofs.lemmas.List.{get_or_read}
 use Rattle.std.proofs.lemmas.List.Folds.{list_any_at, Any-from_list_any}
-use Rattle.task_sheet.specs.Sheet.{Task, task_at}
-use Rattle.task_sheet.specs.Indexes.{among}
-use Rattle.task_sheet.specs.Locks.{uses, ceiling_from, ceiling_of, IsHighestUser}
-use Rattle.task_sheet.specs.Orders.{all_of, IsOrder}
+use Rattle.task_sheet.proofs.Common.{Task, task_at, among, uses, ceiling_from, ceiling_of, all_of}
+use Rattle.task_sheet.proofs.Common.{IsOrder}
+use Rattle.task_sheet.specs.Locks.{IsHighestUser}
 use Rattle.task_sheet.proofs.IndexLaws.{IsOrderOf-among}
 
 -- ---- places of a list

@@ -4,14 +4,12 @@ use Rattle.std.proofs.Common.{length, Option, None, Some, refl, sym, ◌∙◌, 
 use Rattle.std.specs.Ordering.{nat_cmp}
 use Rattle.std.specs.FinSet as members
 use Rattle.std.proofs.lemmas.Bool.{cases_eq, and_parts, and_from, false_from_ne_true, ltb-true}
-use Rattle.task_sheet.specs.Sheet.{Task}
-use Rattle.task_sheet.specs.Indexes.{Indexes, indexes_of, IsPart, without_index}
-use Rattle.task_sheet.specs.Orders.{all_of, Stands}
-use Rattle.task_sheet.specs.Levels.{IsChosen, NoneStands}
+use Rattle.task_sheet.proofs.Common.{Task, Indexes, indexes_of, IsPart, without_index, all_of}
+use Rattle.task_sheet.proofs.Common.{Stands, IsChosen, NoneStands, does_stand, level_at}
+use Rattle.task_sheet.specs.Choices.{least_below, chosen_of, without_chosen}
 use Rattle.task_sheet.proofs.PassingLaws.{does_stand-iff}
 use Rattle.task_sheet.proofs.IndexLaws.{without-parts}
 use Rattle.task_sheet.proofs.MembersIndexes.{indexes_of-all_below, indexes_of-remove}
-use Rattle.task_sheet.specs.Choices.{does_stand, least_below, chosen_of, without_chosen, level_at}
 
 least_below-none : (n : ℕ) (p : ℕ → Bool) → ((j : ℕ) → j < n → p j ≡ false) → least_below n p ≡ None
 least_below-none zero p none = refl

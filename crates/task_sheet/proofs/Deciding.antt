@@ -4,13 +4,11 @@ use Rattle.std.proofs.Common.{◌&&◌, List, [], ◌∷◌, ◌++◌, length, r
 use Rattle.std.proofs.lemmas.Bool.{cases_Bool, both_ways, cond-true, ltb-true, and_parts, and_from}
 use Rattle.std.proofs.lemmas.Bool.{false_from_ne_true}
 use Rattle.std.proofs.lemmas.List.{map-append}
-use Rattle.task_sheet.specs.Sheet.{Task, AllTasks}
-use Rattle.task_sheet.specs.Indexes.{Indexes, IsPart, without_index, listed_below, some_below}
-use Rattle.task_sheet.specs.Choices.{does_stand}
-use Rattle.task_sheet.specs.Orders.{all_of, Stands, IsFeasible, IsBest}
-use Rattle.task_sheet.specs.Levels.{IsGreatestObstruction, IsChosen, left_after, AllChosen}
-use Rattle.task_sheet.specs.Verdicts.{FailureData, LevelData, VerdictData, Admitted, Infeasible}
-use Rattle.task_sheet.specs.Verdicts.{tasks_of, order_of, AllFailures, AllLevels, IsVerdictOf}
+use Rattle.task_sheet.proofs.Common.{Task, AllTasks, Indexes, IsPart, without_index, listed_below}
+use Rattle.task_sheet.proofs.Common.{some_below, does_stand, all_of, Stands, IsFeasible, IsBest}
+use Rattle.task_sheet.proofs.Common.{IsGreatestObstruction, IsChosen, left_after, AllChosen}
+use Rattle.task_sheet.proofs.Common.{FailureData, LevelData, VerdictData, Admitted, Infeasible}
+use Rattle.task_sheet.proofs.Common.{tasks_of, order_of, AllFailures, AllLevels, IsVerdictOf}
 use Rattle.task_sheet.proofs.Below.{find_below, sum_below-le-term, some_below-at, least_below_at}
 use Rattle.task_sheet.proofs.IndexLaws.{without-parts, count_below, without-fewer}
 use Rattle.task_sheet.proofs.PassingLaws.{Passes-iff_response, does_stand-iff, find_reason}

@@ -1,10 +1,7 @@
 -- How great the demands of a valid set are, within the longest period.
 use Rattle.std.proofs.Common.{ℕ, ◌<◌, ◌≤◌, List, length, arith}
-use Rattle.task_sheet.specs.Sheet.{Task, task_at}
-use Rattle.task_sheet.specs.Indexes.{Indexes, with_index}
-use Rattle.task_sheet.specs.TaskSet.{IsTaskSet}
-use Rattle.task_sheet.specs.Demand.{limit_of, longest_reached, blocking_of, interference_of}
-use Rattle.task_sheet.specs.Demand.{demand_of}
+use Rattle.task_sheet.proofs.Common.{Task, task_at, Indexes, with_index, IsTaskSet, limit_of}
+use Rattle.task_sheet.proofs.Common.{longest_reached, blocking_of, interference_of, demand_of}
 use Rattle.task_sheet.proofs.Below.{cond-le, greatest_below-le, sum_below-fits}
 use Rattle.task_sheet.proofs.Releases.{interference-fits}
 use Rattle.task_sheet.proofs.TaskLaws.{IsTask-from_valid, valid_at}

@@ -1,9 +1,7 @@
 -- The demand does not fall with time.
 use Rattle.std.proofs.Common.{ℕ, ◌<◌, ◌≤◌, inl, inr, List, length, arith}
 use Rattle.std.proofs.lemmas.Bool.{cases_Bool}
-use Rattle.task_sheet.specs.Sheet.{Task, AllTasks, no_task, task_at}
-use Rattle.task_sheet.specs.Indexes.{Indexes}
-use Rattle.task_sheet.specs.Demand.{demand_of}
+use Rattle.task_sheet.proofs.Common.{Task, AllTasks, no_task, task_at, Indexes, demand_of}
 use Rattle.task_sheet.proofs.Below.{sum_below-le}
 use Rattle.task_sheet.proofs.Releases.{interference-mono}
 use Rattle.task_sheet.proofs.ResponseLaws.{DoesNotFall}

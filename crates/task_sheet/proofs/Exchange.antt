@@ -3,10 +3,9 @@ use Rattle.std.proofs.Common.{◌≡◌, ℕ, ◌+◌, ◌-◌, ◌<◌, ◌≤�
 use Rattle.std.proofs.Common.{get_or, arith}
 use Rattle.std.proofs.lemmas.Bool.{cases_Bool, and_parts, and_from, or_cases, or_parts, both_ways}
 use Rattle.std.proofs.lemmas.List.Elements.{recursion_from_All}
-use Rattle.task_sheet.specs.Sheet.{Task, IsTask, AllTasks, no_task, task_at}
-use Rattle.task_sheet.specs.Indexes.{Indexes, IsPart, with_index, sum_below}
-use Rattle.task_sheet.specs.Locks.{reaches}
-use Rattle.task_sheet.specs.Demand.{longest_reached, blocking_of, interference_of, demand_of}
+use Rattle.task_sheet.proofs.Common.{Task, IsTask, AllTasks, no_task, task_at, Indexes, IsPart}
+use Rattle.task_sheet.proofs.Common.{with_index, sum_below, reaches, longest_reached, blocking_of}
+use Rattle.task_sheet.proofs.Common.{interference_of, demand_of}
 use Rattle.task_sheet.proofs.Below.{cond-le, sum_below-le, sum_below-gap, greatest_below-le}
 use Rattle.task_sheet.proofs.Below.{le-greatest_below, greatest_of-le, greatest_of-mono}
 use Rattle.task_sheet.proofs.Below.{some_below-mono}

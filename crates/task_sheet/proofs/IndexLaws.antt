@@ -11,9 +11,8 @@ use Rattle.std.proofs.lemmas.Bool.{false_from_ne_true, not-true, lt-ltb, le-ltb,
 use Rattle.std.proofs.lemmas.Bool.Decides.{nat_tests}
 use Rattle.std.proofs.Math.Bool.{and-false}
 use Rattle.std.proofs.lemmas.List.Sums.{sum_by-cons, sum_by-append}
-use Rattle.task_sheet.specs.Indexes.{Indexes, IsPart, below, with_index, without_index, among}
-use Rattle.task_sheet.specs.Indexes.{listed_below, sum_below}
-use Rattle.task_sheet.specs.Orders.{IsOrderOf}
+use Rattle.task_sheet.proofs.Common.{Indexes, IsPart, below, with_index, without_index, among}
+use Rattle.task_sheet.proofs.Common.{listed_below, sum_below, IsOrderOf}
 use Rattle.task_sheet.proofs.Below.{cond-le, sum_below-gap, sum_below-fits}
 
 -- ---- parts

@@ -2,10 +2,9 @@
 use Rattle.std.proofs.Common.{◌≡◌, ℕ, ◌⊎◌, inl, inr, false, List, [], ◌∷◌, ◌++◌, refl, sym, ◌∙◌, ap}
 use Rattle.std.proofs.Common.{subst, arith}
 use Rattle.std.proofs.lemmas.Bool.{cases_order, cond-true}
-use Rattle.task_sheet.specs.Sheet.{Task}
-use Rattle.task_sheet.specs.Indexes.{Indexes, IsPart, without_index}
-use Rattle.task_sheet.specs.Orders.{all_of, Stands, IsOrderOf, AllStand, IsBetter, IsBest}
-use Rattle.task_sheet.specs.Levels.{IsChosen, left_after, AllChosen}
+use Rattle.task_sheet.proofs.Common.{Task, Indexes, IsPart, without_index, all_of, Stands}
+use Rattle.task_sheet.proofs.Common.{IsOrderOf, AllStand, IsBetter, IsBest, IsChosen, left_after}
+use Rattle.task_sheet.proofs.Common.{AllChosen}
 use Rattle.task_sheet.proofs.IndexLaws.{without-parts, IsOrderOf-among, IsOrderOf-head}
 use Rattle.task_sheet.proofs.IndexLaws.{IsOrderOf-rest, IsOrderOf-cons}
 

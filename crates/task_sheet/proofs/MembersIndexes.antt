@@ -7,9 +7,9 @@ use Rattle.std.specs.Ordering.{nat_cmp}
 use Rattle.std.specs.FinSet as set
 use Rattle.std.specs.Cmp.{nat_cmp_total, unsigned_tied}
 use Rattle.std.proofs.lemmas.Bool.{cases_eq, both_ways, false_from_ne_true, ltb-true}
-use Rattle.task_sheet.specs.MembersWords.{all_below}
+use Rattle.task_sheet.proofs.Common.{all_below, indexes_of, no_index, below, with_index}
+use Rattle.task_sheet.proofs.Common.{without_index, IsPart}
 use Rattle.task_sheet.specs.MembersLaws.{contains-set_of}
-use Rattle.task_sheet.specs.Indexes.{indexes_of, no_index, below, with_index, without_index, IsPart}
 use Rattle.task_sheet.proofs.Below.{find_below}
 
 -- ---- the edits

@@ -1,11 +1,10 @@
 -- What stands in the way of every order.
 use Rattle.std.proofs.Common.{◌≡◌, ℕ, inl, inr, true, false, ◌==◌, List, [], ◌∷◌, refl, sym, subst}
 use Rattle.std.proofs.lemmas.Bool.{cases_Bool, or_cases, or_left, or_right, both_ways, eqb-true}
-use Rattle.task_sheet.specs.Sheet.{Task, AllTasks}
-use Rattle.task_sheet.specs.Indexes.{Indexes, IsPart, without_index, either_of, among}
-use Rattle.task_sheet.specs.Orders.{all_of, AllStand, IsFeasible}
-use Rattle.task_sheet.specs.Levels.{NoneStands, IsObstruction, IsGreatestObstruction, left_after}
-use Rattle.task_sheet.specs.Levels.{AllChosen}
+use Rattle.task_sheet.proofs.Common.{Task, AllTasks, Indexes, IsPart, without_index, among, all_of}
+use Rattle.task_sheet.proofs.Common.{AllStand, IsFeasible, NoneStands, IsObstruction}
+use Rattle.task_sheet.proofs.Common.{IsGreatestObstruction, left_after, AllChosen}
+use Rattle.task_sheet.specs.Indexes.{either_of}
 use Rattle.task_sheet.proofs.IndexLaws.{without-member, without-parts, without-part}
 use Rattle.task_sheet.proofs.IndexLaws.{IsOrderOf-among}
 use Rattle.task_sheet.proofs.PassingLaws.{Stands-part}

@@ -3,15 +3,14 @@ use Rattle.std.proofs.Common.{◌≡◌, ◌↔◌, ℕ, ◌+◌, ◌-◌, ◌<�
 use Rattle.std.proofs.Common.{inr, List, length, IsTrue, ap, arith}
 use Rattle.std.proofs.lemmas.Bool.{cases_Bool, cases_order, both_ways, and_parts, and_from}
 use Rattle.std.proofs.lemmas.Bool.{false_from_ne_true, not-true}
-use Rattle.task_sheet.specs.Sheet.{Task, AllTasks, task_at}
-use Rattle.task_sheet.specs.Indexes.{Indexes, IsPart}
-use Rattle.task_sheet.specs.Responses.{IsResponse, IsChain, IsFullChain}
-use Rattle.task_sheet.specs.Demand.{past_jitter, demand_of, limit_of, IsResponseOf, Passes}
+use Rattle.task_sheet.proofs.Common.{Task, AllTasks, task_at, Indexes, IsPart, IsFullChain}
+use Rattle.task_sheet.proofs.Common.{past_jitter, demand_of, limit_of, IsResponseOf, Passes}
+use Rattle.task_sheet.proofs.Common.{must_outrank, is_bound, Stands, ReasonData, IsLeastOver}
+use Rattle.task_sheet.proofs.Common.{does_stand}
+use Rattle.task_sheet.specs.Responses.{IsResponse, IsChain}
 use Rattle.task_sheet.specs.Demand.{does_pass}
-use Rattle.task_sheet.specs.Orders.{must_outrank, is_bound, Stands}
-use Rattle.task_sheet.specs.Verdicts.{ReasonData, Chain, Over, IsLeastOver, IsReason}
+use Rattle.task_sheet.specs.Verdicts.{Chain, Over, IsReason}
 use Rattle.task_sheet.specs.Ready.{Refutes}
-use Rattle.task_sheet.specs.Choices.{does_stand}
 use Rattle.task_sheet.proofs.Below.{some_below-at, some_below-witness, some_below-mono}
 use Rattle.task_sheet.proofs.Below.{least_below_at}
 use Rattle.task_sheet.proofs.Exchange.{demand-part}

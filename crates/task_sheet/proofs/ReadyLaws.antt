@@ -2,12 +2,11 @@
 use Rattle.std.proofs.Common.{◌≡◌, ℕ, inl, inr, true, false, ◌==◌, List, [], ◌∷◌, refl, sym, ◌∙◌}
 use Rattle.std.proofs.Common.{ap, subst}
 use Rattle.std.proofs.lemmas.Bool.{both_ways, or_cases, eqb-true}
-use Rattle.task_sheet.specs.Sheet.{Task, AllTasks}
-use Rattle.task_sheet.specs.Indexes.{Indexes, without_index, among}
-use Rattle.task_sheet.specs.Orders.{all_of, Stands, IsOrderOf, IsBest, IsFeasible}
-use Rattle.task_sheet.specs.Levels.{AllChosen}
-use Rattle.task_sheet.specs.Verdicts.{FailureData, LevelData, tasks_of, order_of, AllFailures}
-use Rattle.task_sheet.specs.Ready.{time_of, AllRefuted, AllReady, IsReadyOrder, IsReadySet}
+use Rattle.task_sheet.proofs.Common.{Task, AllTasks, Indexes, without_index, among, all_of, Stands}
+use Rattle.task_sheet.proofs.Common.{IsOrderOf, IsBest, IsFeasible, AllChosen, FailureData}
+use Rattle.task_sheet.proofs.Common.{LevelData, tasks_of, order_of, AllFailures, AllReady}
+use Rattle.task_sheet.proofs.Common.{IsReadyOrder, IsReadySet}
+use Rattle.task_sheet.specs.Ready.{time_of, AllRefuted}
 use Rattle.task_sheet.proofs.IndexLaws.{listed-has, IsOrderOf-head, IsOrderOf-rest}
 use Rattle.task_sheet.proofs.PassingLaws.{Refutes-fails, Refutes-from_reason}
 use Rattle.task_sheet.proofs.LevelLaws.{AllChosen-best, left_after-order}

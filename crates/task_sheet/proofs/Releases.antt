@@ -4,8 +4,7 @@ use Rattle.std.specs.Int.{div_ceil}
 use Rattle.std.proofs.lemmas.Grind.{common_steps, div_ceil_times}
 use Rattle.std.proofs.lemmas.Bool.{cases_eq}
 use Rattle.std.proofs.Math.Nat.{mul-le-mul_left, mul-le-mul_right}
-use Rattle.task_sheet.specs.Sheet.{Task, IsTask, IsValidSheet}
-use Rattle.task_sheet.specs.Demand.{releases_within, interference_of}
+use Rattle.task_sheet.proofs.Common.{Task, IsTask, IsValidSheet, releases_within, interference_of}
 
 le-div_ceil-mul : (t p : ℕ) → 0 < p → t ≤ div_ceil t p * p
 le-div_ceil-mul t p pos = grind (arith, common_steps)

@@ -3,8 +3,8 @@ use Rattle.std.proofs.Common.{◌≡◌, ℕ, zero, suc, ◌+◌, ◌<◌, ◌�
 use Rattle.std.proofs.Common.{refl, sym, ◌∙◌, arith, Bool, true, nat_le, ◌&&◌}
 use Rattle.std.proofs.lemmas.Bool.{cases_lt, both_ways, and_parts, and_from, leb-true, le-leb}
 use Rattle.task_sheet.proofs.Below.{find_below, some_below-at, least_below_at}
-use Rattle.task_sheet.specs.Responses.{Covers, IsResponse, ChainFrom, IsChain, FullFrom}
-use Rattle.task_sheet.specs.Responses.{IsFullChain}
+use Rattle.task_sheet.proofs.Common.{ChainFrom, IsFullChain}
+use Rattle.task_sheet.specs.Responses.{Covers, IsResponse, IsChain, FullFrom}
 
 -- a demand that is positive and does not fall
 pub record DoesNotFall (W : ℕ → ℕ) : Type 0 where

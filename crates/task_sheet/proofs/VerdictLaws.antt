@@ -2,15 +2,14 @@
 use Rattle.std.proofs.Common.{◌≡◌, ℕ, ◌<◌, true, false, List, [], ◌∷◌, ◌++◌, length, refl, sym, ◌∙◌}
 use Rattle.std.proofs.Common.{ap, subst, arith}
 use Rattle.std.proofs.lemmas.Bool.{ltb-true}
-use Rattle.task_sheet.specs.Sheet.{Task, AllTasks}
-use Rattle.task_sheet.specs.Indexes.{Indexes, IsPart, without_index, among, listed_below}
-use Rattle.task_sheet.specs.Demand.{IsResponseOf}
-use Rattle.task_sheet.specs.Orders.{all_of, Stands, IsFeasible, IsOrderOf, AllStand}
-use Rattle.task_sheet.specs.Levels.{AllChosen, left_after, NoneStands, IsGreatestObstruction}
-use Rattle.task_sheet.specs.Verdicts.{FailureData, LevelData, VerdictData, Admitted, Infeasible}
-use Rattle.task_sheet.specs.Verdicts.{tasks_of, order_of, IsFailure, AllFailures, IsLevel}
-use Rattle.task_sheet.specs.Verdicts.{AllLevels, IsBestOrder, IsStuck, IsVerdictOf}
-use Rattle.task_sheet.specs.Ready.{AllReady, IsReadyOrder, IsReadySet}
+use Rattle.task_sheet.proofs.Common.{Task, AllTasks, Indexes, IsPart, without_index, among}
+use Rattle.task_sheet.proofs.Common.{listed_below, IsResponseOf, all_of, Stands, IsFeasible}
+use Rattle.task_sheet.proofs.Common.{IsOrderOf, AllStand, AllChosen, left_after, NoneStands}
+use Rattle.task_sheet.proofs.Common.{IsGreatestObstruction, FailureData, LevelData, VerdictData}
+use Rattle.task_sheet.proofs.Common.{Admitted, Infeasible, tasks_of, order_of, AllFailures}
+use Rattle.task_sheet.proofs.Common.{AllLevels, IsBestOrder, IsStuck, IsVerdictOf, AllReady}
+use Rattle.task_sheet.proofs.Common.{IsReadyOrder, IsReadySet}
+use Rattle.task_sheet.specs.Verdicts.{IsFailure, IsLevel}
 use Rattle.task_sheet.proofs.IndexLaws.{same_parts, without-parts, listed-order, listed-among}
 use Rattle.task_sheet.proofs.IndexLaws.{IsOrderOf-among, IsOrderOf-head, IsOrderOf-rest}
 use Rattle.task_sheet.proofs.PassingLaws.{IsResponseOf-one, Passes-iff_response, IsReason-one}

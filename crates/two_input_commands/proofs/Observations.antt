@@ -1,8 +1,7 @@
 -- What a trace shows in the order that settings give.
 use Rattle.std.proofs.Common.{◌≡◌, ◌<◌, ℕ, zero, suc, false, List, [], ◌∷◌, length, Result, Ok, All}
 use Rattle.std.proofs.Common.{subst, arith}
-use Rattle.task_sheet.specs.Sheet.{Task}
-use Rattle.task_sheet.specs.Orders.{IsOrder}
+use Rattle.task_sheet.proofs.Common.{Task, IsOrder}
 use Rattle.assignment.specs.Places.{PlaceData}
 use Rattle.judge.specs.Judgements.{AllJudged, judged_of, order_judged}
 use Rattle.judge.specs.Node.{IsOrderOfRows}

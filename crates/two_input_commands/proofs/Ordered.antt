@@ -2,14 +2,8 @@
 use Rattle.std.specs.Prelude.{IfOk}
 use Rattle.std.proofs.Common.{◌≡◌, ◌∙◌, ◌<◌, ℕ, false, List, [], ◌∷◌, length, Result, Ok, Err, inr}
 use Rattle.std.proofs.Common.{refl, sym, ap, ap₂, subst, arith}
-use Rattle.task_sheet.specs.Sheet.{Task}
-use Rattle.task_sheet.specs.TaskSet.{IsTaskSet}
-use Rattle.task_sheet.specs.Indexes.{among}
-use Rattle.task_sheet.specs.Orders.{IsOrder}
-use Rattle.ceiling_kernel.specs.Runs.{Runs}
-use Rattle.ceiling_kernel.specs.Tick.{node_in}
-use Rattle.ceiling_kernel.specs.declared.trace.Release.{Release}
-use Rattle.ceiling_kernel.specs.declared.trace.Trace.{Trace}
+use Rattle.task_sheet.proofs.Common.{Task, IsTaskSet, among, IsOrder}
+use Rattle.ceiling_kernel.proofs.Common.{Runs, node_in, Release, Trace}
 use Rattle.judge.specs.Faults.{IsSettingsFault, rows_fault}
 use Rattle.judge.specs.Node.{IsOrderOfRows}
 use Rattle.judge.specs.Judgements.{AllJudged, IsJudgementOf, order_judged}

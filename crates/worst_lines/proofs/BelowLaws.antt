@@ -6,10 +6,9 @@ use Rattle.std.proofs.lemmas.List.{append_assoc}
 use Rattle.std.proofs.lemmas.List.Sums.{sum_by-append}
 use Rattle.std.specs.Ordering.{nat_cmp}
 use Rattle.std.specs.FinSet as members
-use Rattle.task_sheet.specs.Sheet.{Task}
-use Rattle.task_sheet.specs.Indexes.{Indexes, indexes_of, listed_below, without_index, IsPart}
-use Rattle.task_sheet.specs.Orders.{all_of, AllStand, IsOrder, IsOrderOf, Stands}
-use Rattle.task_sheet.specs.Levels.{NoneStands, left_after}
+use Rattle.task_sheet.proofs.Common.{Task, Indexes, indexes_of, listed_below, without_index, IsPart}
+use Rattle.task_sheet.proofs.Common.{all_of, AllStand, IsOrder, IsOrderOf, Stands, NoneStands}
+use Rattle.task_sheet.proofs.Common.{left_after}
 use Rattle.task_sheet.proofs.IndexLaws.{IsOrderOf-among, IsOrderOf-cons, listed-order}
 use Rattle.task_sheet.proofs.IndexLaws.{without-parts}
 use Rattle.task_sheet.proofs.LevelLaws.{left_after-part, left_after-push}

@@ -2,10 +2,8 @@
 use Rattle.std.proofs.Common.{◌≡◌, ◌∙◌, ℕ, false, List, [], ◌∷◌, ◌++◌, sym, ap, subst}
 use Rattle.std.specs.Ordering.{nat_cmp}
 use Rattle.std.specs.FinSet as members
-use Rattle.task_sheet.specs.Sheet.{Task}
-use Rattle.task_sheet.specs.Indexes.{Indexes, indexes_of, without_index, IsPart}
-use Rattle.task_sheet.specs.Orders.{all_of, IsOrderOf}
-use Rattle.task_sheet.specs.Levels.{left_after}
+use Rattle.task_sheet.proofs.Common.{Task, Indexes, indexes_of, without_index, IsPart, all_of}
+use Rattle.task_sheet.proofs.Common.{IsOrderOf, left_after}
 use Rattle.task_sheet.proofs.IndexLaws.{IsOrderOf-cons}
 use Rattle.task_sheet.proofs.LevelLaws.{left_after-part, left_after-push}
 use Rattle.task_sheet.proofs.MembersIndexes.{indexes_of-remove}

@@ -1,9 +1,7 @@
 -- An order that decides passes where some order does.
 use Rattle.std.proofs.Common.{ℕ, inl, inr, List, [], ◌∷◌, sym, subst}
-use Rattle.task_sheet.specs.Sheet.{Task, AllTasks}
-use Rattle.task_sheet.specs.TaskSet.{IsTaskSet}
-use Rattle.task_sheet.specs.Indexes.{Indexes, IsPart, without_index, among}
-use Rattle.task_sheet.specs.Orders.{all_of, IsOrderOf, AllStand, IsPassingOrder, IsFeasible}
+use Rattle.task_sheet.proofs.Common.{Task, AllTasks, IsTaskSet, Indexes, IsPart, without_index}
+use Rattle.task_sheet.proofs.Common.{among, all_of, IsOrderOf, AllStand, IsPassingOrder, IsFeasible}
 use Rattle.task_sheet.proofs.IndexLaws.{without-parts, IsOrderOf-among, IsOrderOf-rest}
 use Rattle.task_sheet.proofs.TaskLaws.{AllTasks-from_set}
 use Rattle.latest_first.specs.LatestFirst.{AllPrompt, IsLatest, IsLatestFirst}

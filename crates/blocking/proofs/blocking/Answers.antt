@@ -1,6 +1,5 @@
 use Rattle.std.proofs.Common.{◌≡◌, ap, ◌∙◌, arith}
-use Rattle.task_sheet.specs.Indexes.{indexes_of}
-use Rattle.task_sheet.specs.Demand.{blocking_of}
+use Rattle.task_sheet.proofs.Common.{indexes_of, blocking_of}
 use Rattle.task_sheet.proofs.DemandFits.{blocking-fits}
 use Rattle.task_sheet.proofs.MembersIndexes.{indexes_of-insert}
 use Rattle.ceilings.specs.Holds.{longest_outside}

@@ -1,7 +1,6 @@
 use Rattle.std.proofs.Common.{◌≤◌, ◌+◌, ◌∙◌, length, ap, sym, arith}
 use Rattle.std.proofs.lemmas.List.{get_or_read}
-use Rattle.task_sheet.specs.Sheet.{no_task}
-use Rattle.task_sheet.specs.Indexes.{indexes_of}
+use Rattle.task_sheet.proofs.Common.{no_task, indexes_of}
 use Rattle.task_sheet.proofs.TaskLaws.{task_read, valid_at}
 use Rattle.response_time.proofs.AboveLaws.{first-once, first-without, first-all, demand-parts}
 use Rattle.response_time.proofs.least_demand.Goals as goal

@@ -1,7 +1,5 @@
 use Rattle.std.proofs.Common.{◌≡◌, ◌+◌, ◌-◌, ◌≤◌, ℕ}
-use Rattle.task_sheet.specs.Sheet.{task_at}
-use Rattle.task_sheet.specs.Indexes.{indexes_of}
-use Rattle.task_sheet.specs.Demand.{demand_of, limit_of}
+use Rattle.task_sheet.proofs.Common.{task_at, indexes_of, demand_of, limit_of}
 use Rattle.task_sheet.proofs.Trails.{IsWalk}
 use Rattle.response_time.specs.Workload.{work_within, work_of}
 use Rattle.response_time.proofs.respond.Given as goal

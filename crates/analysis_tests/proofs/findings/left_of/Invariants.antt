@@ -1,5 +1,4 @@
-use Rattle.task_sheet.specs.Indexes.{IsPart, indexes_of}
-use Rattle.task_sheet.specs.Orders.{all_of}
+use Rattle.task_sheet.proofs.Common.{IsPart, indexes_of, all_of}
 use Rattle.analysis_tests.proofs.findings.left_of.Given as goal
 
 abbrev pub invariant-loop-task : goal.invariant-loop-task

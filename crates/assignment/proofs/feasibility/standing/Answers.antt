@@ -1,7 +1,6 @@
 use Rattle.std.proofs.Common.{◌∙◌, ap, sym, subst}
 use Rattle.std.proofs.lemmas.Bool.{both_ways}
-use Rattle.task_sheet.specs.Indexes.{Indexes, indexes_of}
-use Rattle.task_sheet.specs.Demand.{Passes}
+use Rattle.task_sheet.proofs.Common.{Indexes, indexes_of, Passes}
 use Rattle.task_sheet.proofs.MembersIndexes.{indexes_of-remove}
 use Rattle.latest_first.proofs.OneOrder.{AllPrompt-valid, NoneStands-latest, NoneStands-bound}
 use Rattle.assignment.proofs.feasibility.standing.Goals as goal

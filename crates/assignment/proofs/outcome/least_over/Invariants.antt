@@ -1,6 +1,5 @@
-use Rattle.task_sheet.specs.Indexes.{indexes_of}
+use Rattle.task_sheet.proofs.Common.{indexes_of, must_outrank}
 use Rattle.std.proofs.Common.{ℕ, ◌<◌, IsTrue, IsFalse}
-use Rattle.task_sheet.specs.Orders.{must_outrank}
 use Rattle.assignment.proofs.outcome.least_over.Given as goal
 
 abbrev pub invariant-loop-other : goal.invariant-loop-other

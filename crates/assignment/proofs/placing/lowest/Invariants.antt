@@ -1,6 +1,5 @@
 use Rattle.std.proofs.Common.{ℕ, ◌<◌, IsTrue}
-use Rattle.task_sheet.specs.Indexes.{indexes_of, without_index}
-use Rattle.task_sheet.specs.Orders.{Stands}
+use Rattle.task_sheet.proofs.Common.{indexes_of, without_index, Stands}
 use Rattle.assignment.proofs.placing.lowest.Given as goal
 
 -- none before may stand

@@ -1,8 +1,7 @@
 use Rattle.std.proofs.Common.{◌∙◌, ap, List, length}
 use Rattle.std.proofs.lemmas.Bool.{both_ways}
 use Rattle.std.specs.FinSet as members
-use Rattle.task_sheet.specs.Sheet.{Task}
-use Rattle.task_sheet.specs.Indexes.{indexes_of}
+use Rattle.task_sheet.proofs.Common.{Task, indexes_of}
 use Rattle.task_sheet.proofs.TaskLaws.{AllTasks-from_set}
 use Rattle.task_sheet.proofs.LevelLaws.{AllChosen-best}
 use Rattle.task_sheet.proofs.MembersIndexes.{len-remove_member}

@@ -1,6 +1,5 @@
 use Rattle.std.proofs.Common.{Bool, true, false, not, IsTrue, IsFalse, refl, sym, ◌∙◌, ap}
-use Rattle.task_sheet.specs.Indexes.{Indexes, indexes_of}
-use Rattle.task_sheet.specs.Orders.{is_bound}
+use Rattle.task_sheet.proofs.Common.{Indexes, indexes_of, is_bound}
 use Rattle.task_sheet.proofs.MembersIndexes.{indexes_of-remove}
 use Rattle.assignment.proofs.AskLaws.{remove-part}
 use Rattle.assignment.proofs.tried.is_free.Goals as goal

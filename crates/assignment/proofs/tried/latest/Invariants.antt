@@ -1,7 +1,5 @@
 use Rattle.std.proofs.Common.{◌≡◌, ℕ, ◌<◌, ◌≤◌, IfSome, IfNone}
-use Rattle.task_sheet.specs.Sheet.{task_at}
-use Rattle.task_sheet.specs.Indexes.{indexes_of}
-use Rattle.task_sheet.specs.Demand.{limit_of}
+use Rattle.task_sheet.proofs.Common.{task_at, indexes_of, limit_of}
 use Rattle.latest_first.specs.LatestFirst.{IsFree}
 use Rattle.assignment.proofs.tried.latest.Given as goal
 

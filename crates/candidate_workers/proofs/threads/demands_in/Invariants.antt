@@ -1,6 +1,5 @@
 use Rattle.std.proofs.Common.{◌≡◌, ◌≤◌, ◌*◌}
-use Rattle.task_sheet.specs.Sheet.{task_at}
-use Rattle.task_sheet.specs.Indexes.{sum_below}
+use Rattle.task_sheet.proofs.Common.{task_at, sum_below}
 use Rattle.candidate_workers.specs.Threads.{demands_on}
 use Rattle.candidate_workers.proofs.threads.demands_in.Given as goal
 

@@ -1,5 +1,5 @@
 use Rattle.std.proofs.Common.{refl, ◌∙◌, None, Some, length}
-use Rattle.ceiling_kernel.specs.Releases.{is_unknown}
+use Rattle.ceiling_kernel.proofs.Common.{is_unknown}
 use Rattle.ceiling_kernel.proofs.AcceptLaws.{first_start, first_found, first_more, unknown_at}
 use Rattle.ceiling_kernel.proofs.AcceptLaws.{numbers-next}
 use Rattle.ceiling_kernel.proofs.accept.find_tasks.Goals as goal

@@ -1,5 +1,5 @@
 use Rattle.std.proofs.Common.{◌≡◌, None, map, take}
-use Rattle.ceiling_kernel.specs.Releases.{first_where, is_unknown, task_number}
+use Rattle.ceiling_kernel.proofs.Common.{first_where, is_unknown, task_number}
 use Rattle.ceiling_kernel.proofs.accept.find_tasks.Given as goal
 
 abbrev pub invariant-loop-k : goal.invariant-loop-k

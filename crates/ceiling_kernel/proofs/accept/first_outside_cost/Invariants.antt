@@ -1,5 +1,5 @@
 use Rattle.std.proofs.Common.{◌≡◌, None}
-use Rattle.ceiling_kernel.specs.Releases.{first_where, is_outside_cost}
+use Rattle.ceiling_kernel.proofs.Common.{first_where, is_outside_cost}
 use Rattle.ceiling_kernel.proofs.accept.first_outside_cost.Given as goal
 
 abbrev pub invariant-loop-k : goal.invariant-loop-k

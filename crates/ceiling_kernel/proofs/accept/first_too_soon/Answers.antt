@@ -2,7 +2,7 @@ use Rattle.std.proofs.Common.{◌≡◌, true, false, sym, ap, subst, arith, Non
 use Rattle.std.proofs.Common.{slice_index_or, List}
 use Rattle.std.proofs.lemmas.List.{get_or_default}
 use Rattle.task_sheet.specs.Sheet.{Task}
-use Rattle.ceiling_kernel.specs.Releases.{is_too_soon, jobs_of, no_release}
+use Rattle.ceiling_kernel.proofs.Common.{is_too_soon, jobs_of, no_release}
 use Rattle.ceiling_kernel.proofs.AcceptLaws.{first_start, first_found, first_more, last_start}
 use Rattle.ceiling_kernel.proofs.AcceptLaws.{last_before, last_next, too_soon_read, known_from}
 use Rattle.ceiling_kernel.proofs.AcceptLaws.{place_in, sorted_from}

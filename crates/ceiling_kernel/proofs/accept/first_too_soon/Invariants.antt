@@ -1,5 +1,5 @@
 use Rattle.std.proofs.Common.{◌≡◌, None}
-use Rattle.ceiling_kernel.specs.Releases.{first_where, is_too_soon, jobs_of}
+use Rattle.ceiling_kernel.proofs.Common.{first_where, is_too_soon, jobs_of}
 use Rattle.ceiling_kernel.proofs.AcceptLaws.{AreLast}
 use Rattle.ceiling_kernel.proofs.accept.first_too_soon.Given as goal
 

@@ -1,5 +1,5 @@
 use Rattle.std.proofs.Common.{sym, length}
-use Rattle.ceiling_kernel.specs.Releases.{is_unsorted}
+use Rattle.ceiling_kernel.proofs.Common.{is_unsorted}
 use Rattle.ceiling_kernel.proofs.AcceptLaws.{first_start, first_found, first_more}
 use Rattle.ceiling_kernel.proofs.accept.first_unsorted.Goals as goal
 

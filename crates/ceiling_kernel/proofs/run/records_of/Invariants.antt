@@ -1,8 +1,5 @@
 use Rattle.std.proofs.Common.{◌≡◌, ℕ, take}
-use Rattle.ceiling_kernel.specs.Tick.{Node}
-use Rattle.ceiling_kernel.specs.Releases.{jobs_of}
-use Rattle.ceiling_kernel.specs.Runs.{records_from}
-use Rattle.ceiling_kernel.specs.States.{AreFinishes}
+use Rattle.ceiling_kernel.proofs.Common.{Node, jobs_of, records_from, AreFinishes}
 use Rattle.ceiling_kernel.proofs.run.records_of.Given as goal
 
 abbrev pub invariant-loop-k : goal.invariant-loop-k

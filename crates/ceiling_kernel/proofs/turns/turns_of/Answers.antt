@@ -1,7 +1,7 @@
 use Rattle.std.proofs.Common.{ℕ, List, ◌++◌, ◌∷◌, [], ap, sym, ◌∙◌, subst, take}
 use Rattle.std.proofs.lemmas.List.{take_all}
 use Rattle.std.specs.List.Sorted.{IsPermutation}
-use Rattle.ceiling_kernel.specs.Releases.{ready_of}
+use Rattle.ceiling_kernel.proofs.Common.{ready_of}
 use Rattle.ceiling_kernel.proofs.SortLaws.{listed_turns, listed-next, are_turns}
 use Rattle.ceiling_kernel.proofs.turns.turns_of.Goals as goal
 

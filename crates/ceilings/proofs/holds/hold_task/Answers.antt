@@ -1,7 +1,6 @@
 use Rattle.std.proofs.Common.{cond}
 use Rattle.std.proofs.lemmas.List.{take_all}
-use Rattle.task_sheet.specs.Indexes.{indexes_of}
-use Rattle.task_sheet.specs.Locks.{reaches}
+use Rattle.task_sheet.proofs.Common.{indexes_of, reaches}
 use Rattle.ceilings.proofs.HoldLaws.{greatest-next}
 use Rattle.ceilings.proofs.holds.hold_task.Goals as goal
 

@@ -1,10 +1,7 @@
 use Rattle.std.proofs.Common.{◌≡◌, List, take, if◌then◌else◌}
 use Rattle.std.specs.Ordering.{nat_cmp}
 use Rattle.std.specs.FinSet.{FinSet}
-use Rattle.task_sheet.specs.Sheet.{Task}
-use Rattle.task_sheet.specs.Indexes.{indexes_of}
-use Rattle.task_sheet.specs.Locks.{reaches}
-use Rattle.task_sheet.specs.Demand.{greatest_of}
+use Rattle.task_sheet.proofs.Common.{Task, indexes_of, reaches, greatest_of}
 use Rattle.ceilings.specs.IsTableOf.{AreUsersOf}
 use Rattle.ceilings.specs.Holds.{longest_of}
 use Rattle.ceilings.proofs.holds.hold_task.Given as goal

@@ -1,7 +1,5 @@
 use Rattle.std.proofs.Common.{ℕ, ◌≡◌, ◌<◌, length, cond, add-one, ap, ◌∙◌, arith}
-use Rattle.task_sheet.specs.Sheet.{task_at}
-use Rattle.task_sheet.specs.Indexes.{indexes_of}
-use Rattle.task_sheet.specs.Demand.{longest_reached}
+use Rattle.task_sheet.proofs.Common.{task_at, indexes_of, longest_reached}
 use Rattle.task_sheet.proofs.Below.{greatest_of-push}
 use Rattle.task_sheet.proofs.TaskLaws.{task_read}
 use Rattle.ceilings.specs.Holds.{longest_held, longest_from}

@@ -1,9 +1,7 @@
 use Rattle.std.proofs.Common.{◌≡◌, if◌then◌else◌}
 use Rattle.std.specs.Ordering.{nat_cmp}
 use Rattle.std.specs.FinSet.{FinSet}
-use Rattle.task_sheet.specs.Sheet.{task_at}
-use Rattle.task_sheet.specs.Indexes.{indexes_of, greatest_below}
-use Rattle.task_sheet.specs.Demand.{longest_reached}
+use Rattle.task_sheet.proofs.Common.{task_at, indexes_of, greatest_below, longest_reached}
 use Rattle.ceilings.specs.Holds.{longest_held}
 use Rattle.ceilings.proofs.holds.holds_of.Given as goal
 

@@ -1,9 +1,7 @@
 use Rattle.std.proofs.Common.{◌≡◌, true, ap, ◌∙◌, refl, arith}
 use Rattle.std.specs.Prelude.{nat_le}
 use Rattle.std.proofs.lemmas.Bool.{le-leb}
-use Rattle.task_sheet.specs.Sheet.{task_at}
-use Rattle.task_sheet.specs.Indexes.{indexes_of}
-use Rattle.task_sheet.specs.Demand.{demand_of, limit_of}
+use Rattle.task_sheet.proofs.Common.{task_at, indexes_of, demand_of, limit_of}
 use Rattle.task_sheet.proofs.MembersIndexes.{indexes_of-remove}
 use Rattle.task_sheet.proofs.TaskLaws.{task_read}
 use Rattle.cert_checker.proofs.chains.covers.Goals as goal

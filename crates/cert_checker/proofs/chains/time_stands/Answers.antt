@@ -1,6 +1,5 @@
 use Rattle.std.proofs.Common.{◌≡◌, true, not, sym, ◌∙◌, ap}
-use Rattle.task_sheet.specs.Indexes.{Indexes, indexes_of}
-use Rattle.task_sheet.specs.Orders.{is_bound}
+use Rattle.task_sheet.proofs.Common.{Indexes, indexes_of, is_bound}
 use Rattle.task_sheet.proofs.MembersIndexes.{indexes_of-remove}
 use Rattle.cert_checker.specs.Faults.{covers}
 use Rattle.cert_checker.proofs.chains.time_stands.Goals as goal

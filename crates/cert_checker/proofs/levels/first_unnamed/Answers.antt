@@ -1,6 +1,5 @@
 use Rattle.std.proofs.Common.{sym, ◌∙◌}
-use Rattle.task_sheet.specs.Indexes.{indexes_of}
-use Rattle.task_sheet.specs.Verdicts.{tasks_of}
+use Rattle.task_sheet.proofs.Common.{indexes_of, tasks_of}
 use Rattle.cert_checker.specs.Ready.{failures_of}
 use Rattle.cert_checker.proofs.LevelSteps.{missing-at}
 use Rattle.cert_checker.proofs.levels.first_unnamed.Goals as goal

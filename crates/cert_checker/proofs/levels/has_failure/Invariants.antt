@@ -1,6 +1,5 @@
 use Rattle.std.proofs.Common.{◌≡◌, drop}
-use Rattle.task_sheet.specs.Indexes.{among}
-use Rattle.task_sheet.specs.Verdicts.{tasks_of}
+use Rattle.task_sheet.proofs.Common.{among, tasks_of}
 use Rattle.cert_checker.specs.Ready.{failures_of}
 use Rattle.cert_checker.proofs.levels.has_failure.Given as goal
 

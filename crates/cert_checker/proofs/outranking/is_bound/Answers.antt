@@ -1,6 +1,5 @@
 use Rattle.std.proofs.Common.{◌≡◌, ◌<◌, length, arith, sym, ◌∙◌}
-use Rattle.task_sheet.specs.Indexes.{indexes_of}
-use Rattle.task_sheet.specs.Orders.{is_bound}
+use Rattle.task_sheet.proofs.Common.{indexes_of, is_bound}
 use Rattle.task_sheet.proofs.PassingLaws.{is_bound-at}
 use Rattle.cert_checker.proofs.outranking.is_bound.Goals as goal
 

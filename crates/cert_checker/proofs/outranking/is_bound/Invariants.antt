@@ -1,6 +1,5 @@
 use Rattle.std.proofs.Common.{◌≡◌, false, ◌&&◌}
-use Rattle.task_sheet.specs.Indexes.{indexes_of, some_below}
-use Rattle.task_sheet.specs.Orders.{must_outrank}
+use Rattle.task_sheet.proofs.Common.{indexes_of, some_below, must_outrank}
 use Rattle.cert_checker.proofs.outranking.is_bound.Given as goal
 
 abbrev pub invariant-loop-other : goal.invariant-loop-other

@@ -1,7 +1,6 @@
 use Rattle.std.proofs.Common.{◌≡◌, ℕ, List, cond, length, ap, ◌∙◌, subst, arith}
-use Rattle.task_sheet.specs.Sheet.{Task, task_at}
-use Rattle.task_sheet.specs.Indexes.{Indexes, indexes_of, greatest_below}
-use Rattle.task_sheet.specs.Demand.{blocking_of, longest_reached}
+use Rattle.task_sheet.proofs.Common.{Task, task_at, Indexes, indexes_of, greatest_below}
+use Rattle.task_sheet.proofs.Common.{blocking_of, longest_reached}
 use Rattle.task_sheet.proofs.MembersIndexes.{indexes_of-insert}
 use Rattle.cert_checker.proofs.work.blocking.Goals as goal
 

@@ -1,7 +1,5 @@
 use Rattle.std.proofs.Common.{◌≡◌, if◌then◌else◌}
-use Rattle.task_sheet.specs.Sheet.{task_at}
-use Rattle.task_sheet.specs.Indexes.{indexes_of, greatest_below}
-use Rattle.task_sheet.specs.Demand.{longest_reached}
+use Rattle.task_sheet.proofs.Common.{task_at, indexes_of, greatest_below, longest_reached}
 use Rattle.cert_checker.proofs.work.blocking.Given as goal
 
 abbrev pub invariant-loop-k : goal.invariant-loop-k

@@ -1,8 +1,6 @@
 use Rattle.std.proofs.Common.{◌≡◌, ◌+◌, ◌*◌, ℕ, cond, sym, ◌∙◌, ap, arith}
 use Rattle.std.proofs.lemmas.Bool.{cond-true, cond-false}
-use Rattle.task_sheet.specs.Sheet.{no_task, task_at}
-use Rattle.task_sheet.specs.Indexes.{indexes_of}
-use Rattle.task_sheet.specs.Demand.{interference_of}
+use Rattle.task_sheet.proofs.Common.{no_task, task_at, indexes_of, interference_of}
 use Rattle.task_sheet.proofs.Below.{sum_step}
 use Rattle.task_sheet.proofs.Releases.{interference-fits}
 use Rattle.task_sheet.proofs.TaskLaws.{valid_at}

@@ -1,7 +1,5 @@
 use Rattle.std.proofs.Common.{◌≡◌, ◌≤◌, ◌*◌, if◌then◌else◌}
-use Rattle.task_sheet.specs.Sheet.{task_at}
-use Rattle.task_sheet.specs.Indexes.{indexes_of, sum_below}
-use Rattle.task_sheet.specs.Demand.{interference_of}
+use Rattle.task_sheet.proofs.Common.{task_at, indexes_of, sum_below, interference_of}
 use Rattle.cert_checker.proofs.work.interference_within.Given as goal
 
 abbrev pub invariant-loop-h : goal.invariant-loop-h

@@ -1,7 +1,5 @@
 use Rattle.std.proofs.Common.{◌≡◌, ℕ, List, length, subst, arith}
-use Rattle.task_sheet.specs.Sheet.{Task, task_at}
-use Rattle.task_sheet.specs.Indexes.{sum_below}
-use Rattle.task_sheet.specs.Demand.{interrupts_of, interrupts_within}
+use Rattle.task_sheet.proofs.Common.{Task, task_at, sum_below, interrupts_of, interrupts_within}
 use Rattle.cert_checker.proofs.work.interrupts_within.Goals as goal
 
 pub returns-clause-is : goal.returns-clause-is

@@ -1,7 +1,5 @@
 use Rattle.std.proofs.Common.{◌≡◌, ◌*◌, ◌≤◌}
-use Rattle.task_sheet.specs.Sheet.{task_at}
-use Rattle.task_sheet.specs.Indexes.{sum_below}
-use Rattle.task_sheet.specs.Demand.{interrupts_of}
+use Rattle.task_sheet.proofs.Common.{task_at, sum_below, interrupts_of}
 use Rattle.cert_checker.proofs.work.interrupts_within.Given as goal
 
 abbrev pub invariant-loop-sheet : goal.invariant-loop-sheet

@@ -1,6 +1,5 @@
 use Rattle.std.proofs.Common.{◌≡◌, cond, max, ap, arith}
-use Rattle.task_sheet.specs.Indexes.{indexes_of}
-use Rattle.task_sheet.specs.Locks.{reaches}
+use Rattle.task_sheet.proofs.Common.{indexes_of, reaches}
 use Rattle.task_sheet.proofs.Below.{ord_max-is, greatest_step}
 use Rattle.cert_checker.proofs.work.longest.Goals as goal
 use Rattle.cert_checker.proofs.work.longest.Goals.{then-reaches, else-reaches}

@@ -1,7 +1,5 @@
 use Rattle.std.proofs.Common.{◌≡◌, take, if◌then◌else◌}
-use Rattle.task_sheet.specs.Indexes.{indexes_of}
-use Rattle.task_sheet.specs.Locks.{reaches}
-use Rattle.task_sheet.specs.Demand.{greatest_of}
+use Rattle.task_sheet.proofs.Common.{indexes_of, reaches, greatest_of}
 use Rattle.cert_checker.proofs.work.longest.Given as goal
 
 abbrev pub invariant-loop-section : goal.invariant-loop-section

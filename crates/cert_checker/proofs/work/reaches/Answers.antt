@@ -1,7 +1,5 @@
 use Rattle.std.proofs.Common.{◌≡◌, ◌<◌, true, sym, ◌∙◌, length, ap}
-use Rattle.task_sheet.specs.Sheet.{task_at}
-use Rattle.task_sheet.specs.Indexes.{indexes_of}
-use Rattle.task_sheet.specs.Locks.{shares_lock}
+use Rattle.task_sheet.proofs.Common.{task_at, indexes_of, shares_lock}
 use Rattle.task_sheet.proofs.TaskLaws.{task_read}
 use Rattle.cert_checker.proofs.WorkSteps.{reached-at}
 use Rattle.cert_checker.proofs.work.reaches.Goals as goal

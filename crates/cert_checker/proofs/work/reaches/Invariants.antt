@@ -1,7 +1,5 @@
 use Rattle.std.proofs.Common.{◌≡◌, false, ◌&&◌}
-use Rattle.task_sheet.specs.Sheet.{task_at}
-use Rattle.task_sheet.specs.Indexes.{indexes_of, some_below}
-use Rattle.task_sheet.specs.Locks.{shares_lock}
+use Rattle.task_sheet.proofs.Common.{task_at, indexes_of, some_below, shares_lock}
 use Rattle.cert_checker.proofs.work.reaches.Given as goal
 
 abbrev pub invariant-loop-k : goal.invariant-loop-k

@@ -1,5 +1,5 @@
 use Rattle.std.proofs.Common.{◌≡◌, ◌∙◌, Ok, sym, subst}
-use Rattle.task_sheet.specs.Verdicts.{IsVerdictOf}
+use Rattle.task_sheet.proofs.Common.{IsVerdictOf}
 use Rattle.assignment.specs.Verdict.{verdict_of}
 use Rattle.desk_core.specs.Findings.{IsTested}
 use Rattle.desk_core.specs.Trials.{TrialData}

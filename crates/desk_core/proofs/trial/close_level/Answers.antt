@@ -1,6 +1,6 @@
 use Rattle.std.proofs.Common.{◌∙◌, ap, length}
 use Rattle.std.proofs.lemmas.Bool.{both_ways}
-use Rattle.task_sheet.specs.Verdicts.{LevelData}
+use Rattle.task_sheet.proofs.Common.{LevelData}
 use Rattle.desk_core.proofs.ClosingLaws.{closed-placed, last-placed}
 use Rattle.desk_core.proofs.trial.close_level.Goals as goal
 

@@ -1,6 +1,5 @@
 use Rattle.std.proofs.Common.{◌≡◌, ◌≤◌, ℕ, List, length, map, vec_len, vec_capacity}
-use Rattle.task_sheet.specs.Sheet.{Task, task_at}
-use Rattle.task_sheet.specs.Indexes.{Indexes, indexes_of, listed_below}
+use Rattle.task_sheet.proofs.Common.{Task, task_at, Indexes, indexes_of, listed_below}
 use Rattle.desk_core.proofs.trial.list_names.Given as goal
 
 pub record Listed (U : List Task) (L : Indexes) (n : ℕ) (items : List (List ℕ))

@@ -1,7 +1,6 @@
 use Rattle.std.proofs.Common.{◌≡◌, ◌∙◌, List, slice_get, Some, refl, ap, sym}
 use Rattle.std.proofs.lemmas.Option.{slice_get_read}
-use Rattle.task_sheet.specs.Sheet.{CriticalSection, Task, task_at}
-use Rattle.task_sheet.specs.Indexes.{indexes_of}
+use Rattle.task_sheet.proofs.Common.{CriticalSection, Task, task_at, indexes_of}
 use Rattle.task_sheet.proofs.TaskLaws.{task_read}
 use Rattle.explain.proofs.BlockerLaws.{HasNoneBefore-more, no_lock-reaches}
 use Rattle.explain.proofs.blocker.first_of.Goals as goal

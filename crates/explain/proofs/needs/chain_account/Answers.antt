@@ -1,7 +1,5 @@
 use Rattle.std.proofs.Common.{◌∙◌, ◌<◌, ◌≤◌, ap, arith}
-use Rattle.task_sheet.specs.Sheet.{Task, task_at}
-use Rattle.task_sheet.specs.Indexes.{indexes_of}
-use Rattle.task_sheet.specs.Demand.{demand_of, limit_of}
+use Rattle.task_sheet.proofs.Common.{Task, task_at, indexes_of, demand_of, limit_of}
 use Rattle.task_sheet.proofs.DemandFits.{limit-fits, demand-fits}
 use Rattle.task_sheet.proofs.TaskLaws.{task_read, valid_at}
 use Rattle.explain.proofs.NeedLaws.{ends-step, full-two}

@@ -1,6 +1,5 @@
 use Rattle.std.proofs.Common.{arith}
-use Rattle.task_sheet.specs.Sheet.{task_at}
-use Rattle.task_sheet.specs.Demand.{past_jitter}
+use Rattle.task_sheet.proofs.Common.{task_at, past_jitter}
 use Rattle.explain.proofs.needs.needs_account.Goals as goal
 
 -- a response within the deadline covers its demand

@@ -1,8 +1,6 @@
 use Rattle.std.proofs.Common.{◌+◌, ◌∙◌, ℕ, List, inr, subst, arith}
-use Rattle.task_sheet.specs.Sheet.{Task}
-use Rattle.task_sheet.specs.Orders.{IsFeasible}
-use Rattle.task_sheet.specs.Indexes.{indexes_of}
-use Rattle.task_sheet.specs.Levels.{IsObstruction, IsGreatestObstruction}
+use Rattle.task_sheet.proofs.Common.{Task, IsFeasible, indexes_of, IsObstruction}
+use Rattle.task_sheet.proofs.Common.{IsGreatestObstruction}
 use Rattle.assignment.specs.Placings.{IsPlacingOf}
 use Rattle.assignment.specs.declared.placing.Placing.{Placing}
 use Rattle.assignment.specs.declared.placing.Placing.TheVariants.{Stuck}

@@ -1,6 +1,5 @@
 use Rattle.std.proofs.Common.{◌∙◌, sym, subst, List}
-use Rattle.task_sheet.specs.Sheet.{Task}
-use Rattle.task_sheet.specs.Orders.{IsOrder, IsPassingOrder}
+use Rattle.task_sheet.proofs.Common.{Task, IsOrder, IsPassingOrder}
 use Rattle.limits.proofs.Answered.{if-none}
 use Rattle.limits.proofs.EasierLaws.{IsPassingOrder-easier}
 use Rattle.factor.specs.Factors.{MayScale}

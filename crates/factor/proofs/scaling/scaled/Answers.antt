@@ -1,8 +1,6 @@
 use Rattle.std.proofs.Common.{◌∙◌, ap, sym, subst, List}
 use Rattle.std.proofs.lemmas.Option.{none-some}
-use Rattle.task_sheet.specs.Sheet.{Task}
-use Rattle.task_sheet.specs.Rank.{IsByRank}
-use Rattle.task_sheet.specs.SheetsFault.{sheets_fault}
+use Rattle.task_sheet.proofs.Common.{Task, IsByRank, sheets_fault}
 use Rattle.overheads.proofs.MappedSets.{IsByRank-mapped, no_fault-mapped}
 use Rattle.factor.specs.Factors.{scaled_task}
 use Rattle.factor.proofs.ScaledSets.{keeps-ranks}

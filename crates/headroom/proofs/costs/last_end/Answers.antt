@@ -1,8 +1,7 @@
 use Rattle.std.proofs.Common.{◌≡◌, ◌+◌, ◌<◌, ℕ, max, List, length, get_or, drop, sym, ◌∙◌, ap}
 use Rattle.std.proofs.Common.{arith}
 use Rattle.std.proofs.lemmas.List.{drop_more}
-use Rattle.task_sheet.specs.Sheet.{CriticalSection}
-use Rattle.task_sheet.specs.Demand.{greatest_of}
+use Rattle.task_sheet.proofs.Common.{CriticalSection, greatest_of}
 use Rattle.task_sheet.proofs.Below.{ord_max-is}
 use Rattle.headroom.proofs.CostLaws.{section_end, last_end-within}
 use Rattle.headroom.proofs.costs.last_end.Goals as goal

@@ -1,6 +1,5 @@
 use Rattle.std.proofs.Common.{◌≡◌, ◌∙◌, ◌<◌, List, length, cond, max, sym, ap, arith}
-use Rattle.task_sheet.specs.Sheet.{Task, task_at}
-use Rattle.task_sheet.specs.Locks.{uses}
+use Rattle.task_sheet.proofs.Common.{Task, task_at, uses}
 use Rattle.task_sheet.proofs.Below.{ord_max-is}
 use Rattle.task_sheet.proofs.TaskLaws.{task_read}
 use Rattle.judge.specs.Faults.{thread_number, setting_number}

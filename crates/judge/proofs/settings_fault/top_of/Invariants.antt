@@ -1,7 +1,5 @@
 use Rattle.std.proofs.Common.{◌≡◌, cond}
-use Rattle.task_sheet.specs.Sheet.{task_at}
-use Rattle.task_sheet.specs.Indexes.{greatest_below}
-use Rattle.task_sheet.specs.Locks.{uses}
+use Rattle.task_sheet.proofs.Common.{task_at, greatest_below, uses}
 use Rattle.judge.specs.Faults.{thread_number}
 use Rattle.judge.proofs.settings_fault.top_of.Given as goal
 

@@ -1,7 +1,6 @@
 use Rattle.std.proofs.Common.{◌≡◌, ◌∙◌, true, ap, sym, subst, below_more}
 use Rattle.std.proofs.lemmas.Bool.{both_ways}
-use Rattle.task_sheet.specs.Indexes.{Indexes, indexes_of, without_index}
-use Rattle.task_sheet.specs.Demand.{IsResponseOf}
+use Rattle.task_sheet.proofs.Common.{Indexes, indexes_of, without_index, IsResponseOf}
 use Rattle.task_sheet.proofs.MembersIndexes.{indexes_of-remove}
 use Rattle.kept_order.specs.Keeping.{StandsKept}
 use Rattle.kept_order.proofs.climbing.lowest.Goals as goal

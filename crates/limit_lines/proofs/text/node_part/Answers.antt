@@ -1,6 +1,5 @@
 use Rattle.std.proofs.Common.{rules, ◌≡◌, ◌*◌, ◌<◌, List, length, sym, ap, subst, arith}
-use Rattle.task_sheet.specs.Sheet.{CriticalSection, AreSections}
-use Rattle.task_sheet.specs.Overheads.{calls}
+use Rattle.task_sheet.proofs.Common.{CriticalSection, AreSections, calls}
 use Rattle.task_sheet.proofs.OverheadLaws.{calls-fit, locks-few}
 use Rattle.limits.specs.Numbers.{HasNumber}
 use Rattle.limit_lines.proofs.text.node_part.Goals as goal

@@ -1,7 +1,6 @@
 use Rattle.std.proofs.Common.{◌≡◌, ◌+◌, ◌-◌, ◌/◌, List, sym, ◌∙◌, ap, subst, arith}
 use Rattle.std.proofs.lemmas.Bool.{both_ways}
-use Rattle.task_sheet.specs.Sheet.{Task, task_at}
-use Rattle.task_sheet.specs.Orders.{IsPassingOrder}
+use Rattle.task_sheet.proofs.Common.{Task, task_at, IsPassingOrder}
 use Rattle.task_sheet.proofs.TaskLaws.{task_read}
 use Rattle.limits.specs.Numbers.{value_of, distance}
 use Rattle.limits.proofs.EasierLaws.{IsPassingOrder-easier}

@@ -1,11 +1,10 @@
 use Rattle.std.proofs.Common.{◌≡◌, false, refl, sym, ◌∙◌, ap, subst, arith, get_or}
 use Rattle.std.proofs.lemmas.Bool.{both_ways}
-use Rattle.task_sheet.specs.Indexes.{indexes_of, below, IsPart}
-use Rattle.task_sheet.specs.Orders.{all_of, is_bound, Stands, IsOrderOf, IsPassingOrder}
+use Rattle.task_sheet.proofs.Common.{indexes_of, below, IsPart, all_of, is_bound, Stands, IsOrderOf}
+use Rattle.task_sheet.proofs.Common.{IsPassingOrder, IsLeastOver}
 use Rattle.task_sheet.proofs.MembersIndexes.{indexes_of-all_below}
 use Rattle.task_sheet.proofs.PassingLaws.{is_bound-at}
 use Rattle.headroom.proofs.OrderLaws.{low-inside, part-next, rest-next, stands-here, all-here}
-use Rattle.task_sheet.specs.Verdicts.{IsLeastOver}
 use Rattle.limits.proofs.Answered.{if-none, if-some}
 use Rattle.limits.proofs.in_order.order_passes.Goals as goal
 use Rattle.limits.proofs.in_order.order_passes.Goals.{then-is_some-via-then-is_some}

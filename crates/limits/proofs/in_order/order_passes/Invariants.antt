@@ -1,6 +1,5 @@
 use Rattle.std.proofs.Common.{drop}
-use Rattle.task_sheet.specs.Indexes.{indexes_of, IsPart}
-use Rattle.task_sheet.specs.Orders.{all_of, IsOrderOf, AllStand}
+use Rattle.task_sheet.proofs.Common.{indexes_of, IsPart, all_of, IsOrderOf, AllStand}
 use Rattle.limits.proofs.in_order.order_passes.Given as goal
 
 abbrev pub invariant-loop-low : goal.invariant-loop-low

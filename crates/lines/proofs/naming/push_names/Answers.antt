@@ -1,7 +1,6 @@
 use Rattle.std.proofs.Common.{◌≡◌, ◌+◌, ◌++◌, ◌∙◌, List, [], ◌∷◌, ℕ, IsTrue, IsFalse, add-one}
 use Rattle.std.proofs.Common.{codes, ap, sym, append_assoc, append-nil, string_bytes}
-use Rattle.task_sheet.specs.Sheet.{Task}
-use Rattle.task_sheet.specs.Indexes.{Indexes, indexes_of, listed_below}
+use Rattle.task_sheet.proofs.Common.{Task, Indexes, indexes_of, listed_below}
 use Rattle.lines.specs.Naming.{name_at, named}
 use Rattle.lines.proofs.naming.push_names.Goals as goal
 use Rattle.lines.proofs.naming.push_names.Goals.{then-has+in_ok-push_str+in_ok-push_name, else-has}

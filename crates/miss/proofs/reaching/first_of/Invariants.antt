@@ -1,5 +1,5 @@
 use Rattle.std.proofs.Common.{◌≡◌, ℕ, ◌<◌}
-use Rattle.ceiling_kernel.specs.Releases.{task_number, release_at}
+use Rattle.ceiling_kernel.proofs.Common.{task_number, release_at}
 use Rattle.miss.proofs.reaching.first_of.Given as goal
 
 abbrev pub invariant-loop-place : goal.invariant-loop-place

@@ -1,7 +1,6 @@
 use Rattle.std.proofs.Common.{◌≡◌, ◌∙◌, ◌+◌, max, get_or, drop, ap, arith}
 use Rattle.std.proofs.lemmas.List.{drop_more}
-use Rattle.task_sheet.specs.Sheet.{Task, no_task, task_at}
-use Rattle.task_sheet.specs.Demand.{greatest_of}
+use Rattle.task_sheet.proofs.Common.{Task, no_task, task_at, greatest_of}
 use Rattle.task_sheet.proofs.TaskLaws.{task_read}
 use Rattle.ceiling_kernel.specs.Waits.{lateness_of}
 use Rattle.miss.proofs.worst.instant_of.Goals as goal

@@ -1,6 +1,5 @@
 use Rattle.std.proofs.Common.{◌≡◌, ◌≤◌, ◌∷◌, max, drop}
-use Rattle.task_sheet.specs.Sheet.{task_at}
-use Rattle.task_sheet.specs.Demand.{greatest_of}
+use Rattle.task_sheet.proofs.Common.{task_at, greatest_of}
 use Rattle.ceiling_kernel.specs.Waits.{lateness_of}
 use Rattle.miss.proofs.worst.instant_of.Given as goal
 

@@ -1,10 +1,8 @@
 use Rattle.std.proofs.Common.{◌∙◌, ◌+◌, ◌≤◌, refl, ap, subst, arith}
-use Rattle.task_sheet.specs.Sheet.{Task}
-use Rattle.task_sheet.specs.Indexes.{indexes_of}
+use Rattle.task_sheet.proofs.Common.{Task, indexes_of, limit_of}
 use Rattle.task_sheet.proofs.TaskLaws.{task_read}
-use Rattle.ceiling_kernel.specs.Releases.{IsRefusal}
+use Rattle.ceiling_kernel.proofs.Common.{IsRefusal}
 use Rattle.release_list.specs.Streams.{count_refusal}
-use Rattle.task_sheet.specs.Demand.{limit_of}
 use Rattle.miss.proofs.IndexLaws.{blocker_in, limit_small}
 use Rattle.miss.proofs.StreamLaws.{all_streams, too_long_case}
 use Rattle.miss.proofs.worst.worst_case.Goals as goal

@@ -1,7 +1,5 @@
 use Rattle.std.proofs.Common.{◌≡◌, ◌∙◌, ℕ, List, ap, ap₂, arith}
-use Rattle.task_sheet.specs.Sheet.{Task, task_at}
-use Rattle.task_sheet.specs.Indexes.{Indexes, among}
-use Rattle.task_sheet.specs.Demand.{blocking_of}
+use Rattle.task_sheet.proofs.Common.{Task, task_at, Indexes, among, blocking_of}
 use Rattle.assignment.specs.Places.{PlaceData}
 use Rattle.assignment.specs.Placings.{tasks_of_places}
 use Rattle.observed.specs.Promises.{promised}

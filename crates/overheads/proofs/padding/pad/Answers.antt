@@ -1,9 +1,6 @@
 use Rattle.std.proofs.Common.{◌≡◌, ◌∙◌, Some, None, ap, sym, subst, List}
 use Rattle.std.proofs.lemmas.Option.{none-some}
-use Rattle.task_sheet.specs.Sheet.{Task}
-use Rattle.task_sheet.specs.Rank.{IsByRank}
-use Rattle.task_sheet.specs.TaskSet.{IsTaskSet}
-use Rattle.task_sheet.specs.SheetsFault.{sheets_fault}
+use Rattle.task_sheet.proofs.Common.{Task, IsByRank, IsTaskSet, sheets_fault}
 use Rattle.overheads.specs.Padding.{charged, padded_by}
 use Rattle.overheads.proofs.PaddedSets.{set-padded_by}
 use Rattle.overheads.proofs.ChargedSets.{IsByRank-charged, no_fault-charged}

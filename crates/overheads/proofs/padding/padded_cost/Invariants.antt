@@ -1,5 +1,5 @@
 use Rattle.std.proofs.Common.{◌≡◌, ◌+◌, take}
-use Rattle.task_sheet.specs.Overheads.{calls_in}
+use Rattle.task_sheet.proofs.Common.{calls_in}
 use Rattle.overheads.proofs.padding.padded_cost.Given as goal
 
 abbrev pub invariant-loop-section : goal.invariant-loop-section

@@ -1,6 +1,5 @@
 use Rattle.std.proofs.Common.{rules, ◌≡◌, ◌+◌, ◌-◌, ◌*◌, ◌++◌, ◌∷◌, [], length, ap, arith}
-use Rattle.task_sheet.specs.Sheet.{CriticalSection}
-use Rattle.task_sheet.specs.Overheads.{calls}
+use Rattle.task_sheet.proofs.Common.{CriticalSection, calls}
 use Rattle.task_sheet.proofs.OverheadLaws.{calls-more}
 use Rattle.overheads.specs.Padding.{padded_section}
 use Rattle.overheads.proofs.PaddedSections.{sections-step, section-fits}

@@ -1,5 +1,5 @@
 use Rattle.std.proofs.Common.{◌≡◌, ◌++◌, drop, string_bytes}
-use Rattle.task_sheet.specs.Verdicts.{tasks_of}
+use Rattle.task_sheet.proofs.Common.{tasks_of}
 use Rattle.lines.specs.Naming.{named}
 use Rattle.plays.proofs.printing.push_members.Given as goal
 

@@ -1,6 +1,5 @@
 use Rattle.std.proofs.Common.{List, ap, sym, ◌∙◌}
-use Rattle.task_sheet.specs.Sheet.{CriticalSection, task_of}
-use Rattle.task_sheet.specs.SheetFault.{sheet_fault}
+use Rattle.task_sheet.proofs.Common.{CriticalSection, task_of, sheet_fault}
 use Rattle.scripts.proofs.Kept.{first_sections}
 use Rattle.scripts.proofs.rows.valid.Goals as goal
 

@@ -1,7 +1,6 @@
 use Rattle.std.proofs.Common.{◌≡◌, ◌++◌, ℕ, List, [], ◌∷◌, Option, Some, None, option_map, refl, ap}
 use Rattle.std.proofs.Common.{ap₂, arith}
-use Rattle.task_sheet.specs.Sheet.{Task}
-use Rattle.task_sheet.specs.Locks.{ceiling_of}
+use Rattle.task_sheet.proofs.Common.{Task, ceiling_of}
 use Rattle.ceilings.specs.IsTableOf.{locks_of}
 use Rattle.settings.specs.Settings.{mutex_line, mutex_lines, mutex_lines_from, priority_of}
 use Rattle.settings.specs.Settings.{thread_lines}

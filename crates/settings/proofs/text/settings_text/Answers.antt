@@ -1,6 +1,5 @@
 use Rattle.std.proofs.Common.{◌≡◌, ◌∙◌, ◌<◌, ◌≤◌, ℕ, List, length, All, arith}
-use Rattle.task_sheet.specs.Sheet.{Task}
-use Rattle.task_sheet.specs.Orders.{IsOrder}
+use Rattle.task_sheet.proofs.Common.{Task, IsOrder}
 use Rattle.ceiling_kernel.proofs.OrderLaws.{order_iff, order_length}
 use Rattle.settings.proofs.text.settings_text.Goals as goal
 

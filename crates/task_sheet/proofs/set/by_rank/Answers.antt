@@ -2,8 +2,7 @@ use Rattle.std.proofs.Common.{rules}
 use Rattle.std.specs.List.Sorted.{IsSortedBy}
 use Rattle.std.specs.Ordering.{is_lt}
 use Rattle.std.proofs.lemmas.List.Sorted.{answers_always}
-use Rattle.task_sheet.specs.Rank.{rank_cmp}
-use Rattle.task_sheet.specs.TaskSet.{IsTaskSet}
+use Rattle.task_sheet.proofs.Common.{rank_cmp, IsTaskSet}
 use Rattle.task_sheet.proofs.SetLaws.{sorted_set}
 use Rattle.task_sheet.proofs.set.by_rank.Goals as goal
 

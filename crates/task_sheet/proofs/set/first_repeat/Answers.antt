@@ -1,8 +1,7 @@
 use Rattle.std.proofs.Common.{rules, ◌≡◌, false, sym, ◌∙◌, take}
 use Rattle.std.proofs.lemmas.List.{take_more}
 use Rattle.std.proofs.lemmas.List.Elements.{All-push}
-use Rattle.task_sheet.specs.Sheet.{IsValidSheet}
-use Rattle.task_sheet.specs.TaskSet.{has_name}
+use Rattle.task_sheet.proofs.Common.{IsValidSheet, has_name}
 use Rattle.task_sheet.proofs.SetLaws.{names_step, repeat_step, distinct_more}
 use Rattle.task_sheet.proofs.set.first_repeat.Goals as goal
 

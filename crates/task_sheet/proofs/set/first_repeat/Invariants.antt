@@ -3,8 +3,7 @@ use Rattle.std.specs.List.{All}
 use Rattle.std.specs.Ordering.{nat_cmp}
 use Rattle.std.specs.Cmp.Lexicographic.{slice_cmp}
 use Rattle.std.specs.BTreeSet.{contains}
-use Rattle.task_sheet.specs.Sheet.{IsValidSheet}
-use Rattle.task_sheet.specs.TaskSet.{first_repeat, has_name, AreDistinct, same_name}
+use Rattle.task_sheet.proofs.Common.{IsValidSheet, first_repeat, has_name, AreDistinct, same_name}
 use Rattle.task_sheet.proofs.set.first_repeat.Given as goal
 
 abbrev pub invariant-loop-i : goal.invariant-loop-i

@@ -1,7 +1,6 @@
 use Rattle.std.proofs.Common.{◌≡◌, drop, max, if◌then◌else◌}
 use Rattle.teams.specs.Budgets.{longest_shared, longest_of}
-use Rattle.task_sheet.specs.Demand.{greatest_of}
-use Rattle.task_sheet.specs.Sheet.{same_bytes}
+use Rattle.task_sheet.proofs.Common.{greatest_of, same_bytes}
 use Rattle.teams.proofs.keeping.longest_shared.Given as goal
 
 abbrev pub invariant-loop-owned : goal.invariant-loop-owned

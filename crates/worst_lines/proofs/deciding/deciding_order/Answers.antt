@@ -1,7 +1,6 @@
 use Rattle.std.proofs.Common.{◌∙◌, ap, List, length, arith}
 use Rattle.std.proofs.lemmas.Bool.{ltb-true}
-use Rattle.task_sheet.specs.Sheet.{Task}
-use Rattle.task_sheet.specs.Indexes.{below, indexes_of}
+use Rattle.task_sheet.proofs.Common.{Task, below, indexes_of}
 use Rattle.task_sheet.proofs.MembersIndexes.{indexes_of-all_below, len-remove_member}
 use Rattle.worst_lines.proofs.DecidingLaws.{sofar_part, sofar_push, sofar_end}
 use Rattle.worst_lines.proofs.deciding.deciding_order.Goals as goal

@@ -1,9 +1,7 @@
 use Rattle.std.proofs.Common.{◌≡◌, List, sym, subst}
 use Rattle.std.specs.FinSet.{FinSet}
 use Rattle.std.specs.Ordering.{nat_cmp}
-use Rattle.task_sheet.specs.Sheet.{Task}
-use Rattle.task_sheet.specs.Indexes.{indexes_of}
-use Rattle.task_sheet.specs.Verdicts.{FailureData}
+use Rattle.task_sheet.proofs.Common.{Task, indexes_of, FailureData}
 use Rattle.assignment.specs.Climbs.{ClimbState, IsNext}
 use Rattle.assignment.specs.Levels.{LevelState, IsObstructed}
 use Rattle.assignment.proofs.climb.Climb.close_own.Goals as goal

@@ -1,5 +1,5 @@
 use Rattle.std.proofs.Common.{List, subst, sym}
-use Rattle.task_sheet.specs.Verdicts.{FailureData, IsStuck}
+use Rattle.task_sheet.proofs.Common.{FailureData, IsStuck}
 use Rattle.assignment.specs.Climbs.{ClimbState}
 use Rattle.assignment.proofs.ClimbLaws.{stuck_kept}
 use Rattle.assignment.proofs.climb.Climb.members.Goals as goal

@@ -1,8 +1,7 @@
 use Rattle.std.proofs.Common.{◌≡◌, ◌<◌, ◌∙◌, [], ◌∷◌, ◌++◌, sym, ap, subst, arith}
 use Rattle.std.specs.FinSet.{len}
-use Rattle.task_sheet.specs.Indexes.{indexes_of}
-use Rattle.task_sheet.specs.Levels.{IsChosen}
-use Rattle.task_sheet.specs.Verdicts.{LevelData, IsLevel}
+use Rattle.task_sheet.proofs.Common.{indexes_of, IsChosen, LevelData}
+use Rattle.task_sheet.specs.Verdicts.{IsLevel}
 use Rattle.task_sheet.proofs.MembersIndexes.{len-of_member, len-remove_member}
 use Rattle.assignment.specs.Climbs.{ClimbState}
 use Rattle.assignment.specs.Levels.{IsObstructed}

@@ -3,8 +3,7 @@ use Rattle.std.proofs.Common.{IsFalse, sym, ap, subst, arith, refl}
 use Rattle.std.specs.FinSet.{contains}
 use Rattle.std.proofs.lemmas.Bool.{both_ways}
 use Rattle.std.proofs.lemmas.List.{get_or_read}
-use Rattle.task_sheet.specs.Indexes.{indexes_of, without_index}
-use Rattle.task_sheet.specs.Orders.{Stands}
+use Rattle.task_sheet.proofs.Common.{indexes_of, without_index, Stands}
 use Rattle.assignment.specs.declared.outcome.Outcome.{Outcome}
 use Rattle.assignment.specs.declared.level.Level.TheInside.{Inside}
 use Rattle.assignment.specs.LevelFields.{IsLevelKept}

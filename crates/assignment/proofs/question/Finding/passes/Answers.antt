@@ -1,7 +1,5 @@
 use Rattle.std.proofs.Common.{◌≡◌, ◌↔◌, IsTrue, subst}
-use Rattle.task_sheet.specs.TaskSet.{IsTaskSet}
-use Rattle.task_sheet.specs.Indexes.{indexes_of}
-use Rattle.task_sheet.specs.Orders.{Stands}
+use Rattle.task_sheet.proofs.Common.{IsTaskSet, indexes_of, Stands}
 use Rattle.assignment.specs.declared.outcome.Outcome.{Outcome}
 use Rattle.assignment.specs.declared.outcome.Outcome.TheVariants.{Pass, Fail}
 use Rattle.assignment.specs.Levels.{lets_stand}

@@ -1,7 +1,5 @@
 use Rattle.std.proofs.Common.{subst, sym, arith, length}
-use Rattle.task_sheet.specs.Indexes.{below}
-use Rattle.task_sheet.specs.Orders.{IsOrderOf}
-use Rattle.task_sheet.specs.TaskSet.{IsTaskSet}
+use Rattle.task_sheet.proofs.Common.{below, IsOrderOf, IsTaskSet}
 use Rattle.ceiling_kernel.specs.Tick.{node_in}
 use Rattle.ceiling_kernel.specs.NodeTasks.{KeepsTasks}
 use Rattle.ceiling_kernel.proofs.OrderLaws.{order_iff, order_length}

@@ -1,11 +1,7 @@
 use Rattle.std.proofs.Common.{◌≡◌, refl, sym, ap, ◌∙◌, subst, arith, reverse}
 use Rattle.std.proofs.lemmas.Result.{err_from_is_err_and}
-use Rattle.ceiling_kernel.specs.Tick.{picked}
-use Rattle.ceiling_kernel.specs.Trace.{slices_before}
-use Rattle.ceiling_kernel.specs.Releases.{jobs_of}
-use Rattle.ceiling_kernel.specs.Turns.{AreTurns, has_come}
-use Rattle.ceiling_kernel.specs.Runs.{records_from}
-use Rattle.ceiling_kernel.specs.States.{AreFinishes}
+use Rattle.ceiling_kernel.proofs.Common.{picked, slices_before, jobs_of, AreTurns, has_come}
+use Rattle.ceiling_kernel.proofs.Common.{records_from, AreFinishes}
 use Rattle.ceiling_kernel.proofs.EndLaws.{ready_fits, runnable_from, no_overrun_then, each_granted}
 use Rattle.ceiling_kernel.proofs.EndLaws.{bounded_trace, tighter_trace, stop_without}
 use Rattle.ceiling_kernel.proofs.kernel.Kernel.run.Goals.{In_ok-jobs}

@@ -1,8 +1,6 @@
 use Rattle.std.proofs.Common.{◌≡◌, ◌<◌, ℕ, refl, sym, ap, ◌∙◌, arith, get_or, length}
 use Rattle.std.proofs.lemmas.List.{get_or_default}
-use Rattle.ceiling_kernel.specs.Tick.{level_in_order}
-use Rattle.ceiling_kernel.specs.Releases.{no_release}
-use Rattle.ceiling_kernel.specs.Turns.{job_in_turn}
+use Rattle.ceiling_kernel.proofs.Common.{level_in_order, no_release, job_in_turn}
 use Rattle.ceiling_kernel.proofs.PriorityLaws.{level_within}
 use Rattle.ceiling_kernel.proofs.ReleaseLaws.{some_from, none_from}
 use Rattle.ceiling_kernel.proofs.RunLaws.{admitted, slot_read, overrun, place, in_list}

@@ -1,11 +1,9 @@
 use Rattle.std.proofs.Common.{◌≡◌, ℕ, replicate, None, Option, refl, sym, ap, ◌∙◌, length, subst}
 use Rattle.std.proofs.Common.{List, [], ◌+◌, slice_index_or}
-use Rattle.ceiling_kernel.specs.declared.run.Pending.{Pending}
-use Rattle.ceiling_kernel.specs.Tick.{picked}
-use Rattle.ceiling_kernel.specs.Releases.{jobs_of}
-use Rattle.ceiling_kernel.specs.Turns.{has_come}
-use Rattle.ceiling_kernel.specs.States.{Kept, AreFinishes}
-use Rattle.ceiling_kernel.specs.Lists.{list_at, Queues, IsAlone}
+use Rattle.ceiling_kernel.proofs.Common.{Pending, picked, jobs_of, has_come, AreFinishes, list_at}
+use Rattle.ceiling_kernel.proofs.Common.{Queues}
+use Rattle.ceiling_kernel.specs.States.{Kept}
+use Rattle.ceiling_kernel.specs.Lists.{IsAlone}
 use Rattle.ceiling_kernel.proofs.ListsLaws.{count_started}
 use Rattle.ceiling_kernel.proofs.KeptLaws.{kept_start}
 use Rattle.ceiling_kernel.proofs.MoveLaws.{queues_start, alone_start}

@@ -1,6 +1,5 @@
 use Rattle.std.proofs.Common.{◌≡◌, List, take}
-use Rattle.task_sheet.specs.Sheet.{Task}
-use Rattle.task_sheet.specs.Locks.{ceiling_of}
+use Rattle.task_sheet.proofs.Common.{Task, ceiling_of}
 use Rattle.ceilings.specs.IsTableOf.{AreUsersOf}
 use Rattle.ceilings.proofs.users.LockUsers.ceiling.Given as goal
 

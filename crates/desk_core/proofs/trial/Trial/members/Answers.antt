@@ -1,6 +1,5 @@
 use Rattle.std.proofs.Common.{refl, ◌≡◌, sym, inl, inr, [], map}
-use Rattle.task_sheet.specs.Sheet.{task_at}
-use Rattle.task_sheet.specs.Verdicts.{order_of, tasks_of}
+use Rattle.task_sheet.proofs.Common.{task_at, order_of, tasks_of}
 use Rattle.task_sheet.proofs.TaskLaws.{AllTasks-from_set}
 use Rattle.task_sheet.proofs.VerdictLaws.{IsStuck-infeasible}
 use Rattle.assignment.proofs.ClimbLaws.{not_unfinished, IsClimbing-admitted}

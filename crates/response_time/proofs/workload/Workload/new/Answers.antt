@@ -1,8 +1,6 @@
 use Rattle.std.proofs.Common.{ap, sym, ◌∙◌, arith}
 use Rattle.std.proofs.lemmas.List.{get_or_read}
-use Rattle.task_sheet.specs.Sheet.{no_task}
-use Rattle.task_sheet.specs.Indexes.{indexes_of}
-use Rattle.task_sheet.specs.Demand.{interference_of}
+use Rattle.task_sheet.proofs.Common.{no_task, indexes_of, interference_of}
 use Rattle.task_sheet.proofs.TaskLaws.{task_read}
 use Rattle.response_time.proofs.AboveLaws.{first-with, first-without, first-all}
 use Rattle.response_time.proofs.workload.Workload.new.Goals as goal

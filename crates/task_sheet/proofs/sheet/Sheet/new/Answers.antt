@@ -1,6 +1,5 @@
 use Rattle.std.proofs.Common.{rules, ◌≡◌, Some}
-use Rattle.task_sheet.specs.Sheet.{task_of}
-use Rattle.task_sheet.specs.SheetFault.{sheet_fault}
+use Rattle.task_sheet.proofs.Common.{task_of, sheet_fault}
 use Rattle.task_sheet.proofs.SheetLaws.{never_valid}
 use Rattle.task_sheet.proofs.sheet.Sheet.new.Goals as goal
 

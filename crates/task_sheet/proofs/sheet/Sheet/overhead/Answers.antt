@@ -1,6 +1,5 @@
 use Rattle.std.proofs.Common.{rules, ◌≡◌, ◌*◌, ◌≤◌, length, ap, arith}
-use Rattle.task_sheet.specs.Sheet.{Task}
-use Rattle.task_sheet.specs.Overheads.{calls}
+use Rattle.task_sheet.proofs.Common.{Task, calls}
 use Rattle.task_sheet.proofs.OverheadLaws.{calls-more, calls-fit, locks-few}
 use Rattle.task_sheet.proofs.sheet.Sheet.overhead.Goals as goal
 
