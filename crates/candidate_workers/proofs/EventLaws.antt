@@ -5,7 +5,8 @@ use Rattle.std.specs.Int.{div_ceil}
 use Rattle.std.proofs.lemmas.Grind.{div_ceil_times}
 use Rattle.std.proofs.lemmas.List.Sums.{sum_by-cons}
 use Rattle.std.proofs.Math.Nat.{mul-le-mul_left}
-use Rattle.task_sheet.proofs.Common.{Interrupt, Task, IsInterrupt}
+use Rattle.task_sheet.specs.declared.node.Interrupt.{Interrupt}
+use Rattle.task_sheet.specs.Sheet.{Task, IsInterrupt}
 use Rattle.task_sheet.specs.Demand.{later_releases, later_interrupts}
 use Rattle.candidate_workers.specs.Threads.{comes_within, events_within}
 

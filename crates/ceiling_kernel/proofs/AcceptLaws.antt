@@ -13,15 +13,15 @@ use Rattle.std.proofs.lemmas.List.{map_more, get_or_default, length-replicate}
 use Rattle.std.proofs.lemmas.List.Folds.{list_any_at}
 use Rattle.std.proofs.lemmas.List.Quantifiers.{position-Some}
 use Rattle.task_sheet.proofs.Common.{Task, no_task, same_bytes, task_at, some_below}
-use Rattle.ceiling_kernel.proofs.Common.{Release, RunFault, job_at, task_named, task_number, job_of}
-use Rattle.ceiling_kernel.proofs.Common.{jobs_of, first_where, no_release, release_at, is_unsorted}
-use Rattle.ceiling_kernel.proofs.Common.{is_unknown, is_too_soon, is_too_late, is_outside_cost}
-use Rattle.ceiling_kernel.proofs.Common.{is_past, refusal_of}
-use Rattle.ceiling_kernel.specs.Releases.{first_or}
-use Rattle.ceiling_kernel.specs.Releases.{is_soon_job}
-use Rattle.ceiling_kernel.specs.Releases.{refuse_if}
-use Rattle.ceiling_kernel.specs.Releases.{soon_after}
+use Rattle.ceiling_kernel.specs.declared.trace.Release.{Release}
+use Rattle.ceiling_kernel.specs.declared.trace.RunFault.{RunFault}
 use Rattle.ceiling_kernel.specs.declared.trace.RunFault.TheVariants as fault
+use Rattle.ceiling_kernel.specs.Tick.{job_at}
+use Rattle.ceiling_kernel.specs.Releases.{task_named, task_number, job_of, jobs_of, first_or}
+use Rattle.ceiling_kernel.specs.Releases.{first_where, no_release, release_at, is_unsorted}
+use Rattle.ceiling_kernel.specs.Releases.{is_unknown, is_soon_job, is_too_soon, is_too_late}
+use Rattle.ceiling_kernel.specs.Releases.{is_outside_cost, is_past, refuse_if, refusal_of}
+use Rattle.ceiling_kernel.specs.Releases.{soon_after}
 use Rattle.task_sheet.proofs.Below.{some_below-at, some_below-none}
 use Rattle.ceiling_kernel.proofs.ReleaseLaws.{job_is, place_is, replicated}
 

@@ -14,16 +14,9 @@ pub use Rattle.ceiling_kernel.specs.Runs.{Runs, no_record, record_of, records_fr
 pub use Rattle.ceiling_kernel.specs.States.{AreFinishes, IsRunnable, IsRunning, active_at}
 pub use Rattle.ceiling_kernel.specs.States.{best_slot, next_change}
 pub use Rattle.ceiling_kernel.specs.Tick.{Job, Node, active_of, ceiling, held_ceiling, is_inside}
-pub use Rattle.ceiling_kernel.specs.Tick.{is_pending, job_at, job_task, level_from, level_in_order}
+pub use Rattle.ceiling_kernel.specs.Tick.{job_at, job_task, level_from, level_in_order}
 pub use Rattle.ceiling_kernel.specs.Tick.{level_of_job, node_in, top_ceiling}
 unfoldable pub use Rattle.ceiling_kernel.specs.Tick.{executed_before, picked}
 unfoldable pub use Rattle.ceiling_kernel.specs.Trace.{finish_before, slices_before}
-pub use Rattle.ceiling_kernel.specs.Turns.{AreTurns, has_come, job_in_turn, time_in_turn}
-pub use Rattle.ceiling_kernel.specs.Waits.{AreLegalJobs, IsNode, NoOverrun, NoOverrunBy}
-pub use Rattle.ceiling_kernel.specs.Waits.{lateness_of}
-pub use Rattle.ceiling_kernel.specs.declared.run.Pending.{Pending}
-pub use Rattle.ceiling_kernel.specs.declared.trace.JobRecord.{JobRecord}
-pub use Rattle.ceiling_kernel.specs.declared.trace.Release.{Release}
-pub use Rattle.ceiling_kernel.specs.declared.trace.RunFault.{RunFault}
-pub use Rattle.ceiling_kernel.specs.declared.trace.Slice.{Slice}
-pub use Rattle.ceiling_kernel.specs.declared.trace.Trace.{Trace}
+pub use Rattle.ceiling_kernel.specs.Turns.{AreTurns, has_come, job_in_turn}
+pub use Rattle.ceiling_kernel.specs.Waits.{AreLegalJobs, IsNode, NoOverrunBy, lateness_of}

@@ -3,13 +3,14 @@ use Rattle.std.proofs.Common.{ℕ, ◌+◌, ◌-◌, ◌<◌, ◌≤◌, ◌≡�
 use Rattle.std.proofs.Common.{false, min, List, [], ◌∷◌, length, nat_lt, nat_le}
 use Rattle.std.proofs.lemmas.Bool.{cases_lt, lt-ltb, le-ltb, le-leb, lt-leb}
 use Rattle.task_sheet.specs.Sheet.{CriticalSection, task_at}
-use Rattle.ceiling_kernel.proofs.Common.{AreApart, TakeTurns, Node, Job, job_at, job_task}
-use Rattle.ceiling_kernel.proofs.Common.{is_inside, held_ceiling, change_after, IsNode, Release}
-use Rattle.ceiling_kernel.proofs.Common.{task_number, jobs_of, release_at}
 use Rattle.ceiling_kernel.specs.Behaviours.{Covers, AreTaken, LiesWithin, AreSpanned}
-use Rattle.ceiling_kernel.specs.Behaviours.{AreWithinSheets, cut_at, IsCut}
+use Rattle.ceiling_kernel.specs.Behaviours.{AreWithinSheets, AreApart, TakeTurns, cut_at, IsCut}
 use Rattle.ceiling_kernel.specs.Behaviours.{AreCut, AreKnown}
-use Rattle.ceiling_kernel.specs.Releases.{runs_of}
+use Rattle.ceiling_kernel.specs.Tick.{Node, Job, job_at, job_task, is_inside, held_ceiling}
+use Rattle.ceiling_kernel.specs.Jumps.{change_after}
+use Rattle.ceiling_kernel.specs.Waits.{IsNode}
+use Rattle.ceiling_kernel.specs.declared.trace.Release.{Release}
+use Rattle.ceiling_kernel.specs.Releases.{task_number, runs_of, jobs_of, release_at}
 use Rattle.ceiling_kernel.proofs.ReleaseLaws.{job_is, jobs_length}
 use Rattle.ceiling_kernel.proofs.NodeLaws.{IsSound, sound}
 use Rattle.ceiling_kernel.proofs.BehaviourLaws.{taken_apart}

@@ -5,26 +5,29 @@ use Rattle.std.proofs.Common.{Option, None, Some, false, nat_lt}
 use Rattle.std.proofs.lemmas.Bool.{cases_lt, cases_Bool, true≢false, le-leb, eq-eqb}
 use Rattle.std.proofs.lemmas.List.Elements.{All-from_get_or}
 use Rattle.task_sheet.proofs.Common.{task_at, IsPassingOrder}
-use Rattle.ceiling_kernel.proofs.Common.{Release, JobRecord, Trace, RunFault, Pending, Node, Job}
-use Rattle.ceiling_kernel.proofs.Common.{job_at, job_task, executed_before, finish_before, IsNode}
-use Rattle.ceiling_kernel.proofs.Common.{AreLegalJobs, lateness_of, NoOverrun, CoversBy}
-use Rattle.ceiling_kernel.proofs.Common.{response_by, task_number, ready_of, jobs_of, no_release}
-use Rattle.ceiling_kernel.proofs.Common.{release_at, is_too_soon, is_too_late, is_outside_cost}
-use Rattle.ceiling_kernel.proofs.Common.{is_past, refusal_of, AreTurns, record_of, no_record}
-use Rattle.ceiling_kernel.proofs.Common.{records_from, IsRunnable, TakeTurns}
-use Rattle.ceiling_kernel.specs.Waits.{EachIsGranted}
-use Rattle.ceiling_kernel.specs.Releases.{runs_of}
-use Rattle.ceiling_kernel.specs.Releases.{is_soon_job}
-use Rattle.ceiling_kernel.specs.Runs.{IsFirstOverrun, IsOverrun}
-use Rattle.ceiling_kernel.specs.Runs.{bound_by, MeetsBounds, MeetsTighterBounds, IsNoOverrun}
-use Rattle.ceiling_kernel.specs.States.{Kept, IsStop}
-use Rattle.ceiling_kernel.specs.Behaviours.{AreCut, AreKnown}
+use Rattle.ceiling_kernel.specs.declared.trace.Release.{Release}
+use Rattle.ceiling_kernel.specs.declared.trace.JobRecord.{JobRecord}
+use Rattle.ceiling_kernel.specs.declared.trace.Trace.{Trace}
+use Rattle.ceiling_kernel.specs.declared.trace.RunFault.{RunFault}
 use Rattle.ceiling_kernel.specs.declared.trace.RunFault.TheVariants as fault
+use Rattle.ceiling_kernel.specs.declared.run.Pending.{Pending}
+use Rattle.ceiling_kernel.specs.Tick.{Node, Job, job_at, job_task, executed_before}
+use Rattle.ceiling_kernel.specs.Trace.{finish_before}
+use Rattle.ceiling_kernel.specs.Waits.{IsNode, AreLegalJobs, lateness_of, NoOverrun, EachIsGranted}
+use Rattle.ceiling_kernel.specs.Bounds.{CoversBy, response_by}
+use Rattle.ceiling_kernel.specs.Releases.{task_number, ready_of, runs_of, jobs_of}
+use Rattle.ceiling_kernel.specs.Releases.{no_release, release_at, is_soon_job, is_too_soon}
+use Rattle.ceiling_kernel.specs.Releases.{is_too_late, is_outside_cost, is_past, refusal_of}
+use Rattle.ceiling_kernel.specs.Turns.{AreTurns}
+use Rattle.ceiling_kernel.specs.Runs.{IsFirstOverrun, IsOverrun, record_of, no_record, records_from}
+use Rattle.ceiling_kernel.specs.Runs.{bound_by, MeetsBounds, MeetsTighterBounds, IsNoOverrun}
+use Rattle.ceiling_kernel.specs.States.{IsRunnable, Kept, IsStop}
 use Rattle.ceiling_kernel.proofs.NestLaws.{nobody_waits_law}
 use Rattle.ceiling_kernel.proofs.BoundLaws.{covers_from, tighter_response, no_overrun_law}
 use Rattle.ceiling_kernel.proofs.FinishLaws.{finish_some, finish_later, finish_is}
 use Rattle.ceiling_kernel.proofs.ReleaseLaws.{job_is, jobs_length}
 use Rattle.ceiling_kernel.proofs.NodeLaws.{sound}
+use Rattle.ceiling_kernel.specs.Behaviours.{AreCut, AreKnown, TakeTurns}
 use Rattle.ceiling_kernel.proofs.CutLaws.{cuts_by, cuts_within, cuts_apart}
 use Rattle.ceiling_kernel.proofs.AcceptLaws.{IsAccepted, accepted, first_none, none_below}
 use Rattle.ceiling_kernel.proofs.AcceptLaws.{none_passes, not_lt, known_from, inside_cost}

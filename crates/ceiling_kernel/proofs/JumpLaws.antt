@@ -4,13 +4,13 @@ use Rattle.std.proofs.Common.{◌∙◌, subst, arith, true, false, ◌==◌, �
 use Rattle.std.proofs.Common.{Option, Some, None, nat_le, eqb, add-one}
 use Rattle.std.proofs.lemmas.Bool.{cases_eq, cases_lt, cases_Bool, lt-ltb, le-ltb, le-leb, lt-leb}
 use Rattle.std.proofs.lemmas.Bool.{eq-eqb}
-use Rattle.ceiling_kernel.proofs.Common.{Slice, Node, Job, job_at, level_of_job, is_pending}
-use Rattle.ceiling_kernel.proofs.Common.{active_of, executed_before, picked, is_inside}
-use Rattle.ceiling_kernel.proofs.Common.{held_ceiling, slices_before, change_after, AreApart}
-use Rattle.ceiling_kernel.proofs.Common.{TakeTurns}
-use Rattle.ceiling_kernel.specs.Trace.{with_run, with_tick}
-use Rattle.ceiling_kernel.specs.Jumps.{NoneReadyBetween, PickStays, IdleStays}
+use Rattle.ceiling_kernel.specs.declared.trace.Slice.{Slice}
 use Rattle.task_sheet.specs.Sheet.{CriticalSection}
+use Rattle.ceiling_kernel.specs.Tick.{Node, Job, job_at, level_of_job, is_pending, active_of}
+use Rattle.ceiling_kernel.specs.Tick.{executed_before, picked, is_inside, held_ceiling}
+use Rattle.ceiling_kernel.specs.Trace.{slices_before, with_run, with_tick}
+use Rattle.ceiling_kernel.specs.Jumps.{change_after, NoneReadyBetween, PickStays, IdleStays}
+use Rattle.ceiling_kernel.specs.Behaviours.{AreApart, TakeTurns}
 use Rattle.ceiling_kernel.proofs.BehaviourLaws.{turns_apart}
 use Rattle.ceiling_kernel.proofs.SectionLaws.{inside_from, outside_before, outside_after}
 use Rattle.ceiling_kernel.proofs.LockLaws.{held_before}

@@ -7,17 +7,18 @@ use Rattle.std.proofs.lemmas.Option.{none-some, same_Some}
 use Rattle.std.proofs.lemmas.Bool.{cases_Bool, cases_eq, cases_lt, true≢false}
 use Rattle.std.proofs.lemmas.List.{length-replicate}
 use Rattle.task_sheet.specs.Sheet.{task_at}
-use Rattle.ceiling_kernel.proofs.Common.{Release, Pending, Node, Job, job_at, job_task}
-use Rattle.ceiling_kernel.proofs.Common.{level_in_order, level_of_job, active_of, is_pending}
-use Rattle.ceiling_kernel.proofs.Common.{held_ceiling, executed_before, picked, change_after}
-use Rattle.ceiling_kernel.proofs.Common.{jobs_of, time_in_turn, job_in_turn, has_come, active_at}
-use Rattle.ceiling_kernel.proofs.Common.{best_slot, IsRunnable, IsRunning, AreApart}
+use Rattle.ceiling_kernel.specs.declared.trace.Release.{Release}
+use Rattle.ceiling_kernel.specs.declared.run.Pending.{Pending}
 use Rattle.ceiling_kernel.specs.declared.run.Simulation.{Simulation}
-use Rattle.ceiling_kernel.specs.Jumps.{NoneReadyBetween}
+use Rattle.ceiling_kernel.specs.Tick.{Node, Job, job_at, job_task, level_in_order, level_of_job}
+use Rattle.ceiling_kernel.specs.Tick.{active_of, is_pending, held_ceiling, executed_before, picked}
+use Rattle.ceiling_kernel.specs.Jumps.{change_after, NoneReadyBetween}
 use Rattle.ceiling_kernel.specs.Waits.{Overruns}
-use Rattle.ceiling_kernel.specs.Turns.{TasksKeepOrder}
-use Rattle.ceiling_kernel.specs.States.{IsPending, Kept}
-use Rattle.ceiling_kernel.specs.Behaviours.{IsCut, AreCut}
+use Rattle.ceiling_kernel.specs.Releases.{jobs_of}
+use Rattle.ceiling_kernel.specs.Turns.{time_in_turn, job_in_turn, has_come, TasksKeepOrder}
+use Rattle.ceiling_kernel.specs.States.{active_at, best_slot, IsRunnable, IsPending, Kept}
+use Rattle.ceiling_kernel.specs.States.{IsRunning}
+use Rattle.ceiling_kernel.specs.Behaviours.{AreApart, IsCut, AreCut}
 use Rattle.ceiling_kernel.proofs.NodeLaws.{IsSound, sound}
 use Rattle.ceiling_kernel.proofs.PickLaws.{best_is, best_none_is}
 use Rattle.ceiling_kernel.proofs.MachineLaws.{pending_parts, pending_from}

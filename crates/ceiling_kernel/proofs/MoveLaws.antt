@@ -6,9 +6,11 @@ use Rattle.std.proofs.Common.{get_or-set_other, length-set}
 use Rattle.std.proofs.lemmas.Option.{none-some, same_Some}
 use Rattle.std.proofs.lemmas.Bool.{cases_eq, cases_lt, eq-eqb, ne_eqb, lt-ltb, le-ltb}
 use Rattle.std.proofs.lemmas.List.{get_or_past}
-use Rattle.ceiling_kernel.proofs.Common.{Release, Pending, Node, level_in_order, jobs_of, has_come}
-use Rattle.ceiling_kernel.proofs.Common.{best_slot, IsRunnable, IsRunning, listed, list_at, Queues}
+use Rattle.ceiling_kernel.specs.declared.trace.Release.{Release}
+use Rattle.ceiling_kernel.specs.declared.run.Pending.{Pending}
 use Rattle.ceiling_kernel.specs.declared.run.Simulation.{Simulation}
+use Rattle.ceiling_kernel.proofs.Common.{Node, level_in_order, jobs_of, has_come, best_slot}
+use Rattle.ceiling_kernel.proofs.Common.{IsRunnable, IsRunning, listed, list_at, Queues}
 use Rattle.ceiling_kernel.specs.States.{IsPending}
 use Rattle.ceiling_kernel.specs.Lists.{with_tail, without_head}
 use Rattle.ceiling_kernel.specs.Lists.{moved_to, StandsAt, IsAlone}

@@ -5,8 +5,9 @@ use Rattle.std.proofs.Common.{slice_index_or}
 use Rattle.std.proofs.lemmas.Option.{none-some}
 use Rattle.std.proofs.lemmas.Bool.{cases_eq, cases_lt}
 use Rattle.std.proofs.lemmas.List.{get_or_past}
-use Rattle.ceiling_kernel.proofs.Common.{Pending, best_slot, list_at, Queues}
-use Rattle.ceiling_kernel.specs.Lists.{head_of_highest, StandsAt}
+use Rattle.ceiling_kernel.specs.declared.run.Pending.{Pending}
+use Rattle.ceiling_kernel.specs.States.{best_slot}
+use Rattle.ceiling_kernel.specs.Lists.{list_at, head_of_highest, StandsAt, Queues}
 use Rattle.ceiling_kernel.proofs.SlotLaws.{IsBestSlot, slot_some, slot_none, NotFirst}
 
 -- ---- places

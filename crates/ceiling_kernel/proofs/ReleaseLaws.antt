@@ -5,9 +5,11 @@ use Rattle.std.proofs.Common.{is_some, slice_index_or, replicate}
 use Rattle.std.proofs.lemmas.Bool.{true≢false}
 use Rattle.std.proofs.lemmas.List.{length-map, length-take, take_more, get_or_default}
 use Rattle.task_sheet.specs.Sheet.{Task}
-use Rattle.ceiling_kernel.proofs.Common.{Release, Pending, Node, Job, job_at, slices_before}
-use Rattle.ceiling_kernel.proofs.Common.{finish_before, task_number, job_of, jobs_of, release_at}
-use Rattle.ceiling_kernel.proofs.Common.{record_of, records_from}
+use Rattle.ceiling_kernel.specs.declared.trace.Release.{Release}
+use Rattle.ceiling_kernel.specs.declared.run.Pending.{Pending}
+use Rattle.ceiling_kernel.proofs.Common.{Node, Job, job_at, slices_before, finish_before}
+use Rattle.ceiling_kernel.proofs.Common.{task_number, job_of, jobs_of, release_at, record_of}
+use Rattle.ceiling_kernel.proofs.Common.{records_from}
 
 -- ---- releases and jobs
 pub job_is : (U : List Task) (rs : List Release) (j : ℕ) → j < length rs

@@ -9,20 +9,20 @@ use Rattle.std.proofs.lemmas.Bool.{cases_eq, cases_Bool}
 use Rattle.std.proofs.lemmas.List.{length-replicate, get_or_default}
 use Rattle.std.proofs.lemmas.List.Elements.{All-get_or}
 use Rattle.task_sheet.specs.Sheet.{IsValidSheet, no_task, task_at}
-use Rattle.ceiling_kernel.proofs.Common.{Release, Pending, Node, Job, job_at, level_in_order}
-use Rattle.ceiling_kernel.proofs.Common.{executed_before, picked, slices_before, finish_before}
-use Rattle.ceiling_kernel.proofs.Common.{change_after, task_number, jobs_of, no_release, release_at}
-use Rattle.ceiling_kernel.proofs.Common.{time_in_turn, job_in_turn, has_come, active_at, best_slot}
-use Rattle.ceiling_kernel.proofs.Common.{next_change, IsRunnable, AreFinishes, IsRunning, listed}
-use Rattle.ceiling_kernel.proofs.Common.{list_at}
+use Rattle.ceiling_kernel.specs.declared.trace.Release.{Release}
 use Rattle.ceiling_kernel.specs.declared.tasks.NodeTask.{NodeTask}
+use Rattle.ceiling_kernel.specs.declared.run.Pending.{Pending}
 use Rattle.ceiling_kernel.specs.declared.run.Simulation.{Simulation}
-use Rattle.ceiling_kernel.specs.Trace.{with_run}
+use Rattle.ceiling_kernel.specs.Tick.{Node, Job, job_at, level_in_order, executed_before, picked}
+use Rattle.ceiling_kernel.specs.Trace.{with_run, slices_before, finish_before}
+use Rattle.ceiling_kernel.specs.Jumps.{change_after}
+use Rattle.ceiling_kernel.specs.Releases.{task_number, jobs_of, no_release, release_at}
+use Rattle.ceiling_kernel.specs.Turns.{time_in_turn, job_in_turn, has_come}
 use Rattle.ceiling_kernel.specs.Runs.{IsOverrun}
 use Rattle.ceiling_kernel.specs.NodeTasks.{IsTaskOf}
-use Rattle.ceiling_kernel.specs.States.{slices_shown, IsTidy}
-use Rattle.ceiling_kernel.specs.States.{IsFurther}
-use Rattle.ceiling_kernel.specs.Lists.{with_tail, without_head, moved_to}
+use Rattle.ceiling_kernel.specs.States.{active_at, best_slot, next_change, slices_shown, IsTidy}
+use Rattle.ceiling_kernel.specs.States.{IsRunnable, AreFinishes, IsRunning, IsFurther}
+use Rattle.ceiling_kernel.specs.Lists.{listed, list_at, with_tail, without_head, moved_to}
 use Rattle.ceiling_kernel.proofs.ReleaseLaws.{finish_first, job_is, jobs_length, place_is, read_at}
 use Rattle.ceiling_kernel.proofs.ReleaseLaws.{replicated}
 use Rattle.ceiling_kernel.proofs.TurnLaws.{next_first, next_time}

@@ -7,7 +7,8 @@ use Rattle.std.proofs.lemmas.Bool.{cases_Bool, cases_eq, cases_lt, true≢false,
 use Rattle.std.proofs.lemmas.Bool.{eq-eqb}
 use Rattle.std.proofs.lemmas.List.{append_assoc, append-nil}
 use Rattle.std.proofs.lemmas.Grind.{reverse_onto}
-use Rattle.ceiling_kernel.proofs.Common.{Slice, Node, Job, picked, slices_before, AreLongestRuns}
+use Rattle.ceiling_kernel.specs.declared.trace.Slice.{Slice}
+use Rattle.ceiling_kernel.proofs.Common.{Node, Job, picked, slices_before, AreLongestRuns}
 use Rattle.ceiling_kernel.specs.Trace.{with_run, with_tick, slices_of}
 
 module _ (run : ℕ → Option ℕ) where

@@ -5,8 +5,8 @@ use Rattle.std.proofs.Common.{◌&&◌, ◌==◌, nat_lt, slice_index_or}
 use Rattle.std.proofs.lemmas.Option.{none-some}
 use Rattle.std.proofs.lemmas.Bool.{cases_Bool, cases_eq, cases_lt, true≢false, lt-ltb, le-ltb}
 use Rattle.std.proofs.lemmas.Bool.{ltb-true, eq-eqb, ne_eqb}
-use Rattle.ceiling_kernel.proofs.Common.{Pending, best_slot}
-use Rattle.ceiling_kernel.specs.States.{better_pending}
+use Rattle.ceiling_kernel.specs.declared.run.Pending.{Pending}
+use Rattle.ceiling_kernel.specs.States.{better_pending, best_slot}
 
 -- pending job q doesn't go before p
 abbrev pub NotFirst : Pending → Pending → Type 0

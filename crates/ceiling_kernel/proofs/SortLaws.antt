@@ -11,9 +11,10 @@ use Rattle.std.proofs.lemmas.List.Elements.{All-from_recursion, All-get_or}
 use Rattle.std.proofs.lemmas.List.Sorted.{All-permutation, Contains-permutation}
 use Rattle.task_sheet.proofs.Common.{Task, AreDistinct}
 use Rattle.task_sheet.proofs.Distinct.{AreDistinct-permutation}
-use Rattle.ceiling_kernel.proofs.Common.{Release, job_at, ready_of, jobs_of, release_at}
-use Rattle.ceiling_kernel.proofs.Common.{time_in_turn, job_in_turn, AreTurns}
-use Rattle.ceiling_kernel.specs.Turns.{no_turn}
+use Rattle.ceiling_kernel.specs.declared.trace.Release.{Release}
+use Rattle.ceiling_kernel.specs.Tick.{job_at}
+use Rattle.ceiling_kernel.specs.Releases.{ready_of, jobs_of, release_at}
+use Rattle.ceiling_kernel.specs.Turns.{no_turn, time_in_turn, job_in_turn, AreTurns}
 use Rattle.ceiling_kernel.proofs.ReleaseLaws.{job_is, jobs_length}
 
 -- the turns of releases, of which the first stands at a place, in the list's order

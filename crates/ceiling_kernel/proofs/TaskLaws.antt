@@ -8,9 +8,9 @@ use Rattle.std.proofs.lemmas.List.Elements.{All-get_or}
 use Rattle.std.proofs.Math.Seq.{get_or-append_seam}
 use Rattle.task_sheet.proofs.Common.{CriticalSection, Task, IsSection, AreSections, IsValidSheet}
 use Rattle.task_sheet.proofs.Common.{no_task, task_at, IsTaskSet}
-use Rattle.ceiling_kernel.proofs.Common.{Node, held_ceiling, change_after, next_change, active_at}
 use Rattle.ceiling_kernel.specs.declared.tasks.NodeSection.{NodeSection}
 use Rattle.ceiling_kernel.specs.declared.tasks.NodeTask.{NodeTask}
+use Rattle.ceiling_kernel.proofs.Common.{Node, held_ceiling, change_after, next_change, active_at}
 use Rattle.ceiling_kernel.specs.NodeTasks.{IsSectionOf, AreSectionsOf, IsTaskOf, AreTasksOf}
 use Rattle.ceiling_kernel.specs.States.{held_top}
 

@@ -4,9 +4,9 @@ use Rattle.std.specs.Int.{div_ceil}
 use Rattle.std.proofs.lemmas.Bool.{and_from}
 use Rattle.std.proofs.lemmas.Grind.{div_ceil_times}
 use Rattle.std.proofs.Math.Nat.{mul-le-mul_left}
-use Rattle.task_sheet.proofs.Common.{Interrupt, CriticalSection, Task, IsInterrupt, task_at}
-use Rattle.task_sheet.proofs.Common.{Indexes, reaches, shares_lock, releases_within}
-use Rattle.task_sheet.proofs.Common.{interference_of}
+use Rattle.task_sheet.specs.declared.node.Interrupt.{Interrupt}
+use Rattle.task_sheet.proofs.Common.{CriticalSection, Task, IsInterrupt, task_at, Indexes, reaches}
+use Rattle.task_sheet.proofs.Common.{shares_lock, releases_within, interference_of}
 use Rattle.task_sheet.proofs.Below.{some_below-at}
 
 -- what a task's jobs take

@@ -6,7 +6,7 @@ use Rattle.command_line.specs.declared.calls.OfOne.TheVariants.{Limits, Explain,
 use Rattle.command_line.specs.declared.calls.OfTwo.{OfTwo}
 use Rattle.command_line.specs.declared.calls.OfTwo.TheVariants.{Simulate}
 use Rattle.command_line.specs.declared.calls.Options.{Options}
-use Rattle.task_sheet.proofs.Common.{Preference}
+use Rattle.task_sheet.specs.declared.prefer.Preference.{Preference}
 use Rattle.desk_cli.specs.Commands.{OneSays, TwoSay}
 use Rattle.answering.specs.Chosen.{preference_of, task_of}
 use Rattle.set_commands.specs.OneTask.{AnswersOfTask, SaysPart}

@@ -9,7 +9,10 @@ use Rattle.assignment.specs.Places.{PlaceData}
 use Rattle.assignment.specs.Placings.{IsBestPlacing}
 use Rattle.explain.specs.Accounts.{AreInTime}
 use Rattle.explain.proofs.AccountLaws.{best-in_time}
-use Rattle.ceiling_kernel.proofs.Common.{no_record, JobRecord, Release, Trace}
+use Rattle.ceiling_kernel.specs.Runs.{no_record}
+use Rattle.ceiling_kernel.specs.declared.trace.JobRecord.{JobRecord}
+use Rattle.ceiling_kernel.specs.declared.trace.Release.{Release}
+use Rattle.ceiling_kernel.specs.declared.trace.Trace.{Trace}
 use Rattle.run_lines.specs.TaskBounds.{bounds_of}
 use Rattle.frames.specs.declared.rows.TaskRow.{TaskRow}
 use Rattle.frames.specs.declared.view.View.{View}

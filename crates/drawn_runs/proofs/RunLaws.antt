@@ -15,7 +15,10 @@ use Rattle.explain.specs.Accounts.{AreInTime}
 use Rattle.explain.proofs.AccountLaws.{best-in_time}
 use Rattle.ceiling_kernel.proofs.Common.{Job, Node, node_in, is_past, jobs_of, no_release, ready_of}
 use Rattle.ceiling_kernel.proofs.Common.{release_at, task_named, task_number, Runs, no_record}
-use Rattle.ceiling_kernel.proofs.Common.{record_of, records_from, JobRecord, Release, Trace}
+use Rattle.ceiling_kernel.proofs.Common.{record_of, records_from}
+use Rattle.ceiling_kernel.specs.declared.trace.JobRecord.{JobRecord}
+use Rattle.ceiling_kernel.specs.declared.trace.Release.{Release}
+use Rattle.ceiling_kernel.specs.declared.trace.Trace.{Trace}
 use Rattle.ceiling_kernel.proofs.AcceptLaws.{IsAccepted, accepted, none_passes, sorted_from}
 use Rattle.ceiling_kernel.proofs.EndLaws.{records_at}
 use Rattle.run_lines.specs.Reached.{done_of, is_done_of, response_of}

@@ -8,7 +8,8 @@ use Rattle.std.proofs.lemmas.Bool.{ltb-true}
 use Rattle.std.proofs.lemmas.List.{get_or-drop, get_or-take, length-drop, length-take}
 use Rattle.task_sheet.proofs.Common.{same_bytes, greatest_of}
 use Rattle.task_sheet.proofs.NameLaws.{same_own}
-use Rattle.ceiling_kernel.proofs.Common.{no_record, JobRecord}
+use Rattle.ceiling_kernel.specs.Runs.{no_record}
+use Rattle.ceiling_kernel.specs.declared.trace.JobRecord.{JobRecord}
 use Rattle.pieces.specs.Bands.{arrival_of, band_of, is_banded, is_of, job_of, joins, next_of}
 use Rattle.pieces.specs.Bands.{stretch_of}
 use Rattle.frames.specs.declared.rows.TaskRow.{TaskRow}

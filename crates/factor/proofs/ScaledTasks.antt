@@ -3,7 +3,8 @@ use Rattle.std.proofs.Common.{◌≡◌, ℕ, ◌≤◌, List, [], ◌∷◌, ge
 use Rattle.std.specs.List.{AllByRecursion}
 use Rattle.std.proofs.lemmas.List.{length-map}
 use Rattle.std.proofs.lemmas.List.Elements.{All-from_recursion, recursion_from_All}
-use Rattle.task_sheet.proofs.Common.{Interrupt, CriticalSection, Task, IsInterrupt, IsValidSheet}
+use Rattle.task_sheet.specs.declared.node.Interrupt.{Interrupt}
+use Rattle.task_sheet.specs.Sheet.{CriticalSection, Task, IsInterrupt, IsValidSheet}
 use Rattle.limits.specs.Easier.{AreCheaper, IsEasier}
 use Rattle.factor.specs.Factors.{thousandths, scaled_sections, scaled_cost, scaled_node}
 use Rattle.factor.specs.Factors.{scaled_interrupt, scaled_task, IsWithin}

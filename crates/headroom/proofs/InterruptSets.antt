@@ -1,7 +1,8 @@
 -- What timers and interrupts take in two sets of as many tasks.
 use Rattle.std.proofs.Common.{◌≡◌, ℕ, ◌<◌, ◌≤◌, List, length, sum_by, ap, arith}
 use Rattle.std.proofs.Math.Nat.{mul-le-mul}
-use Rattle.task_sheet.proofs.Common.{Interrupt, Task, task_at, releases_within, interrupt_within}
+use Rattle.task_sheet.specs.declared.node.Interrupt.{Interrupt}
+use Rattle.task_sheet.proofs.Common.{Task, task_at, releases_within, interrupt_within}
 use Rattle.task_sheet.proofs.Common.{interrupts_of, interrupts_within}
 use Rattle.task_sheet.proofs.Below.{sum_below-le}
 

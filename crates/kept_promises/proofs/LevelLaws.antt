@@ -11,7 +11,9 @@ use Rattle.task_sheet.proofs.NameLaws.{same_own}
 use Rattle.task_sheet.proofs.TaskLaws.{place_of_name}
 use Rattle.assignment.specs.Places.{PlaceData}
 use Rattle.assignment.specs.Placings.{tasks_of_places}
-use Rattle.ceiling_kernel.proofs.Common.{level_from, after_of, Release, Trace}
+use Rattle.ceiling_kernel.proofs.Common.{level_from, after_of}
+use Rattle.ceiling_kernel.specs.declared.trace.Release.{Release}
+use Rattle.ceiling_kernel.specs.declared.trace.Trace.{Trace}
 use Rattle.run_lines.specs.Responses.{AllDoneWithin, DoneWithin}
 use Rattle.observed.specs.Observed.{no_promise}
 use Rattle.observed.specs.Pieces.{level_of}

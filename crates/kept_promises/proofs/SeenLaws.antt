@@ -20,9 +20,11 @@ use Rattle.ceiling_kernel.proofs.Common.{Job, Node, executed_before, job_at, nod
 use Rattle.ceiling_kernel.proofs.Common.{level_in_order, level_of_job, finish_before, AreLegalJobs}
 use Rattle.ceiling_kernel.proofs.Common.{IsNode, is_past, jobs_of, no_release, ready_of, release_at}
 use Rattle.ceiling_kernel.proofs.Common.{task_named, task_number, record_of, records_from}
-use Rattle.ceiling_kernel.proofs.Common.{no_record, JobRecord, Release, Slice, AreLongestRuns}
-use Rattle.ceiling_kernel.proofs.Common.{above_of, after_of}
+use Rattle.ceiling_kernel.proofs.Common.{no_record, AreLongestRuns, above_of, after_of}
 use Rattle.ceiling_kernel.specs.Trace.{slices_of}
+use Rattle.ceiling_kernel.specs.declared.trace.JobRecord.{JobRecord}
+use Rattle.ceiling_kernel.specs.declared.trace.Release.{Release}
+use Rattle.ceiling_kernel.specs.declared.trace.Slice.{Slice}
 use Rattle.ceiling_kernel.proofs.AcceptLaws.{IsAccepted, accepted, known_from, none_passes}
 use Rattle.ceiling_kernel.proofs.EndLaws.{legal_from, records_at, some_executes}
 use Rattle.ceiling_kernel.proofs.FinishLaws.{finish_is, finish_later, finish_some, grows_by}

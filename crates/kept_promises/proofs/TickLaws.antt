@@ -4,7 +4,9 @@ use Rattle.std.proofs.Common.{arith, Bool, true, false, ◌&&◌, cond, min, max
 use Rattle.std.proofs.Common.{Some, None, nat_le, nat_lt}
 use Rattle.std.proofs.lemmas.Bool.{cases_Bool, cases_eq, cases_lt, lt-ltb, le-ltb, le-leb, lt-leb}
 use Rattle.std.proofs.lemmas.Bool.{and_from, and_left, and_right}
-use Rattle.ceiling_kernel.proofs.Common.{JobRecord, Slice, AreLongestRuns}
+use Rattle.ceiling_kernel.specs.declared.trace.JobRecord.{JobRecord}
+use Rattle.ceiling_kernel.specs.declared.trace.Slice.{Slice}
+use Rattle.ceiling_kernel.proofs.Common.{AreLongestRuns}
 use Rattle.ceiling_kernel.proofs.SumLaws.{total}
 use Rattle.trace_text.specs.declared.rows.TraceJob.{TraceJob}
 use Rattle.observed.specs.Pieces.{piece_of, pieces_of}

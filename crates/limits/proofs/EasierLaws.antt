@@ -6,11 +6,11 @@ use Rattle.std.specs.Int.{div_ceil}
 use Rattle.std.proofs.lemmas.Bool.{cases_Bool}
 use Rattle.std.proofs.lemmas.Grind.{common_steps}
 use Rattle.std.proofs.lemmas.List.Sums.{sum_by-cons}
-use Rattle.task_sheet.proofs.Common.{Interrupt, Task, AllTasks, no_task, task_at, Indexes}
-use Rattle.task_sheet.proofs.Common.{sum_below, below, among, limit_of, blocking_of}
-use Rattle.task_sheet.proofs.Common.{interrupt_within, interrupts_within, demand_of}
-use Rattle.task_sheet.proofs.Common.{releases_within, interference_of, Passes, AllStand}
-use Rattle.task_sheet.proofs.Common.{IsPassingOrder, IsFeasible}
+use Rattle.task_sheet.specs.declared.node.Interrupt.{Interrupt}
+use Rattle.task_sheet.proofs.Common.{Task, AllTasks, no_task, task_at, Indexes, sum_below, below}
+use Rattle.task_sheet.proofs.Common.{among, limit_of, blocking_of, interrupt_within}
+use Rattle.task_sheet.proofs.Common.{interrupts_within, demand_of, releases_within, interference_of}
+use Rattle.task_sheet.proofs.Common.{Passes, AllStand, IsPassingOrder, IsFeasible}
 use Rattle.task_sheet.proofs.Below.{sum_below-le}
 use Rattle.task_sheet.proofs.Releases.{div_ceil-mono}
 use Rattle.headroom.proofs.InterruptSets.{interrupts-less}

@@ -9,7 +9,8 @@ use Rattle.task_sheet.proofs.Common.{CriticalSection, Task, no_task, no_overhead
 use Rattle.task_sheet.proofs.Common.{IsTaskSet, Indexes, IsPart, among, below, without_index}
 use Rattle.task_sheet.proofs.Common.{sum_below, blocking_of, demand_of, interference_of}
 use Rattle.task_sheet.proofs.Common.{interrupts_of, interrupts_within, releases_within, Passes}
-use Rattle.task_sheet.proofs.Common.{all_of, AllStand, IsOrderOf, IsPassingOrder, IsFeasible, Node}
+use Rattle.task_sheet.proofs.Common.{all_of, AllStand, IsOrderOf, IsPassingOrder, IsFeasible}
+use Rattle.task_sheet.specs.declared.node.Node.{Node}
 use Rattle.task_sheet.proofs.Below.{sum_below-both, sum_below-le}
 use Rattle.task_sheet.proofs.IndexLaws.{without-gone, without-part_of, IsOrderOf-among}
 use Rattle.task_sheet.proofs.IndexLaws.{IsOrderOf-head, IsOrderOf-rest}

@@ -5,7 +5,6 @@ use Rattle.std.proofs.lemmas.Bool.{cases_eq}
 use Rattle.std.proofs.lemmas.List.{length-set, get_or_default}
 use Rattle.task_sheet.proofs.Common.{Task, IsValidSheet, AllTasks, no_task, task_at, IsTaskSet}
 use Rattle.task_sheet.proofs.Common.{limit_of, IsPassingOrder, IsFeasible, IsBest}
-use Rattle.task_sheet.specs.declared.prefer.Preference.TheVariants.{Deadline}
 use Rattle.task_sheet.proofs.TaskLaws.{valid_at, IsTask-from_valid, AllTasks-from_set}
 use Rattle.headroom.specs.Costs.{with_cost}
 use Rattle.headroom.proofs.CostLaws.{placed-other, placed-same}
@@ -17,6 +16,7 @@ use Rattle.factor.specs.Factors.{scaled, MayScale, IsFactor}
 use Rattle.factor.proofs.ScaledSets.{count-scaled, scaled-at, valid-at, keeps-scaled}
 use Rattle.preferences.specs.Preferences.{IsPreferred}
 use Rattle.latest_first.specs.LatestFirst.{AllPrompt, AreAlike}
+use Rattle.task_sheet.specs.declared.prefer.Preference.TheVariants.{Deadline}
 use Rattle.latest_first.proofs.OneOrder.{AllPrompt-valid, IsOrder-alike, IsLatestFirst-alike}
 use Rattle.latest_first.proofs.OneOrder.{IsPassingOrder-latest}
 use Rattle.latest_first.proofs.BestLatest.{best-latest}

@@ -8,16 +8,16 @@ use Rattle.std.proofs.lemmas.Bool.{cases_lt, cases_eq, eq-eqb, lt-ltb, ltb-true}
 use Rattle.task_sheet.proofs.Common.{Task, CriticalSection, IsValidSheet, no_task, task_at}
 use Rattle.task_sheet.proofs.Common.{IsTaskSet, with_index, among, reaches, limit_of, blocking_of}
 use Rattle.task_sheet.proofs.Common.{releases_within, Passes}
-use Rattle.ceiling_kernel.proofs.Common.{Release, Node, Job, job_at, job_task, level_in_order}
-use Rattle.ceiling_kernel.proofs.Common.{is_inside, executed_before, IsNode, AreLegalJobs}
-use Rattle.ceiling_kernel.proofs.Common.{lateness_of, NoOverrun, above_of, after_of, ready_within}
-use Rattle.ceiling_kernel.proofs.Common.{work_of, PassesBy, CoversBy, response_by, task_named}
-use Rattle.ceiling_kernel.proofs.Common.{task_number, job_of, jobs_of, release_at, ready_of}
-use Rattle.ceiling_kernel.proofs.Common.{refusal_of}
+use Rattle.ceiling_kernel.specs.declared.trace.Release.{Release}
+use Rattle.ceiling_kernel.specs.Tick.{Node, Job, job_at, job_task, level_in_order}
+use Rattle.ceiling_kernel.specs.Tick.{is_inside, executed_before}
 use Rattle.ceiling_kernel.specs.Behaviours.{cut_at}
-use Rattle.ceiling_kernel.specs.Waits.{Overruns}
+use Rattle.ceiling_kernel.specs.Waits.{IsNode, AreLegalJobs, lateness_of, Overruns, NoOverrun}
+use Rattle.ceiling_kernel.specs.Bounds.{above_of, after_of, ready_within, work_of, PassesBy}
+use Rattle.ceiling_kernel.specs.Bounds.{CoversBy, response_by}
 use Rattle.ceiling_kernel.specs.Readings.{IsFinishAt}
-use Rattle.ceiling_kernel.specs.Releases.{runs_of}
+use Rattle.ceiling_kernel.specs.Releases.{task_named, task_number, runs_of, job_of, jobs_of}
+use Rattle.ceiling_kernel.specs.Releases.{release_at, ready_of, refusal_of}
 use Rattle.ceiling_kernel.proofs.NodeLaws.{IsSound, sound, after_is_above}
 use Rattle.ceiling_kernel.proofs.SectionLaws.{inside_from}
 use Rattle.ceiling_kernel.proofs.ReleaseLaws.{job_is, jobs_length}

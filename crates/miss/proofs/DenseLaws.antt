@@ -8,9 +8,9 @@ use Rattle.std.proofs.lemmas.Grind.{div_ceil_times}
 use Rattle.std.proofs.lemmas.Bool.{cases_eq, cases_lt, le-leb, lt-ltb, eq-eqb, ne_eqb}
 use Rattle.task_sheet.proofs.Common.{Task, IsValidSheet, no_task, task_at, IsTaskSet}
 use Rattle.task_sheet.proofs.Common.{releases_within}
-use Rattle.ceiling_kernel.proofs.Common.{Release, Job, job_at, lateness_of, ready_within}
-use Rattle.ceiling_kernel.proofs.Common.{task_named, task_number, job_of, jobs_of, release_at}
-use Rattle.ceiling_kernel.proofs.Common.{ready_of}
+use Rattle.ceiling_kernel.specs.declared.trace.Release.{Release}
+use Rattle.ceiling_kernel.proofs.Common.{Job, job_at, lateness_of, ready_within, task_named}
+use Rattle.ceiling_kernel.proofs.Common.{task_number, job_of, jobs_of, release_at, ready_of}
 use Rattle.ceiling_kernel.specs.Bounds.{is_ready_in}
 use Rattle.ceiling_kernel.proofs.ReleaseLaws.{job_is, jobs_length}
 use Rattle.ceiling_kernel.proofs.SumLaws.{total, total-sum}

@@ -5,13 +5,17 @@ use Rattle.std.proofs.Common.{true, false, arith}
 use Rattle.std.proofs.lemmas.Option.{none-some}
 use Rattle.std.proofs.lemmas.Bool.{cases_eq, cases_lt, true≢false}
 use Rattle.task_sheet.specs.Sheet.{task_at}
-use Rattle.ceiling_kernel.proofs.Common.{Release, JobRecord, Trace, RunFault, Node, Job, job_at}
-use Rattle.ceiling_kernel.proofs.Common.{executed_before, finish_before, IsNode, above_of, after_of}
-use Rattle.ceiling_kernel.proofs.Common.{CoversBy, task_number, jobs_of, release_at, ready_of}
-use Rattle.ceiling_kernel.proofs.Common.{refusal_of, no_record, records_from, Runs}
+use Rattle.ceiling_kernel.specs.declared.trace.Release.{Release}
+use Rattle.ceiling_kernel.specs.declared.trace.JobRecord.{JobRecord}
+use Rattle.ceiling_kernel.specs.declared.trace.Trace.{Trace}
+use Rattle.ceiling_kernel.specs.declared.trace.RunFault.{RunFault}
+use Rattle.ceiling_kernel.specs.declared.trace.RunFault.TheVariants as fault
+use Rattle.ceiling_kernel.proofs.Common.{Node, Job, job_at, executed_before, finish_before, IsNode}
+use Rattle.ceiling_kernel.proofs.Common.{above_of, after_of, CoversBy, task_number, jobs_of}
+use Rattle.ceiling_kernel.proofs.Common.{release_at, ready_of, refusal_of, no_record, records_from}
+use Rattle.ceiling_kernel.proofs.Common.{Runs}
 use Rattle.ceiling_kernel.specs.Readings.{IsFinishAt}
 use Rattle.ceiling_kernel.specs.Runs.{IsOverrun, IsFirstOverrun}
-use Rattle.ceiling_kernel.specs.declared.trace.RunFault.TheVariants as fault
 use Rattle.ceiling_kernel.proofs.ReleaseLaws.{read_at, job_is, jobs_length}
 use Rattle.ceiling_kernel.proofs.EndLaws.{some_executes, records_at}
 use Rattle.ceiling_kernel.proofs.FinishLaws.{finish_none, finish_some, finish_is, unfinished_is}

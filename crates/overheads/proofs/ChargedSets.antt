@@ -4,8 +4,9 @@ use Rattle.std.specs.List.{All, insert, remove}
 use Rattle.std.specs.List.Sorted.{IsStrictlySortedBy}
 use Rattle.std.proofs.lemmas.List.Elements.{All-from_recursion, recursion_from_All}
 use Rattle.task_sheet.proofs.Common.{Task, AreInterrupts, IsValidSheet, rank_cmp, IsByRank}
-use Rattle.task_sheet.proofs.Common.{same_name, AreDistinct, IsTaskSet, sheets_fault, Interrupt}
+use Rattle.task_sheet.proofs.Common.{same_name, AreDistinct, IsTaskSet, sheets_fault}
 use Rattle.task_sheet.specs.Sheet.{interrupted}
+use Rattle.task_sheet.specs.declared.node.Interrupt.{Interrupt}
 use Rattle.task_sheet.proofs.SetLaws.{no_fault}
 use Rattle.overheads.specs.Padding.{charged}
 use Rattle.overheads.proofs.MappedSets.{IsByRank-is}

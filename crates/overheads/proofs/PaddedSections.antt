@@ -4,8 +4,9 @@ use Rattle.std.proofs.Common.{get_or, take, refl, sym, ◌∙◌, ap, arith}
 use Rattle.std.proofs.Math.Nat.{mul-le-mul_right, zero-mul}
 use Rattle.std.proofs.lemmas.List.{take_more}
 use Rattle.std.proofs.lemmas.List.Sums.{sum_by-cons, sum_by_more_le}
-use Rattle.task_sheet.proofs.Common.{CriticalSection, Task, AreSections, IsValidSheet, no_overhead}
-use Rattle.task_sheet.proofs.Common.{calls, calls_in, Node}
+use Rattle.task_sheet.specs.Sheet.{CriticalSection, Task, AreSections, IsValidSheet, no_overhead}
+use Rattle.task_sheet.specs.Overheads.{calls, calls_in}
+use Rattle.task_sheet.specs.declared.node.Node.{Node}
 use Rattle.overheads.specs.Padding.{padded_section, padded_sections, padded_cost}
 
 -- ---- the calls

@@ -5,7 +5,8 @@ use Rattle.std.specs.List.{AllByRecursion}
 use Rattle.std.specs.Option.{option_or}
 use Rattle.std.proofs.lemmas.List.Elements.{All-from_recursion, recursion_from_All}
 use Rattle.task_sheet.proofs.Common.{Task, AreOverheads, IsValidSheet, no_overhead, no_task}
-use Rattle.task_sheet.proofs.Common.{task_at, IsByRank, IsTaskSet, Node}
+use Rattle.task_sheet.proofs.Common.{task_at, IsByRank, IsTaskSet}
+use Rattle.task_sheet.specs.declared.node.Node.{Node}
 use Rattle.overheads.specs.Padding.{padded_task, padded, task_fault, padding_fault, padded_by}
 use Rattle.overheads.specs.Padding.{fault_by, IsUnpadded, IsLighter}
 use Rattle.overheads.specs.declared.padding.PadFault.{PadFault}

@@ -3,8 +3,10 @@ use Rattle.std.proofs.Common.{◌≡◌, ℕ, zero, suc, ◌+◌, ◌-◌, ◌*�
 use Rattle.std.proofs.Common.{List, Some, None, refl, sym, arith}
 use Rattle.std.proofs.Math.Nat.{mul-le-mul_left}
 use Rattle.std.proofs.lemmas.Bool.{cases_Bool, ltb-false, ltb-true, le-ltb, lt-ltb}
-use Rattle.task_sheet.proofs.Common.{CriticalSection, Task, AreInterrupts, AreOverheads}
-use Rattle.task_sheet.proofs.Common.{IsValidSheet, no_overhead, Node, Interrupt}
+use Rattle.task_sheet.specs.Sheet.{CriticalSection, Task, AreInterrupts, AreOverheads, IsValidSheet}
+use Rattle.task_sheet.specs.Sheet.{no_overhead}
+use Rattle.task_sheet.specs.declared.node.Node.{Node}
+use Rattle.task_sheet.specs.declared.node.Interrupt.{Interrupt}
 use Rattle.overheads.specs.Padding.{padded_sections, padded_cost, whole_cost, padded_task}
 use Rattle.overheads.specs.Padding.{task_fault, IsLighter}
 use Rattle.overheads.specs.declared.padding.PadFault.TheVariants.{CostPastPeriod}

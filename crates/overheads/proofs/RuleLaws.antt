@@ -5,9 +5,11 @@ use Rattle.std.specs.Int.{div_ceil}
 use Rattle.std.proofs.lemmas.Grind.{common_steps}
 use Rattle.std.proofs.lemmas.Bool.{cases_Bool, cases_eq, eq-eqb, ne_eqb}
 use Rattle.std.proofs.Math.Nat.{mul-zero}
-use Rattle.task_sheet.proofs.Common.{Node, Interrupt, Task, no_task, task_at, Indexes, sum_below}
-use Rattle.task_sheet.proofs.Common.{releases_within, interrupt_within, interference_of}
-use Rattle.task_sheet.proofs.Common.{interrupts_of, interrupts_within, demand_of}
+use Rattle.task_sheet.specs.declared.node.Node.{Node}
+use Rattle.task_sheet.specs.declared.node.Interrupt.{Interrupt}
+use Rattle.task_sheet.proofs.Common.{Task, no_task, task_at, Indexes, sum_below, releases_within}
+use Rattle.task_sheet.proofs.Common.{interrupt_within, interference_of, interrupts_of}
+use Rattle.task_sheet.proofs.Common.{interrupts_within, demand_of}
 use Rattle.task_sheet.proofs.Below.{sum_below-both, sum_below-fits}
 use Rattle.task_sheet.proofs.TaskLaws.{valid_at}
 use Rattle.overheads.specs.Padding.{padded_cost, whole_cost, padded_task, padded, charged}

@@ -6,7 +6,8 @@ use Rattle.std.proofs.Math.Bool.{and-true}
 use Rattle.std.proofs.lemmas.Bool.{and_left, and_right, lt-ltb, le-ltb, le-leb, lt-leb}
 use Rattle.std.proofs.lemmas.List.{length-drop, get_or-drop}
 use Rattle.task_sheet.specs.Indexes.{sum_below}
-use Rattle.ceiling_kernel.proofs.Common.{no_record, JobRecord}
+use Rattle.ceiling_kernel.specs.Runs.{no_record}
+use Rattle.ceiling_kernel.specs.declared.trace.JobRecord.{JobRecord}
 use Rattle.pieces.specs.Bands.{job_of, is_of, joins, next_of, band_of, is_within, is_behind}
 use Rattle.pieces.specs.Bands.{holds_job}
 use Rattle.pieces.specs.Laws.{counted_at, CountOnce}

@@ -5,9 +5,10 @@ use Rattle.std.proofs.Common.{arith}
 use Rattle.std.specs.Option.{unwrap_or}
 use Rattle.std.proofs.lemmas.Bool.{cases_Bool, cases_lt}
 use Rattle.std.proofs.lemmas.Option.{none-some}
-use Rattle.ceiling_kernel.proofs.Common.{Slice, Node, Job, job_at, executed_before, picked}
-use Rattle.ceiling_kernel.proofs.Common.{finish_before, AreLongestRuns}
-use Rattle.ceiling_kernel.specs.Trace.{slices_of}
+use Rattle.ceiling_kernel.specs.declared.trace.Slice.{Slice}
+use Rattle.ceiling_kernel.specs.Tick.{Node, Job, job_at, executed_before, picked}
+use Rattle.ceiling_kernel.specs.Trace.{slices_of, finish_before}
+use Rattle.ceiling_kernel.specs.Readings.{AreLongestRuns}
 use Rattle.ceiling_kernel.proofs.FinishLaws.{grows_by, finish_is, unfinished_is}
 use Rattle.ceiling_kernel.proofs.MachineLaws.{works_of}
 use Rattle.ceiling_kernel.proofs.SliceLaws.{longest_runs}

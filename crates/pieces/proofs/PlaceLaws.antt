@@ -7,7 +7,7 @@ use Rattle.std.proofs.lemmas.Bool.{both_ways, cases_Bool, cases_lt, cases_order,
 use Rattle.std.proofs.lemmas.Bool.{and_from, and_left, and_right, not-true, lt-ltb, le-leb}
 use Rattle.std.proofs.lemmas.Bool.{ltb-true, leb-true}
 use Rattle.task_sheet.proofs.NameLaws.{same_own, same_is}
-use Rattle.ceiling_kernel.proofs.Common.{JobRecord}
+use Rattle.ceiling_kernel.specs.declared.trace.JobRecord.{JobRecord}
 use Rattle.pieces.specs.Bands.{job_of, is_of, last_of, is_close, joins, begins, next_from, next_of}
 use Rattle.pieces.specs.Bands.{is_within, is_behind, holds_job}
 

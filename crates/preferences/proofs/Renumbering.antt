@@ -13,9 +13,8 @@ use Rattle.task_sheet.proofs.Common.{with_index, sum_below, greatest_below, some
 use Rattle.task_sheet.proofs.Common.{reaches, greatest_of, longest_reached, blocking_of}
 use Rattle.task_sheet.proofs.Common.{interference_of, interrupts_of, interrupts_within, demand_of}
 use Rattle.task_sheet.proofs.Common.{limit_of, must_outrank, is_bound, Stands, AllStand}
-use Rattle.task_sheet.proofs.Common.{IsPassingOrder, IsFeasible, Preference}
+use Rattle.task_sheet.proofs.Common.{IsPassingOrder, IsFeasible}
 use Rattle.task_sheet.specs.Sheet.{weighing}
-use Rattle.task_sheet.specs.declared.prefer.Preference.TheVariants.{Weights, Deadline}
 use Rattle.preferences.specs.Preferences.{order_names, KeepsOrders, longer_limits, reweighed_in}
 use Rattle.preferences.specs.Preferences.{reweighed, unweighed, IsPreferred}
 use Rattle.task_sheet.proofs.Below.{greatest_below-le, le-greatest_below, some_below-at}
@@ -26,6 +25,8 @@ use Rattle.std.proofs.lemmas.List.{get_or-set_same, get_or-set_other, length-set
 use Rattle.std.proofs.lemmas.List.Edits.{swap_is, length-swap}
 use Rattle.std.proofs.lemmas.List.Sorted.{IsPermutation-refl, IsPermutation-map}
 use Rattle.std.proofs.lemmas.List.Sorted.{IsPermutation-keeps}
+use Rattle.task_sheet.specs.declared.prefer.Preference.{Preference}
+use Rattle.task_sheet.specs.declared.prefer.Preference.TheVariants.{Weights, Deadline}
 
 -- a renumbering of the tasks below n that turns itself back
 pub record IsRenumbering (n : ℕ) (turn : ℕ → ℕ) : Type 0 where

@@ -6,11 +6,12 @@ use Rattle.std.proofs.lemmas.List.{length-map, map_more}
 use Rattle.std.proofs.lemmas.List.Elements.{All-from_recursion, recursion_from_All}
 use Rattle.std.proofs.lemmas.List.Sorted.{IsPermutation-refl, All-permutation}
 use Rattle.task_sheet.proofs.Common.{Task, IsTask, AllTasks, IsByRank, same_name, AreDistinct}
-use Rattle.task_sheet.proofs.Common.{IsTaskSet, sheets_fault, limit_of, Preference}
+use Rattle.task_sheet.proofs.Common.{IsTaskSet, sheets_fault, limit_of}
 use Rattle.task_sheet.specs.Sheet.{weighing}
-use Rattle.task_sheet.specs.declared.prefer.Preference.TheVariants.{Weights, Deadline}
 use Rattle.task_sheet.proofs.SetLaws.{no_fault, by_rank_one}
 use Rattle.preferences.specs.Preferences.{longer_limits, reweighed_in, reweighed, IsPreferred}
+use Rattle.task_sheet.specs.declared.prefer.Preference.{Preference}
+use Rattle.task_sheet.specs.declared.prefer.Preference.TheVariants.{Weights, Deadline}
 
 -- one sheet more
 pub reweighed_more : (U xs ys : List Task) (i : ℕ) (x y : Task) → i < length U → x ≡ get_or U i x

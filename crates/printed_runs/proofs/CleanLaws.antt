@@ -8,7 +8,9 @@ use Rattle.task_sheet.proofs.TaskLaws.{AllTasks-from_set}
 use Rattle.assignment.specs.Places.{PlaceData}
 use Rattle.assignment.specs.Placings.{IsBestPlacing, tasks_of_places}
 use Rattle.explain.proofs.AccountLaws.{best-in_time}
-use Rattle.ceiling_kernel.proofs.Common.{node_in, Runs, Release, Trace}
+use Rattle.ceiling_kernel.proofs.Common.{node_in, Runs}
+use Rattle.ceiling_kernel.specs.declared.trace.Release.{Release}
+use Rattle.ceiling_kernel.specs.declared.trace.Trace.{Trace}
 use Rattle.trace_text.specs.Faults.{IsTraceIn, trace_fault}
 use Rattle.trace_text.specs.declared.fault.TraceFault.{TraceFault}
 use Rattle.trace_text.specs.declared.fault.TraceFault.TheVariants as fault

@@ -17,7 +17,9 @@ use Rattle.lines.proofs.NumberLaws.{number_again}
 use Rattle.lines.proofs.Parts.{line_cut}
 use Rattle.scripted.proofs.Spelled.{Lacks, cut_at, joined_again, joined_lacks, name_lacks}
 use Rattle.scripted.proofs.Spelled.{number_lacks}
-use Rattle.ceiling_kernel.proofs.Common.{no_record, JobRecord, Slice}
+use Rattle.ceiling_kernel.specs.Runs.{no_record}
+use Rattle.ceiling_kernel.specs.declared.trace.JobRecord.{JobRecord}
+use Rattle.ceiling_kernel.specs.declared.trace.Slice.{Slice}
 use Rattle.trace_text.specs.Rows.{finish_in, rows_from, trace_row_in}
 use Rattle.trace_text.specs.declared.rows.TraceRow.{TraceRow}
 use Rattle.trace_text.specs.declared.rows.TraceRow.TheVariants as row

@@ -11,8 +11,12 @@ use Rattle.task_sheet.proofs.TaskLaws.{valid_at}
 use Rattle.ceiling_kernel.proofs.Common.{Job, Node, executed_before, job_at, node_in, picked}
 use Rattle.ceiling_kernel.proofs.Common.{finish_before, AreLongestRuns, is_past, jobs_of}
 use Rattle.ceiling_kernel.proofs.Common.{no_release, ready_of, release_at, task_number, Runs}
-use Rattle.ceiling_kernel.proofs.Common.{record_of, records_from, JobRecord, Release, Slice, Trace}
+use Rattle.ceiling_kernel.proofs.Common.{record_of, records_from}
+use Rattle.ceiling_kernel.specs.declared.trace.JobRecord.{JobRecord}
+use Rattle.ceiling_kernel.specs.declared.trace.Release.{Release}
 use Rattle.ceiling_kernel.specs.declared.trace.RunFault.TheVariants as fault
+use Rattle.ceiling_kernel.specs.declared.trace.Slice.{Slice}
+use Rattle.ceiling_kernel.specs.declared.trace.Trace.{Trace}
 use Rattle.ceiling_kernel.proofs.AcceptLaws.{IsAccepted, accepted, known_from, none_passes}
 use Rattle.ceiling_kernel.proofs.AcceptLaws.{sorted_from}
 use Rattle.ceiling_kernel.proofs.EndLaws.{records_at, some_executes}

@@ -4,7 +4,9 @@ use Rattle.std.proofs.Common.{List, [], ◌∷◌, length, map, refl, ◌∙◌,
 use Rattle.std.specs.Prelude.{MatchResult, IfOk}
 use Rattle.std.proofs.lemmas.List.{length-map, get_or_default}
 use Rattle.task_sheet.proofs.Common.{Task, IsValidSheet, no_task, task_at, IsTaskSet}
-use Rattle.ceiling_kernel.proofs.Common.{Release, RunFault, task_named, IsRefusal, refusal_of}
+use Rattle.ceiling_kernel.specs.declared.trace.Release.{Release}
+use Rattle.ceiling_kernel.specs.declared.trace.RunFault.{RunFault}
+use Rattle.ceiling_kernel.proofs.Common.{task_named, IsRefusal, refusal_of}
 use Rattle.release_list.specs.declared.stream.Stream.{Stream}
 use Rattle.release_list.specs.Streams.{IsStream, no_stream, stream_at, list_of, job_release}
 use Rattle.release_list.specs.Streams.{count_refusal}

@@ -4,7 +4,8 @@ use Rattle.std.proofs.Common.{◌∙◌, ap, subst, arith}
 use Rattle.std.specs.Prelude.{unwrap_or}
 use Rattle.std.proofs.lemmas.Bool.{cases_Bool}
 use Rattle.task_sheet.proofs.Common.{Task, IsValidSheet, no_task, task_at, IsTaskSet}
-use Rattle.ceiling_kernel.proofs.Common.{Release, lateness_of, task_named, task_number, refusal_of}
+use Rattle.ceiling_kernel.specs.declared.trace.Release.{Release}
+use Rattle.ceiling_kernel.proofs.Common.{lateness_of, task_named, task_number, refusal_of}
 use Rattle.release_list.proofs.TaskNumbers.{found}
 use Rattle.release_list.proofs.InLaws.{In, Pairs, pairs_with}
 use Rattle.release_list.proofs.Unrefused.{Executes, IsLegal, IsAfter, unrefused}

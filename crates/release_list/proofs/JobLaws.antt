@@ -5,7 +5,8 @@ use Rattle.std.proofs.Common.{if◌then◌else◌, arith}
 use Rattle.std.specs.List.{filter}
 use Rattle.std.proofs.lemmas.Bool.{and_parts, and_from, cases_eq, ltb-true, lt-ltb}
 use Rattle.release_list.specs.declared.stream.Stream.{Stream}
-use Rattle.ceiling_kernel.proofs.Common.{Release, ready_of, no_release, release_at}
+use Rattle.ceiling_kernel.specs.declared.trace.Release.{Release}
+use Rattle.ceiling_kernel.proofs.Common.{ready_of, no_release, release_at}
 use Rattle.release_list.specs.Streams.{no_stream, stream_at, arrives, late_at, release_of}
 use Rattle.release_list.specs.Streams.{is_listed, releases_at, releases_before, list_of, arrival_of}
 use Rattle.release_list.specs.Streams.{job_release}

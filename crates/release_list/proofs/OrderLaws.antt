@@ -7,7 +7,8 @@ use Rattle.std.specs.List.Sorted.{ties}
 use Rattle.std.specs.Ordering.{is_lt, nat_cmp}
 use Rattle.std.proofs.lemmas.Bool.{cases_eq, cases_lt, eq-eqb, eqb-true, ne_eqb, lt-ltb, le-ltb}
 use Rattle.std.proofs.lemmas.Bool.Decides.{nat_tests}
-use Rattle.ceiling_kernel.proofs.Common.{Release, no_release, release_at}
+use Rattle.ceiling_kernel.specs.declared.trace.Release.{Release}
+use Rattle.ceiling_kernel.proofs.Common.{no_release, release_at}
 use Rattle.release_list.specs.Random.{by_time}
 use Rattle.release_list.proofs.InLaws.{In, here, there, Pairs, none, more, place_of, pairs_either}
 use Rattle.release_list.proofs.InLaws.{pairs_with, in_front, in_back, in_either, pairs_append}

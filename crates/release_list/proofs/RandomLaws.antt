@@ -7,9 +7,10 @@ use Rattle.std.proofs.lemmas.Bool.{cases_eq, le-ltb, ltb-true}
 use Rattle.std.proofs.lemmas.List.{append-nil, length-append}
 use Rattle.task_sheet.specs.Sheet.{Task, task_at}
 use Rattle.task_sheet.proofs.TaskLaws.{task_read}
-use Rattle.ceiling_kernel.proofs.Common.{Release, RunFault, ready_of, IsRefusal}
-use Rattle.ceiling_kernel.specs.Releases.{refuse_if}
+use Rattle.ceiling_kernel.specs.declared.trace.Release.{Release}
+use Rattle.ceiling_kernel.specs.declared.trace.RunFault.{RunFault}
 use Rattle.ceiling_kernel.specs.declared.trace.RunFault.TheVariants as fault
+use Rattle.ceiling_kernel.specs.Releases.{ready_of, refuse_if, IsRefusal}
 use Rattle.release_list.specs.Random.{word_after, word_before, drawn, late_after, runs_after}
 use Rattle.release_list.specs.Random.{third_after, gap_after, word_of, arrival_at, random_release}
 use Rattle.release_list.specs.Random.{if_ready, jobs_within, jobs_by_rank, all_jobs, IsRandomJob}

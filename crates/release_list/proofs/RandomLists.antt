@@ -4,8 +4,9 @@ use Rattle.std.proofs.Common.{[], ◌∷◌, length, sym, ◌∙◌, ap, subst, 
 use Rattle.std.specs.Prelude.{unwrap_or}
 use Rattle.std.proofs.lemmas.Bool.{cases_Bool, cases_eq, lt-ltb}
 use Rattle.task_sheet.proofs.Common.{Task, IsValidSheet, no_task, task_at, IsTaskSet}
-use Rattle.ceiling_kernel.proofs.Common.{Release, lateness_of, task_named, task_number, ready_of}
-use Rattle.ceiling_kernel.proofs.Common.{no_release, refusal_of}
+use Rattle.ceiling_kernel.specs.declared.trace.Release.{Release}
+use Rattle.ceiling_kernel.proofs.Common.{lateness_of, task_named, task_number, ready_of, no_release}
+use Rattle.ceiling_kernel.proofs.Common.{refusal_of}
 use Rattle.release_list.specs.Random.{word_after, word_before, drawn, late_after, runs_after}
 use Rattle.release_list.specs.Random.{word_of, random_release, jobs_within, jobs_by_rank, all_jobs}
 use Rattle.release_list.specs.Random.{random_of, IsRandomJob, IsRandomList}

@@ -16,7 +16,7 @@ use Rattle.lines.specs.Words.{number_in, name_in, words}
 use Rattle.lines.proofs.NumberLaws.{number_again}
 use Rattle.lines.proofs.Parts.{line_cut}
 use Rattle.lines.proofs.Lacks.{decimal_lacks, name_lacks}
-use Rattle.ceiling_kernel.proofs.Common.{Release}
+use Rattle.ceiling_kernel.specs.declared.trace.Release.{Release}
 use Rattle.release_list.specs.Text.{late_words, runs_words, release_line, release_lines, list_lines}
 use Rattle.release_list.specs.Reading.{until_in, rest_in, release_in, releases_from, IsWritable}
 use Rattle.release_list.specs.Reading.{ReadsBack}

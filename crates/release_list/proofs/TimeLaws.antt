@@ -7,9 +7,10 @@ use Rattle.std.proofs.lemmas.List.{length-append, append-nil, drop_more}
 use Rattle.std.proofs.lemmas.Bool.{and_left, cases_eq, cases_lt, lt-ltb, le-ltb}
 use Rattle.std.proofs.lemmas.Option.{none-some}
 use Rattle.release_list.specs.declared.stream.Stream.{Stream}
-use Rattle.ceiling_kernel.proofs.Common.{Release, RunFault, IsRefusal}
-use Rattle.ceiling_kernel.specs.Releases.{refuse_if}
+use Rattle.ceiling_kernel.specs.declared.trace.Release.{Release}
+use Rattle.ceiling_kernel.specs.declared.trace.RunFault.{RunFault}
 use Rattle.ceiling_kernel.specs.declared.trace.RunFault.TheVariants as fault
+use Rattle.ceiling_kernel.specs.Releases.{refuse_if, IsRefusal}
 use Rattle.release_list.specs.Streams.{stream_at, arrives, late_at, release_of, is_listed}
 use Rattle.release_list.specs.Streams.{releases_at, releases_before, list_of, count_refusal}
 

@@ -7,8 +7,9 @@ use Rattle.std.proofs.lemmas.List.Folds.{list_any_none}
 use Rattle.std.proofs.lemmas.Bool.{and_left, and_right, cases_eq, le-ltb, lt-leb, ne_eqb, or_from}
 use Rattle.task_sheet.proofs.Common.{Task, task_at, IsTaskSet}
 use Rattle.task_sheet.proofs.Below.{some_below-none}
-use Rattle.ceiling_kernel.proofs.Common.{Release, lateness_of, task_named, task_number, jobs_of}
-use Rattle.ceiling_kernel.proofs.Common.{ready_of, first_where, no_release, release_at, is_unsorted}
+use Rattle.ceiling_kernel.specs.declared.trace.Release.{Release}
+use Rattle.ceiling_kernel.proofs.Common.{lateness_of, task_named, task_number, jobs_of, ready_of}
+use Rattle.ceiling_kernel.proofs.Common.{first_where, no_release, release_at, is_unsorted}
 use Rattle.ceiling_kernel.proofs.Common.{is_unknown, is_too_soon, is_too_late, is_outside_cost}
 use Rattle.ceiling_kernel.proofs.Common.{is_past, refusal_of}
 use Rattle.ceiling_kernel.specs.Releases.{is_soon_job}

@@ -1,7 +1,8 @@
 -- What timers and interrupts take, task by task and interrupt by interrupt.
 use Rattle.std.proofs.Common.{◌≡◌, ℕ, ◌+◌, ◌≤◌, List, length, refl, arith}
-use Rattle.task_sheet.proofs.Common.{Interrupt, Task, IsInterrupt, task_at, sum_below}
-use Rattle.task_sheet.proofs.Common.{interrupt_within, interrupts_of, interrupts_within}
+use Rattle.task_sheet.specs.declared.node.Interrupt.{Interrupt}
+use Rattle.task_sheet.proofs.Common.{Task, IsInterrupt, task_at, sum_below, interrupt_within}
+use Rattle.task_sheet.proofs.Common.{interrupts_of, interrupts_within}
 use Rattle.response_time.proofs.Shares.{jobs-fit}
 
 -- stands past the end of a task's interrupts

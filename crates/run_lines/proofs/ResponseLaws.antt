@@ -18,9 +18,11 @@ use Rattle.explain.specs.Accounts.{AreInTime}
 use Rattle.explain.proofs.AccountLaws.{best-in_time}
 use Rattle.ceiling_kernel.proofs.Common.{Job, Node, node_in, IsNode, PassesBy, above_of, after_of}
 use Rattle.ceiling_kernel.proofs.Common.{response_by, jobs_of, release_at, task_named, task_number}
-use Rattle.ceiling_kernel.proofs.Common.{Runs, no_record, record_of, records_from, JobRecord}
-use Rattle.ceiling_kernel.proofs.Common.{Release, Trace}
+use Rattle.ceiling_kernel.proofs.Common.{Runs, no_record, record_of, records_from}
 use Rattle.ceiling_kernel.specs.Runs.{MeetsBounds}
+use Rattle.ceiling_kernel.specs.declared.trace.JobRecord.{JobRecord}
+use Rattle.ceiling_kernel.specs.declared.trace.Release.{Release}
+use Rattle.ceiling_kernel.specs.declared.trace.Trace.{Trace}
 use Rattle.ceiling_kernel.proofs.BoundLaws.{responses_law}
 use Rattle.ceiling_kernel.proofs.EndLaws.{bounded_trace, records_at, some_executes}
 use Rattle.ceiling_kernel.proofs.FinishLaws.{finish_is}

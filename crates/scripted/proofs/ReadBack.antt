@@ -12,12 +12,13 @@ use Rattle.std.proofs.lemmas.Fmt.{decimal_digit}
 use Rattle.std.proofs.lemmas.Slice.Eq.{bytes_eq-Decides}
 use Rattle.std.proofs.lemmas.List.{append-nil}
 use Rattle.std.proofs.lemmas.List.Elements.{recursion_from_All}
-use Rattle.task_sheet.proofs.Common.{IsName, is_name_byte, Node, Interrupt, CriticalSection, Named}
-use Rattle.task_sheet.proofs.Common.{Task, AreOverheads, AreSections, IsInterrupt, IsValidSheet}
-use Rattle.task_sheet.proofs.Common.{no_overhead, task_of, IsTaskSet}
-use Rattle.task_sheet.specs.Sheet.{OutranksData, AllOthers}
-use Rattle.task_sheet.specs.Sheet.{MayOutrank}
-use Rattle.task_sheet.specs.Sheet.{names_said, same_node, with_jitter}
+use Rattle.task_sheet.specs.Name.{IsName, is_name_byte}
+use Rattle.task_sheet.specs.declared.node.Node.{Node}
+use Rattle.task_sheet.specs.declared.node.Interrupt.{Interrupt}
+use Rattle.task_sheet.specs.Sheet.{CriticalSection, OutranksData, Named, AllOthers, Task}
+use Rattle.task_sheet.specs.Sheet.{MayOutrank, AreOverheads, AreSections, IsInterrupt, IsValidSheet}
+use Rattle.task_sheet.specs.Sheet.{names_said, no_overhead, same_node, task_of, with_jitter}
+use Rattle.task_sheet.specs.TaskSet.{IsTaskSet}
 use Rattle.task_sheet.proofs.SheetLaws.{sheet_valid, outranks_valid}
 use Rattle.lines.specs.Lines.{kept_from, lines_of}
 use Rattle.lines.specs.Steps.{◌>>=◌, each_in}

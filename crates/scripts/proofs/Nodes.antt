@@ -4,9 +4,11 @@ use Rattle.std.proofs.Common.{Err, refl, ap, arith, ◌<◌, ◌==◌, length}
 use Rattle.std.specs.List.{list_all, AllByRecursion, slice_split}
 use Rattle.std.proofs.lemmas.Bool.Decides.{nat_tests}
 use Rattle.std.proofs.lemmas.List.Elements.{All-from_recursion, recursion_from_All}
-use Rattle.task_sheet.proofs.Common.{Node, Interrupt, AreOverheads, IsInterrupt, AreInterrupts}
-use Rattle.task_sheet.specs.TreeFault.{is_interrupt}
+use Rattle.task_sheet.specs.declared.node.Node.{Node}
+use Rattle.task_sheet.specs.declared.node.Interrupt.{Interrupt}
+use Rattle.task_sheet.specs.Sheet.{AreOverheads, IsInterrupt, AreInterrupts}
 use Rattle.scripts.specs.declared.line.RowFault.TheVariants.{Bad}
+use Rattle.task_sheet.specs.TreeFault.{is_interrupt}
 use Rattle.scripts.specs.Rows.{are_interrupts, are_overheads, node_of, pair_of}
 use Rattle.std.proofs.lemmas.List.Splits.{length-slice_split}
 

@@ -33,6 +33,3 @@ pub use Rattle.task_sheet.specs.Tree.{all_tables, tables_in}
 pub use Rattle.task_sheet.specs.Verdicts.{Admitted, AllFailures, AllLevels, FailureData, Infeasible}
 pub use Rattle.task_sheet.specs.Verdicts.{IsBestOrder, IsLeastOver, IsStuck, IsVerdictOf, LevelData}
 pub use Rattle.task_sheet.specs.Verdicts.{ReasonData, VerdictData, order_of, tasks_of}
-pub use Rattle.task_sheet.specs.declared.node.Interrupt.{Interrupt}
-pub use Rattle.task_sheet.specs.declared.node.Node.{Node}
-pub use Rattle.task_sheet.specs.declared.prefer.Preference.{Preference}

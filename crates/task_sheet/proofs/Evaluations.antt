@@ -4,12 +4,12 @@ use Rattle.std.proofs.Common.{add_assoc, [], ◌∷◌, length, sum_by, nat_lt, 
 use Rattle.std.proofs.lemmas.Bool.Decides.{nat_tests}
 use Rattle.std.proofs.lemmas.List.Sums.{sum_by-cons}
 use Rattle.std.proofs.lemmas.Bool.{cases_Bool, cases_eq, cases_lt, or_parts}
-use Rattle.task_sheet.proofs.Common.{Interrupt, Task, AllTasks, no_task, task_at, Indexes}
-use Rattle.task_sheet.proofs.Common.{sum_below, demand_of, releases_within, interrupt_within}
-use Rattle.task_sheet.proofs.Common.{interrupts_of, interrupts_within}
+use Rattle.task_sheet.specs.declared.node.Interrupt.{Interrupt}
+use Rattle.task_sheet.specs.Sheet.{Task, AllTasks, no_task, task_at}
+use Rattle.task_sheet.specs.Indexes.{Indexes, sum_below}
 use Rattle.task_sheet.specs.Responses.{iterate}
-use Rattle.task_sheet.specs.Demand.{jobs_within}
-use Rattle.task_sheet.specs.Demand.{counts, later_releases}
+use Rattle.task_sheet.specs.Demand.{demand_of, jobs_within, releases_within, interrupt_within}
+use Rattle.task_sheet.specs.Demand.{interrupts_of, interrupts_within, counts, later_releases}
 use Rattle.task_sheet.specs.Demand.{later_interrupts, evaluation_bound}
 use Rattle.task_sheet.proofs.Below.{sum_below-le, sum_below-both}
 use Rattle.task_sheet.proofs.Releases.{div_ceil-mono, releases-mono}

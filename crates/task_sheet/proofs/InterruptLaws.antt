@@ -7,8 +7,9 @@ use Rattle.std.proofs.lemmas.List.Elements.{All-from_get_or}
 use Rattle.std.proofs.lemmas.List.Folds.{list_any_at, list_any_none}
 use Rattle.std.proofs.lemmas.List.Sums.{sum_by-le, sum_by-le-sum_by}
 use Rattle.std.proofs.Math.Nat.{mul-le-mul_right, mul-zero}
-use Rattle.task_sheet.proofs.Common.{Interrupt, Task, AllTasks, IsInterrupt, IsValidSheet, no_task}
-use Rattle.task_sheet.proofs.Common.{task_at, IsTaskSet, Indexes, releases_within, blocking_of}
+use Rattle.task_sheet.specs.declared.node.Interrupt.{Interrupt}
+use Rattle.task_sheet.proofs.Common.{Task, AllTasks, IsInterrupt, IsValidSheet, no_task, task_at}
+use Rattle.task_sheet.proofs.Common.{IsTaskSet, Indexes, releases_within, blocking_of}
 use Rattle.task_sheet.proofs.Common.{interference_within, interrupt_within, interrupts_of}
 use Rattle.task_sheet.proofs.Common.{interrupts_within, demand_of}
 use Rattle.task_sheet.specs.Demand.{interrupts_some, has_interrupts, IsUninterrupted}

@@ -3,7 +3,8 @@ use Rattle.std.proofs.Common.{◌≡◌, ℕ, zero, suc, ◌+◌, ◌<◌, ◌�
 use Rattle.std.proofs.Common.{sym, ◌∙◌, ap, arith}
 use Rattle.std.proofs.Math.Nat.{mul-le-mul_left}
 use Rattle.std.proofs.lemmas.List.Sums.{sum_by_more}
-use Rattle.task_sheet.proofs.Common.{Node, CriticalSection, AreSections, calls, calls_in}
+use Rattle.task_sheet.specs.declared.node.Node.{Node}
+use Rattle.task_sheet.proofs.Common.{CriticalSection, AreSections, calls, calls_in}
 
 pub calls-more : (node : Node) (xs : List CriticalSection) (i : ℕ) (x : CriticalSection)
     → i < length xs → x ≡ get_or xs i x

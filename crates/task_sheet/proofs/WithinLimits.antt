@@ -8,16 +8,18 @@ use Rattle.std.proofs.lemmas.List.Elements.{All-from_recursion}
 use Rattle.std.specs.List.{AllByRecursion}
 use Rattle.std.specs.Option.{option_or}
 use Rattle.toml.specs.Data.{Data, Members, as_table}
-use Rattle.task_sheet.proofs.Common.{Task, IsInterrupt, AreInterrupts, AreOverheads, Node}
-use Rattle.task_sheet.proofs.Common.{Interrupt, Preference}
+use Rattle.task_sheet.specs.Sheet.{Task, IsInterrupt, AreInterrupts, AreOverheads}
 use Rattle.task_sheet.specs.Tree.{value_at, number_at, tables_at, only_keys, root_keys}
 use Rattle.task_sheet.specs.Tree.{interrupt_keys, node_at, tree_node, interrupt_at, tree_interrupts}
 use Rattle.task_sheet.specs.TreeFault.{unless, node_kinds_fault, numbers_fault, table_fault}
 use Rattle.task_sheet.specs.TreeFault.{overheads_fault, is_interrupt, says_interrupt, bad_interrupt}
 use Rattle.task_sheet.specs.TreeFault.{interrupts_fault, prefer_fault, tree_fault}
 use Rattle.task_sheet.specs.ReadsSet.{AreWithinLimits, SaysDocument}
-use Rattle.task_sheet.specs.declared.read.SetFault.{SetFault}
 use Rattle.task_sheet.specs.declared.keys.Key.TheVariants as key
+use Rattle.task_sheet.specs.declared.node.Node.{Node}
+use Rattle.task_sheet.specs.declared.node.Interrupt.{Interrupt}
+use Rattle.task_sheet.specs.declared.prefer.Preference.{Preference}
+use Rattle.task_sheet.specs.declared.read.SetFault.{SetFault}
 use Rattle.task_sheet.specs.declared.read.SetFault.TheVariants as fault
 
 neither : (o p : Option SetFault) → option_or o p ≡ None → (o ≡ None) × (p ≡ None)

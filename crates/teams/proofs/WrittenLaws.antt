@@ -6,8 +6,10 @@ use Rattle.std.proofs.Common.{arith, Result, Err, refl}
 use Rattle.std.proofs.lemmas.List.Elements.{All-nil, All-append}
 use Rattle.std.specs.List.{AllByRecursion}
 use Rattle.std.specs.Option.{option_or}
-use Rattle.task_sheet.proofs.Common.{Task, AreOverheads, IsInterrupt, Node, Interrupt}
+use Rattle.task_sheet.specs.Sheet.{Task, AreOverheads, IsInterrupt}
 use Rattle.task_sheet.specs.ReadsSet.{AreWithinLimits}
+use Rattle.task_sheet.specs.declared.node.Node.{Node}
+use Rattle.task_sheet.specs.declared.node.Interrupt.{Interrupt}
 use Rattle.task_sheet.specs.declared.read.Document.{Document}
 use Rattle.task_sheet.proofs.WithinLimits.{says_within}
 use Rattle.teams.specs.Agreeing.{first_saying, interrupts_by, node_by, said_by}

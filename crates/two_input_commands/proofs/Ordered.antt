@@ -3,7 +3,9 @@ use Rattle.std.specs.Prelude.{IfOk}
 use Rattle.std.proofs.Common.{◌≡◌, ◌∙◌, ◌<◌, ℕ, false, List, [], ◌∷◌, length, Result, Ok, Err, inr}
 use Rattle.std.proofs.Common.{refl, sym, ap, ap₂, subst, arith}
 use Rattle.task_sheet.proofs.Common.{Task, IsTaskSet, among, IsOrder}
-use Rattle.ceiling_kernel.proofs.Common.{Runs, node_in, Release, Trace}
+use Rattle.ceiling_kernel.proofs.Common.{Runs, node_in}
+use Rattle.ceiling_kernel.specs.declared.trace.Release.{Release}
+use Rattle.ceiling_kernel.specs.declared.trace.Trace.{Trace}
 use Rattle.judge.specs.Faults.{IsSettingsFault, rows_fault}
 use Rattle.judge.specs.Node.{IsOrderOfRows}
 use Rattle.judge.specs.Judgements.{AllJudged, IsJudgementOf, order_judged}

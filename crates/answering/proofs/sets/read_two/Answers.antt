@@ -1,7 +1,7 @@
 use Rattle.std.proofs.Common.{ℕ, List, Option, Result, Err, MatchResult, Vec, rules, subst}
 use Rattle.std.specs.declared.alloc.Global.{Global}
 use Rattle.streams.specs.Inputs.{IsReadFrom}
-use Rattle.task_sheet.proofs.Common.{Preference}
+use Rattle.task_sheet.specs.declared.prefer.Preference.{Preference}
 use Rattle.task_sheet.specs.declared.set.TaskSet.{TaskSet}
 use Rattle.owners.specs.declared.owner.Owner.{Owner}
 use Rattle.teams.specs.ReadsText.{ReadsText}

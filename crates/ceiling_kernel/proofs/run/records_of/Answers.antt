@@ -1,5 +1,6 @@
 use Rattle.std.proofs.Common.{ℕ, List, ◌++◌, ◌∷◌, [], Option, ap₂, sym, ◌∙◌}
-use Rattle.ceiling_kernel.proofs.Common.{JobRecord, jobs_of}
+use Rattle.ceiling_kernel.specs.declared.trace.JobRecord.{JobRecord}
+use Rattle.ceiling_kernel.proofs.Common.{jobs_of}
 use Rattle.ceiling_kernel.proofs.ReleaseLaws.{records-next}
 use Rattle.ceiling_kernel.proofs.run.records_of.Goals as goal
 

@@ -1,6 +1,7 @@
 use Rattle.std.proofs.Common.{◌≡◌, ◌+◌, ◌*◌, ◌≤◌, sum_by, length, ◌∙◌, ap, arith}
 use Rattle.std.proofs.lemmas.List.Sums.{sum_by-take-le}
-use Rattle.task_sheet.proofs.Common.{Node, releases_within, interrupt_within}
+use Rattle.task_sheet.specs.declared.node.Node.{Node}
+use Rattle.task_sheet.specs.Demand.{releases_within, interrupt_within}
 use Rattle.task_sheet.proofs.InterruptLaws.{interrupts_of-fits}
 use Rattle.cert_checker.proofs.work.interrupts_of.Goals as goal
 

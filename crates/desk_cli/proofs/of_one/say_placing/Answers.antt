@@ -1,5 +1,6 @@
 use Rattle.std.proofs.Common.{ℕ, List, Option, Ok, Err, inl, inr, string_bytes}
-use Rattle.task_sheet.proofs.Common.{Task, Preference}
+use Rattle.task_sheet.specs.Sheet.{Task}
+use Rattle.task_sheet.specs.declared.prefer.Preference.{Preference}
 use Rattle.assignment.specs.declared.placing.Placing.{Placing}
 use Rattle.set_commands.specs.Admit.{Places, SaysPlacing}
 use Rattle.answering.specs.Chosen.{base_of, preference_of}

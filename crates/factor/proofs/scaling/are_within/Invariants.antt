@@ -1,5 +1,5 @@
 use Rattle.std.proofs.Common.{ℕ, ◌<◌, ◌≤◌, get_or}
-use Rattle.task_sheet.proofs.Common.{Interrupt}
+use Rattle.task_sheet.specs.declared.node.Interrupt.{Interrupt}
 use Rattle.factor.specs.Factors.{thousandths}
 use Rattle.factor.proofs.scaling.are_within.Given as goal
 

@@ -1,5 +1,6 @@
 use Rattle.std.proofs.Common.{◌≡◌, ◌∙◌, sym, ap}
-use Rattle.ceiling_kernel.proofs.Common.{Release, no_release, release_at, task_number}
+use Rattle.ceiling_kernel.specs.declared.trace.Release.{Release}
+use Rattle.ceiling_kernel.proofs.Common.{no_release, release_at, task_number}
 use Rattle.ceiling_kernel.proofs.ReleaseLaws.{read_at}
 use Rattle.miss.proofs.RanLaws.{each_more}
 use Rattle.miss.proofs.reaching.first_of.Goals as goal

@@ -1,5 +1,6 @@
 use Rattle.std.proofs.Common.{List, Err, length, ap, subst, arith}
-use Rattle.ceiling_kernel.proofs.Common.{Release, Runs, Node, node_in}
+use Rattle.ceiling_kernel.specs.declared.trace.Release.{Release}
+use Rattle.ceiling_kernel.proofs.Common.{Runs, Node, node_in}
 use Rattle.miss.proofs.MemberLaws.{above_known}
 use Rattle.miss.proofs.RanLaws.{trace_length, stopped, has_job, ran}
 use Rattle.miss.proofs.reaching.reach_in.Goals as goal

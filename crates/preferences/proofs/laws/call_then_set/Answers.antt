@@ -1,5 +1,5 @@
 use Rattle.std.proofs.Common.{Option, None, refl, sym, subst}
-use Rattle.task_sheet.proofs.Common.{Preference}
+use Rattle.task_sheet.specs.declared.prefer.Preference.{Preference}
 use Rattle.preferences.specs.Preferences.{IsPreferred}
 use Rattle.preferences.specs.ReadsPreferred.{chosen}
 use Rattle.preferences.proofs.laws.call_then_set.Goals as goal

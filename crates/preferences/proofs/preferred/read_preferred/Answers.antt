@@ -1,5 +1,5 @@
 use Rattle.std.proofs.Common.{refl, subst}
-use Rattle.task_sheet.proofs.Common.{Preference}
+use Rattle.task_sheet.specs.declared.prefer.Preference.{Preference}
 use Rattle.preferences.specs.Preferences.{IsPreferred}
 use Rattle.preferences.proofs.preferred.read_preferred.Goals as goal
 

@@ -1,6 +1,7 @@
 use Rattle.std.proofs.Common.{◌≡◌, List, [], ap, sym, append-nil, string_bytes, slice_index_or}
 use Rattle.std.proofs.Common.{arith}
-use Rattle.ceiling_kernel.proofs.Common.{JobRecord, no_record}
+use Rattle.ceiling_kernel.specs.declared.trace.JobRecord.{JobRecord}
+use Rattle.ceiling_kernel.specs.Runs.{no_record}
 use Rattle.printed_runs.proofs.text.push_job_name.Goals as goal
 
 -- past the end stands a job with no name

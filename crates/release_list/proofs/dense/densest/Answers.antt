@@ -1,6 +1,6 @@
 use Rattle.std.proofs.Common.{◌∙◌, Vec, Global, List, ap}
 use Rattle.task_sheet.specs.Sheet.{Task}
-use Rattle.ceiling_kernel.proofs.Common.{Release}
+use Rattle.ceiling_kernel.specs.declared.trace.Release.{Release}
 use Rattle.release_list.specs.Densest.{streams_of}
 use Rattle.release_list.proofs.DensestLaws.{all_streams, accepted_if}
 use Rattle.release_list.proofs.dense.densest.Goals as goal

@@ -1,5 +1,5 @@
 use Rattle.std.proofs.Common.{Vec, Global, sym, ap, ◌∙◌, arith}
-use Rattle.ceiling_kernel.proofs.Common.{Release}
+use Rattle.ceiling_kernel.specs.declared.trace.Release.{Release}
 use Rattle.release_list.proofs.TimeLaws.{push_next, pass_next, too_many}
 use Rattle.release_list.proofs.list.push_releases.Goals as goal
 use Rattle.release_list.proofs.list.push_releases.Goals.{then-is_listed+else-len-eq-RELEASE_LIMIT+in-Ok}

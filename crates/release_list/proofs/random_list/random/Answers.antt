@@ -2,7 +2,8 @@ use Rattle.std.proofs.Common.{rules, ◌≡◌, ◌≤◌, ◌∙◌, List, subs
 use Rattle.task_sheet.specs.Sheet.{Task}
 use Rattle.std.proofs.lemmas.List.Sorted.{IsNonDecreasingBy-from_sort_by_key, answers_always}
 use Rattle.std.proofs.lemmas.List.Sorted.{length_permutation}
-use Rattle.ceiling_kernel.proofs.Common.{Release, no_release}
+use Rattle.ceiling_kernel.specs.declared.trace.Release.{Release}
+use Rattle.ceiling_kernel.proofs.Common.{no_release}
 use Rattle.release_list.specs.Random.{all_jobs, by_time, random_of}
 use Rattle.release_list.proofs.InLaws.{In}
 use Rattle.release_list.proofs.OrderLaws.{sorted_is, rises_from}

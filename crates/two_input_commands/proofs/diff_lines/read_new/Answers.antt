@@ -1,5 +1,5 @@
 use Rattle.std.proofs.Common.{◌≡◌, Option, ◌∙◌, ap}
-use Rattle.task_sheet.proofs.Common.{Preference}
+use Rattle.task_sheet.specs.declared.prefer.Preference.{Preference}
 use Rattle.preferences.specs.ReadsPreferred.{chosen}
 use Rattle.two_input_commands.specs.Diff.{does_weigh}
 use Rattle.two_input_commands.proofs.diff_lines.read_new.Goals as goal

@@ -1,6 +1,6 @@
 use Rattle.std.proofs.Common.{◌≡◌, ◌∙◌, List, IfOk, ap, subst}
 use Rattle.judge.specs.declared.judging.JudgedTask.{JudgedTask}
-use Rattle.ceiling_kernel.proofs.Common.{Release}
+use Rattle.ceiling_kernel.specs.declared.trace.Release.{Release}
 use Rattle.two_input_commands.specs.Simulate.{bounds_judged}
 use Rattle.run_lines.specs.declared.bounds.TaskBound.{TaskBound}
 use Rattle.two_input_commands.specs.Draw.{picture_of}

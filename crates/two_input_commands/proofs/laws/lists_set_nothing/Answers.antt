@@ -6,7 +6,7 @@ use Rattle.std.proofs.lemmas.Slice.Eq.{bytes_eq-Decides}
 use Rattle.lines.specs.Lines.{kept_lines, lines_of}
 use Rattle.lines.specs.Steps.{◌>>=◌}
 use Rattle.lines.specs.Words.{number_in, words}
-use Rattle.ceiling_kernel.proofs.Common.{Release}
+use Rattle.ceiling_kernel.specs.declared.trace.Release.{Release}
 use Rattle.release_list.specs.Reading.{list_from, until_in}
 use Rattle.judge.specs.Front.{behind_front, front_of, is_setting}
 use Rattle.judge.specs.Rows.{rows_from}

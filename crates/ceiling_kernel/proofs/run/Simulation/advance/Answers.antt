@@ -1,8 +1,9 @@
 use Rattle.std.proofs.Common.{◌≡◌, ◌+◌, ◌-◌, ◌<◌, ◌≤◌, refl, sym, ap, ◌∙◌, arith, length, vec_len}
 use Rattle.std.proofs.Common.{ℕ, subst, Some, None, slice_index_or}
 use Rattle.std.specs.Option.{unwrap_or}
-use Rattle.ceiling_kernel.proofs.Common.{Release, job_at, jobs_of, best_slot, next_change, listed}
-use Rattle.ceiling_kernel.proofs.Common.{list_at, Queues}
+use Rattle.ceiling_kernel.specs.declared.trace.Release.{Release}
+use Rattle.ceiling_kernel.proofs.Common.{job_at, jobs_of, best_slot, next_change, listed, list_at}
+use Rattle.ceiling_kernel.proofs.Common.{Queues}
 use Rattle.ceiling_kernel.specs.NodeTasks.{IsTaskOf}
 use Rattle.ceiling_kernel.proofs.ListsLaws.{listed_length}
 use Rattle.ceiling_kernel.proofs.PriorityLaws.{active_within}

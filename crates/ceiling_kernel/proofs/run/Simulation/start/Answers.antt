@@ -1,7 +1,7 @@
 use Rattle.std.proofs.Common.{◌≡◌, ℕ, replicate, None, Option, refl, sym, ap, ◌∙◌, length, subst}
 use Rattle.std.proofs.Common.{List, [], ◌+◌, slice_index_or}
-use Rattle.ceiling_kernel.proofs.Common.{Pending, picked, jobs_of, has_come, AreFinishes, list_at}
-use Rattle.ceiling_kernel.proofs.Common.{Queues}
+use Rattle.ceiling_kernel.specs.declared.run.Pending.{Pending}
+use Rattle.ceiling_kernel.proofs.Common.{picked, jobs_of, has_come, AreFinishes, list_at, Queues}
 use Rattle.ceiling_kernel.specs.States.{Kept}
 use Rattle.ceiling_kernel.specs.Lists.{IsAlone}
 use Rattle.ceiling_kernel.proofs.ListsLaws.{count_started}
