@@ -1,2 +1,1 @@
 pub mod CarriedOut
-pub mod LimitLines

@@ -339,6 +339,17 @@ module _ (node : Node) (jobs : List Job) (is_node : IsNode node)
           total-sum higher_term (length node.tasks),
         )
 
+    -- THE BOUND: a job of the task finishes within t ticks after it is ready
+    pub within_bound : (j : ℕ) → j < length jobs → (job_at jobs j).task ≡ i
+        → executes_of j ≤ executed_before node jobs (ready_of j + t) j
+    within_bound j lt mine =
+        let same : level_of_job node jobs j ≡ level = ap (λ x. level_in_order node x) mine in
+        finishes (length jobs) ready_of executes_of (is_high node jobs level level_some spanned)
+        (rest_at node jobs level level_some spanned) (executed_before node jobs)
+        (picked node jobs) (machine node jobs level level_some spanned)
+        t blocking covers.from_one rest_most fits j lt
+        (le-leb level (level_of_job node jobs j) (omega arith))
+
 pub windows_law : (node : Node) (jobs : List Job) → IsNode node → AreLegalJobs node jobs
     → WindowsHold node jobs
 windows_law node jobs valid legal = window_holds node jobs valid legal

@@ -457,6 +457,16 @@ module _ (node : Node) (jobs : List Job) (is_node : IsNode node)
         ] in
         subst (λ x. done x j0 < executes_of j0) (sym at_end) to_show
 
+    pub by_deadline : NoneCovers node i left limit
+        → done ((job_at jobs j0).arrival + (task_at node.tasks i).deadline) j0 < executes_of j0
+    by_deadline none =
+        let open_ = not_done limit (omega arith) none in
+        let latest = worst.latest in
+        let later = done_grows node jobs j0 ((job_at jobs j0).arrival + (task_at node.tasks
+        i).deadline)
+        (s + limit) (omega arith) in
+        omega arith
+
 pub comes_law : (node : Node) (jobs : List Job) → IsNode node → AreLegalJobs node jobs
     → WorstComes node jobs
 comes_law node jobs is_node legal j left t worst ends within none =
