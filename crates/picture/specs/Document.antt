@@ -34,18 +34,14 @@ width_of f = frame_end f + 200
 abbrev pub high_of : Frame → (rows locks : ℕ) → ℕ
 high_of f rows locks = top_of rows + 120 + locks_high f locks
 
--- the first lines, of a picture so high
-abbrev pub first_lines : Frame → (high : ℕ) → List ℕ
-first_lines f high =
-    concat (codes "<?xml version=\"1.0\" encoding=\"UTF-8\"?>\n<svg xmlns=\"http://www.w3.org/2000/svg\" version=\"1.1\" width=\""
-    ∷ decimal (width_of f / 10) ∷ codes "\" height=\"" ∷ decimal (high / 10)
-    ∷ codes "\" viewBox=\"0 0 " ∷ decimal (width_of f) ∷ codes " " ∷ decimal high
-    ∷ codes "\">\n<title>" ∷ [])
-
 -- the first lines, and the title, with what was given before it
 abbrev pub document_head : Frame → List ℕ → (locks shown rows jobs until : ℕ) → List ℕ
 document_head f title locks shown rows jobs until =
-    first_lines f (high_of f shown locks) ++ title_head title
+    concat (codes "<?xml version=\"1.0\" encoding=\"UTF-8\"?>\n<svg xmlns=\"http://www.w3.org/2000/svg\" version=\"1.1\" width=\""
+    ∷ decimal (width_of f / 10) ∷ codes "\" height=\"" ∷ decimal (high_of f shown locks / 10)
+    ∷ codes "\" viewBox=\"0 0 " ∷ decimal (width_of f) ∷ codes " " ∷ decimal (high_of f shown locks)
+    ∷ codes "\">\n<title>" ∷ [])
+    ++ title_head title
     ++ concat (codes "tasks: " ∷ decimal rows ∷ codes ", jobs: " ∷ decimal jobs ∷ codes ", until "
     ∷ decimal until
     ∷ codes " us</title>\n" ∷ [])

@@ -3,7 +3,7 @@ ghost use Rattle.std.specs.Prelude.{◌<◌, ◌≡◌, ◌≤◌, length};
 ghost use Rattle.frames.specs.Page.{Adds};
 ghost use Rattle.task_sheet.specs.declared.set.TheConstants.{TASK_LIMIT};
 ghost use Rattle.frames.specs.declared.frame.TheConstants.{WIDEST_STEP};
-ghost use Rattle.picture.specs.Document.{document_head, first_lines, ground_text, lines_text, ticks_text, verdict_text, what_text, window_words};
+ghost use Rattle.picture.specs.Document.{document_head, ground_text, lines_text, ticks_text, verdict_text, what_text, window_words};
 ghost use Rattle.picture.specs.Scale.{line_text, number_x, tick_text};
 
 use crate::legend::LEGEND;
@@ -26,21 +26,6 @@ fn number_x(frame: Frame, number: u64, x: u64) -> u64
     }
 }
 
-// The first lines, of a picture so high.
-fn put_first_lines(frame: Frame, high: u64, page: &mut Page)
-    ensures { Adds page.old page.new (first_lines frame high) }
-{
-    let wide = end_of(frame) + 200;
-    page.put(
-        b"<?xml version=\"1.0\" encoding=\"UTF-8\"?>\n<svg xmlns=\"http://www.w3.org/2000/svg\"",
-    );
-    page.number(b" version=\"1.1\" width=\"", wide / 10);
-    page.number(b"\" height=\"", high / 10);
-    page.number(b"\" viewBox=\"0 0 ", wide);
-    page.number(b" ", high);
-    page.put(b"\">\n<title>")
-}
-
 // The first lines, and the title, with what was given before it.
 fn put_head(chart: &Chart<'_>, page: &mut Page)
     ensures { Adds page.old page.new (document_head chart.now.frame chart.now.title.now (length
@@ -49,7 +34,16 @@ fn put_head(chart: &Chart<'_>, page: &mut Page)
         (length chart.now.jobs.now) chart.now.until) }
 {
     let high = top_of(chart.shown.len()) + 120 + locks_high(chart.frame, chart.locks.len());
-    put_first_lines(chart.frame, high, page);
+    let wide = end_of(chart.frame) + 200;
+    page.number(
+        b"<?xml version=\"1.0\" encoding=\"UTF-8\"?>\n<svg xmlns=\"http://www.w3.org/2000/svg\" \
+        version=\"1.1\" width=\"",
+        wide / 10,
+    );
+    page.number(b"\" height=\"", high / 10);
+    page.number(b"\" viewBox=\"0 0 ", wide);
+    page.number(b" ", high);
+    page.put(b"\">\n<title>");
     put_title_head(chart.title, page);
     page.number(b"tasks: ", chart.rows.len() as u64);
     page.number(b", jobs: ", chart.jobs.len() as u64);
