@@ -99,7 +99,8 @@ fn put_last_bound(lane: &Lane<'_>, latest: u64, page: &mut Page)
     let shown = is_shown(lane.frame, latest, bound);
     let x = x_after(lane.frame, latest, bound);
     let y = top_of(lane.spot.k) + 155;
-    put_sign(shown, b"b", x, y, b"h-35m35 0v40m0 120v40h-35", page)
+    let shape = b"h-35m35 0v40m0 120v40h-35\"/>\n";
+    put_sign(shown, b"<path class=\"b\" d=\"M", x, y, shape, page)
 }
 
 // A band, where its box is in the window.

@@ -1,6 +1,11 @@
-use Rattle.frames.proofs.Adds.{adds_3, adds_4}
+use Rattle.std.proofs.Common.{append-nil, sym, List, ℕ}
+use Rattle.std.specs.Fmt.{decimal}
+use Rattle.frames.proofs.Adds.{adds_both, adds_parts, adds_same}
 use Rattle.drawn_jobs.proofs.jobs.put_sign.Goals as goal
 
-pub returns : goal.returns
-returns c = rw c.if-not-wanted.false (adds_3 c.put.ensures c.put-2.ensures
-    (adds_4 c.number.ensures c.number-2.ensures c.put-3.ensures c.put-4.ensures))
+pub returns-then-wanted : goal.returns-then-wanted
+returns-then-wanted c =
+    let shape = c.args.shape.now in
+    rw c.if-wanted.true (adds_parts c.args.head.now (decimal c.args.x) c.number.ensures
+    (adds_both c.number-then-wanted.ensures (adds_same (λ (l : List ℕ). l) (sym (append-nil shape))
+    c.put.ensures)))
