@@ -1,7 +1,6 @@
 //! Jobs of a task that are too close to be drawn apart.
 ghost use Rattle.std.specs.Prelude.{◌<◌, ◌≡◌, ◌≤◌, length};
 ghost use Rattle.run_lines.specs.Lines.{greatest_words};
-ghost use Rattle.frames.specs.Numbers.{known_text};
 ghost use Rattle.frames.specs.Page.{Adds};
 ghost use Rattle.frames.specs.Boxes.{box_path};
 ghost use Rattle.task_sheet.specs.declared.set.TheConstants.{TASK_LIMIT};
@@ -36,17 +35,6 @@ fn any_on(frame: Frame, name: Name, jobs: &[JobRecord]) -> bool
         }
     }
     false
-}
-
-// The greatest response of jobs that are done, if some are.
-fn greatest_of(outcome: Outcome) -> Option<u64>
-    ensures { known_text result ≡ greatest_words outcome.done outcome.greatest }
-{
-    if outcome.done == 0 {
-        None
-    } else {
-        Some(outcome.greatest)
-    }
 }
 
 // The box of a band, how many jobs are in it, and when they arrive.
@@ -111,7 +99,8 @@ fn put_last_bound(lane: &Lane<'_>, latest: u64, page: &mut Page)
     let shown = is_shown(lane.frame, latest, bound);
     let x = x_after(lane.frame, latest, bound);
     let y = top_of(lane.spot.k) + 155;
-    put_sign(shown, b"b", x, y, b"h-35m35 0v40m0 120v40h-35", page)
+    let shape = b"h-35m35 0v40m0 120v40h-35\"/>\n";
+    put_sign(shown, b"<path class=\"b\" d=\"M", x, y, shape, page)
 }
 
 // A band, where its box is in the window.
@@ -165,5 +154,9 @@ pub(crate) fn put_place(lane: &Lane<'_>, jobs: &[JobRecord], i: usize, page: &mu
 pub fn put_greatest(outcome: Outcome, page: &mut Page)
     ensures { Adds page.old page.new (greatest_words outcome.done outcome.greatest) }
 {
-    put_known(b"", greatest_of(outcome), page)
+    if outcome.done == 0 {
+        page.put(b"-")
+    } else {
+        page.number(b"", outcome.greatest)
+    }
 }

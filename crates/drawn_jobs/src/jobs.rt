@@ -1,12 +1,14 @@
 //! Jobs, from their arrivals up to their bounds.
-ghost use Rattle.std.specs.Prelude.{◌+◌, ◌++◌, ◌<◌, ◌≡◌, ◌≤◌, codes, length};
+ghost use Rattle.std.specs.Fmt.{decimal};
+ghost use Rattle.std.specs.List.{concat};
+ghost use Rattle.std.specs.Prelude.{◌+◌, ◌++◌, ◌<◌, ◌≡◌, ◌≤◌, [], ◌∷◌, codes, if◌then◌else◌, length};
 ghost use Rattle.frames.specs.Boxes.{box_path};
 ghost use Rattle.frames.specs.Frame.{right_of, x_of};
 ghost use Rattle.frames.specs.declared.frame.TheConstants.{RIGHTMOST};
 ghost use Rattle.frames.specs.Page.{Adds};
 ghost use Rattle.frames.specs.Rows.{on_spot, record_at};
 ghost use Rattle.drawn_jobs.specs.Bands.{jobs_text, place_text};
-ghost use Rattle.drawn_jobs.specs.Jobs.{goes_back, goes_on, job_box, job_signs, job_text, job_words, limit_of, limit_path, sign_text, signs_text};
+ghost use Rattle.drawn_jobs.specs.Jobs.{goes_back, goes_on, job_signs, job_text, job_words, limit_of, limit_path, signs_text};
 
 use crate::band::put_place;
 use ceiling_kernel::JobRecord;
@@ -68,31 +70,16 @@ pub(crate) fn limit_box(lane: &Lane<'_>, first: u64, latest: u64) -> Bar
     bar_of(x_of(lane.frame, first), right, lane.spot.k)
 }
 
-// The box of a job, and what is told of it.
-fn put_box(bar: Bar, bound: Option<u64>, deadline: u64, job: &JobRecord, page: &mut Page)
-    ensures { Adds page.old page.new (job_box (box_path bar.x bar.right bar.y bar.high) bound
-        deadline job.now) }
+// A sign, where it is wanted: a head up to its place, and a shape from there on.
+pub(crate) fn put_sign(wanted: bool, head: &[u8], x: u64, y: u64, shape: &[u8], page: &mut Page)
+    ensures { Adds page.old page.new (if wanted then concat (head.now ∷ decimal x ∷ codes " "
+        ∷ decimal y ∷ shape.now ∷ []) else []) }
 {
-    put_bar(b"<path class=\"w\" d=\"", bar, page);
-    put_told(job, page);
-    put_known(b", bound ", bound, page);
-    page.number(b", deadline ", deadline);
-    page.put(b" us</title></path>\n")
-}
-
-// A sign of a class and a shape, where it is wanted.
-pub(crate) fn put_sign(wanted: bool, class: &[u8], x: u64, y: u64, shape: &[u8], page: &mut Page)
-    ensures { Adds page.old page.new (sign_text wanted class.now x y shape.now) }
-{
-    if !wanted {
-        return;
+    if wanted {
+        page.number(head, x);
+        page.number(b" ", y);
+        page.put(shape)
     }
-    page.put(b"<path class=\"");
-    page.put(class);
-    page.number(b"\" d=\"M", x);
-    page.number(b" ", y);
-    page.put(shape);
-    page.put(b"\"/>\n")
 }
 
 // Signs at the beginning and at the end, for what goes on before the window and behind it.
@@ -100,10 +87,11 @@ pub(crate) fn put_signs(lane: &Lane<'_>, back: bool, on: bool, page: &mut Page)
     ensures { Adds page.old page.new (signs_text lane.now.frame lane.now.spot.k back on) }
 {
     let y = top_of(lane.spot.k) + 195;
-    let shape = b"m-20 0l-60 60 60 60m-60-120l-60 60 60 60";
-    put_sign(back, b"a", start_of(lane.frame), y, shape, page);
-    let shape = b"m20 0l60 60-60 60m60-120l60 60-60 60";
-    put_sign(on, b"a", end_of(lane.frame), y, shape, page)
+    let head = b"<path class=\"a\" d=\"M";
+    let shape = b"m-20 0l-60 60 60 60m-60-120l-60 60 60 60\"/>\n";
+    put_sign(back, head, start_of(lane.frame), y, shape, page);
+    let shape = b"m20 0l60 60-60 60m60-120l60 60-60 60\"/>\n";
+    put_sign(on, head, end_of(lane.frame), y, shape, page)
 }
 
 // Those of a job.
@@ -128,7 +116,11 @@ pub(crate) fn put_job_in(lane: &Lane<'_>, job: &JobRecord, page: &mut Page)
         return;
     }
     let bar = limit_box(lane, job.release, job.release);
-    put_box(bar, lane.row.bound, lane.row.sheet.deadline(), job, page);
+    put_bar(b"<path class=\"w\" d=\"", bar, page);
+    put_told(job, page);
+    put_known(b", bound ", lane.row.bound, page);
+    page.number(b", deadline ", lane.row.sheet.deadline());
+    page.put(b" us</title></path>\n");
     put_job_signs(lane, job, page)
 }
 

@@ -1,7 +1,7 @@
 //! The lane of the processor.
 ghost use Rattle.std.specs.Prelude.{◌*◌, ◌+◌, ◌≡◌, ◌≤◌};
 ghost use Rattle.frames.specs.Page.{Adds};
-ghost use Rattle.drawn_jobs.specs.Lane.{busy_from, busy_of, busy_with, edge_class, lane_bar, lane_by, lane_head, lane_label, lane_line, lane_right, lane_text, lanes_text, level_room};
+ghost use Rattle.drawn_jobs.specs.Lane.{busy_from, busy_of, edge_class, lane_bar, lane_by, lane_head, lane_label, lane_line, lane_right, lane_text, lanes_text, level_room};
 ghost use Rattle.frames.specs.declared.frame.TheConstants.{RIGHTMOST};
 
 use ceiling_kernel::Slice;
@@ -10,22 +10,15 @@ use frames::{
     put_times, sees, tone_of, x_of,
 };
 
-// For how long a slice executes in the window, and what was before.
-fn busy_with(frame: Frame, before: u64, slice: Slice) -> u64
-    ensures { result ≡ busy_with frame before slice }
-{
-    let start = slice.start.max(frame.from);
-    let stop = slice.stop.min(frame.to);
-    before.min(slice.start) + stop.saturating_sub(start)
-}
-
-// For how long slices do.
+// For how long slices execute in the window.
 fn busy_in(frame: Frame, slices: &[Slice]) -> u64
     ensures { result ≡ busy_from frame 0 slices.now }
 {
     let mut busy = 0;
     for slice in slices {
-        busy = busy_with(frame, busy, *slice);
+        let start = slice.start.max(frame.from);
+        let stop = slice.stop.min(frame.to);
+        busy = busy.min(slice.start) + stop.saturating_sub(start);
     }
     busy
 }

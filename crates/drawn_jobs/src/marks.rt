@@ -1,9 +1,9 @@
 //! The marks of releases.
-ghost use Rattle.std.specs.Prelude.{◌+◌, ◌<◌, ◌≡◌, length};
+ghost use Rattle.std.specs.Prelude.{◌+◌, ◌++◌, ◌<◌, ◌≡◌, codes, length};
 ghost use Rattle.ceiling_kernel.specs.Releases.{release_at};
 ghost use Rattle.frames.specs.Page.{Adds};
 ghost use Rattle.frames.specs.Frame.{is_in};
-ghost use Rattle.drawn_jobs.specs.Marks.{all_marks, later_text, mark_alone, mark_text, marks_text, ready_text};
+ghost use Rattle.drawn_jobs.specs.Marks.{all_marks, each_mark, later_text, mark_alone, mark_text, ready_text};
 
 use crate::band::gap_of;
 use ceiling_kernel::Release;
@@ -113,15 +113,12 @@ fn put_mark_alone(chart: &Chart<'_>, mark: Mark, i: usize, page: &mut Page)
     put_mark_in(mark, release, &chart.lane(spot), page)
 }
 
-// The marks of a kind, as one path of a class.
-fn put_marks(chart: &Chart<'_>, mark: Mark, class: &[u8], page: &mut Page)
-    ensures { Adds page.old page.new (marks_text chart.now.frame chart.now.rows.now
-        chart.now.shown.now chart.now.jobs.now mark class.now
-        chart.now.releases.now) }
+// The marks of a kind, as one path with a head.
+fn put_marks(chart: &Chart<'_>, mark: Mark, head: &[u8], page: &mut Page)
+    ensures { Adds page.old page.new (head.now ++ each_mark chart.now.frame chart.now.rows.now
+        chart.now.shown.now chart.now.jobs.now mark chart.now.releases.now ++ codes "\"/>\n") }
 {
-    page.put(b"<path class=\"");
-    page.put(class);
-    page.put(b"\" d=\"\n");
+    page.put(head);
     for i in 0..chart.releases.len() {
         put_mark_alone(chart, mark, i, page);
     }
@@ -134,8 +131,8 @@ pub fn put_all_marks(chart: &Chart<'_>, page: &mut Page)
         chart.now.shown.now chart.now.jobs.now
         chart.now.releases.now) }
 {
-    put_marks(chart, Mark::Ready, b"r", page);
-    put_marks(chart, Mark::Arrival, b"a", page);
-    put_marks(chart, Mark::Bound, b"b", page);
-    put_marks(chart, Mark::Deadline, b"d", page)
+    put_marks(chart, Mark::Ready, b"<path class=\"r\" d=\"\n", page);
+    put_marks(chart, Mark::Arrival, b"<path class=\"a\" d=\"\n", page);
+    put_marks(chart, Mark::Bound, b"<path class=\"b\" d=\"\n", page);
+    put_marks(chart, Mark::Deadline, b"<path class=\"d\" d=\"\n", page)
 }

@@ -1,8 +1,7 @@
 //! Jobs that miss their deadlines.
 ghost use Rattle.std.specs.Prelude.{◌+◌, ◌≡◌};
 ghost use Rattle.frames.specs.Page.{Adds};
-ghost use Rattle.frames.specs.Boxes.{box_path};
-ghost use Rattle.drawn_jobs.specs.Misses.{all_missed, badge_after, badge_text, due_badge, has_badge, hatch_path, hatch_text, is_clear, is_late, is_seen_miss, late_signs, miss_text, missed_in, misses, misses_in, misses_text, row_misses};
+ghost use Rattle.drawn_jobs.specs.Misses.{all_missed, badge_after, badge_text, due_badge, has_badge, hatch_path, hatch_text, is_late, is_seen_miss, late_signs, miss_text, missed_in, misses_in, misses_text, row_misses};
 
 use crate::jobs::{limit_of, put_job_signs, put_told};
 use ceiling_kernel::JobRecord;
@@ -42,24 +41,16 @@ pub fn missed_in(frame: Frame, row: &TaskRow, jobs: &[JobRecord]) -> usize
     count
 }
 
-// Whether a job does.
-fn misses(frame: Frame, rows: &[TaskRow], job: &JobRecord) -> bool
-    ensures { result ≡ misses frame rows.now job.now }
-{
-    match find_row(rows, job.name) {
-        None => false,
-        Some(k) => is_late(frame, &rows[k], job),
-    }
-}
-
 /// How many of all jobs do.
 pub fn all_missed(frame: Frame, rows: &[TaskRow], jobs: &[JobRecord]) -> usize
     ensures { result ≡ all_missed frame rows.now jobs.now }
 {
     let mut count = 0;
     for job in jobs {
-        if misses(frame, rows, job) {
-            count += 1;
+        if let Some(k) = find_row(rows, job.name) {
+            if is_late(frame, &rows[k], job) {
+                count += 1;
+            }
         }
     }
     count
@@ -74,23 +65,21 @@ fn is_seen_miss(frame: Frame, row: &TaskRow, job: &JobRecord) -> bool
         && frame.from < ended(frame, job)
 }
 
-// Whether the last badge, if there is one, is 18 pixels before a place.
-fn is_clear(last: Option<u64>, x: u64) -> bool
-    ensures { result ≡ is_clear last x }
-{
-    match last {
-        None => true,
-        Some(last) => x >= 180 && last <= x - 180,
-    }
-}
-
-// Whether the deadline of a job has a badge.
+// Whether the deadline of a job has a badge: the last one, if there is one, is 18 pixels before it.
 fn has_badge(frame: Frame, row: &TaskRow, last: Option<u64>, job: &JobRecord) -> bool
     ensures { result ≡ has_badge frame last (job.now.release + row.now.sheet.deadline) }
 {
     let deadline = row.sheet.deadline();
-    let x = x_after(frame, job.release, deadline);
-    is_from_start(frame, job.release, deadline) && is_clear(last, x)
+    if !is_from_start(frame, job.release, deadline) {
+        return false;
+    }
+    match last {
+        None => true,
+        Some(last) => {
+            let x = x_after(frame, job.release, deadline);
+            x >= 180 && last <= x - 180
+        }
+    }
 }
 
 // The last badge behind a job.
@@ -115,29 +104,22 @@ pub fn put_badge(x: u64, y: u64, page: &mut Page)
     page.put(b"m-38-38l76 76m0-76l-76 76\"/>\n")
 }
 
-// From the deadline up to the finish, or to the end.
-fn hatch_box(lane: &Lane<'_>, job: &JobRecord) -> Bar
-    ensures { box_path result.x result.right result.y result.high ≡ hatch_path lane.now.frame
-        lane.now.spot.k
-        lane.now.row.now job.now }
+// From the deadline up to the finish, or to the end, and what is told of it.
+fn put_hatch(lane: &Lane<'_>, job: &JobRecord, page: &mut Page)
+    ensures { Adds page.old page.new (hatch_text (hatch_path lane.now.frame lane.now.spot.k
+        lane.now.row.now job.now) lane.now.row.now job.now) }
 {
-    let x = x_after(lane.frame, job.release, lane.row.sheet.deadline());
-    Bar {
+    let deadline = lane.row.sheet.deadline();
+    let x = x_after(lane.frame, job.release, deadline);
+    let hatch = Bar {
         x,
         right: x_of(lane.frame, ended(lane.frame, job)).max(x + 20),
         y: top_of(lane.spot.k) + 145,
         high: 220,
-    }
-}
-
-// That, and what is told of it.
-fn put_hatch(bar: Bar, row: &TaskRow, job: &JobRecord, page: &mut Page)
-    ensures { Adds page.old page.new (hatch_text (box_path bar.x bar.right bar.y bar.high) row.now
-        job.now) }
-{
-    put_bar(b"<path class=\"z\" d=\"", bar, page);
+    };
+    put_bar(b"<path class=\"z\" d=\"", hatch, page);
     put_told(job, page);
-    page.number(b", deadline ", row.sheet.deadline());
+    page.number(b", deadline ", deadline);
     page.put(b" us missed</title></path>\n")
 }
 
@@ -172,7 +154,7 @@ fn put_miss(lane: &Lane<'_>, last: Option<u64>, job: &JobRecord, page: &mut Page
     if !is_seen_miss(lane.frame, lane.row, job) {
         return;
     }
-    put_hatch(hatch_box(lane, job), lane.row, job, page);
+    put_hatch(lane, job, page);
     put_due_badge(lane, last, job, page);
     put_late_signs(lane, job, page)
 }

@@ -2,4 +2,5 @@ pub mod Adds
 pub mod Lanes
 pub mod Executed
 pub mod Folds
+mod Finds
 mod Shown

@@ -6,7 +6,7 @@ ghost use Rattle.frames.specs.Slices.{rises};
 ghost use Rattle.frames.specs.declared.locks.TheConstants.{LOCKS_LIMIT};
 
 use crate::frame::Frame;
-use crate::rows::{Spot, TaskRow, find_row, place_in};
+use crate::rows::{Spot, TaskRow, find_row, job_at, place_in};
 use ceiling_kernel::{JobRecord, Release, Slice};
 use task_sheet::Name;
 
@@ -80,7 +80,10 @@ impl Chart<'_> {
     pub fn job_of(&self, slice: Slice) -> Option<JobRecord>
         ensures { result ≡ slice_get self.now.jobs.now slice.job }
     {
-        self.jobs.get(slice.job).copied()
+        if slice.job >= self.jobs.len() {
+            return None;
+        }
+        Some(job_at(self.jobs, slice.job))
     }
 
     /// The spot of the task with a name, if it is shown.

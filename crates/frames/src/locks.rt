@@ -14,7 +14,12 @@ pub const LOCKS_LIMIT: usize = 1_024;
 fn lock_place(locks: &[Name], name: Name) -> Option<usize>
     ensures { result ≡ lock_place locks.now name }
 {
-    locks.iter().position(|lock| *lock == name)
+    for k in 0..locks.len() {
+        if locks[k] == name {
+            return Some(k);
+        }
+    }
+    None
 }
 
 // Notes a lock, where it isn't among some.

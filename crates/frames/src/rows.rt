@@ -40,7 +40,12 @@ pub fn find_row(rows: &[TaskRow], name: Name) -> Option<usize>
     ensures place { result ≡ row_named rows.now name }
     ensures within { IfSome result (λ k. k < length rows.now) }
 {
-    rows.iter().position(|row| row.sheet.name() == name)
+    for k in 0..rows.len() {
+        if rows[k].sheet.name() == name {
+            return Some(k);
+        }
+    }
+    None
 }
 
 /// The place of a row among those that are shown.
@@ -48,7 +53,12 @@ pub fn place_in(shown: &[usize], rank: usize) -> Option<usize>
     ensures place { result ≡ place_in shown.now rank }
     ensures within { IfSome result (λ k. k < length shown.now) }
 {
-    shown.iter().position(|other| *other == rank)
+    for k in 0..shown.len() {
+        if shown[k] == rank {
+            return Some(k);
+        }
+    }
+    None
 }
 
 /// The job at a place.

@@ -1,5 +1,5 @@
 -- The document of a view.
-use Rattle.std.proofs.Common.{◌≡◌, ◌∙◌, ℕ, List, [], Result, true, refl}
+use Rattle.std.proofs.Common.{◌≡◌, ◌∙◌, ◌++◌, ℕ, List, [], Result, true, refl, ap}
 use Rattle.std.specs.Prelude.{IfOk, MatchResult}
 use Rattle.std.specs.Global.{Vec}
 use Rattle.std.specs.declared.alloc.AllocError.{AllocError}
@@ -28,10 +28,9 @@ document_of rows v until rs trace f title locks shown jobs slices frame titled l
     rw frame (rw titled (rw locked (rw chosen (rw job (rw slice refl)))))
 
 -- what a page that was empty has in the end
-pub whole_of : {a b : Page} {words other : List ℕ}
-    (r : Result (Vec ℕ) AllocError) (Q : AllocError → Type 0)
-    → Adds a b words → a.text.items ≡ [] → words ≡ other
+pub whole_of : {a b : Page} {words : List ℕ} (r : Result (Vec ℕ) AllocError) (Q : AllocError → Type 0)
+    → Adds a b words → a.text.items ≡ []
     → MatchResult r (λ text. (b.is_whole ≡ true) × (text ≡ b.text)) Q
-    → IfOk r (λ text. text.items ≡ other)
-whole_of r Q put empty same whole = MatchResult-weaker r whole
-    (λ text is. rw is.1 (put.adds is.0 ∙ rw empty same)) (λ _ _. tt)
+    → IfOk r (λ text. text.items ≡ words)
+whole_of {words = words} r Q put empty whole = MatchResult-weaker r whole
+    (λ text is. rw is.1 (put.adds is.0 ∙ ap (λ (l : List ℕ). l ++ words) empty)) (λ _ _. tt)

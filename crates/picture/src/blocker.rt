@@ -1,7 +1,6 @@
 //! By which lock a task below blocks.
 ghost use Rattle.std.specs.List.{find};
 ghost use Rattle.std.specs.Prelude.{◌<◌, ◌≡◌, ◌≤◌, length};
-ghost use Rattle.ceiling_kernel.specs.Tick.{is_inside};
 ghost use Rattle.frames.specs.Slices.{executed_in};
 ghost use Rattle.picture.specs.Blocking.{blocking_lock, is_raised, lock_inside};
 
@@ -37,20 +36,13 @@ fn first_raised(rows: &[TaskRow], k: usize, locks: &[Name]) -> Option<Name>
     None
 }
 
-// Whether a job is inside a section after so many ticks.
-fn is_inside(section: &Section, executed: u64) -> bool
-    ensures { result ≡ is_inside section.now executed }
-{
-    executed > section.at && executed - section.at < section.len
-}
-
 // Of the first section that a job is inside after so many ticks, the first such lock.
 fn lock_inside(rows: &[TaskRow], k: usize, executed: u64, sections: &[Section]) -> Option<Name>
     requires { k < length rows.now }
     ensures { result ≡ lock_inside rows.now k executed sections.now }
 {
     for section in sections {
-        if is_inside(section, executed) {
+        if executed > section.at && executed - section.at < section.len {
             return first_raised(rows, k, &section.locks);
         }
     }

@@ -1,8 +1,6 @@
 //! The whole picture.
 ghost use Rattle.std.specs.Prelude.{◌≡◌, ◌≤◌, IfOk, length};
 ghost use Rattle.task_sheet.specs.declared.set.TheConstants.{TASK_LIMIT};
-ghost use Rattle.drawn_jobs.specs.Sections.{AreUncounted};
-ghost use Rattle.frames.specs.Page.{Adds};
 ghost use Rattle.picture.specs.Document.{document, framed};
 
 use crate::ground::put_ground;
@@ -12,22 +10,24 @@ use drawn_jobs::{put_all_marks, put_jobs, put_lanes, put_misses, put_slices};
 use frames::{Chart, Page, TaskRow, View, frame_of, locks_of, shown_of, starts_rise};
 use std::alloc::{AllocError, Global};
 
-// The document, with the counts of the ticks that each job executed.
-fn put_document(chart: &Chart<'_>, executed: &mut [u64], page: &mut Page)
-    requires { AreUncounted executed.old (length chart.now.jobs.now) }
-    ensures { Adds page.old page.new
-        (framed chart.now.frame chart.now.title.now chart.now.locks.now chart.now.rows.now
+// The document of a chart. Memory is taken for it, and for one count of each job.
+fn draw_chart(alloc: Global, chart: &Chart<'_>) -> Result<Vec<u8>, AllocError>
+    ensures { IfOk result (λ text. text.items
+        ≡ framed chart.now.frame chart.now.title.now chart.now.locks.now chart.now.rows.now
         chart.now.shown.now chart.now.until chart.now.releases.now chart.now.jobs.now
         chart.now.slices.now) }
 {
-    put_ground(chart, page);
-    put_lanes(chart, page);
-    put_jobs(chart, page);
-    put_all_marks(chart, page);
-    put_waits(chart, page);
-    put_slices(chart, executed, page);
-    put_misses(chart, page);
-    page.put(b"</svg>\n")
+    let mut executed = vec![in alloc; 0; chart.jobs.len()]?;
+    let mut page = Page::new(alloc);
+    put_ground(chart, &mut page);
+    put_lanes(chart, &mut page);
+    put_jobs(chart, &mut page);
+    put_all_marks(chart, &mut page);
+    put_waits(chart, &mut page);
+    put_slices(chart, &mut executed, &mut page);
+    put_misses(chart, &mut page);
+    page.put(b"</svg>\n");
+    page.whole()
 }
 
 /// Returns the picture of a run of these rows, the highest level first, whose trace ends at `until`, in microseconds, as a
@@ -59,8 +59,5 @@ pub fn draw(
         rising: starts_rise(&trace.slices),
         locks: &locks,
     };
-    let mut executed = vec![in alloc; 0; trace.jobs.len()]?;
-    let mut page = Page::new(alloc);
-    put_document(&chart, &mut executed, &mut page);
-    page.whole()
+    draw_chart(alloc, &chart)
 }

@@ -35,10 +35,11 @@ fn put_head(chart: &Chart<'_>, page: &mut Page)
 {
     let high = top_of(chart.shown.len()) + 120 + locks_high(chart.frame, chart.locks.len());
     let wide = end_of(chart.frame) + 200;
-    page.put(
-        b"<?xml version=\"1.0\" encoding=\"UTF-8\"?>\n<svg xmlns=\"http://www.w3.org/2000/svg\"",
+    page.number(
+        b"<?xml version=\"1.0\" encoding=\"UTF-8\"?>\n<svg xmlns=\"http://www.w3.org/2000/svg\" \
+        version=\"1.1\" width=\"",
+        wide / 10,
     );
-    page.number(b" version=\"1.1\" width=\"", wide / 10);
     page.number(b"\" height=\"", high / 10);
     page.number(b"\" viewBox=\"0 0 ", wide);
     page.number(b" ", high);

@@ -1,5 +1,5 @@
 //! The margin: each row's level, tone and name, and how long its jobs take at most.
-ghost use Rattle.std.specs.Prelude.{◌≡◌};
+ghost use Rattle.std.specs.Prelude.{◌≡◌, ◌++◌, codes};
 ghost use Rattle.frames.specs.Page.{Adds};
 ghost use Rattle.picture.specs.Document.{margin_group, margins_text};
 ghost use Rattle.picture.specs.Margin.{level_text, limits_text, margin_text, name_class, name_text, second_line};
@@ -11,11 +11,15 @@ use frames::{
 };
 use run_lines::outcome_of;
 
-// A name is red where a deadline is missed.
-fn name_class(missed: usize) -> &'static str
-    ensures { result.now ≡ name_class missed }
+// Where the name of a row stands; it is red where a deadline is missed.
+fn name_head(missed: usize) -> &'static [u8]
+    ensures { result.now ≡ codes "<text class=\"" ++ name_class missed ++ codes "\" x=\"500\" y=\"" }
 {
-    if missed == 0 { "n" } else { "n q" }
+    if missed == 0 {
+        b"<text class=\"n\" x=\"500\" y=\""
+    } else {
+        b"<text class=\"n q\" x=\"500\" y=\""
+    }
 }
 
 // A row's level, and the tone of its task.
@@ -36,9 +40,7 @@ fn put_row_name(missed: usize, lane: &Lane<'_>, jobs: &[JobRecord], page: &mut P
 {
     let name = lane.row.sheet.name();
     let outcome = outcome_of(jobs, name);
-    page.put(b"<text class=\"");
-    page.put(name_class(missed).as_bytes());
-    page.number(b"\" x=\"500\" y=\"", top_of(lane.spot.k) + 230);
+    page.number(name_head(missed), top_of(lane.spot.k) + 230);
     page.number(b"\"><title>done: ", outcome.done as u64);
     page.put(b", greatest response: ");
     put_greatest(outcome, page);

@@ -1,21 +1,17 @@
-use Rattle.std.proofs.Common.{◌≡◌, [], ◌∷◌, length, arith}
-use Rattle.std.specs.Prelude.{codes}
-use Rattle.std.specs.List.{concat}
+use Rattle.std.proofs.Common.{◌≡◌, length, arith}
 use Rattle.ceiling_kernel.specs.Releases.{release_at}
 use Rattle.drawn_jobs.specs.Marks.{mark_alone}
-use Rattle.frames.proofs.Adds.{adds_both, adds_head, adds_one_more_behind}
+use Rattle.frames.proofs.Adds.{adds_head, adds_one_more_behind, adds_both}
 use Rattle.drawn_jobs.proofs.marks.put_marks.Goals as goal
 
 pub loop-i-init : goal.loop-i-init
 loop-i-init c = adds_head (λ i. mark_alone c.args.chart.now.frame c.args.chart.now.rows.now
     c.args.chart.now.shown.now c.args.chart.now.jobs.now c.args.mark i
-    (release_at c.args.chart.now.releases.now i))
-    (adds_both (adds_both c.put.ensures c.put-2.ensures) c.put-3.ensures)
+    (release_at c.args.chart.now.releases.now i)) c.put.ensures
 
 pub loop-i-preserved : goal.loop-i-preserved
 loop-i-preserved c =
-    adds_one_more_behind
-    (concat (codes "<path class=\"" ∷ c.args.class.now ∷ codes "\" d=\"\n" ∷ []))
+    adds_one_more_behind c.args.head.now
     (λ i. mark_alone c.args.chart.now.frame c.args.chart.now.rows.now c.args.chart.now.shown.now
     c.args.chart.now.jobs.now c.args.mark i (release_at c.args.chart.now.releases.now i))
     c.loop-i.i c.loop-i.invariant c.put_mark_alone.ensures
@@ -24,4 +20,4 @@ pub returns : goal.returns
 returns c =
     let all : c.loop-i.i ≡ length c.args.chart.now.releases.now =
     omega (arith, c.loop-i.auto.i-end, c.loop-i-test.false) in
-    adds_both (rw all at c.loop-i.invariant) c.put-4.ensures
+    adds_both (rw all at c.loop-i.invariant) c.put-2.ensures

@@ -1,5 +1,4 @@
-use Rattle.std.specs.Prelude.{◌++◌, [], ◌∷◌, codes}
-use Rattle.std.specs.List.{concat}
+use Rattle.std.specs.Prelude.{◌++◌}
 use Rattle.frames.specs.Rows.{each}
 use Rattle.frames.specs.Page.{Adds}
 use Rattle.drawn_jobs.specs.Marks.{mark_alone}
@@ -8,6 +7,5 @@ use Rattle.drawn_jobs.proofs.marks.put_marks.Given as goal
 
 abbrev pub invariant-loop-i : goal.invariant-loop-i
 invariant-loop-i l = Adds l.fn.page l.page
-    (concat (codes "<path class=\"" ∷ l.fn.class ∷ codes "\" d=\"\n" ∷ [])
-    ++ each l.i (λ i. mark_alone l.fn.chart.frame l.fn.chart.rows.now
+    (l.fn.head ++ each l.i (λ i. mark_alone l.fn.chart.frame l.fn.chart.rows.now
     l.fn.chart.shown.now l.fn.chart.jobs.now l.fn.mark i (release_at l.fn.chart.releases.now i)))

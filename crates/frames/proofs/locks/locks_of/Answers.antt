@@ -1,4 +1,5 @@
-use Rattle.std.proofs.Common.{◌∙◌, List, ap, refl}
+use Rattle.std.proofs.Common.{◌∙◌, ◌≤◌, List, ap, arith, length, refl, sym}
+use Rattle.std.proofs.lemmas.List.{at_drop_all}
 use Rattle.task_sheet.specs.Sheet.{CriticalSection}
 use Rattle.frames.specs.Locks.{noted_rows, noted_sections}
 use Rattle.frames.proofs.Folds.{fold_more}
@@ -15,4 +16,14 @@ loop-row-preserved c =
           ∙ ap (λ (sections : List CriticalSection). noted_sections locks sections)
           c.sections.ensures) ∙ c.loop-row.invariant.noted;
       few = c.in_ok-note_sections.ensures.few;
+    }
+
+pub returns : goal.returns
+returns c =
+    let rows = c.args.rows.now in
+    let all : length rows ≤ c.loop-row.row-index = omega (arith, c.loop-row-test.false) in
+    record {
+      value = sym (at_drop_all (noted_rows c.loop-row.locks.items) rows c.loop-row.row-index all)
+          ∙ c.loop-row.invariant.noted;
+      few = c.loop-row.invariant.few;
     }

@@ -1,4 +1,5 @@
-use Rattle.std.proofs.Common.{◌≡◌, ◌∙◌, ℕ, List, ap, refl, rules}
+use Rattle.std.proofs.Common.{◌≡◌, ◌∙◌, ◌≤◌, ℕ, List, ap, arith, length, refl, rules, sym}
+use Rattle.std.proofs.lemmas.List.{at_drop_all}
 use Rattle.frames.specs.Locks.{noted_names, noted_sections}
 use Rattle.frames.proofs.Folds.{fold_more}
 use Rattle.frames.proofs.locks.note_sections.Goals as goal
@@ -15,4 +16,15 @@ loop-section-preserved c =
           ∙ ap (λ (names : List (List ℕ)). noted_names locks names) names)
           ∙ c.loop-section.invariant.noted;
       few = c.in_ok-note_names.ensures.few;
+    }
+
+pub returns : goal.returns
+returns c =
+    let sections = c.args.sections.now in
+    let all : length sections ≤ c.loop-section.section-index =
+    omega (arith, c.loop-section-test.false) in
+    record {
+      noted = sym (at_drop_all (noted_sections c.loop-section.locks.items) sections
+          c.loop-section.section-index all) ∙ c.loop-section.invariant.noted;
+      few = c.loop-section.invariant.few;
     }
