@@ -583,6 +583,54 @@ A name in `outranks` that no task has, a set without a task, and more costs than
   note: the costs over the periods come to more than 1: no order can pass
   [3]
 
+Timers and interrupts ask for time, too, though no cost has theirs; a run doesn't have them:
+
+  $ asked() { printf '[node]\njob = 100\nrelease = %d\n[[interrupt]]\nperiod = 1000\ncost = %d\n' $1 $2
+  >   printf '[[task]]\nname="a"\nperiod=1000\ndeadline=1000\ncost=%d\n' $3; }
+  $ asked 100 200 700 | said admit -
+  $ asked 100 200 701 | said admit -
+  note: the costs over the periods come to more than 1: no order can pass
+  note: a alone can't be met: desk explain says why
+  [3]
+  $ asked 100 201 700 | said limits -
+  note: the costs over the periods come to more than 1: no order can pass
+  [3]
+  $ asked 0 200 600 > timed.toml
+  $ printf 'until 1000\n0 a\n' | desk simulate timed.toml - --tasks
+  task a 1 700 900
+  (on standard error) note: what timers and interrupts take is in the bounds, and not in the run
+  $ printf 'thread a 1\nuntil 1000\n0 a\n' | said draw timed.toml -
+  note: what timers and interrupts take is in the bounds, and not in the run
+  $ asked 0 0 600 | sed 1,6d > plain.toml && printf 'until 1000\n0 a\n' | said draw plain.toml -
+
+The notes of `diff` are on the new set:
+
+  $ said diff examples/three-tasks.toml robot.toml
+  note: lock sate has one user, diagnostics
+  note: lock log has one user, diagnostics
+  note: lock state has one user, motion
+  $ said diff robot.toml examples/three-tasks.toml
+
+A trace that doesn't have a task's jobs, and settings to keep of a thread that no task is:
+
+  $ printf '0 1000 hi\njob hi 0 1000\n' | said observe examples/shared-lock.toml -
+  note: the trace has no job of lo, mid
+  $ printf 'job hi 5 6\njob hi 4 6\n' | said observe examples/shared-lock.toml -
+  standard input: line 2, "job hi 4 6" arrives before the job above it: they stand by arrival
+  [4]
+  $ said observe examples/shared-lock.toml examples/shared-lock.trace
+  [3]
+  $ printf 'thread mid 7\nthread him 9\nthread lo 4\n' | said settings examples/shared-lock.toml --keep -
+  note: thread him is no task of the set: it is left out
+
+Priorities past the highest that Linux has:
+
+  $ said settings examples/shared-lock.toml --base 97
+  $ said settings examples/shared-lock.toml --base 98
+  note: the highest thread is above 99, the most that Linux has for SCHED_FIFO
+  $ said settings examples/empty-set.toml --base 101
+  note: the set has no task
+
 Beside a no, the conflict within the tasks that are printed; and that there is no run:
 
   $ desk admit examples/robot.toml

@@ -72,8 +72,10 @@ Each key has its word, in this order; by deadlines a weight is none:
   $ printf '[[task]]\nname = "a"\nweight = 1\nperiod = 20000\ndeadline = 9000\ncost = 1500\nsection = [{ locks = ["m"], at = 0, len = 100 }]\njitter = 10\noutranks = ["b"]\n[[task]]\nname = "b"\nperiod = 20000\ndeadline = 20000\ncost = 1000\n' > new.toml
   $ desk diff old.toml new.toml | grep -o 'keys .*'
   keys weight period deadline cost section jitter outranks
+  (on standard error) note: lock m has one user, a
   $ desk diff --prefer deadline old.toml new.toml | grep -o 'keys .*'
   keys period deadline cost section jitter outranks
+  (on standard error) note: lock m has one user, a
 
 A refusal of the new set says so; the old one comes first:
 

@@ -15,6 +15,10 @@ each number that mends it alone; he takes the one that is his:
   infeasible arm
   was admitted 1
   added pan level - - bound - - slack - - team cam
+  one of these changes mends it, all else as it is, but for a period below its deadline:
+  arm cost from 1500 to 1000
+  arm deadline from 5000 to 5500
+  pan section 1 len from 4000 to 3500
   conflict arm
   arm 5500 of 5000 team arm
     cost 1500
@@ -22,16 +26,16 @@ each number that mends it alone; he takes the one that is his:
   in an order that passes wherever one does, from the lowest level:
   1 pan 9000 of 20000 team cam
   2 arm misses 5000 needs 5500 team arm
-    cost 1500
-    blocked 4000 by pan section 1 lock bus team cam
-  one of these changes mends it, all else as it is, but for a period below its deadline (the number, its value, the nearest that does):
-  arm cost 1500 - 1000
-  arm deadline 5000 - 5500
-  pan section 1 len 4000 - 3500
-  all - 909 arm
   $ sed -i 's/4000/3500/' bob/teams/cam.toml && git -C bob commit -q -a --amend -m cam
   $ PUSHER=bob git -C bob push -q origin HEAD:main 2>&1 | sed -n 's/ *$//; s/^remote: //p'
   admitted 2
   was admitted 1
   added pan level - 1 bound - 9000 slack - 11000 team cam
   slower arm level 1 2 bound 1500 5000 slack 3500 0 team arm
+
+A lock of which a letter is missing has one user, and a note tells of it:
+
+  $ sed -i 's/"bus"/"bsu"/' bob/teams/cam.toml && git -C bob commit -q -a -m bus
+  $ PUSHER=bob git -C bob push -q origin HEAD:main 2>&1 | sed -n 's/ *$//; s/^remote: //p' | grep note
+  note: lock bus has one user, arm
+  note: lock bsu has one user, pan

@@ -145,13 +145,21 @@ note says so; in the set of two tasks above names put a, of the shorter one, low
   admitted 2
   1 a 7000
   2 b 1000
-  (on standard error) note: names decide the order; prefer = "deadline" in front of the tasks bears most
+  (on standard error) note: names decide the order; prefer = "deadline" in front of the tasks has shorter ones higher
   $ for command in limits settings explain worst; do desk $command late.toml 2>&1 > /dev/null; done
-  note: names decide the order; prefer = "deadline" in front of the tasks bears most
-  note: names decide the order; prefer = "deadline" in front of the tasks bears most
-  note: names decide the order; prefer = "deadline" in front of the tasks bears most
-  note: names decide the order; prefer = "deadline" in front of the tasks bears most
+  note: names decide the order; prefer = "deadline" in front of the tasks has shorter ones higher
+  note: names decide the order; prefer = "deadline" in front of the tasks has shorter ones higher
+  note: names decide the order; prefer = "deadline" in front of the tasks has shorter ones higher
+  note: names decide the order; prefer = "deadline" in front of the tasks has shorter ones higher
+  $ printf 'until 7000\n0 a\n0 b\n' > run
+  $ desk simulate late.toml run --tasks > said
+  (on standard error) note: names decide the order; prefer = "deadline" in front of the tasks has shorter ones higher
+  $ desk simulate late.toml run 2> said | desk observe late.toml - 2>&1 > /dev/null
+  note: names decide the order; prefer = "deadline" in front of the tasks has shorter ones higher
+  $ printf 'thread a 1\nthread b 2\n' | cat - run | desk simulate late.toml - > said
   $ desk certify late.toml 2>&1 > /dev/null
+  $ sed 's/^cost = 1000$/cost = 6000/' late.toml | desk admit - 2>&1 | grep -e infeasible -e names
+  infeasible a b
   $ for set in own.toml plain.toml; do desk admit $set 2>&1 > /dev/null; done
   $ sed 's/^cost/weight = 1\ncost/' late.toml | desk admit - 2>&1 > /dev/null
   $ sed 's/^name = "b"/name = "A"/' late.toml | desk admit - 2>&1 > /dev/null

@@ -55,6 +55,7 @@ An infeasible set prints as in `admit`, and so does a refused one:
   thread c 999969
   thread b 999970
   thread a 999971
+  (on standard error) note: the highest thread is above 99, the most that Linux has for SCHED_FIFO
   $ desk settings examples/watchdog.toml > levels
   $ desk settings --base=1 examples/watchdog.toml | cmp - levels
   $ desk settings examples/watchdog.toml --base 40 | desk judge examples/watchdog.toml - > judged

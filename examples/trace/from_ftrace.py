@@ -12,6 +12,10 @@ has to be one.
     trace-cmd record -e sched_switch -e sched_waking -M 2 sleep 10
     trace-cmd report | from_ftrace.py ctl=control log=logger | desk observe set.toml - --tolerance 20
 
+The node's settings stand in front of the trace where its priorities aren't those of the set's best order:
+
+    { cat node.settings; trace-cmd report | from_ftrace.py ctl=control log=logger; } | desk observe set.toml -
+
 What it assumes:
 - A waking is an arrival. So a job arrives when its timer fires, not when it was due; and a thread that is woken inside
   a job, from a lock or a device, shows two jobs there, which `observe` names as `period`.
@@ -86,6 +90,13 @@ def note_missing(events, threads):
         print(f"note: the record has no thread {', '.join(missing)}; it has {names}", file=sys.stderr)
 
 
+def note_unwoken(trace):
+    """Says which tasks executed and have no job, since no waking of theirs was recorded."""
+    unwoken = sorted(trace.ran - {None} - {task for task, _, _ in trace.jobs})
+    if unwoken:
+        print(f"note: {', '.join(unwoken)} executed without a sched_waking, so without a job", file=sys.stderr)
+
+
 def the_cpu(events, threads):
     """The processor on which the tasks' threads executed."""
     cpus = {cpu for _, cpu, before, after in events if before and (threads.task(before[:2]) or threads.task(after))}
@@ -99,6 +110,7 @@ class Trace:
 
     def __init__(self, threads):
         self.threads, self.slices, self.jobs, self.open = threads, [], [], {}
+        self.ran = set()  # the tasks that executed
 
     def woken(self, time, thread):
         task = self.threads.task(thread)
@@ -115,6 +127,7 @@ class Trace:
         if thread[1] == "0" or start == stop:
             return
         task = self.threads.task(thread)
+        self.ran.add(task)
         if task is None:
             name = self.threads.foreign(thread)
         elif task in self.open:
@@ -161,7 +174,9 @@ def main():
     events = [event for event in events if event[1] == cpu]
     if not events:
         sys.exit(f"no event of processor {cpu}")
-    print("\n".join(trace_of(events, threads).lines()))
+    trace = trace_of(events, threads)
+    note_unwoken(trace)
+    print("\n".join(trace.lines()))
 
 
 if __name__ == "__main__":

@@ -404,8 +404,7 @@ def answer(words, files, stdin=b""):
         return Answer(refusal.line, refusal.status, SAID)
     if call.command.readers[0] is not teams.read_set:
         return Answer(text, status, "")
-    told = choice_note(call, said[0]) + notes(call, said[0]) + no_note(call, said[0], status) + parted_note(call, text)
-    return Answer(text, status, told)
+    return Answer(text, status, told(call, said, text, status))
 
 
 def keywords(call):
@@ -413,62 +412,98 @@ def keywords(call):
     return {KEYWORDS.get(name, name): value for name, value in call.options.items() if name != "prefer"}
 
 
-def choice_note(call, tasks):
-    """A line where the call prefers otherwise than the set; or where nothing is preferred, no task has a weight, and
-    names put a task lower than one of a longer limit."""
+def told(call, said, text, status):
+    """What stands on standard error beside an answer on a set."""
+    tasks, others = said[0], said[1:]
     prefer = call.options.get("prefer")
+    lines = []
     if prefer is not None and tasks.own not in (None, prefer):
-        return f'note: --prefer {prefer} overrides the set\'s prefer = "{tasks.own}"\n'
-    if prefer is not None or tasks.own is not None or call.command not in (COMMANDS[name] for name in OF_THE_ORDER):
-        return ""
+        lines.append(f'--prefer {prefer} overrides the set\'s prefer = "{tasks.own}"')
+    if call.command is COMMANDS["diff"]:
+        lines += notes(others[0][0])
+    else:
+        lines += ["the set has no task"] * (not tasks) + notes(tasks)
+        if tasks and call.options.get("base", 1) + len(tasks) - 1 > 99:
+            lines.append("the highest thread is above 99, the most that Linux has for SCHED_FIFO")
+        lines += notes_of(call, tasks, others, text, status)
+    return "".join(f"note: {line}\n" for line in lines)
+
+
+def notes_of(call, tasks, others, text, status):
+    """What is noted of the answer itself."""
+    command = next((name for name in COMMANDS if COMMANDS[name] is call.command), "keep" if call.command is KEEP else "")
+    if command == "keep":
+        return strange_threads(tasks, others[0]) + parted(text)
+    if command in OF_THE_ORDER:
+        if status != INFEASIBLE:
+            return names_decide(call, tasks)
+        return conflict(tasks) if command in ("admit", "settings") else []
+    if command in ("simulate", "draw"):
+        if status == INFEASIBLE:
+            return ["no order passes, so there is no run: desk explain says why"]
+        return ([] if others[0][0] else names_decide(call, tasks)) + left_out(tasks)
+    if command == "observe":
+        seen = {line.split()[1]: int(line.split()[2]) for line in text.splitlines() if line.startswith("task ")}
+        unseen = [task.name for task in tasks if seen.get(task.name) == 0]
+        has_own = bool(others[0][0]) or not seen
+        return ([] if has_own else names_decide(call, tasks)) + ["the trace has no job of " + ", ".join(unseen)] * bool(unseen)
+    return []
+
+
+def names_decide(call, tasks):
+    """Where nothing is preferred, no task has a weight, and names put a task lower than one of a longer limit."""
     against = any(lower.limit < higher.limit for lower, higher in zip(tasks, tasks[1:]))
-    if not against or any(task.weight for task in tasks):
-        return ""
-    return 'note: names decide the order; prefer = "deadline" in front of the tasks bears most\n'
+    if call.options.get("prefer") is not None or tasks.own is not None or not against or any(task.weight for task in tasks):
+        return []
+    return ['names decide the order; prefer = "deadline" in front of the tasks has shorter ones higher']
 
 
-def notes(call, tasks):
-    """A line for each lock that has one user and each name that a task outranks and no task has; where there is no task,
-    but for `diff`; and where the processor's time doesn't do."""
+def notes(tasks):
+    """Each lock that has one user and each name that a task outranks and no task has; and where the processor's time doesn't
+    do for costs, timers and interrupts."""
     lines = []
     for lock in analysis.ceilings(tasks, range(len(tasks))):
         users = [task.name for i, task in enumerate(tasks) if lock in analysis.uses(tasks, i)]
         if len(users) == 1:
-            lines.append(f"note: lock {lock} has one user, {users[0]}\n")
+            lines.append(f"lock {lock} has one user, {users[0]}")
     names = {task.name for task in tasks}
     for task in tasks:
         for name in task.named:
             if name not in names:
-                lines.append(f"note: {task.name} outranks {name}, which is no task of the set: that binds nothing\n")
-    if not tasks and call.command is not COMMANDS["diff"]:
-        lines.append("note: the set has no task\n")
-    if sum(Fraction(task.cost, task.period) for task in tasks) > 1:
-        lines.append("note: the costs over the periods come to more than 1: no order can pass\n")
-    return "".join(lines)
+                lines.append(f"{task.name} outranks {name}, which is no task of the set: that binds nothing")
+    asked = [(task.period, task.cost + task.node.release) for task in tasks] + analysis.interrupts_of(tasks)
+    if sum(Fraction(cost, period) for period, cost in asked) > 1:
+        lines.append("the costs over the periods come to more than 1: no order can pass")
+    return lines
 
 
-def no_note(call, tasks, status):
-    """A line beside a no that prints the greatest obstruction alone."""
-    if status != INFEASIBLE:
-        return ""
-    if call.command in (COMMANDS["simulate"], COMMANDS["draw"]):
-        return "note: no order passes, so there is no run: desk explain says why\n"
-    if call.command not in (COMMANDS["admit"], COMMANDS["settings"]):
-        return ""
+def left_out(tasks):
+    """What a run doesn't have."""
+    return ["what timers and interrupts take is in the bounds, and not in the run"] * analysis.has_interrupts(tasks)
+
+
+def strange_threads(tasks, rows):
+    """Each thread of settings that is no task."""
+    names = {task.name for task in tasks}
+    return [f"thread {name} is no task of the set: it is left out" for _, kind, name, _ in rows if kind == "thread" and name not in names]
+
+
+def conflict(tasks):
+    """Beside a no that prints the greatest obstruction alone."""
     greatest = analysis.greatest_obstruction(tasks, range(len(tasks)))
     least = sorted(analysis.least_conflict(tasks, greatest))
-    of_these = " of these" if len(least) < len(greatest) else ""
+    of_these = "of these " if len(least) < len(greatest) else ""
     names = ", ".join(tasks[i].name for i in least)
     how = "alone can't be met" if len(least) == 1 else "can't be met together"
-    return f"note:{of_these} {names} {how}: desk explain says why\n"
+    return [f"{of_these}{names} {how}: desk explain says why"]
 
 
-def parted_note(call, text):
-    """A line beside the pair that has to change."""
-    if call.command is not KEEP or not text.startswith("parted "):
-        return ""
+def parted(text):
+    """Beside the pair that has to change."""
+    if not text.startswith("parted "):
+        return []
     _, low, high = text.split()
-    return f"note: with {high} above {low}, and those below as they are, no order passes: without the line of one it may move\n"
+    return [f"with {high} above {low}, and those below as they are, no order passes: without the line of one it may move"]
 
 
 def read_inputs(call, files, stdin):

@@ -6,17 +6,18 @@ use crate::sentence::{Known, sentence_of};
 use assignment::Placing;
 use ceilings::{LockTable, Tabled};
 use command_line::{Call, Input, OfNumber, OfOne, OfTwo, Options};
-use desk_cli::{Audience, CommandRefusal, Status, Which};
+use desk_cli::{Audience, CommandRefusal, Status, Which, base_of};
 use explain::least_conflict;
 use preferences::Choice;
 use sentences::{
-    greatest_until, of_task, of_tasks, push_clean, put_conflict, put_empty, put_names_decide,
-    put_notes, put_overload, put_override, put_parted, put_strangers, put_unrun,
+    greatest_until, of_task, of_tasks, push_clean, put_conflict, put_empty, put_left_out,
+    put_names_decide, put_notes, put_overload, put_override, put_parted, put_past_priorities,
+    put_strange_threads, put_strangers, put_unrun, put_unseen,
 };
 use std::alloc::{AllocError, Global};
 use std::io::Write;
 use streams::{Watched, WriteFailed};
-use task_sheet::TaskSet;
+use task_sheet::{Members, TaskSet};
 
 /// Tells a person what is wrong with an input, and what is odd in a set. A sentence for which memory runs out, or that
 /// can't be written, is dropped: no answer and no status rests on it.
@@ -29,20 +30,11 @@ pub struct Advice<'a, W: Write + Drop> {
     greatest_until: Option<u64>,
     // That the set has no task of a name that the call's words say.
     no_task: Option<String>,
+    // Whether nobody says by what the set is preferred.
+    is_unpreferred: bool,
     // The set of a call that runs a list or checks a certificate, for what these break.
     set: Option<TaskSet>,
     errors: Watched<W>,
-}
-
-// Whether the answer of a call speaks of the best order of a set's tasks, with nothing beside it.
-fn is_placing(call: Call<'_>) -> bool {
-    match call {
-        Call::One { command, .. } => match command {
-            OfOne::Admit | OfOne::Limits | OfOne::Settings | OfOne::Explain | OfOne::Worst => true,
-            OfOne::Certify | OfOne::Play => false,
-        },
-        _ => false,
-    }
 }
 
 // Whether the answer of a call on a set of which no order passes says that alone.
@@ -81,7 +73,7 @@ fn is_check(call: Call<'_>) -> bool {
     }
 }
 
-// Whether a call compares two sets: nothing is odd about one without tasks.
+// Whether a call compares two sets: what is odd in the old one needs no note.
 fn is_diff(call: Call<'_>) -> bool {
     match call {
         Call::Two { command, .. } => match command {
@@ -178,6 +170,7 @@ impl<'a, W: Write + Drop> Advice<'a, W> {
             last,
             greatest_until: None,
             no_task: None,
+            is_unpreferred: false,
             set: None,
             errors,
         }
@@ -192,10 +185,17 @@ impl<'a, W: Write + Drop> Advice<'a, W> {
     fn put_oddities(&mut self, set: &TaskSet) -> Result<(), WriteFailed> {
         put_notes(set, &mut self.errors)?;
         put_strangers(set, &mut self.errors)?;
-        if !is_diff(self.call) {
-            put_empty(set, &mut self.errors)?;
-        }
         put_overload(set, &mut self.errors)
+    }
+
+    // What is odd in the set of a call, and in the priority that its words choose.
+    fn put_all(&mut self, set: &TaskSet) -> Result<(), WriteFailed> {
+        put_empty(set, &mut self.errors)?;
+        self.put_oddities(set)?;
+        match options_of(self.call).base {
+            Some(_) => put_past_priorities(base_of(options_of(self.call)), set, &mut self.errors),
+            None => Ok(()),
+        }
     }
 
     // Says what is wrong with an input.
@@ -227,8 +227,8 @@ impl<'a, W: Write + Drop> Advice<'a, W> {
 impl<'a, W: Write + Drop> Audience for Advice<'a, W> {
     fn read(&mut self, set: &TaskSet) {
         // (of one input: what follows is that refusal)
-        if !self.put_no_task() {
-            let _ = self.put_oddities(set);
+        if !self.put_no_task() && !is_diff(self.call) {
+            let _ = self.put_all(set);
         }
     }
 
@@ -236,6 +236,7 @@ impl<'a, W: Write + Drop> Audience for Advice<'a, W> {
         requires { IsPlacingOf set.now placing.now }
     {
         let Placing::Stuck(greatest) = placing else {
+            self.in_best_order(set);
             return;
         };
         if !says_no_alone(self.call) {
@@ -245,6 +246,28 @@ impl<'a, W: Write + Drop> Audience for Advice<'a, W> {
             let least = least_conflict(&Tabled::of(set, &table), *greatest);
             let _ = put_conflict(set, *greatest, least, &mut self.errors);
         }
+    }
+
+    fn in_best_order(&mut self, set: &TaskSet) {
+        if self.is_unpreferred {
+            let _ = put_names_decide(set, &mut self.errors);
+        }
+    }
+
+    fn ran(&mut self, set: &TaskSet) {
+        let _ = put_left_out(set, &mut self.errors);
+    }
+
+    fn seen(&mut self, set: &TaskSet, tasks: Members) {
+        let _ = put_unseen(set, tasks, &mut self.errors);
+    }
+
+    fn keeping(&mut self, set: &TaskSet, settings: &[u8]) {
+        let _ = put_strange_threads(self.alloc, set, settings, &mut self.errors);
+    }
+
+    fn compared(&mut self, new: &TaskSet) {
+        let _ = self.put_oddities(new);
     }
 
     fn parted(&mut self, set: &TaskSet, low: usize, high: usize) {
@@ -263,9 +286,7 @@ impl<'a, W: Write + Drop> Audience for Advice<'a, W> {
             (Some(call), Some(own)) if call != own => {
                 let _ = put_override(call, own, &mut self.errors);
             }
-            (None, None) if is_placing(self.call) => {
-                let _ = put_names_decide(set, &mut self.errors);
-            }
+            (None, None) => self.is_unpreferred = true,
             _ => {}
         }
     }

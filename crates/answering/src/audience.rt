@@ -4,7 +4,7 @@ ghost use Rattle.assignment.specs.Placings.{IsPlacingOf};
 use crate::refusal::CommandRefusal;
 use assignment::Placing;
 use preferences::Choice;
-use task_sheet::TaskSet;
+use task_sheet::{Members, TaskSet};
 
 /// Which input of a call.
 #[derive(Clone, Copy, Debug, PartialEq, Eq)]
@@ -22,6 +22,21 @@ pub trait Audience {
     /// What becomes of the tasks of a set that was read, by their analysis.
     fn placed(&mut self, set: &TaskSet, placing: &Placing)
         requires { IsPlacingOf set.now placing.now };
+
+    /// The answer that follows is of the best order of a set: what was read beside it gives none.
+    fn in_best_order(&mut self, set: &TaskSet);
+
+    /// The answer that follows is a run of a set's tasks.
+    fn ran(&mut self, set: &TaskSet);
+
+    /// A trace shows jobs of some tasks of a set, by their indexes, and of no other.
+    fn seen(&mut self, set: &TaskSet, tasks: Members);
+
+    /// A set is to keep the order that settings give.
+    fn keeping(&mut self, set: &TaskSet, settings: &[u8]);
+
+    /// A new set was read beside the first.
+    fn compared(&mut self, new: &TaskSet);
 
     /// No order of a set that passes keeps one that is given: the first pair of it that has to change.
     fn parted(&mut self, set: &TaskSet, low: usize, high: usize);
@@ -41,6 +56,16 @@ impl Audience for Nobody {
     fn read(&mut self, _set: &TaskSet) {}
 
     fn placed(&mut self, _set: &TaskSet, _placing: &Placing) {}
+
+    fn in_best_order(&mut self, _set: &TaskSet) {}
+
+    fn ran(&mut self, _set: &TaskSet) {}
+
+    fn seen(&mut self, _set: &TaskSet, _tasks: Members) {}
+
+    fn keeping(&mut self, _set: &TaskSet, _settings: &[u8]) {}
+
+    fn compared(&mut self, _new: &TaskSet) {}
 
     fn parted(&mut self, _set: &TaskSet, _low: usize, _high: usize) {}
 

@@ -1,10 +1,11 @@
 -- Members by the lists that they were taken from.
-use Rattle.std.proofs.Common.{◌≡◌, ◌∙◌, ℕ, ◌+◌, ◌<◌, inl, inr, Bool, true, false, ◌||◌, ◌==◌, List}
-use Rattle.std.proofs.Common.{[], ◌∷◌, ◌++◌, length, get_or, take, refl, sym, ap}
+use Rattle.std.proofs.Common.{◌≡◌, ◌∙◌, ℕ, ◌+◌, ◌<◌, ◌||◌, ◌==◌, List}
+use Rattle.std.proofs.Common.{[], ◌∷◌, ◌++◌, length, get_or, take, sym, ap}
+use Rattle.std.proofs.Math.Bool.{or-false, or_comm}
 use Rattle.std.proofs.Math.Path.{fun_ext}
+use Rattle.std.specs.Cmp.{nat_eq_equiv}
 use Rattle.std.specs.FinSet as set
 use Rattle.std.specs.Ordering.{nat_cmp}
-use Rattle.std.proofs.lemmas.Bool.{cases_eq, eq-eqb, ne_eqb}
 use Rattle.std.proofs.lemmas.List.{take_more, map-append}
 use Rattle.std.proofs.lemmas.List.Folds.{list_any-append}
 use Rattle.task_sheet.specs.Indexes.{among, indexes_of, with_index}
@@ -12,21 +13,10 @@ use Rattle.task_sheet.proofs.MembersIndexes.{indexes_of-insert}
 use Rattle.assignment.specs.Places.{PlaceData}
 use Rattle.assignment.specs.Placings.{tasks_of_places}
 
-or_turned : (b c : Bool) → (b || (c || false)) ≡ (c || b)
-or_turned true true = refl
-or_turned true false = refl
-or_turned false true = refl
-or_turned false false = refl
-
-pub turned : (i k : ℕ) → (i == k) ≡ (k == i)
-turned i k = elim (cases_eq i k) [
-  | inl e ↦ eq-eqb i k e ∙ sym (eq-eqb k i (sym e))
-  | inr ne ↦ ne_eqb i k ne ∙ sym (ne_eqb k i (λ e. ne (sym e)))
-]
-
 among-push : (xs : List ℕ) (i : ℕ) → among (xs ++ i ∷ []) ≡ with_index (among xs) i
 among-push xs i = fun_ext (λ k. list_any-append (λ x. x == k) xs (i ∷ [])
-    ∙ or_turned (among xs k) (i == k) ∙ ap (λ b. b || among xs k) (turned i k))
+    ∙ ap (λ b. among xs k || b) (or-false (i == k)) ∙ or_comm (among xs k) (i == k)
+    ∙ ap (λ b. b || among xs k) (nat_eq_equiv.symm i k))
 
 member_more : (m n : set.FinSet nat_cmp) (xs : List ℕ) (i : ℕ) → indexes_of m ≡ among xs
     → n ≡ set.insert m i → indexes_of n ≡ among (xs ++ i ∷ [])

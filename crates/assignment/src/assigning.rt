@@ -1,12 +1,10 @@
 //! The verdict of a set, on the caller's thread (Audsley 1991).
-ghost use Rattle.std.specs.Prelude.{◌≡◌, ◌<◌, length, IfOk, IsTrue};
+ghost use Rattle.std.specs.Prelude.{◌≡◌, ◌<◌, IfOk, IsTrue};
 ghost use Rattle.std.specs.FinSet.{contains, len};
-ghost use Rattle.task_sheet.specs.Indexes.{indexes_of, IsPart};
-ghost use Rattle.task_sheet.specs.Orders.{all_of};
 ghost use Rattle.task_sheet.specs.Verdicts.{IsVerdictOf};
 ghost use Rattle.ceilings.specs.IsTableOf.{IsTableOf};
 ghost use Rattle.assignment.specs.Climbs.{IsUnfinished};
-ghost use Rattle.assignment.specs.Levels.{LevelState, IsDecided, with_finding};
+ghost use Rattle.assignment.specs.Levels.{IsDecided, with_finding};
 ghost use Rattle.assignment.specs.Verdict.{verdict_set, verdict_of};
 
 use crate::climb::Climb;

@@ -1,6 +1,6 @@
 //! The test of a draft on its base, with no lock.
 
-ghost use Rattle.std.specs.Prelude.{◌≡◌, ◌<◌, length, IfOk, IfErr, OnOk};
+ghost use Rattle.std.specs.Prelude.{◌≡◌, ◌<◌, IfOk, IfErr, OnOk};
 ghost use Rattle.candidate_workers.specs.Faults.{IsBadCount};
 ghost use Rattle.drafts.specs.Edits.{on_base};
 ghost use Rattle.drafts.specs.Outcomes.{IsJudged, IsJudgedSet};

@@ -1,6 +1,6 @@
 //! Making and closing a desk.
 
-ghost use Rattle.std.specs.Prelude.{◌≡◌, ◌≤◌, ◌<◌, ◌^◌, ◌↔◌, ℕ, [], length, map, IsTrue, IfOk, IfErr, MatchOption};
+ghost use Rattle.std.specs.Prelude.{◌≡◌, ◌≤◌, ◌<◌, ◌^◌, ◌↔◌, [], length, map, IsTrue, IfOk, IfErr, MatchOption};
 ghost use Rattle.drafts.specs.Books.{Book};
 ghost use Rattle.drafts.specs.declared.team.TheConstants.{TEAM_LIMIT};
 ghost use Rattle.book_lock.specs.PassFields.{receipt_of};

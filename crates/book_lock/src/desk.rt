@@ -1,6 +1,6 @@
 //! The desk.
 
-ghost use Rattle.std.specs.Prelude.{◌≡◌, ◌≤◌, IfErr, IfOk, map, ℕ, ◌<◌};
+ghost use Rattle.std.specs.Prelude.{◌≤◌, IfErr, IfOk, ℕ, ◌<◌};
 ghost use Rattle.drafts.specs.declared.team.TheConstants.{TEAM_LIMIT};
 ghost use Rattle.book_lock.specs.Settles.{AnswersProposal};
 ghost use Rattle.book_lock.specs.Opening.{IsNotOpenedFor, IsOpenedFor};

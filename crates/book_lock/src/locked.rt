@@ -1,7 +1,7 @@
 //! What lies under the lock, and the functions that are lent it.
 
-ghost use Rattle.std.specs.Prelude.{◌≡◌, ◌≤◌, [], length, map};
-ghost use Rattle.drafts.specs.Books.{empty_book, IsLegalBook, Book};
+ghost use Rattle.std.specs.Prelude.{◌≡◌, ◌≤◌, length, map};
+ghost use Rattle.drafts.specs.Books.{IsLegalBook, Book};
 ghost use Rattle.book_lock.specs.Settles.{Settles, Holds};
 ghost use Rattle.book_lock.specs.Opening.{OpensDraft};
 

@@ -1,6 +1,6 @@
 //! A team's pass.
 
-ghost use Rattle.std.specs.Prelude.{◌≡◌, ◌<◌, ◌&&◌, ℕ, nat_le, [], length, map};
+ghost use Rattle.std.specs.Prelude.{◌≡◌, ◌<◌, ◌&&◌, ℕ, nat_le, length, map};
 ghost use Rattle.drafts.specs.Rulings.{ruling_of};
 ghost use Rattle.book_lock.specs.TeamPass.{newcomer, is_up_to, admitted_version};
 ghost use Rattle.book_lock.specs.PassFields.{receipt_of};

@@ -8,11 +8,11 @@ use Rattle.std.proofs.lemmas.Option.{none-some}
 use Rattle.std.specs.List.{list_any}
 use Rattle.std.specs.Option.{option_or, option_map}
 use Rattle.std.proofs.lemmas.Bool.{cases_eq, cases_lt, cases_Bool, true≢false, lt-ltb, le-ltb}
-use Rattle.std.proofs.lemmas.Bool.{eq-eqb, ne_eqb}
+use Rattle.std.proofs.lemmas.Bool.{eq-eqb, ne_eqb, or_parts}
 use Rattle.std.proofs.lemmas.List.{map_more, get_or_default, length-replicate}
 use Rattle.std.proofs.lemmas.List.Folds.{list_any_at}
 use Rattle.std.proofs.lemmas.List.Quantifiers.{position-Some}
-use Rattle.task_sheet.proofs.Common.{Task, no_task, same_bytes, task_at, some_below}
+use Rattle.task_sheet.proofs.Common.{Task, no_task, same_bytes, task_at}
 use Rattle.ceiling_kernel.specs.declared.trace.Release.{Release}
 use Rattle.ceiling_kernel.specs.declared.trace.RunFault.{RunFault}
 use Rattle.ceiling_kernel.specs.declared.trace.RunFault.TheVariants as fault
@@ -84,10 +84,6 @@ if_none : (b : Bool) (r : RunFault) → refuse_if b r ≡ None → b ≡ false
 if_none true r e = absurd (cc)
 if_none false r e = refl
 
-or_false_parts : (x y : Bool) → (x || y) ≡ false → (x ≡ false) × (y ≡ false)
-or_false_parts true y e = absurd (true≢false e)
-or_false_parts false y e = (refl, e)
-
 pub record IsAccepted (U : List Task) (rs : List Release) (until : ℕ) : Type 0 where
   pub sorted : first_where (is_unsorted rs) (length rs) ≡ None
   pub known : first_where (is_unknown U rs) (length rs) ≡ None
@@ -122,7 +118,7 @@ accepted U rs until e =
           map_none (λ k. fault.TooLate (k + 1)) (first_where (is_too_late U rs) (length rs)) l.0;
       in_cost = map_none (λ k. fault.OutsideCost (k + 1))
           (first_where (is_outside_cost U rs) (length rs)) o.0;
-      before = (or_false_parts (nat_lt 60000000 until) (list_any (is_past until) rs)
+      before = (or_parts (nat_lt 60000000 until) (list_any (is_past until) rs)
           (if_none (nat_lt 60000000 until || list_any (is_past until) rs) fault.PastHorizon d.0)).1;
     }
 
@@ -364,7 +360,7 @@ outside_at U rs k i cost r t lt is known et ec =
 pub inside_cost : (runs cost : ℕ) → ((runs == 0) || nat_lt cost runs) ≡ false → (0 < runs)
     × (runs ≤ cost)
 inside_cost runs cost h =
-    let p = or_false_parts (runs == 0) (nat_lt cost runs) h in
+    let p = or_parts (runs == 0) (nat_lt cost runs) h in
     let some : 0 < runs = elim (cases_eq runs 0) [
       | inl z ↦
           absurd (true≢false (sym (eq-eqb runs 0 z) ∙ p.0))
@@ -380,9 +376,3 @@ none_passes p xs k d lt none = elim (cases_Bool (p (get_or xs k d))) [
       absurd (true≢false (sym (list_any_at p xs k d lt passes) ∙ none))
   | inr fails ↦ fails
 ]
-
-pub none_below : (n : ℕ) (p : ℕ → Bool) → some_below n p ≡ false → (k : ℕ) → k < n → p k ≡ false
-none_below zero p h k lt = absurd (omega arith)
-none_below (suc n) p h k lt =
-    let q : (some_below n p ≡ false) × (p n ≡ false) = or_false_parts (some_below n p) (p n) h in
-    elim (cases_eq k n) [ inl e ↦ ap p e ∙ q.1 | inr ne ↦ none_below n p q.0 k (omega arith) ]

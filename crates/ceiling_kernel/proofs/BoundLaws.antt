@@ -66,6 +66,77 @@ top_of node ok level (r ∷ rs) some h =
           )
     ]
 
+-- what is left of a section of a task below another one, where it blocks that one
+module _ (node : Node) (jobs : List Job) (is_node : IsNode node)
+    (spanned : (j : ℕ) → HasSpans node jobs j) (i : ℕ) (is : i < length node.tasks)
+    (some : 0 < level_in_order node i) where
+  abbrev base : ℕ
+  base = level_in_order node i
+
+  -- the tasks of this level or above
+  abbrev upper : Indexes
+  upper = with_index (above_of node i) i
+
+  upper-high : (h : ℕ) → h < length node.tasks → base ≤ level_in_order node h → upper h ≡ true
+  upper-high h lt le =
+      elim (cases_eq h i) [
+        | inl e ↦ rw (eq-eqb h i e)
+        | inr ne ↦ elim (cases_eq base (level_in_order node h)) [
+          | inl same ↦ absurd (ne ((sound node is_node).levels_differ h i lt is (sym same)))
+          | inr differ ↦ rw (ne_eqb h i ne, lt-ltb base (level_in_order node h) (omega arith))
+        ]
+      ]
+
+  upper-low : (h : ℕ) → level_in_order node h < base → upper h ≡ false
+  upper-low h low =
+      rw (
+        ne_eqb h i (λ e. omega (arith, ap (level_in_order node) e)),
+        le-ltb base (level_in_order node h) (omega arith),
+      )
+
+  reached : (s : CriticalSection) → base ≤ top_ceiling node s.locks
+      → reaches node.tasks upper s ≡ true
+  reached s le =
+      let u : IsTopOf node base s.locks = top_of node is_node base s.locks some le in
+      some_below-at (length node.tasks) (λ k. upper k && shares_lock (task_at node.tasks k) s)
+      u.0 u.1 (rw (upper-high u.0 u.1 u.2, u.3))
+
+  -- the section is left after its first tick
+  pub rest_most : (j e : ℕ)
+      → rest_at node jobs base some spanned j e ≤ blocking_of node.tasks i (above_of node i) - 1
+  unfolding blocking_of
+  rest_most j e =
+      let k : ℕ = (job_at jobs j).task in
+      let needs : ℕ = (job_at jobs j).executes in
+      elim (cases_lt (level_of_job node jobs j) base) [
+        | inr ge ↦ rw (le-leb base (level_of_job node jobs j) ge) (omega arith)
+        | inl low ↦
+            let not_high = lt-leb base (level_of_job node jobs j) low in
+            let o : HasSpans node jobs j = spanned j in
+            let a = rest-le node base upper reached (job_task node jobs j).sections 0 needs o.spans
+            e o.taken in
+            let apart = taken_apart (job_task node jobs j).sections 0 needs o.spans o.taken in
+            let s = stretch-le node base some 0 needs (job_at jobs j).sections o.spans apart
+            o.above (needs - e) e in
+            elim (cases_lt k (length node.tasks)) [
+              | inl lt ↦
+                  let b = le-greatest_below (length node.tasks)
+                  (λ k. if upper k then 0 else longest_reached node.tasks upper
+                  (task_at node.tasks k)) k lt in
+                  let b' : longest_reached node.tasks upper (task_at node.tasks k)
+                  ≤ greatest_below (length node.tasks) (λ k. if upper k then 0
+                  else longest_reached node.tasks upper (task_at node.tasks k)) =
+                  rw (upper-low k low) at b in
+                  rw not_high (omega arith)
+              | inr past ↦
+                  rw not_high (omega (
+                    arith,
+                    ap (longest_reached node.tasks upper)
+                        (get_or_past node.tasks k no_task past),
+                  ))
+            ]
+      ]
+
 module _ (node : Node) (jobs : List Job) (is_node : IsNode node)
     (legal : AreLegalJobs node jobs) where
   valid : IsSound node
@@ -124,76 +195,9 @@ module _ (node : Node) (jobs : List Job) (is_node : IsNode node)
     level_some : 0 < level
     level_some = (valid.each i is).level_from_one
 
-    -- the tasks of this level or above
-    abbrev upper : Indexes
-    upper = with_index (above_of node i) i
-
     -- what is left of a section that blocks
     abbrev blocking : ℕ
     blocking = blocking_of node.tasks i (above_of node i) - 1
-
-    upper-high : (h : ℕ) → h < length node.tasks → level ≤ level_in_order node h → upper h ≡ true
-    upper-high h lt le =
-        elim (cases_eq h i) [
-          | inl e ↦ rw (eq-eqb h i e)
-          | inr ne ↦
-              elim (cases_eq level (level_in_order node h)) [
-                | inl same ↦ absurd (ne (valid.levels_differ h i lt is (sym same)))
-                | inr differ ↦ (let t = lt-ltb level (level_in_order node h) (omega arith) in rw
-                    (ne_eqb h i ne, t))
-              ]
-        ]
-
-    upper-low : (h : ℕ) → level_in_order node h < level → upper h ≡ false
-    upper-low h low =
-        let f : eqb h i ≡ false = ne_eqb h i (λ e. (absurd
-        (omega (arith, ap (level_in_order node) e)))) in
-        let g = le-ltb level (level_in_order node h) (omega arith) in
-        rw (f, g)
-
-    reached : (s : CriticalSection) → level ≤ top_ceiling node s.locks
-        → reaches node.tasks upper s ≡ true
-    reached s le =
-        let u : IsTopOf node level s.locks = top_of node is_node level s.locks level_some le in
-        some_below-at (length node.tasks)
-        (λ k. upper k && shares_lock (task_at node.tasks k) s) u.0 u.1
-        (rw (upper-high u.0 u.1 u.2, u.3))
-
-    -- the rest of a section of a lower task is at most that
-    rest_most : (j e : ℕ) → rest_at node jobs level level_some spanned j e ≤ blocking
-    unfolding blocking_of
-    rest_most j e =
-        let k : ℕ = (job_at jobs j).task in
-        elim (cases_lt (level_of_job node jobs j) level) [
-          | inr ge ↦
-              rw (le-leb level (level_of_job node jobs j) ge) (omega arith)
-          | inl low ↦
-              let not_high = lt-leb level (level_of_job node jobs j) low in
-              let o : HasSpans node jobs j = spanned j in
-              let a = rest-le node level upper reached (job_task node jobs j).sections 0
-              (job_at jobs j).executes o.spans e o.taken in
-              let apart = taken_apart (job_task node jobs j).sections 0 (job_at jobs j).executes
-              o.spans o.taken in
-              let s = stretch-le node level level_some 0 (job_at jobs j).executes
-              (job_at jobs j).sections o.spans apart o.above ((job_at jobs j).executes - e) e in
-              elim (cases_lt k (length node.tasks)) [
-                | inl lt ↦
-                    let b = le-greatest_below (length node.tasks)
-                    (λ k. if upper k then 0 else longest_reached node.tasks upper
-                    (task_at node.tasks k)) k lt in
-                    let b' : longest_reached node.tasks upper (task_at node.tasks k)
-                    ≤ greatest_below (length node.tasks) (λ k. if upper k then 0
-                    else longest_reached node.tasks upper (task_at node.tasks k)) =
-                    rw (upper-low k low) at b in
-                    rw not_high (omega arith)
-                | inr past ↦
-                    rw not_high (omega (
-                      arith,
-                      ap (longest_reached node.tasks upper)
-                          (get_or_past node.tasks k no_task past),
-                    ))
-              ]
-        ]
 
     abbrev ready_of : ℕ → ℕ
     ready_of j = (job_at jobs j).ready
@@ -347,7 +351,7 @@ module _ (node : Node) (jobs : List Job) (is_node : IsNode node)
         finishes (length jobs) ready_of executes_of (is_high node jobs level level_some spanned)
         (rest_at node jobs level level_some spanned) (executed_before node jobs)
         (picked node jobs) (machine node jobs level level_some spanned)
-        t blocking covers.from_one rest_most fits j lt
+        t blocking covers.from_one (rest_most node jobs is_node spanned i is level_some) fits j lt
         (le-leb level (level_of_job node jobs j) (omega arith))
 
 pub windows_law : (node : Node) (jobs : List Job) → IsNode node → AreLegalJobs node jobs

@@ -24,12 +24,13 @@ use Rattle.ceiling_kernel.specs.Runs.{bound_by, MeetsBounds, MeetsTighterBounds,
 use Rattle.ceiling_kernel.specs.States.{IsRunnable, Kept, IsStop}
 use Rattle.ceiling_kernel.proofs.NestLaws.{nobody_waits_law}
 use Rattle.ceiling_kernel.proofs.BoundLaws.{covers_from, tighter_response, no_overrun_law}
+use Rattle.task_sheet.proofs.Below.{none_below}
 use Rattle.ceiling_kernel.proofs.FinishLaws.{finish_some, finish_later, finish_is}
 use Rattle.ceiling_kernel.proofs.ReleaseLaws.{job_is, jobs_length}
 use Rattle.ceiling_kernel.proofs.NodeLaws.{sound}
 use Rattle.ceiling_kernel.specs.Behaviours.{AreCut, AreKnown, TakeTurns}
 use Rattle.ceiling_kernel.proofs.CutLaws.{cuts_by, cuts_within, cuts_apart}
-use Rattle.ceiling_kernel.proofs.AcceptLaws.{IsAccepted, accepted, first_none, none_below}
+use Rattle.ceiling_kernel.proofs.AcceptLaws.{IsAccepted, accepted, first_none}
 use Rattle.ceiling_kernel.proofs.AcceptLaws.{none_passes, not_lt, known_from, inside_cost}
 
 -- no release of an accepted list stands at the end or after it

@@ -44,6 +44,11 @@ module _ (node : Node) (jobs : List Job) (j : ℕ) where
   grows_by t zero = rw add-zero (omega arith)
   grows_by t (suc k) = rw add-suc (omega (arith, grows_by t k, grows (t + k)))
 
+  -- what it has executed never falls
+  pub done_grows : (t u : ℕ) → t ≤ u → done t ≤ done u
+  done_grows t u le = (let at : t + (u - t) ≡ u = omega arith in
+      subst (λ v. done t ≤ done v) at (grows_by t (u - t)))
+
   -- an unfinished job has no finish
   pub finish_none : (t : ℕ) → done t < cost → finish_before node jobs t j ≡ None
   finish_none zero lt = finish_start

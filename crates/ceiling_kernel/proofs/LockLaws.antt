@@ -1,6 +1,6 @@
 -- No job waits for a lock.
 use Rattle.std.proofs.Common.{ℕ, zero, suc, ◌+◌, ◌<◌, ◌≤◌, ◌≡◌, ◌⊎◌, inl, inr, refl, sym, ap, arith}
-use Rattle.std.proofs.Common.{Bool, true, false, ◌==◌, ◌&&◌, ◌||◌, List, [], ◌∷◌, Some, None}
+use Rattle.std.proofs.Common.{Bool, true, false, ◌==◌, ◌&&◌, List, [], ◌∷◌, Some, None}
 use Rattle.std.proofs.lemmas.Bool.{cases_eq, cases_Bool, true≢false, and_parts, or_cases, or_right}
 use Rattle.std.proofs.lemmas.Bool.{eq-eqb, eqb-true}
 use Rattle.std.specs.List.{list_any}
@@ -12,9 +12,6 @@ use Rattle.ceiling_kernel.proofs.BehaviourLaws.{turns_apart}
 use Rattle.ceiling_kernel.proofs.SectionLaws.{inside_true, inside_from, outside_before}
 use Rattle.ceiling_kernel.proofs.SectionLaws.{outside_after}
 use Rattle.ceiling_kernel.proofs.MachineLaws.{picked_is, pending_parts, start_of, idle_of, other_of}
-
-or_false : (x y : Bool) → x ≡ false → y ≡ false → (x || y) ≡ false
-or_false x y a b = rw (a, b)
 
 -- before the sections begin nothing is held or asked for
 pub holds_before : (begin cost : ℕ) (ss : List CriticalSection) (e : ℕ) (q : List ℕ)

@@ -285,7 +285,7 @@ pub record IsSound (node : Node) : Type 0 where
       → level_in_order node i ≤ ceiling node lock
 
 module _ (node : Node) (ok : IsNode node) where
-  times-order : (i : ℕ) → times i node.order ≡ cond (nat_lt i (length node.tasks)) 1 0
+  pub times-order : (i : ℕ) → times i node.order ≡ cond (nat_lt i (length node.tasks)) 1 0
   unfolding times
   times-order i = ok.order i
 
@@ -294,7 +294,7 @@ module _ (node : Node) (ok : IsNode node) where
       let one : times i node.order ≡ 1 = rw (lt-ltb i (length node.tasks) lt) at (times-order i) in
       omega arith
 
-  at_most_once : (i : ℕ) → times i node.order ≤ 1
+  pub at_most_once : (i : ℕ) → times i node.order ≤ 1
   at_most_once i =
       let once : times i node.order ≡ cond (nat_lt i (length node.tasks)) 1 0 = times-order i in
       elim (cases_Bool (nat_lt i (length node.tasks))) [

@@ -21,6 +21,11 @@ job_is U (r ∷ rs) (suc j) lt = job_is U rs j (omega arith)
 pub jobs_length : (U : List Task) (rs : List Release) → length (jobs_of U rs) ≡ length rs
 jobs_length U rs = length-map rs (job_of U)
 
+pub records_length : (node : Node) (jobs : List Job) (t k : ℕ) (rs : List Release)
+    → length (records_from node jobs t k rs) ≡ length rs
+records_length node jobs t k [] = refl
+records_length node jobs t k (r ∷ rs) = ap suc (records_length node jobs t (k + 1) rs)
+
 numbers_at : (U : List Task) (rs : List Release) (j : ℕ) → j < length rs
     → get_or (map (task_number U) rs) j 0 ≡ task_number U (release_at rs j)
 numbers_at U [] j lt = absurd (omega arith)

@@ -187,7 +187,7 @@ module _ (U : List Task) (rs : List Release) (ys : List (ℕ × ℕ))
         let far' = subst (λ k. NotAfter (slice_index_or ys m no_turn) (slice_index_or ys k no_turn))
         to far in
         let apart = places_differ ys m n no_turn (AreDistinct-permutation same_place
-        (λ x. eq-eqb x.1 x.1 refl) same_turned (listed_turns 0 rs) ys moved (listed-distinct 0 rs))
+        same_turned (listed_turns 0 rs) ys moved (listed-distinct 0 rs))
         mn lt in
         let tm = timed_in m (omega arith) in
         let tn = timed_in n lt in

@@ -1,6 +1,5 @@
 //! Which release lists a kernel runs.
-ghost use Rattle.std.specs.Prelude.{◌≡◌, ◌<◌, ◌≤◌, ◌+◌, ℕ, List, length, map, MatchResult, IfSome, Some, None};
-ghost use Rattle.task_sheet.specs.Sheet.{Task, task_at};
+ghost use Rattle.std.specs.Prelude.{◌≡◌, ◌<◌, ◌≤◌, ◌+◌, length, map, MatchResult, IfSome, Some, None};
 ghost use Rattle.std.specs.List.{list_any};
 ghost use Rattle.ceiling_kernel.specs.Releases.{task_number, jobs_of, first_where, is_unsorted, is_unknown, is_too_soon, is_too_late, is_outside_cost, is_past, refusal_of, IsRefusal, IsUnknown, soon_after};
 ghost use Rattle.std.specs.Option.{ForSome};

@@ -1,6 +1,6 @@
 //! The lists of the tasks whose jobs are pending: SCHED_FIFO of POSIX.1-2017, with one list per priority,
 //! the lowest first.
-ghost use Rattle.std.specs.Prelude.{◌≡◌, ◌<◌, ◌≤◌, ℕ, length, vec_len, slice_index_or, replicate, IfOk, None, []};
+ghost use Rattle.std.specs.Prelude.{◌≡◌, ◌<◌, ◌≤◌, length, vec_len, slice_index_or, replicate, IfOk, None, []};
 ghost use Rattle.task_sheet.specs.declared.set.TheConstants.{TASK_LIMIT};
 ghost use Rattle.ceiling_kernel.specs.States.{best_slot};
 ghost use Rattle.ceiling_kernel.specs.Lists.{listed, list_at, Queues, with_tail, without_head, moved_to, head_of_highest};

@@ -1,11 +1,10 @@
 //! The run of a kernel, from event to event: its cost grows with releases and sections, never with ticks.
-ghost use Rattle.std.specs.Prelude.{◌≡◌, ◌<◌, ◌≤◌, ◌+◌, ◌-◌, ℕ, max, List, length, map, IfOk, IfErr, IfSome, None, [], Some, replicate, reverse};
-ghost use Rattle.task_sheet.specs.Sheet.{task_at};
+ghost use Rattle.std.specs.Prelude.{◌≡◌, ◌<◌, ◌≤◌, ◌+◌, ◌-◌, ℕ, max, List, length, map, IfOk, IfErr, None, Some, replicate, reverse};
 ghost use Rattle.ceiling_kernel.specs.declared.trace.Release.{Release};
 ghost use Rattle.ceiling_kernel.specs.Turns.{time_in_turn};
-ghost use Rattle.ceiling_kernel.specs.Tick.{Node, job_at};
-ghost use Rattle.ceiling_kernel.specs.Trace.{with_run, finish_before};
-ghost use Rattle.ceiling_kernel.specs.Releases.{task_number, jobs_of, release_at};
+ghost use Rattle.ceiling_kernel.specs.Tick.{Node};
+ghost use Rattle.ceiling_kernel.specs.Trace.{with_run};
+ghost use Rattle.ceiling_kernel.specs.Releases.{task_number, jobs_of};
 ghost use Rattle.ceiling_kernel.specs.Runs.{records_from, Runs, MeetsBounds, MeetsTighterBounds, IsNoOverrun};
 ghost use Rattle.ceiling_kernel.specs.Waits.{EachIsGranted};
 ghost use Rattle.task_sheet.specs.Orders.{IsPassingOrder};

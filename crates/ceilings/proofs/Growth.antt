@@ -89,11 +89,11 @@ sections_noted index (s ∷ sections) table =
     sections_noted index sections (with_section index table s)
     ∙ sym (fold-append (with_user index) table s.locks (flat_map (λ x. x.locks) sections))
 
-pub any_named : (p : List ℕ → Bool) (sections : List CriticalSection)
-    → list_any p (flat_map (λ s. s.locks) sections) ≡ list_any (λ s. list_any p s.locks) sections
-any_named p [] = refl
-any_named p (s ∷ sections) = list_any-append p s.locks (flat_map (λ x. x.locks) sections)
-    ∙ ap (λ b. list_any p s.locks || b) (any_named p sections)
+pub any_within : {X : Type 0} (p : List ℕ → Bool) (f : X → List (List ℕ)) (xs : List X)
+    → list_any p (flat_map f xs) ≡ list_any (λ x. list_any p (f x)) xs
+any_within p f [] = refl
+any_within p f (x ∷ xs) = list_any-append p (f x) (flat_map f xs)
+    ∙ ap (λ b. list_any p (f x) || b) (any_within p f xs)
 
 -- after a task's locks are noted, it is among the users of those that it uses
 pub task_added : (index : ℕ) (t : Task) (table : Table) (lock : List ℕ) (k : ℕ)
@@ -102,7 +102,8 @@ pub task_added : (index : ℕ) (t : Task) (table : Table) (lock : List ℕ) (k :
 task_added index t table lock k =
     ap (λ found. is_user found lock k) (sections_noted index t.sections table)
     ∙ names_added index (flat_map (λ s. s.locks) t.sections) table lock k
-    ∙ rw (any_named (λ name. same_bytes name lock) t.sections) refl
+    ∙ rw (any_within (λ name. same_bytes name lock) (λ (s : CriticalSection). s.locks) t.sections)
+    refl
 
 -- ---- the locks
 

@@ -1,6 +1,7 @@
 -- Lists that name tasks each once.
 use Rattle.std.proofs.Common.{◌≡◌, ℕ, zero, suc, ◌+◌, ◌<◌, Bool, true, false, cond, ◌&&◌, ◌||◌}
 use Rattle.std.proofs.Common.{◌==◌, not, List, [], ◌∷◌, refl, ◌∙◌, ap, subst, arith, inl, inr}
+use Rattle.std.specs.Cmp.{nat_eq_equiv}
 use Rattle.std.specs.List.{count_by}
 use Rattle.std.proofs.lemmas.Bool.{cases_eq, and_parts, and_from, or_cases, both_ways, ltb-true}
 use Rattle.std.proofs.lemmas.Bool.{lt-ltb, eqb-true, ne_eqb, not-true}
@@ -9,7 +10,6 @@ use Rattle.task_sheet.proofs.Common.{among, IsOrderOf}
 use Rattle.task_sheet.proofs.IndexLaws.{count-cons, same_parts, without-parts, IsOrderOf-among}
 use Rattle.task_sheet.proofs.IndexLaws.{IsOrderOf-head, IsOrderOf-rest}
 use Rattle.cert_checker.specs.Faults.{are_new, has_all}
-use Rattle.cert_checker.proofs.SeenSteps.{same-test}
 
 new-parts : (n : ℕ) (seen : Indexes) (x : ℕ) (ks : List ℕ) → are_new n seen (x ∷ ks) ≡ true
     → (x < n) × (seen x ≡ false) × (are_new n (with_index seen x) ks ≡ true)
@@ -39,8 +39,8 @@ new-count n seen (x ∷ ks) k h =
     let p = new-parts n seen x ks h in
     let rest = new-count n (with_index seen x) ks k p.2 in
     ap (λ (c : ℕ). c + cond (seen k) 1 0) (count-cons x k ks)
-    ∙ step-count (k == x) (x == k) (seen k) (among ks k) (count_by (λ y. y == k) ks) (same-test k x)
-    (λ e. ap seen (eqb-true k x e) ∙ p.1) rest
+    ∙ step-count (k == x) (x == k) (seen k) (among ks k) (count_by (λ y. y == k) ks)
+    (nat_eq_equiv.symm k x) (λ e. ap seen (eqb-true k x e) ∙ p.1) rest
 
 pub new-order : (n : ℕ) (ks : List ℕ) → are_new n no_index ks ≡ true → IsOrderOf (among ks) ks
 new-order n ks h k = let c = new-count n no_index ks k h in omega (arith, c)

@@ -6,7 +6,8 @@ use Rattle.std.proofs.Math.Path.{fun_ext}
 use Rattle.std.proofs.Math.Bool.{and-false, or-false}
 use Rattle.std.proofs.Math.Seq.{drop-cons}
 use Rattle.std.proofs.Math.ListN.{drop_of_length-le}
-use Rattle.std.proofs.lemmas.Bool.{cases_eq, eq-eqb, ne_eqb, lt-ltb}
+use Rattle.std.specs.Cmp.{nat_eq_equiv}
+use Rattle.std.proofs.lemmas.Bool.{cases_eq, lt-ltb}
 use Rattle.task_sheet.proofs.Common.{Task, Indexes, no_index, with_index, among, tasks_of, order_of}
 use Rattle.certificate.specs.Body.{Fail, CertLevelData}
 use Rattle.cert_checker.specs.Ready.{task_by_name, failures_of, levels_of}
@@ -34,12 +35,6 @@ moved false false c s e = refl
 moved true false c s e = absurd cc
 moved false true c s e = absurd cc
 
-pub same-test : (x y : ℕ) → (x == y) ≡ (y == x)
-same-test x y = elim (cases_eq x y) [
-  | inl e ↦ eq-eqb x y e ∙ sym (eq-eqb y x (sym e))
-  | inr ne ↦ ne_eqb x y ne ∙ sym (ne_eqb y x (λ e. ne (sym e)))
-]
-
 module _ {X : Type 0} {U : List Task} {task : X → ℕ} {xs : List X} {i : ℕ} {seen : Indexes}
     (h : IsSeen U task xs i seen) where
   -- no item is left
@@ -64,7 +59,8 @@ module _ {X : Type 0} {U : List Task} {task : X → ℕ} {xs : List X} {i : ℕ}
     seen-step new = record {
       test = rw (here, new) at h.test;
       seen_too = λ k. moved (k == task_by_name U name) (task_by_name U name == k)
-          (among (map task (drop (i + 1) xs)) k) (seen k) (same-test k (task_by_name U name))
+          (among (map task (drop (i + 1) xs)) k) (seen k)
+          (nat_eq_equiv.symm k (task_by_name U name))
           ∙ rw here at (h.seen_too k);
     }
 

@@ -1,6 +1,6 @@
 -- The certificate of a verdict has a spelling.
-use Rattle.std.proofs.Common.{◌≡◌, ℕ, zero, suc, ◌<◌, ◌≤◌, Bool, true, false, cond, List, [], ◌∷◌}
-use Rattle.std.proofs.Common.{◌++◌, length, All, refl, sym, subst, arith}
+use Rattle.std.proofs.Common.{◌≡◌, ℕ, ◌<◌, ◌≤◌, Bool, true, false, List, [], ◌∷◌}
+use Rattle.std.proofs.Common.{length, All, refl, sym, subst, arith}
 use Rattle.std.specs.List.{AllByRecursion, list_any}
 use Rattle.std.proofs.lemmas.Bool.{ltb-true}
 use Rattle.std.proofs.lemmas.List.{length-map}
@@ -16,7 +16,7 @@ use Rattle.task_sheet.specs.Demand.{has_interrupts}
 use Rattle.task_sheet.specs.Ready.{Refutes, AllRefuted}
 use Rattle.task_sheet.specs.Verdicts as verdict
 use Rattle.task_sheet.proofs.IndexLaws.{without-part_of, IsOrderOf-head, IsOrderOf-rest}
-use Rattle.task_sheet.proofs.IndexLaws.{order-below, order-few}
+use Rattle.task_sheet.proofs.IndexLaws.{order-below, order-few, listed-below}
 use Rattle.task_sheet.proofs.TaskLaws.{valid_at, AllTasks-from_set}
 use Rattle.task_sheet.proofs.DemandFits.{limit-fits, demand-fits}
 use Rattle.task_sheet.proofs.VerdictLaws.{IsBestOrder-ready, IsStuck-ready}
@@ -28,17 +28,6 @@ use Rattle.certificate.specs.CertificateOf.{levels_named, certificate_of, IsKnow
 use Rattle.certificate.specs.CertificateOf.{IsKnownFail, IsKnownLevel}
 
 -- ---- tasks of the set
-listed-below : (n m : ℕ) (L : Indexes) → n ≤ m → AllByRecursion (λ k. k < m) (listed_below n L)
-listed-below zero m L le = tt
-listed-below (suc n) m L le =
-    grown (L n) (listed_below n L) (listed-below n m L (omega arith))
-  where
-    grown : (b : Bool) (ks : List ℕ) → AllByRecursion (λ k. k < m) ks
-        → AllByRecursion (λ k. k < m) (cond b (ks ++ n ∷ []) ks)
-    grown false ks h = h
-    grown true [] h = (omega arith, tt)
-    grown true (k ∷ ks) h = (h.0, grown true ks h.1)
-
 -- failures of the tasks of L below the chosen one name tasks of the set
 pub fails-below : (n : ℕ) (L : Indexes) (chosen : ℕ) (ks : List ℕ) → chosen < n
     → ks ≡ listed_below chosen L → AllByRecursion (λ k. k < n) ks

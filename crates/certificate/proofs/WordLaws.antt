@@ -1,10 +1,8 @@
 -- Words, the lines that they make, and numbers as words.
-use Rattle.std.proofs.Common.{◌≡◌, ℕ, ◌<◌, ◌==◌, Bool, false, true, cond, List, [], ◌∷◌, ◌++◌, All}
+use Rattle.std.proofs.Common.{◌≡◌, ℕ, ◌<◌, Bool, false, true, cond, List, [], ◌∷◌, ◌++◌}
 use Rattle.std.proofs.Common.{length, map, Option, Some, None, refl, sym, ap, ap₂, ◌∙◌, arith}
 use Rattle.std.specs.List.{AllByRecursion, join_with_byte}
 use Rattle.std.specs.Fmt.{decimal}
-use Rattle.std.proofs.lemmas.List.Elements.{All-append, All-cons, All-nil}
-use Rattle.std.proofs.lemmas.List.Splits.{slice_split_at, slice_split_none}
 use Rattle.std.proofs.lemmas.List.Splits.{join_with_byte-slice_split}
 use Rattle.std.proofs.lemmas.Option.{same_Some}
 use Rattle.task_sheet.specs.Name.{IsName}
@@ -12,24 +10,24 @@ use Rattle.certificate.specs.Body.{IsShort}
 use Rattle.lines.specs.Lines.{parts}
 use Rattle.lines.specs.Words.{words}
 use Rattle.certificate.specs.Words.{◌>>=◌, numbers_in}
-use Rattle.lines.proofs.Lacks.{decimal_lacks, name_lacks}
+use Rattle.lines.proofs.Lacks.{Lacks, cut_at, joined_again, joined_lacks, name_lacks, number_lacks}
 use Rattle.lines.proofs.NumberLaws.{number_again, number_takes}
 
 -- neither a space nor the end of a line stands in the word
 pub record IsWord (w : List ℕ) : Type 0 where
-  pub spaceless : All (λ x. (x == 32) ≡ false) w
-  pub endless : All (λ x. (x == 10) ≡ false) w
+  pub spaceless : Lacks 32 w
+  pub endless : Lacks 10 w
 
 pub number_word : (n : ℕ) → IsShort n → IsWord (decimal n)
 number_word n short = record {
-  spaceless = decimal_lacks 32 n (omega arith) (omega arith);
-  endless = decimal_lacks 10 n (omega arith) (omega arith);
+  spaceless = number_lacks 32 n refl (omega arith);
+  endless = number_lacks 10 n refl (omega arith);
 }
 
 pub name_word : (name : List ℕ) → IsName name → IsWord name
 name_word name named = record {
-  spaceless = name_lacks 32 name (omega arith) named;
-  endless = name_lacks 10 name (omega arith) named;
+  spaceless = name_lacks 32 name refl named;
+  endless = name_lacks 10 name refl named;
 }
 
 -- words with a space between them
@@ -44,28 +42,21 @@ pub record IsLine (ws : List (List ℕ)) : Type 0 where
   pub some : 0 < length ws
   pub plain : AllByRecursion IsWord ws
 
+each_lacks : (c : ℕ) → ((w : List ℕ) → IsWord w → Lacks c w) → (ws : List (List ℕ))
+    → AllByRecursion IsWord ws → AllByRecursion (λ w. Lacks c w) ws
+each_lacks c lacks [] plain = tt
+each_lacks c lacks (w ∷ ws) plain = (lacks w plain.0, each_lacks c lacks ws plain.1)
+
 pub words_again : {ws : List (List ℕ)} → IsLine ws → words (line_of ws) ≡ ws
 words_again {ws = []} line = absurd (omega (arith, line.some))
-words_again {ws = w ∷ []} line = slice_split_none (λ b. b == 32) w line.plain.0.spaceless
-words_again {ws = w ∷ x ∷ xs} line =
-    slice_split_at (λ b. b == 32) w 32 (line_of (x ∷ xs)) line.plain.0.spaceless refl
-    ∙ ap (λ (ps : List (List ℕ)). w ∷ ps)
-    (words_again (record { some = omega arith; plain = line.plain.1 }))
-
-line_endless : (ws : List (List ℕ)) → AllByRecursion IsWord ws
-    → All (λ x. (x == 10) ≡ false) (line_of ws)
-line_endless [] plain = All-nil (λ x. (x == 10) ≡ false)
-line_endless (w ∷ []) plain = plain.0.endless
-line_endless (w ∷ x ∷ xs) plain =
-    All-append (λ c. (c == 10) ≡ false) w (32 ∷ line_of (x ∷ xs)) plain.0.endless
-    (All-cons (λ c. (c == 10) ≡ false) 32 (line_of (x ∷ xs)) refl
-    (line_endless (x ∷ xs) plain.1))
+words_again {ws = w ∷ ws} line = joined_again 32 w ws line.plain.0.spaceless
+    (each_lacks 32 (λ v is. is.spaceless) ws line.plain.1)
 
 -- a text that begins with a line
 pub parts_again : {ws : List (List ℕ)} (text rest : List ℕ) → IsLine ws
     → text ≡ line_of ws ++ 10 ∷ rest → parts text ≡ line_of ws ∷ parts rest
-parts_again {ws} text rest line e = ap parts e
-    ∙ slice_split_at (λ b. b == 10) (line_of ws) 10 rest (line_endless ws line.plain) refl
+parts_again {ws} text rest line e = ap parts e ∙ cut_at 10 (line_of ws) rest
+    (joined_lacks 32 10 ws refl (each_lacks 10 (λ w is. is.endless) ws line.plain))
 
 -- a test that let an option through
 pub cond_given : {A : Type 0} (b : Bool) (x : Option A) (y : A) → cond b x None ≡ Some y

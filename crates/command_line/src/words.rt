@@ -1,5 +1,5 @@
 //! The words of a command line.
-ghost use Rattle.std.specs.Prelude.{◌≡◌, ◌≢◌, ℕ, List, map, Ok, Some, None, Err, IfOk, IfErr, IfSome, true, false, codes};
+ghost use Rattle.std.specs.Prelude.{◌≡◌, ℕ, List, map, Ok, Some, None, Err, IfOk, IfErr, IfSome, true, false};
 ghost use Rattle.clap.specs.Words.{FailsBy, fault_of, first_of, found_of, rows_of, subcommand_of, subcommand_rows_of};
 ghost use Rattle.command_line.specs.App.{desk_app};
 ghost use Rattle.command_line.specs.Commands.{by_file, input_of, number_name, verb_of};

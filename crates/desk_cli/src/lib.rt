@@ -5,7 +5,8 @@ mod of_one;
 mod of_two;
 
 pub use answering::{
-    Audience, CommandRefusal, Nobody, RushFault, Status, TextFault, Which, refuse, refuse_words,
+    Audience, CommandRefusal, Nobody, RushFault, Status, TextFault, Which, base_of, refuse,
+    refuse_words,
 };
 pub use of_one::carry_out;
 pub use of_two::carry_out_on_both;

@@ -13,11 +13,12 @@ use cert_checker::Checked;
 use command_line::{OfTwo, Options};
 use judge::{JudgedNode, judged_text};
 use kept_order::Keeping;
+use observed::{Seen, Sight};
 use owners::Owner;
 use std::alloc::Global;
 use std::io::{Read, Write};
 use streams::Watched;
-use task_sheet::TaskSet;
+use task_sheet::{Members, Name, TaskSet};
 use two_input_commands::{
     Compared, Drawing, InOrder, Observation, Simulated, check_text, checked_line, compare_text,
     compared_text, draw_text, explain_at, explained_at_text, judge_text, judged_status, keep_text,
@@ -147,20 +148,76 @@ fn print_found<W: Write + Drop>(
     }
 }
 
-// Tells the audience of a pair that has to change.
-fn tell_parted<P: Audience>(
+// Whether a task of a name has one of the jobs.
+fn has_job(jobs: &[Seen], name: Name) -> bool {
+    for job in jobs {
+        if job.promise.name == name {
+            return true;
+        }
+    }
+    false
+}
+
+// The tasks of a set of which a trace shows jobs.
+fn tasks_seen(tasks: &TaskSet, jobs: &[Seen]) -> Members {
+    let mut seen = Members::empty();
+    for (i, sheet) in tasks.sheets().iter().enumerate() {
+        if has_job(jobs, sheet.name()) {
+            seen = seen.with(i);
+        }
+    }
+    seen
+}
+
+// Tells the audience of a run, if there is one.
+fn tell_run<P: Audience>(answer: &Simulated, tasks: &TaskSet, people: &mut P) {
+    match answer {
+        Simulated::Infeasible(_) => {}
+        Simulated::Ran(_) => {
+            people.in_best_order(tasks);
+            people.ran(tasks);
+        }
+        Simulated::Ordered(_) => people.ran(tasks),
+    }
+}
+
+// Tells the audience what a trace shows.
+fn tell_seen<P: Audience>(shown: &Observation, tasks: &TaskSet, people: &mut P) {
+    match shown {
+        Observation::Best(Sight::Seen(observed)) => {
+            people.in_best_order(tasks);
+            people.seen(tasks, tasks_seen(tasks, &observed.seen));
+        }
+        Observation::Ordered(observed) => people.seen(tasks, tasks_seen(tasks, &observed.seen)),
+        Observation::Best(Sight::Infeasible(_)) | Observation::Missed(_) => {}
+    }
+}
+
+// Tells the audience what became of a set that is to keep the order of settings.
+fn tell_kept<P: Audience>(keeping: &Keeping, tasks: &TaskSet, settings: &[u8], people: &mut P) {
+    people.keeping(tasks, settings);
+    if let Keeping::Parted { low, high } = keeping {
+        people.parted(tasks, *low, *high);
+    }
+}
+
+// Tells the audience what a command found of a set and a text.
+fn tell_found<P: Audience>(
     answer: &Result<Found, CommandRefusal>,
     tasks: &TaskSet,
+    text: &[u8],
     people: &mut P,
 ) {
-    if let Ok(
-        Found::Keeping {
-            keeping: Keeping::Parted { low, high },
-            ..
-        },
-    ) = answer
-    {
-        people.parted(tasks, *low, *high);
+    let Ok(found) = answer else {
+        return;
+    };
+    match found {
+        Found::Compared(compared) => people.compared(&compared.set),
+        Found::Simulated(answer) | Found::Reached(answer) => tell_run(answer, tasks, people),
+        Found::Drawn(drawing) => tell_run(&drawing.answer, tasks, people),
+        Found::Observed(_, shown) => tell_seen(shown, tasks, people),
+        Found::Keeping { keeping, .. } => tell_kept(keeping, tasks, text, people),
+        _ => {}
     }
 }
 
@@ -180,7 +237,7 @@ fn say_both<W: Write + Drop, P: Audience>(
 {
     let answer = find(alloc, command, options, tasks, text);
     tell(&answer, tasks, Which::Second, text, people);
-    tell_parted(&answer, tasks, people);
+    tell_found(&answer, tasks, text, people);
     match answer {
         Ok(found) => print_found(alloc, owners, tasks, &found, output),
         Err(refusal) => refuse(refusal, output),

@@ -1,9 +1,8 @@
 //! Drafts that haven't ended.
 
-ghost use Rattle.std.specs.Prelude.{◌≡◌, ◌↔◌, [], Some, IfOk, IfErr, IfSome, IfNone, IsTrue, OnOk, OnErr, ◌≤◌, List, Result, length, vec_capacity};
+ghost use Rattle.std.specs.Prelude.{◌≡◌, ◌↔◌, [], Some, IfOk, IfErr, IfSome, IfNone, IsTrue, OnErr, ◌≤◌, List, Result, length, vec_capacity};
 ghost use Rattle.drafts.specs.Books.{logged, IsNextEntry};
 ghost use Rattle.drafts.specs.Edits.{after_put, after_remove, on_base};
-ghost use Rattle.desk_core.specs.Findings.{asked_of, IsTold};
 ghost use Rattle.desk_core.specs.Advances.{IsAdvancedIn, IsAdvancedOn};
 ghost use Rattle.desk_core.specs.Brought.{IsTelling};
 ghost use Rattle.desk_core.specs.declared.told.Told.{Told};

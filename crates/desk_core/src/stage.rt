@@ -1,6 +1,6 @@
 //! How far the test of a draft has come.
 
-ghost use Rattle.std.specs.Prelude.{◌≡◌, ◌↔◌, IfOk, IfErr, IfSome, IfNone, OnErr, IsTrue, List, Result};
+ghost use Rattle.std.specs.Prelude.{◌≡◌, ◌↔◌, IfOk, IfSome, IfNone, OnErr, IsTrue, List, Result};
 ghost use Rattle.drafts.specs.Books.{logged, IsNextEntry};
 ghost use Rattle.drafts.specs.declared.roster.Owned.{Owned};
 ghost use Rattle.drafts.specs.declared.change.Refusal.{Refusal};

@@ -1,16 +1,13 @@
 //! The test of a set by findings that come in any order.
 
-ghost use Rattle.std.specs.Prelude.{◌≡◌, ◌↔◌, ◌<◌, ◌≤◌, ◌+◌, [], ◌∷◌, ◌++◌, List, length, map, None, Some, ℕ, IsTrue, IsFalse, MatchOption, IfOk, IfErr, OnErr, vec_capacity};
+ghost use Rattle.std.specs.Prelude.{◌≡◌, ◌↔◌, ◌<◌, ◌≤◌, [], length, None, Some, ℕ, IsTrue, IsFalse, MatchOption, IfOk, IfErr, OnErr, vec_capacity};
 ghost use Rattle.std.specs.FinSet.{contains, remove};
 ghost use Rattle.desk_core.specs.Asking.{IsAsking, IsQuestionNamed};
-ghost use Rattle.task_sheet.specs.Indexes.{indexes_of, listed_below, IsPart};
 ghost use Rattle.task_sheet.specs.declared.set.TheConstants.{TASK_LIMIT};
-ghost use Rattle.task_sheet.specs.Sheet.{task_at};
-ghost use Rattle.task_sheet.specs.Orders.{all_of};
-ghost use Rattle.task_sheet.specs.Verdicts.{LevelData, IsVerdictOf};
+ghost use Rattle.task_sheet.specs.Verdicts.{IsVerdictOf};
 ghost use Rattle.ceilings.specs.IsTableOf.{IsTableOf};
 ghost use Rattle.assignment.specs.Levels.{IsDecided};
-ghost use Rattle.assignment.specs.Climbs.{ClimbState, IsNext, IsUnfinished};
+ghost use Rattle.assignment.specs.Climbs.{IsNext, IsUnfinished};
 ghost use Rattle.assignment.specs.Verdict.{verdict_set, verdict_of};
 ghost use Rattle.desk_core.specs.Progress.{present_of};
 ghost use Rattle.desk_core.specs.Findings.{asked_of, IsTold, found_after, IsTested};

@@ -1,6 +1,5 @@
 //! The lines of a change.
-ghost use Rattle.std.specs.Prelude.{◌≡◌, ◌++◌, ◌<◌, length, OnOk, IfOk, Some, None, option_map, string_bytes};
-ghost use Rattle.task_sheet.specs.Sheet.{task_at};
+ghost use Rattle.std.specs.Prelude.{◌≡◌, ◌++◌, ◌<◌, length, OnOk, IfOk, Some, None, string_bytes};
 ghost use Rattle.diff.specs.Seats.{seat_of};
 ghost use Rattle.diff.specs.Lines.{added_line, change_lines, changed_line, edit_line, effect_line, effect_of, index_in, kept_line, lines_below, pair_words, removed_line, rest_line, seats_words, some_words, start_words, word_of};
 

@@ -1,6 +1,6 @@
 //! The book: the present state, and the log that led to it.
 
-ghost use Rattle.std.specs.Prelude.{◌≡◌, ◌<◌, ◌+◌, ◌^◌, [], ◌∷◌, IfOk, IfSome, IfNone, OnOk, OnErr, length, map, option_map};
+ghost use Rattle.std.specs.Prelude.{◌≡◌, ◌<◌, ◌+◌, ◌^◌, IfOk, IfSome, IfNone, OnOk, OnErr, length, map, option_map};
 ghost use Rattle.drafts.specs.Applied.{applied};
 ghost use Rattle.drafts.specs.Edits.{on_base};
 ghost use Rattle.drafts.specs.Machine.{Entry, IsDecision};

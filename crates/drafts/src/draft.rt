@@ -1,8 +1,6 @@
 //! Drafts: a base and a list of changes.
 
-ghost use Rattle.std.specs.Prelude.{◌≡◌, ◌+◌, ◌<◌, ◌≤◌, take, [], ◌∷◌, Ok, IfOk, IfErr, IfSome, IsTrue, OnOk, OnErr, length, option_map, slice_get, nat_eq, false};
-ghost use Rattle.std.specs.Cmp.Lexicographic.{pointwise};
-ghost use Rattle.indexmap.specs.IndexMap.{IsUnique};
+ghost use Rattle.std.specs.Prelude.{◌≡◌, ◌+◌, ◌<◌, ◌≤◌, take, [], Ok, IfOk, IfErr, IsTrue, OnOk, OnErr, length, option_map, slice_get, false};
 ghost use Rattle.drafts.specs.Edits.{IsNamed, HaveDistinctNames, AreNamed, HasTasks, has_put, is_full, is_put, recorded, view, after_put, after_remove, on_base, IsEditFault};
 ghost use Rattle.drafts.specs.declared.draft.TheConstants.{CHANGE_LIMIT};
 ghost use Rattle.drafts.specs.Outcomes.{IsApplied};

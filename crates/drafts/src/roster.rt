@@ -1,6 +1,6 @@
 //! Rosters: the tasks on the node with their teams, by rank, while changes are made.
 
-ghost use Rattle.std.specs.Prelude.{◌≡◌, ◌↔◌, ◌≤◌, ◌<◌, length, take, insert, position, not, option_copied, IsTrue, IfOk, OnOk, OnErr};
+ghost use Rattle.std.specs.Prelude.{◌≡◌, ◌↔◌, ◌≤◌, ◌<◌, length, insert, position, not, option_copied, IsTrue, IfOk, OnOk, OnErr};
 ghost use Rattle.std.specs.Ordering.{is_lt};
 ghost use Rattle.task_sheet.specs.Rank.{rank_cmp};
 ghost use Rattle.drafts.specs.Applied.{owned_of, set_of, held, is_foreign, is_there, without_name, placed};

@@ -9,7 +9,6 @@ use ceiling_kernel::Slice;
 use frames::{Chart, Lane, Page, bar_of, executed_after, put_bar, put_times, sees, tone_of, x_of};
 
 // Counts the ticks of a slice, and says how many its job executed before; none where there is no such job.
-#[tactic(auto, using(std::proofs::lemmas::List::set_past))]
 fn count_slice(executed: &mut [u64], slice: Slice) -> u64
     ensures before { result ≡ slice_index executed.old slice.job }
     ensures counted { executed.new ≡ counted executed.old slice }

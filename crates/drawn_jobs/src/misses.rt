@@ -1,7 +1,7 @@
 //! Jobs that miss their deadlines.
 ghost use Rattle.std.specs.Prelude.{◌+◌, ◌≡◌};
 ghost use Rattle.frames.specs.Page.{Adds};
-ghost use Rattle.drawn_jobs.specs.Misses.{all_missed, badge_after, badge_text, due_badge, has_badge, hatch_path, hatch_text, is_late, is_seen_miss, late_signs, miss_text, missed_in, misses_in, misses_text, row_misses};
+ghost use Rattle.drawn_jobs.specs.Misses.{all_missed, badge_after, badge_text, due_badge, has_badge, hatch_path, hatch_text, is_late, is_seen_miss, miss_text, missed_in, misses_in, misses_text, row_misses};
 
 use crate::jobs::{limit_of, put_job_signs, put_told};
 use ceiling_kernel::JobRecord;
@@ -135,17 +135,6 @@ fn put_due_badge(lane: &Lane<'_>, last: Option<u64>, job: &JobRecord, page: &mut
     put_badge(x, top_of(lane.spot.k) + 85, page)
 }
 
-// Signs where a job goes on before and behind the window, whose box isn't in it.
-fn put_late_signs(lane: &Lane<'_>, job: &JobRecord, page: &mut Page)
-    ensures { Adds page.old page.new (late_signs lane.now.frame lane.now.spot.k lane.now.row.now
-        job.now) }
-{
-    if sees_from(lane.frame, job.release, limit_of(lane.row)) {
-        return;
-    }
-    put_job_signs(lane, job, page)
-}
-
 // A job in a row, if it misses its deadline in the window.
 fn put_miss(lane: &Lane<'_>, last: Option<u64>, job: &JobRecord, page: &mut Page)
     ensures { Adds page.old page.new (miss_text lane.now.frame lane.now.spot.k lane.now.row.now
@@ -156,7 +145,10 @@ fn put_miss(lane: &Lane<'_>, last: Option<u64>, job: &JobRecord, page: &mut Page
     }
     put_hatch(lane, job, page);
     put_due_badge(lane, last, job, page);
-    put_late_signs(lane, job, page)
+    // (a job whose box is in the window has signs there)
+    if !sees_from(lane.frame, job.release, limit_of(lane.row)) {
+        put_job_signs(lane, job, page)
+    }
 }
 
 // Those of a row.

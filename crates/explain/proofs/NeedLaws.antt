@@ -1,14 +1,14 @@
 -- The last numbers of chains, the lists of a conflict's tasks, and that what each needs adds up.
-use Rattle.std.proofs.Common.{◌≡◌, ℕ, zero, suc, ◌+◌, ◌-◌, ◌<◌, ◌≤◌, ◌==◌, All, Bool, true, false}
+use Rattle.std.proofs.Common.{◌≡◌, ℕ, ◌+◌, ◌-◌, ◌<◌, ◌≤◌, ◌==◌, All, true, false}
 use Rattle.std.proofs.Common.{cond, List, [], ◌∷◌, ◌++◌, length, get_or, take, drop, reverse, sym}
 use Rattle.std.proofs.Common.{◌∙◌, ap, subst, arith}
-use Rattle.std.specs.List.{AllByRecursion}
 use Rattle.std.proofs.lemmas.List.{drop_more, drop_all, take-append-drop, length-reverse}
 use Rattle.std.proofs.lemmas.List.{get_or-reverse}
 use Rattle.std.proofs.lemmas.List.Elements.{All-from_recursion}
 use Rattle.std.proofs.lemmas.List.Sorted.{IsPermutation-reverse, sum_by-IsPermutation}
 use Rattle.task_sheet.proofs.Common.{Task, Indexes, listed_below, ChainFrom, IsFullChain, IsOrderOf}
 use Rattle.task_sheet.specs.Responses.{FullFrom}
+use Rattle.task_sheet.proofs.IndexLaws.{listed-below}
 use Rattle.assignment.proofs.GatherLaws.{listed_below-member, listed_below-other}
 use Rattle.explain.specs.Needs.{EndsWith, IsNeedOf, AreNeedsOf}
 use Rattle.explain.specs.declared.needs.Need.{Need}
@@ -92,17 +92,6 @@ All-reversed P xs all k d lt =
     let far : length xs - 1 - k < length xs = omega (arith, lt, length-reverse xs) in
     subst P (sym (get_or-reverse xs k d (omega (arith, lt, length-reverse xs))))
     (all (length xs - 1 - k) d far)
-
-listed-below : (n m : ℕ) (L : Indexes) → n ≤ m → AllByRecursion (λ k. k < m) (listed_below n L)
-listed-below zero m L le = tt
-listed-below (suc n) m L le =
-    grown (L n) (listed_below n L) (listed-below n m L (omega arith))
-  where
-    grown : (b : Bool) (ks : List ℕ) → AllByRecursion (λ k. k < m) ks
-        → AllByRecursion (λ k. k < m) (cond b (ks ++ n ∷ []) ks)
-    grown false ks h = h
-    grown true [] h = (omega arith, tt)
-    grown true (k ∷ ks) h = (h.0, grown true ks h.1)
 
 pub falling-within : (n : ℕ) (L : Indexes) → All (λ k. k < n) (reverse (listed_below n L))
 falling-within n L = All-reversed (λ k. k < n) (listed_below n L)

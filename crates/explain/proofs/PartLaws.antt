@@ -1,14 +1,14 @@
 -- The parts of a demand add up.
-use Rattle.std.proofs.Common.{◌≡◌, ℕ, zero, suc, ◌+◌, ◌<◌, ◌≤◌, inl, inr, true, cond, List, [], ◌∷◌}
+use Rattle.std.proofs.Common.{◌≡◌, ℕ, zero, suc, ◌+◌, cond, List, [], ◌∷◌}
 use Rattle.std.proofs.Common.{length, map, sum_by, Option, Some, None, refl, sym, ◌∙◌, ap, arith}
-use Rattle.std.proofs.lemmas.Bool.{cases_eq, ltb-true}
+use Rattle.std.proofs.lemmas.Bool.{ltb-true}
 use Rattle.std.proofs.lemmas.List.Sums.{sum_by-append, sum_by-cons}
 use Rattle.task_sheet.proofs.Common.{Task, task_at, Indexes, IsPart, below, no_index, without_index}
 use Rattle.task_sheet.proofs.Common.{sum_below, interference_of, interference_within}
 use Rattle.task_sheet.proofs.Common.{interrupt_within, interrupts_of, interrupts_within}
 use Rattle.task_sheet.proofs.Common.{blocking_of, demand_of, past_jitter, IsResponseOf, all_of}
 use Rattle.task_sheet.proofs.Common.{IsOrderOf}
-use Rattle.task_sheet.proofs.IndexLaws.{without-gone, without-kept, without-part_of}
+use Rattle.task_sheet.proofs.IndexLaws.{sum-without, without-part_of}
 use Rattle.task_sheet.proofs.IndexLaws.{IsOrderOf-among, IsOrderOf-head, IsOrderOf-rest}
 use Rattle.task_sheet.proofs.PassingLaws.{IsResponseOf-iff}
 use Rattle.explain.specs.Parts.{AboveData, PartsData, IsPartsOf, above_at, all_interrupts}
@@ -19,31 +19,6 @@ use Rattle.explain.specs.declared.parts.Interruption.{Interruption}
 module _ (f : ℕ → ℕ) where
   abbrev part_of : Indexes → ℕ → ℕ
   part_of L h = cond (L h) (f h) 0
-
-  -- a task past the end takes nothing away
-  sum-past : (n : ℕ) (L : Indexes) (i : ℕ) → n ≤ i
-      → sum_below n (part_of (without_index L i)) ≡ sum_below n (part_of L)
-  sum-past zero L i le = refl
-  sum-past (suc n) L i le =
-      let here : part_of (without_index L i) n ≡ part_of L n =
-      ap (λ b. cond b (f n) 0) (without-kept L i n (λ e. omega arith)) in
-      omega (arith, sum-past n L i (omega arith), here)
-
-  -- one task's part, and the rest
-  sum-one : (n : ℕ) (L : Indexes) (i : ℕ) → i < n → L i ≡ true
-      → sum_below n (part_of L) ≡ f i + sum_below n (part_of (without_index L i))
-  sum-one zero L i lt member = absurd (omega arith)
-  sum-one (suc n) L i lt member = elim (cases_eq n i) [
-    | inl e ↦
-        let own : part_of L n ≡ f i = ap (λ k. part_of L k) e ∙ ap (λ b. cond b (f i) 0) member in
-        let gone : part_of (without_index L i) n ≡ 0 =
-        ap (λ b. cond b (f n) 0) (without-gone L i n e) in
-        omega (arith, own, gone, sum-past n L i (omega arith))
-    | inr ne ↦
-        let here : part_of (without_index L i) n ≡ part_of L n =
-        ap (λ b. cond b (f n) 0) (without-kept L i n ne) in
-        omega (arith, here, sum-one n L i (omega arith) member)
-  ]
 
   sum-none : (n : ℕ) → sum_below n (part_of no_index) ≡ 0
   sum-none zero = refl
@@ -59,7 +34,7 @@ module _ (f : ℕ → ℕ) where
       let rest = sum-order n (without_index L i) above (IsOrderOf-rest L i above each)
       (without-part_of n L i part) in
       rw (sum_by-cons f i above)
-      (omega (arith, rest, sum-one n L i (ltb-true i n (part i member)) member))
+      (omega (arith, rest, sum-without n f L i (ltb-true i n (part i member)) member))
 
 -- the first of what is summed, and the rest
 sum_first : (n : ℕ) (f : ℕ → ℕ) → sum_below (suc n) f ≡ f 0 + sum_below n (λ k. f (suc k))

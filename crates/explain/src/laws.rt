@@ -1,6 +1,6 @@
 //! Laws of conflicts and of parts. Each is the clause of a function that does nothing, and its names are defined in `specs/`.
 
-ghost use Rattle.std.specs.Prelude.{◌≡◌, ◌+◌, ℕ, min, List, length, IsTrue, IsFalse};
+ghost use Rattle.std.specs.Prelude.{◌≡◌, ◌+◌, ℕ, min, List, length, IsTrue};
 ghost use Rattle.task_sheet.specs.Sheet.{Task, AllTasks, task_at};
 ghost use Rattle.task_sheet.specs.Overheads.{overhead_of, own_cost};
 ghost use Rattle.task_sheet.specs.TaskSet.{IsTaskSet};

@@ -1,6 +1,6 @@
 //! Laws of factors. Each is the clause of a function that does nothing, and its names are defined in `specs/`.
 
-ghost use Rattle.std.specs.Prelude.{◌≡◌, ◌≤◌, ◌<◌, ◌↔◌, ℕ, List, length};
+ghost use Rattle.std.specs.Prelude.{◌≡◌, ◌≤◌, ◌↔◌, ℕ, List, length};
 ghost use Rattle.task_sheet.specs.Sheet.{Task};
 ghost use Rattle.task_sheet.specs.TaskSet.{IsTaskSet};
 ghost use Rattle.task_sheet.specs.Orders.{IsPassingOrder, IsFeasible};

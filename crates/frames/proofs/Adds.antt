@@ -49,6 +49,11 @@ pub adds_same : {a b : Page} {X : Type 0} (text : X → List ℕ) {x y : X}
     → x ≡ y → Adds a b (text x) → Adds a b (text y)
 adds_same {a = a} {b = b} {X = X} text is put = subst (λ (z : X). Adds a b (text z)) is put
 
+-- nothing is put
+pub adds_nothing : (a : Page) → Adds a a []
+adds_nothing a =
+    record { was = λ whole. whole; adds = λ whole. sym (append-nil a.text.items) }
+
 -- nothing was put yet
 pub adds_none : (a : Page) (text : ℕ → List ℕ) → Adds a a (each 0 text)
 unfolding each

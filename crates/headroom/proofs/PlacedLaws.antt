@@ -5,10 +5,9 @@ use Rattle.std.specs.List.{AllByRecursion}
 use Rattle.std.specs.List.Sorted.{IsStrictlySortedBy}
 use Rattle.std.proofs.lemmas.Bool.{cases_eq}
 use Rattle.std.proofs.lemmas.List.{length-set, get_or_default}
-use Rattle.std.proofs.lemmas.List.Sorted.{IsPermutation-refl}
 use Rattle.task_sheet.proofs.Common.{Task, IsValidSheet, AllTasks, no_task, task_at, rank_cmp}
 use Rattle.task_sheet.proofs.Common.{IsByRank, same_name, AreDistinct, IsTaskSet, sheets_fault}
-use Rattle.task_sheet.proofs.SetLaws.{by_rank_one, no_fault}
+use Rattle.task_sheet.proofs.SetLaws.{IsByRank-is, no_fault}
 use Rattle.task_sheet.proofs.TaskLaws.{IsTask-from_valid, task_read, valid_at}
 use Rattle.headroom.proofs.CostLaws.{placed-other, placed-same}
 
@@ -46,13 +45,7 @@ ranked-placed (y ∷ ys) (suc i) x same h = (
 IsByRank-placed : (U : List Task) (i : ℕ) (x : Task) (V : List Task) → IsNamesake x (task_at U i)
     → IsTaskSet U → IsByRank (slice_set U i x) V → V ≡ slice_set U i x
 IsByRank-placed U i x V same valid by_rank =
-    let sheets = slice_set U i x in
-    let own : IsByRank sheets sheets = record {
-      permutation = IsPermutation-refl sheets;
-      ranked =
-          ranked-placed U i x same valid.ranked;
-    } in
-    by_rank_one sheets sheets V sheets (IsPermutation-refl sheets) by_rank own
+    IsByRank-is (slice_set U i x) V (ranked-placed U i x same valid.ranked) by_rank
 
 distinct-placed : (U : List Task) (i : ℕ) (x : Task) → IsNamesake x (task_at U i)
     → AreDistinct same_name U → AreDistinct same_name (slice_set U i x)

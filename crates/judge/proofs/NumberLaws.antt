@@ -7,13 +7,13 @@ use Rattle.std.specs.List.Sorted.{IsPermutation, IsNonDecreasingBy}
 use Rattle.std.proofs.lemmas.Bool.{cases_Bool, cases_lt, both_ways, true≢false, lt-ltb, ltb-true}
 use Rattle.std.proofs.lemmas.Bool.{eq-eqb, and_parts, and_from, or_parts}
 use Rattle.std.proofs.lemmas.List.{get_or-map, map_push, length-map}
-use Rattle.std.proofs.lemmas.List.Folds.{list_any-append, list_any_at}
+use Rattle.std.proofs.lemmas.List.Folds.{list_any-append}
 use Rattle.std.proofs.lemmas.List.Elements.{All-push, All-from_recursion}
 use Rattle.std.proofs.lemmas.List.Sorted.{All-permutation, IsPermutation-map, sum_by-IsPermutation}
 use Rattle.task_sheet.proofs.Common.{Task, same_bytes, no_task, task_at, IsTaskSet, AreDistinct}
-use Rattle.task_sheet.proofs.Common.{Indexes, among, listed_below, without_index, all_of, IsOrderOf}
+use Rattle.task_sheet.proofs.Common.{Indexes, listed_below, without_index, all_of, IsOrderOf}
 use Rattle.task_sheet.proofs.IndexLaws.{without-parts, IsOrderOf-among, IsOrderOf-head}
-use Rattle.task_sheet.proofs.IndexLaws.{IsOrderOf-rest, listed-order}
+use Rattle.task_sheet.proofs.IndexLaws.{IsOrderOf-rest, listed-order, place-among}
 use Rattle.task_sheet.proofs.NameLaws.{same_is}
 use Rattle.task_sheet.proofs.TaskLaws.{place_of_name}
 use Rattle.assignment.proofs.GatherLaws.{listed_below-member, listed_below-other}
@@ -23,10 +23,6 @@ use Rattle.judge.specs.Kept.{IsOrderOfThreads, numbered_at, with_thread_in}
 use Rattle.judge.specs.Node.{IsOrderBy}
 use Rattle.judge.specs.declared.order.Numbered.{Numbered}
 use Rattle.judge.specs.declared.rows.Setting.{Setting}
-
--- an element of a list is among it
-pub among_at : (xs : List ℕ) (k : ℕ) → k < length xs → among xs (get_or xs k 0) ≡ true
-among_at xs k lt = list_any_at (λ x. x == get_or xs k 0) xs k 0 lt (eq-eqb (get_or xs k 0) _ refl)
 
 -- two tasks of one name are one
 pub one_of_name : (U : List Task) → IsTaskSet U → (i j : ℕ) → i < length U → j < length U
@@ -167,7 +163,7 @@ module _ (U : List Task) (threads : List Setting) where
       let i = get_or order k 0 in
       let both = and_parts (all_of U i) _
       (sym (ap (λ X. X i) (IsOrderOf-among (with_thread_in U threads) order each))
-      ∙ among_at order k lt) in
+      ∙ place-among order k lt) in
       (ltb-true i (length U) both.0, both.1)
 
   module _ (kept : IsTaskSet U) (none_again : line_again same_number [] threads ≡ None)

@@ -1,7 +1,8 @@
 -- What the settings of an order print gives the order back.
 use Rattle.std.proofs.Common.{◌≡◌, ◌∙◌, ℕ, zero, suc, ◌+◌, ◌<◌, ◌≤◌, ◌==◌, not, inl, inr, Bool}
 use Rattle.std.proofs.Common.{true, false, cond, List, [], ◌∷◌, ◌++◌, map, length, get_or, Option}
-use Rattle.std.proofs.Common.{Some, None, Ok, unwrap_or, option_map, refl, sym, ap, subst, append_assoc, arith}
+use Rattle.std.proofs.Common.{Some, None, Ok, unwrap_or, option_map, refl, sym, ap, subst}
+use Rattle.std.proofs.Common.{append_assoc, arith}
 use Rattle.std.specs.List.{list_any, find, position_or_len, flat_map, fold, AllByRecursion}
 use Rattle.std.proofs.lemmas.Bool.{cases_Bool, both_ways, false_from_ne_true, true≢false, or_cases}
 use Rattle.std.proofs.lemmas.Bool.{or_parts, or_left, or_right, eq-eqb, ne_eqb, eqb-true, ltb-true}
@@ -20,7 +21,7 @@ use Rattle.task_sheet.proofs.TaskLaws.{place_of_name, valid_at}
 use Rattle.task_sheet.proofs.Below.{greatest_below-le, le-greatest_below}
 use Rattle.task_sheet.proofs.CeilingLaws.{ceiling-highest}
 use Rattle.task_sheet.proofs.IndexLaws.{without-parts, without-part_of, IsOrderOf-among}
-use Rattle.task_sheet.proofs.IndexLaws.{IsOrderOf-head, IsOrderOf-rest, order-below}
+use Rattle.task_sheet.proofs.IndexLaws.{IsOrderOf-head, IsOrderOf-rest, order-below, place-among}
 use Rattle.lines.specs.Lines.{kept_from, lines_of}
 use Rattle.ceilings.specs.IsTableOf.{with_name, names_in, locks_of}
 use Rattle.settings.specs.Settings.{mutex_line, mutex_lines_from, priority_of, settings_from}
@@ -35,7 +36,7 @@ use Rattle.judge.specs.Node.{IsNodeOrder, IsOrderBy}
 use Rattle.judge.specs.declared.rows.Setting.{Setting}
 use Rattle.judge.specs.declared.rows.SettingRow.TheVariants.{Thread, Mutex}
 use Rattle.judge.specs.declared.rows.TheConstants.{NUMBER_LIMIT}
-use Rattle.judge.proofs.NumberLaws.{among_at, one_of_name}
+use Rattle.judge.proofs.NumberLaws.{one_of_name}
 use Rattle.judge.proofs.SpelledLaws.{IsEntry, entry_read}
 
 -- ---- lists
@@ -358,7 +359,7 @@ module _ (U : List Task) where
                 omega (arith, here)
           ]) in
           let above = le-greatest_below (length U) f i
-          (inside i (among_at order high.0 high.1.in_order)) in
+          (inside i (place-among order high.0 high.1.in_order)) in
           omega (arith, above, below, value, level)
 
       -- ---- the text

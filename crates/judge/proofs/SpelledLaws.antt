@@ -1,17 +1,17 @@
 -- A line of settings that is spelled, and what is read of it.
-use Rattle.std.proofs.Common.{◌≡◌, ◌∙◌, ℕ, ◌+◌, ◌<◌, ◌≤◌, ◌==◌, Bool, true, false, List}
-use Rattle.std.proofs.Common.{[], ◌∷◌, ◌++◌, append_assoc, All, Some, Ok, refl, sym, ap, arith}
+use Rattle.std.proofs.Common.{◌≡◌, ◌∙◌, ℕ, ◌+◌, ◌≤◌, Bool, true, false, List}
+use Rattle.std.proofs.Common.{[], ◌∷◌, ◌++◌, append_assoc, Some, Ok, refl, sym, ap, arith}
 use Rattle.std.specs.Prelude.{codes}
+use Rattle.std.specs.List.{AllByRecursion}
+use Rattle.std.specs.Char.{is_ascii_digit}
 use Rattle.std.specs.Fmt.{decimal}
 use Rattle.std.proofs.lemmas.Bool.{le-leb}
-use Rattle.std.proofs.lemmas.List.Elements.{All-append, All-cons}
-use Rattle.std.proofs.lemmas.List.Splits.{slice_split_at, slice_split_none}
-use Rattle.task_sheet.specs.Name.{IsName}
+use Rattle.task_sheet.specs.Name.{IsName, is_name_byte}
 use Rattle.lines.specs.Lines.{kept_from, lines_of, is_skipped}
 use Rattle.lines.specs.Words.{words}
-use Rattle.lines.proofs.Lacks.{decimal_lacks, name_lacks}
+use Rattle.lines.proofs.Lacks.{Lacks, joined_again, joined_lacks, name_lacks, number_lacks}
+use Rattle.lines.proofs.Lacks.{one_more}
 use Rattle.lines.proofs.NumberLaws.{number_again}
-use Rattle.lines.proofs.Parts.{line_cut}
 use Rattle.judge.specs.Rows.{number_in_range, setting_row_in, setting_row, rows_from}
 use Rattle.judge.specs.declared.rows.SettingRow.{SettingRow}
 use Rattle.judge.specs.declared.rows.SettingRow.TheVariants.{Thread, Mutex}
@@ -38,9 +38,9 @@ abbrev pub row_from : (is_thread : Bool) → Setting → SettingRow
 row_from true s = Thread s
 row_from false s = Mutex s
 
-word_lacks : (b : ℕ) → b < 45 → (kind : Bool) → All (λ x. (x == b) ≡ false) (word_of kind)
-word_lacks b small true = name_lacks b (codes "thread") small refl
-word_lacks b small false = name_lacks b (codes "mutex") small refl
+word_lacks : (b : ℕ) → is_name_byte b ≡ false → (kind : Bool) → Lacks b (word_of kind)
+word_lacks b other true = name_lacks b (codes "thread") other refl
+word_lacks b other false = name_lacks b (codes "mutex") other refl
 
 spelled : (kind : Bool) (s : Setting) → setting_row (word_of kind) s ≡ Some (row_from kind s)
 spelled true s = refl
@@ -71,32 +71,30 @@ printed false name digits rest = parts_of (codes "mutex ") name (codes " ") digi
     ∙ sym (whole_of (codes "mutex") name digits rest)
 
 module _ (kind : Bool) (s : Setting) (is : IsEntry s) where
-  -- the line, without its end
+  -- the words of the line, and the line, without its end
+  abbrev said : List (List ℕ)
+  said = word_of kind ∷ s.name ∷ decimal s.number ∷ []
+
   abbrev text : List ℕ
   text = word_of kind ++ 32 ∷ (s.name ++ 32 ∷ decimal s.number)
 
-  words_are : words text ≡ word_of kind ∷ s.name ∷ decimal s.number ∷ []
+  said_lack : (b : ℕ) → is_name_byte b ≡ false → is_ascii_digit b ≡ false
+      → AllByRecursion (λ w. Lacks b w) said
+  said_lack b other apart = (
+    word_lacks b other kind,
+    (
+      name_lacks b s.name other is.named,
+      (number_lacks b s.number apart (omega (arith, is.within)), tt),
+    ),
+  )
+
+  words_are : words text ≡ said
   words_are =
-      slice_split_at (λ b. b == 32) (word_of kind) 32 (s.name ++ 32 ∷ decimal s.number)
-      (word_lacks 32 (omega arith) kind) refl
-      ∙ ap (λ (ws : List (List ℕ)). word_of kind ∷ ws)
-      (slice_split_at (λ b. b == 32) s.name 32 (decimal s.number)
-      (name_lacks 32 s.name (omega arith) is.named) refl
-      ∙ ap (λ (ws : List (List ℕ)). s.name ∷ ws) (slice_split_none (λ b. b == 32) (decimal s.number)
-      (decimal_lacks 32 s.number (omega arith) (omega (arith, is.within)))))
+      let each = said_lack 32 refl refl in
+      joined_again 32 (word_of kind) (s.name ∷ decimal s.number ∷ []) each.0 each.1
 
   row_is : setting_row_in s.line (words text) ≡ Some (row_from kind s)
   row_is = rw (words_are, is.named, number_is s.number is.some is.within) (spelled kind s)
-
-  ends : All (λ x. (x == 10) ≡ false) text
-  ends =
-      let P : ℕ → Type 0 = λ x. (x == 10) ≡ false in
-      let number = All-cons P 32 (decimal s.number) refl
-      (decimal_lacks 10 s.number (omega arith) (omega (arith, is.within))) in
-      let name = All-cons P 32 (s.name ++ 32 ∷ decimal s.number) refl (All-append P s.name
-      (32 ∷ decimal s.number) (name_lacks 10 s.name (omega arith) is.named) number) in
-      All-append P (word_of kind) (32 ∷ (s.name ++ 32 ∷ decimal s.number))
-      (word_lacks 10 (omega arith) kind) name
 
   -- its row stands in front of those of the lines behind it
   pub entry_read : (rest : List ℕ) (rows : List SettingRow)
@@ -105,8 +103,7 @@ module _ (kind : Bool) (s : Setting) (is : IsEntry s) where
       (lines_of ((front_of kind ++ s.name ++ codes " " ++ decimal s.number ++ codes "\n") ++ rest)))
       ≡ Ok (row_from kind s ∷ rows)
   entry_read rest rows later =
-      let cut = line_cut (text ++ 10 ∷ rest) text rest
-      (slice_split_at (λ b. b == 10) text 10 rest ends refl) in
+      let cut = one_more text rest (joined_lacks 32 10 said refl (said_lack 10 refl refl)) in
       ap (λ ls. rows_from (kept_from s.line ls))
       (ap lines_of (printed kind s.name (decimal s.number) rest) ∙ cut)
       ∙ rw (kept kind (32 ∷ (s.name ++ 32 ∷ decimal s.number)), row_is, later) refl

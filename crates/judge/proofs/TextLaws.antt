@@ -10,13 +10,13 @@ use Rattle.std.specs.Slice.{IsItemAt}
 use Rattle.std.proofs.Math.Bool.{and_comm, or-false, or_comm}
 use Rattle.std.proofs.lemmas.List.Folds.{list_any_more}
 use Rattle.std.proofs.lemmas.Option.{slice_get_past, slice_get_read}
+use Rattle.std.specs.Cmp.{nat_eq_equiv}
 use Rattle.task_sheet.specs.Indexes.{indexes_of, with_index}
 use Rattle.task_sheet.proofs.MembersIndexes.{indexes_of-insert}
 use Rattle.judge.specs.Judgements.{does_meet}
 use Rattle.judge.specs.Lines.{missed_of}
 use Rattle.judge.specs.declared.judging.JudgedTask.{JudgedTask}
 use Rattle.judge.specs.declared.judging.Judgement.TheVariants.{Meets}
-use Rattle.assignment.proofs.MemberLaws.{turned}
 
 -- stands past the end of a list
 abbrev pub no_judged : JudgedTask
@@ -37,7 +37,7 @@ missed_step m n xs k d true lt is so next = ap indexes_of next ∙ so
 missed_step m n xs k d false lt is so next =
     ap indexes_of next ∙ indexes_of-insert m (get_or xs k d).task
     ∙ ap (λ H. with_index H (get_or xs k d).task) so
-    ∙ fun_ext (λ i. rw (← turned (get_or xs k d).task i)
+    ∙ fun_ext (λ i. rw (← nat_eq_equiv.symm (get_or xs k d).task i)
     (sym (list_any_more (is_missed i) xs k d lt
     ∙ rw (← is, and_comm ((get_or xs k d).task == i) true)
     (or_comm (missed_of (take k xs) i) ((get_or xs k d).task == i)))))

@@ -3,7 +3,7 @@
 
 ghost use Rattle.std.specs.Prelude.{◌≡◌, ◌++◌, ℕ, List, []};
 ghost use Rattle.task_sheet.specs.Sheet.{Task};
-ghost use Rattle.task_sheet.specs.Orders.{IsPassingOrder, IsBest};
+ghost use Rattle.task_sheet.specs.Orders.{IsBest};
 ghost use Rattle.kept_order.specs.Keeping.{IsBestKept, IsFirstParted, IsPassingKept, Keeps};
 
 /// An order that keeps a list keeps its lowest part, and each order keeps a list of none or one. So of the three answers

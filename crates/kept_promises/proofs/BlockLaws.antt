@@ -1,21 +1,17 @@
 -- While a job waits, the tasks below it execute no more than what is left of a section that blocks.
 use Rattle.std.proofs.Common.{ℕ, zero, suc, ◌+◌, ◌-◌, ◌<◌, ◌≤◌, ◌≡◌, inl, inr, sym, ap, ◌∙◌}
-use Rattle.std.proofs.Common.{arith, if◌then◌else◌, Bool, true, false, ◌&&◌, List, length}
+use Rattle.std.proofs.Common.{arith, Bool, List, length}
 use Rattle.std.proofs.Common.{nat_lt}
-use Rattle.std.proofs.lemmas.Bool.{cases_eq, cases_lt, eq-eqb, le-leb, le-ltb, lt-leb, lt-ltb}
-use Rattle.std.proofs.lemmas.Bool.{ne_eqb, true≢false}
-use Rattle.std.proofs.lemmas.List.{get_or_past}
-use Rattle.task_sheet.proofs.Common.{CriticalSection, no_task, task_at, Indexes, with_index}
-use Rattle.task_sheet.proofs.Common.{reaches, shares_lock, blocking_of, longest_reached}
-use Rattle.task_sheet.proofs.Below.{le-greatest_below, some_below-at}
-use Rattle.ceiling_kernel.proofs.Common.{Job, Node, executed_before, job_at, job_task}
-use Rattle.ceiling_kernel.proofs.Common.{level_in_order, level_of_job, picked, top_ceiling}
-use Rattle.ceiling_kernel.proofs.Common.{AreLegalJobs, IsNode, above_of, AreApart}
+use Rattle.std.proofs.lemmas.Bool.{cases_eq, cases_lt, le-leb, le-ltb, lt-leb}
+use Rattle.std.proofs.lemmas.Bool.{true≢false}
+use Rattle.task_sheet.proofs.Common.{blocking_of}
+use Rattle.ceiling_kernel.proofs.Common.{Job, Node, executed_before, job_at}
+use Rattle.ceiling_kernel.proofs.Common.{level_in_order, level_of_job, picked}
+use Rattle.ceiling_kernel.proofs.Common.{AreLegalJobs, IsNode, above_of}
 use Rattle.ceiling_kernel.proofs.NodeLaws.{IsSound, IsSoundTask, sound}
 use Rattle.ceiling_kernel.proofs.SumLaws.{total, total-le, total-lt, total-one}
-use Rattle.ceiling_kernel.proofs.BehaviourLaws.{HasSpans, spans_of, taken_apart}
-use Rattle.ceiling_kernel.proofs.BoundLaws.{IsTopOf, top_of}
-use Rattle.ceiling_kernel.proofs.SectionLaws.{rest-le, stretch-le}
+use Rattle.ceiling_kernel.proofs.BehaviourLaws.{HasSpans, spans_of}
+use Rattle.ceiling_kernel.proofs.BoundLaws.{rest_most}
 use Rattle.ceiling_kernel.proofs.MachineLaws.{is_high, machine, rest_at}
 use Rattle.ceiling_kernel.proofs.Busy.{one_inside}
 use Rattle.kept_promises.proofs.TickLaws.{hit-le, hit_none, hits, total_next}
@@ -34,69 +30,15 @@ module _ (node : Node) (jobs : List Job) (is_node : IsNode node) (legal : AreLeg
   spanned : (j : ℕ) → HasSpans node jobs j
   spanned = spans_of node jobs legal.within
 
-  -- the tasks of this level or above
-  abbrev upper : Indexes
-  upper = with_index (above_of node i) i
-
   abbrev blocking : ℕ
   blocking = blocking_of node.tasks i (above_of node i)
-
-  upper-high : (h : ℕ) → h < length node.tasks → level ≤ level_in_order node h → upper h ≡ true
-  upper-high h lt le =
-      elim (cases_eq h i) [
-        | inl e ↦ rw (eq-eqb h i e)
-        | inr ne ↦ elim (cases_eq level (level_in_order node h)) [
-          | inl same ↦ absurd (ne (valid.levels_differ h i lt is (sym same)))
-          | inr differ ↦
-              rw (ne_eqb h i ne, lt-ltb level (level_in_order node h) (omega arith))
-        ]
-      ]
-
-  upper-low : (h : ℕ) → level_in_order node h < level → upper h ≡ false
-  upper-low h low =
-      rw (
-        ne_eqb h i (λ e. omega (arith, ap (level_in_order node) e)),
-        le-ltb level (level_in_order node h) (omega arith),
-      )
-
-  reached : (s : CriticalSection) → level ≤ top_ceiling node s.locks
-      → reaches node.tasks upper s ≡ true
-  reached s le =
-      let u : IsTopOf node level s.locks = top_of node is_node level s.locks level_some le in
-      some_below-at (length node.tasks) (λ k. upper k && shares_lock (task_at node.tasks k) s)
-      u.0 u.1 (rw (upper-high u.0 u.1 u.2, u.3))
 
   -- what is left of a section of a lower job that reaches the level
   abbrev left : ℕ → ℕ → ℕ
   left j e = rest_at node jobs level level_some spanned j e
 
   left_most : (j e : ℕ) → left j e ≤ blocking
-  unfolding blocking_of
-  left_most j e =
-      let k : ℕ = (job_at jobs j).task in
-      elim (cases_lt (level_of_job node jobs j) level) [
-        | inr ge ↦ rw (le-leb level (level_of_job node jobs j) ge) (omega arith)
-        | inl low ↦
-            let o : HasSpans node jobs j = spanned j in
-            let needs : ℕ = (job_at jobs j).executes in
-            let a = rest-le node level upper reached (job_task node jobs j).sections 0 needs o.spans
-            e o.taken in
-            let apart : AreApart 0 o.spans needs =
-            taken_apart (job_task node jobs j).sections 0 needs o.spans o.taken in
-            let s = stretch-le node level level_some 0 needs (job_at jobs j).sections o.spans apart
-            o.above (needs - e) e in
-            rw (lt-leb level (level_of_job node jobs j) low)
-            (elim (cases_lt k (length node.tasks)) [
-              | inl lt ↦
-                  let b = le-greatest_below (length node.tasks) (λ k. if upper k then 0
-                  else longest_reached node.tasks upper (task_at node.tasks k)) k lt in
-                  omega (arith, a, s, rw (upper-low k low) at b)
-              | inr past ↦
-                  let none : task_at node.tasks k ≡ no_task =
-                  get_or_past node.tasks k no_task past in
-                  omega (arith, a, s, ap (longest_reached node.tasks upper) none)
-            ])
-      ]
+  left_most j e = omega (arith, rest_most node jobs is_node spanned i is level_some j e)
 
   -- of all lower jobs before a tick
   abbrev all_left : ℕ → ℕ

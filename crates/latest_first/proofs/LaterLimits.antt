@@ -1,44 +1,17 @@
 -- Of some tasks, what is executed below all others of them is one blocking, the jobs of all of them and the interrupts: a
 -- task of a longer limit passes there where one of a shorter limit does.
-use Rattle.std.proofs.Common.{◌≡◌, ℕ, zero, suc, ◌+◌, ◌*◌, ◌<◌, ◌≤◌, true, cond, ◌||◌, inl, inr}
+use Rattle.std.proofs.Common.{◌≡◌, ℕ, ◌+◌, ◌*◌, ◌<◌, ◌≤◌, true, cond, ◌||◌, inl, inr}
 use Rattle.std.proofs.Common.{List, length, refl, sym, ◌∙◌, ap, arith}
 use Rattle.std.proofs.Math.Path.{fun_ext}
-use Rattle.std.specs.Int.{div_ceil}
 use Rattle.std.proofs.lemmas.Bool.{cases_eq, eq-eqb, ne_eqb, ltb-true}
-use Rattle.std.proofs.lemmas.Grind.{common_steps}
 use Rattle.task_sheet.proofs.Common.{Task, no_task, task_at, Indexes, IsPart, with_index}
-use Rattle.task_sheet.proofs.Common.{without_index, sum_below, greatest_below, limit_of}
+use Rattle.task_sheet.proofs.Common.{without_index, greatest_below, limit_of}
 use Rattle.task_sheet.proofs.Common.{longest_reached, blocking_of, demand_of, interference_of}
 use Rattle.task_sheet.proofs.Common.{interference_within, interrupts_within, releases_within}
 use Rattle.task_sheet.proofs.Common.{Passes, all_of}
-use Rattle.task_sheet.proofs.IndexLaws.{without-gone, without-kept}
+use Rattle.task_sheet.proofs.IndexLaws.{sum-without, without-kept}
+use Rattle.task_sheet.proofs.Releases.{cost-le-interference, div_ceil-le}
 use Rattle.latest_first.specs.LatestFirst.{IsPrompt, AllPrompt}
-
--- ---- one member's term
-abbrev term : (ℕ → ℕ) → Indexes → ℕ → ℕ
-term f X h = cond (X h) (f h) 0
-
--- past the member nothing changes
-sum-past : (n : ℕ) (f : ℕ → ℕ) (L : Indexes) (i : ℕ) → n ≤ i
-    → sum_below n (term f (without_index L i)) ≡ sum_below n (term f L)
-sum-past zero f L i le = refl
-sum-past (suc n) f L i le =
-    let kept : without_index L i n ≡ L n = without-kept L i n (λ e. omega (arith, e)) in
-    omega (arith, sum-past n f L i (omega arith), ap (λ b. cond b (f n) 0) kept)
-
-sum-without : (n : ℕ) (f : ℕ → ℕ) (L : Indexes) (i : ℕ) → i < n → L i ≡ true
-    → sum_below n (term f (without_index L i)) + f i ≡ sum_below n (term f L)
-sum-without zero f L i lt member = absurd (omega arith)
-sum-without (suc n) f L i lt member = elim (cases_eq i n) [
-  | inl e ↦
-      let gone : cond (without_index L i n) (f n) 0 ≡ 0 =
-      ap (λ b. cond b (f n) 0) (without-gone L i n (sym e)) in
-      let here : cond (L n) (f n) 0 ≡ f n = ap (λ b. cond b (f n) 0) (ap L (sym e) ∙ member) in
-      omega (arith, sum-past n f L i (omega (arith, e)), gone, here, ap f e)
-  | inr ne ↦
-      let kept : without_index L i n ≡ L n = without-kept L i n (λ e. ne (sym e)) in
-      omega (arith, sum-without n f L i (omega arith) member, ap (λ b. cond b (f n) 0) kept)
-]
 
 -- a member put back
 with-without : (L : Indexes) (i : ℕ) → L i ≡ true → with_index (without_index L i) i ≡ L
@@ -64,26 +37,17 @@ blocking-lowest U L i member = blocking-longest U i (without_index L i)
     ∙ ap (λ X. longest_outside U X) (with-without L i member)
 
 -- ---- jobs within a window
-div_ceil-once : (t p : ℕ) → 0 < p → t ≤ p → div_ceil t p ≤ 1
-div_ceil-once t p pos le = grind (arith, common_steps)
-
-div_ceil-some : (t p : ℕ) → 0 < p → 1 ≤ t → 1 ≤ div_ceil t p
-div_ceil-some t p pos le = grind (arith, common_steps)
-
 -- within its limit a task has one job
 pub once-within : (x : Task) (t : ℕ) → IsPrompt x → 1 ≤ t → t ≤ limit_of x
     → interference_of x t ≤ x.cost
 once-within x t prompt pos le =
     let once =
-    div_ceil-once (t + x.jitter) x.period prompt.period (omega (arith, le, prompt.deadline)) in
+    div_ceil-le (t + x.jitter) x.period 1 prompt.period (omega (arith, le, prompt.deadline)) in
     let jobs : releases_within x t * x.cost ≤ 1 * x.cost = grind arith in
     omega arith
 
 pub cost-within : (x : Task) (t : ℕ) → IsPrompt x → 1 ≤ t → x.cost ≤ interference_of x t
-cost-within x t prompt pos =
-    let once = div_ceil-some (t + x.jitter) x.period prompt.period (omega arith) in
-    let jobs : 1 * x.cost ≤ releases_within x t * x.cost = grind arith in
-    omega arith
+cost-within x t prompt pos = cost-le-interference x t prompt.period pos
 
 module _ (U : List Task) (prompt : AllPrompt U) (L : Indexes) (part : IsPart L (all_of U)) where
   -- what is executed of all of them, the one blocking, and the interrupts

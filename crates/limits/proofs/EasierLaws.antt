@@ -12,7 +12,7 @@ use Rattle.task_sheet.proofs.Common.{among, limit_of, blocking_of, interrupt_wit
 use Rattle.task_sheet.proofs.Common.{interrupts_within, demand_of, releases_within, interference_of}
 use Rattle.task_sheet.proofs.Common.{Passes, AllStand, IsPassingOrder, IsFeasible}
 use Rattle.task_sheet.proofs.Below.{sum_below-le}
-use Rattle.task_sheet.proofs.Releases.{div_ceil-mono}
+use Rattle.task_sheet.proofs.Releases.{div_ceil-le, div_ceil-mono}
 use Rattle.headroom.proofs.InterruptSets.{interrupts-less}
 use Rattle.limits.specs.Easier.{AreCheaper, AreEasier}
 use Rattle.limits.proofs.NearLaws.{AreNear, blocking-near, limit-near, is_bound-near}
@@ -22,10 +22,7 @@ div_ceil-longer : (t p q : ℕ) → 0 < p → p ≤ q → div_ceil t q ≤ div_c
 div_ceil-longer t p q pos le =
     let far : t ≤ div_ceil t p * p = grind (arith, common_steps) in
     let more : div_ceil t p * p ≤ div_ceil t p * q = mul-le-mul_left (div_ceil t p) le in
-    div_ceil-least t q (div_ceil t p) (omega arith) (omega arith)
-  where
-    div_ceil-least : (t p m : ℕ) → 0 < p → t ≤ m * p → div_ceil t p ≤ m
-    div_ceil-least t p m pos le = grind (arith, common_steps)
+    div_ceil-le t q (div_ceil t p) (omega arith) (omega arith)
 
 -- ---- interrupts
 pub AreCheaper-refl : (xs : List Interrupt) → AreCheaper xs xs

@@ -5,7 +5,7 @@ ghost use Rattle.task_sheet.specs.Sheet.{Task, AllTasks, task_at};
 ghost use Rattle.task_sheet.specs.TaskSet.{IsTaskSet};
 ghost use Rattle.task_sheet.specs.Indexes.{Indexes};
 ghost use Rattle.task_sheet.specs.Demand.{limit_of, blocking_of, demand_of, Passes};
-ghost use Rattle.task_sheet.specs.Orders.{Stands, IsPassingOrder, IsFeasible};
+ghost use Rattle.task_sheet.specs.Orders.{IsPassingOrder, IsFeasible};
 ghost use Rattle.task_sheet.specs.declared.node.Node.{Node};
 ghost use Rattle.overheads.specs.Padding.{IsLighter, IsUnpadded, padded, padding_fault};
 ghost use Rattle.limits.specs.Easier.{AreEasier};

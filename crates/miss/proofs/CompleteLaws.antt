@@ -1,5 +1,5 @@
 -- A task that must miss its deadline misses it in its worst case.
-use Rattle.std.proofs.Common.{◌≡◌, ◌≢◌, ℕ, ◌+◌, ◌-◌, ◌<◌, ◌≤◌, ◌⊎◌, inl, inr, true, ◌==◌, Some}
+use Rattle.std.proofs.Common.{◌≡◌, ◌≢◌, ℕ, ◌+◌, ◌-◌, ◌<◌, ◌≤◌, ◌⊎◌, inl, inr, true, Some}
 use Rattle.std.proofs.Common.{None, Option, List, ◌∷◌, length, get_or, refl, sym, ◌∙◌, ap, subst}
 use Rattle.std.proofs.Common.{arith}
 use Rattle.std.specs.Prelude.{unwrap_or, Contains}
@@ -16,9 +16,9 @@ use Rattle.ceiling_kernel.specs.Waits.{IsNode, AreLegalJobs, lateness_of, Overru
 use Rattle.ceiling_kernel.specs.Bounds.{above_of, after_of, ready_within, work_of, PassesBy}
 use Rattle.ceiling_kernel.specs.Bounds.{CoversBy, response_by}
 use Rattle.ceiling_kernel.specs.Readings.{IsFinishAt}
-use Rattle.ceiling_kernel.specs.Releases.{task_named, task_number, runs_of, job_of, jobs_of}
+use Rattle.ceiling_kernel.specs.Releases.{task_named, task_number, job_of, jobs_of}
 use Rattle.ceiling_kernel.specs.Releases.{release_at, ready_of, refusal_of}
-use Rattle.ceiling_kernel.proofs.NodeLaws.{IsSound, sound, after_is_above}
+use Rattle.ceiling_kernel.proofs.NodeLaws.{sound, after_is_above}
 use Rattle.ceiling_kernel.proofs.SectionLaws.{inside_from}
 use Rattle.ceiling_kernel.proofs.ReleaseLaws.{job_is, jobs_length}
 use Rattle.ceiling_kernel.proofs.EndLaws.{legal_from}
@@ -29,17 +29,18 @@ use Rattle.release_list.proofs.TaskNumbers.{found}
 use Rattle.release_list.specs.declared.stream.Stream.{Stream}
 use Rattle.release_list.specs.Streams.{stream_at, late_at, list_of, arrival_of, job_release}
 use Rattle.miss.specs.Exact.{IsWhole, IsHeldUp, IsWorst, EndsLow, NoneCovers}
-use Rattle.miss.specs.Misses.{section_of, lead_of, instant_of, worst_streams, IsWorstCase}
+use Rattle.miss.specs.Misses.{lead_of, instant_of, worst_streams, IsWorstCase}
 use Rattle.miss.specs.Misses.{MustMiss, WorstCaseMisses}
 use Rattle.miss.specs.Shown.{AboveAllPass}
 use Rattle.miss.specs.Reached.{IsLeastCover, WorstCaseReaches}
 use Rattle.release_list.proofs.ArrivalLaws.{IsArrival, arrivals_apart, numbered}
 use Rattle.release_list.proofs.JobLaws.{IsIn, IsOf, HavePeriods, of_at, order_at, arrived}
 use Rattle.release_list.proofs.JobLaws.{before_end, job_in}
-use Rattle.release_list.proofs.FitLaws.{IsFit, AreFit, some_period, number_is, none_refused}
+use Rattle.release_list.proofs.FitLaws.{AreFit, some_period, number_is, none_refused}
 use Rattle.miss.proofs.DenseLaws.{dense}
 use Rattle.miss.proofs.MemberLaws.{member_in, above_place}
-use Rattle.miss.proofs.LeadLaws.{done_grows, leads}
+use Rattle.ceiling_kernel.proofs.FinishLaws.{done_grows}
+use Rattle.miss.proofs.LeadLaws.{leads}
 use Rattle.miss.proofs.ReachLaws.{ceiling_reaches}
 use Rattle.miss.proofs.WorstLaws.{misses_law}
 use Rattle.miss.proofs.ExactLaws.{exact_law}

@@ -1,19 +1,10 @@
 -- A job that is ready before all others executes alone.
 use Rattle.std.proofs.Common.{◌≡◌, ◌≢◌, ℕ, zero, suc, ◌+◌, ◌<◌, ◌≤◌, inl, inr, List, length, Some}
-use Rattle.std.proofs.Common.{◌-◌, subst, arith}
+use Rattle.std.proofs.Common.{subst, arith}
 use Rattle.std.proofs.lemmas.Bool.{cases_eq}
 use Rattle.ceiling_kernel.specs.Tick.{Node, Job, job_at, executed_before, picked}
-use Rattle.ceiling_kernel.specs.Readings.{IsPicked}
-use Rattle.ceiling_kernel.proofs.FinishLaws.{grows_by}
 use Rattle.ceiling_kernel.proofs.LockLaws.{began_strictly}
 use Rattle.ceiling_kernel.proofs.MachineLaws.{works_of, own_of, picked_is_first, pending_parts}
-
--- what a job has executed never falls
-pub done_grows : (node : Node) (jobs : List Job) (j f g : ℕ) → f ≤ g
-    → executed_before node jobs f j ≤ executed_before node jobs g j
-done_grows node jobs j f g le = (let at : f + (g - f) ≡ g = omega arith in
-    subst (λ t. executed_before node jobs f j ≤ executed_before node jobs t j) at
-    (grows_by node jobs j f (g - f)))
 
 module _ (node : Node) (jobs : List Job) (b lead : ℕ) (lt : b < length jobs)
     (fits : lead ≤ (job_at jobs b).executes)

@@ -1,32 +1,17 @@
 -- A task and those above it in an order.
 use Rattle.std.proofs.Common.{◌≡◌, ◌≢◌, ℕ, zero, suc, ◌+◌, ◌<◌, ◌≤◌, inl, inr, true, ◌==◌, nat_lt}
-use Rattle.std.proofs.Common.{cond}
 use Rattle.std.proofs.Common.{List, [], ◌∷◌, length, get_or, drop, All, refl, sym, ◌∙◌, ap}
 use Rattle.std.proofs.Common.{◌-◌, subst, arith}
-use Rattle.std.proofs.lemmas.Bool.{cases_Bool, eq-eqb, eqb-true, ltb-true, true≢false, or_cases}
-use Rattle.std.proofs.lemmas.Bool.{or_left, or_right, ne_eqb}
+use Rattle.std.proofs.lemmas.Bool.{cases_Bool, eq-eqb, ltb-true}
+use Rattle.std.proofs.lemmas.Bool.{ne_eqb}
 use Rattle.std.proofs.lemmas.List.{get_or_default, get_or-drop, length-drop}
-use Rattle.task_sheet.proofs.Common.{IsTaskSet, among}
+use Rattle.task_sheet.proofs.Common.{among}
+use Rattle.task_sheet.proofs.IndexLaws.{among-place, place-among}
 use Rattle.ceiling_kernel.proofs.Common.{Node, level_from, level_in_order, IsNode, above_of}
 use Rattle.ceiling_kernel.proofs.Common.{after_of}
 use Rattle.ceiling_kernel.proofs.NodeLaws.{times, times-here, times-grow, level_past}
-use Rattle.ceiling_kernel.proofs.NodeLaws.{after_is_above}
+use Rattle.ceiling_kernel.proofs.NodeLaws.{after_is_above, at_most_once, times-order}
 use Rattle.miss.specs.Shown.{PassesThere, IsLowestFailing, AboveAllPass}
-
-pub among_at : (xs : List ℕ) (q : ℕ) → q < length xs → among xs (get_or xs q 0) ≡ true
-among_at [] q lt = absurd (omega arith)
-among_at (x ∷ xs) zero lt = or_left (x == x) (among xs x) (eq-eqb x x refl)
-among_at (x ∷ xs) (suc q) lt =
-    or_right (x == get_or xs q 0) (among xs (get_or xs q 0)) (among_at xs q (omega arith))
-
-pub among_place : (xs : List ℕ) (k : ℕ) → among xs k ≡ true → (q : ℕ) × (q < length xs)
-    × (get_or xs q 0 ≡ k)
-among_place [] k h = absurd (true≢false (sym h))
-among_place (x ∷ xs) k h =
-    elim (or_cases (x == k) (among xs k) h) [
-      | inl here ↦ (0, omega arith, eqb-true x k here)
-      | inr later ↦ let f = among_place xs k later in (suc f.0, omega (arith, f.1), f.2)
-    ]
 
 times_at : (xs : List ℕ) (q : ℕ) → q < length xs → 0 < times (get_or xs q 0) xs
 times_at [] q lt = absurd (omega arith)
@@ -58,25 +43,13 @@ after_drop (x ∷ order) i =
     ]
 
 module _ (node : Node) (ok : IsNode node) where
-  times-order : (i : ℕ) → times i node.order ≡ cond (nat_lt i (length node.tasks)) 1 0
-  unfolding times
-  times-order i = ok.order i
-
-  at_most_once : (i : ℕ) → times i node.order ≤ 1
-  at_most_once i =
-      let once = times-order i in
-      elim (cases_Bool (nat_lt i (length node.tasks))) [
-        | inl t ↦ (let e : times i node.order ≡ 1 = rw t at once in omega arith)
-        | inr f ↦ (let e : times i node.order ≡ 0 = rw f at once in omega arith)
-      ]
-
   -- whoever has a level is in the set
   pub has_level : (k : ℕ) → 0 < level_in_order node k → k < length node.tasks
   has_level k up =
       elim (cases_Bool (nat_lt k (length node.tasks))) [
         | inl t ↦ ltb-true k (length node.tasks) t
         | inr f ↦
-            let once = times-order k in
+            let once = times-order node ok k in
             let none : times k node.order ≡ 0 = rw f at once in
             absurd (omega (arith, level_past 1 node.order k none))
       ]
@@ -92,7 +65,7 @@ module _ (node : Node) (ok : IsNode node) where
     pub higher : (q : ℕ) → q < length above
         → level_in_order node i < level_in_order node (get_or above q 0)
     higher q small =
-        let on = sym (after_is_above node ok i (get_or above q 0) lt) ∙ among_at above q small in
+        let on = sym (after_is_above node ok i (get_or above q 0) lt) ∙ place-among above q small in
         ltb-true (level_in_order node i) (level_in_order node (get_or above q 0)) on
 
     pub member_in : (q : ℕ) → q < length members → (get_or members q 0 < length node.tasks)
@@ -109,7 +82,7 @@ module _ (node : Node) (ok : IsNode node) where
         let long = ap length d.1 ∙ length-drop d.0 node.order in
         let same = ap (λ xs. get_or xs q 0) d.1 ∙ get_or-drop d.0 node.order q 0 in
         ap (λ k. level_in_order node k) same
-        ∙ (level_at 1 node.order (d.0 + q) at_most_once (omega arith) ∙ omega arith)
+        ∙ (level_at 1 node.order (d.0 + q) (at_most_once node ok) (omega arith) ∙ omega arith)
 
     pub members_differ : (q r : ℕ) → q < length members → r < length members
         → get_or members q 0 ≡ get_or members r 0 → q ≡ r
@@ -130,7 +103,7 @@ module _ (node : Node) (ok : IsNode node) where
     pub above_place : (h : ℕ) → above_of node i h ≡ true → (q : ℕ) × (q < length members)
         × (get_or members q 0 ≡ h)
     above_place h on =
-        let f = among_place above h (after_is_above node ok i h lt ∙ on) in
+        let f = among-place above h (after_is_above node ok i h lt ∙ on) in
         (suc f.0, omega (arith, f.1), f.2)
 
     -- ---- as a list that is read
@@ -152,7 +125,7 @@ module _ (node : Node) (ok : IsNode node) where
       -- each task above is one of them
       place_in : (k : ℕ) → k < length node.tasks → above_of node i k ≡ true
           → (r : ℕ) × (r < length xs) × (get_or xs r 0 ≡ k)
-      place_in k known on = among_place xs k
+      place_in k known on = among-place xs k
           (ap (λ ys. among ys k) are ∙ (after_is_above node ok i k lt ∙ on))
 
       level_in : (q : ℕ) → q < length xs
@@ -167,7 +140,7 @@ module _ (node : Node) (ok : IsNode node) where
       lowest_failing q small before fails = record {
         in_set = above_at q small;
         above = sym (after_is_above node ok i (get_or xs q 0) lt)
-            ∙ (ap (λ ys. among ys (get_or xs q 0)) (sym are) ∙ among_at xs q small);
+            ∙ (ap (λ ys. among ys (get_or xs q 0)) (sym are) ∙ place-among xs q small);
         fails = fails;
         lowest = λ k known on under.
             let w = place_in k known on in

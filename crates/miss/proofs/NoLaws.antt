@@ -1,23 +1,22 @@
 -- Without locks, timers and interrupts a task that doesn't pass must miss its deadline, or one
 -- above it must.
-use Rattle.std.proofs.Common.{◌≡◌, ℕ, zero, suc, ◌+◌, ◌-◌, ◌<◌, ◌≤◌, inl, inr, List, [], ◌∷◌}
+use Rattle.std.proofs.Common.{◌≡◌, ℕ, zero, suc, ◌+◌, ◌-◌, ◌<◌, inl, inr, List, [], ◌∷◌}
 use Rattle.std.proofs.Common.{length, sym, ◌∙◌, ap, subst, arith, max}
 use Rattle.std.specs.Prelude.{Contains}
 use Rattle.std.proofs.lemmas.Bool.{cases_lt, ltb-true}
-use Rattle.task_sheet.proofs.Common.{CriticalSection, IsValidSheet, no_task, task_at, blocking_of}
-use Rattle.task_sheet.proofs.Common.{demand_of, limit_of, Passes, IsTaskSet}
+use Rattle.task_sheet.proofs.Common.{CriticalSection, no_task, task_at, blocking_of}
+use Rattle.task_sheet.proofs.Common.{demand_of, limit_of, Passes}
 use Rattle.task_sheet.specs.Demand.{Blocks, IsUninterrupted}
 use Rattle.task_sheet.proofs.BlockingLaws.{blocking-some}
 use Rattle.task_sheet.proofs.InterruptLaws.{demand-plain}
 use Rattle.task_sheet.proofs.ResponseLaws.{decide_covers}
 use Rattle.ceiling_kernel.proofs.Common.{Node, Job, job_at, job_task, level_in_order, held_ceiling}
-use Rattle.ceiling_kernel.proofs.Common.{executed_before, IsNode, AreLegalJobs, lateness_of}
-use Rattle.ceiling_kernel.proofs.Common.{above_of, PassesBy, response_by, work_of, job_of, jobs_of}
-use Rattle.ceiling_kernel.proofs.Common.{release_at}
+use Rattle.ceiling_kernel.proofs.Common.{IsNode, AreLegalJobs, lateness_of}
+use Rattle.ceiling_kernel.proofs.Common.{above_of, PassesBy, response_by, work_of, jobs_of}
 use Rattle.ceiling_kernel.proofs.PriorityLaws.{level_within}
-use Rattle.miss.proofs.LeadLaws.{done_grows}
+use Rattle.ceiling_kernel.proofs.FinishLaws.{done_grows}
 use Rattle.miss.specs.Exact.{EndsLow}
-use Rattle.miss.specs.Misses.{IsMissOf, MustMiss, IsLockFree, NoIsShown, MissesAreRefused}
+use Rattle.miss.specs.Misses.{MustMiss, IsLockFree, NoIsShown, MissesAreRefused}
 use Rattle.ceiling_kernel.proofs.ReleaseLaws.{job_is, jobs_length}
 use Rattle.ceiling_kernel.proofs.EndLaws.{legal_from}
 use Rattle.ceiling_kernel.proofs.BoundLaws.{bound_law}

@@ -1,6 +1,6 @@
 -- What comes of running the worst case of a task.
-use Rattle.std.proofs.Common.{◌≡◌, ℕ, suc, ◌+◌, ◌-◌, ◌<◌, ◌≤◌, inl, inr, Some, None, Option, Err}
-use Rattle.std.proofs.Common.{Ok, List, [], ◌∷◌, length, get_or, refl, sym, ◌∙◌, ap, subst, is_some}
+use Rattle.std.proofs.Common.{◌≡◌, ℕ, ◌+◌, ◌-◌, ◌<◌, ◌≤◌, inl, inr, Some, None, Option, Err}
+use Rattle.std.proofs.Common.{Ok, List, length, get_or, refl, sym, ◌∙◌, ap, subst, is_some}
 use Rattle.std.proofs.Common.{true, false, arith}
 use Rattle.std.proofs.lemmas.Option.{none-some}
 use Rattle.std.proofs.lemmas.Bool.{cases_eq, cases_lt, true≢false}
@@ -12,25 +12,19 @@ use Rattle.ceiling_kernel.specs.declared.trace.RunFault.{RunFault}
 use Rattle.ceiling_kernel.specs.declared.trace.RunFault.TheVariants as fault
 use Rattle.ceiling_kernel.proofs.Common.{Node, Job, job_at, executed_before, finish_before, IsNode}
 use Rattle.ceiling_kernel.proofs.Common.{above_of, after_of, CoversBy, task_number, jobs_of}
-use Rattle.ceiling_kernel.proofs.Common.{release_at, ready_of, refusal_of, no_record, records_from}
+use Rattle.ceiling_kernel.proofs.Common.{release_at, ready_of, refusal_of, no_record}
 use Rattle.ceiling_kernel.proofs.Common.{Runs}
 use Rattle.ceiling_kernel.specs.Readings.{IsFinishAt}
-use Rattle.ceiling_kernel.specs.Runs.{IsOverrun, IsFirstOverrun}
-use Rattle.ceiling_kernel.proofs.ReleaseLaws.{read_at, job_is, jobs_length}
+use Rattle.ceiling_kernel.proofs.ReleaseLaws.{read_at, job_is, jobs_length, records_length}
 use Rattle.ceiling_kernel.proofs.EndLaws.{some_executes, records_at}
-use Rattle.ceiling_kernel.proofs.FinishLaws.{finish_none, finish_some, finish_is, unfinished_is}
+use Rattle.ceiling_kernel.proofs.FinishLaws.{done_grows, finish_none, finish_some, finish_is}
+use Rattle.ceiling_kernel.proofs.FinishLaws.{unfinished_is}
 use Rattle.miss.specs.declared.reaching.WorstRun.{WorstRun}
 use Rattle.miss.specs.Exact.{EndsLow}
 use Rattle.miss.specs.Misses.{IsRunOf, IsMissOf, IsWorstCase, MustMiss}
 use Rattle.miss.specs.Shown.{AboveAllPass, IsStopped, IsDoneInTime, ShowsNone}
 use Rattle.miss.specs.Reached.{IsLeastCover, IsFinishIn, IsWorstRun}
 use Rattle.miss.proofs.CompleteLaws.{CaseFacts, case_law}
-use Rattle.miss.proofs.LeadLaws.{done_grows}
-
-records_length : (node : Node) (jobs : List Job) (t k : ℕ) (rs : List Release)
-    → length (records_from node jobs t k rs) ≡ length rs
-records_length node jobs t k [] = refl
-records_length node jobs t k (r ∷ rs) = ap suc (records_length node jobs t (k + 1) rs)
 
 -- a trace has a record of each release
 pub trace_length : (node : Node) (rs : List Release) (until : ℕ) (trace : Trace)

@@ -12,9 +12,8 @@ use Rattle.ceiling_kernel.proofs.Common.{Node, Job, job_at, job_task, level_in_o
 use Rattle.ceiling_kernel.proofs.Common.{is_inside, top_ceiling, held_ceiling, active_of}
 use Rattle.ceiling_kernel.proofs.Common.{executed_before, picked, active_at, IsNode, AreLegalJobs}
 use Rattle.ceiling_kernel.proofs.Common.{lateness_of, above_of, ready_within, work_of}
-use Rattle.ceiling_kernel.specs.Readings.{IsPicked}
 use Rattle.ceiling_kernel.specs.Bounds.{is_ready_in}
-use Rattle.ceiling_kernel.proofs.NodeLaws.{IsSoundTask, IsSound, sound}
+use Rattle.ceiling_kernel.proofs.NodeLaws.{IsSound, sound}
 use Rattle.ceiling_kernel.proofs.SumLaws.{total, total-sum, total-le, total-add, total-same}
 use Rattle.ceiling_kernel.proofs.SumLaws.{total-single, term-le}
 use Rattle.ceiling_kernel.proofs.WindowLaws.{of_task, by_tasks}
@@ -24,9 +23,9 @@ use Rattle.ceiling_kernel.proofs.LockLaws.{began_strictly}
 use Rattle.ceiling_kernel.proofs.MachineLaws.{machine, is_high, rest_at, before_end}
 use Rattle.ceiling_kernel.proofs.MachineLaws.{picked_is_first, pending_from, other_of}
 use Rattle.ceiling_kernel.proofs.Busy.{to_do, tick_cases}
-use Rattle.miss.specs.Exact.{IsWhole, IsWorst, EndsLow, NoneCovers, WorstComes, WorstMisses}
+use Rattle.miss.specs.Exact.{IsWorst, EndsLow, NoneCovers, WorstComes, WorstMisses}
 use Rattle.miss.proofs.Falls.{total-some, ticks}
-use Rattle.miss.proofs.LeadLaws.{done_grows}
+use Rattle.ceiling_kernel.proofs.FinishLaws.{done_grows}
 
 -- a job inside one of its sections holds its locks
 held-place : (node : Node) (ss : List CriticalSection) (s : CriticalSection) (e k : ℕ)

@@ -1,5 +1,5 @@
 //! What a trace shows of a job.
-ghost use Rattle.std.specs.Prelude.{◌≡◌, ◌<◌, length, drop, take, slice_index};
+ghost use Rattle.std.specs.Prelude.{◌≡◌, ◌<◌};
 ghost use Rattle.observed.specs.Seen.{gap_since, last_arrival, seen_job, until_of};
 
 use crate::pieces::Piece;

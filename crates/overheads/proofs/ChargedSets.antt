@@ -7,9 +7,8 @@ use Rattle.task_sheet.proofs.Common.{Task, AreInterrupts, IsValidSheet, rank_cmp
 use Rattle.task_sheet.proofs.Common.{same_name, AreDistinct, IsTaskSet, sheets_fault}
 use Rattle.task_sheet.specs.Sheet.{interrupted}
 use Rattle.task_sheet.specs.declared.node.Interrupt.{Interrupt}
-use Rattle.task_sheet.proofs.SetLaws.{no_fault}
+use Rattle.task_sheet.proofs.SetLaws.{IsByRank-is, no_fault}
 use Rattle.overheads.specs.Padding.{charged}
-use Rattle.overheads.proofs.MappedSets.{IsByRank-is}
 use Rattle.overheads.proofs.PaddedTasks.{valid-other}
 
 pub count-charged : (U : List Task) (xs : List Interrupt) → length (charged xs U) ≡ length U

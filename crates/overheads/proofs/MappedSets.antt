@@ -1,21 +1,13 @@
 -- A set with another task in the place of each, of the same name and weight, is a set by the same ranks.
-use Rattle.std.proofs.Common.{◌≡◌, ℕ, ◌+◌, ◌<◌, ◌≤◌, false, None, List, [], ◌∷◌, ◌++◌, length}
-use Rattle.std.proofs.Common.{get_or, take, Less, sym, ◌∙◌, arith, map}
+use Rattle.std.proofs.Common.{◌≡◌, ℕ, ◌<◌, ◌≤◌, false, None, List, [], ◌∷◌, length}
+use Rattle.std.proofs.Common.{Less, ◌∙◌, arith, map}
 use Rattle.std.proofs.Math.ListN.{get_or-eq_default}
 use Rattle.std.specs.List.{AllByRecursion, All}
 use Rattle.std.specs.List.Sorted.{IsStrictlySortedBy}
-use Rattle.std.proofs.lemmas.List.{length-map, get_or-map, map_more}
-use Rattle.std.proofs.lemmas.List.Sorted.{IsPermutation-refl}
+use Rattle.std.proofs.lemmas.List.{length-map, get_or-map}
 use Rattle.task_sheet.proofs.Common.{Task, IsValidSheet, no_task, task_at, rank_cmp, IsByRank}
 use Rattle.task_sheet.proofs.Common.{same_name, AreDistinct, IsTaskSet, sheets_fault}
-use Rattle.task_sheet.proofs.SetLaws.{by_rank_one, no_fault}
-
--- sheets that stand by rank are what they are by rank
-pub IsByRank-is : (sheets V : List Task) → IsStrictlySortedBy rank_cmp sheets → IsByRank sheets V
-    → V ≡ sheets
-IsByRank-is sheets V ranked by_rank =
-    let own = IsPermutation-refl sheets in
-    by_rank_one sheets sheets V sheets own by_rank (record { permutation = own; ranked = ranked })
+use Rattle.task_sheet.proofs.SetLaws.{IsByRank-is, no_fault}
 
 -- tasks keep their ranks and names
 pub record KeepsRanks (g : Task → Task) : Type 0 where

@@ -2,14 +2,13 @@
 use Rattle.std.proofs.Common.{◌≡◌, ℕ, ◌<◌, ◌≤◌, Option, Some, None, IfSome, List, [], ◌∷◌}
 use Rattle.std.proofs.Common.{length, refl, ◌∙◌, ap, arith}
 use Rattle.std.specs.List.{AllByRecursion}
-use Rattle.std.specs.Option.{option_or}
 use Rattle.std.proofs.lemmas.List.Elements.{All-from_recursion, recursion_from_All}
 use Rattle.task_sheet.proofs.Common.{Task, AreOverheads, IsValidSheet, no_overhead, no_task}
 use Rattle.task_sheet.proofs.Common.{task_at, IsByRank, IsTaskSet}
 use Rattle.task_sheet.specs.declared.node.Node.{Node}
+use Rattle.task_sheet.proofs.OptionLaws.{option_or-parts}
 use Rattle.overheads.specs.Padding.{padded_task, padded, task_fault, padding_fault, padded_by}
 use Rattle.overheads.specs.Padding.{fault_by, IsUnpadded, IsLighter}
-use Rattle.overheads.specs.declared.padding.PadFault.{PadFault}
 use Rattle.overheads.proofs.MappedSets.{KeepsRanks, count-mapped, mapped-at, mapped-past}
 use Rattle.overheads.proofs.MappedSets.{IsByRank-mapped, set-mapped}
 use Rattle.overheads.proofs.PaddedTasks.{room_of, valid-padded, room-lighter, task-none, room-none}
@@ -35,15 +34,11 @@ module _ (node : Node) where
   padded-past U k past = mapped-past (padded_task node) U k past
 
 -- ---- room
-pub first_none : (o p : Option PadFault) → option_or o p ≡ None → (o ≡ None) × (p ≡ None)
-first_none None p e = (refl, e)
-first_none (Some f) p e = absurd (cc)
-
 valid-each : (node : Node) (U : List Task) → AreOverheads node → AllByRecursion IsValidSheet U
     → padding_fault node U ≡ None → AllByRecursion IsValidSheet (padded node U)
 valid-each node [] limits valid room = tt
 valid-each node (t ∷ ts) limits valid room =
-    let both = first_none (task_fault node t) (padding_fault node ts) room in
+    let both = option_or-parts (task_fault node t) (padding_fault node ts) room in
     let own = room_of node t both.0 in (
       valid-padded node t limits valid.0 own.cost own.jitter,
       valid-each node ts limits
@@ -67,7 +62,7 @@ pub fault-lighter : (U : List Task) (light heavy : Node) → IsLighter light hea
     → padding_fault heavy U ≡ None → padding_fault light U ≡ None
 fault-lighter [] light heavy is none = refl
 fault-lighter (t ∷ ts) light heavy is none =
-    let both = first_none (task_fault heavy t) (padding_fault heavy ts) none in
+    let both = option_or-parts (task_fault heavy t) (padding_fault heavy ts) none in
     rw (room-lighter light heavy t is both.0) (fault-lighter ts light heavy is both.1)
 
 -- ---- nothing

@@ -3,46 +3,19 @@ use Rattle.std.proofs.Common.{◌≡◌, ℕ, zero, suc, ◌+◌, ◌-◌, ◌*�
 use Rattle.std.proofs.Common.{◌∷◌, length, sum_by, refl, ◌∙◌, ap, arith}
 use Rattle.std.specs.Int.{div_ceil}
 use Rattle.std.proofs.lemmas.Grind.{common_steps}
-use Rattle.std.proofs.lemmas.Bool.{cases_Bool, cases_eq, eq-eqb, ne_eqb}
+use Rattle.std.proofs.lemmas.Bool.{cases_Bool, eq-eqb, ne_eqb}
 use Rattle.std.proofs.Math.Nat.{mul-zero}
 use Rattle.task_sheet.specs.declared.node.Node.{Node}
 use Rattle.task_sheet.specs.declared.node.Interrupt.{Interrupt}
 use Rattle.task_sheet.proofs.Common.{Task, no_task, task_at, Indexes, sum_below, releases_within}
 use Rattle.task_sheet.proofs.Common.{interrupt_within, interference_of, interrupts_of}
 use Rattle.task_sheet.proofs.Common.{interrupts_within, demand_of}
-use Rattle.task_sheet.proofs.Below.{sum_below-both, sum_below-fits}
+use Rattle.task_sheet.proofs.Below.{sum_below-both, sum_below-fits, sum_below-one}
 use Rattle.task_sheet.proofs.TaskLaws.{valid_at}
 use Rattle.overheads.specs.Padding.{padded_cost, whole_cost, padded_task, padded, charged}
 use Rattle.overheads.specs.Rule.{taken_of, demand_by_rule, IsRuled}
 use Rattle.overheads.proofs.PaddedSets.{count-padded, padded-at}
 use Rattle.overheads.proofs.ChargedSets.{count-charged}
-
--- a sum with one term that is greater
-sum_below-same : (n : ℕ) (f g : ℕ → ℕ) → ((k : ℕ) → k < n → f k ≡ g k)
-    → sum_below n f ≡ sum_below n g
-sum_below-same zero f g same = refl
-sum_below-same (suc n) f g same =
-    omega (arith, sum_below-same n f g (λ k lt. same k (omega arith)), same n (omega arith))
-
-sum_below-one : (n : ℕ) (f g : ℕ → ℕ) (i c : ℕ) → i < n → f i ≡ g i + c
-    → ((k : ℕ) → k < n → (k ≡ i → ⊥) → f k ≡ g k) → sum_below n f ≡ sum_below n g + c
-sum_below-one zero f g i c lt here others = absurd (omega (arith, lt))
-sum_below-one (suc n) f g i c lt here others = elim (cases_eq n i) [
-  | inl e ↦
-      let last : f n ≡ g n + c = rw e here in
-      omega (
-        arith,
-        last,
-        sum_below-same n f g
-            (λ k below. others k (omega arith) (λ same. omega (arith, same, e, below))),
-      )
-  | inr ne ↦ omega (
-    arith,
-    others n (omega arith) ne,
-    sum_below-one n f g i c
-        (omega (arith, lt, ne)) here (λ k below. others k (omega arith)),
-  )
-]
 
 -- the interrupts on the account of a task, by its index
 abbrev account : List Interrupt → ℕ → List Interrupt
@@ -142,8 +115,7 @@ module _ (node : Node) (xs : List Interrupt) (U : List Task) (i : ℕ) (H : Inde
       omega (
         arith,
         none,
-        sum_below-one (length U) own (λ k. 0) 0 (sum_by (interrupt_within t) xs)
-            first (omega arith) (λ k lt ne. elsewhere k ne),
+        sum_below-one (length U) own (λ k. 0) 0 first (λ k lt ne. elsewhere k ne),
       )
     where
       elsewhere : (k : ℕ) → (k ≡ 0 → ⊥) → own k ≡ 0
@@ -160,8 +132,7 @@ module _ (node : Node) (xs : List Interrupt) (U : List Task) (i : ℕ) (H : Inde
       let taken = ap (λ n. sum_below n (λ k. interrupts_of t (task_at V k))) count in
       let both = sum_below-both (length U) (λ k. cond (H k) (interference_of (task_at V k) t) 0)
       (λ k. interrupts_of t (task_at V k)) in
-      let all = sum_below-one (length U) takes (λ k. rules k + own k) i node.release ruled.inside
-      itself other in
+      let all = sum_below-one (length U) takes (λ k. rules k + own k) i ruled.inside other in
       omega (
         arith,
         cost,
@@ -169,6 +140,7 @@ module _ (node : Node) (xs : List Interrupt) (U : List Task) (i : ℕ) (H : Inde
         taken,
         both,
         all,
+        itself,
         sum_below-both (length U) rules own,
         charges,
         whole i,

@@ -1,5 +1,5 @@
 //! Whose each task of a set's text is.
-ghost use Rattle.std.specs.Prelude.{◌≡◌, ◌++◌, [], IfOk, OnOk, MatchOption};
+ghost use Rattle.std.specs.Prelude.{◌≡◌, ◌++◌, IfOk, OnOk, MatchOption};
 ghost use Rattle.owners.specs.Owners.{AreOwners, AreOwnersIn, IsDocumentOf, IsNoDocument, owned_by, team_of};
 
 use std::alloc::{AllocError, Global};

@@ -1,5 +1,5 @@
 //! Which word of a line is the name of a task.
-ghost use Rattle.std.specs.Prelude.{◌≡◌, List, ℕ, None, Some, slice_get, MatchOption};
+ghost use Rattle.std.specs.Prelude.{◌≡◌, None, Some, slice_get, MatchOption};
 ghost use Rattle.lines.specs.Words.{words};
 ghost use Rattle.owners.specs.NamedLines.{change_place, is_at, level_place, number_at, part_place, task_place, task_word, time_place};
 

@@ -5,7 +5,7 @@ ghost use Rattle.picture.specs.Document.{document, framed};
 
 use crate::ground::put_ground;
 use crate::why::put_waits;
-use ceiling_kernel::{Release, Trace};
+use ceiling_kernel::{Release, Slice, Trace};
 use drawn_jobs::{put_all_marks, put_jobs, put_lanes, put_misses, put_slices};
 use frames::{Chart, Page, TaskRow, View, frame_of, locks_of, shown_of, starts_rise};
 use std::alloc::{AllocError, Global};
@@ -47,6 +47,7 @@ pub fn draw(
 {
     let shown = shown_of(alloc, &view.tasks, rows)?;
     let locks = locks_of(alloc, rows)?;
+    let slices: &[Slice] = &trace.slices;
     let chart = Chart {
         frame: frame_of(rows, view, until),
         title: &view.title,
@@ -55,8 +56,8 @@ pub fn draw(
         until,
         releases,
         jobs: &trace.jobs,
-        slices: &trace.slices,
-        rising: starts_rise(&trace.slices),
+        slices,
+        rising: starts_rise(slices),
         locks: &locks,
     };
     draw_chart(alloc, &chart)

@@ -12,7 +12,8 @@ use Rattle.pieces.specs.Bands.{job_of, is_of, joins, next_of, band_of, is_within
 use Rattle.pieces.specs.Bands.{holds_job}
 use Rattle.pieces.specs.Laws.{counted_at, CountOnce}
 use Rattle.pieces.proofs.PlaceLaws.{next_within, place_of}
-use Rattle.pieces.proofs.BandSums.{zeros, ones, same_sum, swapped, single, stretched, passing}
+use Rattle.task_sheet.proofs.Below.{sum_below-same}
+use Rattle.pieces.proofs.BandSums.{zeros, ones, swapped, single, stretched, passing}
 
 abbrev one_if : Bool → ℕ
 one_if b = if b then 1 else 0
@@ -69,7 +70,7 @@ share_sum gap jobs n lt = by (joins gap jobs n) refl
         rw (length-drop n jobs) (omega (arith, within)) in
         ap (λ (b : Bool). if b then 0 else length (band_of gap jobs n)) h
         ∙ passing (is_of name) (drop n jobs) no_record (next - n) room
-        ∙ same_sum (next - n) (λ j. one_if (is_of name (get_or (drop n jobs) j no_record)))
+        ∙ sum_below-same (next - n) (λ j. one_if (is_of name (get_or (drop n jobs) j no_record)))
         (λ j. share gap jobs n (n + j)) (λ j below. share_within gap jobs n j h below)
         ∙ sym (stretched n next (length jobs) (share gap jobs n) (omega (arith, bounds.0)) within
         (share_before gap jobs n) (share_behind gap jobs n))
@@ -91,10 +92,10 @@ share_one gap jobs j lt =
 pub counted : CountOnce
 counted gap jobs = (
   λ j lt. (let it = place_of gap jobs j lt in (it.place, it.holds, it.only)),
-  same_sum (length jobs) (counted_at gap jobs) (λ n. sum_below (length jobs) (share gap jobs n))
-      (share_sum gap jobs)
+  sum_below-same (length jobs) (counted_at gap jobs)
+      (λ n. sum_below (length jobs) (share gap jobs n)) (share_sum gap jobs)
       ∙ swapped (length jobs) (length jobs) (share gap jobs)
-      ∙ same_sum (length jobs) (λ j. sum_below (length jobs) (λ n. share gap jobs n j)) (λ j. 1)
-      (share_one gap jobs)
+      ∙ sum_below-same (length jobs) (λ j. sum_below (length jobs) (λ n. share gap jobs n j))
+      (λ j. 1) (share_one gap jobs)
       ∙ ones (length jobs),
 )

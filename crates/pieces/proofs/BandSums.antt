@@ -1,11 +1,11 @@
 -- Sums over places.
-use Rattle.std.proofs.Common.{◌≡◌, inl, inr, ℕ, suc, zero, ◌+◌, ◌-◌, ◌<◌, ◌≤◌, List, length, get_or}
+use Rattle.std.proofs.Common.{◌≡◌, ℕ, suc, zero, ◌+◌, ◌-◌, ◌<◌, ◌≤◌, List, length, get_or}
 use Rattle.std.proofs.Common.{take, Bool, refl, sym, ap, ◌∙◌, arith, add-one}
 use Rattle.std.specs.Prelude.{if◌then◌else◌}
 use Rattle.std.specs.List.{filter}
-use Rattle.std.proofs.lemmas.Bool.{cases_eq}
 use Rattle.std.proofs.lemmas.List.Filters.{length-filter_more}
 use Rattle.task_sheet.specs.Indexes.{sum_below}
+use Rattle.task_sheet.proofs.Below.{sum_below-both, sum_below-one}
 
 -- nothing comes to nothing
 pub zeros : (n : ℕ) (f : ℕ → ℕ) → ((k : ℕ) → k < n → f k ≡ 0) → sum_below n f ≡ 0
@@ -17,36 +17,22 @@ pub ones : (n : ℕ) → sum_below n (λ k. 1) ≡ n
 ones zero = refl
 ones (suc n) = omega (arith, ones n)
 
-pub same_sum : (n : ℕ) (f g : ℕ → ℕ) → ((k : ℕ) → k < n → f k ≡ g k) → sum_below n f ≡ sum_below n g
-same_sum zero f g same = refl
-same_sum (suc n) f g same =
-    omega (arith, same_sum n f g (λ k lt. same k (omega (arith, lt))), same n (omega arith))
-
-plus : (n : ℕ) (f g : ℕ → ℕ) → sum_below n (λ k. f k + g k) ≡ sum_below n f + sum_below n g
-plus zero f g = refl
-plus (suc n) f g = omega (arith, plus n f g)
-
 -- by rows or by columns
 pub swapped : (n m : ℕ) (h : ℕ → ℕ → ℕ)
     → sum_below n (λ a. sum_below m (h a)) ≡ sum_below m (λ b. sum_below n (λ a. h a b))
 swapped zero m h = sym (zeros m (λ b. 0) (λ k lt. refl))
 swapped (suc n) m h =
-    omega (arith, swapped n m h, plus m (λ b. sum_below n (λ a. h a b)) (h n))
+    omega (arith, swapped n m h, sum_below-both m (λ b. sum_below n (λ a. h a b)) (h n))
 
 -- one term is 1, all others are nothing
 pub single : (n : ℕ) (f : ℕ → ℕ) (p : ℕ) → p < n → f p ≡ 1 → ((m : ℕ) → (m ≡ p → ⊥) → f m ≡ 0)
     → sum_below n f ≡ 1
-single zero f p lt one others = absurd (omega (arith, lt))
-single (suc n) f p lt one others = elim (cases_eq n p) [
-  | inl is ↦ omega (
-    arith,
-    ap f is,
-    one,
-    zeros n f (λ k below. others k (λ e. absurd (omega (arith, below, e, is)))),
-  )
-  | inr other ↦
-      omega (arith, single n f p (omega (arith, lt, other)) one others, others n other)
-]
+single n f p lt one others = omega (
+  arith,
+  one,
+  zeros n (λ k. 0) (λ k below. refl),
+  sum_below-one n f (λ k. 0) p lt (λ k below. others k),
+)
 
 -- in two parts
 parted : (a b : ℕ) (g : ℕ → ℕ) → sum_below (a + b) g ≡ sum_below a g + sum_below b (λ j. g (a + j))

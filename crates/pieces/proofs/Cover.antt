@@ -1,6 +1,6 @@
 -- Each tick lies in one piece.
-use Rattle.std.proofs.Common.{◌≡◌, ◌⊎◌, inl, inr, ℕ, ◌+◌, ◌-◌, ◌<◌, ◌≤◌, List, [], ◌∷◌, Option}
-use Rattle.std.proofs.Common.{Some, None, true, false, nat_lt, min, max, refl, sym, ◌∙◌, subst}
+use Rattle.std.proofs.Common.{◌≡◌, ◌⊎◌, inl, inr, ℕ, ◌-◌, ◌<◌, ◌≤◌, List, [], ◌∷◌, Option}
+use Rattle.std.proofs.Common.{Some, None, true, false, nat_lt, min, max, refl, sym, ◌∙◌}
 use Rattle.std.proofs.Common.{arith}
 use Rattle.std.specs.Option.{unwrap_or}
 use Rattle.std.proofs.lemmas.Bool.{cases_Bool, cases_lt}
@@ -9,7 +9,7 @@ use Rattle.ceiling_kernel.specs.declared.trace.Slice.{Slice}
 use Rattle.ceiling_kernel.specs.Tick.{Node, Job, job_at, executed_before, picked}
 use Rattle.ceiling_kernel.specs.Trace.{slices_of, finish_before}
 use Rattle.ceiling_kernel.specs.Readings.{AreLongestRuns}
-use Rattle.ceiling_kernel.proofs.FinishLaws.{grows_by, finish_is, unfinished_is}
+use Rattle.ceiling_kernel.proofs.FinishLaws.{done_grows, finish_is, unfinished_is}
 use Rattle.ceiling_kernel.proofs.MachineLaws.{works_of}
 use Rattle.ceiling_kernel.proofs.SliceLaws.{longest_runs}
 use Rattle.pieces.specs.Pieces.{clipped, pieces_of}
@@ -82,12 +82,6 @@ one_of run from until t p (s ∷ slices) runs lo hi picks = elim (cases_lt t s.s
 ]
 
 -- ---- jobs
-done_grows : (node : Node) (jobs : List Job) (j f g : ℕ) → f ≤ g
-    → executed_before node jobs f j ≤ executed_before node jobs g j
-done_grows node jobs j f g le = (let at : f + (g - f) ≡ g = omega (arith, le) in
-    subst (λ t. executed_before node jobs f j ≤ executed_before node jobs t j) at
-    (grows_by node jobs j f (g - f)))
-
 -- a job lacks some of its ticks up to its finish
 lacks : (node : Node) (jobs : List Job) (until j t : ℕ) → 0 < (job_at jobs j).executes
     → t < end_of node jobs until j

@@ -1,5 +1,5 @@
 //! Jobs of a task that arrive close to each other, as bands.
-ghost use Rattle.std.specs.Prelude.{◌≡◌, ◌+◌, ◌-◌, ◌<◌, ◌≤◌, length, nat_lt, slice_range};
+ghost use Rattle.std.specs.Prelude.{◌≡◌, ◌+◌, ◌-◌, ◌<◌, ◌≤◌, length, nat_lt};
 ghost use Rattle.task_sheet.specs.Demand.{greatest_of};
 ghost use Rattle.pieces.specs.Bands.{job_of, all_of, last_of, is_close, joins, begins, next_of, stretch_of, band_of, is_banded, arrival_of};
 

@@ -1,6 +1,6 @@
 //! Laws of playing. Each is the clause of a function that does nothing, and its names are defined in `specs/`.
 
-ghost use Rattle.std.specs.Prelude.{◌≡◌, ℕ, List};
+ghost use Rattle.std.specs.Prelude.{ℕ, List};
 ghost use Rattle.drafts.specs.Books.{IsLegalBook};
 ghost use Rattle.desk_core.specs.World.{World, start};
 ghost use Rattle.desk_core.specs.declared.events.Event.{Event};

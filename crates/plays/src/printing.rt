@@ -3,7 +3,7 @@ ghost use Rattle.std.specs.Prelude.{◌≡◌, ◌++◌, OnOk, IfOk, slice_get, 
 ghost use Rattle.task_sheet.specs.Verdicts.{tasks_of};
 ghost use Rattle.lines.specs.Naming.{named};
 ghost use Rattle.drafts.specs.Applied.{set_of};
-ghost use Rattle.plays.specs.Printed.{cause_word, edit_word, held_line, held_lines, holder, level_done_line, names_text, opened_line, printed, refusal_words, refused_line, ruling_line, state_lines, team_text, tested_line};
+ghost use Rattle.plays.specs.Printed.{cause_word, edit_word, held_line, holder, level_done_line, names_text, opened_line, printed, refusal_words, refused_line, ruling_line, team_text, tested_line};
 ghost use Rattle.plays.specs.Plays.{IsBookText};
 ghost use Rattle.drafts.specs.Rulings.{ruling_of};
 

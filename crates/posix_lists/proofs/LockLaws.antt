@@ -1,5 +1,6 @@
 -- What a job holds after a tick in which it locks or unlocks.
-use Rattle.std.proofs.Common.{ℕ, suc, ◌+◌, ◌<◌, ◌≡◌, ◌⊎◌, inl, inr, refl, sym, arith, true, false, ◌==◌}
+use Rattle.std.proofs.Common.{ℕ, suc, ◌+◌, ◌<◌, ◌≡◌, ◌⊎◌, inl, inr, refl, sym, arith, true, false}
+use Rattle.std.proofs.Common.{◌==◌}
 use Rattle.std.proofs.Common.{◌||◌, max, List, [], ◌∷◌}
 use Rattle.std.proofs.lemmas.Bool.{cases_lt, cases_Bool, true≢false, or_cases, eqb-true}
 use Rattle.task_sheet.specs.Sheet.{CriticalSection}

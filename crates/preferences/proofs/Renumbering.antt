@@ -1,6 +1,6 @@
 -- A set in another order and with other weights has the same passing orders, but for the numbers of its tasks: two of its tasks
 -- are exchanged, or weights are replaced, and so any permutation is reached.
-use Rattle.std.proofs.Common.{◌≡◌, ℕ, ◌+◌, ◌<◌, ◌≤◌, inl, inr, Bool, cond, ◌&&◌, ◌||◌, ◌==◌, List}
+use Rattle.std.proofs.Common.{◌≡◌, ℕ, ◌<◌, ◌≤◌, inl, inr, Bool, cond, ◌&&◌, ◌||◌, ◌==◌, List}
 use Rattle.std.proofs.Common.{[], ◌∷◌, length, map, refl, sym, ◌∙◌, ap, subst, arith, ◌↔◌, zero}
 use Rattle.std.proofs.Common.{suc, slice_set}
 use Rattle.std.proofs.Math.Path.{fun_ext}
@@ -18,7 +18,8 @@ use Rattle.task_sheet.specs.Sheet.{weighing}
 use Rattle.preferences.specs.Preferences.{order_names, KeepsOrders, longer_limits, reweighed_in}
 use Rattle.preferences.specs.Preferences.{reweighed, unweighed, IsPreferred}
 use Rattle.task_sheet.proofs.Below.{greatest_below-le, le-greatest_below, some_below-at}
-use Rattle.task_sheet.proofs.Below.{some_below-witness, some_below-none}
+use Rattle.task_sheet.proofs.Below.{some_below-witness, some_below-none, sum_below-same}
+use Rattle.task_sheet.proofs.Below.{sum_below-one}
 use Rattle.std.specs.List.Sorted.{IsPermutation}
 use Rattle.std.proofs.lemmas.Bool.Decides.{nat_tests}
 use Rattle.std.proofs.lemmas.List.{get_or-set_same, get_or-set_other, length-set, length-map}
@@ -245,21 +246,6 @@ KeepsOrders-trans U V W first second order passing =
 pub IsFeasible-kept : (U V : List Task) → KeepsOrders U V → IsFeasible U → IsFeasible V
 IsFeasible-kept U V keeps feasible = let there = keeps feasible.0 feasible.1 in (there.0, there.1)
 
--- ---- sums that differ in one term
-sum_below-same : (n : ℕ) (f g : ℕ → ℕ) → ((k : ℕ) → k < n → f k ≡ g k)
-    → sum_below n f ≡ sum_below n g
-sum_below-same zero f g same = refl
-sum_below-same (suc n) f g same =
-    omega (arith, sum_below-same n f g (λ k lt. same k (omega arith)), same n (omega arith))
-
-sum_below-one : (n : ℕ) (f g : ℕ → ℕ) (a : ℕ) → a < n → ((k : ℕ) → (k ≡ a → ⊥) → f k ≡ g k)
-    → sum_below n f + g a ≡ sum_below n g + f a
-sum_below-one zero f g a lt same = absurd (omega arith)
-sum_below-one (suc n) f g a lt same = elim (cases_eq a n) [
-  | inl e ↦ omega (arith, sum_below-same n f g (λ k less. same k (λ is. omega arith)), ap f e, ap g e)
-  | inr ne ↦ omega (arith, sum_below-one n f g a (omega arith) same, same n (λ is. ne (sym is)))
-]
-
 -- ---- an exchange of two numbers
 abbrev exchange : ℕ → ℕ → ℕ → ℕ
 exchange a b k = cond (k == a) b (cond (k == b) a k)
@@ -291,8 +277,9 @@ exchange-sums n a b f la lb = elim (cases_eq a b) [
       let mid-a : mid a ≡ f b = ap (λ c. cond c (f b) (f a)) (eq-eqb a a refl) in
       let mid-b : mid b ≡ f b = ap (λ c. cond c (f b) (f b)) (ne_eqb b a (λ e. apart (sym e))) in
       let first =
-      sum_below-one n mid f a la (λ k ne. ap (λ c. cond c (f b) (f k)) (ne_eqb k a ne)) in
-      let second = sum_below-one n (λ k. f (exchange a b k)) mid b lb (λ k ne. elim (cases_eq k a) [
+      sum_below-one n mid f a la (λ k _ ne. ap (λ c. cond c (f b) (f k)) (ne_eqb k a ne)) in
+      let second =
+      sum_below-one n (λ k. f (exchange a b k)) mid b lb (λ k _ ne. elim (cases_eq k a) [
         | inl is ↦ ap f (exchange-first a b k is)
             ∙ sym (ap (λ c. cond c (f b) (f k)) (eq-eqb k a is))
         | inr ne' ↦ ap f (exchange-other a b k ne' ne)

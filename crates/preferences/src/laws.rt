@@ -1,17 +1,16 @@
 //! Laws of sets by a preference. Each is the clause of a function that does nothing, and its names are defined in
 //! `specs/`.
 
-ghost use Rattle.std.specs.Prelude.{◌≡◌, ◌<◌, ◌≤◌, ◌↔◌, ◌⊎◌, ℕ, List, length, Some, None, Ok, IsTrue};
+ghost use Rattle.std.specs.Prelude.{◌≡◌, ◌<◌, ◌↔◌, ◌⊎◌, ℕ, List, length, Some, None, Ok};
 ghost use Rattle.std.specs.List.Sorted.{IsPermutation};
 ghost use Rattle.teams.specs.ReadsText.{ReadsText};
 ghost use Rattle.task_sheet.specs.declared.read.Document.{Document};
 ghost use Rattle.preferences.specs.ReadsPreferred.{SaysPreferred};
 ghost use Rattle.task_sheet.specs.Sheet.{Task, AllTasks, task_at};
 ghost use Rattle.task_sheet.specs.TaskSet.{IsTaskSet};
-ghost use Rattle.task_sheet.specs.Indexes.{Indexes, IsPart, without_index};
-ghost use Rattle.task_sheet.specs.Demand.{limit_of, Passes};
+ghost use Rattle.task_sheet.specs.Demand.{limit_of};
 ghost use Rattle.latest_first.specs.LatestFirst.{AllPrompt, AreAlike, FollowLimits};
-ghost use Rattle.task_sheet.specs.Orders.{all_of, IsOrder, IsPassingOrder, IsFeasible, IsBetter, IsBest};
+ghost use Rattle.task_sheet.specs.Orders.{IsOrder, IsPassingOrder, IsFeasible, IsBetter, IsBest};
 ghost use Rattle.preferences.specs.Preferences.{longer_limits, unweighed, KeepsOrders, IsPreferred};
 ghost use Rattle.preferences.specs.LimitOrders.{IsLower, IsNearer, IsMonotonic};
 ghost use Rattle.task_sheet.specs.declared.prefer.Preference.{Preference};

@@ -14,9 +14,8 @@ use Rattle.lines.specs.Lines.{is_skipped, kept_from, lines_of}
 use Rattle.lines.specs.Steps.{ahead}
 use Rattle.lines.specs.Words.{words}
 use Rattle.lines.proofs.NumberLaws.{number_again}
-use Rattle.lines.proofs.Parts.{line_cut}
-use Rattle.scripted.proofs.Spelled.{Lacks, cut_at, joined_again, joined_lacks, name_lacks}
-use Rattle.scripted.proofs.Spelled.{number_lacks}
+use Rattle.lines.proofs.Lacks.{Lacks, joined_again, joined_lacks, kept_word, lacks_in, name_lacks}
+use Rattle.lines.proofs.Lacks.{number_lacks, one_more}
 use Rattle.ceiling_kernel.specs.Runs.{no_record}
 use Rattle.ceiling_kernel.specs.declared.trace.JobRecord.{JobRecord}
 use Rattle.ceiling_kernel.specs.declared.trace.Slice.{Slice}
@@ -61,20 +60,10 @@ record IsApart (c : ℕ) : Type 0 where
   job : Lacks c (codes "job")
 
 space : IsApart 32
-space = record {
-  name = refl;
-  digit = refl;
-  dash = refl;
-  job = record { none = (refl, (refl, (refl, tt))) };
-}
+space = record { name = refl; digit = refl; dash = refl; job = lacks_in 32 (codes "job") refl }
 
 line_end : IsApart 10
-line_end = record {
-  name = refl;
-  digit = refl;
-  dash = refl;
-  job = record { none = (refl, (refl, (refl, tt))) };
-}
+line_end = record { name = refl; digit = refl; dash = refl; job = lacks_in 10 (codes "job") refl }
 
 finish_lacks : {c : ℕ} (arrival : ℕ) (finish : Option ℕ) → IsApart c
     → IfSome finish (λ f. (arrival ≤ f) × (f < 10 ^ 10)) → Lacks c (finish_words finish)
@@ -105,11 +94,6 @@ job_lacks {c} {job} apart is = (
 )
 
 -- ---- a line
--- a text that begins with a digit isn't skipped
-kept_word : (w rest : List ℕ) → 0 < length w → Lacks 35 w → is_skipped (w ++ rest) ≡ false
-kept_word [] rest some lacks = absurd (omega arith)
-kept_word (x ∷ xs) rest some lacks = lacks.none.0
-
 slice_kept : (jobs : List JobRecord) (s : Slice) → IsSliceLine jobs s
     → is_skipped (slice_text jobs s) ≡ false
 slice_kept jobs s is =
@@ -163,10 +147,6 @@ job_again job line is =
     ) refl
 
 -- ---- lines
-one_more : (line rest : List ℕ) → Lacks 10 line
-    → lines_of (line ++ 10 ∷ rest) ≡ line ∷ lines_of rest
-one_more line rest lacks = line_cut (line ++ 10 ∷ rest) line rest (cut_at 10 line rest lacks)
-
 -- a line that is a row, in front of others
 row_more : (number : ℕ) (text : List ℕ) (ls : List (List ℕ)) (r : TraceRow)
     → is_skipped text ≡ false → trace_row_in number (words text) ≡ Some r → rows_from

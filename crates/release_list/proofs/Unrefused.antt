@@ -18,11 +18,11 @@ use Rattle.release_list.proofs.TaskNumbers.{found}
 use Rattle.release_list.proofs.InLaws.{In, Pairs, in_at, pairs_at}
 
 -- where none passes, none is the first
-first_none : (test : ℕ → Bool) (n : ℕ) → ((k : ℕ) → k < n → test k ≡ false)
+none_first : (test : ℕ → Bool) (n : ℕ) → ((k : ℕ) → k < n → test k ≡ false)
     → first_where test n ≡ None
 unfolding first_where
-first_none test zero h = refl
-first_none test (suc n) h = rw (first_none test n (λ k lt. h k (omega arith)), h n (omega arith))
+none_first test zero h = refl
+none_first test (suc n) h = rw (none_first test n (λ k lt. h k (omega arith)), h n (omega arith))
 
 -- a job executes so long: some, and no more than a cost
 abbrev pub Executes : ℕ → Option ℕ → Type 0
@@ -90,11 +90,11 @@ module _ (U : List Task) (set : IsTaskSet U) (rs : List Release) (until : ℕ)
   pub unrefused : until ≤ 60000000 → length rs ≤ 10000 → refusal_of U rs until ≡ None
   unrefused horizon few =
       rw (
-        first_none (is_unsorted rs) (length rs) sorted,
-        first_none (is_unknown U rs) (length rs) (λ k lt. ap is_none (named k lt)),
-        first_none (is_too_soon U (jobs_of U rs)) (length rs) none_soon,
-        first_none (is_too_late U rs) (length rs) none_late,
-        first_none (is_outside_cost U rs) (length rs) none_outside,
+        none_first (is_unsorted rs) (length rs) sorted,
+        none_first (is_unknown U rs) (length rs) (λ k lt. ap is_none (named k lt)),
+        none_first (is_too_soon U (jobs_of U rs)) (length rs) none_soon,
+        none_first (is_too_late U rs) (length rs) none_late,
+        none_first (is_outside_cost U rs) (length rs) none_outside,
         or_from _ _ (le-ltb 60000000 until horizon)
             (list_any_none (is_past until) rs
             (λ k d lt. lt-leb until _ (legal _ (in_at rs k d lt)).before)),

@@ -1,5 +1,5 @@
 //! The densest release list of a set.
-ghost use Rattle.std.specs.Prelude.{◌≡◌, None, Option, MatchResult, IfOk};
+ghost use Rattle.std.specs.Prelude.{◌≡◌, None, MatchResult, IfOk};
 ghost use Rattle.ceiling_kernel.specs.Releases.{IsRefusal, refusal_of};
 ghost use Rattle.release_list.specs.Densest.{instant_of, stream_of, streams_of, densest_of, list_refusal};
 

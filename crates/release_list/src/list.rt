@@ -1,5 +1,5 @@
 //! The releases of some streams of jobs, by time.
-ghost use Rattle.std.specs.Prelude.{◌≡◌, ◌<◌, ◌≤◌, ℕ, ◌+◌, ◌++◌, length, List, [], false, All, Option, None, MatchResult, nat_lt};
+ghost use Rattle.std.specs.Prelude.{◌≡◌, ◌<◌, ◌≤◌, ℕ, ◌+◌, ◌++◌, length, [], false, All, None, MatchResult, nat_lt};
 ghost use Rattle.ceiling_kernel.specs.declared.accept.TheConstants.{HORIZON, RELEASE_LIMIT};
 ghost use Rattle.ceiling_kernel.specs.Releases.{IsRefusal, refuse_if};
 ghost use Rattle.release_list.specs.Streams.{IsStream, arrives, late_at, release_of, is_listed, releases_at, list_of, count_refusal};

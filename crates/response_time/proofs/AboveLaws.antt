@@ -25,7 +25,7 @@ module _ (U : List Task) (H : Indexes) (time n : ℕ) where
   first-once valid above some = omega (
     arith,
     first-with above,
-    cost-le-interference (task_at U n) time (IsTask-from_valid (task_at U n) valid) some,
+    cost-le-interference (task_at U n) time (IsTask-from_valid (task_at U n) valid).period some,
   )
 
   -- one task more, which isn't

@@ -6,8 +6,8 @@ use Rattle.std.proofs.lemmas.List.{take_more}
 use Rattle.std.proofs.lemmas.List.Sums.{sum_by_push}
 use Rattle.std.proofs.lemmas.Grind.{div_ceil_times}
 use Rattle.std.proofs.Math.Nat.{mul-le-mul_left, mul-le-mul_right, div-mul-le_self}
-use Rattle.std.proofs.Math.Nat.{div-le_of_le-mul}
 use Rattle.std.specs.Int.{div_ceil}
+use Rattle.task_sheet.proofs.Releases.{div_ceil-le}
 use Rattle.response_time.specs.Workload.{ShareData, share_within}
 
 -- what a share takes of each window at least, in parts of the whole
@@ -49,19 +49,10 @@ left_over : (always parts rest work time : ℕ) → time * parts + (parts + rest
     ≤ (parts + rest) * work → work ≤ time → always * (parts + rest) ≤ time * rest
 left_over always parts rest work time h le = omega (arith, h, mul-le-mul_left (parts + rest) le)
 
-ceil_least : (a d time : ℕ) → 0 < d → a ≤ time * d → div_ceil a d ≤ time
-ceil_least a d time pos h = elim (cases_lt time (div_ceil a d)) [
-  | inl lt ↦
-      let up : (time + 1) * d ≤ div_ceil a d * d = mul-le-mul_right d (omega (arith, lt)) in
-      let down : div_ceil a d * d < a + d = (div_ceil_times a d pos).1 in
-      absurd (omega (arith, up, down, h))
-  | inr le ↦ le
-]
-
 pub window-least : (whole always parts work time : ℕ) → parts < whole
     → time * parts + whole * always ≤ whole * work → work ≤ time
     → div_ceil (always * whole) (whole - parts) ≤ time
 window-least whole always parts work time lt h le =
     let e : parts + (whole - parts) ≡ whole = omega arith in
-    ceil_least (always * whole) (whole - parts) time (omega arith)
+    div_ceil-le (always * whole) (whole - parts) time (omega arith)
     (rw e at (left_over always parts (whole - parts) work time (rw e h) le))

@@ -16,9 +16,9 @@ use Rattle.assignment.specs.Places.{PlaceData}
 use Rattle.assignment.specs.Placings.{IsBestPlacing, tasks_of_places}
 use Rattle.explain.specs.Accounts.{AreInTime}
 use Rattle.explain.proofs.AccountLaws.{best-in_time}
-use Rattle.ceiling_kernel.proofs.Common.{Job, Node, node_in, IsNode, PassesBy, above_of, after_of}
+use Rattle.ceiling_kernel.proofs.Common.{Node, node_in, IsNode, PassesBy, above_of, after_of}
 use Rattle.ceiling_kernel.proofs.Common.{response_by, jobs_of, release_at, task_named, task_number}
-use Rattle.ceiling_kernel.proofs.Common.{Runs, no_record, record_of, records_from}
+use Rattle.ceiling_kernel.proofs.Common.{Runs, no_record, record_of}
 use Rattle.ceiling_kernel.specs.Runs.{MeetsBounds}
 use Rattle.ceiling_kernel.specs.declared.trace.JobRecord.{JobRecord}
 use Rattle.ceiling_kernel.specs.declared.trace.Release.{Release}
@@ -26,6 +26,7 @@ use Rattle.ceiling_kernel.specs.declared.trace.Trace.{Trace}
 use Rattle.ceiling_kernel.proofs.BoundLaws.{responses_law}
 use Rattle.ceiling_kernel.proofs.EndLaws.{bounded_trace, records_at, some_executes}
 use Rattle.ceiling_kernel.proofs.FinishLaws.{finish_is}
+use Rattle.ceiling_kernel.proofs.ReleaseLaws.{records_length}
 use Rattle.ceiling_kernel.proofs.NodeLaws.{after_is_above}
 use Rattle.run_lines.specs.Reached.{done_of, is_done_of, response_of}
 use Rattle.run_lines.specs.Responses.{AllDoneWithin, AllKeptWithin, AllReachWithin, DoneWithin}
@@ -49,11 +50,6 @@ apart L i above x each has = false_from_ne_true _ (λ same.
     both_ways _ (ap (λ (H : Indexes). H x) rest ∙ gone) has)
 
 -- ---- releases and records
-records_length : (node : Node) (jobs : List Job) (t k : ℕ) (rs : List Release)
-    → length (records_from node jobs t k rs) ≡ length rs
-records_length node jobs t k [] = refl
-records_length node jobs t k (r ∷ rs) = ap suc (records_length node jobs t (k + 1) rs)
-
 -- the task of a release that has the name of the task at an index is that task
 numbered : (U : List Task) → IsTaskSet U → (i : ℕ) → i < length U → (r : Release)
     → r.name ≡ name_at U i → task_number U r ≡ i

@@ -24,7 +24,8 @@ use Rattle.lines.specs.Lines.{kept_from, lines_of}
 use Rattle.lines.specs.Steps.{◌>>=◌, each_in}
 use Rattle.lines.specs.Words.{number_in, words}
 use Rattle.lines.proofs.NumberLaws.{number_again}
-use Rattle.lines.proofs.Parts.{line_cut}
+use Rattle.lines.proofs.Lacks.{Lacks, cut_at, joined_again, joined_lacks, lacks_append, name_lacks}
+use Rattle.lines.proofs.Lacks.{number_lacks, one_more, uncut}
 use Rattle.drafts.specs.declared.team.TheConstants.{TEAM_LIMIT}
 use Rattle.scripts.specs.Rows.{made_in, all_sign, interrupt_in, interrupts_or_none, node_of}
 use Rattle.scripts.specs.Rows.{node_or_none, over_in, over_or_none, next_draft, next_field}
@@ -38,8 +39,6 @@ use Rattle.scripted.specs.Scripted.{delay_words, interrupt_word, interrupt_words
 use Rattle.scripted.specs.Scripted.{lines_of_set, node_numbers, node_words, over_words, plus_names}
 use Rattle.scripted.specs.Scripted.{put_line, put_lines, script_of, section_word, section_words}
 use Rattle.scripted.specs.Scripted.{spaced, value_words}
-use Rattle.scripted.proofs.Spelled.{Lacks, cut_at, joined_again, joined_lacks, lacks_append}
-use Rattle.scripted.proofs.Spelled.{name_lacks, number_lacks, uncut}
 
 -- ---- first words
 number_next : (n : ℕ) (ws : List (List ℕ)) → n < 10 ^ 10 → next_number (decimal n ∷ ws) ≡ Ok (n, ws)
@@ -671,10 +670,6 @@ open_again team from to =
 put_texts : List Task → List (List ℕ)
 put_texts [] = codes "commit 1" ∷ []
 put_texts (t ∷ U) = put_line t ∷ put_texts U
-
-one_more : (line rest : List ℕ) → Lacks 10 line
-    → lines_of (line ++ 10 ∷ rest) ≡ line ∷ lines_of rest
-one_more line rest lacks = line_cut (line ++ 10 ∷ rest) line rest (cut_at 10 line rest lacks)
 
 texts_again : (U : List Task) → AllByRecursion IsValidSheet U
     → lines_of (put_lines U ++ codes "commit 1\n") ≡ put_texts U

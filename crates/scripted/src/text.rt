@@ -1,6 +1,5 @@
 //! The text of a set as a script.
 ghost use Rattle.std.specs.Prelude.{◌≡◌, ◌++◌, OnOk, IfOk, map, string_bytes, codes};
-ghost use Rattle.std.specs.Fmt.{decimal};
 ghost use Rattle.task_sheet.specs.SheetFields.{outranks_of};
 ghost use Rattle.scripted.specs.Scripted.{delay_words, fields_of, interrupt_word, interrupt_words, node_words, over_words, plus_names, plus_rest, put_line, put_lines, script_of, section_word, section_words, spaced};
 

@@ -5,6 +5,9 @@ use std::io::Write;
 use streams::{Watched, WriteFailed};
 use task_sheet::{Preference, Sheet, TaskSet};
 
+// The highest priority of `SCHED_FIFO` on Linux.
+const MOST_FIFO: u64 = 99;
+
 /// Writes a note that a call prefers otherwise than its set. It takes no memory.
 pub fn put_override<W: Write + Drop>(
     call: Preference,
@@ -42,7 +45,23 @@ pub fn put_names_decide<W: Write + Drop>(
     out: &mut Watched<W>,
 ) -> Result<(), WriteFailed> {
     let note: &[u8] = if are_against_limits(set.sheets()) {
-        b"note: names decide the order; prefer = \"deadline\" in front of the tasks bears most\n"
+        b"note: names decide the order; prefer = \"deadline\" in front of the tasks has shorter ones higher\n"
+    } else {
+        b""
+    };
+    out.write(note)
+}
+
+/// Writes a note where a base puts the highest thread of a set above the most that Linux has for `SCHED_FIFO`. It takes no
+/// memory.
+pub fn put_past_priorities<W: Write + Drop>(
+    base: u32,
+    set: &TaskSet,
+    out: &mut Watched<W>,
+) -> Result<(), WriteFailed> {
+    let threads = set.sheets().len() as u64;
+    let note: &[u8] = if threads > 0 && u64::from(base) + threads > MOST_FIFO + 1 {
+        b"note: the highest thread is above 99, the most that Linux has for SCHED_FIFO\n"
     } else {
         b""
     };

@@ -67,8 +67,3 @@ pub fn put_parted<W: Write + Drop>(
     ];
     write_note(&pieces, out)
 }
-
-/// Writes a note that nothing was run, since no order of the set passes. It takes no memory.
-pub fn put_unrun<W: Write + Drop>(out: &mut Watched<W>) -> Result<(), WriteFailed> {
-    out.write(b"note: no order passes, so there is no run: desk explain says why\n")
-}

@@ -4,13 +4,14 @@ use std::io::Write;
 use streams::{Watched, WriteFailed};
 use task_sheet::{Sheet, TaskSet};
 
-// How many limbs a number has. The product of 32 periods is below 2^745, and so many costs over them below 2^750.
-const LIMBS: usize = 24;
+// How many limbs a number has. The product of 40 periods, of 32 tasks and 8 interrupts, is below 2^931, and so many costs
+// over them below 2^937.
+const LIMBS: usize = 30;
 
 // The numbers below which a limb is.
 const BASE: u64 = 0x1_0000_0000;
 
-// A number below 2^768: its limbs, the least first.
+// A number below 2^960: its limbs, the least first.
 #[derive(Clone, Copy)]
 struct Wide {
     limbs: [u64; LIMBS],
@@ -48,18 +49,43 @@ impl Wide {
     }
 }
 
-// Whether costs over periods come to more than 1, as fractions of one denominator, the product of the periods.
-fn is_overloaded(sheets: &[Sheet]) -> bool {
-    let mut costs = Wide::small(0);
-    let mut periods = Wide::small(1);
-    for sheet in sheets {
-        costs = costs.times(sheet.period(), periods, sheet.cost());
-        periods = periods.times(sheet.period(), costs, 0);
-    }
-    costs.is_above(periods)
+// What is asked of the processor: a fraction, whose denominator is the product of periods.
+#[derive(Clone, Copy)]
+struct Asked {
+    costs: Wide,
+    periods: Wide,
 }
 
-/// Writes a note where the costs of a set over their periods come to more than 1. It takes no memory.
+impl Asked {
+    // The same and a cost, once in a period, beside it.
+    fn and(self, cost: u64, period: u64) -> Asked {
+        Asked {
+            costs: self.costs.times(period, self.periods, cost),
+            periods: self.periods.times(period, self.costs, 0),
+        }
+    }
+}
+
+// Whether the costs of tasks, their timers and interrupts, each over its period, come to more than 1.
+fn is_overloaded(sheets: &[Sheet]) -> bool {
+    let mut asked = Asked {
+        costs: Wide::small(0),
+        periods: Wide::small(1),
+    };
+    for sheet in sheets {
+        asked = asked.and(
+            sheet.cost().wrapping_add(sheet.node().release),
+            sheet.period(),
+        );
+        for interrupt in sheet.interrupts() {
+            asked = asked.and(interrupt.cost, interrupt.period);
+        }
+    }
+    asked.costs.is_above(asked.periods)
+}
+
+/// Writes a note where the costs of a set, with what timers and interrupts take, over their periods come to more than 1. It
+/// takes no memory.
 pub fn put_overload<W: Write + Drop>(
     set: &TaskSet,
     out: &mut Watched<W>,

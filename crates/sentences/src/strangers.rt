@@ -1,6 +1,9 @@
-//! Tasks that a set speaks of, or should have, and doesn't have.
+//! Tasks that a set, or what is read beside it, speaks of, or should have, and that the set doesn't have.
 
 use crate::pieces::put_pieces;
+use judge::{SettingRow, read_front};
+use lines::TextPlace;
+use std::alloc::Global;
 use std::io::Write;
 use streams::{Held, Watched, WriteFailed};
 use task_sheet::{Name, Outranks, TaskSet};
@@ -38,6 +41,32 @@ pub fn put_strangers<W: Write + Drop>(
     for sheet in set.sheets() {
         if let Outranks::Named(names) = sheet.outranks() {
             put_strangers_of(set, &sheet.name(), names, &mut held, out)?;
+        }
+    }
+    held.send(out)
+}
+
+/// Writes a note for each thread of some settings that is no task of a set, in the order of their lines.
+pub fn put_strange_threads<W: Write + Drop>(
+    alloc: Global,
+    set: &TaskSet,
+    settings: &[u8],
+    out: &mut Watched<W>,
+) -> Result<(), WriteFailed> {
+    let Ok(front) = read_front(alloc, TextPlace::start(settings)) else {
+        return Ok(());
+    };
+    let mut held = Held::new();
+    for row in &front.rows {
+        if let SettingRow::Thread(thread) = row {
+            if set.find(thread.name).is_none() {
+                let pieces = [
+                    "note: thread ",
+                    thread.name.as_str(),
+                    " is no task of the set: it is left out\n",
+                ];
+                put_pieces(&pieces, &mut held, out)?;
+            }
         }
     }
     held.send(out)

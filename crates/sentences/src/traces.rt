@@ -19,7 +19,12 @@ pub fn of_trace(alloc: Global, bytes: &[u8], fault: TraceFault) -> Option<String
             tell_line(&mut told, bytes, line, wrong);
         }
         TraceFault::JobUnsorted { line } => {
-            tell_line(&mut told, bytes, line, " arrives before the job above it");
+            tell_line(
+                &mut told,
+                bytes,
+                line,
+                " arrives before the job above it: they stand by arrival",
+            );
         }
         TraceFault::TooManyLines => {
             told.numbers(

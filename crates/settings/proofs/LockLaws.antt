@@ -1,5 +1,5 @@
 -- Each lock of a set has a user, and so a ceiling in each order.
-use Rattle.std.proofs.Common.{◌≡◌, ℕ, ◌<◌, inl, inr, ◌⊎◌, Bool, true, ◌||◌, List, [], ◌∷◌}
+use Rattle.std.proofs.Common.{◌≡◌, ℕ, ◌<◌, inl, inr, ◌⊎◌, true, List, [], ◌∷◌}
 use Rattle.std.proofs.Common.{length, fold, flat_map, Option, Some, None, refl, sym, ◌∙◌, ap}
 use Rattle.std.proofs.Math.Bool.{or-false}
 use Rattle.std.proofs.Math.Path.{fun_ext}
@@ -10,13 +10,8 @@ use Rattle.std.proofs.lemmas.List.{get_or_default}
 use Rattle.std.proofs.lemmas.List.Folds.{Any-from_list_any, list_any-append}
 use Rattle.task_sheet.proofs.Common.{Task, no_task, same_bytes, task_at, uses, ceiling_of, IsOrder}
 use Rattle.task_sheet.proofs.CeilingLaws.{ceiling-none}
+use Rattle.ceilings.proofs.Growth.{any_within}
 use Rattle.ceilings.specs.IsTableOf.{with_name, names_in, locks_of}
-
-any_within : {X : Type 0} (p : List ℕ → Bool) (f : X → List (List ℕ)) (xs : List X)
-    → list_any p (flat_map f xs) ≡ list_any (λ x. list_any p (f x)) xs
-any_within p f [] = refl
-any_within p f (x ∷ xs) = list_any-append p (f x) (flat_map f xs)
-    ∙ ap (λ b. list_any p (f x) || b) (any_within p f xs)
 
 module _ (lock : List ℕ) where
   abbrev Has : List (List ℕ) → Type 0

@@ -22,6 +22,30 @@ sum_below-le zero f g le = omega arith
 sum_below-le (suc n) f g le =
     omega (arith, sum_below-le n f g (λ k lt. le k (omega arith)), le n (omega arith))
 
+pub sum_below-same : (n : ℕ) (f g : ℕ → ℕ) → ((k : ℕ) → k < n → f k ≡ g k)
+    → sum_below n f ≡ sum_below n g
+sum_below-same zero f g same = refl
+sum_below-same (suc n) f g same =
+    omega (arith, sum_below-same n f g (λ k lt. same k (omega arith)), same n (omega arith))
+
+-- sums that differ in one term
+pub sum_below-one : (n : ℕ) (f g : ℕ → ℕ) (i : ℕ) → i < n
+    → ((k : ℕ) → k < n → (k ≡ i → ⊥) → f k ≡ g k) → sum_below n f + g i ≡ sum_below n g + f i
+sum_below-one zero f g i lt others = absurd (omega arith)
+sum_below-one (suc n) f g i lt others = elim (cases_eq i n) [
+  | inl e ↦ omega (
+    arith,
+    sum_below-same n f g (λ k less. others k (omega arith) (λ is. omega arith)),
+    ap f e,
+    ap g e,
+  )
+  | inr ne ↦ omega (
+    arith,
+    sum_below-one n f g i (omega arith) (λ k less. others k (omega arith)),
+    others n (omega arith) (λ is. ne (sym is)),
+  )
+]
+
 -- a term that the smaller sum lacks
 pub sum_below-gap : (n : ℕ) (f g : ℕ → ℕ) (k : ℕ) → ((k : ℕ) → f k ≤ g k) → k < n → f k ≡ 0
     → sum_below n f + g k ≤ sum_below n g
@@ -159,7 +183,7 @@ some_below-none (suc n) p none =
     rw (some_below-none n p (λ k lt. none k (omega arith)), none n (omega arith))
 
 -- where none passes, each fails
-none_below : (n : ℕ) (p : ℕ → Bool) → some_below n p ≡ false → (k : ℕ) → k < n → p k ≡ false
+pub none_below : (n : ℕ) (p : ℕ → Bool) → some_below n p ≡ false → (k : ℕ) → k < n → p k ≡ false
 none_below n p none k lt =
     false_from_ne_true (p k) (λ so. both_ways _ none (some_below-at n p k lt so))
 

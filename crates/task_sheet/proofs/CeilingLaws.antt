@@ -1,25 +1,13 @@
 -- The ceiling of a lock is the level of its highest user.
 use Rattle.std.proofs.Common.{◌≡◌, ◌↔◌, ℕ, zero, suc, ◌+◌, ◌<◌, ◌≤◌, inl, inr, Bool, true, false}
-use Rattle.std.proofs.Common.{◌==◌, cond, Option, Some, None, List, [], ◌∷◌, length, get_or, refl}
+use Rattle.std.proofs.Common.{cond, Option, Some, None, List, [], ◌∷◌, length, get_or, refl}
 use Rattle.std.proofs.Common.{sym, ◌∙◌, ap, subst, arith}
 use Rattle.std.specs.Option.{option_or}
-use Rattle.std.proofs.lemmas.Bool.{cases_order, both_ways, eqb-true, eq-eqb, ltb-true, lt-ltb}
-use Rattle.std.proofs.lemmas.List.{get_or_read}
-use Rattle.std.proofs.lemmas.List.Folds.{list_any_at, Any-from_list_any}
+use Rattle.std.proofs.lemmas.Bool.{cases_order, both_ways, ltb-true, lt-ltb}
 use Rattle.task_sheet.proofs.Common.{Task, task_at, among, uses, ceiling_from, ceiling_of, all_of}
 use Rattle.task_sheet.proofs.Common.{IsOrder}
 use Rattle.task_sheet.specs.Locks.{IsHighestUser}
-use Rattle.task_sheet.proofs.IndexLaws.{IsOrderOf-among}
-
--- ---- places of a list
-among-place : (xs : List ℕ) (k : ℕ) → among xs k ≡ true → (j : ℕ) × (j < length xs)
-    × (get_or xs j 0 ≡ k)
-among-place xs k is =
-    let at = Any-from_list_any (λ x. x == k) xs is in
-    (at.0, at.2, sym (get_or_read xs at.0 at.1 at.2 (sym at.3) 0) ∙ eqb-true at.1 k at.4)
-
-place-among : (xs : List ℕ) (j : ℕ) → j < length xs → among xs (get_or xs j 0) ≡ true
-place-among xs j lt = list_any_at (λ x. x == get_or xs j 0) xs j 0 lt (eq-eqb _ _ refl)
+use Rattle.task_sheet.proofs.IndexLaws.{among-place, place-among, IsOrderOf-among}
 
 module _ (U : List Task) (lock : List ℕ) where
   abbrev NoUser : List ℕ → Type 0

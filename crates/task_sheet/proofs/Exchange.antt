@@ -69,7 +69,7 @@ module _ (U : List Task) (valid : AllTasks U) (i : ℕ) (H G : Indexes) (part : 
               omega (
                 arith,
                 sum_below-gap (length U) (term U t H) (term U t G) k term-le lt none,
-                cost-le-interference (task_at U k) t task positive,
+                cost-le-interference (task_at U k) t task.period positive,
                 longest_reached-le-cost U
                     (with_index H i) (task_at U k) task,
               )

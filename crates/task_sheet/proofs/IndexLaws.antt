@@ -1,19 +1,21 @@
 -- Sets of indexes: parts of one another, one index less or more, and the lists that name them.
 use Rattle.std.proofs.Common.{◌≡◌, ℕ, zero, suc, ◌+◌, ◌*◌, ◌<◌, ◌≤◌, ◌⊎◌, inl, inr, Bool, true}
 use Rattle.std.proofs.Common.{false, cond, ◌==◌, ◌&&◌, not, nat_lt, List, [], ◌∷◌, ◌++◌, length}
-use Rattle.std.proofs.Common.{refl, sym, ◌∙◌, ap, arith}
+use Rattle.std.proofs.Common.{get_or, refl, sym, ◌∙◌, ap, arith}
 use Rattle.std.proofs.Math.Path.{fun_ext}
 use Rattle.std.specs.Cmp
 use Rattle.std.specs.List.{count_by, AllByRecursion}
 use Rattle.std.proofs.lemmas.Bool.{cases_Bool, cases_eq, and_parts, and_from, or_cases, or_left}
 use Rattle.std.proofs.lemmas.Bool.{or_right, both_ways, cond-true, cond-false, eq-eqb, ne_eqb}
-use Rattle.std.proofs.lemmas.Bool.{false_from_ne_true, not-true, lt-ltb, le-ltb, ltb-true}
+use Rattle.std.proofs.lemmas.Bool.{eqb-true, false_from_ne_true, not-true, lt-ltb, le-ltb, ltb-true}
+use Rattle.std.proofs.lemmas.List.{get_or_read}
+use Rattle.std.proofs.lemmas.List.Folds.{list_any_at, Any-from_list_any}
 use Rattle.std.proofs.lemmas.Bool.Decides.{nat_tests}
 use Rattle.std.proofs.Math.Bool.{and-false}
 use Rattle.std.proofs.lemmas.List.Sums.{sum_by-cons, sum_by-append}
 use Rattle.task_sheet.proofs.Common.{Indexes, IsPart, below, with_index, without_index, among}
 use Rattle.task_sheet.proofs.Common.{listed_below, sum_below, IsOrderOf}
-use Rattle.task_sheet.proofs.Below.{cond-le, sum_below-gap, sum_below-fits}
+use Rattle.task_sheet.proofs.Below.{cond-le, sum_below-one, sum_below-fits}
 
 -- ---- parts
 pub same_parts : (G H : Indexes) → IsPart G H → IsPart H G → G ≡ H
@@ -60,20 +62,33 @@ without-kept H i k ne = elim (cases_Bool (H k)) [
 abbrev pub count_below : ℕ → Indexes → ℕ
 count_below n L = sum_below n (λ k. cond (L k) 1 0)
 
+-- what the members add up to is the sum of the others and the term of one
+pub sum-without : (n : ℕ) (f : ℕ → ℕ) (L : Indexes) (i : ℕ) → i < n → L i ≡ true
+    → sum_below n (λ k. cond (without_index L i k) (f k) 0) + f i
+    ≡ sum_below n (λ k. cond (L k) (f k) 0)
+sum-without n f L i lt member =
+    let rest : ℕ → ℕ = λ k. cond (without_index L i k) (f k) 0 in
+    let all : ℕ → ℕ = λ k. cond (L k) (f k) 0 in
+    let gone : rest i ≡ 0 = rw (without-gone L i i refl) in
+    let own : all i ≡ f i = rw member in
+    let kept = sum_below-one n rest all i lt
+    (λ k less ne. ap (λ b. cond b (f k) 0) (without-kept L i k ne)) in
+    omega arith
+
 -- one member is counted less
 pub without-fewer : (n : ℕ) (L : Indexes) (i : ℕ) → i < n → L i ≡ true
     → count_below n (without_index L i) < count_below n L
-without-fewer n L i lt member =
-    let f : ℕ → ℕ = λ k. cond (without_index L i k) 1 0 in
-    let g : ℕ → ℕ = λ k. cond (L k) 1 0 in
-    let none : f i ≡ 0 = rw (without-gone L i i refl) in
-    let one : g i ≡ 1 = rw member in
-    omega (arith, sum_below-gap n f g i (λ k. fewer (L k) (not (k == i))) lt none)
-  where
-    fewer : (a b : Bool) → cond (a && b) 1 0 ≤ cond a 1 0
-    fewer true true = omega arith
-    fewer true false = omega arith
-    fewer false b = omega arith
+without-fewer n L i lt member = omega (arith, sum-without n (λ k. 1) L i lt member)
+
+-- ---- the places of a list
+pub among-place : (xs : List ℕ) (k : ℕ) → among xs k ≡ true → (j : ℕ) × (j < length xs)
+    × (get_or xs j 0 ≡ k)
+among-place xs k is =
+    let at = Any-from_list_any (λ x. x == k) xs is in
+    (at.0, at.2, sym (get_or_read xs at.0 at.1 at.2 (sym at.3) 0) ∙ eqb-true at.1 k at.4)
+
+pub place-among : (xs : List ℕ) (j : ℕ) → j < length xs → among xs (get_or xs j 0) ≡ true
+place-among xs j lt = list_any_at (λ x. x == get_or xs j 0) xs j 0 lt (eq-eqb _ _ refl)
 
 -- ---- how often a list names an index
 pub count-cons : (i k : ℕ) (xs : List ℕ)
@@ -199,6 +214,13 @@ listed-has n L k lt member =
     let lesser : Indexes = λ k. nat_lt k n && L k in
     ap (λ X. X k) (IsOrderOf-among lesser (listed_below n L) (listed-count n L))
     ∙ and_from _ _ (lt-ltb k n lt) member
+
+-- each is below n
+pub listed-below : (n m : ℕ) (L : Indexes) → n ≤ m → AllByRecursion (λ k. k < m) (listed_below n L)
+listed-below n m L le =
+    let lesser : Indexes = λ k. nat_lt k n && L k in
+    order-below m lesser (listed_below n L) (listed-count n L)
+    (λ k h. lt-ltb k m (omega (arith, ltb-true k n (and_parts _ _ h).0)))
 
 pub listed-order : (n : ℕ) (L : Indexes) → IsPart L (below n) → IsOrderOf L (listed_below n L)
 listed-order n L part k = listed-count n L k ∙ elim (cases_Bool (L k)) [

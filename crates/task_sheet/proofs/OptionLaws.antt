@@ -10,3 +10,9 @@ pub option_or-assoc : {A : Type 0} (o p q : Option A)
     → option_or (option_or o p) q ≡ option_or o (option_or p q)
 option_or-assoc None p q = refl
 option_or-assoc (Some x) p q = refl
+
+-- it is none where both are
+pub option_or-parts : {A : Type 0} (o p : Option A) → option_or o p ≡ None → (o ≡ None)
+    × (p ≡ None)
+option_or-parts None p e = (refl, e)
+option_or-parts (Some x) p e = absurd cc

@@ -9,7 +9,7 @@ use Rattle.task_sheet.proofs.Common.{Task, IsTask, IsValidSheet, releases_within
 le-div_ceil-mul : (t p : ℕ) → 0 < p → t ≤ div_ceil t p * p
 le-div_ceil-mul t p pos = grind (arith, common_steps)
 
-div_ceil-le : (t p m : ℕ) → 0 < p → t ≤ m * p → div_ceil t p ≤ m
+pub div_ceil-le : (t p m : ℕ) → 0 < p → t ≤ m * p → div_ceil t p ≤ m
 div_ceil-le t p m pos le = grind (arith, common_steps)
 
 pub div_ceil-mono : (t s p : ℕ) → t ≤ s → div_ceil t p ≤ div_ceil s p
@@ -38,10 +38,10 @@ pub interference-mono : (x : Task) (t s : ℕ) → IsTask x → t ≤ s
     → interference_of x t ≤ interference_of x s
 interference-mono x t s valid le = mul-le-mul_right x.cost (releases-mono x t s valid le)
 
-pub cost-le-interference : (x : Task) (t : ℕ) → IsTask x → 1 ≤ t → x.cost ≤ interference_of x t
-cost-le-interference x t valid pos =
+pub cost-le-interference : (x : Task) (t : ℕ) → 0 < x.period → 1 ≤ t → x.cost ≤ interference_of x t
+cost-le-interference x t some pos =
     let once : 1 ≤ releases_within x t =
-    one-le-div_ceil (t + x.jitter) x.period (omega arith) valid.period in
+    one-le-div_ceil (t + x.jitter) x.period (omega arith) some in
     let more : 1 * x.cost ≤ releases_within x t * x.cost = grind arith in
     omega arith
 

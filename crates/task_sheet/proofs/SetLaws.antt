@@ -4,7 +4,7 @@ use Rattle.std.proofs.Common.{◌++◌, length, get_or, take, drop, Option, Some
 use Rattle.std.proofs.Common.{Equal, Greater, refl, sym, ◌∙◌, ap, arith, not, length-append}
 use Rattle.std.proofs.Common.{append_assoc}
 use Rattle.std.specs.List.{list_any, filter, AllByRecursion, All}
-use Rattle.std.specs.List.Sorted.{IsPermutation, IsSortedBy}
+use Rattle.std.specs.List.Sorted.{IsPermutation, IsSortedBy, IsStrictlySortedBy}
 use Rattle.std.specs.Ordering.{nat_cmp, is_lt, is_eq, ordering_then, ordering_reverse}
 use Rattle.std.specs.Cmp.{IsTotalOrder, IsEquivalence, then_total, on_total, on_equiv}
 use Rattle.std.specs.Cmp.{nat_cmp_total}
@@ -119,7 +119,7 @@ pub sorted_set : (xs ys : List Task) → All IsValidSheet xs → AreDistinct sam
     → length xs ≤ 32 → IsPermutation xs ys
     → IsSortedBy (λ x y. is_lt (rank_cmp x y)) ys → IsTaskSet ys
 sorted_set xs ys valid distinct few p up =
-    let apart = AreDistinct-permutation same_name same_equiv.refl same_turned xs ys p distinct in
+    let apart = AreDistinct-permutation same_name same_turned xs ys p distinct in
     record {
       valid = All-permutation IsValidSheet xs ys p valid;
       ranked = sorted_from_all_adjacent rank_total ys no_task (λ k lt.
@@ -137,6 +137,11 @@ by_rank_one xs ys us vs p h g =
     sorted_unique rank_total us vs h.ranked g.ranked
     (IsPermutation-trans us xs vs (IsPermutation-sym xs us h.permutation)
     (IsPermutation-trans xs ys vs p g.permutation))
+
+-- sheets that stand by rank are what they are by rank
+pub IsByRank-is : (xs us : List Task) → IsStrictlySortedBy rank_cmp xs → IsByRank xs us → us ≡ xs
+IsByRank-is xs us ranked by =
+    sorted_unique rank_total us xs by.ranked ranked (IsPermutation-sym xs us by.permutation)
 
 -- ---- one sheet more, or one less
 

@@ -1,7 +1,7 @@
 -- Names that stand twice, and valid sheets.
 use Rattle.std.proofs.Common.{◌≡◌, refl, [], ◌∷◌, Some, None, ℕ, ◌+◌, ◌<◌, ◌||◌, List, length}
-use Rattle.std.proofs.Common.{get_or, drop, take, ◌-◌, arith, Bool}
-use Rattle.std.proofs.lemmas.List.{drop_more, take_all, length-drop}
+use Rattle.std.proofs.Common.{get_or, drop, take, ◌-◌, ◌++◌, ◌∙◌, arith, Bool}
+use Rattle.std.proofs.lemmas.List.{drop_more, take_more, take_all, length-drop}
 use Rattle.std.specs.List.{list_any}
 use Rattle.std.proofs.lemmas.Bool.Decides.{nat_tests}
 use Rattle.task_sheet.specs.Sheet.{CriticalSection, Task, IsSection, AreSections, OutranksData}
@@ -66,3 +66,11 @@ pub outranks_valid : (own : List ℕ) (outranks : OutranksData) → MayOutrank o
     → outranks_fault own outranks ≡ None
 outranks_valid own (Named names) h = names_valid own names h
 outranks_valid own AllOthers h = refl
+
+-- ---- copies
+
+-- one more element of a list is copied
+pub copied : {X : Type 0} {done new : List X} (xs : List X) (i : ℕ) (d x : X) → i < length xs
+    → done ≡ take i xs → d ≡ get_or xs i d → x ≡ d → new ≡ done ++ x ∷ [] → new ≡ take (i + 1) xs
+copied xs i d x lt same is copy pushed =
+    pushed ∙ rw (same, copy, take_more xs i d lt, ← is) refl

@@ -78,6 +78,14 @@ kinds_fault task ms = first (
     (fault.WrongKind task 0 key.Outranks)
     ∷ [])
 
+-- what `Sheet::new`, `Sheet::jittered` and `Sheet::outranking` refuse of a task's values
+abbrev pub values_fault : ℕ → Task → Option SetFault
+values_fault task s = first (
+    option_map (fault.Sheet task) (sheet_fault s)
+    ∷ unless (nat_lt s.jitter s.deadline) (fault.BadJitter task)
+    ∷ option_map (fault.Outranks task) (outranks_fault s.name s.outranks)
+    ∷ [])
+
 -- a task's keys, the kinds of its values, its sections, its names, and then what `Sheet::new`, `Sheet::jittered` and
 -- `Sheet::outranking` refuse
 abbrev pub task_fault : ℕ → Members → Option SetFault

@@ -10,6 +10,7 @@ use crate::name::Name;
 use crate::sheet::Sheet;
 use std::alloc::{AllocError, Global};
 use std::collections::BTreeSet;
+use std::fmt;
 use std::marker::Model;
 use thiserror::Error;
 
@@ -20,19 +21,25 @@ pub const TASK_LIMIT: usize = 32;
 #[derive(Clone, Copy, Debug, PartialEq, Eq, Error)]
 pub enum SetCause {
     /// The task is the first with the name of one before it.
-    #[error("task {task}: a task before it has its name")]
     SameName { task: usize },
     /// There are more than 32 tasks.
-    #[error("more than 32 tasks")]
     TooManyTasks,
     /// An allocation was refused.
-    #[error("out of memory")]
     OutOfMemory,
 }
 
+impl fmt::Display for SetCause {
+    fn fmt<W: fmt::Write>(&self, f: &mut fmt::Formatter<W>) -> fmt::Result {
+        match self {
+            SetCause::SameName { task } => write!(f, "task {task}: a task before it has its name"),
+            SetCause::TooManyTasks => f.write_str("more than 32 tasks"),
+            SetCause::OutOfMemory => f.write_str("out of memory"),
+        }
+    }
+}
+
 /// The sheets are no set. They are handed back in their order.
-#[derive(Debug, Drop, Error)]
-#[error("{cause}")]
+#[derive(Debug, Drop)]
 pub struct SheetsFault {
     /// The first reason, in the order that `TaskSet::new` gives.
     pub cause: SetCause,
@@ -41,22 +48,18 @@ pub struct SheetsFault {
 }
 
 /// Why a sheet can't be added to a set.
-#[derive(Clone, Copy, Debug, PartialEq, Eq, Error)]
+#[derive(Clone, Copy, Debug, PartialEq, Eq)]
 pub enum WithCause {
     /// A task of the set has its name.
-    #[error("a task has its name")]
     SameName,
     /// The set has 32 tasks.
-    #[error("more than 32 tasks")]
     TooManyTasks,
     /// An allocation was refused.
-    #[error("out of memory")]
     OutOfMemory,
 }
 
 /// The sheet was not added to a set. It is handed back.
-#[derive(Debug, Drop, Error)]
-#[error("{cause}")]
+#[derive(Debug, Drop)]
 pub struct WithFault {
     /// The first reason, in the order that `TaskSet::with` gives.
     pub cause: WithCause,
@@ -65,13 +68,11 @@ pub struct WithFault {
 }
 
 /// Why a task can't be taken out of a set.
-#[derive(Clone, Copy, Debug, PartialEq, Eq, Error)]
+#[derive(Clone, Copy, Debug, PartialEq, Eq)]
 pub enum WithoutFault {
     /// No task of the set has the name.
-    #[error("no task has the name")]
     NoSuchTask,
     /// An allocation was refused.
-    #[error("out of memory")]
     OutOfMemory,
 }
 

@@ -36,7 +36,7 @@ pub const LOCK_LIMIT: usize = 4;
 pub const OUTRANKS_LIMIT: usize = 8;
 
 /// Why values are no sheet. A section is named by its place, from 1.
-#[derive(Clone, Copy, Debug, PartialEq, Eq, Error)]
+#[derive(Clone, Copy, PartialEq, Eq, Error)]
 pub enum SheetCause {
     /// The weight is above 1,000.
     BadWeight,
@@ -68,7 +68,7 @@ pub enum SheetCause {
 
 impl SheetCause {
     // What is wrong, of a section or of the sheet.
-    fn words(self) -> &'static str {
+    pub(crate) fn words(self) -> &'static str {
         match self {
             SheetCause::BadWeight => "the weight is above 1000",
             SheetCause::BadPeriod => "the period is not from 1000 to 10000000",
@@ -103,9 +103,15 @@ impl fmt::Display for SheetCause {
     }
 }
 
+// Only a test that fails shows it.
+impl fmt::Debug for SheetCause {
+    fn fmt<W: fmt::Write>(&self, f: &mut fmt::Formatter<W>) -> fmt::Result {
+        fmt::Display::fmt(self, f)
+    }
+}
+
 /// The values are no sheet. The sections are handed back.
-#[derive(Debug, Drop, Error)]
-#[error("{cause}")]
+#[derive(Debug, Drop)]
 pub struct SheetFault {
     /// The first reason, in the order that `Sheet::new` gives.
     pub cause: SheetCause,
@@ -114,8 +120,7 @@ pub struct SheetFault {
 }
 
 /// The jitter isn't below the deadline. The sheet is handed back.
-#[derive(Debug, Drop, Error)]
-#[error("the jitter is not below the deadline")]
+#[derive(Debug, Drop)]
 pub struct BadJitter {
     /// The sheet as it was given.
     pub sheet: Sheet,
@@ -125,19 +130,32 @@ pub struct BadJitter {
 #[derive(Clone, Copy, Debug, PartialEq, Eq, Error)]
 pub enum OutranksCause {
     /// There are more than 8 names.
-    #[error("it must stand above more than 8 tasks")]
     TooManyOutranks,
     /// A name stands twice.
-    #[error("it must stand above a task twice")]
     OutranksTwice,
     /// A name is the task's own.
-    #[error("it must stand above itself")]
     OutranksSelf,
 }
 
+impl OutranksCause {
+    // What is wrong.
+    pub(crate) fn words(self) -> &'static str {
+        match self {
+            OutranksCause::TooManyOutranks => "it must stand above more than 8 tasks",
+            OutranksCause::OutranksTwice => "it must stand above a task twice",
+            OutranksCause::OutranksSelf => "it must stand above itself",
+        }
+    }
+}
+
+impl fmt::Display for OutranksCause {
+    fn fmt<W: fmt::Write>(&self, f: &mut fmt::Formatter<W>) -> fmt::Result {
+        f.write_str(self.words())
+    }
+}
+
 /// The task can't be one that must stand above these. The sheet and they are handed back.
-#[derive(Debug, Drop, Error)]
-#[error("{cause}")]
+#[derive(Debug, Drop)]
 pub struct OutranksFault {
     /// The first reason, in the order that `Sheet::outranking` gives.
     pub cause: OutranksCause,

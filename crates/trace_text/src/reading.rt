@@ -1,6 +1,6 @@
 //! Reading a trace.
 ghost use Rattle.std.specs.Prelude.{◌≡◌, MatchResult};
-ghost use Rattle.trace_text.specs.Faults.{IsTraceFault, IsTraceIn, IsTraceOf, are_too_many, overlap_from, overlap_in, rows_fault, sequence_fault, trace_fault, unsorted_from, unsorted_in};
+ghost use Rattle.trace_text.specs.Faults.{IsTraceFault, IsTraceIn, IsTraceOf, are_too_many, overlap_in, rows_fault, sequence_fault, trace_fault, unsorted_in};
 ghost use Rattle.trace_text.specs.Rows.{rows_at};
 
 use crate::fault::TraceFault;

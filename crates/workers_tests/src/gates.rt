@@ -1,6 +1,5 @@
 //! Gates of the examples.
 ghost use Rattle.std.specs.Prelude.{◌≡◌};
-ghost use Rattle.assignment.specs.Questions.{QuestionData};
 
 use assignment::Question;
 use candidate_workers::Gate;

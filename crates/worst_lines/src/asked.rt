@@ -1,6 +1,5 @@
 //! Which task's worst case is shown.
 ghost use Rattle.std.specs.Prelude.{◌≡◌, ◌<◌, length, All, IfSome};
-ghost use Rattle.task_sheet.specs.Sheet.{task_at};
 ghost use Rattle.judge.specs.Judgements.{does_meet};
 ghost use Rattle.worst_lines.specs.Asked.{highest_failing, judged_at, slack_of, tighter, tightest};
 ghost use Rattle.worst_lines.specs.Worst.{chosen, chosen_in};

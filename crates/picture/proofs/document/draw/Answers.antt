@@ -7,8 +7,8 @@ pub returns : goal.returns
 returns c =
     subst (λ (words : List ℕ). IfOk c.draw_chart.result (λ text. text.items ≡ words))
     (document_of c.args.rows.now c.args.view.now c.args.until c.args.releases.now
-    c.args.trace.now c.frame_of.result c.deref-2.result.now c.deref-7.result.now
-    c.deref-3.result.now c.deref-4.result.now c.deref-5.result.now c.frame_of.ensures
-    c.deref-2.ensures.value (c.deref-7.ensures.value ∙ c.in_ok-locks.ensures.value)
+    c.args.trace.now c.frame_of.result c.deref-2.result.now c.deref-5.result.now
+    c.deref-3.result.now c.deref-4.result.now c.deref-slices.result.now c.frame_of.ensures
+    c.deref-2.ensures.value (c.deref-5.ensures.value ∙ c.in_ok-locks.ensures.value)
     (c.deref-3.ensures.value ∙ rw c.deref.ensures.value at c.in_ok-shown.ensures.shown)
-    c.deref-4.ensures.value c.deref-5.ensures.value) c.draw_chart.ensures
+    c.deref-4.ensures.value c.deref-slices.ensures.value) c.draw_chart.ensures

@@ -1,3 +1,4 @@
+use Rattle.frames.proofs.Adds.{adds_nothing}
 use Rattle.std.proofs.Common.{ℕ, List, ap, ◌∙◌}
 use Rattle.frames.specs.declared.rows.Spot.{Spot}
 use Rattle.frames.specs.declared.rows.TaskRow.{TaskRow}
@@ -19,3 +20,10 @@ returns-in-Some c =
     chart.rows chart.shown (record_at chart.jobs c.args.j).name c.spot_of.result spot named
     c.in-Some.is (adds_same (λ (s : Stay). stay_text chart s spot) c.stay_of.ensures
     c.put_stay.ensures)
+
+pub returns-in-None : goal.returns-in-None
+returns-in-None c = rw (
+  ← c.name_of-name.ensures,
+  ← c.spot_of.ensures.spot,
+  c.in-None.is,
+) (adds_nothing c.args.page.now)

@@ -1,9 +1,11 @@
 use Rattle.std.proofs.Common.{rules, ◌≡◌, ◌∙◌, sym, ap, ◌+◌, Some, None, ◌++◌, if◌then◌else◌}
 use Rattle.std.proofs.Common.{is_some, unwrap_or, option_map}
+use Rattle.std.proofs.Common.{refl}
+use Rattle.std.proofs.Math.ListN.{drop_of_length-le}
 use Rattle.std.proofs.lemmas.Bool.{false≢true}
 use Rattle.std.specs.Option.{option_or, option_to_list}
 use Rattle.task_sheet.specs.Tree.{capped_end}
-use Rattle.task_sheet.proofs.TreeLaws.{at_exit, table_step, read_more}
+use Rattle.task_sheet.proofs.TreeLaws.{at_exit, table_step, read_more, all_read}
 use Rattle.task_sheet.proofs.read.read_sections.Goals as goal
 use Rattle.task_sheet.proofs.read.read_sections.Goals.{in-Some+in_ok-section+in_ok-take, in_default}
 
@@ -36,3 +38,19 @@ returns-in_err-section-clause-err c =
     at_exit _ c.from_residual.result c.from_residual.ensures.1
     (λ e same other. rw same (sym c.loop-i.invariant.read.fault
     ∙ rw (next.2, ← c.in-Some.ensures, c.in_err-section.ensures.err (rw same at other))))
+
+pub loop-i-init : goal.loop-i-init
+loop-i-init c = record {
+  tables = c.requires;
+  read = record { fault = refl; bad = refl; read = λ e. rw c.new.ensures.items refl };
+}
+
+pub returns-in_err-take-clause-err : goal.returns-in_err-take-clause-err
+returns-in_err-take-clause-err c =
+    at_exit _ c.from_residual-in_err-take.result c.from_residual-in_err-take.ensures.1
+    (λ e same other. absurd (other same))
+
+pub returns-clause-ok : goal.returns-clause-ok
+returns-clause-ok c =
+    all_read
+    (rw (drop_of_length-le c.args.items.now c.loop-i-test.false) at c.loop-i.invariant.read)

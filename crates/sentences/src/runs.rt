@@ -1,0 +1,60 @@
+//! What a person is told of a run and of a trace.
+
+use crate::pieces::put_pieces;
+use std::io::Write;
+use streams::{Held, Watched, WriteFailed};
+use task_sheet::{Members, Sheet, TaskSet};
+
+/// Writes a note that nothing was run, since no order of the set passes. It takes no memory.
+pub fn put_unrun<W: Write + Drop>(out: &mut Watched<W>) -> Result<(), WriteFailed> {
+    out.write(b"note: no order passes, so there is no run: desk explain says why\n")
+}
+
+// Whether a task has a timer or interrupts that take time.
+fn is_interrupted(sheet: &Sheet) -> bool {
+    sheet.node().release > 0 || !sheet.interrupts().is_empty()
+}
+
+/// Writes a note where the set of a run has timers or interrupts, which a run doesn't have. It takes no memory.
+pub fn put_left_out<W: Write + Drop>(
+    set: &TaskSet,
+    out: &mut Watched<W>,
+) -> Result<(), WriteFailed> {
+    for sheet in set.sheets() {
+        if is_interrupted(sheet) {
+            return out.write(
+                b"note: what timers and interrupts take is in the bounds, and not in the run\n",
+            );
+        }
+    }
+    Ok(())
+}
+
+// What stands in front of the first name, and of a further one.
+fn before_name(count: usize) -> &'static str {
+    if count == 0 {
+        "note: the trace has no job of "
+    } else {
+        ", "
+    }
+}
+
+/// Writes a note on the tasks of a set that aren't among those of which a trace shows jobs. It takes no memory.
+pub fn put_unseen<W: Write + Drop>(
+    set: &TaskSet,
+    seen: Members,
+    out: &mut Watched<W>,
+) -> Result<(), WriteFailed> {
+    let mut held = Held::new();
+    let mut count = 0usize;
+    for (i, sheet) in set.sheets().iter().enumerate() {
+        if !seen.has(i) {
+            put_pieces(&[before_name(count), sheet.name().as_str()], &mut held, out)?;
+            count = 1;
+        }
+    }
+    if count > 0 {
+        held.put(b"\n", out)?;
+    }
+    held.send(out)
+}
