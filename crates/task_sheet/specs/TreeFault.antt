@@ -86,17 +86,14 @@ values_fault task s = first (
     ∷ option_map (fault.Outranks task) (outranks_fault s.name s.outranks)
     ∷ [])
 
--- a task's keys, the kinds of its values, its sections, its names, and then what `Sheet::new`, `Sheet::jittered` and
--- `Sheet::outranking` refuse
+-- a task's keys, the kinds of its values, its sections, its names, and then the values
 abbrev pub task_fault : ℕ → Members → Option SetFault
 task_fault task ms = first (
     keys_fault task 0 task_keys needed_keys ms
     ∷ kinds_fault task ms
     ∷ section_tables_fault task 1 (unwrap_or (tables_at key.Section ms) [])
     ∷ option_map (fault.BadName task) (bad_name (sheet_at ms))
-    ∷ option_map (fault.Sheet task) (sheet_fault (sheet_at ms))
-    ∷ unless (nat_lt (sheet_at ms).jitter (sheet_at ms).deadline) (fault.BadJitter task)
-    ∷ option_map (fault.Outranks task) (outranks_fault (sheet_at ms).name (sheet_at ms).outranks)
+    ∷ values_fault task (sheet_at ms)
     ∷ [])
 
 -- the first fault of tasks, of which the first stands at a place
