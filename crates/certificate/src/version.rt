@@ -2,7 +2,7 @@
 ghost use Rattle.std.specs.Prelude.{◌≡◌};
 ghost use Rattle.std.specs.List.{list_any};
 ghost use Rattle.task_sheet.specs.Sheet.{outranks_task};
-ghost use Rattle.task_sheet.specs.Demand.{interrupts_some, has_interrupts};
+ghost use Rattle.task_sheet.specs.Demand.{has_interrupts};
 ghost use Rattle.certificate.specs.Versions.{some_bound, has_jitter, version_for};
 
 use task_sheet::{Sheet, TaskSet};
@@ -42,18 +42,11 @@ fn has_jitter(set: &TaskSet) -> bool
     set.sheets().iter().any(|sheet| sheet.jitter() > 0)
 }
 
-// Whether a task has a timer that takes time, or an interrupt on its account.
-fn interrupts_some(sheet: &Sheet) -> bool
-    ensures { result ≡ interrupts_some sheet.now }
-{
-    sheet.node().release > 0 || !sheet.interrupts().is_empty()
-}
-
-// Whether some task has.
+// Whether some task has a timer that takes time, or an interrupt on its account.
 fn has_interrupts(set: &TaskSet) -> bool
     ensures { result ≡ has_interrupts set.now }
 {
-    set.sheets().iter().any(interrupts_some)
+    set.sheets().iter().any(|sheet| sheet.interrupts_some())
 }
 
 /// The version that serves a set: the third where some task has a timer that takes time, or an interrupt on its

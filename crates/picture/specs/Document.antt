@@ -1,11 +1,12 @@
 -- The document: what stands still, the jobs, the slices by time, and the marks of the releases.
 use Rattle.std.specs.Prelude.{ℕ, ◌+◌, ◌-◌, ◌*◌, ◌/◌, ◌&&◌, ◌==◌, if◌then◌else◌, List, [], ◌∷◌, ◌++◌, length, codes}
 use Rattle.std.specs.Fmt.{decimal}
-use Rattle.std.specs.List.{concat}
+use Rattle.std.specs.List.{concat, list_any}
 use Rattle.ceiling_kernel.specs.declared.trace.Release.{Release}
 use Rattle.ceiling_kernel.specs.declared.trace.JobRecord.{JobRecord}
 use Rattle.ceiling_kernel.specs.declared.trace.Slice.{Slice}
 use Rattle.ceiling_kernel.specs.declared.trace.Trace.{Trace}
+use Rattle.task_sheet.specs.Demand.{interrupts_some}
 use Rattle.frames.specs.declared.rows.TaskRow.{TaskRow}
 use Rattle.frames.specs.declared.view.View.{View}
 use Rattle.frames.specs.View.{shown_of}
@@ -84,13 +85,19 @@ window_words f =
     if (f.from == 0) && (f.to == f.until) then []
     else concat (codes ", shown: " ∷ millis_text f.from ∷ codes " to " ∷ millis_text f.to ∷ codes " ms" ∷ [])
 
--- the run, and what part of it is drawn
-abbrev pub what_text : Frame → (rows jobs until : ℕ) → List ℕ
+-- that the run lacks what the bounds count, where some task has a timer that takes time or an interrupt on its account
+abbrev pub unrun_words : List TaskRow → List ℕ
+unrun_words rows =
+    if list_any (λ (row : TaskRow). interrupts_some row.sheet) rows
+    then codes ", timers and interrupts in the bounds alone" else []
+
+-- the run, what it lacks, and what part of it is drawn
+abbrev pub what_text : Frame → List TaskRow → (jobs until : ℕ) → List ℕ
 what_text f rows jobs until =
-    concat (codes "<text x=\"100\" y=\"390\">tasks: " ∷ decimal rows ∷ codes ", jobs: " ∷ decimal jobs
-    ∷ codes ", until " ∷ millis_text until
+    concat (codes "<text x=\"100\" y=\"390\">tasks: " ∷ decimal (length rows) ∷ codes ", jobs: "
+    ∷ decimal jobs ∷ codes ", until " ∷ millis_text until
     ∷ codes " ms" ∷ [])
-    ++ window_words f ++ codes "</text>\n"
+    ++ unrun_words rows ++ window_words f ++ codes "</text>\n"
 
 -- what stands still: how the elements look, whether a deadline is missed, what is drawn, what the signs mean, the scale, the
 -- lines of the lane and of the rows, the margin, and the locks
@@ -98,7 +105,7 @@ abbrev pub ground_text : Frame → List ℕ → List (List ℕ) → List TaskRow
 ground_text f title locks rows shown jobs slices until =
     document_head f title (length locks) (length shown) (length rows) (length jobs) until
     ++ STYLE.now ++ verdict_text title (all_missed f rows jobs)
-    ++ what_text f (length rows) (length jobs) until ++ LEGEND.now
+    ++ what_text f rows (length jobs) until ++ LEGEND.now
     ++ ticks_text f (top_of (length shown)) (step_of f) ++ lane_line f ++ lines_text f (length shown)
     ++ margin_group f rows shown jobs slices ++ locks_group f (length shown) locks
 

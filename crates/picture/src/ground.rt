@@ -3,7 +3,7 @@ ghost use Rattle.std.specs.Prelude.{◌<◌, ◌≡◌, ◌≤◌, length};
 ghost use Rattle.frames.specs.Page.{Adds};
 ghost use Rattle.task_sheet.specs.declared.set.TheConstants.{TASK_LIMIT};
 ghost use Rattle.frames.specs.declared.frame.TheConstants.{WIDEST_STEP};
-ghost use Rattle.picture.specs.Document.{document_head, ground_text, lines_text, ticks_text, verdict_text, what_text, window_words};
+ghost use Rattle.picture.specs.Document.{document_head, ground_text, lines_text, ticks_text, unrun_words, verdict_text, what_text, window_words};
 ghost use Rattle.picture.specs.Scale.{line_text, number_x, tick_text};
 
 use crate::legend::LEGEND;
@@ -12,7 +12,8 @@ use crate::style::STYLE;
 use crate::title::put_title_head;
 use drawn_jobs::{all_missed, locks_high, put_badge, put_lane_line, put_locks_group};
 use frames::{
-    Chart, Frame, Page, end_of, put_millis, start_of, step_of, steps_before, top_of, unit_of, x_of,
+    Chart, Frame, Page, TaskRow, end_of, put_millis, start_of, step_of, steps_before, top_of, unit_of,
+    x_of,
 };
 
 // Where the number of a line stands in the scale.
@@ -130,14 +131,24 @@ fn put_window(frame: Frame, page: &mut Page)
     page.put(b" ms")
 }
 
-// The run, and what part of it is drawn.
-fn put_what(frame: Frame, rows: usize, jobs: usize, until: u64, page: &mut Page)
-    ensures { Adds page.old page.new (what_text frame rows jobs until) }
+// That the run lacks what the bounds count, where some task has a timer that takes time or an interrupt on its account.
+fn put_unrun(rows: &[TaskRow], page: &mut Page)
+    ensures { Adds page.old page.new (unrun_words rows.now) }
 {
-    page.number(b"<text x=\"100\" y=\"390\">tasks: ", rows as u64);
+    if rows.iter().any(|row| row.sheet.interrupts_some()) {
+        page.put(b", timers and interrupts in the bounds alone")
+    }
+}
+
+// The run, what it lacks, and what part of it is drawn.
+fn put_what(frame: Frame, rows: &[TaskRow], jobs: usize, until: u64, page: &mut Page)
+    ensures { Adds page.old page.new (what_text frame rows.now jobs until) }
+{
+    page.number(b"<text x=\"100\" y=\"390\">tasks: ", rows.len() as u64);
     page.number(b", jobs: ", jobs as u64);
     put_millis(b", until ", until, page);
     page.put(b" ms");
+    put_unrun(rows, page);
     put_window(frame, page);
     page.put(b"</text>\n")
 }
@@ -154,8 +165,7 @@ pub(crate) fn put_ground(chart: &Chart<'_>, page: &mut Page)
     page.put(STYLE.as_bytes());
     let missed = all_missed(frame, chart.rows, chart.jobs);
     put_verdict(chart.title, missed, page);
-    let (rows, jobs) = (chart.rows.len(), chart.jobs.len());
-    put_what(frame, rows, jobs, chart.until, page);
+    put_what(frame, chart.rows, chart.jobs.len(), chart.until, page);
     page.put(LEGEND.as_bytes());
     put_ticks(frame, top_of(chart.shown.len()), step_of(frame), page);
     put_lane_line(frame, page);

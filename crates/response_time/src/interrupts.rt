@@ -2,24 +2,17 @@
 ghost use Rattle.std.specs.Prelude.{◌≡◌, ◌≤◌, ◌*◌};
 ghost use Rattle.task_sheet.specs.Sheet.{IsValidSheet};
 ghost use Rattle.task_sheet.specs.declared.set.TheConstants.{TASK_LIMIT};
-ghost use Rattle.task_sheet.specs.Demand.{interrupts_some, has_interrupts, interrupts_of, interrupts_within};
+ghost use Rattle.task_sheet.specs.Demand.{has_interrupts, interrupts_of, interrupts_within};
 ghost use Rattle.response_time.specs.declared.workload.TheConstants.{WINDOW_LIMIT};
 
 use ceilings::Tabled;
 use task_sheet::Sheet;
 
-// Whether a task has a timer that takes time, or an interrupt on its account.
-fn interrupts_some(sheet: &Sheet) -> bool
-    ensures { result ≡ interrupts_some sheet.now }
-{
-    sheet.node().release > 0 || !sheet.interrupts().is_empty()
-}
-
 /// Whether some task of the set has a timer that takes time, or an interrupt on its account.
 pub(crate) fn has_interrupts(set: &Tabled<'_>) -> bool
     ensures { result ≡ has_interrupts set.now }
 {
-    set.sheets().iter().any(interrupts_some)
+    set.sheets().iter().any(|sheet| sheet.interrupts_some())
 }
 
 // What a task's timer and the interrupts on its account take of a window of some microseconds.

@@ -3,16 +3,11 @@
 use crate::pieces::put_pieces;
 use std::io::Write;
 use streams::{Held, Watched, WriteFailed};
-use task_sheet::{Members, Sheet, TaskSet};
+use task_sheet::{Members, TaskSet};
 
 /// Writes a note that nothing was run, since no order of the set passes. It takes no memory.
 pub fn put_unrun<W: Write + Drop>(out: &mut Watched<W>) -> Result<(), WriteFailed> {
     out.write(b"note: no order passes, so there is no run: desk explain says why\n")
-}
-
-// Whether a task has a timer or interrupts that take time.
-fn is_interrupted(sheet: &Sheet) -> bool {
-    sheet.node().release > 0 || !sheet.interrupts().is_empty()
 }
 
 /// Writes a note where the set of a run has timers or interrupts, which a run doesn't have. It takes no memory.
@@ -21,7 +16,7 @@ pub fn put_left_out<W: Write + Drop>(
     out: &mut Watched<W>,
 ) -> Result<(), WriteFailed> {
     for sheet in set.sheets() {
-        if is_interrupted(sheet) {
+        if sheet.interrupts_some() {
             return out.write(
                 b"note: what timers and interrupts take is in the bounds, and not in the run\n",
             );

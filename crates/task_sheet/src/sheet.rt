@@ -5,7 +5,7 @@ ghost use Rattle.task_sheet.specs.Name.{IsName};
 ghost use Rattle.task_sheet.specs.Sheet.{CriticalSection, Task, IsSection, AreSections, AreOutranked, MayOutrank, AreOverheads, AreInterrupts, IsValidSheet, task_of, with_jitter, outranking, outranks_task, weighing, with_node, interrupted, repeats, same_section, same_sheet};
 ghost use Rattle.task_sheet.specs.Overheads.{overhead_of};
 ghost use Rattle.task_sheet.specs.SheetFields.{outranks_of};
-ghost use Rattle.task_sheet.specs.Demand.{limit_of};
+ghost use Rattle.task_sheet.specs.Demand.{interrupts_some, limit_of};
 ghost use Rattle.task_sheet.specs.declared.sheet.TheConstants.{WEIGHT_LIMIT, SECTION_LIMIT};
 ghost use Rattle.task_sheet.specs.SheetFault.{section_fault, list_fault, numbers_fault, sheet_fault, names_fault, outranks_fault};
 
@@ -535,6 +535,13 @@ impl Sheet {
         ensures limits { AreInterrupts result.now }
     {
         &self.interrupts
+    }
+
+    /// Whether the task has a timer that takes time of whoever executes, or an interrupt on its account.
+    pub fn interrupts_some(&self) -> bool
+        ensures { result ≡ interrupts_some self.now }
+    {
+        self.node.release > 0 || !self.interrupts.is_empty()
     }
 
     /// What of the cost is the node's, in microseconds: what a job takes beside its own work, but for its timer, and the
