@@ -397,6 +397,18 @@ Where only the hatching of a job is left in a window, its signs stand there too:
   <path class="a" d="M1960 2365m-20 0l-60 60 60 60m-60-120l-60 60 60 60"/>
   <path class="a" d="M9400 2365m20 0l60 60-60 60m60-120l60 60-60 60"/>
 
+What the bounds count, and the run lacks, its second line says:
+
+  $ cat examples/shared-lock.toml - << END > timed.toml
+  > [[interrupt]]
+  > period = 5000
+  > cost = 10
+  > END
+  $ printf 'until 3000\n0 lo\n' | desk draw timed.toml - --to 2000 2> note | grep -o 'tasks: .*ms<'
+  tasks: 3, jobs: 1, until 3 ms, timers and interrupts in the bounds alone, shown: 0 to 2 ms<
+  $ cat note
+  note: what timers and interrupts take is in the bounds, and not in the run
+
 A stripe isn't wider than its lock is held, and the last number of the scale stays in the picture:
 
   $ printf 'until 10000000\n0 hi\n' | desk draw examples/shared-lock.toml - | grep -oE '^<path class="(e f0|h|k0)" d="M1960 18[^"]*"'

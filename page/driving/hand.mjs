@@ -6,8 +6,8 @@
 // page complained of.
 import { Browser } from './browser.mjs';
 
-// Milliseconds that a page has to come to what is waited for.
-const PATIENCE = 60000;
+// Milliseconds that a page has to come to what is waited for, and frames to stand still.
+const PATIENCE = 60000, FRAMES = 600;
 export const soon = milliseconds => new Promise(it => setTimeout(it, milliseconds));
 
 export class Hand extends Browser {
@@ -34,8 +34,19 @@ export class Hand extends Browser {
         document.getElementById('trouble').textContent !== '')`))
       throw Error('the page answers no more');
   }
+  // What a function of the page says once two frames in turn have the same: what is scrolled to may
+  // be laid out anew.
+  async steady(act, ...values) {
+    for (let before, frame = 0; frame < FRAMES; frame++) {
+      const place = await this.run(act, ...values);
+      if (frame && `${place}` === `${before}`) return place;
+      before = place;
+      await this.evaluate('new Promise(it => requestAnimationFrame(() => it(0)))');
+    }
+    throw Error('the page does not stand still');
+  }
   async place(selector, across = .5) {
-    const found = await this.run((selector, across) => {
+    const found = await this.steady((selector, across) => {
       const it = document.querySelector(selector);
       it?.scrollIntoView({ block: 'center', inline: 'nearest', behavior: 'instant' });
       const box = it?.getBoundingClientRect();

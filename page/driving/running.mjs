@@ -59,27 +59,17 @@ export async function the_run() {
     `document.getElementById('tip').hidden ? '' : document.getElementById('tip').textContent`)),
     'a pointer on a part is told of it');
 }
-// Clicks on what has a title in the picture, once it stands where a pointer meets it: what is said
-// of it.
+// Clicks on what has a title in the picture: what is said of it.
 export async function click_on(title) {
-  const place = await browser.run(async title => {
-    const host = document.getElementById('picture'), inside = host.shadowRoot;
+  const place = await browser.steady(title => {
+    const host = document.getElementById('picture');
     host.scrollIntoView({ block: 'center', behavior: 'instant' });
-    let before;
-    for (let frame = 0; frame < 600; frame++) {
-      const it = [...inside.querySelectorAll('path > title')]
-        .find(it => it.textContent === title)?.parentElement, box = it?.getBoundingClientRect();
-      const here = box && [box.left + box.width / 2, box.top + box.height - 2];
-      if (here && `${here}` === `${before}` && inside.elementFromPoint(...here) === it) return here;
-      before = here;
-      await new Promise(requestAnimationFrame);
-    }
-    return null;
+    const it = [...host.shadowRoot.querySelectorAll('path > title')]
+      .find(it => it.textContent === title)?.parentElement, box = it?.getBoundingClientRect();
+    return box && [box.left + box.width / 2, box.top + box.height - 2];
   }, title);
   if (!place) return `no slice ${title}`;
   for (const it of ['move', 'down', 'up']) await browser.mouse(it, place);
-  await browser.comes(`document.getElementById('picture').shadowRoot
-    .querySelector('.is-chosen > title')?.textContent === ${JSON.stringify(title)}`);
   return digits(await browser.evaluate(`document.getElementById('slice').textContent`));
 }
 // A click on a slice names its job, task and section, as `simulate` has them.

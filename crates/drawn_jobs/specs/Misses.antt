@@ -1,7 +1,7 @@
 -- Which jobs miss their deadlines, and how they are drawn.
 use Rattle.std.specs.Prelude.{ℕ, zero, suc, ◌+◌, ◌-◌, max, Bool, true, false, ◌&&◌, nat_le, nat_lt, if◌then◌else◌, Option, Some, None, List, [], ◌∷◌, ◌++◌, length, codes}
 use Rattle.std.specs.Fmt.{decimal}
-use Rattle.std.specs.List.{concat, filter}
+use Rattle.std.specs.List.{concat, count_by}
 use Rattle.task_sheet.specs.Sheet.{same_bytes}
 use Rattle.ceiling_kernel.specs.declared.trace.JobRecord.{JobRecord}
 use Rattle.frames.specs.declared.rows.TaskRow.{TaskRow}
@@ -25,7 +25,7 @@ misses_in f row job = same_bytes job.name row.sheet.name && is_late f row job
 
 -- how many jobs of a row's task do
 abbrev pub missed_in : Frame → TaskRow → List JobRecord → ℕ
-missed_in f row jobs = length (filter (misses_in f row) jobs)
+missed_in f row jobs = count_by (misses_in f row) jobs
 
 -- a job of the task of a row, if there is one
 abbrev pub is_late_at : Frame → List TaskRow → JobRecord → Option ℕ → Bool
@@ -38,7 +38,7 @@ misses f rows job = is_late_at f rows job (row_named rows job.name)
 
 -- how many jobs of all do
 abbrev pub all_missed : Frame → List TaskRow → List JobRecord → ℕ
-all_missed f rows jobs = length (filter (misses f rows) jobs)
+all_missed f rows jobs = count_by (misses f rows) jobs
 
 -- a disc with a cross
 abbrev pub badge_text : (x y : ℕ) → List ℕ

@@ -1,7 +1,7 @@
 //! Jobs that miss their deadlines.
 ghost use Rattle.std.specs.Prelude.{◌+◌, ◌≡◌};
 ghost use Rattle.frames.specs.Page.{Adds};
-ghost use Rattle.drawn_jobs.specs.Misses.{all_missed, badge_after, badge_text, due_badge, has_badge, hatch_path, hatch_text, is_late, is_seen_miss, miss_text, missed_in, misses_in, misses_text, row_misses};
+ghost use Rattle.drawn_jobs.specs.Misses.{all_missed, badge_after, badge_text, due_badge, has_badge, hatch_path, hatch_text, is_late, is_seen_miss, miss_text, missed_in, misses, misses_in, misses_text, row_misses};
 
 use crate::jobs::{limit_of, put_job_signs, put_told};
 use ceiling_kernel::JobRecord;
@@ -32,28 +32,24 @@ fn misses_in(frame: Frame, row: &TaskRow, job: &JobRecord) -> bool
 pub fn missed_in(frame: Frame, row: &TaskRow, jobs: &[JobRecord]) -> usize
     ensures { result ≡ missed_in frame row.now jobs.now }
 {
-    let mut count = 0;
-    for job in jobs {
-        if misses_in(frame, row, job) {
-            count += 1;
-        }
+    jobs.iter().filter(|job| misses_in(frame, row, job)).count()
+}
+
+// Whether a job misses its deadline.
+fn misses(frame: Frame, rows: &[TaskRow], job: &JobRecord) -> bool
+    ensures { result ≡ misses frame rows.now job.now }
+{
+    match find_row(rows, job.name) {
+        Some(k) => is_late(frame, &rows[k], job),
+        None => false,
     }
-    count
 }
 
 /// How many of all jobs do.
 pub fn all_missed(frame: Frame, rows: &[TaskRow], jobs: &[JobRecord]) -> usize
     ensures { result ≡ all_missed frame rows.now jobs.now }
 {
-    let mut count = 0;
-    for job in jobs {
-        if let Some(k) = find_row(rows, job.name) {
-            if is_late(frame, &rows[k], job) {
-                count += 1;
-            }
-        }
-    }
-    count
+    jobs.iter().filter(|job| misses(frame, rows, job)).count()
 }
 
 // Whether a job of a row's task misses its deadline in the window.

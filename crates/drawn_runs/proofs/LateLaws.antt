@@ -22,7 +22,7 @@ use Rattle.frames.specs.Rows.{no_row, record_at, row_at, row_named}
 use Rattle.frames.specs.View.{end_of_run}
 use Rattle.drawn_runs.specs.Late.{IsBestRun, IsRowOf, NoneIsLate}
 use Rattle.drawn_runs.specs.Rows.{drawn_row, rows_of}
-use Rattle.drawn_runs.proofs.ListLaws.{kept_none}
+use Rattle.drawn_runs.proofs.ListLaws.{none_counts}
 use Rattle.drawn_runs.proofs.RunLaws.{arrives_in, long, not_late}
 
 module _ {U : List Task} {places : List PlaceData} {rs : List Release} {until : ℕ} {trace : Trace}
@@ -68,7 +68,7 @@ module _ {U : List Task} {places : List PlaceData} {rs : List Release} {until : 
       ] refl
 
   pub none_missed : all_missed frame rows jobs ≡ 0
-  none_missed = kept_none (misses frame rows) jobs no_record not_missed
+  none_missed = none_counts (misses frame rows) jobs no_record not_missed
 
 -- ---- the rows of the best order
 rows_in : (U : List Task) (places : List PlaceData) → AreInTime U places

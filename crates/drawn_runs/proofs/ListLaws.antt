@@ -1,7 +1,7 @@
 -- What a list keeps of its elements that pass a test.
 use Rattle.std.proofs.Common.{◌≡◌, ℕ, zero, suc, ◌<◌, ◌≤◌, inl, inr, refl, arith, Bool, true, false}
 use Rattle.std.proofs.Common.{List, [], ◌∷◌, length, get_or}
-use Rattle.std.specs.List.{filter}
+use Rattle.std.specs.List.{count_by, filter}
 use Rattle.std.proofs.lemmas.Bool.{cases_Bool}
 use Rattle.task_sheet.specs.Demand.{greatest_of}
 
@@ -35,9 +35,9 @@ kept_two p (x ∷ xs) (suc i) (suc j) d less lt is also =
     let rest = kept_two p xs i j d (omega (arith, less)) (omega (arith, lt)) is also in
     elim (cases_Bool (p x)) [ inl so ↦ rw so (omega (arith, rest)) | inr not_so ↦ rw not_so rest ]
 
--- where none passes, none is
-pub kept_none : {X : Type 0} (p : X → Bool) (xs : List X) (d : X)
-    → ((i : ℕ) → i < length xs → p (get_or xs i d) ≡ false) → length (filter p xs) ≡ 0
-kept_none p [] d none = refl
-kept_none p (x ∷ xs) d none =
-    rw (none 0 (omega arith)) (kept_none p xs d (λ i lt. none (suc i) (omega (arith, lt))))
+-- where none passes, none counts
+pub none_counts : {X : Type 0} (p : X → Bool) (xs : List X) (d : X)
+    → ((i : ℕ) → i < length xs → p (get_or xs i d) ≡ false) → count_by p xs ≡ 0
+none_counts p [] d none = refl
+none_counts p (x ∷ xs) d none =
+    rw (none 0 (omega arith)) (none_counts p xs d (λ i lt. none (suc i) (omega (arith, lt))))

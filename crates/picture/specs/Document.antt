@@ -1,5 +1,5 @@
 -- The document: what stands still, the jobs, the slices by time, and the marks of the releases.
-use Rattle.std.specs.Prelude.{ℕ, ◌+◌, ◌-◌, ◌*◌, ◌/◌, ◌&&◌, ◌==◌, if◌then◌else◌, List, [], ◌∷◌, ◌++◌, length, codes}
+use Rattle.std.specs.Prelude.{ℕ, ◌+◌, ◌-◌, ◌*◌, ◌/◌, Bool, ◌&&◌, ◌==◌, if◌then◌else◌, List, [], ◌∷◌, ◌++◌, length, codes}
 use Rattle.std.specs.Fmt.{decimal}
 use Rattle.std.specs.List.{concat, list_any}
 use Rattle.ceiling_kernel.specs.declared.trace.Release.{Release}
@@ -85,11 +85,14 @@ window_words f =
     if (f.from == 0) && (f.to == f.until) then []
     else concat (codes ", shown: " ∷ millis_text f.from ∷ codes " to " ∷ millis_text f.to ∷ codes " ms" ∷ [])
 
--- that the run lacks what the bounds count, where some task has a timer that takes time or an interrupt on its account
+-- some task has a timer that takes time, or an interrupt on its account
+abbrev pub are_interrupted : List TaskRow → Bool
+are_interrupted rows = list_any (λ (row : TaskRow). interrupts_some row.sheet) rows
+
+-- that the bounds then count what the run lacks
 abbrev pub unrun_words : List TaskRow → List ℕ
 unrun_words rows =
-    if list_any (λ (row : TaskRow). interrupts_some row.sheet) rows
-    then codes ", timers and interrupts in the bounds alone" else []
+    if are_interrupted rows then codes ", timers and interrupts in the bounds alone" else []
 
 -- the run, what it lacks, and what part of it is drawn
 abbrev pub what_text : Frame → List TaskRow → (jobs until : ℕ) → List ℕ

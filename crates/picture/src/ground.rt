@@ -3,7 +3,7 @@ ghost use Rattle.std.specs.Prelude.{◌<◌, ◌≡◌, ◌≤◌, length};
 ghost use Rattle.frames.specs.Page.{Adds};
 ghost use Rattle.task_sheet.specs.declared.set.TheConstants.{TASK_LIMIT};
 ghost use Rattle.frames.specs.declared.frame.TheConstants.{WIDEST_STEP};
-ghost use Rattle.picture.specs.Document.{document_head, ground_text, lines_text, ticks_text, unrun_words, verdict_text, what_text, window_words};
+ghost use Rattle.picture.specs.Document.{are_interrupted, document_head, ground_text, lines_text, ticks_text, unrun_words, verdict_text, what_text, window_words};
 ghost use Rattle.picture.specs.Scale.{line_text, number_x, tick_text};
 
 use crate::legend::LEGEND;
@@ -131,11 +131,18 @@ fn put_window(frame: Frame, page: &mut Page)
     page.put(b" ms")
 }
 
-// That the run lacks what the bounds count, where some task has a timer that takes time or an interrupt on its account.
+// Whether some task has a timer that takes time, or an interrupt on its account.
+fn are_interrupted(rows: &[TaskRow]) -> bool
+    ensures { result ≡ are_interrupted rows.now }
+{
+    rows.iter().any(|row| row.sheet.interrupts_some())
+}
+
+// That the bounds then count what the run lacks.
 fn put_unrun(rows: &[TaskRow], page: &mut Page)
     ensures { Adds page.old page.new (unrun_words rows.now) }
 {
-    if rows.iter().any(|row| row.sheet.interrupts_some()) {
+    if are_interrupted(rows) {
         page.put(b", timers and interrupts in the bounds alone")
     }
 }
