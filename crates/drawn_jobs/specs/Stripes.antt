@@ -30,7 +30,7 @@ stripes_text locks x right k names =
 
 -- how many locks it has in a line
 abbrev pub per_line : Frame → ℕ
-per_line f = max ((frame_end f - 900) / 1900) 1
+per_line f = max ((frame_end f - 900) / 2000) 1
 
 -- how high it is, of so many locks
 abbrev pub locks_high : Frame → ℕ → ℕ
@@ -38,7 +38,7 @@ locks_high f n = if n == 0 then 0 else 100 + 250 * ((n - 1) / per_line f + 1)
 
 -- where lock i begins in it
 abbrev pub lock_left : Frame → ℕ → ℕ
-lock_left f i = 900 + 1900 * (i % per_line f)
+lock_left f i = 900 + 2000 * (i % per_line f)
 
 -- and where its upper edge lies
 abbrev pub lock_upper : Frame → (bottom i : ℕ) → ℕ

@@ -23,7 +23,7 @@ fn per_line(frame: Frame) -> u64
     ensures some { 0 < result }
     ensures within { result ≤ 84 }
 {
-    ((end_of(frame) - 900) / 1_900).max(1)
+    ((end_of(frame) - 900) / 2_000).max(1)
 }
 
 /// How high the legend of so many locks is.
@@ -89,7 +89,7 @@ fn put_lock(frame: Frame, bottom: u64, i: usize, name: Name, page: &mut Page)
     ensures { Adds page.old page.new (lock_text frame bottom i name) }
 {
     let each = per_line(frame);
-    let x = 900 + 1_900 * (i as u64 % each);
+    let x = 900 + 2_000 * (i as u64 % each);
     let y = bottom + 250 * (i as u64 / each);
     let lock = Bar {
         x,

@@ -3,7 +3,7 @@ use Rattle.std.specs.Prelude.{ℕ, ◌+◌, ◌-◌, ◌*◌, ◌/◌, ◌%◌, 
 use Rattle.ceiling_kernel.specs.declared.accept.TheConstants.{HORIZON}
 use Rattle.task_sheet.specs.declared.set.TheConstants.{TASK_LIMIT}
 use Rattle.task_sheet.specs.declared.sheet.TheConstants.{PERIOD_TO}
-use Rattle.frames.specs.declared.frame.TheConstants.{NARROWEST, WIDEST, RIGHTMOST, WIDEST_MARGIN, WIDEST_DECADE}
+use Rattle.frames.specs.declared.frame.TheConstants.{NARROWEST, WIDEST, RIGHTMOST, LEAST_MARGIN, WIDEST_MARGIN, WIDEST_DECADE}
 use Rattle.frames.specs.declared.rows.TaskRow.{TaskRow}
 use Rattle.frames.specs.declared.view.View.{View}
 use Rattle.frames.specs.View.{end_of_run, window_end}
@@ -36,14 +36,44 @@ abbrev pub least_period : ℕ → List TaskRow → ℕ
 least_period least [] = least
 least_period least (row ∷ rows) = least_period (min least row.sheet.period) rows
 
--- how many letters the longest name has, or one that was found before
-abbrev pub longest_name : ℕ → List TaskRow → ℕ
-longest_name most [] = most
-longest_name most (row ∷ rows) = longest_name (max most (length row.sheet.name)) rows
+-- how many digits so many microseconds have before the point, in milliseconds
+abbrev pub whole_digits : ℕ → ℕ
+whole_digits time =
+    if nat_lt time 10000 then 1
+    else if nat_lt time 100000 then 2
+    else if nat_lt time 1000000 then 3
+    else if nat_lt time 10000000 then 4
+    else 5
 
--- where time begins, to the right of names with so many letters
-abbrev pub left_of : ℕ → ℕ
-left_of letters = min (620 + max (78 * letters) 1340) WIDEST_MARGIN
+-- how many letters they have with what stands behind it
+abbrev pub millis_letters : ℕ → ℕ
+millis_letters time =
+    if time % 1000 == 0 then whole_digits time
+    else if time % 100 == 0 then whole_digits time + 2
+    else if time % 10 == 0 then whole_digits time + 3
+    else whole_digits time + 4
+
+-- how many letters the line below a row's name has, where no deadline is missed
+abbrev pub letters_of : (deadline : ℕ) → (bound : Option ℕ) → ℕ
+letters_of deadline (Some bound) = 13 + millis_letters bound + millis_letters deadline
+letters_of deadline None = 12 + millis_letters deadline
+
+abbrev pub limits_letters : TaskRow → ℕ
+limits_letters row = letters_of row.sheet.deadline row.bound
+
+-- how wide the margin is to be for a row
+abbrev pub margin_of : TaskRow → ℕ
+margin_of row =
+    min (max (700 + 78 * length row.sheet.name) (560 + 62 * limits_letters row)) WIDEST_MARGIN
+
+-- the widest for some rows, or one that was found before
+abbrev pub widest_margin : ℕ → List TaskRow → ℕ
+widest_margin most [] = most
+widest_margin most (row ∷ rows) = widest_margin (max most (margin_of row)) rows
+
+-- how wide it is: where time begins
+abbrev pub left_of : List TaskRow → ℕ
+left_of rows = widest_margin LEAST_MARGIN rows
 
 -- how wide so much time is, to the right of a margin: so many pixels in all, where that is said; else the shortest period
 -- is 24 pixels wide where the picture is from 960 to 1,600 then
@@ -72,7 +102,7 @@ frame_from v until = min v.from (frame_to v until - 1)
 -- the frame of a view of a run of these rows
 abbrev pub frame_of : List TaskRow → View → (until : ℕ) → Frame
 frame_of rows v until =
-    frame_in v.width (length rows) (left_of (longest_name 0 rows))
+    frame_in v.width (length rows) (left_of rows)
     (max (least_period PERIOD_TO rows) 1) (end_of_run until) (frame_from v until)
     (frame_to v until)
 

@@ -3,7 +3,7 @@ ghost use Rattle.std.specs.Prelude.{◌+◌, ◌<◌, ◌≡◌, ◌≤◌, leng
 ghost use Rattle.ceiling_kernel.specs.declared.accept.TheConstants.{HORIZON};
 ghost use Rattle.task_sheet.specs.declared.set.TheConstants.{TASK_LIMIT};
 ghost use Rattle.task_sheet.specs.declared.sheet.TheConstants.{PERIOD_TO};
-ghost use Rattle.frames.specs.Frame.{Frame, IsFrame, decade_of, ended, frame_end, frame_of, is_wide, least_period, left_of, level_of, longest_name, sees, span_of, step_of, steps_before, tone_of, top_of, unit_name, unit_of, x_of};
+ghost use Rattle.frames.specs.Frame.{Frame, IsFrame, decade_of, ended, frame_end, frame_of, is_wide, least_period, left_of, level_of, limits_letters, margin_of, millis_letters, sees, span_of, step_of, steps_before, tone_of, top_of, unit_name, unit_of, whole_digits, x_of};
 ghost use Rattle.frames.specs.declared.frame.TheConstants.{LOWEST_TOP, NARROWEST, RIGHTMOST, WIDEST_DECADE, WIDEST_MARGIN, WIDEST_STEP};
 
 use crate::rows::TaskRow;
@@ -21,8 +21,11 @@ const WIDEST: u64 = 15_800;
 /// How far to the right time ends at most, in tenths of a pixel as are all places.
 pub const RIGHTMOST: u64 = 159_800;
 
-// How wide the margin to the left of it is at most.
-const WIDEST_MARGIN: u64 = 2_500;
+// How wide the margin to the left of it is at least.
+const LEAST_MARGIN: u64 = 1_960;
+
+// How wide it is at most.
+const WIDEST_MARGIN: u64 = 2_600;
 
 /// No row begins further down.
 pub const LOWEST_TOP: u64 = 17_050;
@@ -66,24 +69,73 @@ fn least_period(rows: &[TaskRow]) -> u64
     least
 }
 
-// How many letters the longest name of the rows has.
-fn longest_name(rows: &[TaskRow]) -> u64
-    ensures { result ≡ longest_name 0 rows.now }
+// How many digits so many microseconds have before the point, in milliseconds.
+fn whole_digits(time: u64) -> u64
+    ensures value { result ≡ whole_digits time }
+    ensures few { result ≤ 5 }
 {
-    let mut most = 0;
-    for row in rows {
-        most = (row.sheet.name().bytes().len() as u64).max(most);
+    if time < 10_000 {
+        1
+    } else if time < 100_000 {
+        2
+    } else if time < 1_000_000 {
+        3
+    } else if time < 10_000_000 {
+        4
+    } else {
+        5
     }
-    most
 }
 
-// Where time begins, to the right of names with so many letters.
-fn left_of(letters: u64) -> u64
-    ensures value { result ≡ left_of letters }
+// How many letters they have with what stands behind it.
+fn millis_letters(time: u64) -> u64
+    ensures value { result ≡ millis_letters time }
+    ensures few { result ≤ 9 }
+{
+    let whole = whole_digits(time);
+    if time % 1000 == 0 {
+        whole
+    } else if time % 100 == 0 {
+        whole + 2
+    } else if time % 10 == 0 {
+        whole + 3
+    } else {
+        whole + 4
+    }
+}
+
+// How many letters the line below a row's name has, where no deadline is missed.
+fn limits_letters(row: &TaskRow) -> u64
+    ensures value { result ≡ limits_letters row.now }
+    ensures few { result ≤ 40 }
+{
+    let deadline = millis_letters(row.sheet.deadline());
+    match row.bound {
+        Some(bound) => 13 + millis_letters(bound) + deadline,
+        None => 12 + deadline,
+    }
+}
+
+// How wide the margin is to be for a row.
+fn margin_of(row: &TaskRow) -> u64
+    ensures { result ≡ margin_of row.now }
+{
+    let letters = (row.sheet.name().bytes().len() as u64).min(WIDEST_MARGIN);
+    (700 + 78 * letters)
+        .max(560 + 62 * limits_letters(row))
+        .min(WIDEST_MARGIN)
+}
+
+// How wide it is: where time begins.
+fn left_of(rows: &[TaskRow]) -> u64
+    ensures value { result ≡ left_of rows.now }
     ensures within { result ≤ WIDEST_MARGIN }
 {
-    let letters = letters.min(WIDEST_MARGIN);
-    (620 + (78 * letters).max(1_340)).min(WIDEST_MARGIN)
+    let mut left = LEAST_MARGIN;
+    for row in rows {
+        left = margin_of(row).max(left);
+    }
+    left
 }
 
 // How wide so much time is, to the right of a margin.
@@ -111,7 +163,7 @@ pub fn frame_of(rows: &[TaskRow], view: &View, until: u64) -> Frame
     requires { length rows.now ≤ TASK_LIMIT }
     ensures { result ≡ frame_of rows.now view.now until }
 {
-    let left = left_of(longest_name(rows));
+    let left = left_of(rows);
     let least = least_period(rows).max(1);
     let to = window_end(view, until).max(1);
     let from = view.from.min(to - 1);

@@ -10,7 +10,7 @@ use Rattle.task_sheet.specs.Demand.{interrupts_some}
 use Rattle.frames.specs.declared.rows.TaskRow.{TaskRow}
 use Rattle.frames.specs.declared.view.View.{View}
 use Rattle.frames.specs.View.{shown_of}
-use Rattle.picture.specs.Titles.{title_head}
+use Rattle.picture.specs.Titles.{title_head, title_tail}
 use Rattle.picture.specs.declared.style.TheConstants.{STYLE}
 use Rattle.picture.specs.declared.legend.TheConstants.{LEGEND}
 use Rattle.frames.specs.Frame.{Frame, frame_of, frame_end, step_of, steps_before, top_of, unit_name}
@@ -71,13 +71,16 @@ margin_group f rows shown jobs slices =
     ++ lane_head f slices ++ margins_text f rows shown jobs ++ codes "</g>\n"
 
 -- whether a deadline is missed, and how many are
+abbrev pub verdict_head : (missed : ℕ) → List ℕ
+verdict_head missed =
+    if missed == 0 then codes "<text class=\"t\" x=\"100\" y=\"200\">no deadline missed"
+    else badge_text 190 150
+    ++ (codes "<text class=\"t q\" x=\"320\" y=\"200\">deadlines missed: " ++ decimal missed)
+
+-- the same, and behind it what was given as title
 abbrev pub verdict_text : List ℕ → (missed : ℕ) → List ℕ
 verdict_text title missed =
-    if missed == 0
-    then codes "<text class=\"t\" x=\"100\" y=\"200\">" ++ title_head title
-    ++ codes "no deadline missed</text>\n"
-    else badge_text 190 150 ++ codes "<text class=\"t q\" x=\"320\" y=\"200\">" ++ title_head title
-    ++ concat (codes "deadlines missed: " ∷ decimal missed ∷ codes "</text>\n" ∷ [])
+    verdict_head missed ++ title_tail title ++ codes "</text>\n"
 
 -- what part of it is drawn, where that isn't all
 abbrev pub window_words : Frame → List ℕ
@@ -112,13 +115,13 @@ ground_text f title locks rows shown jobs slices until =
     ++ ticks_text f (top_of (length shown)) (step_of f) ++ lane_line f ++ lines_text f (length shown)
     ++ margin_group f rows shown jobs slices ++ locks_group f (length shown) locks
 
--- the document in a frame: what stands still, the lane, the jobs, the marks, why jobs wait, the slices, and what is missed
+-- the document in a frame: what stands still, the lane, the jobs, the marks, what is missed, why jobs wait, and the slices
 abbrev pub framed : Frame → List ℕ → List (List ℕ) → List TaskRow → (shown : List ℕ) → ℕ → List Release → List JobRecord → List Slice → List ℕ
 framed f title locks rows shown until rs jobs slices =
     ground_text f title locks rows shown jobs slices until ++ lanes_text f rows jobs slices
     ++ jobs_text f rows shown jobs ++ all_marks f rows shown jobs rs
-    ++ waits_text f locks rows shown rs jobs slices ++ slices_text f locks rows shown jobs slices
-    ++ misses_text f rows shown jobs ++ codes "</svg>\n"
+    ++ misses_text f rows shown jobs ++ waits_text f locks rows shown rs jobs slices
+    ++ slices_text f locks rows shown jobs slices ++ codes "</svg>\n"
 
 -- THE DOCUMENT: the picture of a trace below a time, as a view has it
 abbrev pub document : List TaskRow → View → ℕ → List Release → Trace → List ℕ

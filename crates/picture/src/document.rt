@@ -23,9 +23,9 @@ fn draw_chart(alloc: Global, chart: &Chart<'_>) -> Result<Vec<u8>, AllocError>
     put_lanes(chart, &mut page);
     put_jobs(chart, &mut page);
     put_all_marks(chart, &mut page);
+    put_misses(chart, &mut page);
     put_waits(chart, &mut page);
     put_slices(chart, &mut executed, &mut page);
-    put_misses(chart, &mut page);
     page.put(b"</svg>\n");
     page.whole()
 }

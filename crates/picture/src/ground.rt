@@ -3,13 +3,13 @@ ghost use Rattle.std.specs.Prelude.{◌<◌, ◌≡◌, ◌≤◌, length};
 ghost use Rattle.frames.specs.Page.{Adds};
 ghost use Rattle.task_sheet.specs.declared.set.TheConstants.{TASK_LIMIT};
 ghost use Rattle.frames.specs.declared.frame.TheConstants.{WIDEST_STEP};
-ghost use Rattle.picture.specs.Document.{are_interrupted, document_head, ground_text, lines_text, ticks_text, unrun_words, verdict_text, what_text, window_words};
+ghost use Rattle.picture.specs.Document.{are_interrupted, document_head, ground_text, lines_text, ticks_text, unrun_words, verdict_head, verdict_text, what_text, window_words};
 ghost use Rattle.picture.specs.Scale.{line_text, number_x, tick_text};
 
 use crate::legend::LEGEND;
 use crate::margin::put_group;
 use crate::style::STYLE;
-use crate::title::put_title_head;
+use crate::title::{put_title_head, put_title_tail};
 use drawn_jobs::{all_missed, locks_high, put_badge, put_lane_line, put_locks_group};
 use frames::{
     Chart, Frame, Page, TaskRow, end_of, put_millis, start_of, step_of, steps_before, top_of, unit_of,
@@ -103,20 +103,24 @@ fn put_lines(chart: &Chart<'_>, page: &mut Page)
 }
 
 // Whether a deadline is missed, and how many are.
+fn put_verdict_head(missed: usize, page: &mut Page)
+    ensures { Adds page.old page.new (verdict_head missed) }
+{
+    if missed == 0 {
+        page.put(b"<text class=\"t\" x=\"100\" y=\"200\">no deadline missed")
+    } else {
+        put_badge(190, 150, page);
+        page.number(b"<text class=\"t q\" x=\"320\" y=\"200\">deadlines missed: ", missed as u64)
+    }
+}
+
+// The same, and behind it what was given as title.
 fn put_verdict(title: &[u8], missed: usize, page: &mut Page)
     ensures { Adds page.old page.new (verdict_text title.now missed) }
 {
-    if missed == 0 {
-        page.put(b"<text class=\"t\" x=\"100\" y=\"200\">");
-        put_title_head(title, page);
-        page.put(b"no deadline missed</text>\n")
-    } else {
-        put_badge(190, 150, page);
-        page.put(b"<text class=\"t q\" x=\"320\" y=\"200\">");
-        put_title_head(title, page);
-        page.number(b"deadlines missed: ", missed as u64);
-        page.put(b"</text>\n")
-    }
+    put_verdict_head(missed, page);
+    put_title_tail(title, page);
+    page.put(b"</text>\n")
 }
 
 // What part of it is drawn, where that isn't all.

@@ -16,7 +16,8 @@ pub(crate) const STYLE: &str = concat!(
     // names in the lane of the processor
     ".u{font:110px monospace;fill:#111;text-anchor:middle;pointer-events:none}",
     // names of locks, in a section
-    ".k{font:110px monospace;fill:#fff;text-anchor:middle;pointer-events:none}",
+    ".k{font:110px monospace;fill:#fff;text-anchor:middle;pointer-events:none;paint-order:stroke;",
+    "stroke:#222;stroke-width:28px;stroke-linejoin:round}",
     // the ground
     ".p{fill:#fff}",
     // lines of the scale, and between rows
@@ -92,9 +93,9 @@ pub(crate) const STYLE: &str = concat!(
     ".i6{stroke:#6d6b13}",
     ".i7{stroke:#6a5cae}",
     ".i8{stroke:#7d4a9b}",
-    ".i9{stroke:#6f7d1f}",
+    ".i9{stroke:#4f8f1f}",
     // waits for several above
-    ".in{stroke:#6b6b6b}",
+    ".in{stroke:#6b6b6b;shape-rendering:crispEdges}",
     // waits for one below, by the lock's tone
     ".d0{stroke:#173766}",
     ".d1{stroke:#8a2d05}",
@@ -111,7 +112,7 @@ pub(crate) const STYLE: &str = concat!(
     // names in the lane of the processor
     ".u{fill:#fff}",
     // names of locks, in a section
-    ".k{fill:#101418}",
+    ".k{fill:#101418;stroke:#eee}",
     // the ground
     ".p{fill:#14181d}",
     // lines of the scale, and between rows
@@ -145,10 +146,10 @@ pub(crate) const STYLE: &str = concat!(
     ".f3{fill:#2f7f98}",
     ".f4{fill:#2a7a5a}",
     ".f5{fill:#a3546c}",
-    ".f6{fill:#6f6d1d}",
+    ".f6{fill:#6b4a33}",
     ".f7{fill:#6f63a8}",
     ".f8{fill:#7b4f94}",
-    ".f9{fill:#6d7a2c}",
+    ".f9{fill:#4a8a35}",
     // locks, by tone: the ground of a pattern
     ".c0{fill:#dbe9ff}",
     ".c1{fill:#ffc9a8}",
@@ -169,10 +170,10 @@ pub(crate) const STYLE: &str = concat!(
     ".i3{stroke:#9bdcf0}",
     ".i4{stroke:#7bd3b1}",
     ".i5{stroke:#f5a8bd}",
-    ".i6{stroke:#cfcc62}",
+    ".i6{stroke:#c9a688}",
     ".i7{stroke:#c3bbef}",
     ".i8{stroke:#d7aeee}",
-    ".i9{stroke:#dbe68f}",
+    ".i9{stroke:#a9e07c}",
     // waits for several above
     ".in{stroke:#a3abb5}",
     // waits for one below, by the lock's tone

@@ -1,7 +1,7 @@
 use Rattle.std.proofs.Common.{◌≡◌, arith, length}
-use Rattle.frames.proofs.Adds.{adds_both, adds_none, adds_one_more}
+use Rattle.frames.proofs.Adds.{adds_none, adds_one_more}
 use Rattle.picture.specs.Titles.{shown_at}
-use Rattle.picture.proofs.title.put_title_head.Goals as goal
+use Rattle.picture.proofs.title.put_title_words.Goals as goal
 
 pub loop-i-init : goal.loop-i-init
 loop-i-init c = adds_none c.args.page.now (shown_at c.args.title.now)
@@ -13,6 +13,4 @@ loop-i-preserved c = adds_one_more (shown_at c.args.title.now) c.loop-i.i c.loop
 pub returns : goal.returns
 returns c =
     let all : c.loop-i.i ≡ length c.args.title.now =
-    omega (arith, c.loop-i.auto.i-end, c.loop-i-test.false) in
-    rw (← c.is_empty.ensures, c.if-is_empty.false)
-    (adds_both (rw all at c.loop-i.invariant) c.put.ensures)
+    omega (arith, c.loop-i.auto.i-end, c.loop-i-test.false) in rw all at c.loop-i.invariant
