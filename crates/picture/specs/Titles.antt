@@ -34,4 +34,4 @@ title_head title = if length title == 0 then [] else title_words title ++ codes 
 
 -- behind it
 abbrev pub title_tail : List ℕ → List ℕ
-title_tail title = if length title == 0 then [] else codes ": " ++ title_words title
+title_tail title = if length title == 0 then [] else codes " - " ++ title_words title

@@ -87,7 +87,7 @@ pub(crate) fn put_title_tail(title: &[u8], page: &mut Page)
     ensures { Adds page.old page.new (title_tail title.now) }
 {
     if !title.is_empty() {
-        page.put(b": ");
+        page.put(b" - ");
         put_title_words(title, page)
     }
 }
