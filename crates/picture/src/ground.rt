@@ -12,8 +12,8 @@ use crate::style::STYLE;
 use crate::title::{put_title_head, put_title_tail};
 use drawn_jobs::{all_missed, locks_high, put_badge, put_lane_line, put_locks_group};
 use frames::{
-    Chart, Frame, Page, TaskRow, end_of, put_millis, start_of, step_of, steps_before, top_of, unit_of,
-    x_of,
+    Chart, Frame, Page, TaskRow, end_of, put_millis, start_of, step_of, steps_before, top_of,
+    unit_of, x_of,
 };
 
 // Where the number of a line stands in the scale.
@@ -110,7 +110,10 @@ fn put_verdict_head(missed: usize, page: &mut Page)
         page.put(b"<text class=\"t\" x=\"100\" y=\"200\">no deadline missed")
     } else {
         put_badge(190, 150, page);
-        page.number(b"<text class=\"t q\" x=\"320\" y=\"200\">deadlines missed: ", missed as u64)
+        page.number(
+            b"<text class=\"t q\" x=\"320\" y=\"200\">deadlines missed: ",
+            missed as u64,
+        )
     }
 }
 
