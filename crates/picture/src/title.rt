@@ -9,10 +9,7 @@ use frames::Page;
 fn byte_at(bytes: &[u8], i: usize) -> u8
     ensures { result ≡ slice_index bytes.now i }
 {
-    match bytes.get(i) {
-        None => 0,
-        Some(byte) => *byte,
-    }
+    if i < bytes.len() { bytes[i] } else { 0 }
 }
 
 // Whether U+FFFE or U+FFFF begins at a place.
