@@ -124,9 +124,9 @@ A width and a title, of which each byte stands for itself where XML has its char
   $ wide --width 2000 | sed -n 2p
   <svg xmlns="http://www.w3.org/2000/svg" version="1.1" width="2000" height="360" viewBox="0 0 20000 3600">
   $ wide --title "$(printf 'a\357\277\276\357\277\277b\357\277\275')" | sed -n 3p
-  <title>a  b�: tasks: 3, jobs: 3, until 100000 us</title>
+  <title>tasks: 3, jobs: 3, until 100000 us - a  b�</title>
   $ wide --title 'R&D <hi> é' | sed -nE '3p;s/^(<text class="t".*)/\1/p'
-  <title>R&amp;D &lt;hi&gt; é: tasks: 3, jobs: 3, until 100000 us</title>
+  <title>tasks: 3, jobs: 3, until 100000 us - R&amp;D &lt;hi&gt; é</title>
   <text class="t" x="100" y="200">no deadline missed - R&amp;D &lt;hi&gt; é</text>
   $ desk worst examples/robot.toml | desk draw examples/robot.toml - --title 'at rest' | grep 'class="t q"'
   <text class="t q" x="320" y="200">deadlines missed: 1 - at rest</text>

@@ -32,7 +32,11 @@ fn misses_in(frame: Frame, row: &TaskRow, job: &JobRecord) -> bool
 pub fn missed_in(frame: Frame, row: &TaskRow, jobs: &[JobRecord]) -> usize
     ensures { result ≡ missed_in frame row.now jobs.now }
 {
-    jobs.iter().filter(|job| misses_in(frame, row, job)).count()
+    let mut count = 0;
+    for job in jobs {
+        count += misses_in(frame, row, job) as usize;
+    }
+    count
 }
 
 // Whether a job misses its deadline.
@@ -49,7 +53,11 @@ fn misses(frame: Frame, rows: &[TaskRow], job: &JobRecord) -> bool
 pub fn all_missed(frame: Frame, rows: &[TaskRow], jobs: &[JobRecord]) -> usize
     ensures { result ≡ all_missed frame rows.now jobs.now }
 {
-    jobs.iter().filter(|job| misses(frame, rows, job)).count()
+    let mut count = 0;
+    for job in jobs {
+        count += misses(frame, rows, job) as usize;
+    }
+    count
 }
 
 // Whether a job of a row's task misses its deadline in the window.

@@ -36,14 +36,13 @@ abbrev pub least_period : ℕ → List TaskRow → ℕ
 least_period least [] = least
 least_period least (row ∷ rows) = least_period (min least row.sheet.period) rows
 
--- how many digits so many microseconds have before the point, in milliseconds
+-- how many digits so many microseconds below ten seconds have before the point, in milliseconds
 abbrev pub whole_digits : ℕ → ℕ
 whole_digits time =
     if nat_lt time 10000 then 1
     else if nat_lt time 100000 then 2
     else if nat_lt time 1000000 then 3
-    else if nat_lt time 10000000 then 4
-    else 5
+    else 4
 
 -- how many letters they have with what stands behind it
 abbrev pub millis_letters : ℕ → ℕ

@@ -69,10 +69,10 @@ fn least_period(rows: &[TaskRow]) -> u64
     least
 }
 
-// How many digits so many microseconds have before the point, in milliseconds.
+// How many digits so many microseconds below ten seconds have before the point, in milliseconds.
 fn whole_digits(time: u64) -> u64
     ensures value { result ≡ whole_digits time }
-    ensures few { result ≤ 5 }
+    ensures few { result ≤ 4 }
 {
     if time < 10_000 {
         1
@@ -80,17 +80,15 @@ fn whole_digits(time: u64) -> u64
         2
     } else if time < 1_000_000 {
         3
-    } else if time < 10_000_000 {
-        4
     } else {
-        5
+        4
     }
 }
 
 // How many letters they have with what stands behind it.
 fn millis_letters(time: u64) -> u64
     ensures value { result ≡ millis_letters time }
-    ensures few { result ≤ 9 }
+    ensures few { result ≤ 8 }
 {
     let whole = whole_digits(time);
     if time % 1000 == 0 {

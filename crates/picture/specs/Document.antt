@@ -10,7 +10,7 @@ use Rattle.task_sheet.specs.Demand.{interrupts_some}
 use Rattle.frames.specs.declared.rows.TaskRow.{TaskRow}
 use Rattle.frames.specs.declared.view.View.{View}
 use Rattle.frames.specs.View.{shown_of}
-use Rattle.picture.specs.Titles.{title_head, title_tail}
+use Rattle.picture.specs.Titles.{title_tail}
 use Rattle.picture.specs.declared.style.TheConstants.{STYLE}
 use Rattle.picture.specs.declared.legend.TheConstants.{LEGEND}
 use Rattle.frames.specs.Frame.{Frame, frame_of, frame_end, step_of, steps_before, top_of, unit_name}
@@ -35,17 +35,16 @@ width_of f = frame_end f + 200
 abbrev pub high_of : Frame → (rows locks : ℕ) → ℕ
 high_of f rows locks = top_of rows + 120 + locks_high f locks
 
--- the first lines, and the title, with what was given before it
+-- the first lines, and the title, with what was given behind it
 abbrev pub document_head : Frame → List ℕ → (locks shown rows jobs until : ℕ) → List ℕ
 document_head f title locks shown rows jobs until =
     concat (codes "<?xml version=\"1.0\" encoding=\"UTF-8\"?>\n<svg xmlns=\"http://www.w3.org/2000/svg\" version=\"1.1\" width=\""
     ∷ decimal (width_of f / 10) ∷ codes "\" height=\"" ∷ decimal (high_of f shown locks / 10)
     ∷ codes "\" viewBox=\"0 0 " ∷ decimal (width_of f) ∷ codes " " ∷ decimal (high_of f shown locks)
-    ∷ codes "\">\n<title>" ∷ [])
-    ++ title_head title
-    ++ concat (codes "tasks: " ∷ decimal rows ∷ codes ", jobs: " ∷ decimal jobs ∷ codes ", until "
-    ∷ decimal until
-    ∷ codes " us</title>\n" ∷ [])
+    ∷ codes "\">\n<title>tasks: " ∷ decimal rows ∷ codes ", jobs: " ∷ decimal jobs
+    ∷ codes ", until " ∷ decimal until
+    ∷ codes " us" ∷ [])
+    ++ title_tail title ++ codes "</title>\n"
 
 -- the scale
 abbrev pub ticks_text : Frame → (bottom step : ℕ) → List ℕ

@@ -1,4 +1,4 @@
--- The title, before or behind what a picture says of its run.
+-- The title, behind what a picture says of its run.
 use Rattle.std.specs.Prelude.{ℕ, ◌+◌, ◌-◌, Bool, ◌&&◌, ◌||◌, nat_le, nat_lt, ◌==◌, if◌then◌else◌, List, [], ◌∷◌, ◌++◌, length, slice_index, codes}
 use Rattle.frames.specs.Rows.{each}
 
@@ -24,14 +24,7 @@ shown_at bytes i =
     if is_barred bytes i then codes " " else if is_in_barred bytes i then []
     else shown_byte (slice_index bytes i)
 
--- a title
-abbrev pub title_words : List ℕ → List ℕ
-title_words title = each (length title) (shown_at title)
-
--- before what is said of a run, where it isn't empty
-abbrev pub title_head : List ℕ → List ℕ
-title_head title = if length title == 0 then [] else title_words title ++ codes ": "
-
--- behind it
+-- a title, where it isn't empty
 abbrev pub title_tail : List ℕ → List ℕ
-title_tail title = if length title == 0 then [] else codes " - " ++ title_words title
+title_tail title =
+    if length title == 0 then [] else codes " - " ++ each (length title) (shown_at title)

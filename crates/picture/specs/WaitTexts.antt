@@ -61,10 +61,9 @@ link_to f k w tone (Some m) =
     ∷ codes " " ∷ decimal (top_of k + 255)
     ∷ codes "V" ∷ decimal (top_of m + 165) ∷ codes "\"/>\n" ∷ [])
 
--- a wait ends in the window, before the run does, and is at least 2 pixels wide
+-- a wait ends before the window does and is at least 2 pixels wide
 abbrev pub has_link : Frame → Wait → Bool
-has_link f w =
-    nat_le w.stop f.to && nat_lt w.stop f.until && nat_le (x_of f w.start + 20) (x_of f w.stop)
+has_link f w = nat_lt w.stop f.to && nat_le (x_of f w.start + 20) (x_of f w.stop)
 
 -- the link of such a wait
 abbrev pub link_text : Scene → ℕ → Wait → (tone : ℕ) → List ℕ

@@ -9,7 +9,7 @@ ghost use Rattle.picture.specs.Scale.{line_text, number_x, tick_text};
 use crate::legend::LEGEND;
 use crate::margin::put_group;
 use crate::style::STYLE;
-use crate::title::{put_title_head, put_title_tail};
+use crate::title::put_title_tail;
 use drawn_jobs::{all_missed, locks_high, put_badge, put_lane_line, put_locks_group};
 use frames::{
     Chart, Frame, Page, TaskRow, end_of, put_millis, start_of, step_of, steps_before, top_of,
@@ -27,7 +27,7 @@ fn number_x(frame: Frame, number: u64, x: u64) -> u64
     }
 }
 
-// The first lines, and the title, with what was given before it.
+// The first lines, and the title, with what was given behind it.
 fn put_head(chart: &Chart<'_>, page: &mut Page)
     ensures { Adds page.old page.new (document_head chart.now.frame chart.now.title.now (length
         chart.now.locks.now)
@@ -44,12 +44,12 @@ fn put_head(chart: &Chart<'_>, page: &mut Page)
     page.number(b"\" height=\"", high / 10);
     page.number(b"\" viewBox=\"0 0 ", wide);
     page.number(b" ", high);
-    page.put(b"\">\n<title>");
-    put_title_head(chart.title, page);
-    page.number(b"tasks: ", chart.rows.len() as u64);
+    page.number(b"\">\n<title>tasks: ", chart.rows.len() as u64);
     page.number(b", jobs: ", chart.jobs.len() as u64);
     page.number(b", until ", chart.until);
-    page.put(b" us</title>\n")
+    page.put(b" us");
+    put_title_tail(chart.title, page);
+    page.put(b"</title>\n")
 }
 
 // A line down through the rows, and its time.
@@ -142,7 +142,12 @@ fn put_window(frame: Frame, page: &mut Page)
 fn are_interrupted(rows: &[TaskRow]) -> bool
     ensures { result ≡ are_interrupted rows.now }
 {
-    rows.iter().any(|row| row.sheet.interrupts_some())
+    for row in rows {
+        if row.sheet.interrupts_some() {
+            return true;
+        }
+    }
+    false
 }
 
 // That the bounds then count what the run lacks.

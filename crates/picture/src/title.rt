@@ -1,7 +1,7 @@
-//! The title, before or behind what a picture says of its run.
+//! The title, behind what a picture says of its run.
 ghost use Rattle.std.specs.Prelude.{◌<◌, ◌≡◌, length, slice_index};
 ghost use Rattle.frames.specs.Page.{Adds};
-ghost use Rattle.picture.specs.Titles.{is_barred, is_in_barred, shown_at, title_head, title_tail, title_words};
+ghost use Rattle.picture.specs.Titles.{is_barred, is_in_barred, shown_at, title_tail};
 
 use frames::Page;
 
@@ -60,31 +60,15 @@ fn put_byte_at(bytes: &[u8], i: usize, page: &mut Page)
     }
 }
 
-// A title.
-fn put_title_words(title: &[u8], page: &mut Page)
-    ensures { Adds page.old page.new (title_words title.now) }
-{
-    for i in 0..title.len() {
-        put_byte_at(title, i, page);
-    }
-}
-
-// It, before what is said of a run, where it isn't empty.
-pub(crate) fn put_title_head(title: &[u8], page: &mut Page)
-    ensures { Adds page.old page.new (title_head title.now) }
-{
-    if !title.is_empty() {
-        put_title_words(title, page);
-        page.put(b": ")
-    }
-}
-
-// The same behind it.
+// A title, where it isn't empty.
 pub(crate) fn put_title_tail(title: &[u8], page: &mut Page)
     ensures { Adds page.old page.new (title_tail title.now) }
 {
-    if !title.is_empty() {
-        page.put(b" - ");
-        put_title_words(title, page)
+    if title.is_empty() {
+        return;
+    }
+    page.put(b" - ");
+    for i in 0..title.len() {
+        put_byte_at(title, i, page);
     }
 }

@@ -89,13 +89,11 @@ fn put_above(chart: &Chart<'_>, spot: Spot, wait: Wait, gathered: bool, page: &m
     put_title(chart, spot.rank, wait, b" waits for ", &None, page)
 }
 
-// Whether a wait ends in the window, before the run does, and is at least 2 pixels wide.
+// Whether a wait ends before the window does and is at least 2 pixels wide.
 fn has_link(frame: Frame, wait: Wait) -> bool
     ensures { result ≡ has_link frame wait }
 {
-    wait.stop <= frame.to
-        && wait.stop < frame.until
-        && x_of(frame, wait.start) + 20 <= x_of(frame, wait.stop)
+    wait.stop < frame.to && x_of(frame, wait.start) + 20 <= x_of(frame, wait.stop)
 }
 
 // A link in a tone, from the end of such a wait at place k down to the bar of the task below, where that is shown.

@@ -1,7 +1,0 @@
-use Rattle.frames.specs.Rows.{each}
-use Rattle.frames.specs.Page.{Adds}
-use Rattle.picture.specs.Titles.{shown_at}
-use Rattle.picture.proofs.title.put_title_words.Given as goal
-
-abbrev pub invariant-loop-i : goal.invariant-loop-i
-invariant-loop-i l = Adds l.fn.page l.page (each l.i (shown_at l.fn.title))
