@@ -126,7 +126,7 @@ def read_certificate(text):
     """The version, `best` or `none`, and the levels or members. A level is its task's name, its
     number and its reasons; a member is a reason: a name, and a chain or the name behind `over`."""
     *lines, rest = text.decode("latin-1").split("\n")
-    if lines and not re.fullmatch("desk-certificate [123]", lines[0]):
+    if lines and not re.fullmatch("desk-certificate [124]", lines[0]):
         raise Refused("BadHead")
     over = f"| over {NAME}" if lines and not lines[0].endswith("1") else ""
     place = 1
@@ -197,9 +197,9 @@ def refutes(tasks, interrupts, task, above, reason):
 
 
 def needed_version(tasks, interrupts):
-    """The first version that serves the set."""
+    """The version that the set needs."""
     if interrupts and tasks or any(it.timer for it in tasks):
-        return 3
+        return 4
     is_bound = any(must_outrank(it, other) for it in tasks for other in tasks)
     return 2 if is_bound or any(it.jitter for it in tasks) else 1
 
@@ -208,7 +208,8 @@ def check(tasks, interrupts, version, claim, rows):
     """What the certificate shows. Each rule goes over all of it before the next one."""
     named = {it.name: it for it in tasks}
     order = [named.get(row[0]) for row in rows]
-    if version < needed_version(tasks, interrupts):
+    needed = needed_version(tasks, interrupts)
+    if version < needed or version == 4 != needed:
         raise Refused("WrongVersion")
     is_short = claim == "best" and len(rows) < len(tasks)
     if None in order or len({it.name for it in order}) < len(rows) or is_short:

@@ -54,7 +54,7 @@ import ctypes
 import json
 import os
 from collections.abc import Iterable, Mapping, Sequence
-from dataclasses import dataclass, field
+from dataclasses import dataclass, field, replace
 from pathlib import Path
 
 Text = str | bytes
@@ -175,9 +175,8 @@ class Part:
 @dataclass(frozen=True)
 class Response:
     """A time of a task and its parts: where it misses its deadline, what it needs at least. `time` is
-    None where the task must be above another, and, of `judge`, where it misses its deadline; `number`
-    is that of its thread, of `judge`; `team` whose it is, of `explain`, where the set is documents of
-    teams."""
+    None where the task must be above another; `number` is that of its thread, of `judge`; `team` whose
+    it is, of `explain`, where the set is documents of teams."""
 
     task: str
     time: int | None = None
@@ -211,14 +210,27 @@ class Conflict(_No):
 
 
 @dataclass(frozen=True)
+class Along:
+    """The deadline that a period takes along, or the period that a deadline does: what it is with
+    the furthest value in the best order, and in some order."""
+
+    number: str
+    in_order: int | None
+    most: int
+
+
+@dataclass(frozen=True)
 class Limit:
     """A number of a task: `cost`, `period`, `deadline`, `jitter` or `section K len`, its value, and
-    the furthest with which the best order passes, and some order does."""
+    the furthest with which the best order passes, and some order does; what goes along, and what
+    holds it where its sheet may have none further: `cost`, `section 2`, or the least period."""
 
     number: str
     value: int
     in_order: int | None
     most: int | None
+    along: Along | None = None
+    held_by: str | None = None
 
 
 @dataclass(frozen=True)
@@ -265,6 +277,16 @@ class Judged(_Answer):
 
 
 @dataclass(frozen=True)
+class Difference:
+    """What was and what is, None where there is none: of `cost`, say, of `section 1`, as `m@0:200`, of
+    `outranks`, as `a+b`; and of a set itself `prefer`, `node job`, `interrupt 1 cost`."""
+
+    key: str
+    old: int | str | None
+    new: int | str | None
+
+
+@dataclass(frozen=True)
 class Change:
     """What a change of a set does to a task: (before, after) of its level, bound and slack, None
     where there is none."""
@@ -274,17 +296,18 @@ class Change:
     level: tuple[int | None, int | None]
     bound: tuple[int | None, int | None]
     slack: tuple[int | None, int | None]
-    keys: tuple[str, ...] = ()
+    keys: tuple[Difference, ...] = ()
     team: str | None = None
 
 
 @dataclass(frozen=True)
 class Compared(_Answer):
-    """What a change of a set comes to: both verdicts, and the tasks of which there is something to
-    say. It is false where the new set is refused."""
+    """What a change of a set comes to: both verdicts, what no task has, and the tasks of which there
+    is something to say. It is false where the new set is refused."""
 
     admitted: bool
     was_admitted: bool
+    whole: tuple[Difference, ...]
     changes: tuple[Change, ...]
 
     def __bool__(self) -> bool:
@@ -373,7 +396,8 @@ class Seen:
 @dataclass(frozen=True)
 class Broken:
     """A promise that a job breaks, by its arrival: `kind` is cost, period, bound, open, blocked,
-    foreign or idle; `time` beside its `limit`, and `by` whom, where there is one."""
+    late, foreign or idle; `time` beside its `limit`, and `by` whom, where there is one. Of tasks below
+    that blocked it, `by` did so longest, for `by_time`; then `next_by`, for `next_time`."""
 
     kind: str
     task: str
@@ -381,6 +405,9 @@ class Broken:
     time: int | None = None
     limit: int | None = None
     by: str | None = None
+    by_time: int | None = None
+    next_by: str | None = None
+    next_time: int | None = None
 
 
 @dataclass(frozen=True)
@@ -556,6 +583,16 @@ def _time(word: str) -> int | None:
     return None if word == "-" else int(word)
 
 
+def _differences(words: Sequence[str], front: str = "") -> tuple[Difference, ...]:
+    found, rest = [], list(words)
+    while rest:
+        key = front + (f"section {rest.pop(1)}" if rest[0] == "section" else rest[0])
+        old, new = (int(it) if it.isdigit() else None if it == "-" else it for it in rest[1:3])
+        found.append(Difference(key, old, new))
+        del rest[:3]
+    return tuple(found)
+
+
 def _no(said: str) -> Infeasible:
     return Infeasible(tuple(said.splitlines()[0].split()[1:]), text=said)
 
@@ -645,7 +682,7 @@ def _in_order(words: Sequence[str], parts: tuple[Part, ...] = ()) -> Response:
     if what == "below":
         return Response(name, level=level, must_be_above=more[0], number=number)
     if what == "misses":
-        time, deadline = int(more[2]) if more[1:2] == ["needs"] else None, more[0]
+        time, deadline = int(more[2]), more[0]
     else:
         time, deadline = int(what), more[1]
     return Response(name, time, int(deadline), parts, level, number=number, team=team)
@@ -670,12 +707,26 @@ def explain(tasks: Sheets) -> Explained | Conflict:
     return Conflict(tuple(first.split()[1:]), conflict, _responses(needs), load, order, text=said)
 
 
+def _limit(words: Sequence[str]) -> Limit:
+    """A number's line behind its task; behind `with` what goes along, behind `by` what holds it."""
+    along, held_by = None, None
+    if "by" in words:
+        end = words.index("by")
+        words, held_by = words[:end], " ".join(words[end + 1 :])
+    if "with" in words:
+        end = words.index("with")
+        words, (other, *with_each) = words[:end], words[end + 1 :]
+        along = Along(other, int(with_each[0]) if with_each[1:] else None, int(with_each[-1]))
+    *number, value, in_order, most = words
+    return Limit(" ".join(number), int(value), _time(in_order), _time(most), along, held_by)
+
+
 def limits(tasks: Sheets) -> Limits:
     """How far each number may go, or what mends the set.
 
     >>> found = limits([Task("a", 10_000, 10_000, 6000)])
     >>> found.tasks["a"][0]
-    Limit(number='cost', value=6000, in_order=10000, most=10000)
+    Limit(number='cost', value=6000, in_order=10000, most=10000, along=None, held_by='period')
     >>> found.slack["a"], found.factor
     (4000, Factor(in_order=1666, most=1666, task='a'))
     """
@@ -689,8 +740,7 @@ def limits(tasks: Sheets) -> Limits:
         elif len(words) == 2 and words[0] == "slack":
             slack[name] = int(words[1])
         elif len(words) >= 4:
-            limit = Limit(" ".join(words[:-3]), int(words[-3]), _time(words[-2]), _time(words[-1]))
-            rows[name] = (*rows.get(name, ()), limit)
+            rows[name] = (*rows.get(name, ()), _limit(words))
     return Limits(_no(said) if status else None, rows, slack, factor, text=said)
 
 
@@ -733,15 +783,17 @@ def diff(tasks: Sheets, new: Sheets) -> Compared:
     """
     status, said = _ask("diff", tasks, new)
     _, was, *lines = said.splitlines()
-    changes = []
+    whole, changes = (), []
     for words in (it.split() for it in lines):
-        if len(words) < 11 or words[2] != "level":
-            break
+        if words[2:3] != ["level"]:
+            front = {"node": 1, "interrupt": 2}.get(words[0], 0)
+            whole += _differences(words[front:], "".join(it + " " for it in words[:front]))
+            continue
         level, bound, slack = ((_time(words[k]), _time(words[k + 1])) for k in (3, 6, 9))
-        keys = tuple(words[12:]) if words[11:12] == ["keys"] else ()
+        keys = _differences(words[12:]) if words[11:12] == ["keys"] else ()
         team = None if keys else _team(words)
         changes.append(Change(words[0], words[1], level, bound, slack, keys, team))
-    return Compared(status == 0, was.startswith("was admitted"), tuple(changes), text=said)
+    return Compared(status == 0, was.startswith("was admitted"), whole, tuple(changes), text=said)
 
 
 def releases(tasks: Sheets, until: int) -> Releases:
@@ -829,8 +881,9 @@ def observe(tasks: Sheets, trace: Text | Run) -> Observed | Judged | Infeasible:
     gives, or else in the best one. In an order in which a task misses its deadline nothing is
     promised, and the answer is that of `judge`.
 
-    >>> observe([Task("a", 10_000, 10_000, 6000)], "0 7000 a\\njob a 0 7000\\n").broken[0]
-    Broken(kind='cost', task='a', arrival=0, time=7000, limit=6000, by=None)
+    >>> it = observe([Task("a", 10_000, 10_000, 6000)], "0 7000 a\\njob a 0 7000\\n").broken[0]
+    >>> it.kind, it.task, it.time, it.limit
+    ('cost', 'a', 7000, 6000)
     """
     said = _ask("observe", tasks, trace)[1]
     if said.startswith("infeasible"):
@@ -845,7 +898,12 @@ def observe(tasks: Sheets, trace: Text | Run) -> Observed | Judged | Infeasible:
             arrival, *time = words[:2]
             more = dict(zip(words[2::2], words[3::2]))
             limit = int(more["of"]) if "of" in more else None
-            broken.append(Broken(kind, name, int(arrival), *map(int, time), limit=limit, by=more.get("by")))
+            it = Broken(kind, name, int(arrival), *map(int, time), limit=limit, by=more.get("by"))
+            if kind == "blocked":
+                longest, *others = (part.split() for part in " ".join(words[5:]).split(", "))
+                it = replace(it, by_time=int(longest[1]))
+                it = replace(it, next_by=others[0][0], next_time=int(others[0][1])) if others else it
+            broken.append(it)
     return Observed(tuple(seen), tuple(broken), text=said)
 
 

@@ -271,7 +271,10 @@ The text
 The first line, each later line, the end, what follows:
 
   $ text() { printf "$1" | desk check examples/three-tasks.toml -; }
-  $ text 'desk-certificate 4\n'
+  $ text 'desk-certificate 3\n'
+  refused: BadHead
+  [5]
+  $ text 'desk-certificate 5\n'
   refused: BadHead
   [5]
   $ text 'desk-certificate 1\r\nbest 0\nend\n'

@@ -13,7 +13,7 @@ A longer cost takes slack from the tasks of others, as little as 40 microseconds
   $ desk diff examples/robot-mended.toml imu.toml
   admitted 9
   was admitted 9
-  changed imu level 8 8 bound 800 815 slack 1700 1685 keys cost
+  changed imu level 8 8 bound 800 815 slack 1700 1685 keys cost 250 265
   slower balance level 7 7 bound 1750 1765 slack 2250 2235
   slower battery level 2 2 bound 94450 96485 slack 5550 3515
   slower camera level 4 4 bound 32750 32960 slack 250 40
@@ -36,7 +36,7 @@ A task is gone, and another comes twice as often; whose thread is at another lev
   admitted 8
   was admitted 9
   removed lidar level 5 - bound 18450 - slack 6550 -
-  changed camera level 4 5 bound 32750 9600 slack 250 7000 keys period deadline
+  changed camera level 4 5 bound 32750 9600 slack 250 7000 keys period 33000 16600 deadline 33000 16600
   slower battery level 2 2 bound 94450 99600 slack 5550 400
   slower diagnostics level 1 1 bound 147350 177250 slack 52650 22750
   slower planner level 6 4 bound 13300 29900 slack 26700 10100
@@ -59,11 +59,11 @@ Where a set is infeasible, no level, bound or slack is; the status is that of th
   $ desk diff examples/robot.toml examples/robot-mended.toml
   admitted 9
   was infeasible motor
-  changed battery level - 2 bound - 94450 slack - 5550 keys section
+  changed battery level - 2 bound - 94450 slack - 5550 keys section 1 bus@100:900 bus@100:300 section 2 - bus@500:300
   $ desk diff examples/robot-mended.toml examples/robot.toml
   infeasible motor
   was admitted 9
-  changed battery level 2 - bound 94450 - slack 5550 - keys section
+  changed battery level 2 - bound 94450 - slack 5550 - keys section 1 bus@100:300 bus@100:900 section 2 bus@500:300 -
   [3]
 
 Each key has its word, in this order; by deadlines a weight is none:
@@ -71,10 +71,10 @@ Each key has its word, in this order; by deadlines a weight is none:
   $ printf '[[task]]\nname = "a"\nperiod = 10000\ndeadline = 10000\ncost = 1000\n[[task]]\nname = "b"\nperiod = 20000\ndeadline = 20000\ncost = 1000\n' > old.toml
   $ printf '[[task]]\nname = "a"\nweight = 1\nperiod = 20000\ndeadline = 9000\ncost = 1500\nsection = [{ locks = ["m"], at = 0, len = 100 }]\njitter = 10\noutranks = ["b"]\n[[task]]\nname = "b"\nperiod = 20000\ndeadline = 20000\ncost = 1000\n' > new.toml
   $ desk diff old.toml new.toml | grep -o 'keys .*'
-  keys weight period deadline cost section jitter outranks
+  keys weight 0 1 period 10000 20000 deadline 10000 9000 cost 1000 1500 section 1 - m@0:100 jitter 0 10 outranks - b
   (on standard error) note: lock m has one user, a
   $ desk diff --prefer deadline old.toml new.toml | grep -o 'keys .*'
-  keys period deadline cost section jitter outranks
+  keys period 10000 20000 deadline 10000 9000 cost 1000 1500 section 1 - m@0:100 jitter 0 10 outranks - b
   (on standard error) note: lock m has one user, a
 
 A refusal of the new set says so; the old one comes first:

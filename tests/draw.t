@@ -1,6 +1,5 @@
 `desk draw SET RELEASES` draws what `desk simulate` prints, as one SVG document: a bar for each slice, a box for each job,
-one path for each kind of mark; above the rows a lane of all slices. Three more documents are compared whole in
-`picture_tests`.
+one path for each kind of mark; above the rows a lane of all slices. `worked.t` has three more documents.
 
   $ slices() { grep -c 'class="e .* us</title>' "$1"; }
   $ lane() { grep -c ' executes .* us</title>' "$1"; }

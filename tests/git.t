@@ -1,41 +1,194 @@
-A node's branch under the hook `examples/git/pre-receive`, with a team each for two colleagues, ann and bob.
+A node's branch under the hook `examples/git/pre-receive`, with a team each for three colleagues, ann, bob and cy; nora may
+change what the node gives to each, root everything. `desk-teams` may lack its last line end, and have those of Windows:
 
   $ git init -q --bare -b main node.git && cp examples/git/pre-receive node.git/hooks
   $ git -C node.git config receive.fsckObjects true && git -C node.git config desk.userVariable PUSHER
-  $ printf 'ann arm\nbob cam\n' > node.git/desk-teams
-  $ git clone -q node.git ann 2> said && git clone -q node.git bob 2> said && mkdir ann/teams bob/teams
-  $ cp examples/node/arm.toml ann/teams && git -C ann add teams && git -C ann commit -q -m arm
-  $ PUSHER=ann git -C ann push -q origin HEAD:main 2> said
-  $ git -C bob pull -q origin main && cp examples/node/cam.toml bob/teams && git -C bob add teams && git -C bob commit -q -m cam
+  $ printf 'ann arm\r\nbob base\r\ncy cam\r\nnora node\r\nroot *' > node.git/desk-teams
+  $ for it in ann bob cy nora root; do git clone -q node.git $it 2> said; done
+  $ task() { printf '[[task]]\nname = "%s"\nperiod = %s\ndeadline = %s\ncost = %s\n' $1 $2 $2 $3; }
+  $ locked() { task $1 $2 $3; printf 'section = [{ locks = ["%s"], len = %s }]\n' $4 $5; }
+  $ fresh() { git -C $1 fetch -q && git -C $1 reset -q --hard origin/main && mkdir -p $1/teams; }
+  $ save() { git -C $1 add -A && git -C $1 commit -q -m "$2"; }
+  $ push() { PUSHER=$1 git -C $1 push -q ${2-} origin ${3-HEAD}:main 2>&1 | sed -n 's/ *$//; s/[0-9a-f]\{40\}/COMMIT/g; s/[0-9a-f]\{10\}/COMMIT/g; s/^remote: //p'; }
+  $ mkdir ann/teams && locked arm 5000 1500 bus 300 > ann/teams/arm.toml && save ann 'the arm' && push ann
+  admitted 1
+  was admitted 0
+  added arm level - 1 bound - 1500 slack - 3500 team arm
+  note: lock bus has one user, arm
+  all - -> 3333
+  taken, unless git says below that it failed: then another push was quicker: git pull --rebase origin main && git push origin HEAD:main
 
-Bob's section on the bus is too long for the arm. He is told the change, as `desk diff OLD NEW` prints it, the conflict, and
-each number that mends it alone; he takes the one that is his:
+Bob's section on the bus is too long for the arm. He is told the change, each number that mends it alone, his own first, and
+the conflict. He takes the one that is his, and reads what this leaves to all:
 
-  $ PUSHER=bob git -C bob push -q origin HEAD:main 2>&1 | sed -n 's/ *$//; /refused:/d; s/^remote: //p'
+  $ fresh bob && locked roll 20000 6000 bus 4000 > bob/teams/base.toml && save bob 'the base' && push bob
   infeasible arm
   was admitted 1
-  added pan level - - bound - - slack - - team cam
-  one of these changes mends it, all else as it is, but for a period below its deadline:
-  arm cost from 1500 to 1000
-  arm deadline from 5000 to 5500
-  pan section 1 len from 4000 to 3500
+  added roll level - - bound - - slack - - team base
+  one of these changes mends it, all else as it is:
+  team base (yours), teams/base.toml: roll section 1 len = 3500, now 4000
+  team arm (ann or root), teams/arm.toml: arm cost = 1000, now 1500
+  team arm (ann or root), teams/arm.toml: arm deadline = 5500 with period = 5500, now 5000
+  or all teams together: each cost and section at most 909 thousandths of what it is
   conflict arm
   arm 5500 of 5000 team arm
     cost 1500
-    blocked 4000 by pan section 1 lock bus team cam
+    blocked 4000 by roll section 1 lock bus team base
   in an order that passes wherever one does, from the lowest level:
-  1 pan 9000 of 20000 team cam
-  2 arm misses 5000 needs 5500 team arm
-  $ sed -i 's/4000/3500/' bob/teams/cam.toml && git -C bob commit -q -a --amend -m cam
-  $ PUSHER=bob git -C bob push -q origin HEAD:main 2>&1 | sed -n 's/ *$//; s/^remote: //p'
+  1 roll 9000 of 20000 team base
+  2 arm misses 5000 needs 5500 team arm: by 500 at least
+  refused: COMMIT "the base" is not admitted
+  $ sed -i s/4000/3500/ bob/teams/base.toml && git -C bob commit -q -a --amend -m 'the base' && push bob
   admitted 2
   was admitted 1
-  added pan level - 1 bound - 9000 slack - 11000 team cam
+  added roll level - 1 bound - 9000 slack - 11000 team base
   slower arm level 1 2 bound 1500 5000 slack 3500 0 team arm
+  all 3333 -> 1000
+  warning: nothing is left: if all takes a thousandth longer, arm of team arm (ann or root) misses its deadline
+  lock bus is shared from this push on, by teams arm and base: base came second
+  taken, unless git says below that it failed: then another push was quicker: git pull --rebase origin main && git push origin HEAD:main
 
-A lock of which a letter is missing has one user, and a note tells of it:
+Two in one push, of which the first takes a name that bob had. The push as one commit, as the sentence says:
 
-  $ sed -i 's/"bus"/"bsu"/' bob/teams/cam.toml && git -C bob commit -q -a -m bus
-  $ PUSHER=bob git -C bob push -q origin HEAD:main 2>&1 | sed -n 's/ *$//; s/^remote: //p' | grep note
-  note: lock bus has one user, arm
-  note: lock bsu has one user, pan
+  $ fresh cy && task roll 30000 100 > cy/teams/cam.toml && save cy 'the camera' && task pan 30000 100 > cy/teams/cam.toml
+  $ save cy 'another name' && push cy
+  cam.toml: roll is the name of a task of base
+  refused: TakenName cam roll base
+  team base had the name roll first; team cam (yours) has to take another one
+  refused: COMMIT "the camera", commit 1 of 2 of this push, each of which has to be admitted; git rebase -i COMMIT changes it; as one commit all are admitted: git reset --soft COMMIT && git commit
+  $ git -C cy reset -q --soft origin/main && git -C cy commit -q -m 'the camera' && push cy | head -n 3
+  admitted 3
+  was admitted 2
+  added pan level - 1 bound - 9100 slack - 20900 team cam
+
+A file of another team, and nobody's user:
+
+  $ fresh bob && sed -i 's/1500/1000/' bob/teams/arm.toml && save bob 'a lighter arm' && push bob
+  refused: COMMIT "a lighter arm": bob may not change teams/arm.toml; ann or root may
+  $ PUSHER=eve git -C bob push -q origin HEAD:main 2>&1 | sed -n 's/ *$//; s/^remote: //p'
+  refused: eve is in no team; whoever runs the server can add a line `eve TEAM` to desk-teams
+
+What the node gives to a team, and whose a lock becomes:
+
+  $ fresh nora && printf '[team.base]\nload = 300\n[team.cam]\nsection = 50\n' > nora/teams/node.toml && save nora budgets && push nora | grep '^all'
+  all 1000 -> 1000
+  $ fresh bob && sed -i 's/cost = 6000/cost = 6001/' bob/teams/base.toml && save bob 'more' && push bob
+  node.toml: line 1: base takes 301 thousandths of the processor, and may take 300
+  refused: PastBudget base load 301 300
+  team base (yours) has to take less, or teams/node.toml to give more, which nora or root may change
+  refused: COMMIT "more"
+  $ fresh cy && locked pan 30000 100 eye 100 > cy/teams/cam.toml && save cy 'a lock of its own' && push cy | grep '^all'
+  all 1000 -> 1000
+  $ fresh ann && locked look 50000 100 eye 10 >> ann/teams/arm.toml && save ann 'the eye' && push ann
+  node.toml: line 3: cam holds a lock that another team uses, too, for 100 microseconds, and may hold it for 50
+  refused: PastBudget cam section 100 50
+  lock eye is shared from this push on, by teams arm and cam: arm came second
+  team cam (cy or root) has to take less, or teams/node.toml to give more, which nora or root may change
+  refused: COMMIT "the eye"
+  $ fresh bob && git -C bob mv teams/base.toml teams/wheels.toml && save bob 'another name' && push bob
+  refused: COMMIT "another name": bob may not change teams/wheels.toml; root may
+  $ fresh root && git -C root mv teams/base.toml teams/wheels.toml && save root 'another name' && push root
+  node.toml: line 1: there is no base.toml
+  refused: NoSuchTeam base
+  teams/base.toml is teams/wheels.toml now; in the same commit [team.base] in teams/node.toml
+  has to become [team.wheels], or to go in a commit before: nora or root may change it
+  refused: COMMIT "another name"
+  $ fresh bob && git -C bob rm -q teams/base.toml && save bob 'no base' && push bob
+  node.toml: line 1: there is no base.toml
+  refused: NoSuchTeam base
+  teams/base.toml is gone; [team.base] in teams/node.toml has to go, too, first or in the same commit: nora or root may change it
+  refused: COMMIT "no base"
+  $ fresh nora && printf '[team.bsae]\nload = 300\n' > nora/teams/node.toml && save nora mistyped && push nora
+  node.toml: line 1: there is no bsae.toml
+  refused: NoSuchTeam bsae
+  [team.bsae] in teams/node.toml is of no document; the teams are arm, base and cam: nora or root may change it
+  refused: COMMIT "mistyped"
+
+What is no document:
+
+  $ fresh cy && chmod +x cy/teams/cam.toml && save cy 'run it' && push cy
+  refused: COMMIT "run it": teams/cam.toml is no team's document: it has the executable bit: chmod -x teams/cam.toml && git update-index --chmod=-x teams/cam.toml && git commit --amend --no-edit --allow-empty
+  $ (cd cy && chmod -x teams/cam.toml && git update-index --chmod=-x teams/cam.toml && git commit -q --amend --no-edit --allow-empty) && push cy | head -n 1
+  admitted 3
+  $ fresh cy && ln -sf arm.toml cy/teams/cam.toml && save cy 'as the arm' && push cy
+  refused: COMMIT "as the arm": teams/cam.toml is no team's document: it is a symbolic link; the document itself has to stand there
+  $ fresh root && mkdir root/teams/cam && task zoom 30000 1 > root/teams/cam/zoom.toml && save root 'a folder' && push root
+  refused: COMMIT "a folder": teams/cam is no team's document: it is a folder; each document has to stand in teams itself
+  $ fresh root && task zoom 30000 1 > root/teams/2nd.toml && save root 'a second one' && push root
+  refused: COMMIT "a second one": teams/2nd.toml is no team's document: its name is TEAM.toml, TEAM a letter, and up to 23 letters, digits, _ or - behind it
+
+What moves the branch otherwise than by commits upon it:
+
+  $ fresh cy && git -C cy commit -q --amend --allow-empty -m 'run it again' && push cy --force
+  refused: the branch has other commits, as COMMIT, and keeps them: git pull --rebase origin main && git push origin HEAD:main
+  $ fresh cy && push cy --force HEAD~1
+  refused: this takes commits of main back, whose log only grows: git pull --rebase origin main && git restore --source=COMMIT --staged --worktree :/ && git commit -m 'As COMMIT had it' && git push origin HEAD:main
+  $ git -C cy checkout -q -b side HEAD~1 && task pan 30000 90 > cy/teams/cam.toml && save cy side && git -C cy merge -q -m both -X ours origin/main > said && push cy
+  refused: COMMIT "both" is a merge, and main has none: git rebase COMMIT && git push origin HEAD:main, or as one commit: git reset --soft COMMIT && git commit && git push origin HEAD:main
+  $ fresh cy && for n in $(seq 101); do git -C cy commit -q --allow-empty -m $n; done && push cy
+  refused: more than 100 commits in one push: git push origin COMMIT:refs/heads/main, and then the others
+  $ PUSHER=cy git -C cy push -q origin :main 2>&1 | sed -n 's/ *$//; s/^remote: //p'
+  refused: refs/heads/main may not be deleted
+
+Who was slower reads it from the client, from the hook, which looks again at the end, or in its last line above:
+
+  $ fresh cy && fresh ann && echo '# first' >> ann/teams/arm.toml && save ann first && old=$(git -C cy rev-parse HEAD)
+  $ push ann | head -n 1
+  admitted 3
+  $ printf '#!/bin/sh\nsed s/^$(git rev-parse main)/%s/ | hooks/asked\n' $old > node.git/hooks/late && chmod +x node.git/hooks/late
+  $ fresh cy && echo '# second' >> cy/teams/cam.toml && save cy second
+  $ mv node.git/hooks/pre-receive node.git/hooks/asked && mv node.git/hooks/late node.git/hooks/pre-receive && push cy
+  refused: the branch has other commits, as another push was quicker: git pull --rebase origin main && git push origin HEAD:main
+  $ mv node.git/hooks/asked node.git/hooks/pre-receive
+
+Of a conflict of more than three tasks the order comes first, and what misses in it by how much:
+
+  $ fresh cy && for n in 1 2 3 4 5; do task c$n 10000 1200; done >> cy/teams/cam.toml && save cy many && push cy | grep -v ^added
+  infeasible arm c1 c2 c3 c4 c5 pan roll
+  was admitted 3
+  note: lock eye has one user, pan
+  note: the costs over the periods come to more than 1: no order can pass
+  one of these changes mends it, all else as it is:
+  team arm (ann or root), teams/arm.toml: arm deadline = 19600 with period = 19600, now 5000
+  or all teams together: each cost and section at most 800 thousandths of what it is
+  in an order that passes wherever one does, from the lowest level:
+  1 pan misses 30000 needs 37600 team cam: by 7600 at least
+  2 roll misses 20000 needs 22500 team base: by 2500 at least
+  3 c1 misses 10000 needs 11000 team cam: by 1000 at least
+  4 c2 misses 10000 needs 11300 team cam: by 1300 at least
+  5 c3 misses 10000 needs 10100 team cam: by 100 at least
+  6 c4 8900 of 10000 team cam
+  7 c5 7700 of 10000 team cam
+  8 arm 5000 of 5000 team arm
+  conflict arm c3 c4 c5: each fails as the lowest of these, and none can be left out
+  (what a conflict is: `man desk`, or docs/FORMATS.md, What `explain` prints)
+  refused: COMMIT "many" is not admitted
+
+A branch that is not admitted, or can't be read, as one from before the hook, is mended by a set that is judged alone:
+
+  $ overrule() { PUSHER=$1 git -C $1 push -q origin HEAD:refs/heads/drafts/$2/x 2> said; git -C node.git update-ref refs/heads/main refs/heads/drafts/$2/x; }
+  $ fresh cy && task c1 10000 9000 >> cy/teams/cam.toml && save cy worse && overrule cy cam
+  $ sed -i 's/9000/900/' cy/teams/cam.toml && save cy better && push cy | grep -v '^taken'
+  admitted 4
+  was infeasible arm c1 pan roll
+  changed c1 level - 1 bound - 10000 slack - 0 keys cost 9000 900
+  note: lock eye has one user, pan
+  the set before was not admitted: the new one is judged alone
+  all 645 -> 1000
+  warning: nothing is left: if all takes a thousandth longer, arm of team arm (ann or root) misses its deadline
+  $ fresh root && ln -sf arm.toml root/teams/cam.toml && save root link && overrule root base
+  $ fresh root && rm root/teams/cam.toml && task pan 30000 100 > root/teams/cam.toml && save root 'no link' && push root | grep -v '^taken'
+  admitted 3
+  1 pan 9100
+  2 roll 9000
+  3 arm 5000
+  note: names decide the order; prefer = "deadline" in front of the tasks has shorter ones higher
+  the set before can't be read (teams/cam.toml is no team's document: it is a symbolic link; the document itself has to stand there): the new one is judged alone
+  all - -> 1000
+  warning: nothing is left: if all takes a thousandth longer, arm of team arm (ann or root) misses its deadline
+
+What the server fails in is told as that:
+
+  $ fresh cy && git -C cy commit -q --allow-empty -m 'once more'; printf 'bob: base\n' >> node.git/desk-teams && push cy
+  refused: the server failed, and this was not judged: desk-teams: line 5 means nothing; a line is USER TEAM, or USER *
+  push again later; if it stays so, tell whoever runs the server

@@ -1,8 +1,10 @@
 """What docs/FORMATS.md and docs/DEFINITIONS.md say of small inputs, written again in Python, for tests/hostile: the
 refusal of a document, a certificate, a release list or a script, and what `admit` prints of a set. Python's own TOML
 parser decides what is TOML. Nothing here is taken from what the program prints."""
+import math
 import re
 import tomllib
+from fractions import Fraction
 
 NAME = re.compile(r"[A-Za-z][A-Za-z0-9_-]{0,23}\Z")
 NUMBER = re.compile(r"(0|[1-9][0-9]{0,9})\Z")
@@ -216,9 +218,9 @@ def keep_budgets(budgets, parts):
             refuse("NoSuchTeam", team)
         own = [task for other, tasks in parts if other == team for task in tasks]
         used = set().union(*(locks_of(task) for other, tasks in parts if other != team for task in tasks))
-        load = sum(-(-task["cost"] * 1_000_000 // task["period"]) for task in own)
+        load = math.ceil(1000 * sum(Fraction(task["cost"], task["period"]) for task in own))
         section = max((it["len"] for task in own for it in task.get("section", []) if used & set(it["locks"])), default=0)
-        for key, number in (("load", -(-load // 1000)), ("section", section)):
+        for key, number in (("load", load), ("section", section)):
             if number > budget.get(key, number):
                 refuse("PastBudget", team, key, number, budget[key])
 

@@ -4,7 +4,7 @@ of the node's own. Both stand in the demand of every task, whatever the order.
 The shared lock, of whose jobs the node takes 20, 5 of them by a timer, 2 of a lock, and 15 late; a tick comes each 4000 and
 takes 17. Padded by 20 - 5 = 15 of a job, lo costs 20017 and its section 4002, mid 2015, hi 1017. Within its 27247, less 15,
 lo has three times 1017, twice 2015, six timers and seven ticks; mid within 7083 has 4002, 1017, three timers and two ticks;
-hi within 5068 has 4002, three timers and two ticks:
+hi within 5068 has 4002, three timers and two ticks. The load has 50, 250 and 500 millionths of timers, and 4250 of ticks:
 
   $ set=examples/shared-lock-node.toml
   $ desk admit $set
@@ -37,7 +37,7 @@ hi within 5068 has 4002, three timers and two ticks:
     blocked 4002 by lo section 1 lock m
     timers 15
     interrupt 1 2 jobs 34
-  load 402620
+  load 407670
 
 Numbers are the task's own: hi may execute 5900, since 5917, 4002, three timers and three ticks come to the 9985 of its
 limit. The section may fill the cost; 4917 late it is done in time as it is.
@@ -45,16 +45,16 @@ limit. The section may fill the cost; 4917 late it is done in time as it is.
   $ desk limits $set --task hi
   admitted 3
   hi cost 1000 5900 5900
-  hi period 10000 5083 5083
+  hi period 10000 5083 5083 with deadline 5083 5083
   hi deadline 10000 5083 5083
   hi jitter 0 4917 4917
-  hi section 1 len 200 1000 1000
+  hi section 1 len 200 1000 1000 by cost
   hi slack 4917
 
-A certificate of such a set is of version 3, which serves for any set; one of version 1 or 2 doesn't serve for this.
+A certificate of such a set is of version 4, which serves for no other one; one of version 1 or 2 doesn't serve for this.
 
   $ desk certify $set | tee cert
-  desk-certificate 3
+  desk-certificate 4
   best 3
   level 1 lo 27247
   level 2 mid 7083
@@ -63,22 +63,24 @@ A certificate of such a set is of version 3, which serves for any set; one of ve
   $ desk check $set cert
   best
   $ desk check examples/shared-lock.toml cert
-  best
+  refused: WrongVersion
+  [5]
   $ sed 's/hi 5068/hi 5067/' cert | desk check $set -
   refused: BadPass 3
   [5]
-  $ for version in 1 2; do sed "s/^desk-certificate 3/desk-certificate $version/" cert | desk check $set -; done
+  $ for version in 1 2; do sed "s/^desk-certificate 4/desk-certificate $version/" cert | desk check $set -; done
   refused: WrongVersion
   refused: WrongVersion
   [5]
   $ { printf '[[interrupt]]\nperiod = 100\ncost = 0\n'; cat examples/three-tasks.toml; } > nothing.toml
   $ desk certify nothing.toml > cert
   $ head -n 1 cert
-  desk-certificate 3
+  desk-certificate 4
   $ desk certify examples/three-tasks.toml | sed 1d > other
   $ sed 1d cert | cmp - other
   $ desk check examples/three-tasks.toml cert
-  best
+  refused: WrongVersion
+  [5]
 
 A script has what the node takes of each task, and the interrupts on the account of the first by rank:
 
@@ -92,6 +94,15 @@ A script has what the node takes of each task, and the interrupts on the account
   level 1 lo 1 27262
   level 2 mid 1 7098
   level 3 hi 1 5083
+
+Without the first task the interrupt stays: mid takes 2015, 1017 of hi, two timers of 5, one interrupt, and is late by 15.
+
+  $ { desk script $set 1; printf 'open 1\nremove 2 lo\ncommit 2\n'; } | desk play - | tail -n 2
+  level 1 mid 1 3074
+  level 2 hi 1 1059
+
+What of these words is no such field:
+
   $ script() { printf 'open 1\nput 1 a 0 1000 1000 10 %s\n' "$1" | desk play - 2> said | head -n 1; }
   $ script node=10000000+10000000+1000+10000000
   draft 1 version 0
@@ -116,18 +127,21 @@ A script has what the node takes of each task, and the interrupts on the account
   $ script 'irq=100:0 node=0+0+0+0'
   refused: BadLine 2
 
-What a change does to each task:
+What a change does: who touches the node or an interrupt touches no task.
 
   $ desk diff examples/shared-lock.toml $set
   admitted 3
   was admitted 3
-  changed lo level 1 1 bound 27000 27262 slack 73000 72738 keys cost section jitter node interrupt
-  changed mid level 2 2 bound 7000 7098 slack 13000 12902 keys cost jitter node
-  changed hi level 3 3 bound 5000 5083 slack 5000 4917 keys cost section jitter node
+  node job 0 20 lock 0 2 release 0 5 late 0 15
+  interrupt 1 period - 4000 cost - 17
+  slower lo level 1 1 bound 27000 27262 slack 73000 72738
+  slower mid level 2 2 bound 7000 7098 slack 13000 12902
+  slower hi level 3 3 bound 5000 5083 slack 5000 4917
   $ sed 's/^cost = 17/cost = 18/' $set | desk diff $set -
   admitted 3
   was admitted 3
-  changed lo level 1 1 bound 27262 27269 slack 72738 72731 keys interrupt
+  interrupt 1 cost 17 18
+  slower lo level 1 1 bound 27262 27269 slack 72738 72731
   slower mid level 2 2 bound 7098 7100 slack 12902 12900
   slower hi level 3 3 bound 5083 5085 slack 4917 4915
 
@@ -175,13 +189,13 @@ Interrupts alone refuse a set: 9990 and a tick of 17 are past 10000. In a run no
   x 10007 of 10000
     cost 9990
     interrupt 1 1 jobs 17
-  load 999000
+  load 1003250
   1 x misses 10000 needs 10007
     cost 9990
     interrupt 1 1 jobs 17
   [3]
   $ desk certify full.toml
-  desk-certificate 3
+  desk-certificate 4
   none 1
   member x 1 10007
   end
@@ -189,7 +203,7 @@ Interrupts alone refuse a set: 9990 and a tick of 17 are past 10000. In a run no
   $ desk limits full.toml
   infeasible x
   x cost 9990 - 9949
-  x deadline 10000 - 10041
+  x deadline 10000 - 10041 with period 10041
   all - 995 x
   [3]
   $ desk worst full.toml
@@ -210,12 +224,11 @@ A number that leaves nothing of the task's own mends nothing: with its cost at m
   all - 666 x
   [3]
 
-The factor is of timers and interrupts, too. A timer takes at most 1000, an interrupt at most its period; 1960 thousandths
-make of 50 in each 100 us 98, which leave 196 of 9800:
+The factor is of timers and interrupts, too: 600 in 10000, 5100 in 10000.
 
   $ task='[[task]]\nname = "x"\nperiod = 10000\ndeadline = 10000\ncost = 100\n'
   $ printf "node = { job = 500, release = 500 }\n$task" | desk limits - | tail -n 1
-  all 2000 2000 x
+  all 16666 16666 x
   $ printf "interrupt = [{ period = 100, cost = 50 }]\n$task" | desk limits - | tail -n 1
   all 1960 1960 x
 
@@ -236,7 +249,7 @@ no line.
     cost 500
     interrupt 1 1 jobs 1
     interrupt 3 2 jobs 4
-  load 510000
+  load 515000
   $ desk script teams 1 | grep irq
   put 1 y 0 10000 10000 100 irq=1000:1+100:0+500:2
   $ for i in 1 2 3 4 5; do printf '[[interrupt]]\ncost = 0\nperiod = 100\n' >> teams/three.toml; done

@@ -24,8 +24,8 @@ An order that doesn't pass:
   $ printf 'thread lo 3\nthread mid 2\nthread hi 1\n' > low
   $ desk judge examples/shared-lock.toml low
   misses mid hi
-  1 hi misses 10000 at 1
-  2 mid misses 20000 at 2
+  1 hi misses 10000 needs 23000 at 1
+  2 mid misses 20000 needs 22200 at 2
   3 lo 20200 of 100000 at 3
   [3]
 
@@ -35,8 +35,8 @@ A task that stands below one that it must outrank:
   $ desk judge examples/watchdog.toml low
   misses watchdog sensors motion
   1 watchdog below sensors at 1
-  2 sensors misses 20000 at 2
-  3 motion misses 10000 at 3
+  2 sensors misses 20000 needs 38000 at 2
+  3 motion misses 10000 needs 33500 at 3
   4 log 30500 of 200000 at 4
   [3]
 

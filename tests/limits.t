@@ -13,8 +13,8 @@ One task may fill its period, which is its deadline, too:
 
   $ desk limits examples/fills-its-period.toml
   admitted 1
-  x cost 1000 1000 1000
-  x period 1000 1000 1000
+  x cost 1000 1000 1000 by period
+  x period 1000 1000 1000 by cost
   x deadline 1000 1000 1000
   x jitter 0 0 0
   x slack 0
@@ -27,12 +27,12 @@ is below 20000 / 3. With b above it a needs 6000, alone on top 3000.
   $ desk limits examples/three-tasks.toml
   admitted 3
   a cost 3000 3000 3000
-  a period 7000 6667 6667
+  a period 7000 6667 6667 with deadline 6667 6667
   a deadline 7000 6000 3000
   a jitter 0 1000 1000
   a slack 1000
   b cost 3000 3000 3000
-  b period 12000 10000 10000
+  b period 12000 10000 10000 with deadline 10000 10000
   b deadline 12000 3000 3000
   b jitter 0 4000 4000
   b slack 9000
@@ -51,10 +51,10 @@ jitter can be less, and no period of c helps.
   infeasible a b c
   a cost 3000 - 2666
   a period 7000 - 8500
-  a deadline 7000 - 8500
+  a deadline 7000 - 8500 with period 8500
   b cost 3000 - 2500
   b period 12000 - 14000
-  b deadline 12000 - 14000
+  b deadline 12000 - 14000 with period 14000
   c cost 5000 - 4000
   c deadline 19000 - 20000
   all - 950 c
@@ -80,7 +80,7 @@ of it. Sections grow with the factor.
   mid cost 2000 14000 14000
   mid slack 13000
   hi cost 1000 6000 6000
-  hi section 1 len 200 1000 1000
+  hi section 1 len 200 1000 1000 by cost
   hi slack 5000
   all 2000 2000 hi
 
@@ -100,7 +100,7 @@ With such a value some order passes, with one less none does:
   $ sed 's/len = 2500/len = 2400/' examples/blocked-out.toml > set.toml
   $ desk limits set.toml | grep -e cost -e section -e all
   hi cost 2000 2000 2000
-  hi section 1 len 500 2000 2000
+  hi section 1 len 500 2000 2000 by cost
   lo cost 10000 40000 40000
   lo section 1 len 2400 2400 2400
   all 1000 1000 hi
@@ -113,7 +113,7 @@ With such a value some order passes, with one less none does:
   [3]
 
 The printed order is that of the names here, and a may take what b leaves of 1000. With b lowest it may take more, half of
-what b leaves of 2000. All together they may take 1816 thousandths: 545 and 908 in 2 * 545 + 908; 1817 makes 546 and 909.
+what b leaves of 2000. All together they may take 1818 thousandths of the 1100 that b has then to wait for and do.
 
   $ desk limits - << END
   > [[task]]
@@ -129,16 +129,16 @@ what b leaves of 2000. All together they may take 1816 thousandths: 545 and 908 
   > END
   admitted 2
   a cost 300 500 750
-  a period 1000 1000 1000
+  a period 1000 1000 1000 by 1000
   a deadline 1000 800 300
   a jitter 0 200 700
   a slack 200
   b cost 500 700 1400
-  b period 2000 1000 1000
+  b period 2000 1000 1000 with deadline 1000 1000 by 1000
   b deadline 2000 500 500
   b jitter 0 1200 1200
   b slack 1500
-  all 1250 1816 b
+  all 1250 1818 b
 
 A cost may be as short as the end of the last section: that of y is 12, and y has 10. A deadline of 20 helps; and a node that
 is twice as fast.
@@ -181,8 +181,8 @@ No single number mends two tasks that are too late each; all of it together does
   all - 250 x
   [3]
 
-A section's length is rounded up for itself, so that a lesser factor is never worse. hi has 3, its own 1 and the 1 that lo
-keeps the lock; each thousandth more makes 2 of both:
+The factor is of time, whole microseconds or not: hi has 3, its own 1 and the 1 that lo keeps the lock, and may take half as
+much again.
 
   $ desk limits - << END | tail -n 1
   > [[task]]
@@ -198,7 +198,7 @@ keeps the lock; each thousandth more makes 2 of both:
   > cost = 4
   > section = [{ locks = ["m"], at = 3, len = 1 }]
   > END
-  all 1000 1000 hi
+  all 1500 1500 hi
 
 A refused set prints as in `admit`:
 
@@ -229,30 +229,30 @@ in these 9000:
   $ desk limits examples/shared-lock.toml --at mid-on-top
   meets 3
   lo cost 20000 80000 80000
-  lo period 100000 27000 27000
+  lo period 100000 27000 27000 with deadline 27000 27000
   lo deadline 100000 27000 27000
   lo jitter 0 73000 73000
   lo section 1 len 4000 7000 9000
   lo slack 73000
   mid cost 2000 5000 14000
-  mid period 20000 4500 4500
+  mid period 20000 4500 4500 with deadline 4500 4500
   mid deadline 20000 2000 2000
   mid jitter 0 18000 18000
   mid slack 18000
   hi cost 1000 4000 6000
-  hi period 10000 7000 5000
+  hi period 10000 7000 5000 with deadline 7000 5000
   hi deadline 10000 7000 5000
   hi jitter 0 3000 5000
-  hi section 1 len 200 1000 1000
+  hi section 1 len 200 1000 1000 by cost
   hi slack 3000
   all 1428 2000 hi
   $ desk limits --at=- examples/shared-lock.toml --task=hi < mid-on-top
   meets 3
   hi cost 1000 4000 6000
-  hi period 10000 7000 5000
+  hi period 10000 7000 5000 with deadline 7000 5000
   hi deadline 10000 7000 5000
   hi jitter 0 3000 5000
-  hi section 1 len 200 1000 1000
+  hi section 1 len 200 1000 1000 by cost
   hi slack 3000
 
 An order that doesn't pass has no limits: it is judged, whichever task is asked about:
@@ -260,8 +260,8 @@ An order that doesn't pass has no limits: it is judged, whichever task is asked 
   $ printf 'thread b 10\nthread a 20\nthread c 30\n' > down
   $ desk limits examples/three-tasks.toml --at down --task c
   misses a b
-  1 b misses 12000 at 10
-  2 a misses 7000 at 20
+  1 b misses 12000 needs 14000 at 10
+  2 a misses 7000 needs 8000 at 20
   3 c 5000 of 20000 at 30
   [3]
   $ desk judge examples/three-tasks.toml down > judged

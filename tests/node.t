@@ -30,10 +30,10 @@ sections are 2 longer and 20 later; each jitter is 15. So lo takes 20022 and thr
     blocked 4002 by lo section 1 lock m
   $ desk limits set.toml --task hi | sed -n '2,6p'
   hi cost 1000 5961 5961
-  hi period 10000 5039 5039
+  hi period 10000 5039 5039 with deadline 5039 5039
   hi deadline 10000 5039 5039
   hi jitter 0 4961 4961
-  hi section 1 len 200 1000 1000
+  hi section 1 len 200 1000 1000 by cost
   $ desk certify set.toml > cert
   $ head -n 3 cert
   desk-certificate 2

@@ -20,7 +20,7 @@ A mutex without a protocol: mid executes while hi waits for the lock that lo hol
   task mid 1 2000 2000 - 20000 2000 7000
   task hi 1 1000 1000 - 10000 6900 5000
   bound hi 200 6900 of 5000
-  blocked hi 200 5900 of 4000 by lo
+  blocked hi 200 5900 of 4000 by lo 3900, mid 2000
   [3]
 
 A job past its cost, by one microsecond; and where one is allowed:
@@ -52,7 +52,7 @@ A section longer than its sheet says, for which hi waits too long:
   task mid 0 0 2000 - 20000 - 7000
   task hi 1 1000 1000 - 10000 5001 5000
   bound hi 100 5001 of 5000
-  blocked hi 100 4001 of 4000 by lo
+  blocked hi 100 4001 of 4000 by lo 4001
   [3]
 
 A job that isn't done when the trace ends, its bound past; until then it may be open:
@@ -85,6 +85,43 @@ Nobody executes while hi waits:
   idle hi 0 50
   [3]
 
+What timers and interrupts may take is allowed: in a job's execution, while it waits, and of nobody and of other threads
+together; a microsecond more isn't:
+
+  $ cat > taken.toml <<'END'
+  > node = { job = 30, lock = 5, release = 20 }
+  > interrupt = [{ period = 5000, cost = 100 }]
+  > [[task]]
+  > name = "hi"
+  > period = 10000
+  > deadline = 3000
+  > cost = 1000
+  > section = [{ locks = ["m"], len = 100 }]
+  > [[task]]
+  > name = "lo"
+  > period = 100000
+  > deadline = 90000
+  > cost = 5000
+  > section = [{ locks = ["m"], len = 400 }]
+  > END
+  $ taken() { printf "$1" | desk observe taken.toml -; }
+  $ taken '0 1155 hi\njob hi 0 1155\n'
+  task lo 0 0 5015 - 100000 - 6270
+  task hi 1 1155 1015 - 10000 1155 1560
+  $ taken '0 1156 hi\njob hi 0 1156\n' | grep -v task
+  cost hi 0 1156 of 1155
+  $ taken '0 545 lo\n545 1560 hi\njob hi 0 1560\njob lo 0 -\n' | grep -v task
+  [1]
+  $ taken '0 546 lo\n546 1561 hi\njob hi 0 1561\njob lo 0 -\n' | grep -v task
+  bound hi 0 1561 of 1560
+  blocked hi 0 546 of 545 by lo 546
+  $ taken '0 500 hi\n540 600 irq\n640 1155 hi\njob hi 0 1155\n' | grep -v task
+  [1]
+  $ taken '0 500 hi\n541 601 irq\n641 1156 hi\njob hi 0 1156\n' | grep -v task
+  idle hi 0 81 of 80
+  $ taken '0 500 hi\n500 641 irq\n641 1156 hi\njob hi 0 1156\n' | grep -v task
+  foreign hi 0 141 of 140 by irq
+
 A task that may be late waits for sure from the end of its jitter on:
 
   $ printf '1000 4000 a\njob a 0 4000\n' | desk observe examples/jitter.toml - | grep ' a '
@@ -92,6 +129,23 @@ A task that may be late waits for sure from the end of its jitter on:
   $ printf '1001 4001 a\njob a 0 4001\n' | desk observe examples/jitter.toml - | grep ' a '
   task a 1 3000 3000 - 7000 4001 7000
   idle a 0 1
+
+A job may say when it was ready: later than its jitter, or it waits for sure from then on. With that its arrival is exact:
+
+  $ printf '1200 4200 a\njob a 0 4200 1200\n' | desk observe examples/jitter.toml - | grep ' a '
+  task a 1 3000 3000 - 7000 4200 7000
+  late a 0 1200 of 1000
+  $ printf '300 3000 a\n3010 3310 a\njob a 0 3310 300\n' | desk observe examples/jitter.toml - | grep ' a '
+  task a 1 3000 3000 - 7000 3310 7000
+  idle a 0 10
+  $ printf '0 3000 a\n6000 9000 a\njob a 0 3000\njob a 6000 9000\n' | desk observe examples/jitter.toml - | grep -v task
+  [1]
+  $ printf '0 3000 a\n6000 9000 a\njob a 0 3000 0\njob a 6000 9000\n' | desk observe examples/jitter.toml - | grep -v task
+  period a 6000 6000 of 7000
+  $ observed '0 1000 hi @9\njob hi 0 1000\n' | grep hi
+  task hi 1 1000 1000 - 10000 1000 5000
+  $ for text in 'job hi 5 9 4' 'job hi 5 9 10' 'job hi 5 - x' 'job hi 5 9 9 9' '0 10 hi 9' '0 10 hi @' '0 10 hi @-1'; do observed "$text\n" 2> /dev/null; done | uniq -c | sed 's/^ *//'
+  7 refused: BadLine 1
 
 Where deadlines are preferred, another order may be the best:
 
@@ -116,7 +170,7 @@ ones, and a run that keeps to them breaks nothing, as it would in the set's best
   task mid 1 2000 2000 - 20000 2000 2000
   $ desk observe examples/shared-lock.toml node.trace | grep -v task
   bound hi 300 6800 of 5000
-  blocked hi 300 5800 of 4000 by mid
+  blocked hi 300 5800 of 4000 by lo 3900, mid 1900
   $ { cat node.settings; echo '0 2001 mid'; echo 'job mid 0 2001'; } | desk observe examples/shared-lock.toml -
   task lo 0 0 20000 - 100000 - 27000
   task hi 0 0 1000 - 10000 - 7000
@@ -137,13 +191,13 @@ An order in which a task misses its deadline promises nothing, whatever was seen
 
   $ observed 'thread hi 1\nthread mid 2\nthread lo 3\n0 10 hi\n'
   misses mid hi
-  1 hi misses 10000 at 1
-  2 mid misses 20000 at 2
+  1 hi misses 10000 needs 23000 at 1
+  2 mid misses 20000 needs 22200 at 2
   3 lo 20200 of 100000 at 3
   [3]
   $ printf 'thread x 7\n' | desk observe examples/cost-past-deadline.toml -
   misses x
-  1 x misses 2000 at 7
+  1 x misses 2000 needs 3000 at 7
   [3]
 
 Settings and their faults are those of `judge`, lines counted in the whole. What stands in the lines comes first, then the
@@ -199,10 +253,11 @@ Each refusal, with its line:
   refused: Syntax
   [4]
 
-What the kernel recorded becomes a trace by examples/trace/from_ftrace.py, in the spelling of `perf sched script` (recorded
-of a run of examples/posix/measure.c, with a thread `foreign` above all) and in that of `trace-cmd report` (by hand):
+What the kernel recorded becomes a trace by examples/trace/from_ftrace.py (`tests/ftrace` has the spellings), as by `perf
+sched script` of a run of examples/posix/measure.c, with a thread `foreign` above all:
 
   $ examples/trace/from_ftrace.py lo=lo mid=mid hi=hi < examples/trace/foreign.sched > foreign.trace
+  (on standard error) note: line 1: the record doesn't show whether an interrupt or the thread that executes woke lo: taken as an arrival (and 2 more)
   $ desk observe examples/shared-lock.toml foreign.trace --tolerance 100
   task lo 1 20245 20000 - 100000 59359 27000
   task mid 1 2048 2000 - 20000 18280 7000
@@ -215,27 +270,14 @@ of a run of examples/posix/measure.c, with a thread `foreign` above all) and in 
   bound mid 999 18280 of 7000
   foreign mid 999 12015 by foreign
   [3]
-  $ cat > report <<'END'
-  > cpus=4
-  >           <idle>-0     [003]  100.000000: sched_waking:         ctl:71 [9] CPU:003
-  >           <idle>-0     [003]  100.000004: sched_switch:         swapper/3:0 [120] R ==> ctl:71 [9]
-  >              ctl-71    [003]  100.000404: sched_switch:         ctl:71 [9] R+ ==> kworker/3:1:9 [120]
-  >      kworker/3:1-9     [003]  100.000434: sched_switch:         kworker/3:1:9 [120] S ==> ctl:71 [9]
-  >             bash-88    [002]  100.000500: sched_waking:         vi:89 [120] CPU:002
-  >              ctl-71    [003]  100.001034: sched_switch:         ctl:71 [9] S ==> swapper/3:0 [120]
-  >           <idle>-0     [003]  100.010000: sched_waking:         ctl:71 [9] CPU:003
-  > END
-  $ examples/trace/from_ftrace.py ctl=hi < report
-  4 404 hi
-  404 434 kworker_3_1
-  434 1034 hi
-  job hi 0 1034
-  job hi 10000 -
-  $ examples/trace/from_ftrace.py ctl=hi cntl=lo 89=mid 72=x < report > made
-  (on standard error) note: the record has no thread cntl, 72; it has ctl, kworker/3:1, vi
-  $ examples/trace/from_ftrace.py cntl=hi < report
-  (on standard error) note: the record has no thread cntl; it has ctl, kworker/3:1, vi
-  (on standard error) no thread of a task executed
-  [1]
-  $ examples/trace/from_ftrace.py 71=hi < report | desk observe examples/shared-lock.toml - --tolerance 5 | grep -v task
-  foreign hi 0 30 by kworker_3_1
+
+A record in which something is wrong ends in a line that isn't one of a trace, so that what it shows isn't taken for all:
+
+  $ sed 7d examples/trace/foreign.sched | examples/trace/from_ftrace.py lo=lo mid=mid hi=hi 2> /dev/null | desk observe examples/shared-lock.toml - --tolerance 100
+  refused: BadLine 3
+  [4]
+  $ examples/trace/from_ftrace.py lo=lo mid=mid hi=hi < /dev/null
+  refused by from_ftrace.py
+  (on standard error) note: the record has no thread lo, mid, hi; it has none
+  (on standard error) from_ftrace.py: the record has no event
+  [3]

@@ -156,7 +156,7 @@ All others are outranked by a word, but for those that say it, too. It is no nam
   $ desk diff a-over-b.toml a-over-all.toml
   admitted 3
   was admitted 3
-  changed a level 3 3 bound 3000 3000 slack 4000 4000 keys outranks
+  changed a level 3 3 bound 3000 3000 slack 4000 4000 keys outranks b *
   $ desk script both-over-all.toml 3 | tee both.script
   open 3
   put 1 a 0 7000 7000 3000 over=*

@@ -298,6 +298,89 @@ Jitter and a name to outrank behind the cost:
   version 1
   level 1 a 1 4000
 
+Interrupts are the node's: a task that is removed takes none along, also the last one, nor does a put that says none. Alone
+b takes 5000 and ten interrupts of 500, one each 1000.
+
+  $ desk play - << END
+  > open 1
+  > put 1 a 0 100000 100000 100 irq=1000:500
+  > put 1 b 1 20000 20000 5000
+  > commit 1
+  > open 1
+  > remove 2 a
+  > commit 2
+  > open 1
+  > put 3 b 1 20000 9999 5000
+  > commit 3
+  > open 1
+  > remove 4 b
+  > commit 4
+  > open 2
+  > put 5 c 0 20000 9999 5000
+  > test 5
+  > commit 5
+  > put 5 c 0 20000 10000 5000
+  > open 2
+  > put 6 c 0 20000 10000 5000
+  > commit 6
+  > END
+  draft 1 version 0
+  ok
+  ok
+  admitted 1
+  draft 2 version 1
+  ok
+  admitted 2
+  draft 3 version 2
+  ok
+  infeasible b
+  draft 4 version 2
+  ok
+  admitted 3
+  draft 5 version 3
+  ok
+  tested infeasible c
+  infeasible c
+  refused NoSuchDraft
+  draft 6 version 3
+  ok
+  admitted 4
+  version 4
+  level 1 c 2 10000
+
+Each team says its own, all of them at a time, with one that takes nothing for none. The teams have 8 together.
+
+  $ desk play - > printed << END
+  > open 1
+  > put 1 a 0 100000 100000 100 irq=1000:500
+  > commit 1
+  > open 2
+  > put 2 b 1 20000 20000 4000 irq=2000:500
+  > commit 2
+  > END
+  $ tail -n 2 printed
+  level 1 a 1 17600
+  level 2 b 2 16000
+  $ play() { desk play - | tail -n 2; }
+  $ play << END
+  > open 1
+  > put 1 a 0 100000 100000 100 irq=1000:500
+  > commit 1
+  > open 2
+  > put 2 b 1 20000 20000 4000 irq=2000:500
+  > commit 2
+  > open 2
+  > put 3 b 1 20000 20000 4000 irq=100:0
+  > commit 3
+  > END
+  level 1 a 1 8600
+  level 2 b 2 8000
+  $ for n in 7 8; do { printf 'open 1\nput 1 a 0 10000 10000 100 irq=100:0'; printf '+100:0%.0s' $(seq 2 $n); printf '\ncommit 1\nopen 2\nput 2 b 0 10000 10000 100 irq=100:0\ntest 2\ncommit 2\n'; } | desk play - | sed -n 6,7p; done
+  tested admitted
+  admitted 2
+  refused Untestable
+  refused TooManyInterrupts
+
 16,777,216 bytes are read, one more is too many:
 
   $ head -c 16777216 /dev/zero | tr '\0' '#' | desk play -

@@ -25,7 +25,7 @@ From a no to the node: nine tasks of a robot that share three mutexes. What stan
   $ desk limits examples/robot.toml
   infeasible motor
   battery section 1 len 900 - 850
-  motor deadline 1000 - 1050
+  motor deadline 1000 - 1050 with period 1050
   all - 952 motor
   [3]
 
@@ -44,12 +44,12 @@ With two sections of 0.3 ms in the place of one it is admitted; how far each num
   9 motor 450
   $ desk limits examples/robot-mended.toml --prefer deadline | tail -n 7
   motor cost 150 157 157
-  motor period 1000 1000 1000
+  motor period 1000 1000 1000 by 1000
   motor deadline 1000 450 450
   motor jitter 0 550 550
-  motor section 1 len 60 100 100
+  motor section 1 len 60 100 100 by cost
   motor slack 550
-  all 1006 1006 planner
+  all 1007 1007 planner
 
 What to set on the node, also where it isn't to change more than it must:
 
@@ -69,4 +69,4 @@ Priorities that a node has:
   $ sed '/^mutex/d; s/balance 7/balance 10/' settings > today
   $ desk judge examples/robot-mended.toml today | grep misses
   misses motor
-  8 motor misses 1000 at 9
+  8 motor misses 1000 needs 1350 at 9

@@ -36,6 +36,14 @@ Two teams fit: both are admitted, in either order, and the book is the same.
   line 10: skipped, draft 2 has ended
   line 11: skipped, draft 2 has ended
 
+Interrupts stay where the task that said them is removed: b takes 5000 and ten of 500.
+
+  $ printf 'open 1\nput 1 a 0 100000 100000 100 irq=1000:500\nput 1 b 1 20000 20000 5000\ncommit 1\nopen 1\nremove 2 a\ncommit 2\n' | desk rush - 2
+  1 team 1 admitted 1
+  2 team 1 admitted 2
+  version 2
+  level 1 b 1 10000
+
 One team alone: its entries come in the order of its lines. Its second draft is stale at its commit, which goes on until it
 is decided.
 
@@ -139,23 +147,21 @@ Eight teams: each has its entry, and the last version is theirs all.
   level 7 t7 7
   level 8 t8 8
 
-Team 1 commits a set with long chains a hundred and fifty times, and none of them is admitted; team 2's one commit is,
-wherever it comes:
+Team 1 commits a set with long chains a hundred and fifty times (ten times of an unproved program), and none of them is
+admitted; team 2's one commit is, wherever it comes:
 
   $ deadlines='3298325 3592989 3594007 3595025 3596043 3597061 3598079 3598089 6385949 6387975 6394033 6885357 6887383 6889409 6891435 6893461 6895487 6897513 6899539 7396911 7396921'
   $ fast() { printf "put $1 f 0 1009 333 334\nput $1 g 1 1013 1013 336\nput $1 h 2 1019 1019 338\nput $1 i 3 100003 100003 556\n"; }
   $ long() { echo "open 1"; fast $1; for d in $deadlines; do echo "put $1 s$d 9 10000000 $d 10"; done; echo "commit $1"; }
-  $ (for k in $(seq 1 150); do long $k; done; printf 'open 2\nput 151 b 0 10000000 10000000 1\ncommit 151\n') > both
-  $ for workers in 1 2 4; do desk rush both $workers > printed; grep -c infeasible printed; grep -c 'team 2 admitted 1$' printed; tail -n 2 printed; done
-  150
+  $ times=${UNPROVED:+10} && times=${times:-150}
+  $ (for k in $(seq 1 $times); do long $k; done; printf "open 2\nput $((times + 1)) b 0 10000000 10000000 1\ncommit $((times + 1))\n") > both
+  $ for workers in 1 2 4; do desk rush both $workers > printed; [ $(grep -c infeasible printed) = $times ] || cat printed; grep -c 'team 2 admitted 1$' printed; tail -n 2 printed; done
   1
   version 1
   level 1 b 2 1
-  150
   1
   version 1
   level 1 b 2 1
-  150
   1
   version 1
   level 1 b 2 1

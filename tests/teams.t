@@ -116,8 +116,8 @@ A folder's `node.toml` says what teams may take. It is no team's document, and w
   2 pan 6300
   3 tilt 1000
 
-What is past its budget has its name, with the team, what it takes, and what it may. The load is 283334 millionths, which
-are 284 thousandths; a lock that only one team uses counts for nothing:
+What is past its budget has its name, with the team, what it takes, and what it may. A quarter and a thirtieth are above 283
+thousandths, and 284 is printed; a lock that only one team uses counts for nothing:
 
   $ printf '[team.cam]\nload = 283\n' > kept/node.toml
   $ desk admit kept
@@ -144,7 +144,8 @@ Teams come by their names, and of a team the load before the section:
   refused: new PastBudget arm load 200 199
   [4]
 
-In a text the node's document stands in front, and nothing is rounded before a third is compared:
+In a text the node's document stands in front, and nothing is rounded before a third is compared; three thirds are all of the
+processor, and a nine-millionth more, of an interrupt or a task, is more than that:
 
   $ third() { printf '#%% 22\n[team.cam]\nload = %s\n#%% cam 55\n' $1; echo 'task=[{name="pan",period=3000,deadline=3000,cost=1000}]'; }
   $ third 333 | head -c -1 | desk admit -
@@ -153,6 +154,35 @@ In a text the node's document stands in front, and nothing is rounded before a t
   $ third 334 | head -c -1 | desk admit -
   admitted 1
   1 pan 1000
+
+  $ mkdir exact
+  $ budget() { printf '[team.cam]\nload = %s\n' $1 > exact/node.toml; }
+  $ thirds() { for name in p q r; do task $name 3000 1000; done; }
+  $ tick() { printf '[[interrupt]]\nperiod = %s\ncost = %s\n' $1 $2; }
+  $ budget 1000
+  $ thirds > exact/cam.toml
+  $ desk admit exact 2> notes | head -n 1
+  admitted 3
+  $ { thirds; tick 9000000 1; } > exact/cam.toml
+  $ desk admit exact
+  refused: PastBudget cam load 1001 1000
+  [4]
+  $ { thirds; task s 9000000 1; } > exact/cam.toml
+  $ desk admit exact
+  refused: PastBudget cam load 1001 1000
+  [4]
+
+An interrupt counts for the team that writes it, whose tasks may be none:
+
+  $ tick 100 25 > exact/base.toml
+  $ tick 100 25 > exact/cam.toml
+  $ budget 249
+  $ desk admit exact
+  refused: PastBudget cam load 250 249
+  [4]
+  $ budget 250
+  $ desk admit exact
+  admitted 0
 
 A budget needs a team that has a document:
 
@@ -269,7 +299,7 @@ Of a minimal conflict the same, so that its teams know of each other; a task of 
   $ cat moved/arm.toml moved/cam.toml > alone.toml
   $ desk diff kept alone.toml 2> notes | sed 1,2d
   removed tilt level 3 - bound 1000 - slack 29000 - team cam
-  changed arm level 1 - bound 8000 - slack 2000 - keys cost
+  changed arm level 1 - bound 8000 - slack 2000 - keys cost 2000 9000
   $ desk explain --task pan alone.toml 2> notes
   infeasible arm pan
   conflict arm pan

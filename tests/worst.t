@@ -148,7 +148,7 @@ hi can't wait for 2500 and execute for 2000 within 4400, and is above lo, by the
   $ desk worst examples/blocked-out.toml | grep -v until | grep -v '^[0-9]' | desk judge examples/blocked-out.toml -
   misses hi
   1 lo 14000 of 50000 at 1
-  2 hi misses 4400 at 2
+  2 hi misses 4400 needs 4500 at 2
   [3]
   $ desk worst examples/blocked-out.toml --task lo
   # lo 14000 of 14000

@@ -1,35 +1,39 @@
 /* Runs a set on this node, and prints what each task took beside its bound.
  *
- *     cc -std=c11 -Wall -Wextra -Werror -pthread -o measure examples/posix/measure.c \
- *         examples/posix/node.c examples/posix/overheads.c
- *     S=examples/shared-lock.toml
+ *     cc -std=c11 -Wall -Wextra -Werror -pthread -o measure measure.c node.c overheads.c fit.c \
+ *         load.c warnings.c
+ *     S=../shared-lock.toml
  *     { desk script $S 1; desk settings $S; desk admit $S; desk releases $S 2000000; } |
  *         sudo ./measure
  *
  * Each task is a SCHED_FIFO thread, each lock a mutex of the protocol PTHREAD_PRIO_PROTECT
  * (without a line `mutex` of none), all on one processor. A timer releases a job LATE after its
- * arrival. It executes until the thread's own processor time has grown by the cost, in its
- * sections with their locks. These costs leave out what the node takes: so what a task takes above
- * what `simulate` says, the node added.
+ * arrival. It executes until its own work has taken the cost (or what its release says behind
+ * `runs`), in its sections with their locks. Calls on locks are no work, nor are pauses above 2 us.
+ * So what a task takes above what `simulate` says, the node added.
  *
  *     -c CPU       the processor (else the last one that is allowed)
  *     -b PRIORITY  that of level 1 (else the least)
- *     -x N         a microsecond of the set lasts N microseconds here
+ *     -x N         a microsecond of the set lasts N microseconds here, up to 1,000
  *     -t FILE      the lines `thread` and `mutex` of the input, then who executed from when to
  *                  when, as `simulate` prints it: for `desk observe`
+ *     --seconds N  how long each of the six probes of overheads lasts (else 0.8 s), as far as there
+ *                  is memory for what they see, up to 400 KB a second
+ *     --load       beside processes of its own that load each processor that is allowed
  *
- * First come the node's overheads, and what a set may say of them (`[node]`, `[[interrupt]]`); then
- * how often and how long no task executed though a job was ready (outside); then each task's
- * greatest response from the arrival, rounded up, in microseconds of the set: `beyond` if it is
- * above the bound, `late` jobs past their deadline, `open` ones that weren't done at `until`.
- * Status 1: some job was late or beyond; 2: wrong input; 3: the system refused something. What was
- * measured is no bound: the worst case may not have come.
+ * On standard error comes what of the system delays the tasks. First come the node's overheads, and
+ * what a set may say of them (`[node]`, `[[interrupt]]`); then how often and how long no task
+ * executed though a job was ready (outside); then each task's greatest response from the arrival,
+ * rounded up, in microseconds of the set: `beyond` if it is above the bound, `late` jobs past their
+ * deadline, `open` ones that weren't done at `until`. Status 1: some job was late or beyond; 2:
+ * wrong words or input; 3: the system refused something. What was measured is no bound: the worst
+ * case may not have come.
  */
 #define _GNU_SOURCE /* for sched_setaffinity, pthread_setname_np; all else is POSIX.1-2017 */
 #include "node.h"
 
 #include <errno.h>
-#include <inttypes.h>
+#include <getopt.h>
 #include <sched.h>
 #include <stdatomic.h>
 #include <stdio.h>
@@ -42,6 +46,13 @@ enum { TASKS = 32, SECTIONS = 8, HELD = 4, LOCKS = TASKS * SECTIONS * HELD };
 enum { JOBS = 10000, SLICES = 400000 };
 /* Where two looks at the clock are so many nanoseconds apart, something else executed. */
 enum { GAP = 2000 };
+/* The greatest number of the input, in microseconds of the set, and the most words of a line. */
+enum { MOST = 1000000000, WORDS = 32 };
+
+struct slice {
+    int64_t start, stop;
+    int job;
+};
 
 struct section {
     int locks[HELD], count;
@@ -53,18 +64,14 @@ struct task {
     char name[25];
     int level, sections;
     int64_t deadline, cost, bound, last;
+    struct slice *slice;
     struct section section[SECTIONS];
 };
 
 /* Times from the start; finish 0: none. */
 struct job {
     int task;
-    int64_t arrival, ready, finish;
-};
-
-struct slice {
-    int64_t start, stop;
-    int job;
+    int64_t arrival, ready, finish, runs;
 };
 
 static struct lock locks[LOCKS];
@@ -74,55 +81,82 @@ static struct slice slices[SLICES];
 static int lock_count, task_count, job_count;
 /* How many nanoseconds a microsecond of the set lasts; the end of the run; when it began. */
 static int64_t scale = 1000, until, start;
-static atomic_int slice_count;
+static atomic_int begun_slices;
 static FILE *trace;
 
 /* ---- The run. ---- */
 
-/* A look at the clock: the slice goes on, or a new one begins where something else executed. */
-static int64_t look_up(struct task *task, int number, struct slice **slice)
+/* A new slice; those that there is no room for share the last place, and the trace is cut. */
+static struct slice *next_slice(void)
 {
-    int64_t time = now(CLOCK_MONOTONIC) - start;
-    if (*slice == NULL || time - task->last > GAP) {
-        int place = slice_count < SLICES ? slice_count++ : SLICES - 1;
-        *slice = &slices[place < SLICES ? place : SLICES - 1];
-        **slice = (struct slice){time, time, number};
-    }
-    return (*slice)->stop = task->last = time;
+    int place = atomic_fetch_add(&begun_slices, 1);
+    return &slices[place >= 0 && place < SLICES ? place : SLICES - 1];
 }
 
-/* Executes until the thread's processor time is `target`; 0 at the end of the run. */
-static int execute(struct task *task, int number, struct slice **slice, int64_t target)
+static int slice_count(void)
 {
-    for (;;) {
-        int64_t rest = target - now(CLOCK_THREAD_CPUTIME_ID), last = look_up(task, number, slice);
-        if (rest <= 0)
-            return 1;
-        for (int64_t time; rest > 0; last = time) {
-            time = look_up(task, number, slice);
-            if (time > until)
-                return 0;
-            rest -= time - last <= GAP ? time - last : 0;
-        }
+    return begun_slices >= 0 && begun_slices < SLICES ? begun_slices : SLICES;
+}
+
+static int is_cut(void)
+{
+    return slice_count() == SLICES;
+}
+
+/* A look at the clock: the slice goes on, or a new one begins where something else executed. */
+static int64_t look_up(struct task *task, int number)
+{
+    int64_t time = now(CLOCK_MONOTONIC) - start;
+    if (task->slice == NULL || time - task->last > GAP) {
+        task->slice = next_slice();
+        *task->slice = (struct slice){time, time, number};
     }
+    return task->slice->stop = task->last = time;
+}
+
+/* Works for so long, pauses left out; 0 at the end of the run. */
+static int work(struct task *task, int number, int64_t length)
+{
+    for (int64_t last = look_up(task, number), time; length > 0; last = time) {
+        time = look_up(task, number);
+        if (time > until)
+            return 0;
+        length -= time - last <= GAP ? time - last : 0;
+    }
+    return 1;
+}
+
+static int64_t least(int64_t a, int64_t b)
+{
+    return a < b ? a : b;
+}
+
+/* A section, up to the end of the job's work. */
+static int execute_section(struct task *task, int number, const struct section *section)
+{
+    int64_t end = least(section->at + section->len, jobs[number].runs);
+    for (int i = 0; i < section->count; i++)
+        need(pthread_mutex_lock(&locks[section->locks[i]].mutex), "lock",
+             locks[section->locks[i]].name);
+    int more = work(task, number, end - section->at);
+    for (int i = section->count; i-- > 0;)
+        need(pthread_mutex_unlock(&locks[section->locks[i]].mutex), "unlock",
+             locks[section->locks[i]].name);
+    return more;
 }
 
 static int execute_job(struct task *task, int number)
 {
-    int64_t begin = now(CLOCK_THREAD_CPUTIME_ID);
-    int more = 1;
-    struct slice *slice = NULL;
-    for (struct section *s = task->section; more && s < task->section + task->sections; s++) {
-        if (!execute(task, number, &slice, begin + s->at))
+    int64_t done = 0, runs = jobs[number].runs;
+    task->slice = NULL;
+    for (const struct section *s = task->section; s < task->section + task->sections; s++) {
+        if (s->at >= runs)
+            break;
+        if (!work(task, number, s->at - done) || !execute_section(task, number, s))
             return 0;
-        for (int i = 0; i < s->count; i++)
-            need(pthread_mutex_lock(&locks[s->locks[i]].mutex), "lock", locks[s->locks[i]].name);
-        more = execute(task, number, &slice, begin + s->at + s->len);
-        for (int i = s->count; i-- > 0;)
-            need(pthread_mutex_unlock(&locks[s->locks[i]].mutex), "unlock",
-                 locks[s->locks[i]].name);
+        done = least(s->at + s->len, runs);
     }
-    return more && execute(task, number, &slice, begin + task->cost);
+    return work(task, number, runs - done);
 }
 
 /* Takes each mutex once: glibc takes memory in a thread's first lock of one with a ceiling. */
@@ -162,121 +196,175 @@ static struct task *find_task(const char *name)
     return NULL;
 }
 
+/* The number of a mutex; -1: its name is too long, or there are too many. */
 static int find_lock(const char *name)
 {
     int i = 0;
     while (i < lock_count && strcmp(locks[i].name, name) != 0)
         i++;
-    lock_count += i == lock_count;
+    if (i < lock_count)
+        return i;
+    if (lock_count == LOCKS || strlen(name) >= sizeof locks[i].name)
+        return -1;
     memcpy(locks[i].name, name, strlen(name) + 1);
-    return i;
+    return lock_count++;
 }
 
-/* A section LOCK+LOCK@AT:LEN; or j=, over=, node= or irq=, which need nothing done. */
-static int read_field(struct task *task, char *word)
+/* A section LOCK+LOCK@AT:LEN, behind the one before it. */
+static int read_section(struct task *task, char *word, char *times)
 {
-    char *times = strchr(word, '@'), *more;
-    if (times == NULL)
-        return strchr(word, '=') != NULL;
-    if (task->sections == SECTIONS)
+    char *length = strchr(times, ':'), *more;
+    if (task->sections == SECTIONS || length == NULL)
         return 0;
     struct section *section = &task->section[task->sections++];
-    if (sscanf(times, "@%" SCNd64 ":%" SCNd64, &section->at, &section->len) != 2)
+    *times = *length = 0;
+    int64_t at = number_of(times + 1, MOST), len = number_of(length + 1, MOST);
+    int64_t end = task->sections > 1 ? section[-1].at + section[-1].len : 0;
+    section->at = at * scale;
+    section->len = len * scale;
+    if (at < 0 || len < 1 || section->at < end || section->at + section->len > task->cost)
         return 0;
-    *times = 0;
-    section->at *= scale;
-    section->len *= scale;
     for (word = strtok_r(word, "+", &more); word != NULL; word = strtok_r(NULL, "+", &more)) {
-        if (section->count == HELD || strlen(word) > 24)
+        int lock = find_lock(word);
+        if (section->count == HELD || lock < 0)
             return 0;
-        section->locks[section->count++] = find_lock(word);
+        section->locks[section->count++] = lock;
     }
-    return 1;
+    return section->count > 0;
 }
 
-/* A line `put 1 NAME WEIGHT PERIOD DEADLINE COST ..`. */
-static int read_put(char *line)
+/* A section; or j=, over=, node= or irq=, which need nothing done. */
+static int read_field(struct task *task, char *word)
 {
-    char name[25], *more;
-    long deadline, cost;
-    int rest;
-    if (sscanf(line, "put %*d %24s %*d %*d %ld %ld%n", name, &deadline, &cost, &rest) != 3 ||
-        task_count == TASKS || find_task(name) != NULL)
+    static const char *const others[] = {"j=", "over=", "node=", "irq="};
+    char *times = strchr(word, '@');
+    for (size_t i = 0; times == NULL && i < sizeof others / sizeof others[0]; i++)
+        if (strncmp(word, others[i], strlen(others[i])) == 0)
+            return 1;
+    return times != NULL && read_section(task, word, times);
+}
+
+/* Words `put 1 NAME WEIGHT PERIOD DEADLINE COST ..`. */
+static int read_put(char **words, int count)
+{
+    if (count < 7 || task_count == TASKS || strlen(words[2]) >= sizeof tasks[0].name ||
+        find_task(words[2]) != NULL || number_of(words[1], MOST) < 0 ||
+        number_of(words[3], MOST) < 0 || number_of(words[4], MOST) < 1)
         return 0;
     struct task *task = &tasks[task_count++];
-    memcpy(task->name, name, sizeof name);
+    int64_t deadline = number_of(words[5], MOST), cost = number_of(words[6], MOST);
+    memcpy(task->name, words[2], strlen(words[2]) + 1);
     task->deadline = deadline * scale;
     task->cost = cost * scale;
-    for (char *word = strtok_r(line + rest, " \n", &more); word != NULL;
-         word = strtok_r(NULL, " \n", &more))
-        if (!read_field(task, word))
+    if (deadline < 1 || cost < 1)
+        return 0;
+    for (int i = 7; i < count; i++)
+        if (!read_field(task, words[i]))
             return 0;
     return 1;
 }
 
-/* A line that begins with a number: a level with its bound, or behind `until` a release. */
-static int read_row(const char *line)
+/* Words of a level: LEVEL NAME BOUND, or of `judge`, whose third may say that none is met. */
+static int read_level(char **words, int count)
 {
-    char name[25];
-    long first, third = 0;
-    struct task *task;
-    if (sscanf(line, "%ld %24s %ld", &first, name, &third) < 2)
+    struct task *task = count < 3 ? NULL : find_task(words[1]);
+    int64_t bound = count < 3 ? -1 : number_of(words[2], MOST);
+    int is_none = count > 3 && (strcmp(words[2], "misses") == 0 || strcmp(words[2], "below") == 0);
+    if (count < 3 || number_of(words[0], MOST) < 1 || (bound < 1 && !is_none))
         return 0;
-    task = find_task(name);
-    if (task == NULL)
-        return 1; /* a task without a sheet isn't run */
-    if (until == 0)
-        task->bound = third * scale;
-    else if (job_count < JOBS)
-        jobs[job_count++] =
-            (struct job){(int)(task - tasks), first * scale, (first + third) * scale, 0};
-    else
-        return 0;
+    if (task != NULL && !is_none)
+        task->bound = bound * scale;
     return 1;
 }
 
-/* The trace says by which settings it was recorded. */
-static void trace_setting(const char *kind, const char *name, long number)
+/* Words of a release: TIME NAME, then its lateness, then `runs` and for how long, both or not. */
+static int read_release(char **words, int count)
 {
+    int with_runs = count > 3 && strcmp(words[count - 2], "runs") == 0;
+    int with_late = count - 2 * with_runs == 3;
+    if (count != 2 + with_late + 2 * with_runs)
+        return 0;
+    struct task *task = find_task(words[1]);
+    int64_t arrival = number_of(words[0], MOST);
+    int64_t late = with_late ? number_of(words[2], MOST) : 0;
+    int64_t runs = with_runs ? number_of(words[count - 1], MOST) : 1;
+    if (arrival < 0 || late < 0 || runs < 1)
+        return 0;
+    if (task == NULL)
+        return 1; /* a task without a sheet isn't run */
+    if (job_count == JOBS)
+        fail(2, "the input", "has", "more than 10000 releases");
+    jobs[job_count++] =
+        (struct job){(int)(task - tasks), arrival * scale, (arrival + late) * scale, 0,
+                     with_runs ? least(runs * scale, task->cost) : task->cost};
+    return 1;
+}
+
+/* Words `thread NAME NUMBER` or `mutex NAME NUMBER`. The trace says by which it was recorded. */
+static int read_setting(char **words, int count)
+{
+    int is_thread = strcmp(words[0], "thread") == 0;
+    int64_t number = count == 3 ? number_of(words[2], 1000000) : -1;
+    int lock = number < 1 || is_thread ? 0 : find_lock(words[1]);
+    if (number < 1 || lock < 0)
+        return 0;
+    if (!is_thread)
+        locks[lock].level = (int)number;
+    else if (find_task(words[1]) != NULL)
+        find_task(words[1])->level = (int)number;
+    levels = is_thread && number > levels ? (int)number : levels;
     if (trace != NULL)
-        fprintf(trace, "%s %s %ld\n", kind, name, number);
+        fprintf(trace, "%s %s %ld\n", words[0], words[1], (long)number);
+    return 1;
+}
+
+/* Words of a line in front of `until`, or that line. */
+static int read_words(char **words, int count)
+{
+    static const char *const heads[] = {"open", "commit", "admitted", "meets", "misses"};
+    if (strcmp(words[0], "put") == 0)
+        return read_put(words, count);
+    if (strcmp(words[0], "thread") == 0 || strcmp(words[0], "mutex") == 0)
+        return read_setting(words, count);
+    if (strcmp(words[0], "until") == 0) {
+        until = count == 2 ? number_of(words[1], MOST) * scale : 0;
+        return until > 0;
+    }
+    for (size_t i = 0; i < sizeof heads / sizeof heads[0]; i++)
+        if (strcmp(words[0], heads[i]) == 0)
+            return count > 1;
+    return read_level(words, count);
 }
 
 static int read_line(char *line)
 {
-    char name[25];
-    long number;
-    /* A row of `admit` there would be taken as a release. */
-    if (until != 0 && strchr("0123456789#\n", line[0]) == NULL)
-        fail(2, "line", line, "has to stand in front of the line until");
-    if (strncmp(line, "put ", 4) == 0)
-        return read_put(line);
-    if (sscanf(line, "thread %24s %ld", name, &number) == 2) {
-        if (find_task(name) != NULL)
-            find_task(name)->level = (int)number;
-        levels = number > levels ? (int)number : levels;
-        trace_setting("thread", name, number);
-        return 1;
+    char *words[WORDS], *more;
+    int count = 0;
+    for (char *word = strtok_r(line, " \n", &more); word != NULL;
+         word = strtok_r(NULL, " \n", &more)) {
+        if (count == WORDS)
+            return 0;
+        words[count++] = word;
     }
-    if (sscanf(line, "mutex %24s %ld", name, &number) == 2) {
-        locks[find_lock(name)].level = (int)number;
-        trace_setting("mutex", name, number);
+    if (count == 0 || words[0][0] == '#')
         return 1;
-    }
-    if (sscanf(line, "until %ld", &number) == 1) {
-        until = number * scale;
-        return 1;
-    }
-    /* admitted N, open 1, meets N, misses .., commit 1 */
-    return read_row(line) || strchr("#\naomc", line[0]) != NULL;
+    return until != 0 ? read_release(words, count) : read_words(words, count);
 }
 
+/* A line that isn't taken is shown as it was read. Behind `until` there are releases alone. */
 static void read_input(void)
 {
-    char line[4096];
-    while (fgets(line, sizeof line, stdin) != NULL)
+    static char line[8192], shown[8192];
+    while (fgets(line, sizeof line, stdin) != NULL) {
+        const char *why = until == 0 ? "isn't taken here"
+                                     : "is no release, which the lines behind until are";
+        memcpy(shown, line, sizeof shown);
+        shown[strcspn(shown, "\n")] = 0;
+        if (strlen(shown) == strlen(line) && !feof(stdin))
+            fail(2, "line", shown, "is too long, or has a zero byte");
         if (!read_line(line))
-            fail(2, "line", line, "isn't taken here");
+            fail(2, "line", shown, why);
+    }
     for (int i = 0; i < task_count; i++)
         if (tasks[i].level == 0)
             fail(2, "task", tasks[i].name, "has no line `thread`");
@@ -301,20 +389,22 @@ static int by_start(const void *a, const void *b)
 /* Slices that last a microsecond or more. */
 static void write_trace(FILE *file)
 {
-    for (int i = 0; i < slice_count; i++)
+    for (int i = 0; i < slice_count(); i++)
         if (in_set(slices[i].start) < in_set(slices[i].stop))
             fprintf(file, "%ld %ld %s\n", in_set(slices[i].start), in_set(slices[i].stop),
                     tasks[jobs[slices[i].job].task].name);
     for (int i = 0; i < job_count; i++)
         fprintf(file, jobs[i].finish != 0 ? "job %s %ld %ld\n" : "job %s %ld -\n",
                 tasks[jobs[i].task].name, in_set(jobs[i].arrival), in_set(jobs[i].finish));
+    if (is_cut())
+        fprintf(file, "the trace is cut\n"); /* which no trace of the desk has */
 }
 
 /* Outside: nobody executed, though the next to do so was ready. */
 static void print_pauses(void)
 {
     int64_t longest = 0, sum = 0, pauses = 0;
-    for (int i = 0; i + 1 < slice_count; i++) {
+    for (int i = 0; i + 1 < slice_count(); i++) {
         int64_t ready = jobs[slices[i + 1].job].ready, stop = slices[i].stop;
         int64_t pause = slices[i + 1].start - (ready > stop ? ready : stop);
         longest = pause > longest ? pause : longest;
@@ -322,7 +412,7 @@ static void print_pauses(void)
         pauses += pause > GAP;
     }
     printf("outside: %ld pauses, %ld ns in all, the longest %ld%s\n", (long)pauses, (long)sum,
-           (long)longest, slice_count == SLICES ? "; the trace is cut" : "");
+           (long)longest, is_cut() ? "; the trace is cut" : "");
 }
 
 static int print_task(int number)
@@ -348,20 +438,39 @@ static int print_task(int number)
 
 /* ---- The process. ---- */
 
-static int cpu = -1;
+static int cpu = -1, with_load;
+/* How long each probe of overheads lasts: by default Linux leaves real-time threads 950 ms of each
+ * second. */
+static int64_t probe = 800000000;
+
+/* The number of an option. */
+static int option_number(const char *option, int64_t from, int64_t most)
+{
+    int64_t number = number_of(optarg, most);
+    if (number < from)
+        fail(2, option, optarg, "isn't a number that it takes");
+    return (int)number;
+}
 
 static void read_options(int count, char **words)
 {
+    static const struct option longer[] = {
+        {"seconds", required_argument, NULL, 's'}, {"load", no_argument, NULL, 'l'}, {0}};
     int option;
-    while ((option = getopt(count, words, "b:c:x:t:")) != -1) {
-        if (option == '?' || (option != 't' && atol(optarg) < (option != 'c')))
-            fail(2, "usage:", "measure", "[-b PRIORITY] [-c CPU] [-x N] [-t FILE]");
+    while ((option = getopt_long(count, words, "b:c:x:t:", longer, NULL)) != -1) {
+        if (option == '?')
+            fail(2, "usage:", "measure",
+                 "[-b PRIORITY] [-c CPU] [-x N] [-t FILE] [--seconds N] [--load]");
         if (option == 't' && (trace = fopen(optarg, "w")) == NULL)
             fail(3, "open", optarg, strerror(errno));
-        base = option == 'b' ? atoi(optarg) : base;
-        cpu = option == 'c' ? atoi(optarg) : cpu;
-        scale = option == 'x' ? 1000 * atol(optarg) : scale;
+        base = option == 'b' ? option_number("-b", 1, 99) : base;
+        cpu = option == 'c' ? option_number("-c", 0, CPU_SETSIZE - 1) : cpu;
+        scale = option == 'x' ? 1000 * (int64_t)option_number("-x", 1, 1000) : scale;
+        probe = option == 's' ? 1000000000 * (int64_t)option_number("--seconds", 1, 86400) : probe;
+        with_load |= option == 'l';
     }
+    if (optind < count)
+        fail(2, "the word", words[optind], "isn't taken");
 }
 
 /* Binds the process to one processor, the last one that is allowed where none was named. */
@@ -371,9 +480,9 @@ static void bind_to_processor(void)
     need(sched_getaffinity(0, sizeof allowed, &allowed) != 0 ? errno : 0, "ask for the",
          "processors");
     for (int i = 0, named = cpu >= 0; !named && i < CPU_SETSIZE; i++)
-        cpu = CPU_ISSET(i, &allowed) ? i : cpu;
+        cpu = CPU_ISSET((size_t)i, &allowed) ? i : cpu;
     CPU_ZERO(&one);
-    CPU_SET(cpu, &one);
+    CPU_SET((size_t)cpu, &one);
     need(sched_setaffinity(0, sizeof one, &one) != 0 ? errno : 0, "bind to a", "processor");
 }
 
@@ -397,14 +506,18 @@ int main(int count, char **words)
     base = sched_get_priority_min(SCHED_FIFO);
     read_options(count, words);
     read_input();
+    if (with_load)
+        start_load();
     bind_to_processor();
     need(mlockall(MCL_CURRENT | MCL_FUTURE) != 0 ? errno : 0, "mlockall",
          "(CAP_IPC_LOCK, or RLIMIT_MEMLOCK)");
-    alarm((unsigned)(until / 1000000000 + 30)); /* ends the process, whatever its threads do */
+    print_warnings("", cpu);
+    /* (ends the process, whatever its threads do) */
+    alarm((unsigned)((until + overheads_last(probe)) / 1000000000 + 30));
     printf("processor %d, priorities %d to %d\n", cpu, base, base + levels - 1);
-    print_overheads();
+    print_overheads(probe);
     run_tasks();
-    qsort(slices, (size_t)slice_count, sizeof slices[0], by_start);
+    qsort(slices, (size_t)slice_count(), sizeof slices[0], by_start);
     if (trace != NULL)
         write_trace(trace);
     print_pauses();

@@ -1,5 +1,5 @@
 /* Clocks, threads and mutexes as a yes of the desk asks for them. */
-#define _POSIX_C_SOURCE 200809L
+#define _GNU_SOURCE /* for _SC_AVPHYS_PAGES; all else is POSIX.1-2017 */
 #include "node.h"
 
 #include <errno.h>
@@ -7,6 +7,7 @@
 #include <stdio.h>
 #include <stdlib.h>
 #include <string.h>
+#include <unistd.h>
 
 int base, levels = 2;
 
@@ -20,6 +21,33 @@ void need(int error, const char *what, const char *name)
 {
     if (error != 0)
         fail(3, what, name, strerror(error));
+}
+
+void *need_memory(size_t count, size_t size, const char *what)
+{
+    int64_t pages = sysconf(_SC_AVPHYS_PAGES), page = sysconf(_SC_PAGESIZE);
+    char *memory = NULL;
+    /* (of what is free three quarters: the system would sooner end the process than refuse it) */
+    if (count <= (size_t)(pages * page / 4 * 3) / size)
+        memory = calloc(count > 0 ? count : 1, size);
+    if (memory == NULL)
+        fail(3, "memory for", what, "isn't there: a shorter time takes less");
+    for (size_t i = 0; i < count * size; i += (size_t)page)
+        *(volatile char *)&memory[i] = 0; /* (so that it is there before it is needed) */
+    return memory;
+}
+
+int64_t number_of(const char *word, int64_t most)
+{
+    int64_t number = 0;
+    if (*word == 0)
+        return -1;
+    for (; *word != 0; word++) {
+        if (*word < '0' || *word > '9' || number > (most - (*word - '0')) / 10)
+            return -1;
+        number = 10 * number + (*word - '0');
+    }
+    return number;
 }
 
 int64_t now(clockid_t clock)

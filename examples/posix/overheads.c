@@ -7,15 +7,14 @@
 #include <stdio.h>
 #include <stdlib.h>
 
-/* Turns of a probe, and the nanoseconds from one to the next: 800 ms in all, since by default Linux
- * leaves real-time threads 950 ms of each second. */
-enum { TURNS = 800, TURN = 997000, SAMPLES = 4000 };
-/* For how many nanoseconds pauses are looked for. */
-enum { LOOKED = 800000000 };
+/* The nanoseconds from one turn of a probe to the next, and between two probes. */
+enum { TURN = 997000, BETWEEN = 200000000 };
+/* How many pauses of a second are kept; where there are more, the looking ends early. */
+enum { PAUSES = 5000 };
 
 struct gauge {
     const char *name, *text;
-    int64_t count, sample[SAMPLES];
+    int64_t count, most, *sample;
 };
 
 static struct gauge
@@ -25,29 +24,27 @@ static struct gauge
     job = {.name = "job", .text = "what a job without work takes: timer, two switches, its sleep"},
     lock = {.name = "lock", .text = "lock and unlock, the ceiling above the thread"},
     yield = {.name = "switch", .text = "sched_yield to an equal thread"},
-    gap = {.name = "gap", .text = "pauses of the highest thread, those above 1000, in 0.8 s"},
+    gap = {.name = "gap", .text = "pauses of the highest thread, those above 1000"},
     unseen;
 
-/* Pauses of the highest thread, by their begins. */
-struct pause {
-    int64_t begin, length;
-};
-static struct pause pauses[SAMPLES];
-static int pause_count;
+/* Pauses of the highest thread, by their begins, and for how long they were looked for. */
+static struct pause *pauses;
+static size_t pause_count, pause_most;
+static int64_t looked;
 
-/* When the turns of the present probe begin. */
-static int64_t first;
+/* How many turns a probe has, how long it takes, and when the turns of the present one begin. */
+static int64_t turns, probe_lasts, first;
 
 static void put(struct gauge *gauge, int64_t sample)
 {
-    if (gauge->count < SAMPLES && sample > 0)
+    if (gauge->count < gauge->most && sample > 0)
         gauge->sample[gauge->count++] = sample;
 }
 
 /* Wakes at each turn. */
 static void *wake(void *gauge)
 {
-    for (int64_t time = first; time < first + (int64_t)TURNS * TURN; time += TURN) {
+    for (int64_t time = first; time < first + turns * TURN; time += TURN) {
         sleep_until(time);
         put(gauge, now(CLOCK_MONOTONIC) - time);
     }
@@ -57,7 +54,7 @@ static void *wake(void *gauge)
 /* Executes round each turn, and sees for how long it didn't. */
 static void *watch(void *gauge)
 {
-    for (int64_t time = first; time < first + (int64_t)TURNS * TURN; time += TURN) {
+    for (int64_t time = first; time < first + turns * TURN; time += TURN) {
         int64_t longest = 0, next;
         sleep_until(time - 100000);
         for (int64_t last = now(CLOCK_MONOTONIC); last < time + 50000; last = next) {
@@ -71,15 +68,14 @@ static void *watch(void *gauge)
 
 static void *look(void *unused)
 {
-    int64_t last = now(CLOCK_MONOTONIC), end = last + LOOKED;
-    while (last < end && pause_count < SAMPLES) {
+    int64_t begin = now(CLOCK_MONOTONIC), last = begin;
+    while (last < begin + probe_lasts && pause_count < pause_most) {
         int64_t time = now(CLOCK_MONOTONIC);
-        if (time - last > 1000) {
-            put(&gap, time - last);
+        if (time - last > 1000)
             pauses[pause_count++] = (struct pause){last, time - last};
-        }
         last = time;
     }
+    looked = last - begin;
     return unused;
 }
 
@@ -87,7 +83,7 @@ static void *lock_often(void *unused)
 {
     struct lock probe = {.name = "of a probe", .level = levels};
     make_mutex(&probe);
-    for (int i = 0; i <= TURNS; i++) {
+    for (int64_t i = 0; i <= turns; i++) {
         int64_t time = now(CLOCK_MONOTONIC);
         need(pthread_mutex_lock(&probe.mutex), "lock", probe.name);
         need(pthread_mutex_unlock(&probe.mutex), "unlock", probe.name);
@@ -101,7 +97,7 @@ static void *give_way(void *unused)
 {
     static int64_t stamp;
     sleep_until(first);
-    for (int i = 0; i < TURNS; i++) {
+    for (int64_t i = 0; i < turns; i++) {
         stamp = now(CLOCK_MONOTONIC);
         sched_yield();
         put(&yield, now(CLOCK_MONOTONIC) - stamp);
@@ -115,13 +111,19 @@ static int by_value(const void *a, const void *b)
     return (x > y) - (x < y);
 }
 
+/* The least sample that no more than so many of a million are above. */
+static long quantile(const struct gauge *gauge, int64_t above)
+{
+    return (long)gauge->sample[gauge->count - 1 - gauge->count * above / 1000000];
+}
+
 static void print_gauge(struct gauge *gauge)
 {
-    int64_t *sample = gauge->sample, n = gauge->count;
-    qsort(sample, (size_t)n, sizeof *sample, by_value);
-    if (n > 0)
-        printf("%-9s %6ld %7ld %7ld %7ld %8ld  %s\n", gauge->name, (long)n, (long)sample[0],
-               (long)sample[n / 2], (long)sample[n * 99 / 100], (long)sample[n - 1], gauge->text);
+    qsort(gauge->sample, (size_t)gauge->count, sizeof *gauge->sample, by_value);
+    if (gauge->count > 0)
+        printf("%-8s %7ld %7ld %7ld %7ld %8ld %8ld %8ld  %s\n", gauge->name, (long)gauge->count,
+               (long)gauge->sample[0], quantile(gauge, 500000), quantile(gauge, 10000),
+               quantile(gauge, 1000), quantile(gauge, 100), quantile(gauge, 0), gauge->text);
 }
 
 static long most(long a, long b)
@@ -140,44 +142,14 @@ static long greatest(const struct gauge *gauge)
     return gauge->count > 0 ? rounded(gauge->sample[gauge->count - 1]) : 0;
 }
 
-/* The median time from one pause to the next, in microseconds; all that was looked at, of one. */
-static long usual_distance(void)
+static void print_interrupts(void)
 {
-    static int64_t distances[SAMPLES];
-    int count = pause_count - 1;
+    struct interrupt found[INTERRUPTS];
+    int count = fit_interrupts(pauses, pause_count, looked, found);
     for (int i = 0; i < count; i++)
-        distances[i] = pauses[i + 1].begin - pauses[i].begin;
-    qsort(distances, (size_t)most(count, 0), sizeof distances[0], by_value);
-    return count < 1 ? LOOKED / 1000 : most(1, (long)(distances[count / 2] / 1000));
-}
-
-/* How long the pauses of the worst window of so many microseconds took. */
-static int64_t worst_within(long window)
-{
-    int64_t sum = 0, worst = 0;
-    for (int from = 0, to = 0; from < pause_count; sum -= pauses[from++].length) {
-        for (; to < pause_count && pauses[to].begin < pauses[from].begin + 1000 * window; to++)
-            sum += pauses[to].length;
-        worst = sum > worst ? sum : worst;
-    }
-    return worst;
-}
-
-/* An interrupt that takes no less than the pauses that were seen, in a window of any length: in
- * each of its periods as much as they took in the worst window of that length. Short periods would
- * count rare pauses often: the period is doubled until that is at most twice the mean. */
-static void print_interrupt(void)
-{
-    long period = usual_distance();
-    int64_t all = 0;
-    for (int i = 0; i < pause_count; i++)
-        all += pauses[i].length;
-    while (period < 100000 && worst_within(period) * LOOKED > 2 * all * 1000 * period)
-        period *= 2;
-    long cost = rounded(worst_within(period));
-    if (pause_count > 0)
-        printf("[[interrupt]] # no less than the pauses seen\nperiod = %ld\ncost = %ld\n", period,
-               cost < period ? cost : period);
+        printf("[[interrupt]] # %s\nperiod = %ld\ncost = %ld\n",
+               count > 1 ? "together no less than the pauses seen" : "no less than the pauses seen",
+               (long)found[i].period, (long)found[i].cost);
 }
 
 /* What a set may say of the node: the greatest of each that was seen here. Of a job its timer is a
@@ -188,36 +160,82 @@ static void print_node(void)
     printf("[node] # the greatest seen, in us\njob = %ld\nlock = %ld\nrelease = %ld\nlate = %ld\n",
            most(greatest(&job), timer), greatest(&lock), timer,
            most(greatest(&late), greatest(&idle)));
-    print_interrupt();
+    print_interrupts();
 }
 
-void print_overheads(void)
+/* Memory for what is measured, before it is. */
+static void make_room(struct gauge *const *gauges, size_t count)
 {
-    struct {
-        void *(*body)(void *), *argument;
-        int level;
-    } probes[][2] = {
-        {{wake, &idle, levels}},
-        {{wake, &late, levels}, {watch, &job, 1}},
-        {{lock_often, NULL, 1}},
-        {{watch, &release, levels}, {wake, &unseen, 1}},
-        {{look, NULL, levels}},
-        {{give_way, NULL, 1}, {give_way, NULL, 1}},
-    };
-    struct gauge *gauges[] = {&late, &idle, &release, &job, &lock, &yield, &gap};
-    for (size_t i = 0; i < sizeof probes / sizeof probes[0]; i++) {
+    for (size_t i = 0; i < count; i++)
+        if (gauges[i] != &gap) {
+            gauges[i]->most = 2 * turns;
+            gauges[i]->sample = need_memory(2 * (size_t)turns, sizeof(int64_t), "the overheads");
+        }
+    pause_most = (size_t)(probe_lasts / 1000000 * PAUSES / 1000);
+    pauses = need_memory(pause_most, sizeof *pauses, "the pauses");
+}
+
+/* The pauses' lengths, as those of a gauge. */
+static void gauge_pauses(void)
+{
+    gap.sample = need_memory(pause_count, sizeof *gap.sample, "the pauses");
+    gap.most = (int64_t)pause_count;
+    for (size_t i = 0; i < pause_count; i++)
+        put(&gap, pauses[i].length);
+    if (looked < probe_lasts)
+        fprintf(stderr, "note: pauses were looked for in %ld ms only: they are too many to keep\n",
+                (long)(looked / 1000000));
+}
+
+struct probe {
+    void *(*body)(void *), *argument;
+    int level;
+};
+
+/* The probes, one after the other: each has one thread or two. */
+static const struct probe probes[][2] = {
+    {{wake, &idle, 0}},
+    {{wake, &late, 0}, {watch, &job, 1}},
+    {{lock_often, NULL, 1}},
+    {{watch, &release, 0}, {wake, &unseen, 1}},
+    {{look, NULL, 0}},
+    {{give_way, NULL, 1}, {give_way, NULL, 1}},
+};
+enum { PROBES = sizeof probes / sizeof probes[0] };
+
+int64_t overheads_last(int64_t probe)
+{
+    return PROBES * (probe + 2 * (int64_t)BETWEEN);
+}
+
+/* Level 0 stands for the highest one. */
+static pthread_t start(const struct probe *probe)
+{
+    int level = probe->level == 0 ? levels : probe->level;
+    return run(level, probe->body, probe->argument, "of a probe");
+}
+
+void print_overheads(int64_t probe)
+{
+    struct gauge *gauges[] = {&late, &idle, &release, &job, &lock, &yield, &gap, &unseen};
+    size_t printed = sizeof gauges / sizeof gauges[0] - 1;
+    probe_lasts = probe;
+    turns = probe / TURN;
+    make_room(gauges, printed + 1);
+    for (int i = 0; i < PROBES; i++) {
         pthread_t threads[2];
         int count = probes[i][1].body != NULL ? 2 : 1;
-        first = now(CLOCK_MONOTONIC) + 200000000;
-        sleep_until(first - 20000000);
+        first = now(CLOCK_MONOTONIC) + BETWEEN;
+        sleep_until(first - BETWEEN / 10);
         for (int k = 0; k < count; k++)
-            threads[k] = run(probes[i][k].level, probes[i][k].body, probes[i][k].argument,
-                             "of a probe");
+            threads[k] = start(&probes[i][k]);
         for (int k = 0; k < count; k++)
             pthread_join(threads[k], NULL);
     }
-    printf("overhead   times   least  median     99%% greatest  in ns\n");
-    for (size_t i = 0; i < sizeof gauges / sizeof gauges[0]; i++)
+    gauge_pauses();
+    printf("each probe lasts %ld ms\n", (long)(probe / 1000000));
+    printf("overhead   times   least  median     99%%    99.9%%   99.99%% greatest  in ns\n");
+    for (size_t i = 0; i < printed; i++)
         print_gauge(gauges[i]);
     print_node();
 }

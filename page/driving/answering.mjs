@@ -42,11 +42,10 @@ export async function all_execution() {
   await browser.press('End');
   await browser.settled();
   let seen = await look();
-  const times = it => Math.ceil(it * 1006 / 1000);
-  // (the section of imu ends with its cost: 202 and 51, each rounded up)
+  const times = it => Math.floor(it * 1007 / 1000);
   equal(seen.rows.map(it => it.cost).join(),
-    [150, 900, 253, 5000, 3000, 5000, 1200, 8000, 15000]
-      .map(it => it === 253 ? it : times(it)).join(), 'all costs times the factor');
+    [150, 900, 250, 5000, 3000, 5000, 1200, 8000, 15000].map(times).join(),
+    'all costs times the factor');
   const lengths = text => [...text.matchAll(/len = (\d+)/g)].map(it => Number(it[1]));
   equal(lengths(seen.set).join(), lengths(example('robot-mended')).map(times).join(),
     'and all sections');
@@ -55,7 +54,7 @@ export async function all_execution() {
   await browser.press('ArrowRight');
   await browser.settled();
   seen = await look();
-  equal(`${seen.rows[3].cost} ${seen.strip}`, '5035 verdict is-no',
+  equal(`${seen.rows[3].cost} ${seen.strip}`, '5040 verdict is-no',
     'and a thousandth more does not');
   await browser.press('Tab');
   for (let steps = 0; steps < 2 && (await look()).set !== example('robot-mended'); steps++)

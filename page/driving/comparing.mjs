@@ -60,11 +60,12 @@ function compare_order(what, explain, conflict) {
 }
 // Each change that mends a refused set has its button.
 function compare_mends(what, limits, mends) {
-  const lines = limits.split('\n').slice(1).map(it => it.split(' ')).filter(it => it.length > 4);
-  const wanted = lines.map(words => {
+  const lines = limits.split('\n').slice(1).map(it => it.split(' with '))
+    .map(([front, along]) => [front.split(' '), along]).filter(([words]) => words.length > 4);
+  const wanted = lines.map(([words, along]) => {
     const [name, key] = words, [value, , most] = words.slice(-3);
     const what = key === 'section' ? `length of section ${words[2]}` : key;
-    return `${name}: ${what} ${value} → ${most}`;
+    return `${name}: ${what} ${value} → ${most}${along ? `, with ${along}` : ''}`;
   });
   equal(mends.map(digits).join('|'), wanted.join('|'), `${what}: what mends it`);
 }

@@ -139,10 +139,10 @@ async function mended(set) {
   equal(seen.set, late.replace('cost = 1000\n', 'cost = 998\n'),
     'is written without what the node takes');
   compare_set('a mended node', seen.set, seen);
-  // All execution goes as the desk's factor does, with what the node takes of it.
+  // All execution goes as far as the desk's factor does, with what the node takes of it.
   seen = await put({ set });
   const factor = Number(seen.answers.limits.text.match(/^all (\d+)/m)[1]);
-  const times = it => Math.ceil(it * factor / 1000);
+  const times = it => Math.floor(it * factor / 1000);
   await browser.run(() => document.querySelector('#scale input').focus());
   await browser.press('End');
   await browser.settled();

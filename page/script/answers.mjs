@@ -70,12 +70,17 @@ export function read_explain({ text, status }) {
 }
 
 // A line of `limits`: a number of a task, its value, and the furthest in this order and in some
-// order.
-function read_limit(words) {
+// order; the number that goes along with them, and what holds it where its sheet may have none
+// further.
+function read_limit(all) {
+  const hold = all.indexOf('by', 2), words = hold < 0 ? all : all.slice(0, hold);
+  const held = hold < 0 ? null : all.slice(hold + 1).join(' ');
   const section = words[1] === 'section' ? Number(words[2]) : null;
-  const key = section === null ? words[1] : 'len';
-  const [value, in_order, most] = words.slice(-3).map(number);
-  return { key, section, value, in_order, most };
+  const key = section === null ? words[1] : 'len', end = words.indexOf('with', 2);
+  const [value, in_order, most] = words.slice(0, end < 0 ? undefined : end).slice(-3).map(number);
+  const along = end < 0 ? null : { key: words[end + 1], most: Number(words.at(-1)),
+    in_order: words.length > end + 3 ? Number(words[end + 2]) : null };
+  return { key, section, value, in_order, most, along, held };
 }
 // `limits`: for each task its numbers and how far each may go; and the factor on all execution. Of
 // a refused set these are the changes that mend it.
@@ -94,14 +99,12 @@ export function read_limits({ text, status }) {
 export const limit_of = (limits, name, key) =>
   limits?.tasks.get(name)?.find(it => it.key === key && it.section === null) ?? null;
 
-// `judge`: each task from the lowest level up, and what becomes of it; `explain` also says what one
-// needs that misses its deadline.
+// `judge` and `explain`: each task from the lowest level up, and what becomes of it.
 function read_fate(line) {
   const [level, name, word, last, next, needs] = line.split(' ');
   const row = { level: Number(level), name };
   if (word === 'misses')
-    return { ...row, fate: word, deadline: Number(last),
-      needs: next === 'needs' ? Number(needs) : null };
+    return { ...row, fate: word, deadline: Number(last), needs: Number(needs) };
   if (word === 'below') return { ...row, fate: word, other: last };
   return { ...row, fate: 'meets', response: Number(word), deadline: Number(next) };
 }
@@ -114,16 +117,26 @@ export function read_judge({ text, status, told }) {
 }
 
 // `diff`: each task of which there is something to say, with its level, its bound and what that
-// leaves of the deadline, before and after; and the keys that differ.
+// leaves of the deadline, before and after; and the keys that differ, with what was and what is. In
+// front of them stands what no task has: the preference, the node, the interrupts.
+function read_differences(words) {
+  const found = [], rest = [...words];
+  while (rest.length > 2) {
+    const key = rest[0] === 'section' ? rest.splice(0, 2).join(' ') : rest.shift();
+    const [old, now] = rest.splice(0, 2);
+    found.push({ key, old, now });
+  }
+  return found;
+}
 function read_change(line) {
   const [kind, name, , ...words] = line.split(' ');
-  const keys = words[8] === 'keys' ? words.slice(9) : [];
+  const keys = words[8] === 'keys' ? read_differences(words.slice(9)) : [];
   const two = from => words.slice(from, from + 2).map(number);
   return { kind, name, level: two(0), bound: two(3), left: two(6), keys };
 }
 export function read_diff({ text, status }) {
   if (status !== 0 && status !== 3) return null;
-  return lines_of(text).slice(2).map(read_change);
+  return lines_of(text).slice(2).filter(it => it.split(' ')[2] === 'level').map(read_change);
 }
 
 // `play`: a reply for each line that isn't skipped, then the node's state.

@@ -291,7 +291,8 @@ export class Bars {
       .map(it => element('th', { scope: 'col' }, it)));
     const cells = it => [number_told(it),
       ...[it.value, it.in_order, it.most].map(value => value === null ? '–' : grouped(value))];
-    const body = rows.map(it => element('tr', ...cells(it).map(text => element('td', text))));
+    const body = rows.map(it => element('tr', it.held ? { title: `held by ${it.held}` } : {},
+      ...cells(it).map(text => element('td', text))));
     return [element('table', { 'aria-label': `how far the numbers of ${name} may go` },
       head, ...body)];
   }

@@ -2,10 +2,8 @@
 // it is written in one of the two texts.
 import { limit_of } from './answers.mjs';
 import { element, grouped, plural, thousandths } from './dom.mjs';
-import { name_of, number_in } from './toml.mjs';
 
 const KINDS = { removed: 'no longer there', added: 'new' };
-const NUMBERED = ['weight', 'period', 'deadline', 'cost', 'jitter'];
 const or_none = value => value === null || value === undefined ? '–' : grouped(value);
 
 // Two numbers, and whether the second is better, where both are there.
@@ -15,17 +13,11 @@ function cell_of([before, now], more_is_better = null) {
   const kind = !is_known ? 'td' : now > before === more_is_better ? 'td.better' : 'td.worse';
   return element(kind, `${or_none(before)} → ${or_none(now)}`);
 }
-// What a task's sheet says otherwise, with the numbers that both texts have, where they are read.
-function what_of({ kind, name, keys }, documents) {
+// What a task's sheet says otherwise, with what was and what is.
+const put = word => word === '-' ? '–' : /^\d+$/.test(word) ? grouped(Number(word)) : word;
+function what_of({ kind, keys }) {
   if (!keys.length) return KINDS[kind] ?? kind;
-  const sheets = documents.map(it => it.tasks.find(task => name_of(task) === name));
-  const told = key => {
-    if (!NUMBERED.includes(key) || !sheets[0] || !sheets[1]) return key;
-    const [before, now] = sheets.map(it => number_in(it, key) ?? 0);
-    // (what the node takes of it may differ alone)
-    return before === now ? key : `${key} ${grouped(before)} → ${grouped(now)}`;
-  };
-  return keys.map(told).join(', ');
+  return keys.map(({ key, old, now }) => `${key} ${put(old)} → ${put(now)}`).join(', ');
 }
 function growth_of(name, was, now) {
   const limits = [was, now].map(it => limit_of(it.limits, name, 'cost'));
@@ -33,7 +25,7 @@ function growth_of(name, was, now) {
 }
 function row_of(it, was, now) {
   const head = element('th', { scope: 'row' }, it.name), growth = growth_of(it.name, was, now);
-  const what = what_of(it, [was.document, now.document]);
+  const what = what_of(it);
   return element('tr', head, element('td.what', what), cell_of(it.level),
     cell_of(it.bound, false), cell_of(it.left, true), cell_of(growth, true));
 }

@@ -31,9 +31,10 @@ const BROKEN = {
   cost: it => `executes ${us(it.value)}, and its cost is ${us(it.promised)}`,
   period: it =>
     `arrives ${us(it.value)} after the one before, and its period is ${us(it.promised)}`,
+  late: it => `is ready ${us(it.value)} after its arrival, and its jitter is ${us(it.promised)}`,
   bound: it => `takes ${us(it.value)}, and its bound is ${us(it.promised)}`,
   open: () => 'isn\'t done at the end, and its bound is past',
-  blocked: it => `waits ${us(it.value)} for tasks below it, ${it.by} first; its blocking is ` +
+  blocked: it => `waits ${us(it.value)} for tasks below it, ${it.by} longest; its blocking is ` +
     us(it.promised),
   foreign: it => `waits ${us(it.value)} for ${it.by}, which the set doesn't have`,
   idle: it => `waits ${us(it.value)} while nobody executes`,

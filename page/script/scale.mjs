@@ -1,7 +1,7 @@
 // All execution at once, as on a slower processor: a grip for the factor on it, with how far
-// `limits` lets it go. It scales as the desk's factor does, in thousandths: each cost, and the
-// begin and the length of each section, rounded up; a section begins no earlier than the one before
-// it ends, and the cost is at least the end of the last; what timers and interrupts take.
+// `limits` lets it go. It scales in thousandths, rounded down, so that what the desk's factor allows
+// passes: each cost, and the begin and the length of each section, and what timers and interrupts
+// take.
 import { element, thousandths } from './dom.mjs';
 import { padded_execution, taken } from './padding.mjs';
 import { name_of, number_in, put_key } from './toml.mjs';
@@ -17,7 +17,7 @@ export const execution_of = document => ({
 const put_where_changed = (document, table, key, value) => value === number_in(table, key) ? [] :
   put_key(document, table, key, String(value));
 export function scaled(document, base, permille) {
-  const times = value => Math.ceil(value * permille / 1000);
+  const times = value => Math.floor(value * permille / 1000);
   return [...scaled_node(document, base, times), ...document.tasks.flatMap(task => {
     const was = base.tasks.get(name_of(task));
     if (!was?.cost || was.sections.length !== task.sections.length) return [];

@@ -29,8 +29,9 @@ function need_told(account, point) {
 }
 // Each change that mends the set, as a button that makes it.
 function mend_told([name, limit], mend) {
-  const { value, most } = limit;
-  const what = `${name}: ${number_told(limit)} ${grouped(value)} → ${grouped(most)}`;
+  const { value, most, along } = limit;
+  const with_it = along ? `, with ${along.key} ${grouped(along.most)}` : '';
+  const what = `${name}: ${number_told(limit)} ${grouped(value)} → ${grouped(most)}${with_it}`;
   return element(
     'li', element('button.small', { type: 'button', onclick: () => mend(name, limit) }, what));
 }

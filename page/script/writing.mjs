@@ -8,7 +8,7 @@ import { show_lines } from './printing.mjs';
 import { draw_bars, show_document } from './showing.mjs';
 import { followed, parts, past, state } from './state.mjs';
 import {
-  name_of, number_in, put_key, put_preference, sections_in, set_number, spliced, string_in,
+  name_of, put_key, put_preference, sections_in, set_number, spliced, string_in,
 } from './toml.mjs';
 import { notice, safely } from './trouble.mjs';
 // The text is another. `by` is what was edited: the text area keeps what is typed there.
@@ -41,20 +41,16 @@ export function grow(name, wanted) {
   const cost = Math.max(1, wanted, ...ends);
   edit(set_number(state.document, index, 'cost', cost), `grip ${name} ${parts.bars.pulls}`);
 }
-// A number of a task, as far as `limits` says that it has to come. A period takes a later deadline
-// along, and a deadline a shorter period.
+// A number of a task, as far as `limits` says that it has to come, with the one that goes along.
 export function mend(name, limit) {
-  const { document } = state, { key, section, most } = limit;
+  const { document } = state, { key, section, most, along } = limit;
   const index = document.tasks.findIndex(it => name_of(it) === name);
   const task = document.tasks[index];
   if (!task) return;
   if (section !== null)
     return edit(put_key(document, task.sections[section - 1], key, String(most)));
-  const period = number_in(task, 'period'), deadline = number_in(task, 'deadline');
-  const along = key === 'deadline' && most > period ? 'period' :
-    key === 'period' && most < deadline ? 'deadline' : null;
   edit([...set_number(document, index, key, most),
-    ...along ? set_number(document, index, along, most) : []]);
+    ...along ? set_number(document, index, along.key, along.most) : []]);
 }
 // The set says that shorter deadlines stand higher, or says so no more.
 export function prefer_deadlines() {

@@ -209,6 +209,17 @@ def first_blocker(tasks, i, above):
     return None
 
 
+def share(cost, period):
+    """In millionths, rounded up."""
+    return -(-cost * 1_000_000 // period)
+
+
+def share_of_tasks(tasks):
+    """What the tasks take, without timers and interrupts."""
+    return sum(share(task.cost, task.period) for task in tasks)
+
+
 def load(tasks):
-    """In millionths, each task's rounded up."""
-    return sum(-(-task.cost * 1_000_000 // task.period) for task in tasks)
+    """What the tasks take, each task's timer, and each interrupt."""
+    timers = sum(share(task.node.release, task.period) for task in tasks)
+    return share_of_tasks(tasks) + timers + sum(share(cost, period) for period, cost in interrupts_of(tasks))

@@ -135,9 +135,8 @@ def accounts(tasks, order, task):
 
 def missed(tasks, level, i, words, above):
     """What a task needs at least that misses its deadline in an order; those above it from the highest level down."""
-    chain = analysis.trail(tasks, i, set(above))
-    yield level_line(tasks, level, i, f"{words} needs {chain[-1] + tasks[i].jitter}")
-    yield from parts(tasks, i, above[::-1], chain[-2])
+    yield level_line(tasks, level, i, words)
+    yield from parts(tasks, i, above[::-1], analysis.trail(tasks, i, set(above))[-2])
 
 
 def level_line(tasks, level, i, words):
@@ -212,11 +211,16 @@ def limits_in(tasks, order, task):
         if task not in (None, i):
             continue
         for number in limits.numbers_of(sheet):
-            most = own_of(sheet, number, limits.furthest(tasks, i, number))
+            found = limits.furthest(tasks, i, number)
+            most = own_of(sheet, number, found)
             if most is not None:
-                in_this = or_dash(own_of(sheet, number, limits.furthest(tasks, i, number, in_order)))
+                found_in = limits.furthest(tasks, i, number, in_order)
+                in_this = or_dash(own_of(sheet, number, found_in))
                 value = own_of(sheet, number, number.value(sheet))
-                text.append(f"{sheet.name} {number.words()} {value} {in_this} {most}\n")
+                along = along_with(sheet, number, [found_in, found])
+                holds = number.held_by(sheet, found)
+                held = "" if holds is None else f" by {holds}"
+                text.append(f"{sheet.name} {number.words()} {value} {in_this} {most}{along}{held}\n")
         if order is not None:
             text.append(f"{sheet.name} slack {sheet.deadline - bounds[i]}\n")
     if order is None and task is None and not text:
@@ -224,9 +228,19 @@ def limits_in(tasks, order, task):
     if tasks and task is None:
         greatest = limits.factor(tasks)
         fails = "" if greatest is None else f" {tasks[limits.first_to_fail(tasks, greatest + 1)].name}"
-        own = None if order is None else limits.factor(tasks, in_order)
+        in_this = lambda other, permille: limits.is_passing_at(other, order, permille)
+        own = None if order is None else limits.factor(tasks, in_this)
         text.append(f"all {or_dash(own)} {or_dash(greatest)}{fails}\n")
     return "".join(text)
+
+
+def along_with(sheet, number, values):
+    """What goes along with values of a number, of which the last is the furthest: the other number with each that there is."""
+    other = number.taken_along()
+    if other is None or other.value(number.with_value(sheet, values[-1])) == other.value(sheet):
+        return ""
+    with_each = [other.value(number.with_value(sheet, it)) for it in values if it is not None]
+    return " ".join([f" with {other.words()}", *map(str, with_each)])
 
 
 def own_of(sheet, number, value):
@@ -243,19 +257,17 @@ def bounds_of(tasks, order):
     return {i: analysis.response_of(tasks, i, above) for _, i, above in analysis.levels_of(order)}
 
 
-def diff(old, change):
-    new, weighs = change
+def diff(old, new):
     old, new = differences.Side(old), differences.Side(new)
     first = admitted(new.tasks, new.order) + "was " + admitted(old.tasks, old.order)
-    lines = "".join(line + "\n" for line in differences.lines_of(old, new, weighs))
+    lines = "".join(line + "\n" for line in differences.lines_of(old, new))
     return first + lines, 0 if new.order is not None else INFEASIBLE
 
 
 def read_change(data, preference):
-    """The new set of `diff`, and whether a weight is a key of it."""
+    """The new set of `diff`."""
     try:
-        new = teams.read_set(data, preference)
-        return new, (preference or new.own) != "deadline"
+        return teams.read_set(data, preference)
     except Refused as refusal:
         raise refusal.behind("new") from None
 
@@ -420,7 +432,7 @@ def told(call, said, text, status):
     if prefer is not None and tasks.own not in (None, prefer):
         lines.append(f'--prefer {prefer} overrides the set\'s prefer = "{tasks.own}"')
     if call.command is COMMANDS["diff"]:
-        lines += notes(others[0][0])
+        lines += notes(others[0])
     else:
         lines += ["the set has no task"] * (not tasks) + notes(tasks)
         if tasks and call.options.get("base", 1) + len(tasks) - 1 > 99:

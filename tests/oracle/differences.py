@@ -1,16 +1,16 @@
 """What a change of a set does to each task: FORMATS.md, What diff prints."""
 
-import analysis
+import itertools
 
-KEYS = {"weight": "weight", "period": "period", "deadline": "deadline", "cost": "cost", "section": "sections",
-        "jitter": "jitter", "outranks": "outranks", "node": "node", "interrupt": "interrupts"}  # fmt: skip
+import analysis
+from sets import ALL
 
 
 class Side:
-    """A set, its best order if there is one, and of each name its sheet and its seat."""
+    """A set, by what it was taken, its best order if there is one, and of each name its sheet and its seat."""
 
     def __init__(self, tasks):
-        self.tasks, self.order = tasks, analysis.best_order(tasks)
+        self.tasks, self.by, self.order = tasks, tasks.by, analysis.best_order(tasks)
         self.sheets = {task.name: task for task in tasks}
         self.seats = {}  # level, bound and slack by name, where some order passes
         for level, i, above in analysis.levels_of(self.order or []):
@@ -18,9 +18,28 @@ class Side:
             self.seats[tasks[i].name] = (level, bound, tasks[i].deadline - bound)
 
 
-def lines_of(old, new, weighs):
+def lines_of(old, new):
     """The lines behind the first two, each that has no keys with the team of its task: the new set's, else the old one's."""
-    return [line if " keys " in line else line + team_of(line.split()[1], old, new) for line in changes(old, new, weighs)]
+    lines = changes(old, new, (old.by, new.by) == ("weight", "weight"))
+    return whole(old, new) + [line if " keys" in line else line + team_of(line.split()[1], old, new) for line in lines]
+
+
+def whole(old, new):
+    """What of a change no task has."""
+    lines = [] if old.by == new.by else [f"prefer {old.by} {new.by}"]
+    was, now = (side.tasks[0].node._asdict() if side.tasks else {} for side in (old, new))
+    keys = [words(key, was.get(key, 0), now.get(key, 0)) for key in ("job", "lock", "release", "late")]
+    lines += ["node" + "".join(keys)] if any(keys) else []
+    both = (next((it.interrupts for it in side.tasks if it.interrupts), ()) for side in (old, new))
+    for place, pair in enumerate(itertools.zip_longest(*both, fillvalue=("-", "-")), 1):
+        (period, cost), (new_period, new_cost) = pair
+        keys = words("period", period, new_period) + words("cost", cost, new_cost)
+        lines += [f"interrupt {place}{keys}"] if keys else []
+    return lines
+
+
+def words(key, was, now):
+    return "" if was == now else f" {key} {was} {now}"
 
 
 def team_of(name, old, new):
@@ -35,7 +54,7 @@ def changes(old, new, weighs):
         if task.name not in old.sheets:
             lines.append(line("added", task.name, old, new))
         elif keys := changed_keys(old.sheets[task.name], task, weighs):
-            lines.append(" ".join([line("changed", task.name, old, new), "keys", *keys]))
+            lines.append(line("changed", task.name, old, new) + " keys" + keys)
         elif old.order is not None and new.order is not None:
             (before, bound_before, _), (after, bound_after, _) = old.seats[task.name], new.seats[task.name]
             if bound_before != bound_after:
@@ -46,8 +65,30 @@ def changes(old, new, weighs):
 
 
 def changed_keys(before, after, weighs):
-    keys = [key for key, field in KEYS.items() if getattr(before, field) != getattr(after, field)]
-    return keys if weighs else [key for key in keys if key != "weight"]
+    """What was and what is of each number that is a task's own, and of its sections and whom it must outrank."""
+    was, now = own(before), own(after)
+    out = words("weight", before.weight, after.weight) if weighs else ""
+    out += "".join(words(key, getattr(was, key), getattr(now, key)) for key in ("period", "deadline", "cost"))
+    for place, pair in enumerate(itertools.zip_longest(was.sections, now.sections), 1):
+        out += words(f"section {place}", *(section_word(part) for part in pair))
+    return out + words("jitter", was.jitter, now.jitter) + words("outranks", *(over_word(it.outranks) for it in (was, now)))
+
+
+def own(task):
+    """A sheet without what the node takes."""
+    sections, before = [], task.node.job - task.node.release
+    for part in task.sections:
+        sections.append(part._replace(at=part.at - before, len=part.len - task.calls(part)))
+        before += task.calls(part)
+    return task._replace(cost=task.cost - before, jitter=task.jitter - task.node.late, sections=tuple(sections))
+
+
+def section_word(part):
+    return "-" if part is None else f"{'+'.join(part.locks)}@{part.at}:{part.len}"
+
+
+def over_word(names):
+    return "*" if names == ALL else "+".join(names) or "-"
 
 
 def line(kind, name, old, new):

@@ -4,7 +4,6 @@ from typing import NamedTuple
 
 import analysis
 from analysis import is_feasible
-from sets import is_interrupt, RELEASE_MOST
 
 PERIOD_LEAST, PERIOD_MOST = 1000, 10_000_000
 
@@ -30,6 +29,20 @@ class Number(NamedTuple):
         """What of a value is the task's own; None where none is left."""
         own = value - self.part(task)
         return None if own < (1 if self.kind in ("cost", "len") else 0) else own
+
+    def taken_along(self):
+        """The number that another value of this one may take along."""
+        return {"period": Number("deadline"), "deadline": Number("period")}.get(self.kind)
+
+    def held_by(self, task, value):
+        """What holds the number at a value past which the task's sheet may have none; or None."""
+        if value != self.easiest_first(task)[-1]:
+            return None
+        if self.kind == "period":
+            return "cost" if value == task.cost else "jitter" if value == task.jitter + 1 else PERIOD_LEAST
+        if self.kind == "len":
+            return f"section {self.section + 2}" if task.sections[self.section + 1 :] else "cost"
+        return {"cost": "period", "deadline": "jitter", "jitter": "deadline"}[self.kind]
 
     def easiest_first(self, task):
         """The values that the task's sheet may have, from the one with which most passes on."""
@@ -88,50 +101,46 @@ def furthest(tasks, i, number, does_pass=is_feasible):
 # All execution at once
 
 
-def thousandths(time, permille):
-    """So many thousandths of a time, rounded up."""
-    return -(-time * permille // 1000)
+def passes_at(tasks, i, above, permille):
+    """Whether some time within the limit covers so many thousandths of the demand there: each that is tried is the first
+    that covers what the one before it has to."""
+    t = 1
+    while t <= tasks[i].limit:
+        need = -(-analysis.demand_of(tasks, i, above, t) * permille // 1000)
+        if need <= t:
+            return True
+        t = need
+    return False
 
 
-def scaled(tasks, permille):
-    """As on a slower processor: each cost, begin and length; a section begins no earlier than the one before ends."""
-    return tuple(scaled_task(task, permille) for task in tasks)
+def stands_at(tasks, i, above, permille):
+    return not analysis.bound_by(tasks, i, above) and passes_at(tasks, i, above, permille)
 
 
-def scaled_task(task, permille):
-    sections, end = [], 0
-    for section in task.sections:
-        at = max(thousandths(section.at, permille), end)
-        sections.append(section._replace(at=at, len=thousandths(section.len, permille)))
-        end = sections[-1].end
-    return task._replace(
-        cost=max(thousandths(task.cost, permille), end),
-        sections=tuple(sections),
-        node=task.node._replace(release=thousandths(task.node.release, permille)),
-        interrupts=tuple(it._replace(cost=thousandths(it.cost, permille)) for it in task.interrupts),
-    )
+def left_at(tasks, permille):
+    """The tasks that are in the way of every order: what is left once each that may stand below the others is placed."""
+    left = set(range(len(tasks)))
+    while placed := [i for i in left if stands_at(tasks, i, left - {i}, permille)]:
+        left.remove(placed[0])
+    return left
 
 
-def past_limit(tasks):
-    """The first task whose cost is past its period, whose timer takes more than a node may say, or that has an interrupt
-    on its account whose cost is past its period; or None."""
-    is_past = lambda task: task.cost > task.period or task.node.release > RELEASE_MOST or not all(map(is_interrupt, task.interrupts))
-    return next((i for i, task in enumerate(tasks) if is_past(task)), None)
+def is_feasible_at(tasks, permille):
+    return not left_at(tasks, permille)
 
 
-def factor(tasks, does_pass=is_feasible):
-    """The greatest factor, of those that may be taken, with which the set does pass; or None."""
-    most = min(1000 * task.period // task.cost for task in tasks)
-    passes = lambda other: past_limit(other) is None and does_pass(other)
-    return last_that(range(1, most + 1), lambda permille: passes(scaled(tasks, permille)))
+def is_passing_at(tasks, order, permille):
+    return all(stands_at(tasks, i, set(order[level + 1 :]), permille) for level, i in enumerate(order))
+
+
+def factor(tasks, does_pass=is_feasible_at):
+    """The greatest factor, in thousandths, with which the set does pass; or None."""
+    most = min(1000 * task.limit // task.cost for task in tasks)
+    return last_that(range(1, most + 1), lambda permille: does_pass(tasks, permille))
 
 
 def first_to_fail(tasks, permille):
     """The task that fails first with a factor with which no order passes."""
-    slower = scaled(tasks, permille)
-    past = past_limit(slower)
-    if past is not None:
-        return past
-    left = analysis.greatest_obstruction(slower, range(len(slower)))
-    unbound = [i for i in sorted(left) if not analysis.bound_by(slower, i, left - {i})]
-    return max(unbound, key=lambda i: slower[i].limit)
+    left = left_at(tasks, permille)
+    unbound = [i for i in sorted(left) if not analysis.bound_by(tasks, i, left - {i})]
+    return max(unbound, key=lambda i: tasks[i].limit)

@@ -90,7 +90,8 @@ def certificate_of(rng, tasks):
 
 def other_certificate(rng, tasks):
     """As ready as it comes: greater numbers, chains that leap less, other obstructions, other orders."""
-    version = rng.choice([1, 2, 3]) if rng.random() < 0.1 else rng.randint(certificate.needed_version(tasks), 3)
+    needed = certificate.needed_version(tasks)
+    version = rng.choice([1, 2, 4] if rng.random() < 0.1 else {1: [1, 2], 2: [2], 4: [4]}[needed])
     body = certificate.verdict_of(tasks)
     if isinstance(body, Nothing):
         members = body.members

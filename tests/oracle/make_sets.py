@@ -235,7 +235,7 @@ def teams_of(rng, sheets, text_of):
 
 def node_of(rng, parts, sheets):
     """What teams may take, near what they take; some of it is wrong."""
-    total, longest = analysis.load(sheets) // 1000, max((part.len for sheet in sheets for part in sheet.sections), default=0)
+    total, longest = analysis.share_of_tasks(sheets) // 1000, max((part.len for sheet in sheets for part in sheet.sections), default=0)
     out = ""
     for team in rng.sample([team for team, _ in parts], rng.randrange(len(parts) + 1)):
         out += rng.choice([f"[team.{team}]\n", f"[team.{team}]\n", f'[team."{team}"]\n'])

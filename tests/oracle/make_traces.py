@@ -16,6 +16,10 @@ def trace_of(rng, tasks):
     other words in them."""
     front = make_lines.settings_of(rng, tasks) if rng.random() < 0.4 else b""
     slices, jobs = run_of(rng, tasks, given(tasks, front))
+    if rng.random() < 0.4:
+        jobs = [readied(rng, tasks, job) if rng.random() < 0.8 else job for job in jobs]
+    if rng.random() < 0.3:
+        slices = [part._replace(priority=rng.choice([1, 2, 99, 9999999999])) for part in slices]
     if rng.random() < 0.75 and slices:
         slices, jobs = rng.choice([longer, sooner, foreign, paused, swapped, stretched, unfinished])(rng, tasks, slices, jobs)
     data = front + make_lines.with_gaps(rng, spelled(rng, slices, jobs).encode())
@@ -50,8 +54,11 @@ def run_of(rng, tasks, order):
 
 def spelled(rng, slices, jobs):
     """The slices in their order and the jobs in theirs, as `simulate` prints them or mixed."""
-    lines = [f"{part.start} {part.stop} {part.name}\n" for part in slices]
-    more = [f"job {job.name} {job.arrival} {'-' if job.finish is None else job.finish}\n" for job in jobs]
+    said = lambda mark, value: "" if value is None else f" {mark}{value}"
+    lines = [f"{part.start} {part.stop} {part.name}{said('@', part.priority)}\n" for part in slices]
+    more = [
+        f"job {job.name} {job.arrival} {'-' if job.finish is None else job.finish}{said('', job.ready)}\n" for job in jobs
+    ]
     if rng.random() < 0.7:
         return "".join(lines + more)
     mixed = []
@@ -60,10 +67,17 @@ def spelled(rng, slices, jobs):
     return "".join(mixed)
 
 
+def readied(rng, tasks, job):
+    """A job that says when it was ready: within its jitter, or later."""
+    jitter = next((task.jitter for task in tasks if task.name == job.name), 0)
+    ready = job.arrival + rng.choice([0, rng.randint(0, jitter), jitter, jitter + some(rng)])
+    return job._replace(ready=ready if job.finish is None else min(ready, job.finish))
+
+
 def later(rows, time, by):
     """All that is from a time on, later."""
     move = lambda at: at if at is None or at < time else at + by
-    return [row._replace(**{field: move(getattr(row, field)) for field in row._fields if field != "name"}) for row in rows]
+    return [row._replace(**{field: move(getattr(row, field)) for field in row._fields if field in ("start", "stop")}) for row in rows]
 
 
 def some(rng):
@@ -81,7 +95,8 @@ def longer(rng, tasks, slices, jobs):
 def moved(job, stop, by):
     """A job whose finish, and whose arrival where that is behind, comes later."""
     finish = job.finish if job.finish is None or job.finish < stop else job.finish + by
-    return job._replace(arrival=job.arrival if job.arrival <= stop else job.arrival + by, finish=finish)
+    ready = job.ready if job.ready is None or job.ready <= stop else job.ready + by
+    return job._replace(arrival=job.arrival if job.arrival <= stop else job.arrival + by, finish=finish, ready=ready)
 
 
 def sooner(rng, tasks, slices, jobs):

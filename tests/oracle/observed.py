@@ -15,12 +15,14 @@ class Slice(NamedTuple):
     start: int
     stop: int
     name: str
+    priority: int | None = None
 
 
 class Job(NamedTuple):
     name: str
     arrival: int
     finish: int | None
+    ready: int | None = None
 
 
 def read_trace(data):
@@ -41,15 +43,21 @@ def read_trace(data):
 
 
 def read_row(words):
-    if len(words) == 3:
-        row = Slice(number_in(words[0]), number_in(words[1]), name_in(words[2]))
-        if row.start >= row.stop:
-            raise Faulty
-        return row
-    if len(words) != 4 or words[0] != "job":
+    if len(words) not in (3, 4, 5) or len(words) == 5 and words[0] != "job":
         raise Faulty
-    arrival = number_in(words[2])
-    return Job(name_in(words[1]), arrival, None if words[3] == "-" else number_in(words[3], arrival))
+    if len(words) > 3 and words[0] == "job":
+        name, arrival = name_in(words[1]), number_in(words[2])
+        finish = None if words[3] == "-" else number_in(words[3], arrival)
+        ready = number_in(words[4], arrival) if len(words) == 5 else None
+        if None not in (ready, finish) and ready > finish:
+            raise Faulty
+        return Job(name, arrival, finish, ready)
+    if len(words) == 4 and not words[3].startswith("@"):
+        raise Faulty
+    row = Slice(*(number_in(word) for word in words[:2]), name_in(words[2]), *(number_in(word[1:]) for word in words[3:]))
+    if row.start >= row.stop:
+        raise Faulty
+    return row
 
 
 def common(part, since, until):
@@ -58,38 +66,55 @@ def common(part, since, until):
 
 
 class Seen:
-    """What is seen of a job; `owned` are all slices, each with the number of its job."""
+    """What is seen of a job; `owned` are all slices, each with the number of its job; `taken` says what timers and interrupts
+    may take of a time."""
 
-    def __init__(self, number, jobs, owned, end, task, levels, blocking, bound):
+    def __init__(self, number, jobs, owned, end, taken, task, levels, blocking, bound):
         job = jobs[number]
-        self.job, self.task, self.blocking, self.bound = job, task, blocking, bound
-        earlier = [other.arrival for other in jobs[:number] if other.name == job.name]
-        self.gap = job.arrival - earlier[-1] if earlier else None
+        self.job, self.task, self.bound, self.levels = job, task, bound, levels
+        earlier = [other for other in jobs[:number] if other.name == job.name]
+        self.gap = job.arrival - earlier[-1].arrival if earlier else None
+        self.closest = task.period if earlier and earlier[-1].ready is not None else max(0, task.period - task.jitter)
+        self.delay = None if job.ready is None else job.ready - job.arrival
         until = end if job.finish is None else job.finish
         self.lasted = until - job.arrival
         self.executed = sum(part.stop - part.start for part, owner in owned if owner == number)
-        since = job.arrival + task.jitter
+        since = job.arrival + task.jitter if job.ready is None else job.ready
         waits = [(part.name, common(part, since, until)) for part, _ in owned if common(part, since, until) > 0]
         self.below = [(name, time) for name, time in waits if name in levels and levels[name] < levels[job.name]]
         self.foreign = [(name, time) for name, time in waits if name not in levels]
         self.idle = max(0, until - since) - sum(time for _, time in waits)
+        self.may_execute = task.cost + taken(self.lasted)
+        self.may_be_taken = taken(max(0, until - since))
+        self.may_be_blocked = blocking + self.may_be_taken
 
     def broken(self, tolerance):
         """A line for each promise that the job breaks."""
         at = f"{self.job.name} {self.job.arrival}"
         past = lambda time, most: time - most > tolerance
-        if past(self.executed, self.task.cost):
-            yield f"cost {at} {self.executed} of {self.task.cost}"
-        if self.gap is not None and past(self.task.period, self.gap):
-            yield f"period {at} {self.gap} of {self.task.period}"
+        limit = lambda most: f" of {most}" if most > 0 else ""
+        if past(self.executed, self.may_execute):
+            yield f"cost {at} {self.executed} of {self.may_execute}"
+        if self.gap is not None and past(self.closest, self.gap):
+            yield f"period {at} {self.gap} of {self.closest}"
+        if self.delay is not None and past(self.delay, self.task.jitter):
+            yield f"late {at} {self.delay} of {self.task.jitter}"
         if past(self.lasted, self.bound):
             yield f"open {at}" if self.job.finish is None else f"bound {at} {self.lasted} of {self.bound}"
-        if past(total(self.below), self.blocking):
-            yield f"blocked {at} {total(self.below)} of {self.blocking} by {self.below[0][0]}"
-        if past(total(self.foreign), 0):
-            yield f"foreign {at} {total(self.foreign)} by {self.foreign[0][0]}"
-        if past(self.idle, 0):
-            yield f"idle {at} {self.idle}"
+        if past(total(self.below), self.may_be_blocked):
+            culprits = ", ".join(f"{name} {time}" for name, time in longest(self.below, self.levels)[:2])
+            yield f"blocked {at} {total(self.below)} of {self.may_be_blocked} by {culprits}"
+        if past(total(self.foreign), self.may_be_taken):
+            yield f"foreign {at} {total(self.foreign)}{limit(self.may_be_taken)} by {self.foreign[0][0]}"
+        left = max(0, self.may_be_taken - total(self.foreign))
+        if past(self.idle, left):
+            yield f"idle {at} {self.idle}{limit(left)}"
+
+
+def longest(shares, levels):
+    """For how long each executed, the longest first, of equals the lower."""
+    each = {name: total(share for share in shares if share[0] == name) for name, _ in shares}
+    return sorted(each.items(), key=lambda one: (-one[1], levels[one[0]]))
 
 
 def total(shares):
@@ -117,7 +142,8 @@ def observe(tasks, order, slices, jobs, tolerance):
         tasks[i].name: (tasks[i], levels, analysis.blocking_of(tasks, i, above), analysis.response_of(tasks, i, above))
         for _, i, above in analysis.levels_of(order)
     }
-    seen = [Seen(k, jobs, owned, end, *promised[job.name]) for k, job in enumerate(jobs) if job.name in promised]
+    taken = lambda time: analysis.interrupts_within(tasks, time)
+    seen = [Seen(k, jobs, owned, end, taken, *promised[job.name]) for k, job in enumerate(jobs) if job.name in promised]
     lines = [task_line(task, bound, [one for one in seen if one.task is task]) for task, _, _, bound in promised.values()]
     broken = [line for one in seen for line in one.broken(tolerance)]
     return "".join(line + "\n" for line in lines + broken), 3 if broken else 0

@@ -1,8 +1,9 @@
 """Sets of one document or of several teams', budgets and folders: FORMATS.md, Documents of several teams, Budgets."""
 
+import math
 import re
+from fractions import Fraction
 
-import analysis
 from lines import Faulty, NUMBER
 from refusals import Refused
 from sets import by_limits, by_rank, INTERRUPTS_MOST, is_name, padded, read_document, TASKS_MOST
@@ -30,7 +31,7 @@ def read_set(data, preference=None):
     own, node, interrupts, sheets, owners = read_teams(data) if data.startswith(MARK) else (*read_document(data), {})
     sheets = padded(sheets, node, interrupts)
     tasks = Ranked(by_limits(sheets) if (preference or own) == "deadline" else by_rank(sheets))
-    tasks.own, tasks.owners = own, owners
+    tasks.own, tasks.by, tasks.owners = own, preference or own or "weight", owners
     return tasks
 
 
@@ -47,7 +48,7 @@ def read_teams(data):
             prefer, overheads, more, sheets = read_document(document)
         except Refused as refusal:
             raise refusal.behind("team", team) from None
-        teams.append((team, by_rank(sheets)))
+        teams.append((team, by_rank(sheets), more))
         preferring += [(team, prefer)] * (prefer is not None)
         overheads_of += [(team, overheads)] * (overheads is not None)
         interrupts += more
@@ -58,7 +59,7 @@ def read_teams(data):
     if len(interrupts) > INTERRUPTS_MOST:
         raise Refused(4, "TooManyInterrupts")
     owner = {}
-    for team, sheets in teams:
+    for team, sheets, _ in teams:
         for sheet in sheets:
             if sheet.name in owner:
                 raise Refused(4, "TakenName", team, sheet.name, owner[sheet.name])
@@ -67,7 +68,7 @@ def read_teams(data):
         raise Refused(4, "TooManyTasks")
     keep_budgets(budgets, teams)
     own, overheads = (said[0][1] if said else None for said in (preferring, overheads_of))
-    return own, overheads, interrupts, [sheet for _, sheets in teams for sheet in sheets], owner
+    return own, overheads, interrupts, [sheet for _, sheets, _ in teams for sheet in sheets], owner
 
 
 def node_document(data):
@@ -108,14 +109,15 @@ def read_budgets(data):
 def keep_budgets(budgets, teams):
     """Refuses the first budget whose team has no document, or takes more."""
     for team, budget in sorted(budgets.items()):
-        if team not in {name for name, _ in teams}:
+        if team not in {name for name, *_ in teams}:
             raise Refused(4, "NoSuchTeam", team)
-        own = [sheet for name, sheets in teams if name == team for sheet in sheets]
-        others = [sheet for name, sheets in teams if name != team for sheet in sheets]
+        own = [sheet for name, sheets, _ in teams if name == team for sheet in sheets]
+        interrupts = [one for name, _, more in teams if name == team for one in more]
+        load = 1000 * sum(Fraction(one.cost, one.period) for one in own + interrupts)
+        if load > budget.get("load", load):
+            raise Refused(4, "PastBudget", team, "load", math.ceil(load), budget["load"])
+        others = [sheet for name, sheets, _ in teams if name != team for sheet in sheets]
         used = {lock for sheet in others for section in sheet.sections for lock in section.locks}
-        load = analysis.load(own)
-        if load > 1000 * budget.get("load", load):
-            raise Refused(4, "PastBudget", team, "load", -(-load // 1000), budget["load"])
         section = max((part.len for sheet in own for part in sheet.sections if used & set(part.locks)), default=0)
         if section > budget.get("section", section):
             raise Refused(4, "PastBudget", team, "section", section, budget["section"])

@@ -3,7 +3,7 @@ ghost use Rattle.std.specs.Prelude.{◌≡◌, Err, IfOk, MatchResult};
 ghost use Rattle.preferences.specs.ReadsPreferred.{SaysPreferred};
 ghost use Rattle.teams.specs.ReadsText.{ReadsText};
 ghost use Rattle.answering.specs.Chosen.{base_of, preference_of};
-ghost use Rattle.answering.specs.Owning.{HasOwned, HaveOwned, SaysOwned};
+ghost use Rattle.answering.specs.Owning.{HasOwned, HaveOwned, IsTakenBy, SaysOwned};
 ghost use Rattle.answering.specs.Sets.{HasNoSet, HasSet, HaveNotBoth};
 ghost use Rattle.answering.specs.Outcomes.{AreRead, IsRead, failed_read};
 ghost use Rattle.streams.specs.Inputs.{IsReadFrom, IsTooLong};
@@ -18,6 +18,23 @@ use std::io::Read;
 use streams::{InputFault, Watched, read_input};
 use task_sheet::TaskSet;
 use teams::TeamsFault;
+
+/// A set, by what it was taken, and whose its tasks are, and all that a second input has.
+#[derive(Drop)]
+pub struct Both {
+    pub by: Preference,
+    pub tasks: TaskSet,
+    pub owners: Vec<Owner>,
+    pub text: Vec<u8>,
+}
+
+// A set, by what it was taken, and whose its tasks are.
+#[derive(Drop)]
+struct Taken {
+    by: Preference,
+    tasks: TaskSet,
+    owners: Vec<Owner>,
+}
 
 /// All that an input has; or why it was not read, which the audience is told.
 pub fn read_told<R: Read + Drop, P: Audience>(
@@ -58,14 +75,16 @@ pub fn base_of(options: Options<'_>) -> u32
     }
 }
 
-// The set that bytes say, by what the call prefers, or else the set; or why there is none. The audience is told either.
+// The set that bytes say, by what the call prefers, or else the set, and which that is; or why there is none. The audience is
+// told either.
 fn set_told<P: Audience>(
     alloc: Global,
     preference: Option<Preference>,
     bytes: &[u8],
     people: &mut P,
-) -> Result<TaskSet, TeamsFault>
-    ensures { MatchResult result (λ tasks. SaysPreferred preference bytes.now tasks)
+) -> Result<(TaskSet, Preference), TeamsFault>
+    ensures { MatchResult result (λ taken. SaysPreferred preference bytes.now taken.0
+        × IsTakenBy preference bytes.now taken.1)
         (λ fault. ReadsText bytes.now (Err fault)) }
 {
     let read = read_preferred(alloc, bytes, preference);
@@ -74,28 +93,32 @@ fn set_told<P: Audience>(
         Err(fault) => people.refused(Which::First, bytes, CommandRefusal::Set(*fault)),
     }
     match read {
-        Ok(preferred) => Ok(preferred.set),
+        Ok(preferred) => {
+            let by = preferred.choice.preference();
+            Ok((preferred.set, by))
+        }
         Err(fault) => Err(fault),
     }
 }
 
 // The same, with whose its tasks are.
-fn owned_told<P: Audience>(
+fn taken_told<P: Audience>(
     alloc: Global,
     preference: Option<Preference>,
     bytes: &[u8],
     people: &mut P,
-) -> Result<(TaskSet, Vec<Owner>), TeamsFault>
+) -> Result<Taken, TeamsFault>
     ensures { MatchResult result
-        (λ owned. SaysOwned preference bytes.now owned.0 owned.1.items)
+        (λ taken. SaysOwned preference bytes.now taken.tasks taken.owners.items
+        × IsTakenBy preference bytes.now taken.by)
         (λ fault. ReadsText bytes.now (Err fault)) }
 {
-    let tasks = match set_told(alloc, preference, bytes, people) {
-        Ok(tasks) => tasks,
+    let (tasks, by) = match set_told(alloc, preference, bytes, people) {
+        Ok(taken) => taken,
         Err(fault) => return Err(fault),
     };
     match read_owners(alloc, bytes) {
-        Ok(owners) => Ok((tasks, owners)),
+        Ok(owners) => Ok(Taken { by, tasks, owners }),
         Err(_) => Err(TeamsFault::OutOfMemory),
     }
 }
@@ -114,7 +137,7 @@ pub fn read_one<R: Read + Drop, P: Audience>(
 {
     let bytes = read_told(alloc, Which::First, set, people).map_err(CommandRefusal::Input)?;
     match set_told(alloc, preference, &bytes, people) {
-        Ok(tasks) => Ok(tasks),
+        Ok((tasks, _by)) => Ok(tasks),
         Err(fault) => Err(CommandRefusal::Set(fault)),
     }
 }
@@ -133,8 +156,8 @@ pub fn read_owned<R: Read + Drop, P: Audience>(
     ensures read { IsRead failed_read set.old set.new result }
 {
     let bytes = read_told(alloc, Which::First, set, people).map_err(CommandRefusal::Input)?;
-    match owned_told(alloc, preference, &bytes, people) {
-        Ok(owned) => Ok(owned),
+    match taken_told(alloc, preference, &bytes, people) {
+        Ok(Taken { tasks, owners, .. }) => Ok((tasks, owners)),
         Err(fault) => Err(CommandRefusal::Set(fault)),
     }
 }
@@ -148,18 +171,23 @@ pub fn read_two<R: Read + Drop, S: Read + Drop, P: Audience>(
     set: &mut Watched<R>,
     other: &mut Watched<S>,
     people: &mut P,
-) -> Result<(TaskSet, Vec<Owner>, Vec<u8>), CommandRefusal>
+) -> Result<Both, CommandRefusal>
     ensures answer { MatchResult result
         (λ both. HaveOwned preference (R.remaining set.old.inner)
-        (S.remaining other.old.inner) both.0 both.1.items both.2.items)
+        (S.remaining other.old.inner) both.by both.tasks both.owners.items both.text.items)
         (λ r. HaveNotBoth (R.remaining set.old.inner) (S.remaining other.old.inner) r) }
     ensures read { AreRead failed_read R.remaining set.old set.new other.old other.new
         result }
 {
     let bytes = read_told(alloc, Which::First, set, people).map_err(CommandRefusal::Input)?;
     let text = read_told(alloc, Which::Second, other, people).map_err(CommandRefusal::Input)?;
-    match owned_told(alloc, preference, &bytes, people) {
-        Ok((tasks, owners)) => Ok((tasks, owners, text)),
+    match taken_told(alloc, preference, &bytes, people) {
+        Ok(Taken { by, tasks, owners }) => Ok(Both {
+            by,
+            tasks,
+            owners,
+            text,
+        }),
         Err(fault) => Err(CommandRefusal::Set(fault)),
     }
 }

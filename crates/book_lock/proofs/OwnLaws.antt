@@ -12,15 +12,14 @@ use Rattle.drafts.specs.declared.roster.Owned.{Owned}
 use Rattle.drafts.specs.declared.change.Change.{Change}
 use Rattle.drafts.specs.declared.change.Change.TheVariants.{Put, Remove}
 use Rattle.drafts.specs.declared.change.Refusal.{Refusal}
-use Rattle.drafts.specs.Applied.{set_of, bears_name, held, is_foreign, without_name, placed}
-use Rattle.drafts.specs.Applied.{with_task, after_change, then_on, if_few, all_changes, applied}
+use Rattle.drafts.specs.Applied.{OnNode, sheets_of, bare, bears_name, held, is_foreign, without_name}
+use Rattle.drafts.specs.Applied.{placed, with_task, after_change, then_on, all_changes, applied}
 use Rattle.drafts.specs.Machine.{MachineState, empty_desk, Ruling, Admitted, Refused, Infeasible}
 use Rattle.drafts.specs.Machine.{Entry, IsRuling, moved, after_entry, replay}
 use Rattle.drafts.specs.Books.{Book, IsLegalBook}
 use Rattle.drafts.specs.Edits.{Draft}
 use Rattle.drafts.specs.Proposals.{ProposalData}
-use Rattle.drafts.proofs.HolderLaws.{few}
-use Rattle.drafts.proofs.PutLaws.{then-ok, put-made, remove-made}
+use Rattle.drafts.proofs.PutLaws.{then-ok, put-made, remove-made, applied-node}
 use Rattle.drafts.proofs.RosterLaws.{apart-without, ranked-kept, ranked-placed, less}
 use Rattle.book_lock.specs.Own.{own_of, own_after}
 use Rattle.book_lock.specs.Opening.{IsOwn}
@@ -29,7 +28,7 @@ use Rattle.book_lock.specs.Settles.{IsEntered, Settles}
 use Rattle.book_lock.specs.declared.answer.Settlement.TheVariants.{Decided}
 
 abbrev IsRanked : List Owned → Type 0
-IsRanked ts = IsStrictlySortedBy rank_cmp (set_of ts)
+IsRanked ts = IsStrictlySortedBy rank_cmp (sheets_of ts)
 
 not_below : (x s : Task) (ys : List Task) → is_lt (rank_cmp x s) ≡ false → AllByRecursion
     (λ y. rank_cmp x y ≡ Less) ys → AllByRecursion (λ y. is_lt (rank_cmp y s) ≡ false) ys
@@ -51,7 +50,7 @@ module _ (team : ℕ) where
 
   -- a task that is below the first of these is below all
   first_of : (o : Owned) (ts : List Owned)
-      → AllByRecursion (λ y. is_lt (rank_cmp y o.sheet) ≡ false) (set_of ts)
+      → AllByRecursion (λ y. is_lt (rank_cmp y o.sheet) ≡ false) (sheets_of ts)
       → placed o (own_of team ts) ≡ o ∷ own_of team ts
   first_of o [] all = refl
   first_of o (x ∷ ts) all = grind (arith, first_of o ts all.1)
@@ -63,7 +62,7 @@ module _ (team : ℕ) where
   own-placed o (x ∷ ts) own up = elim (cases_Bool (is_lt (rank_cmp x.sheet o.sheet))) [
     | inl lt ↦ grind (arith, own-placed o ts own up.1)
     | inr ge ↦ rw (ge, own)
-        (sym (first_of o (x ∷ ts) (ge, not_below x.sheet o.sheet (set_of ts) ge up.0)))
+        (sym (first_of o (x ∷ ts) (ge, not_below x.sheet o.sheet (sheets_of ts) ge up.0)))
   ]
 
   own-held : (n : List ℕ) (ts : List Owned) → is_foreign team (held n ts) ≡ false
@@ -81,7 +80,7 @@ module _ (team : ℕ) where
       → IsRanked next × (after_change team (own_of team ts) name change ≡ Ok (own_of team next))
   one-goes ts next name (Put sheet) up is =
       let made = put-made team ts next name sheet is in
-      let o : Owned = record { sheet = sheet; team = team } in
+      let o : Owned = record { sheet = bare sheet; team = team } in
       let others = without_name sheet.name ts in
       let rest = ranked-kept (λ x. not (bears_name sheet.name x)) ts up in
       let same : (team == team) ≡ true = grind (arith, nat_tests) in
@@ -109,47 +108,46 @@ module _ (team : ℕ) where
       let rest = all-go made.0 last changes one.0 made.2 in
       (rest.0, ap (λ r. then_on r (λ next. all_changes team next changes)) one.1 ∙ rest.1)
 
-  applied-go : (ts last : List Owned) (changes : List (List ℕ × Change)) → IsRanked ts
-      → applied team ts changes ≡ Ok last → Goes ts changes last
-  applied-go ts last changes up is =
-      let made = then-ok (all_changes team ts changes) if_few last is in
-      subst (Goes ts changes) (few team made.0 last made.2) (all-go ts made.0 changes up made.1)
+  applied-go : (node last : OnNode) (changes : List (List ℕ × Change)) → IsRanked node.tasks
+      → applied team node changes ≡ Ok last → Goes node.tasks changes last.tasks
+  applied-go node last changes up is =
+      all-go node.tasks last.tasks changes up (applied-node team node last changes is).0
 
 -- ---- the tasks of a book are by rank
-moved-ranked : (desk : MachineState) (d : Ruling) (r : Result (List Owned) Refusal)
-    → IsRanked desk.tasks → ((last : List Owned) → r ≡ Ok last → IsRanked last)
-    → IsRanked (moved desk d r).tasks
+moved-ranked : (desk : MachineState) (d : Ruling) (r : Result OnNode Refusal)
+    → IsRanked desk.node.tasks → ((last : OnNode) → r ≡ Ok last → IsRanked last.tasks)
+    → IsRanked (moved desk d r).node.tasks
 moved-ranked desk (Admitted version) (Ok last) up goes = goes last refl
 moved-ranked desk (Admitted version) (Err refusal) up goes = up
 moved-ranked desk (Refused refusal) r up goes = up
 moved-ranked desk (Infeasible o) r up goes = up
 
-replay-ranked : (desk : MachineState) (log : List Entry) → IsRanked desk.tasks
-    → IsRanked (replay desk log).tasks
+replay-ranked : (desk : MachineState) (log : List Entry) → IsRanked desk.node.tasks
+    → IsRanked (replay desk log).node.tasks
 replay-ranked desk [] up = up
 replay-ranked desk (e ∷ log) up =
     replay-ranked (after_entry desk e) log (moved-ranked desk e.decision
-    (applied e.team desk.tasks e.changes) up
-    (λ last is. (applied-go e.team desk.tasks last e.changes up is).0))
+    (applied e.team desk.node e.changes) up
+    (λ last is. (applied-go e.team desk.node last e.changes up is).0))
 
-book-ranked : (b : Book) → IsLegalBook b → IsRanked b.desk.tasks
+book-ranked : (b : Book) → IsLegalBook b → IsRanked b.desk.node.tasks
 unfolding IsStrictlySortedBy
-book-ranked b legal = subst (λ (d : MachineState). IsRanked d.tasks) legal.replay
+book-ranked b legal = subst (λ (d : MachineState). IsRanked d.node.tasks) legal.replay
     (replay-ranked empty_desk b.log tt)
 
 -- ---- the law
-pub own-goes : (b : Book) (team : ℕ) (changes : List (List ℕ × Change)) (tasks : List Owned)
-    → IsLegalBook b → applied team b.desk.tasks changes ≡ Ok tasks
-    → all_changes team (own_of team b.desk.tasks) changes ≡ Ok (own_of team tasks)
-own-goes b team changes tasks legal is =
-    (applied-go team b.desk.tasks tasks changes (book-ranked b legal) is).1
+pub own-goes : (b : Book) (team : ℕ) (changes : List (List ℕ × Change)) (node : OnNode)
+    → IsLegalBook b → applied team b.desk.node changes ≡ Ok node
+    → all_changes team (own_of team b.desk.node.tasks) changes ≡ Ok (own_of team node.tasks)
+own-goes b team changes node legal is =
+    (applied-go team b.desk.node node changes (book-ranked b legal) is).1
 
-own-moved : (team : ℕ) (desk : MachineState) (d : Ruling) (r own : Result (List Owned) Refusal)
-    → IsRuling desk.version r d
-    → ((last : List Owned) → r ≡ Ok last → own ≡ Ok (own_of team last))
-    → own_of team (moved desk d r).tasks ≡ own_after d own (own_of team desk.tasks)
+own-moved : (team : ℕ) (desk : MachineState) (d : Ruling) (r : Result OnNode Refusal)
+    (own : Result (List Owned) Refusal) → IsRuling desk.version r d
+    → ((last : OnNode) → r ≡ Ok last → own ≡ Ok (own_of team last.tasks))
+    → own_of team (moved desk d r).node.tasks ≡ own_after d own (own_of team desk.node.tasks)
 own-moved team desk (Admitted version) (Ok last) own is goes =
-    sym (ap (λ x. own_after (Admitted version) x (own_of team desk.tasks)) (goes last refl))
+    sym (ap (λ x. own_after (Admitted version) x (own_of team desk.node.tasks)) (goes last refl))
 own-moved team desk (Admitted version) (Err refusal) own is goes = absurd is
 own-moved team desk (Refused refusal) r own is goes = refl
 own-moved team desk (Infeasible o) r own is goes = refl
@@ -158,9 +156,9 @@ pub known-stays : (b : Book) (d : Draft) (old new : Known) (place : ℕ) (next :
     → d.team ≡ old.team → IsOwn b.desk old → IsEntered b d old place next new → IsOwn next.desk new
 known-stays b d old new place next legal team own is =
     let e = is.0 in
-    let tasks = b.desk.tasks in
+    let node = b.desk.node in
     rw (is.2, is.3, ← own, ← team, ← is.1.1) (own-moved e.team b.desk e.decision
-    (applied e.team tasks e.changes) (all_changes e.team (own_of e.team tasks) e.changes)
+    (applied e.team node e.changes) (all_changes e.team (own_of e.team node.tasks) e.changes)
     (rw (is.1.1, is.1.2) is.1.3) (λ last. own-goes b e.team e.changes last legal))
 
 pub known-settled : (b : Book) (p : ProposalData) (old new : Known) (place : ℕ) (next : Book)

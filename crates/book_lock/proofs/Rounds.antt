@@ -4,8 +4,7 @@ use Rattle.std.specs.Prelude.{Result, Ok, Err}
 use Rattle.assignment.specs.Questions.{QuestionData}
 use Rattle.candidate_workers.specs.Faults.{IsBadCount}
 use Rattle.drafts.specs.declared.change.Refusal.{Refusal}
-use Rattle.drafts.specs.declared.roster.Owned.{Owned}
-use Rattle.drafts.specs.Applied.{applied}
+use Rattle.drafts.specs.Applied.{OnNode, applied}
 use Rattle.drafts.specs.Machine.{MachineState}
 use Rattle.drafts.specs.Edits.{Draft, on_base}
 use Rattle.drafts.specs.Proposals.{ProposalData}
@@ -39,18 +38,18 @@ abbrev pub IsBaseOf : Draft → MachineState → Type 0
 IsBaseOf d desk = (desk ≡ d.base) ⊎ IsReached desk
 
 -- a cause that no test has
-untested_never : (may : QuestionData → Type 0) (outcome : Result (List Owned) Refusal)
+untested_never : (may : QuestionData → Type 0) (outcome : Result OnNode Refusal)
     → (IsUntested may outcome OtherTeam → ⊥) × (IsUntested may outcome BadWorkers → ⊥)
-untested_never may (Ok tasks) = ((λ h. h), λ h. h)
+untested_never may (Ok node) = ((λ h. h), λ h. h)
 untested_never may (Err refusal) = ((λ h. cc), λ h. cc)
 
 pub undecided : (may : QuestionData → Type 0) (workers : ℕ) (d : Draft) (p : Known)
     (cause : CommitCause) → d.team ≡ p.team → ¬ IsBadCount workers → IsUntestedOn may d cause
     → IsUndecided may workers d p cause
 undecided may workers d p OtherTeam team good h =
-    absurd ((untested_never may (applied d.team h.0.tasks d.changes)).0 h.2)
+    absurd ((untested_never may (applied d.team h.0.node d.changes)).0 h.2)
 undecided may workers d p BadWorkers team good h =
-    absurd ((untested_never may (applied d.team h.0.tasks d.changes)).1 h.2)
+    absurd ((untested_never may (applied d.team h.0.node d.changes)).1 h.2)
 undecided may workers d p cause team good h = (team, good, h)
 
 -- a decision on the same changes is one on these

@@ -10,10 +10,9 @@ use Rattle.candidate_workers.specs.Asked.{IsOfVerdict}
 use Rattle.candidate_workers.specs.Faults.{NoVerdict, IsBadCount}
 use Rattle.candidate_workers.specs.declared.assaying.AssayFault.{AssayFault}
 use Rattle.candidate_workers.specs.declared.assaying.AssayFault.TheVariants as assay
-use Rattle.drafts.specs.declared.roster.Owned.{Owned}
 use Rattle.drafts.specs.declared.change.Refusal.{Refusal}
 use Rattle.drafts.specs.declared.applying.Applied.TheVariants.{Tasks}
-use Rattle.drafts.specs.Applied.{set_of}
+use Rattle.drafts.specs.Applied.{OnNode, set_of}
 use Rattle.drafts.specs.Outcomes.{IsApplied}
 use Rattle.book_lock.specs.Asking.{NoneShutOf, IsUntestedSet, IsUntested}
 use Rattle.book_lock.specs.Asking.{IsCauseOf}
@@ -43,14 +42,14 @@ none_shut shut U own v same valid right none = rw (← same) (λ verdict is q as
 
 -- ---- from a set to what changes come to
 -- the set of tasks that are told
-pub set_told : (outcome : Result (List Owned) Refusal) (set : Arc (List Task) Global)
+pub set_told : (outcome : Result OnNode Refusal) (set : Arc (List Task) Global)
     → IsApplied outcome (Tasks set)
-    → (tasks : List Owned) × (outcome ≡ Ok tasks) × (set.value ≡ set_of tasks)
-set_told (Ok tasks) set h = (tasks, refl, h)
+    → (node : OnNode) × (outcome ≡ Ok node) × (set.value ≡ set_of node)
+set_told (Ok node) set h = (node, refl, h)
 set_told (Err told) set h = absurd h
 
 -- out of memory, whatever the changes come to
-pub untested_memory : (may : QuestionData → Type 0) (outcome : Result (List Owned) Refusal)
+pub untested_memory : (may : QuestionData → Type 0) (outcome : Result OnNode Refusal)
     → IsUntested may outcome OutOfMemory
-untested_memory may (Ok tasks) = tt
+untested_memory may (Ok node) = tt
 untested_memory may (Err refusal) = refl

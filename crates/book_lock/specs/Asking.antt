@@ -7,9 +7,8 @@ use Rattle.candidate_workers.specs.Asked.{IsOfVerdict}
 use Rattle.candidate_workers.specs.Faults.{MayBeShut}
 use Rattle.candidate_workers.specs.declared.assaying.AssayFault.{AssayFault}
 use Rattle.candidate_workers.specs.declared.assaying.AssayFault.TheVariants as assay
-use Rattle.drafts.specs.declared.roster.Owned.{Owned}
 use Rattle.drafts.specs.declared.change.Refusal.{Refusal}
-use Rattle.drafts.specs.Applied.{set_of}
+use Rattle.drafts.specs.Applied.{OnNode, set_of}
 use Rattle.book_lock.specs.declared.commit.CommitCause.{CommitCause}
 use Rattle.book_lock.specs.declared.commit.CommitCause.TheVariants.{OtherTeam, BadWorkers, ThreadRefused, GateShut, OutOfMemory}
 
@@ -20,9 +19,9 @@ NoneShutOf shut U =
     → shut q → ⊥
 
 -- where the changes apply, this holds of the set that they come to
-abbrev pub NoneShutApplied : (QuestionData → Type 0) → Result (List Owned) Refusal → Type 0
+abbrev pub NoneShutApplied : (QuestionData → Type 0) → Result OnNode Refusal → Type 0
 NoneShutApplied shut (Err refusal) = Unit {0}
-NoneShutApplied shut (Ok tasks) = NoneShutOf shut (set_of tasks)
+NoneShutApplied shut (Ok node) = NoneShutOf shut (set_of node)
 
 -- a task of that name is on a question on this set that may be shut out
 pub record MayShutName (may : QuestionData → Type 0) (U : List Task) (name : List ℕ) : Type 0 where
@@ -39,8 +38,8 @@ IsUntestedSet may U (GateShut name) = MayShutName may U name
 IsUntestedSet may U OutOfMemory = Unit {0}
 
 -- why changes that come to this weren't tested; where they are refused, no worker is started and no gate asked
-abbrev pub IsUntested : (QuestionData → Type 0) → Result (List Owned) Refusal → CommitCause → Type 0
-IsUntested may (Ok tasks) cause = IsUntestedSet may (set_of tasks) cause
+abbrev pub IsUntested : (QuestionData → Type 0) → Result OnNode Refusal → CommitCause → Type 0
+IsUntested may (Ok node) cause = IsUntestedSet may (set_of node) cause
 IsUntested may (Err refusal) cause = cause ≡ OutOfMemory
 
 -- the fault, if it names a task, names one of the set

@@ -39,7 +39,7 @@ IsRound may always d old (Err fault) new =
 abbrev pub IsUntestedOn : (QuestionData → Type 0) → Draft → CommitCause → Type 0
 IsUntestedOn may d cause =
     (desk : MachineState) × ((desk ≡ d.base) ⊎ IsReached desk)
-    × IsUntested may (applied d.team desk.tasks d.changes) cause
+    × IsUntested may (applied d.team desk.node d.changes) cause
 
 -- the later rounds of a draft: what is handed back is on the base that it came with
 abbrev pub IsLater : (QuestionData → Type 0) → Draft → MachineState → Known → Result ℕ CommitFault

@@ -11,7 +11,7 @@ use Rattle.book_lock.specs.declared.answer.OpenFault.TheVariants.{Foreign, Behin
 
 -- the book's tasks of the pass's team are those that it knows
 abbrev pub IsOwn : MachineState → Known → Type 0
-IsOwn desk p = own_of p.team desk.tasks ≡ p.tasks
+IsOwn desk p = own_of p.team desk.node.tasks ≡ p.tasks
 
 -- what a book answers to a pass: a draft on its state; the first name at which the team's tasks differ; that it is older
 -- than a receipt
@@ -20,7 +20,7 @@ OpensDraft b p (Ok d) =
     IsOwn b.desk p
     × (is_up_to b.desk.version p.receipts ≡ true)
     × (d ≡ (let n : Draft = record { team = p.team; base = b.desk; changes = [] } in n))
-OpensDraft b p (Err (Foreign name)) = IsForeignName (own_of p.team b.desk.tasks) p.tasks name
+OpensDraft b p (Err (Foreign name)) = IsForeignName (own_of p.team b.desk.node.tasks) p.tasks name
 OpensDraft b p (Err (Behind version)) =
     IsOwn b.desk p × (version ≡ b.desk.version) × (is_up_to version p.receipts ≡ false)
 OpensDraft b p (Err OutOfMemory) = Unit {0}

@@ -61,8 +61,8 @@ pub(crate) fn foreign(
     own: &OwnTasks,
 ) -> Result<Option<Name>, AllocError>
     ensures { IfOk result (λ o. MatchOption o
-        (own_of team state.now.tasks ≡ own.now)
-        (λ name. IsForeignName (own_of team state.now.tasks) own.now name)) }
+        (own_of team state.now.node.tasks ≡ own.now)
+        (λ name. IsForeignName (own_of team state.now.node.tasks) own.now name)) }
 {
     let book = OwnTasks::of(alloc, state, team)?;
     Ok(foreign_name(book.tasks(), own.tasks()))

@@ -1,9 +1,8 @@
 //! Laws of passes. Each is the clause of a function that does nothing, and its names are defined in `specs/`.
 
 ghost use Rattle.std.specs.Prelude.{◌≡◌, ℕ, List, Ok};
-ghost use Rattle.drafts.specs.declared.roster.Owned.{Owned};
 ghost use Rattle.drafts.specs.declared.change.Change.{Change};
-ghost use Rattle.drafts.specs.Applied.{all_changes, applied};
+ghost use Rattle.drafts.specs.Applied.{OnNode, all_changes, applied};
 ghost use Rattle.drafts.specs.Books.{Book, IsLegalBook};
 ghost use Rattle.drafts.specs.Edits.{Draft};
 ghost use Rattle.drafts.specs.Proposals.{ProposalData};
@@ -16,10 +15,10 @@ ghost use Rattle.book_lock.specs.Settles.{IsEntered, Settles};
 /// Where a team's changes apply to a legal book, the team's own tasks after them are those that its pass works out.
 /// So a pass that knows its team's tasks on the node knows them after each decision that it receives.
 pub fn own_tasks_are_known()
-    ensures changes { (b : Book) (team : ℕ) (changes : List (List ℕ × Change)) (tasks : List Owned)
+    ensures changes { (b : Book) (team : ℕ) (changes : List (List ℕ × Change)) (node : OnNode)
         → IsLegalBook b
-        → applied team b.desk.tasks changes ≡ Ok tasks
-        → all_changes team (own_of team b.desk.tasks) changes ≡ Ok (own_of team tasks) }
+        → applied team b.desk.node changes ≡ Ok node
+        → all_changes team (own_of team b.desk.node.tasks) changes ≡ Ok (own_of team node.tasks) }
     ensures entered { (b : Book) (d : Draft) (old new : Known) (place : ℕ) (next : Book)
         → IsLegalBook b
         → d.team ≡ old.team → IsOwn b.desk old → IsEntered b d old place next new

@@ -51,7 +51,7 @@ impl OwnTasks {
 
     // Those of a team in a state.
     pub(crate) fn of(alloc: Global, state: &NodeState, team: Team) -> Result<OwnTasks, AllocError>
-        ensures { IfOk result (λ own. own ≡ own_of team state.now.tasks) }
+        ensures { IfOk result (λ own. own ≡ own_of team state.now.node.tasks) }
     {
         let mut tasks = state.roster(alloc)?;
         tasks.retain(|task| task.team.number() == team.number());

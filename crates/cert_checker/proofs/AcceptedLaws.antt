@@ -18,7 +18,7 @@ use Rattle.certificate.specs.CertificateOf.{reason_named, fails_named, levels_na
 use Rattle.certificate.specs.CertificateOf.{certificate_of, IsKnownReason, IsKnownFail}
 use Rattle.certificate.specs.Versions.{version_for}
 use Rattle.certificate.specs.declared.version.CertVersion.{CertVersion}
-use Rattle.certificate.specs.declared.version.CertVersion.TheVariants.{First, Second, Third}
+use Rattle.certificate.specs.declared.version.CertVersion.TheVariants.{First, Second, Fourth}
 use Rattle.certificate.proofs.VerdictSpelling.{fails-below, fails-told, verdict-spelled}
 use Rattle.certificate.proofs.ReadingLaws.{reads_back}
 use Rattle.cert_checker.specs.Ready.{task_by_name, reason_by_index, failures_of, levels_of}
@@ -31,7 +31,7 @@ use Rattle.cert_checker.proofs.ReadyLaws.{faultless}
 serves-own : (version : CertVersion) → may_serve version version ≡ true
 serves-own First = refl
 serves-own Second = refl
-serves-own Third = refl
+serves-own Fourth = refl
 
 -- the response is its time and the jitter
 response-own : (U : List Task) (l : LevelData) → 1 ≤ time_of U l

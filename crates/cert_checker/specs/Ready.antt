@@ -8,7 +8,7 @@ use Rattle.task_sheet.specs.Ready.{IsReadyOrder, IsReadySet}
 use Rattle.certificate.specs.Body.{CertReasonData, Chain, Over, Fail, CertLevelData, Body, Best, NoOrder, Cert}
 use Rattle.certificate.specs.Versions.{version_for}
 use Rattle.certificate.specs.declared.version.CertVersion.{CertVersion}
-use Rattle.certificate.specs.declared.version.CertVersion.TheVariants.{First, Second, Third}
+use Rattle.certificate.specs.declared.version.CertVersion.TheVariants.{First, Second, Fourth}
 
 -- the task with a name; a name that no task has stands past the end of the set
 abbrev pub task_by_name : List Task → List ℕ → ℕ
@@ -44,15 +44,18 @@ abbrev pub IsReadyBody : List Task → Body → Type 0
 IsReadyBody U (Best levels) = IsReadyOrder U (levels_of U levels)
 IsReadyBody U (NoOrder members) = IsReadySet U (failures_of U members)
 
--- a certificate of a version may speak of a set that needs one: the same or an earlier one
+-- a certificate of a version may speak of a set that needs one: the fourth serves where it is needed and nowhere
+-- else, the second also where the first would do
 abbrev pub may_serve : (version needed : CertVersion) → Bool
 may_serve First First = true
 may_serve First Second = false
-may_serve First Third = false
+may_serve First Fourth = false
 may_serve Second First = true
 may_serve Second Second = true
-may_serve Second Third = false
-may_serve Third needed = true
+may_serve Second Fourth = false
+may_serve Fourth First = false
+may_serve Fourth Second = false
+may_serve Fourth Fourth = true
 
 -- the certificate is ready for the set: its version serves the set, and its body is ready
 pub record IsReady (U : List Task) (c : Cert) : Type 0 where

@@ -62,9 +62,10 @@ fn may_serve(version: CertVersion, needed: CertVersion) -> bool
     ensures { result ≡ may_serve version needed }
 {
     match (version, needed) {
-        (CertVersion::First, CertVersion::Second) => false,
-        (CertVersion::First | CertVersion::Second, CertVersion::Third) => false,
-        _ => true,
+        (CertVersion::First, CertVersion::First) => true,
+        (CertVersion::Second, CertVersion::First | CertVersion::Second) => true,
+        (CertVersion::Fourth, CertVersion::Fourth) => true,
+        _ => false,
     }
 }
 

@@ -11,7 +11,7 @@ use Rattle.std.proofs.lemmas.Slice.Eq.{bytes_eq-Decides}
 use Rattle.std.proofs.lemmas.List.{append-nil}
 use Rattle.std.proofs.lemmas.List.Splits.{join_with_byte-slice_split}
 use Rattle.certificate.specs.declared.version.CertVersion.{CertVersion}
-use Rattle.certificate.specs.declared.version.CertVersion.TheVariants.{First, Second, Third}
+use Rattle.certificate.specs.declared.version.CertVersion.TheVariants.{First, Second, Fourth}
 use Rattle.certificate.specs.Body.{Fail, CertLevelData, IsFailText, IsLevelText, IsBodyText}
 use Rattle.certificate.specs.Body.{HasSpelling, Body, Best, NoOrder, Cert}
 use Rattle.certificate.specs.Spelling.{fail_line, fail_lines, count_line, head_text, level_spelling}
@@ -131,7 +131,7 @@ module _ (v : CertVersion) where
 
 -- ---- the first line
 version_takes : (head : List ℕ) (v : CertVersion) → version_in head ≡ Some v → head ≡ head_text v
-version_takes head v = by First _ (by Second _ (by Third None (λ e. absurd cc)))
+version_takes head v = by First _ (by Second _ (by Fourth None (λ e. absurd cc)))
   where
     by : (u : CertVersion) (o : Option CertVersion) → (o ≡ Some v → head ≡ head_text v)
         → cond (bytes_eq head (head_text u)) (Some u) o ≡ Some v → head ≡ head_text v
@@ -147,7 +147,7 @@ version_takes head v = by First _ (by Second _ (by Third None (λ e. absurd cc))
 abbrev head_words : CertVersion → List (List ℕ)
 head_words First = codes "desk-certificate" ∷ codes "1" ∷ []
 head_words Second = codes "desk-certificate" ∷ codes "2" ∷ []
-head_words Third = codes "desk-certificate" ∷ codes "3" ∷ []
+head_words Fourth = codes "desk-certificate" ∷ codes "4" ∷ []
 
 digit_plain : (d : ℕ) → d < 10 → IsLine (codes "desk-certificate" ∷ ((48 + d) ∷ []) ∷ [])
 digit_plain d few = record {
@@ -161,13 +161,13 @@ digit_plain d few = record {
 head_plain : (v : CertVersion) → IsLine (head_words v)
 head_plain First = digit_plain 1 (omega arith)
 head_plain Second = digit_plain 2 (omega arith)
-head_plain Third = digit_plain 3 (omega arith)
+head_plain Fourth = digit_plain 4 (omega arith)
 
 head_again : (v : CertVersion) → (head_text v ≡ line_of (head_words v))
     × (version_in (line_of (head_words v)) ≡ Some v)
 head_again First = (refl, refl)
 head_again Second = (refl, refl)
-head_again Third = (refl, refl)
+head_again Fourth = (refl, refl)
 
 -- ---- a certificate
 versioned_takes : (o : Option CertVersion) (a : At) (c : Cert) → versioned o a ≡ Ok c

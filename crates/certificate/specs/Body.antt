@@ -4,7 +4,7 @@ use Rattle.std.specs.List.{AllByRecursion}
 use Rattle.task_sheet.specs.Name.{IsName}
 use Rattle.task_sheet.specs.declared.set.TheConstants.{TASK_LIMIT}
 use Rattle.certificate.specs.declared.version.CertVersion.{CertVersion}
-use Rattle.certificate.specs.declared.version.CertVersion.TheVariants.{First, Second, Third}
+use Rattle.certificate.specs.declared.version.CertVersion.TheVariants.{First, Second, Fourth}
 
 -- why a task fails: numbers, or the name of a task above which it must stand
 pub data CertReasonData : Type 0 where
@@ -43,7 +43,7 @@ abbrev pub IsReasonText : CertVersion → CertReasonData → Type 0
 IsReasonText v (Chain numbers) = (0 < length numbers) × AllByRecursion IsShort numbers
 IsReasonText First (Over other) = ⊥
 IsReasonText Second (Over other) = IsName other
-IsReasonText Third (Over other) = IsName other
+IsReasonText Fourth (Over other) = IsName other
 
 -- a name, and a reason that can be written
 pub record IsFailText (v : CertVersion) (f : Fail) : Type 0 where

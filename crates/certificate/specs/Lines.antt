@@ -6,7 +6,7 @@ use Rattle.task_sheet.specs.declared.set.TheConstants.{TASK_LIMIT}
 use Rattle.certificate.specs.Body.{Fail, CertLevelData, Body, Best, NoOrder, Cert}
 use Rattle.certificate.specs.Spelling.{head_text}
 use Rattle.certificate.specs.declared.version.CertVersion.{CertVersion}
-use Rattle.certificate.specs.declared.version.CertVersion.TheVariants.{First, Second, Third}
+use Rattle.certificate.specs.declared.version.CertVersion.TheVariants.{First, Second, Fourth}
 use Rattle.lines.specs.Lines.{parts}
 use Rattle.lines.specs.Steps.{◌>>=◌}
 use Rattle.lines.specs.Words.{words, number_in}
@@ -159,7 +159,7 @@ abbrev pub version_in : List ℕ → Option CertVersion
 version_in head =
     if bytes_eq head (head_text First) then Some First
     else if bytes_eq head (head_text Second) then Some Second
-    else if bytes_eq head (head_text Third) then Some Third
+    else if bytes_eq head (head_text Fourth) then Some Fourth
     else None
 
 -- the certificate that follows a first line

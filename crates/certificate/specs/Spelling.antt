@@ -4,7 +4,7 @@ use Rattle.std.specs.List.{flat_map}
 use Rattle.std.specs.Fmt.{decimal}
 use Rattle.certificate.specs.Body.{CertReasonData, Chain, Over, Fail, CertLevelData, Body, Best, NoOrder, Cert}
 use Rattle.certificate.specs.declared.version.CertVersion.{CertVersion}
-use Rattle.certificate.specs.declared.version.CertVersion.TheVariants.{First, Second, Third}
+use Rattle.certificate.specs.declared.version.CertVersion.TheVariants.{First, Second, Fourth}
 
 -- each number after a space
 abbrev pub numbers_text : List ℕ → List ℕ
@@ -37,7 +37,7 @@ level_spellings k (l ∷ ls) =
 abbrev pub head_text : CertVersion → List ℕ
 head_text First = codes "desk-certificate 1"
 head_text Second = codes "desk-certificate 2"
-head_text Third = codes "desk-certificate 3"
+head_text Fourth = codes "desk-certificate 4"
 
 -- the first line
 abbrev pub head_line : CertVersion → List ℕ

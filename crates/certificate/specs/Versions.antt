@@ -4,7 +4,7 @@ use Rattle.std.specs.List.{list_any}
 use Rattle.task_sheet.specs.Sheet.{Task, outranks_task}
 use Rattle.task_sheet.specs.Demand.{has_interrupts}
 use Rattle.certificate.specs.declared.version.CertVersion.{CertVersion}
-use Rattle.certificate.specs.declared.version.CertVersion.TheVariants.{First, Second, Third}
+use Rattle.certificate.specs.declared.version.CertVersion.TheVariants.{First, Second, Fourth}
 
 -- some task of the set must stand above another one of it
 unfoldable pub some_bound : List Task → Bool
@@ -14,7 +14,7 @@ some_bound U = list_any (λ t. list_any (outranks_task t) U) U
 abbrev pub has_jitter : List Task → Bool
 has_jitter U = list_any (λ t. nat_lt 0 t.jitter) U
 
--- the version that serves the set
+-- the version that the set needs
 abbrev pub version_for : List Task → CertVersion
 version_for U =
-    if has_interrupts U then Third else if some_bound U || has_jitter U then Second else First
+    if has_interrupts U then Fourth else if some_bound U || has_jitter U then Second else First

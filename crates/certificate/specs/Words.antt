@@ -8,7 +8,7 @@ use Rattle.certificate.specs.Body.{CertReasonData, Chain, Over, Fail}
 use Rattle.certificate.specs.ReasonOf.{reason_seen}
 use Rattle.certificate.specs.declared.value.CertReason.{CertReason}
 use Rattle.certificate.specs.declared.version.CertVersion.{CertVersion}
-use Rattle.certificate.specs.declared.version.CertVersion.TheVariants.{First, Second, Third}
+use Rattle.certificate.specs.declared.version.CertVersion.TheVariants.{First, Second, Fourth}
 
 infixl 10 ◌>>=◌
 -- goes on where there is a value
@@ -36,7 +36,7 @@ over_in (w ∷ name ∷ x ∷ xs) = None
 abbrev pub later_in : CertVersion → List (List ℕ) → Option CertReasonData
 later_in First ws = None
 later_in Second ws = over_in ws
-later_in Third ws = over_in ws
+later_in Fourth ws = over_in ws
 
 -- numbers, or what a later version allows in their place
 unfoldable pub reason_in : CertVersion → List (List ℕ) → Option CertReasonData

@@ -46,8 +46,8 @@ fn version_in(head: &[u8]) -> Option<CertVersion>
         Some(CertVersion::First)
     } else if is_word(head, b"desk-certificate 2") {
         Some(CertVersion::Second)
-    } else if is_word(head, b"desk-certificate 3") {
-        Some(CertVersion::Third)
+    } else if is_word(head, b"desk-certificate 4") {
+        Some(CertVersion::Fourth)
     } else {
         None
     }

@@ -15,8 +15,8 @@ pub enum CertVersion {
     First,
     /// For sets without timers and interrupts: a task may also fail since it must stand above another one.
     Second,
-    /// For all sets: what timers and interrupts take of a window is in its numbers.
-    Third,
+    /// For sets with timers or interrupts: what these take of a window is in its numbers.
+    Fourth,
 }
 
 // Whether a task must stand above one of these.
@@ -49,13 +49,13 @@ fn has_interrupts(set: &TaskSet) -> bool
     set.sheets().iter().any(|sheet| sheet.interrupts_some())
 }
 
-/// The version that serves a set: the third where some task has a timer that takes time, or an interrupt on its
+/// The version that a set needs: the fourth where some task has a timer that takes time, or an interrupt on its
 /// account; else the first where no task of it must stand above another one of it or has jitter.
 pub fn version_for(set: &TaskSet) -> CertVersion
     ensures { result ≡ version_for set.now }
 {
     if has_interrupts(set) {
-        CertVersion::Third
+        CertVersion::Fourth
     } else if some_bound(set) || has_jitter(set) {
         CertVersion::Second
     } else {

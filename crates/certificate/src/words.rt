@@ -51,7 +51,7 @@ fn later_of(version: CertVersion, text: &[u8]) -> Option<CertReason>
 {
     match version {
         CertVersion::First => None,
-        CertVersion::Second | CertVersion::Third => over_of(text),
+        CertVersion::Second | CertVersion::Fourth => over_of(text),
     }
 }
 

@@ -145,7 +145,7 @@ fn put_head<W: Write + Drop>(
     match version {
         CertVersion::First => out.put(b"desk-certificate 1\n"),
         CertVersion::Second => out.put(b"desk-certificate 2\n"),
-        CertVersion::Third => out.put(b"desk-certificate 3\n"),
+        CertVersion::Fourth => out.put(b"desk-certificate 4\n"),
     }
 }
 

@@ -29,7 +29,7 @@ pub const MOST_WIDTH: usize = 16_000;
 pub const MOST_SEED: usize = 4_294_967_295;
 
 /// An input that a word names.
-#[derive(Clone, Copy, Debug, PartialEq, Eq)]
+#[derive(Clone, Copy)]
 pub enum Input<'a> {
     /// The word `-`.
     Standard,
@@ -38,7 +38,7 @@ pub enum Input<'a> {
 }
 
 /// A command of one input.
-#[derive(Clone, Copy, Debug, PartialEq, Eq)]
+#[derive(Clone, Copy)]
 pub enum OfOne {
     /// `admit SET`
     Admit,
@@ -57,7 +57,7 @@ pub enum OfOne {
 }
 
 /// A command of a task set and a second input.
-#[derive(Clone, Copy, Debug, PartialEq, Eq)]
+#[derive(Clone, Copy)]
 pub enum OfTwo {
     /// `check SET CERT`
     Check,
@@ -82,7 +82,7 @@ pub enum OfTwo {
 }
 
 /// A command of an input and a number.
-#[derive(Clone, Copy, Debug, PartialEq, Eq)]
+#[derive(Clone, Copy)]
 pub enum OfNumber {
     /// `releases SET UNTIL`
     Releases,
@@ -151,7 +151,7 @@ pub(crate) enum Takes {
 }
 
 /// What decides among the orders that pass.
-#[derive(Clone, Copy, Debug, PartialEq, Eq)]
+#[derive(Clone, Copy)]
 pub enum Preferred {
     /// The weights of the tasks.
     Weight,
@@ -161,7 +161,7 @@ pub enum Preferred {
 
 /// What a call's words choose beside its inputs, of which an option may name the second. Where a command does not take
 /// an option, no words choose it.
-#[derive(Clone, Copy, Debug, PartialEq, Eq)]
+#[derive(Clone, Copy)]
 pub struct Options<'a> {
     /// `--prefer weight|deadline`
     pub prefer: Option<Preferred>,
@@ -190,7 +190,7 @@ pub struct Options<'a> {
 }
 
 /// A command with its inputs, and what its words choose.
-#[derive(Clone, Copy, Debug, PartialEq, Eq)]
+#[derive(Clone, Copy)]
 pub enum Call<'a> {
     One {
         command: OfOne,

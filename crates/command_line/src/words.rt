@@ -12,7 +12,7 @@ use clap::{ArgMatches, Error};
 use std::alloc::Global;
 
 /// Why words are no call.
-#[derive(Debug, Drop)]
+#[derive(Drop)]
 pub enum WordsFault {
     /// `clap`'s error, which help is too, or out of memory.
     Clap(Error),

@@ -2,6 +2,7 @@
 use Rattle.std.proofs.Common.{◌≡◌, ℕ, true, false, List, Option, Ok, Err, inl, inr}
 use Rattle.std.specs.Io.KnownBytes.{Appends}
 use Rattle.task_sheet.specs.Sheet.{Task}
+use Rattle.task_sheet.specs.declared.prefer.Preference.{Preference}
 use Rattle.owners.specs.declared.owner.Owner.{Owner}
 use Rattle.command_line.specs.declared.calls.Options.{Options}
 use Rattle.command_line.specs.declared.calls.OfTwo.{OfTwo}
@@ -25,39 +26,43 @@ use Rattle.answering.specs.declared.status.Status.{Status}
 use Rattle.desk_cli.proofs.Refused.{two_refused}
 
 -- no text is refused as an input that was not read
-pub never_unread : (c : OfTwo) (options : Options) (U : List Task) (text : List ℕ)
-    → FindsIn c options U text (Err failed_read) → ⊥
-never_unread command.Check options U text never = never
-never_unread _ options U text never = never
+pub never_unread : (c : OfTwo) (options : Options) (by : Preference) (U : List Task) (text : List ℕ)
+    → FindsIn c options by U text (Err failed_read) → ⊥
+never_unread command.Check options by U text never = never
+never_unread _ options by U text never = never
 
-module _ (options : Options) (owners : List Owner) (U : List Task) (text : List ℕ)
+module _ (options : Options) (by : Preference) (owners : List Owner) (U : List Task) (text : List ℕ)
     (before after : Option (List ℕ)) (s : Status) where
-  both : (set other : Option (List ℕ)) → HaveOwned (preference_of options) set other U owners text
+  both : (set other : Option (List ℕ)) → HaveOwned (preference_of options) set other by U owners text
       → HaveBoth (preference_of options) set other U text
   both set other has = ((has.0.0, has.0.1, has.0.2.set), has.1)
 
   -- a refusal was printed
-  pub refused_in : (c : OfTwo) (r : CommandRefusal) → FindsIn c options U text (Err r)
+  pub refused_in : (c : OfTwo) (r : CommandRefusal) → FindsIn c options by U text (Err r)
       → Appends before after (refusal_line r) → s ≡ status_of r
-      → SaysOfBoth c options owners U text before after s
+      → SaysOfBoth c options by owners U text before after s
   refused_in command.Simulate r why wrote is =
       elim options.by_task as (λ b. (set other : Option (List ℕ))
-      → HaveOwned (preference_of options) set other U owners text
+      → HaveOwned (preference_of options) set other by U owners text
       → SaysSimulation b (preference_of options) set other before after s) [
         | true ↦ λ set other has. (Err r, inr (U, text, both set other has, why), wrote, is)
         | false ↦ λ set other has. (Err r, inr (U, text, both set other has, why), wrote, is)
       ]
+  refused_in command.Diff r why wrote is =
+      λ set other has. (Err r, (by, inr (U, text, both set other has, why)), wrote, is)
+  refused_in command.ExplainAt r why wrote is =
+      λ set other has. (Err r, (by, inr (U, text, both set other has, why)), wrote, is)
   refused_in _ r why wrote is =
       λ set other has. (Err r, inr (U, text, both set other has, why), wrote, is)
 
   -- what was found was printed
-  said_in : (c : OfTwo) (found : Found) → FindsIn c options U text (Ok found)
+  said_in : (c : OfTwo) (found : Found) → FindsIn c options by U text (Ok found)
       → Appends before after (found_said owners U found) → s ≡ found_status found
-      → SaysOfBoth c options owners U text before after s
+      → SaysOfBoth c options by owners U text before after s
   said_in command.Check (Shown kind) finds wrote is =
       λ set other has. (Ok kind, (U, text, both set other has, finds), wrote, is)
   said_in command.Diff (Compared c) finds wrote is =
-      λ set other has. (Ok (U, owners, c), (text, has, finds), wrote, is)
+      λ set other has. (Ok (U, owners, c), (by, text, has, finds), wrote, is)
   said_in command.Judge (Judged judged) finds wrote is =
       λ set other has. (Ok (U, judged), (text, both set other has, finds), wrote, is)
   said_in command.Simulate (Simulated answer) finds wrote is =
@@ -75,13 +80,13 @@ module _ (options : Options) (owners : List Owner) (U : List Task) (text : List 
   said_in command.LimitsAt (LimitedAt found) finds wrote is =
       λ set other has. (Ok (U, found), (text, both set other has, finds), wrote, is)
   said_in command.ExplainAt (ExplainedAt found) finds wrote is =
-      λ set other has. (Ok (U, owners, found), (text, has, finds), wrote, is)
+      λ set other has. (Ok (U, owners, found), (by, text, has, finds), wrote, is)
   said_in _ _ finds wrote is = absurd finds
 
   -- the same; or that memory ran out for it, which is an answer of its own
-  pub printed_in : (c : OfTwo) (found : Found) → FindsIn c options U text (Ok found)
+  pub printed_in : (c : OfTwo) (found : Found) → FindsIn c options by U text (Ok found)
       → IsPrinted before after (found_said owners U found) (found_status found) s
-      → SaysOfBoth c options owners U text before after s
+      → SaysOfBoth c options by owners U text before after s
   printed_in c found finds (inl wrote) = said_in c found finds wrote.0 wrote.1
   printed_in c found finds (inr want) = λ set other has. two_refused before after s
       refusal.OutOfMemory want.0 want.1 c options set other tt

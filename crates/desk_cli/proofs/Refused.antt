@@ -4,9 +4,10 @@ use Rattle.std.specs.Io.KnownBytes.{Appends}
 use Rattle.command_line.specs.declared.calls.OfOne.{OfOne}
 use Rattle.command_line.specs.declared.calls.OfOne.TheVariants.{Limits, Explain, Worst, Play}
 use Rattle.command_line.specs.declared.calls.OfTwo.{OfTwo}
-use Rattle.command_line.specs.declared.calls.OfTwo.TheVariants.{Simulate}
+use Rattle.command_line.specs.declared.calls.OfTwo.TheVariants.{Simulate, Diff, ExplainAt}
 use Rattle.command_line.specs.declared.calls.Options.{Options}
 use Rattle.task_sheet.specs.declared.prefer.Preference.{Preference}
+use Rattle.task_sheet.specs.declared.prefer.Preference.TheVariants.{Weights}
 use Rattle.desk_cli.specs.Commands.{OneSays, TwoSay}
 use Rattle.answering.specs.Chosen.{preference_of, task_of}
 use Rattle.set_commands.specs.OneTask.{AnswersOfTask, SaysPart}
@@ -60,4 +61,6 @@ module _ (before after : Option (List ℕ)) (s : Status) (r : CommandRefusal)
         | true ↦ (Err r, inl why, wrote, is)
         | false ↦ (Err r, inl why, wrote, is)
       ]
+  two_refused Diff options first second why = (Err r, (Weights, inl why), wrote, is)
+  two_refused ExplainAt options first second why = (Err r, (Weights, inl why), wrote, is)
   two_refused _ options first second why = (Err r, inl why, wrote, is)

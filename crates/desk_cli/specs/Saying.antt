@@ -2,6 +2,7 @@
 use Rattle.std.specs.Prelude.{ℕ, List, Option, Err}
 use Rattle.command_line.specs.declared.calls.Options.{Options}
 use Rattle.task_sheet.specs.Sheet.{Task}
+use Rattle.task_sheet.specs.declared.prefer.Preference.{Preference}
 use Rattle.owners.specs.declared.owner.Owner.{Owner}
 use Rattle.command_line.specs.declared.calls.OfOne.{OfOne}
 use Rattle.command_line.specs.declared.calls.OfOne.TheVariants.{Certify, Play}
@@ -32,10 +33,12 @@ SaysOfSet command options owners U before after s =
     (known : Option (List ℕ)) → HasOwned (preference_of options) known U owners
     → OneSays command options known before after s
 
--- what a command says of each two readers that have this set and this text, by what the words choose
+-- what a command says of each two readers that have this set, taken by this preference, and this text, by what the words
+-- choose
 abbrev pub SaysOfBoth :
-    OfTwo → Options → List Owner → List Task → List ℕ → (before after : Option (List ℕ)) → Status → Type 0
-SaysOfBoth command options owners U text before after s =
+    OfTwo → Options → Preference → List Owner → List Task → List ℕ
+    → (before after : Option (List ℕ)) → Status → Type 0
+SaysOfBoth command options by owners U text before after s =
     (set other : Option (List ℕ))
-    → HaveOwned (preference_of options) set other U owners text
+    → HaveOwned (preference_of options) set other by U owners text
     → TwoSay command options set other before after s

@@ -6,7 +6,7 @@ ghost use Rattle.desk_cli.specs.Saying.{SaysOfBoth};
 ghost use Rattle.answering.specs.Outcomes.{IsCarriedOutOnBoth, IsSaidOn};
 
 use answering::{
-    Audience, CommandRefusal, Status, Which, base_of, placing_status, preference_of, print,
+    Audience, Both, CommandRefusal, Status, Which, base_of, placing_status, preference_of, print,
     print_bytes, print_made, read_two, refuse, tell,
 };
 use cert_checker::Checked;
@@ -18,7 +18,7 @@ use owners::Owner;
 use std::alloc::Global;
 use std::io::{Read, Write};
 use streams::Watched;
-use task_sheet::{Members, Name, TaskSet};
+use task_sheet::{Members, Name, Preference, TaskSet};
 use two_input_commands::{
     Compared, Drawing, InOrder, Observation, Simulated, check_text, checked_line, compare_text,
     compared_text, draw_text, explain_at, explained_at_text, judge_text, judged_status, keep_text,
@@ -53,15 +53,16 @@ pub enum Found {
     LimitedAt(InOrder),
 }
 
-// What a command finds of a set and a text.
+// What a command finds of a set, which was taken by a preference, and a text.
 fn find(
     alloc: Global,
     command: OfTwo,
     options: Options<'_>,
+    by: Preference,
     tasks: &TaskSet,
     text: &[u8],
 ) -> Result<Found, CommandRefusal>
-    ensures answer { FindsIn command options.entry tasks.now text.now result }
+    ensures answer { FindsIn command options.entry by tasks.now text.now result }
     ensures found { IfOk result (IsFoundOf tasks.now) }
 {
     match command {
@@ -69,6 +70,7 @@ fn find(
         OfTwo::Diff => Ok(Found::Compared(compare_text(
             alloc,
             preference_of(options),
+            by,
             tasks,
             text,
         )?)),
@@ -226,20 +228,19 @@ fn say_both<W: Write + Drop, P: Audience>(
     alloc: Global,
     command: OfTwo,
     options: Options<'_>,
-    owners: &[Owner],
-    tasks: &TaskSet,
-    text: &[u8],
+    both: &Both,
     output: &mut Watched<W>,
     people: &mut P,
 ) -> Status
-    ensures { IsSaidOn (SaysOfBoth command options.entry owners.now tasks.now text.now)
-        W.contents output.old output.new result }
+    ensures { IsSaidOn (SaysOfBoth command options.entry both.now.by both.now.owners.items
+        both.now.tasks both.now.text.items) W.contents output.old output.new result }
 {
-    let answer = find(alloc, command, options, tasks, text);
-    tell(&answer, tasks, Which::Second, text, people);
-    tell_found(&answer, tasks, text, people);
+    let tasks = &both.tasks;
+    let answer = find(alloc, command, options, both.by, tasks, &both.text);
+    tell(&answer, tasks, Which::Second, &both.text, people);
+    tell_found(&answer, tasks, &both.text, people);
     match answer {
-        Ok(found) => print_found(alloc, owners, tasks, &found, output),
+        Ok(found) => print_found(alloc, &both.owners, tasks, &found, output),
         Err(refusal) => refuse(refusal, output),
     }
 }
@@ -260,11 +261,7 @@ pub fn carry_out_on_both<R: Read + Drop, S: Read + Drop, W: Write + Drop, P: Aud
 {
     let preference = preference_of(options);
     match read_two(alloc, preference, set, other, people) {
-        Ok((tasks, owners, text)) => {
-            say_both(
-                alloc, command, options, &owners, &tasks, &text, output, people,
-            )
-        }
+        Ok(both) => say_both(alloc, command, options, &both, output, people),
         Err(refusal) => refuse(refusal, output),
     }
 }

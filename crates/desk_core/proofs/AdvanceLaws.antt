@@ -3,7 +3,7 @@ use Rattle.std.proofs.Common.{◌≡◌, ◌∙◌, ℕ, set, get_or, ◌+◌, L
 use Rattle.std.proofs.Common.{Err, IfOk, refl, sym, ap, subst}
 use Rattle.std.specs.declared.alloc.AllocError.{AllocError}
 use Rattle.assignment.specs.Questions.{QuestionData}
-use Rattle.drafts.specs.declared.roster.Owned.{Owned}
+use Rattle.drafts.specs.Applied.{OnNode}
 use Rattle.drafts.specs.declared.change.Refusal.{Refusal}
 use Rattle.drafts.specs.Edits.{on_base}
 use Rattle.desk_core.specs.declared.told.Told.{Told}
@@ -20,30 +20,30 @@ use Rattle.desk_core.proofs.BroughtLaws.{told-found, live-brought}
 use Rattle.desk_core.proofs.SlotLaws.{set-same, found-moved}
 
 -- a draft that is tested asks nothing
-pub tested-silent : (outcome : Result (List Owned) Refusal) (found : List Asked)
+pub tested-silent : (outcome : Result OnNode Refusal) (found : List Asked)
     → IsTestedOn outcome found → (q : QuestionData) → ¬ IsStandingOn outcome found (Asking q)
 tested-silent (Err refusal) found tested q asking = absurd tested
-tested-silent (Ok tasks) found tested q asking = asking.1.present.undecided (tested asking.0)
+tested-silent (Ok node) found tested q asking = asking.1.present.undecided (tested asking.0)
 
 -- ---- of a trial
-pub tried-none : (outcome : Result (List Owned) Refusal) (t u : TrialData) → IsTrialOn outcome t
+pub tried-none : (outcome : Result OnNode Refusal) (t u : TrialData) → IsTrialOn outcome t
     → IsTried t u None → IsAdvancedOn outcome t.found u.found None
 tried-none (Err refusal) t u so tried = absurd so
-tried-none (Ok tasks) t u so tried = (
-  tested-silent (Ok tasks) t.found (subst (λ U. (k : ℕ) → Decides U t.found k) so tried.0),
+tried-none (Ok node) t u so tried = (
+  tested-silent (Ok node) t.found (subst (λ U. (k : ℕ) → Decides U t.found k) so tried.0),
   ap (λ (x : TrialData). x.found) tried.1,
 )
 
-pub tried-some : (outcome : Result (List Owned) Refusal) (t u : TrialData) (told : Told) (r : Reply)
+pub tried-some : (outcome : Result OnNode Refusal) (t u : TrialData) (told : Told) (r : Reply)
     → IsTrialOn outcome t → IsTried t u (Some told) → IsToldReply u.set told r
     → IsAdvancedOn outcome t.found u.found (Some r)
 tried-some (Err refusal) t u told r so tried is = absurd so
-tried-some (Ok tasks) t u told r so tried is =
+tried-some (Ok node) t u told r so tried is =
     let f = tried.0 in
     let on = tried.1 in (
       f,
       rw (← so) on.asked,
-      told-found (Ok tasks) t u f.question told r so on.answer on.same on.found is,
+      told-found (Ok node) t u f.question told r so on.answer on.same on.found is,
     )
 
 -- ---- of a live draft

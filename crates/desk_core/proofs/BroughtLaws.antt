@@ -2,7 +2,7 @@
 use Rattle.std.proofs.Common.{◌≡◌, List, Result, Ok, Err, length, refl}
 use Rattle.std.proofs.lemmas.Bool.{ltb-true}
 use Rattle.assignment.specs.Questions.{QuestionData}
-use Rattle.drafts.specs.declared.roster.Owned.{Owned}
+use Rattle.drafts.specs.Applied.{OnNode}
 use Rattle.drafts.specs.declared.change.Refusal.{Refusal}
 use Rattle.drafts.specs.Edits.{on_base}
 use Rattle.desk_core.specs.declared.events.Reply.{Reply}
@@ -31,20 +31,20 @@ telling old new q (LevelDone level task response) is same found =
 telling old new q Tested is same found = rw (same, found) is.2
 
 -- what a trial of what the changes come to tells of a finding is the answer to it
-pub told-found : (outcome : Result (List Owned) Refusal) (old new : TrialData) (q : QuestionData)
+pub told-found : (outcome : Result OnNode Refusal) (old new : TrialData) (q : QuestionData)
     (told : Told) (r : Reply) → IsTrialOn outcome old → IsTold old.set old.found q told
     → new.set ≡ old.set → new.found ≡ found_after old.found (asked_of q) told
     → IsToldReply new.set told r → IsFound outcome old.found q r new.found
 told-found (Err refusal) old new q told r so answer same found reply = absurd so
-told-found (Ok tasks) old new q told r so answer same found reply =
+told-found (Ok node) old new q told r so answer same found reply =
     (told, rw (← so) answer, rw (← so, ← same) reply, found)
 
 -- a finding for a draft that is tested is a stranger
-pub tested-stranger : (outcome : Result (List Owned) Refusal) (found after : List Asked)
+pub tested-stranger : (outcome : Result OnNode Refusal) (found after : List Asked)
     (q : QuestionData) → IsTestedOn outcome found → after ≡ found
     → IsFound outcome found q (reply.Refused cause.Stranger) after
 tested-stranger (Err refusal) found after q tested same = absurd tested
-tested-stranger (Ok tasks) found after q tested same =
+tested-stranger (Ok node) found after q tested same =
     (Stranger, (λ k present. absurd (present.undecided (tested k))), refl, same)
 
 -- so it is for a live draft, with these findings after its stage was put away

@@ -5,11 +5,10 @@ use Rattle.task_sheet.proofs.Common.{Task, task_at, FailureData, tasks_of}
 use Rattle.task_sheet.proofs.VerdictLaws.{IsStuck-one}
 use Rattle.assignment.specs.Kept.{ObstructionData}
 use Rattle.assignment.specs.Questions.{QuestionData}
-use Rattle.drafts.specs.declared.roster.Owned.{Owned}
 use Rattle.drafts.specs.declared.change.Change.{Change}
 use Rattle.drafts.specs.declared.change.Refusal.{Refusal}
 use Rattle.drafts.specs.declared.draft.EditRefusal.{EditRefusal}
-use Rattle.drafts.specs.Applied.{set_of, applied}
+use Rattle.drafts.specs.Applied.{OnNode, set_of, applied}
 use Rattle.drafts.specs.Machine.{Entry, Ruling, Admitted, Refused, Infeasible, IsRuling}
 use Rattle.drafts.specs.Books.{Book, logged, IsNextEntry}
 use Rattle.drafts.specs.Edits.{Draft, on_base, after_put, after_remove}
@@ -59,35 +58,35 @@ told-said U told.Tested r s x y =
 abbrev Same : {A : Type 0} → Reply → Reply → A → A → Type 0
 Same r s x y = (said_of r ≡ said_of s) × (x ≡ y)
 
-found-one : (outcome : Result (List Owned) Refusal) (found : List Asked) (q : QuestionData)
+found-one : (outcome : Result OnNode Refusal) (found : List Asked) (q : QuestionData)
     (r s : Reply) (xs ys : List Asked) → IsFound outcome found q r xs → IsFound outcome found q s ys
     → Same r s xs ys
 found-one (Err refusal) found q r s xs ys x y =
     (ap said_of (x.0 ∙ sym y.0), x.1 ∙ sym y.1)
-found-one (Ok tasks) found q r s xs ys x y =
-    let U = set_of tasks in
+found-one (Ok node) found q r s xs ys x y =
+    let U = set_of node in
     let same : y.0 ≡ x.0 = told-one U found q y.0 x.0 y.1 x.1 in (
       told-said U x.0 r s x.2 (subst (λ (t : Told). IsToldReply U t s) same y.2),
       x.3 ∙ sym (y.3 ∙ ap (λ (t : Told). found_after found (asked_of q) t) same),
     )
 
 -- ---- decisions
-ruling-one : (version : ℕ) (outcome : Result (List Owned) Refusal) (a b : Ruling)
+ruling-one : (version : ℕ) (outcome : Result OnNode Refusal) (a b : Ruling)
     → IsRuling version outcome a → IsRuling version outcome b → a ≡ b
 ruling-one version (Err refusal) (Refused a) (Refused b) x y =
     ap (λ (z : Refusal). Refused z) (x ∙ sym y)
 ruling-one version (Err refusal) (Refused a) b x y = absurd y
-ruling-one version (Ok tasks) (Admitted a) (Admitted b) x y =
+ruling-one version (Ok node) (Admitted a) (Admitted b) x y =
     ap (λ (z : ℕ). Admitted z) (x.1 ∙ sym y.1)
-ruling-one version (Ok tasks) (Admitted a) (Infeasible b) x y = absurd (y.0 x.0)
-ruling-one version (Ok tasks) (Admitted a) (Refused b) x y = absurd y
-ruling-one version (Ok tasks) (Infeasible a) (Infeasible b) x y =
+ruling-one version (Ok node) (Admitted a) (Infeasible b) x y = absurd (y.0 x.0)
+ruling-one version (Ok node) (Admitted a) (Refused b) x y = absurd y
+ruling-one version (Ok node) (Infeasible a) (Infeasible b) x y =
     let set : a.set ≡ b.set = x.1 ∙ sym y.1 in
-    let members : a.members ≡ b.members = IsStuck-one (set_of tasks) a.members b.members x.2 y.2 in
+    let members : a.members ≡ b.members = IsStuck-one (set_of node) a.members b.members x.2 y.2 in
     let same : a ≡ b = λ i. record { set = set i; members = members i } in
     ap (λ (o : ObstructionData). Infeasible o) same
-ruling-one version (Ok tasks) (Infeasible a) (Admitted b) x y = absurd (x.0 y.0)
-ruling-one version (Ok tasks) (Infeasible a) (Refused b) x y = absurd y
+ruling-one version (Ok node) (Infeasible a) (Admitted b) x y = absurd (x.0 y.0)
+ruling-one version (Ok node) (Infeasible a) (Refused b) x y = absurd y
 ruling-one version outcome a b x y = absurd x
 
 entry-one : (b : Book) (d : Draft) (place place' : ℕ) (e f : Entry) → IsNextEntry b d place e
@@ -96,7 +95,7 @@ entry-one b d place place' e f x y =
     let team : e.team ≡ f.team = x.1 ∙ sym y.1 in
     let changes = x.2 ∙ sym y.2 in
     let decision : e.decision ≡ f.decision = ruling-one b.desk.version
-    (applied d.team b.desk.tasks d.changes) e.decision f.decision x.3 y.3 in
+    (applied d.team b.desk.node d.changes) e.decision f.decision x.3 y.3 in
     λ i. record { team = team i; changes = changes i; decision = decision i }
 
 commits-one : (b : Book) (l : Live) (r s : Said) (c d : Book) (i j : Option Live)

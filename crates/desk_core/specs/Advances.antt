@@ -3,7 +3,7 @@ use Rattle.std.specs.Prelude.{◌≡◌, ℕ, ◌<◌, List, Option, None, Some,
 use Rattle.std.specs.FinSet.{contains}
 use Rattle.assignment.specs.Questions.{QuestionData, FindingData}
 use Rattle.assignment.specs.Levels.{LevelState, IsAsked}
-use Rattle.drafts.specs.declared.roster.Owned.{Owned}
+use Rattle.drafts.specs.Applied.{OnNode}
 use Rattle.drafts.specs.declared.change.Refusal.{Refusal}
 use Rattle.desk_core.specs.declared.told.Told.{Told}
 use Rattle.desk_core.specs.declared.events.Event.TheVariants.{Found}
@@ -37,7 +37,7 @@ IsTried t u (Some told) = (f : FindingData) × IsTriedOn t f.question told u
 -- what was replied to that finding, on what changes come to, with the findings before and after;
 -- none where none is asked for
 abbrev pub IsAdvancedOn :
-    Result (List Owned) Refusal → List Asked → List Asked → Option Reply → Type 0
+    Result OnNode Refusal → List Asked → List Asked → Option Reply → Type 0
 IsAdvancedOn outcome found after None =
     ((q : QuestionData) → ¬ IsStandingOn outcome found (Asking q)) × (after ≡ found)
 IsAdvancedOn outcome found after (Some reply) =

@@ -2,12 +2,11 @@
 use Rattle.std.specs.Prelude.{◌≡◌, ℕ, List, Option, None, Some, Result, Ok, Err}
 use Rattle.task_sheet.specs.Sheet.{Task}
 use Rattle.assignment.specs.Questions.{QuestionData}
-use Rattle.drafts.specs.declared.roster.Owned.{Owned}
 use Rattle.drafts.specs.declared.change.Refusal.{Refusal}
 use Rattle.desk_core.specs.declared.events.Standing.{Standing}
 use Rattle.desk_core.specs.declared.events.Standing.TheVariants.{NoSuchDraft, Untestable, Asking}
 use Rattle.desk_core.specs.declared.events.Standing.TheVariants.{Tested}
-use Rattle.drafts.specs.Applied.{set_of}
+use Rattle.drafts.specs.Applied.{OnNode, set_of}
 use Rattle.desk_core.specs.Asking.{IsNextAsked, IsQuestionNamed}
 use Rattle.desk_core.specs.Findings.{Asked, IsTested}
 use Rattle.desk_core.specs.World.{Live, IsShown}
@@ -21,9 +20,9 @@ IsTrying U found NoSuchDraft = ⊥
 IsTrying U found Untestable = ⊥
 
 -- where a draft stands whose changes come to this
-abbrev pub IsStandingOn : Result (List Owned) Refusal → List Asked → Standing → Type 0
+abbrev pub IsStandingOn : Result OnNode Refusal → List Asked → Standing → Type 0
 IsStandingOn (Err refusal) found standing = standing ≡ Untestable
-IsStandingOn (Ok tasks) found standing = IsTrying (set_of tasks) found standing
+IsStandingOn (Ok node) found standing = IsTrying (set_of node) found standing
 
 -- where the draft in a slot stands
 abbrev pub IsStanding : Option Live → Standing → Type 0
@@ -32,9 +31,9 @@ IsStanding (Some l) standing = IsStandingOn (on_base l.draft) l.found standing
 
 -- the question on the candidate of a name, where the changes come to this
 abbrev pub IsQuestionOn :
-    Result (List Owned) Refusal → List Asked → List ℕ → Option QuestionData → Type 0
+    Result OnNode Refusal → List Asked → List ℕ → Option QuestionData → Type 0
 IsQuestionOn (Err refusal) found name question = question ≡ None
-IsQuestionOn (Ok tasks) found name question = IsQuestionNamed (set_of tasks) found name question
+IsQuestionOn (Ok node) found name question = IsQuestionNamed (set_of node) found name question
 
 -- the question on the candidate of a name, for the draft in a slot
 abbrev pub IsQuestionOf : Option Live → List ℕ → Option QuestionData → Type 0

@@ -6,12 +6,11 @@ use Rattle.task_sheet.specs.Orders.{IsFeasible}
 use Rattle.task_sheet.specs.Verdicts.{FailureData, tasks_of, IsVerdictOf}
 use Rattle.task_sheet.specs.Verdicts as verdict
 use Rattle.assignment.specs.Questions.{QuestionData}
-use Rattle.drafts.specs.declared.roster.Owned.{Owned}
 use Rattle.drafts.specs.declared.change.Change.{Change}
 use Rattle.drafts.specs.declared.change.Refusal.{Refusal}
 use Rattle.drafts.specs.declared.draft.EditRefusal.{EditRefusal}
 use Rattle.drafts.specs.declared.draft.EditRefusal.TheVariants as draft
-use Rattle.drafts.specs.Applied.{set_of}
+use Rattle.drafts.specs.Applied.{OnNode, set_of}
 use Rattle.drafts.specs.Machine.{MachineState}
 use Rattle.drafts.specs.Books.{Book, empty_book, logged, IsNextEntry}
 use Rattle.drafts.specs.Edits.{Draft, on_base, after_put, after_remove}
@@ -114,10 +113,10 @@ IsToldReply U told.Tested reply = IsTestedReply U reply
 -- a finding is answered by what is told of it, on what the changes come to, and the findings are
 -- then these; where the changes don't apply, it is refused
 abbrev pub IsFound :
-    Result (List Owned) Refusal → List Asked → QuestionData → Reply → List Asked → Type 0
+    Result OnNode Refusal → List Asked → QuestionData → Reply → List Asked → Type 0
 IsFound (Err refusal) found q reply after = (reply ≡ Refused Untestable) × (after ≡ found)
-IsFound (Ok tasks) found q reply after =
-    (t : Told) × IsTold (set_of tasks) found q t × IsToldReply (set_of tasks) t reply
+IsFound (Ok node) found q reply after =
+    (t : Told) × IsTold (set_of node) found q t × IsToldReply (set_of node) t reply
     × (after ≡ found_after found (asked_of q) t)
 
 -- so it is for a live draft, whose changes and base stay
@@ -128,9 +127,9 @@ IsBroughtTo l q reply after =
 
 -- ---- commits
 -- the changes apply, and the findings decide all levels of what they come to
-abbrev pub IsTestedOn : Result (List Owned) Refusal → List Asked → Type 0
+abbrev pub IsTestedOn : Result OnNode Refusal → List Asked → Type 0
 IsTestedOn (Err refusal) found = ⊥
-IsTestedOn (Ok tasks) found = IsTested (set_of tasks) found
+IsTestedOn (Ok node) found = IsTested (set_of node) found
 
 -- the draft is tested
 abbrev pub IsTestedDraft : Live → Type 0

@@ -1,6 +1,7 @@
 //! Drafts that haven't ended.
 
 ghost use Rattle.std.specs.Prelude.{◌≡◌, ◌↔◌, [], Some, IfOk, IfErr, IfSome, IfNone, IsTrue, OnErr, ◌≤◌, List, Result, length, vec_capacity};
+ghost use Rattle.drafts.specs.Applied.{OnNode};
 ghost use Rattle.drafts.specs.Books.{logged, IsNextEntry};
 ghost use Rattle.drafts.specs.Edits.{after_put, after_remove, on_base};
 ghost use Rattle.desk_core.specs.Advances.{IsAdvancedIn, IsAdvancedOn};
@@ -9,7 +10,6 @@ ghost use Rattle.desk_core.specs.declared.told.Told.{Told};
 ghost use Rattle.desk_core.specs.World.{opened, rebased, IsEdited, IsToldReply, IsFound, IsBroughtTo, IsTestedDraft};
 ghost use Rattle.desk_core.specs.Standings.{IsQuestionOn, IsStandingOn};
 ghost use Rattle.desk_core.specs.Stages.{IsStage, IsTrialOn, found_of};
-ghost use Rattle.drafts.specs.declared.roster.Owned.{Owned};
 ghost use Rattle.drafts.specs.declared.change.Refusal.{Refusal};
 
 use crate::events::{Cause, Reply, Standing};
@@ -79,7 +79,7 @@ fn reply_to(trial: &Trial, told: Told, names: Vec<Name>) -> Reply
 
 // Brings a finding to a trial.
 fn bring(alloc: Global, trial: &mut Trial, finding: Finding) -> Result<Reply, Finding>
-    ensures brought { (outcome : Result (List Owned) Refusal) → IsTrialOn outcome trial.old
+    ensures brought { (outcome : Result OnNode Refusal) → IsTrialOn outcome trial.old
         → IfOk result (λ r. IsFound outcome trial.old.found finding.question r trial.new.found) }
     ensures same { trial.new.set ≡ trial.old.set }
     ensures err { OnErr result (trial.new ≡ trial.old) }
@@ -125,7 +125,7 @@ fn bring_to(
 
 // Brings a trial the finding on its next question.
 fn advance(alloc: Global, trial: &mut Trial) -> Result<Option<Reply>, AllocError>
-    ensures ok { (outcome : Result (List Owned) Refusal) → IsTrialOn outcome trial.old
+    ensures ok { (outcome : Result OnNode Refusal) → IsTrialOn outcome trial.old
         → IfOk result (IsAdvancedOn outcome trial.old.found trial.new.found) }
     ensures same { trial.new.set ≡ trial.old.set }
     ensures err { OnErr result (trial.new ≡ trial.old) }

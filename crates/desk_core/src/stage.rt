@@ -1,8 +1,8 @@
 //! How far the test of a draft has come.
 
 ghost use Rattle.std.specs.Prelude.{◌≡◌, ◌↔◌, IfOk, IfSome, IfNone, OnErr, IsTrue, List, Result};
+ghost use Rattle.drafts.specs.Applied.{OnNode};
 ghost use Rattle.drafts.specs.Books.{logged, IsNextEntry};
-ghost use Rattle.drafts.specs.declared.roster.Owned.{Owned};
 ghost use Rattle.drafts.specs.declared.change.Refusal.{Refusal};
 ghost use Rattle.drafts.specs.Edits.{on_base};
 ghost use Rattle.desk_core.specs.Stages.{found_of, IsKeptOn, IsStage, IsBegun, IsTrialOf};
@@ -86,7 +86,7 @@ pub fn begin(alloc: Global, draft: &Draft, stage: &mut Stage) -> Result<bool, Al
 
 /// Keeps of a complete test what is asked for.
 pub fn put_away(stage: &mut Stage)
-    ensures kept { (outcome : Result (List Owned) Refusal) → IsStage outcome stage.old
+    ensures kept { (outcome : Result OnNode Refusal) → IsStage outcome stage.old
         → IsStage outcome stage.new }
     ensures found { found_of stage.new ≡ found_of stage.old }
 {
@@ -124,7 +124,7 @@ fn is_small(verdict: &Verdict) -> bool {
 
 // What is kept of a verdict.
 fn keep(verdict: Verdict) -> Kept
-    ensures { (outcome : Result (List Owned) Refusal) → IsKeptOn outcome (Own verdict)
+    ensures { (outcome : Result OnNode Refusal) → IsKeptOn outcome (Own verdict)
         → IsKeptOn outcome result }
 {
     if is_small(&verdict) {
@@ -136,7 +136,7 @@ fn keep(verdict: Verdict) -> Kept
 
 // What a trial comes to.
 fn rest_of(trial: Box<Trial>) -> Stage
-    ensures kept { (outcome : Result (List Owned) Refusal) → IsStage outcome (Trying trial)
+    ensures kept { (outcome : Result OnNode Refusal) → IsStage outcome (Trying trial)
         → IsStage outcome result }
     ensures found { found_of result ≡ trial.value.found }
 {
@@ -154,7 +154,7 @@ fn rest_of(trial: Box<Trial>) -> Stage
 
 // Shares the verdict of a complete test; where memory runs out, it stays as it was.
 fn share_kept(alloc: Global, kept: &mut Kept) -> Result<(), AllocError>
-    ensures right { (outcome : Result (List Owned) Refusal) → IsKeptOn outcome kept.old
+    ensures right { (outcome : Result OnNode Refusal) → IsKeptOn outcome kept.old
         → IsKeptOn outcome kept.new }
     ensures err { OnErr result (kept.new ≡ kept.old) }
 {

@@ -1,3 +1,4 @@
 pub mod SameLaws
+pub mod NodeLaws
 pub mod SilentLaws
 pub mod SeatLaws

@@ -1,41 +1,66 @@
 -- A set beside itself: no task has a line.
 use Rattle.std.proofs.Common.{◌≡◌, ◌∙◌, ◌<◌, ◌&&◌, ◌||◌, ℕ, zero, suc, Bool, true, false, nat_lt}
-use Rattle.std.proofs.Common.{List, [], length, Option, Some, None, refl, ap, arith}
+use Rattle.std.proofs.Common.{List, [], length, slice_get, Option, Some, None, refl, ap, arith}
 use Rattle.std.specs.Cmp.{nat_eq_equiv}
+use Rattle.std.specs.Cmp.Lexicographic.{pointwise}
 use Rattle.std.proofs.lemmas.Bool.{le-ltb, lt-ltb}
-use Rattle.std.proofs.lemmas.Slice.Eq.{slice_eq-Decides}
-use Rattle.task_sheet.proofs.Common.{Task, task_at, AreDistinct, same_name}
-use Rattle.task_sheet.specs.SheetEquality.{same_section-Decides, same_outranks-Decides}
-use Rattle.task_sheet.specs.SheetEquality.{same_node-Decides, same_interrupt-Decides}
+use Rattle.std.proofs.lemmas.Slice.Eq.{slice_eq-Decides, bytes_eq-Decides}
+use Rattle.task_sheet.proofs.Common.{Task, CriticalSection, task_at, AreDistinct, same_name}
+use Rattle.task_sheet.specs.declared.node.Interrupt.{Interrupt}
+use Rattle.task_sheet.specs.declared.node.TheConstants.{INTERRUPT_LIMIT}
+use Rattle.task_sheet.specs.declared.prefer.Preference.{Preference}
+use Rattle.task_sheet.specs.declared.prefer.Preference.TheVariants.{Weights, Deadline}
+use Rattle.task_sheet.specs.declared.sheet.TheConstants.{SECTION_LIMIT}
+use Rattle.task_sheet.specs.Indexes.{some_below}
+use Rattle.task_sheet.specs.Overheads.{own_cost}
+use Rattle.task_sheet.specs.Sheet.{same_bytes}
+use Rattle.task_sheet.specs.SheetEquality.{same_outranks-Decides, same_node-Decides}
+use Rattle.task_sheet.specs.SheetEquality.{same_interrupt-Decides}
 use Rattle.task_sheet.proofs.TaskLaws.{place_of_name}
 use Rattle.assignment.specs.declared.placing.Placing.{Placing}
-use Rattle.diff.specs.Keys.{is_changed}
+use Rattle.diff.specs.Own.{own_at, own_len, own_jitter}
+use Rattle.diff.specs.Keys.{is_changed, other_at, other_section, words_below}
+use Rattle.diff.specs.Whole.{interrupt_line, interrupts_of, node_line, node_of, preference_line}
+use Rattle.diff.specs.Whole.{same_some, whole_lines}
 use Rattle.diff.specs.Seats.{seat_of}
 use Rattle.diff.specs.Lines.{change_lines, effect_of, effect_words, edit_from, edit_line, gone_line}
-use Rattle.diff.specs.Lines.{index_in, lines_below, removed_line, rest_from, rest_line, seats_line}
+use Rattle.diff.specs.Lines.{index_in, removed_line, rest_from, rest_line, seats_line}
 use Rattle.diff.specs.declared.seats.Seat.{Seat}
 use Rattle.diff.specs.declared.text.Effect.{Effect}
 use Rattle.diff.specs.declared.text.Effect.TheVariants.{OnBound, OnLevel}
 
 -- ---- a sheet says what it says
+pub same_locks : (names : List (List ℕ)) → pointwise same_bytes names names ≡ true
+same_locks names = (slice_eq-Decides bytes_eq-Decides names names _ refl).1 refl
+
+same_at : (t : Task) (place : ℕ) (x : Option CriticalSection) → other_at t t place x x ≡ false
+same_at t place None = refl
+same_at t place (Some x) =
+    let at = nat_eq_equiv.refl (own_at t place x) in
+    let len = nat_eq_equiv.refl (own_len t x) in
+    rw (same_locks x.locks, at, len) refl
+
+pub none_below : (n : ℕ) (p : ℕ → Bool) → ((k : ℕ) → p k ≡ false) → some_below n p ≡ false
+none_below zero p each = refl
+none_below (suc n) p each = rw (none_below n p each, each n) refl
+
+-- equal weights don't differ, whether they count or not
+pub neither : (w : Bool) → ((w && false) || false) ≡ false
+neither true = refl
+neither false = refl
+
 unchanged : (weighs : Bool) (t : Task) → is_changed weighs t t ≡ false
+unfolding is_changed
 unchanged weighs t =
     let weight = nat_eq_equiv.refl t.weight in
     let period = nat_eq_equiv.refl t.period in
     let deadline = nat_eq_equiv.refl t.deadline in
-    let cost = nat_eq_equiv.refl t.cost in
-    let jitter = nat_eq_equiv.refl t.jitter in
-    let sections = (slice_eq-Decides same_section-Decides t.sections t.sections _ refl).1 refl in
+    let cost = nat_eq_equiv.refl (own_cost t) in
+    let jitter = nat_eq_equiv.refl (own_jitter t) in
+    let sections = none_below SECTION_LIMIT (other_section t t)
+    (λ place. same_at t place (slice_get t.sections place)) in
     let outranks = (same_outranks-Decides t.outranks t.outranks).1 refl in
-    let node = (same_node-Decides t.node t.node).1 refl in
-    let interrupts =
-    (slice_eq-Decides same_interrupt-Decides t.interrupts t.interrupts _ refl).1 refl in
-    rw (weight, period, deadline, cost, jitter, sections, outranks, node, interrupts)
-    (neither weighs)
-  where
-    neither : (w : Bool) → ((w && false) || false) ≡ false
-    neither true = refl
-    neither false = refl
+    rw (weight, period, deadline, cost, jitter, sections, outranks) (neither weighs)
 
 -- ---- a task's name is its own
 own_index : (U : List Task) → AreDistinct same_name U → (i : ℕ) → i < length U
@@ -54,7 +79,7 @@ no_seats : (effect : Effect) (U : List Task) (task : ℕ) (o : Option Seat)
 no_seats effect U task None = refl
 no_seats effect U task (Some s) = ap (effect_words U task s s) (no_effect effect s)
 
-no_lines : (n : ℕ) (line : ℕ → List ℕ) → ((k : ℕ) → k < n → line k ≡ []) → lines_below n line ≡ []
+no_lines : (n : ℕ) (line : ℕ → List ℕ) → ((k : ℕ) → k < n → line k ≡ []) → words_below n line ≡ []
 no_lines zero line each = refl
 no_lines (suc n) line each =
     rw (no_lines n line (λ k lt. each k (omega arith)), each n (omega arith)) refl
@@ -80,3 +105,23 @@ module _ (weighs : Bool) (U : List Task) (P : Placing) (apart : AreDistinct same
         (rests OnBound),
     no_lines (length U) (rest_line OnLevel weighs U P U P) (rests OnLevel),
   ) refl
+
+-- ---- nor does anything else of a set
+same_preferences : (by : Preference) → preference_line by by ≡ []
+same_preferences Weights = refl
+same_preferences Deadline = refl
+
+same_nodes : (U : List Task) → node_line U U ≡ []
+same_nodes U = let same = (same_node-Decides (node_of U) (node_of U)).1 refl in rw same refl
+
+same_interrupts : (x : Option Interrupt) → same_some x x ≡ true
+same_interrupts None = refl
+same_interrupts (Some x) = (same_interrupt-Decides x x).1 refl
+
+pub whole_is_silent : (by : Preference) (U : List Task) → whole_lines by U by U ≡ []
+whole_is_silent by U = rw (
+  same_preferences by,
+  same_nodes U,
+  no_lines INTERRUPT_LIMIT (interrupt_line U U)
+      (λ place lt. rw (same_interrupts (slice_get (interrupts_of U) place)) refl),
+) refl

@@ -1,16 +1,24 @@
 -- Where no line is said, nothing has changed.
 use Rattle.std.proofs.Common.{◌≡◌, ◌∙◌, ◌<◌, ℕ, zero, suc, inl, inr, Bool, true, false, nat_lt}
-use Rattle.std.proofs.Common.{nat_eq, eqb, List, [], ◌∷◌, ◌++◌, length, Option, Some, None, codes}
+use Rattle.std.proofs.Common.{nat_eq, eqb, ◌+◌, slice_get, List, [], ◌∷◌, ◌++◌, length, Option, Some, None, codes}
 use Rattle.std.proofs.Common.{refl, sym, ap, arith}
 use Rattle.std.proofs.lemmas.Bool.{cases_Bool, eq-eqb, eqb-true, eqb-false, ltb-false}
-use Rattle.task_sheet.specs.Sheet.{Task, task_at}
+use Rattle.std.specs.Fmt.{decimal}
+use Rattle.std.specs.Option.{option_map}
+use Rattle.task_sheet.specs.Sheet.{Task, task_at, same_node}
+use Rattle.task_sheet.specs.declared.node.TheConstants.{INTERRUPT_LIMIT}
+use Rattle.task_sheet.specs.declared.prefer.Preference.{Preference}
 use Rattle.assignment.specs.declared.placing.Placing.{Placing}
-use Rattle.diff.specs.Keys.{is_changed, keys_words}
+use Rattle.diff.specs.Keys.{is_changed, keys_words, words_below}
 use Rattle.diff.specs.Seats.{seat_of}
 use Rattle.diff.specs.Lines.{change_lines, changed_line, edit_from, edit_line, effect_of}
-use Rattle.diff.specs.Lines.{effect_words, gone_line, index_in, kept_line, lines_below}
+use Rattle.diff.specs.Lines.{effect_words, gone_line, index_in, kept_line}
 use Rattle.diff.specs.Lines.{removed_line, rest_from, rest_line, seats_line, start_words}
 use Rattle.diff.specs.Unchanged.{IsKept, IsSameSeat, IsUnchanged}
+use Rattle.diff.specs.Whole.{both_weigh, interrupt_line, interrupts_of, node_line, node_of}
+use Rattle.diff.specs.Whole.{node_words, preference_line, same_preference, same_some}
+use Rattle.diff.specs.Whole.{some_number_words, whole_lines}
+use Rattle.task_sheet.specs.Prefer.{preference_word}
 use Rattle.diff.specs.declared.seats.Seat.{Seat}
 use Rattle.diff.specs.declared.text.Kind.{Kind}
 use Rattle.diff.specs.declared.text.Kind.TheVariants.{Removed, Added, Changed, Slower, Faster}
@@ -38,13 +46,13 @@ four a b c d e =
 some_line : (xs : List ℕ) → xs ++ codes "\n" ≡ [] → ⊥
 some_line xs e = let never : codes "\n" ≡ [] = no_back xs (codes "\n") e in cc
 
-no_line : (n : ℕ) (line : ℕ → List ℕ) → lines_below n line ≡ [] → (k : ℕ) → k < n → line k ≡ []
+no_line : (n : ℕ) (line : ℕ → List ℕ) → words_below n line ≡ [] → (k : ℕ) → k < n → line k ≡ []
 no_line zero line none k lt = absurd (omega arith)
 no_line (suc n) line none k lt =
     elim (cases_Bool (eqb k n)) [
-      | inl same ↦ ap line (eqb-true k n same) ∙ no_back (lines_below n line) (line n) none
+      | inl same ↦ ap line (eqb-true k n same) ∙ no_back (words_below n line) (line n) none
       | inr other ↦ let apart = eqb-false k n other in
-          no_line n line (no_front (lines_below n line) (line n) none) k (omega (arith, apart))
+          no_line n line (no_front (words_below n line) (line n) none) k (omega (arith, apart))
     ]
 
 -- ---- no task is gone
@@ -118,16 +126,16 @@ same_seat V k (Some old) (Some new) bound level =
 module _ (weighs : Bool) (U : List Task) (P : Placing) (V : List Task) (Q : Placing)
     (silent : change_lines weighs U P V Q ≡ []) where
   abbrev removals : List ℕ
-  removals = lines_below (length U) (removed_line U P V)
+  removals = words_below (length U) (removed_line U P V)
 
   abbrev edits : List ℕ
-  edits = lines_below (length V) (edit_line weighs U P V Q)
+  edits = words_below (length V) (edit_line weighs U P V Q)
 
   abbrev bounds : List ℕ
-  bounds = lines_below (length V) (rest_line OnBound weighs U P V Q)
+  bounds = words_below (length V) (rest_line OnBound weighs U P V Q)
 
   abbrev levels : List ℕ
-  levels = lines_below (length V) (rest_line OnLevel weighs U P V Q)
+  levels = words_below (length V) (rest_line OnLevel weighs U P V Q)
 
   none : (removals ≡ []) × (edits ≡ []) × (bounds ≡ []) × (levels ≡ [])
   none = four removals edits bounds levels silent
@@ -153,12 +161,65 @@ module _ (weighs : Bool) (U : List Task) (P : Placing) (V : List Task) (Q : Plac
             (rw sheet at level);
       }
 
-  pub silent_is_unchanged : IsUnchanged weighs U P V Q
-  silent_is_unchanged = record {
-    none_gone = λ k lt. still_there U P k (index_in V U k)
-        (no_line (length U) (removed_line U P V) none.0 k lt);
-    all_kept = λ k lt.
-        let before = was_there weighs U P V Q k (index_in U V k)
-        (no_line (length V) (edit_line weighs U P V Q) none.1 k lt) in
-        kept_at k before.0 before.1 lt;
-  }
+  pub none_is_gone : (k : ℕ) → k < length U → (after : ℕ) × (index_in V U k ≡ Some after)
+  none_is_gone k lt = still_there U P k (index_in V U k)
+      (no_line (length U) (removed_line U P V) none.0 k lt)
+
+  pub each_is_kept : (k : ℕ) → k < length V → IsKept weighs U P V Q k
+  each_is_kept k lt =
+      let before = was_there weighs U P V Q k (index_in U V k)
+      (no_line (length V) (edit_line weighs U P V Q) none.1 k lt) in
+      kept_at k before.0 before.1 lt
+
+-- ---- and of what no task has
+one_preference : (old new : Preference) → preference_line old new ≡ []
+    → same_preference old new ≡ true
+one_preference old new silent =
+    elim (cases_Bool (same_preference old new)) [
+      | inl same ↦ same
+      | inr other ↦ absurd (some_line
+          (codes "prefer " ++ preference_word old ++ codes " " ++ preference_word new)
+          (rw other at silent))
+    ]
+
+one_node : (U V : List Task) → node_line U V ≡ [] → same_node (node_of U) (node_of V) ≡ true
+one_node U V silent =
+    elim (cases_Bool (same_node (node_of U) (node_of V))) [
+      | inl same ↦ same
+      | inr other ↦ absurd (some_line (codes "node" ++ node_words (node_of U) (node_of V))
+          (rw other at silent))
+    ]
+
+one_interrupt : (U V : List Task) (place : ℕ) → interrupt_line U V place ≡ []
+    → same_some (slice_get (interrupts_of U) place) (slice_get (interrupts_of V) place) ≡ true
+one_interrupt U V place silent =
+    let x = slice_get (interrupts_of U) place in
+    let y = slice_get (interrupts_of V) place in
+    elim (cases_Bool (same_some x y)) [
+      | inl same ↦ same
+      | inr other ↦ absurd (some_line
+          (codes "interrupt " ++ decimal (place + 1)
+          ++ some_number_words (codes " period ") (option_map (λ i. i.period) x)
+          (option_map (λ i. i.period) y)
+          ++ some_number_words (codes " cost ") (option_map (λ i. i.cost) x)
+          (option_map (λ i. i.cost) y))
+          (rw other at silent))
+    ]
+
+pub silent_is_unchanged : (old : Preference) (U : List Task) (P : Placing) (new : Preference)
+    (V : List Task) (Q : Placing) → whole_lines old U new V ≡ []
+    → change_lines (both_weigh old new) U P V Q ≡ [] → IsUnchanged old U P new V Q
+silent_is_unchanged old U P new V Q whole silent =
+    let preference = preference_line old new in
+    let node = node_line U V in
+    let interrupts = words_below INTERRUPT_LIMIT (interrupt_line U V) in
+    let front : preference ++ node ≡ [] = no_front (preference ++ node) interrupts whole in
+    record {
+      preference = one_preference old new (no_front preference node front);
+      node = one_node U V (no_back preference node front);
+      interrupts = λ place lt. one_interrupt U V place
+          (no_line INTERRUPT_LIMIT (interrupt_line U V)
+          (no_back (preference ++ node) interrupts whole) place lt);
+      none_gone = none_is_gone (both_weigh old new) U P V Q silent;
+      all_kept = each_is_kept (both_weigh old new) U P V Q silent;
+    }

@@ -1,10 +1,9 @@
 -- The lines of a change from one set to another.
-use Rattle.std.specs.Prelude.{ℕ, zero, suc, nat_lt, nat_eq, Bool, ◌&&◌, not, List, [], ◌++◌, length, codes, position, Option, Some, None, option_map, if◌then◌else◌}
-use Rattle.std.specs.Fmt.{decimal}
+use Rattle.std.specs.Prelude.{ℕ, nat_lt, nat_eq, Bool, ◌&&◌, not, List, [], ◌++◌, length, codes, position, Option, Some, None, option_map, if◌then◌else◌}
 use Rattle.task_sheet.specs.Sheet.{Task, same_bytes, task_at}
 use Rattle.lines.specs.Naming.{name_at}
 use Rattle.assignment.specs.declared.placing.Placing.{Placing}
-use Rattle.diff.specs.Keys.{is_changed, keys_words}
+use Rattle.diff.specs.Keys.{is_changed, keys_words, pair_words, words_below}
 use Rattle.diff.specs.Seats.{seat_of}
 use Rattle.diff.specs.declared.seats.Seat.{Seat}
 use Rattle.diff.specs.declared.text.Kind.{Kind}
@@ -21,15 +20,6 @@ word_of Changed = codes "changed"
 word_of Slower = codes "slower"
 word_of Faster = codes "faster"
 word_of Moved = codes "moved"
-
--- a number, or `-` for none
-abbrev pub some_words : Option ℕ → List ℕ
-some_words None = codes "-"
-some_words (Some n) = decimal n
-
--- a number before and after
-abbrev pub pair_words : List ℕ → Option ℕ → Option ℕ → List ℕ
-pair_words word old new = word ++ some_words old ++ codes " " ++ some_words new
 
 -- the seats before and after
 abbrev pub seats_words : Option Seat → Option Seat → List ℕ
@@ -120,16 +110,11 @@ rest_line effect weighs U P V Q task =
     rest_from effect weighs U P (index_in U V task) V Q task
 
 -- ---- all
--- the lines of the indexes below a number
-abbrev pub lines_below : ℕ → (ℕ → List ℕ) → List ℕ
-lines_below zero line = []
-lines_below (suc n) line = lines_below n line ++ line n
-
 -- the tasks that are gone; those that came, and those whose sheets say something else; then, of the others, those whose
 -- bounds are other ones, and last those whose levels alone are: each by rank
 abbrev pub change_lines : Bool → List Task → Placing → List Task → Placing → List ℕ
 change_lines weighs U P V Q =
-    lines_below (length U) (removed_line U P V)
-    ++ lines_below (length V) (edit_line weighs U P V Q)
-    ++ lines_below (length V) (rest_line OnBound weighs U P V Q)
-    ++ lines_below (length V) (rest_line OnLevel weighs U P V Q)
+    words_below (length U) (removed_line U P V)
+    ++ words_below (length V) (edit_line weighs U P V Q)
+    ++ words_below (length V) (rest_line OnBound weighs U P V Q)
+    ++ words_below (length V) (rest_line OnLevel weighs U P V Q)

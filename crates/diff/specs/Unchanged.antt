@@ -1,10 +1,13 @@
 -- Changes of which no line speaks.
-use Rattle.std.specs.Prelude.{◌≡◌, ◌<◌, ℕ, Bool, false, List, length, Option, Some}
-use Rattle.task_sheet.specs.Sheet.{Task, task_at}
+use Rattle.std.specs.Prelude.{◌≡◌, ◌<◌, ℕ, Bool, true, false, List, length, slice_get, Option, Some}
+use Rattle.task_sheet.specs.Sheet.{Task, task_at, same_node}
+use Rattle.task_sheet.specs.declared.node.TheConstants.{INTERRUPT_LIMIT}
+use Rattle.task_sheet.specs.declared.prefer.Preference.{Preference}
 use Rattle.assignment.specs.declared.placing.Placing.{Placing}
 use Rattle.diff.specs.Keys.{is_changed}
 use Rattle.diff.specs.Lines.{index_in}
 use Rattle.diff.specs.Seats.{seat_of}
+use Rattle.diff.specs.Whole.{both_weigh, interrupts_of, node_of, same_preference, same_some}
 use Rattle.diff.specs.declared.seats.Seat.{Seat}
 
 -- the same level and the same bound, where some order passes before and after
@@ -20,8 +23,12 @@ pub record IsKept (weighs : Bool) (U : List Task) (P : Placing) (V : List Task) 
   pub sheet : is_changed weighs (task_at U before) (task_at V task) ≡ false
   pub seat : IsSameSeat (seat_of U P before) (seat_of V Q task)
 
--- no task is gone, and each of the new set is kept
-pub record IsUnchanged (weighs : Bool) (U : List Task) (P : Placing) (V : List Task) (Q : Placing)
-    : Type 0 where
+-- one preference, one node, and the same interrupts; no task is gone, and each of the new set is kept
+pub record IsUnchanged (old : Preference) (U : List Task) (P : Placing) (new : Preference)
+    (V : List Task) (Q : Placing) : Type 0 where
+  pub preference : same_preference old new ≡ true
+  pub node : same_node (node_of U) (node_of V) ≡ true
+  pub interrupts : (place : ℕ) → place < INTERRUPT_LIMIT
+      → same_some (slice_get (interrupts_of U) place) (slice_get (interrupts_of V) place) ≡ true
   pub none_gone : (task : ℕ) → task < length U → (after : ℕ) × (index_in V U task ≡ Some after)
-  pub all_kept : (task : ℕ) → task < length V → IsKept weighs U P V Q task
+  pub all_kept : (task : ℕ) → task < length V → IsKept (both_weigh old new) U P V Q task

@@ -1,26 +1,41 @@
 //! Laws of changes. Each is the contract of a function that does nothing.
 
-ghost use Rattle.std.specs.Prelude.{◌≡◌, ◌+◌, ℕ, [], List, Bool, Some};
+ghost use Rattle.std.specs.Prelude.{◌≡◌, ◌+◌, ℕ, [], List, Bool, false, Some};
+ghost use Rattle.task_sheet.specs.declared.node.Node.{Node};
+ghost use Rattle.task_sheet.specs.declared.prefer.Preference.{Preference};
 ghost use Rattle.task_sheet.specs.Sheet.{Task, task_at};
 ghost use Rattle.task_sheet.specs.TaskSet.{IsTaskSet};
+ghost use Rattle.overheads.specs.Padding.{padded_task};
 ghost use Rattle.assignment.specs.declared.placing.Placing.{Placing};
 ghost use Rattle.assignment.specs.Placings.{IsPlacingOf};
+ghost use Rattle.diff.specs.Keys.{is_changed};
 ghost use Rattle.diff.specs.Lines.{change_lines};
 ghost use Rattle.diff.specs.Seats.{seat_of};
 ghost use Rattle.diff.specs.Unchanged.{IsUnchanged};
+ghost use Rattle.diff.specs.Whole.{both_weigh, whole_lines};
 ghost use Rattle.diff.specs.declared.seats.Seat.{Seat};
 
 /// A set beside itself has no line.
 pub fn unchanged_says_nothing()
-    ensures { (weighs : Bool) (U : List Task) (P : Placing) → IsTaskSet U
+    ensures whole { (by : Preference) (U : List Task) → whole_lines by U by U ≡ [] }
+    ensures tasks { (weighs : Bool) (U : List Task) (P : Placing) → IsTaskSet U
         → change_lines weighs U P U P ≡ [] }
 {}
 
-/// Where there is no line, nothing has changed: no task is gone, each of the new set was there before with a sheet that says
-/// the same, and where some order passes before and after each has its level and its bound.
+/// A task whose sheet says the same but for what a node takes has no line of a change: such a sheet, padded by any two
+/// nodes with room for it, says the same.
+pub fn node_changes_no_task()
+    ensures { (weighs : Bool) (t : Task) (node other : Node) → is_changed weighs
+        (padded_task node t) (padded_task other t) ≡ false }
+{}
+
+/// Where there is no line, nothing has changed: the preference, the node and the interrupts are the same, no task is gone,
+/// each of the new set was there before with a sheet that says the same, and where some order passes before and after each
+/// has its level and its bound.
 pub fn silent_changes_nothing()
-    ensures { (weighs : Bool) (U : List Task) (P : Placing) (V : List Task) (Q : Placing)
-        → change_lines weighs U P V Q ≡ [] → IsUnchanged weighs U P V Q }
+    ensures { (old : Preference) (U : List Task) (P : Placing) (new : Preference) (V : List Task)
+        (Q : Placing) → whole_lines old U new V ≡ []
+        → change_lines (both_weigh old new) U P V Q ≡ [] → IsUnchanged old U P new V Q }
 {}
 
 /// Slack is never cut off at 0: bound and slack of a placing's seat are together the deadline.

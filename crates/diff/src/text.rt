@@ -1,11 +1,15 @@
 //! The lines of a change.
 ghost use Rattle.std.specs.Prelude.{◌≡◌, ◌++◌, ◌<◌, length, OnOk, IfOk, Some, None, string_bytes};
 ghost use Rattle.diff.specs.Seats.{seat_of};
-ghost use Rattle.diff.specs.Lines.{added_line, change_lines, changed_line, edit_line, effect_line, effect_of, index_in, kept_line, lines_below, pair_words, removed_line, rest_line, seats_words, some_words, start_words, word_of};
+ghost use Rattle.diff.specs.Keys.{words_below};
+ghost use Rattle.diff.specs.Whole.{both_weigh};
+ghost use Rattle.diff.specs.Lines.{added_line, change_lines, changed_line, edit_line, effect_line, effect_of, index_in, kept_line, removed_line, rest_line, seats_words, start_words, word_of};
 
 use crate::keys::{is_changed, push_keys};
+use crate::pairs::push_pair;
 use crate::seats::{Seat, seat_of};
 use crate::side::Side;
+use crate::whole::both_weigh;
 use lines::push_name;
 use std::alloc::{AllocError, Global};
 use task_sheet::TaskSet;
@@ -70,32 +74,6 @@ fn effect_of(effect: Effect, old: Seat, new: Seat) -> Option<Kind>
             }
         }
     }
-}
-
-// A number, or `-` for none.
-fn push_some(text: &mut String, number: Option<u64>) -> Result<(), AllocError>
-    ensures { OnOk result (string_bytes text.new ≡ string_bytes text.old ++ some_words number) }
-{
-    match number {
-        Some(number) => write!(text, "{number}"),
-        None => text.push_str("-"),
-    }
-}
-
-// A number before and after.
-fn push_pair(
-    text: &mut String,
-    word: &str,
-    old: Option<u64>,
-    new: Option<u64>,
-) -> Result<(), AllocError>
-    ensures { OnOk result (string_bytes text.new ≡ string_bytes text.old
-        ++ pair_words word.now old new) }
-{
-    text.push_str(word)?;
-    push_some(text, old)?;
-    text.push_str(" ")?;
-    push_some(text, new)
 }
 
 // The seats before and after.
@@ -296,7 +274,7 @@ fn push_rest(
 // The lines of the old tasks that are gone.
 fn push_all_removed(text: &mut String, old: &Side<'_>, new: &Side<'_>) -> Result<(), AllocError>
     ensures { OnOk result (string_bytes text.new ≡ string_bytes text.old
-        ++ lines_below (length old.now.set.now)
+        ++ words_below (length old.now.set.now)
         (removed_line old.now.set.now old.now.placing.now new.now.set.now)) }
 {
     for task in 0..old.set.len() {
@@ -313,7 +291,7 @@ fn push_edits(
     new: &Side<'_>,
 ) -> Result<(), AllocError>
     ensures { OnOk result (string_bytes text.new ≡ string_bytes text.old
-        ++ lines_below (length new.now.set.now)
+        ++ words_below (length new.now.set.now)
         (edit_line weighs old.now.set.now old.now.placing.now
         new.now.set.now new.now.placing.now)) }
 {
@@ -332,7 +310,7 @@ fn push_rests(
     new: &Side<'_>,
 ) -> Result<(), AllocError>
     ensures { OnOk result (string_bytes text.new ≡ string_bytes text.old
-        ++ lines_below (length new.now.set.now)
+        ++ words_below (length new.now.set.now)
         (rest_line effect weighs old.now.set.now old.now.placing.now
         new.now.set.now new.now.placing.now)) }
 {
@@ -344,17 +322,13 @@ fn push_rests(
 
 /// The lines of a change from one set to another: of the tasks that are gone, then of those that came and those whose
 /// sheets say something else, then of the others whose responses are other ones, and last of those whose levels alone are.
-/// Each by rank. A weight counts only where `weighs` says so. The error is out of memory.
-pub fn change_text(
-    alloc: Global,
-    weighs: bool,
-    old: &Side<'_>,
-    new: &Side<'_>,
-) -> Result<String, AllocError>
+/// Each by rank. A weight counts only where weights are the sheets' own on both sides. The error is out of memory.
+pub fn change_text(alloc: Global, old: &Side<'_>, new: &Side<'_>) -> Result<String, AllocError>
     ensures { IfOk result (λ text. string_bytes text
-        ≡ change_lines weighs old.now.set.now old.now.placing.now
-        new.now.set.now new.now.placing.now) }
+        ≡ change_lines (both_weigh old.now.preference new.now.preference)
+        old.now.set.now old.now.placing.now new.now.set.now new.now.placing.now) }
 {
+    let weighs = both_weigh(old.preference, new.preference);
     let mut text = String::new(alloc);
     push_all_removed(&mut text, old, new)?;
     push_edits(&mut text, weighs, old, new)?;

@@ -7,11 +7,10 @@ use Rattle.task_sheet.specs.TaskSet.{IsTaskSet}
 use Rattle.task_sheet.specs.Verdicts as verdict
 use Rattle.task_sheet.proofs.TaskLaws.{AllTasks-from_set}
 use Rattle.task_sheet.proofs.ObstructionLaws.{IsObstruction-fails}
-use Rattle.drafts.specs.declared.roster.Owned.{Owned}
 use Rattle.drafts.specs.declared.change.Refusal.{Refusal}
 use Rattle.drafts.specs.declared.judging.Judged.{Judged}
 use Rattle.drafts.specs.declared.judging.Judged.TheVariants as judged
-use Rattle.drafts.specs.Applied.{set_of, applied}
+use Rattle.drafts.specs.Applied.{OnNode, set_of, applied}
 use Rattle.drafts.specs.Machine.{MachineState, empty_desk, Ruling, Admitted, Refused, Infeasible}
 use Rattle.drafts.specs.Machine.{Entry, IsRuling, IsDecision, moved, after_entry, IsLegal, replay}
 use Rattle.drafts.specs.Machine.{one_if_admitted, admissions}
@@ -33,26 +32,26 @@ IsLegal-push desk (x ∷ log) e legal next =
     (legal.0, IsLegal-push (after_entry desk x) log e legal.1 next)
 
 -- what was judged is decided as the machine decides
-pub said-answer : (version : ℕ) (outcome : Result (List Owned) Refusal) (j : Judged) (d : Ruling)
+pub said-answer : (version : ℕ) (outcome : Result OnNode Refusal) (j : Judged) (d : Ruling)
     → IsJudged outcome j → IsSaid version j d → IsRuling version outcome d
 said-answer version (Err refusal) (judged.Refused told) (Refused again) h said = said ∙ h
 said-answer version (Err refusal) (judged.Best a) (Admitted again) h said = absurd h
 said-answer version (Err refusal) (judged.Stuck o) (Infeasible again) h said = absurd h
-said-answer version (Ok tasks) (judged.Refused told) (Refused again) h said = absurd h
-said-answer version (Ok tasks) (judged.Best a) (Admitted again) h said =
+said-answer version (Ok node) (judged.Refused told) (Refused again) h said = absurd h
+said-answer version (Ok node) (judged.Best a) (Admitted again) h said =
     ((verdict.order_of a.value.levels, h.1.best.passing), said)
-said-answer version (Ok tasks) (judged.Stuck o) (Infeasible again) h said =
-    let valid : IsTaskSet (set_of tasks) = subst IsTaskSet h.0 said.1 in (
-      IsObstruction-fails (set_of tasks) (AllTasks-from_set (set_of tasks) valid) _
+said-answer version (Ok node) (judged.Stuck o) (Infeasible again) h said =
+    let valid : IsTaskSet (set_of node) = subst IsTaskSet h.0 said.1 in (
+      IsObstruction-fails (set_of node) (AllTasks-from_set (set_of node) valid) _
           h.1.greatest.obstruction,
       ap (λ p. p.set) said.0 ∙ h.0,
-      subst (λ p. verdict.IsVerdictOf (set_of tasks) (verdict.Infeasible p.members))
+      subst (λ p. verdict.IsVerdictOf (set_of node) (verdict.Infeasible p.members))
           (sym said.0) h.1,
     )
 said-answer version outcome j d h said = absurd said
 
 -- and the state moves as the machine moves
-pub next-moved : (desk : MachineState) (outcome : Result (List Owned) Refusal) (j : Judged)
+pub next-moved : (desk : MachineState) (outcome : Result OnNode Refusal) (j : Judged)
     (d : Ruling) (next : Option MachineState) → IsSaid desk.version j d
     → IsNextState desk outcome j next → after_next desk next ≡ moved desk d outcome
 next-moved desk outcome (judged.Refused told) (Refused again) next said is =
@@ -74,10 +73,10 @@ logged-legal b e legal same next = (
 )
 
 -- ---- the version counts the admitted entries
-answered-version : (desk : MachineState) (outcome : Result (List Owned) Refusal) (d : Ruling)
+answered-version : (desk : MachineState) (outcome : Result OnNode Refusal) (d : Ruling)
     → IsRuling desk.version outcome d
     → (moved desk d outcome).version ≡ desk.version + one_if_admitted d
-answered-version desk (Ok tasks) (Admitted told) h = refl
+answered-version desk (Ok node) (Admitted told) h = refl
 answered-version desk (Err refusal) (Admitted told) h = absurd h
 answered-version desk outcome (Refused told) h = omega arith
 answered-version desk outcome (Infeasible o) h = omega arith
@@ -88,7 +87,7 @@ replay-version desk [] legal = omega arith
 replay-version desk (e ∷ log) legal = omega (
   arith,
   replay-version (after_entry desk e) log legal.1,
-  answered-version desk (applied e.team desk.tasks e.changes) e.decision legal.0,
+  answered-version desk (applied e.team desk.node e.changes) e.decision legal.0,
 )
 
 one-small : (d : Ruling) → one_if_admitted d ≤ 1
@@ -101,23 +100,23 @@ admissions-few (e ∷ log) = omega (arith, one-small e.decision, admissions-few 
 
 -- ---- an entry of what was judged, and the state that follows
 module _ (b : Book) (d : Draft) (j : Judged) (e : Entry)
-    (judged : IsJudged (applied d.team b.desk.tasks d.changes) j)
+    (judged : IsJudged (applied d.team b.desk.node d.changes) j)
     (is : IsEntryOf b.desk.version d j e) where
   pub entered-said : IsDecision b.desk d.team d.changes e.decision
-  entered-said = said-answer b.desk.version (applied d.team b.desk.tasks d.changes) j e.decision
+  entered-said = said-answer b.desk.version (applied d.team b.desk.node d.changes) j e.decision
       judged is.2
 
-  outcome : applied d.team b.desk.tasks d.changes ≡ applied e.team b.desk.tasks e.changes
-  outcome = ap (λ t. applied t b.desk.tasks d.changes) (sym is.0)
-      ∙ ap (λ cs. applied e.team b.desk.tasks cs) (sym is.1)
+  outcome : applied d.team b.desk.node d.changes ≡ applied e.team b.desk.node e.changes
+  outcome = ap (λ t. applied t b.desk.node d.changes) (sym is.0)
+      ∙ ap (λ cs. applied e.team b.desk.node cs) (sym is.1)
 
   pub entered-decision : IsDecision b.desk e.team e.changes e.decision
   entered-decision = subst (λ o. IsRuling b.desk.version o e.decision) outcome entered-said
 
   pub entered-desk : (next : Option MachineState)
-      → IsNextState b.desk (applied d.team b.desk.tasks d.changes) j next
+      → IsNextState b.desk (applied d.team b.desk.node d.changes) j next
       → after_next b.desk next ≡ after_entry b.desk e
-  entered-desk next to = next-moved b.desk (applied d.team b.desk.tasks d.changes) j e.decision next
+  entered-desk next to = next-moved b.desk (applied d.team b.desk.node d.changes) j e.decision next
       is.2 to ∙ ap (λ o. moved b.desk e.decision o) outcome
 
 pub version-counts : (b : Book) → IsLegal empty_desk b.log → replay empty_desk b.log ≡ b.desk

@@ -4,5 +4,5 @@ pub mod BookLaws
 pub mod RosterLaws
 pub mod LogLaws
 pub mod ReachedLaws
-pub mod HolderLaws
+pub mod InterruptLaws
 pub mod PutLaws

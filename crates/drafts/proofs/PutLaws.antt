@@ -11,18 +11,43 @@ use Rattle.drafts.specs.declared.roster.Owned.{Owned}
 use Rattle.drafts.specs.declared.change.Change.{Change}
 use Rattle.drafts.specs.declared.change.Change.TheVariants.{Put, Remove}
 use Rattle.drafts.specs.declared.change.Refusal.{Refusal}
-use Rattle.drafts.specs.Applied.{held, is_there, is_foreign, with_task, without_name, after_change}
-use Rattle.drafts.specs.Applied.{then_on, all_changes, if_few, applied}
+use Rattle.drafts.specs.declared.interrupts.TeamInterrupt.{TeamInterrupt}
+use Rattle.drafts.specs.Applied.{OnNode, bare, held, is_there, is_foreign, with_task, without_name}
+use Rattle.drafts.specs.Applied.{after_change, then_on, all_changes, interrupts_after, if_few, applied}
 use Rattle.drafts.specs.Edits.{IsNamed, AreNamed, HasTasks, is_put, has_put}
 use Rattle.drafts.proofs.RosterLaws.{drop-at}
 use Rattle.drafts.proofs.ReachedLaws.{held-with, held-with_other, held-without_other}
 
 -- what a first step and the rest come to, the first step comes to something
-pub then-ok : (r : Result (List Owned) Refusal) (f : List Owned → Result (List Owned) Refusal)
-    (last : List Owned) → then_on r f ≡ Ok last → (next : List Owned) × (r ≡ Ok next)
-    × (f next ≡ Ok last)
+pub then-ok : {B : Type 0} (r : Result (List Owned) Refusal) (f : List Owned → Result B Refusal)
+    (last : B) → then_on r f ≡ Ok last → (next : List Owned) × (r ≡ Ok next) × (f next ≡ Ok last)
 then-ok (Ok next) f last is = (next, refl, is)
 then-ok (Err refusal) f last is = absurd (cc)
+
+-- few tasks and interrupts stand on the node as they are
+pub few-node : (xs : List TeamInterrupt) (ts : List Owned) (last : OnNode) → if_few xs ts ≡ Ok last
+    → (let node : OnNode = record { tasks = ts; interrupts = xs } in node) ≡ last
+few-node xs ts last is = elim (cases_Bool (nat_le (length ts) 32)) [
+  | inl fits ↦ elim (cases_Bool (nat_le (length xs) 8)) [
+    | inl some ↦ let e : Ok (let node : OnNode = record { tasks = ts; interrupts = xs } in node)
+        ≡ Ok last = (rw (fits, some) at is) in cc
+    | inr many ↦ let e : Err Refusal.TooManyInterrupts ≡ Ok last = (rw (fits, many) at is) in
+        absurd (cc)
+  ]
+  | inr many ↦ let e : Err Refusal.TooManyTasks ≡ Ok last = (rw many at is) in absurd (cc)
+]
+
+-- what changes that are not refused come to
+pub applied-node : (team : ℕ) (node last : OnNode) (changes : List (List ℕ × Change))
+    → applied team node changes ≡ Ok last → (all_changes team node.tasks changes ≡ Ok last.tasks)
+    × (last.interrupts ≡ interrupts_after team node.interrupts changes)
+applied-node team node last changes is =
+    let xs = interrupts_after team node.interrupts changes in
+    let made = then-ok (all_changes team node.tasks changes) (if_few xs) last is in
+    let same = few-node xs made.0 last made.2 in (
+      made.1 ∙ ap (λ (n : OnNode). Ok n.tasks) same,
+      sym (ap (λ (n : OnNode). n.interrupts) same),
+    )
 
 -- ---- whether one is a put, change by change
 pub put_step : (changes : List (List ℕ × Change)) (i : ℕ) (name : List ℕ) (change : Change)
@@ -35,11 +60,11 @@ module _ (team : ℕ) where
   pub put-made : (tasks next : List Owned) (name : List ℕ) (sheet : Task)
       → after_change team tasks name (Put sheet) ≡ Ok next
       → (is_foreign team (held sheet.name tasks) ≡ false)
-      × (next ≡ with_task sheet.name (record { sheet = sheet; team = team }) tasks)
+      × (next ≡ with_task sheet.name (record { sheet = bare sheet; team = team }) tasks)
   put-made tasks next name sheet is = elim (cases_Bool (is_foreign team (held sheet.name tasks))) [
     | inl foreign ↦ let no : Err (Refusal.NotYours sheet.name) ≡ Ok next = (rw foreign at is) in
         absurd (cc)
-    | inr own ↦ let yes : Ok (with_task sheet.name (record { sheet = sheet; team = team }) tasks)
+    | inr own ↦ let yes : Ok (with_task sheet.name (record { sheet = bare sheet; team = team }) tasks)
         ≡ Ok next = (rw own at is) in (own, cc)
   ]
 
@@ -68,7 +93,7 @@ module _ (team : ℕ) where
       → after_change team tasks name change ≡ Ok next → is_there (held m next) ≡ true
   stays-one tasks next m name (Put sheet) apart named there is =
       let made = put-made tasks next name sheet is in
-      let o : Owned = record { sheet = sheet; team = team } in
+      let o : Owned = record { sheet = bare sheet; team = team } in
       let other : sheet.name ≡ m → ⊥ = λ e. away m name apart (sym named ∙ e) in
       ap (λ ts. is_there (held m ts)) made.1 ∙ ap (λ (x : Option Owned). is_there x)
       (held-with_other sheet.name m o tasks refl other) ∙ there
@@ -95,7 +120,7 @@ module _ (team : ℕ) where
       → is_there (held name next) ≡ true
   put-there tasks next name (Put sheet) put named is =
       let made = put-made tasks next name sheet is in
-      let o : Owned = record { sheet = sheet; team = team } in
+      let o : Owned = record { sheet = bare sheet; team = team } in
       ap (λ ts. is_there (held name ts)) made.1
       ∙ ap (λ n. is_there (held n (with_task sheet.name o tasks))) (sym named)
       ∙ ap (λ (x : Option Owned). is_there x) (held-with sheet.name o tasks refl)
@@ -122,17 +147,21 @@ module _ (team : ℕ) where
   some-task m [] there = absurd (both_ways false refl there)
   some-task m (x ∷ tasks) there = omega arith
 
-  few_tasks : (r : Result (List Owned) Refusal)
-      → ((last : List Owned) → r ≡ Ok last → 0 < length last) → HasTasks (then_on r if_few)
-  few_tasks (Err refusal) some = tt
-  few_tasks (Ok last) some = elim (cases_Bool (nat_le (length last) 32)) [
-    | inl few ↦ rw few (some last refl)
+  few_tasks : (xs : List TeamInterrupt) (r : Result (List Owned) Refusal)
+      → ((last : List Owned) → r ≡ Ok last → 0 < length last) → HasTasks (then_on r (if_few xs))
+  few_tasks xs (Err refusal) some = tt
+  few_tasks xs (Ok last) some = elim (cases_Bool (nat_le (length last) 32)) [
+    | inl few ↦ elim (cases_Bool (nat_le (length xs) 8)) [
+      | inl fits ↦ rw (few, fits) (some last refl)
+      | inr many ↦ rw (few, many) tt
+    ]
     | inr many ↦ rw many tt
   ]
 
-  pub put_tasks : (tasks : List Owned) (changes : List (List ℕ × Change))
+  pub put_tasks : (node : OnNode) (changes : List (List ℕ × Change))
       → IsDistinct same_bytes (keys_of changes) → AreNamed changes → has_put changes ≡ true
-      → HasTasks (applied team tasks changes)
-  put_tasks tasks changes apart named put =
-      few_tasks (all_changes team tasks changes) (λ last is. let h =
-      held-last tasks last changes apart named put is in some-task h.0 last h.1)
+      → HasTasks (applied team node changes)
+  put_tasks node changes apart named put =
+      few_tasks (interrupts_after team node.interrupts changes)
+      (all_changes team node.tasks changes) (λ last is. let h =
+      held-last node.tasks last changes apart named put is in some-task h.0 last h.1)

@@ -10,13 +10,13 @@ use Rattle.std.proofs.lemmas.Slice.Eq.{bytes_eq-Decides}
 use Rattle.task_sheet.proofs.Common.{Task, same_bytes, rank_cmp, same_name, AreDistinct}
 use Rattle.task_sheet.proofs.SetLaws.{rank_total, same_turned, below}
 use Rattle.drafts.specs.declared.roster.Owned.{Owned}
-use Rattle.drafts.specs.Applied.{set_of, bears_name, held, without_name, placed, with_task}
+use Rattle.drafts.specs.Applied.{sheets_of, bears_name, held, without_name, placed, with_task}
 use Rattle.drafts.specs.Rosters.{IsRoster}
 use Rattle.drafts.proofs.RosterLaws.{less, beyond}
 
 -- what each has, the one that is held has
 of_held : (P : Task → Type 0) (n : List ℕ) (ts : List Owned) (z : Owned)
-    → AllByRecursion P (set_of ts) → held n ts ≡ Some z → P z.sheet
+    → AllByRecursion P (sheets_of ts) → held n ts ≡ Some z → P z.sheet
 of_held P n [] z all is = cc
 of_held P n (x ∷ ts) z all is = elim (cases_Bool (bears_name n x)) [
   | inl here ↦ let found : Some x ≡ Some z = (rw here at is) in let e : x ≡ z = cc in
@@ -26,7 +26,7 @@ of_held P n (x ∷ ts) z all is = elim (cases_Bool (bears_name n x)) [
 
 -- none of a name that none has
 pub none_held : (n : List ℕ) (x : Owned) (ts : List Owned) → bears_name n x ≡ true
-    → AllByRecursion (λ y. same_name x.sheet y ≡ false) (set_of ts) → held n ts ≡ None
+    → AllByRecursion (λ y. same_name x.sheet y ≡ false) (sheets_of ts) → held n ts ≡ None
 none_held n x [] named apart = refl
 none_held n x (y ∷ ts) named apart =
     let e : x.sheet.name ≡ n = (bytes_eq-Decides x.sheet.name n).0 named in
@@ -36,7 +36,7 @@ none_held n x (y ∷ ts) named apart =
 
 -- what is held under its name isn't before all
 not_before_all : (x : Owned) (n : List ℕ) (ts : List Owned) → held n ts ≡ Some x
-    → AllByRecursion (λ z. rank_cmp x.sheet z ≡ Less) (set_of ts) → ⊥
+    → AllByRecursion (λ z. rank_cmp x.sheet z ≡ Less) (sheets_of ts) → ⊥
 not_before_all x n ts is all =
     let before = of_held (λ z. rank_cmp x.sheet z ≡ Less) n ts x all is in
     let tied : rank_cmp x.sheet x.sheet ≡ Equal = tied_itself rank_total x.sheet in
@@ -45,8 +45,8 @@ not_before_all x n ts is all =
 own_name : (x : Owned) → bears_name x.sheet.name x ≡ true
 own_name x = (bytes_eq-Decides x.sheet.name x.sheet.name).1 refl
 
-one_head : (x y : Owned) (xs ys : List Owned) → IsStrictlySortedBy rank_cmp (set_of (x ∷ xs))
-    → IsStrictlySortedBy rank_cmp (set_of (y ∷ ys))
+one_head : (x y : Owned) (xs ys : List Owned) → IsStrictlySortedBy rank_cmp (sheets_of (x ∷ xs))
+    → IsStrictlySortedBy rank_cmp (sheets_of (y ∷ ys))
     → ((n : List ℕ) → held n (x ∷ xs) ≡ held n (y ∷ ys)) → x ≡ y
 unfolding IsStrictlySortedBy
 one_head x y xs ys a b same =
@@ -60,24 +60,24 @@ one_head x y xs ys a b same =
         | inl lt ↦
             let before = less (rank_cmp x.sheet y.sheet) lt in
             absurd (not_before_all x x.sheet.name (y ∷ ys) first
-            (before, beyond x.sheet y.sheet (set_of ys) before b.0))
+            (before, beyond x.sheet y.sheet (sheets_of ys) before b.0))
         | inr ge ↦
             let before = below y.sheet x.sheet ge away in
             absurd (not_before_all y y.sheet.name (x ∷ xs) second
-            (before, beyond y.sheet x.sheet (set_of xs) before a.0))
+            (before, beyond y.sheet x.sheet (sheets_of xs) before a.0))
       ]
     ]
 
 one_tail : (x : Owned) (xs ys : List Owned) → AllByRecursion (λ z. same_name x.sheet z ≡ false)
-    (set_of xs) → AllByRecursion (λ z. same_name x.sheet z ≡ false) (set_of ys)
+    (sheets_of xs) → AllByRecursion (λ z. same_name x.sheet z ≡ false) (sheets_of ys)
     → ((n : List ℕ) → held n (x ∷ xs) ≡ held n (x ∷ ys)) → (n : List ℕ) → held n xs ≡ held n ys
 one_tail x xs ys a b same n = elim (cases_Bool (bears_name n x)) [
   | inl here ↦ none_held n x xs here a ∙ sym (none_held n x ys here b)
   | inr away ↦ (rw away at (same n))
 ]
 
-one : (xs ys : List Owned) → IsStrictlySortedBy rank_cmp (set_of xs) → IsStrictlySortedBy rank_cmp
-    (set_of ys) → AreDistinct same_name (set_of xs) → AreDistinct same_name (set_of ys)
+one : (xs ys : List Owned) → IsStrictlySortedBy rank_cmp (sheets_of xs) → IsStrictlySortedBy rank_cmp
+    (sheets_of ys) → AreDistinct same_name (sheets_of xs) → AreDistinct same_name (sheets_of ys)
     → ((n : List ℕ) → held n xs ≡ held n ys) → xs ≡ ys
 unfolding IsStrictlySortedBy
 one [] [] a b c d same = refl
@@ -87,8 +87,8 @@ one (x ∷ xs) [] a b c d same = let found : Some x ≡ None =
     (rw (own_name x) at (same x.sheet.name)) in cc
 one (x ∷ xs) (y ∷ ys) a b c d same =
     let heads = one_head x y xs ys a b same in
-    let apart : AllByRecursion (λ z. same_name x.sheet z ≡ false) (set_of ys) =
-    subst (λ (o : Owned). AllByRecursion (λ z. same_name o.sheet z ≡ false) (set_of ys))
+    let apart : AllByRecursion (λ z. same_name x.sheet z ≡ false) (sheets_of ys) =
+    subst (λ (o : Owned). AllByRecursion (λ z. same_name o.sheet z ≡ false) (sheets_of ys))
     (sym heads) d.0 in
     let rest : (n : List ℕ) → held n (x ∷ xs) ≡ held n (x ∷ ys) = λ n. same n
     ∙ ap (λ o. held n (o ∷ ys)) (sym heads) in

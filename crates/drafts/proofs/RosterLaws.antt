@@ -11,23 +11,29 @@ use Rattle.std.proofs.lemmas.Bool.Decides.{nat_tests}
 use Rattle.std.proofs.lemmas.List.{length-map}
 use Rattle.std.proofs.lemmas.List.Sums.{prefix_len-le-length}
 use Rattle.std.proofs.lemmas.List.Folds.{list_any-append}
-use Rattle.std.proofs.lemmas.List.Elements.{recursion_from_All}
+use Rattle.std.proofs.lemmas.List.Elements.{All-from_recursion}
 use Rattle.std.proofs.lemmas.List.Sorted.{IsPermutation-sym}
 use Rattle.task_sheet.proofs.Common.{Task, IsValidSheet, same_bytes, rank_cmp, IsByRank, same_name}
 use Rattle.task_sheet.proofs.Common.{first_repeat, AreDistinct, IsTaskSet, sheets_fault}
 use Rattle.task_sheet.proofs.SetLaws.{rank_total, same_turned, below}
 use Rattle.task_sheet.proofs.Unique.{sorted_unique}
+use Rattle.task_sheet.specs.Sheet.{AreInterrupts, IsInterrupt}
+use Rattle.task_sheet.specs.declared.node.Interrupt.{Interrupt}
+use Rattle.overheads.specs.Padding.{charged}
+use Rattle.overheads.proofs.ChargedSets.{set-charged, no_fault-charged}
+use Rattle.overheads.proofs.PaddedTasks.{valid-other}
 use Rattle.drafts.specs.declared.roster.Owned.{Owned}
 use Rattle.drafts.specs.declared.change.Change.{Change}
-use Rattle.drafts.specs.Applied.{set_of, teams_of, owned_of, bears_name, without_name, placed}
+use Rattle.drafts.specs.declared.interrupts.TeamInterrupt.{TeamInterrupt}
+use Rattle.drafts.specs.Applied.{sheets_of, said_of, bare, bears_name, without_name, placed}
 use Rattle.drafts.specs.Applied.{with_task, after_change, then_on, all_changes, if_few}
-use Rattle.drafts.specs.Rosters.{IsRoster}
+use Rattle.drafts.specs.Rosters.{IsRoster, AreWithin}
 use Rattle.drafts.proofs.OwnedLaws.{position-some, position-none}
 
 -- ---- a task that is put in
 
 pub all-placed : (P : Task → Type 0) (o : Owned) (ts : List Owned) → P o.sheet
-    → AllByRecursion P (set_of ts) → AllByRecursion P (set_of (placed o ts))
+    → AllByRecursion P (sheets_of ts) → AllByRecursion P (sheets_of (placed o ts))
 all-placed P o [] h all = (h, tt)
 all-placed P o (x ∷ ts) h all = elim (cases_Bool (is_lt (rank_cmp x.sheet o.sheet))) [
   | inl lt ↦ rw lt (all.0, all-placed P o ts h all.1)
@@ -44,9 +50,9 @@ pub beyond : (x y : Task) (zs : List Task) → rank_cmp x y ≡ Less
 beyond x y [] e all = tt
 beyond x y (z ∷ zs) e all = (rank_total.trans x y z e all.0, beyond x y zs e all.1)
 
-pub ranked-placed : (o : Owned) (ts : List Owned) → IsStrictlySortedBy rank_cmp (set_of ts)
-    → AllByRecursion (λ y. same_name o.sheet y ≡ false) (set_of ts)
-    → IsStrictlySortedBy rank_cmp (set_of (placed o ts))
+pub ranked-placed : (o : Owned) (ts : List Owned) → IsStrictlySortedBy rank_cmp (sheets_of ts)
+    → AllByRecursion (λ y. same_name o.sheet y ≡ false) (sheets_of ts)
+    → IsStrictlySortedBy rank_cmp (sheets_of (placed o ts))
 unfolding IsStrictlySortedBy
 ranked-placed o [] up apart = (tt, tt)
 ranked-placed o (x ∷ ts) up apart = elim (cases_Bool (is_lt (rank_cmp x.sheet o.sheet))) [
@@ -56,11 +62,11 @@ ranked-placed o (x ∷ ts) up apart = elim (cases_Bool (is_lt (rank_cmp x.sheet 
     ranked-placed o ts up.1 apart.1,
   )
   | inr ge ↦ let first = below o.sheet x.sheet ge apart.0 in
-      rw ge ((first, beyond o.sheet x.sheet (set_of ts) first up.0), up)
+      rw ge ((first, beyond o.sheet x.sheet (sheets_of ts) first up.0), up)
 ]
 
-distinct-placed : (o : Owned) (ts : List Owned) → AreDistinct same_name (set_of ts) → AllByRecursion
-    (λ y. same_name o.sheet y ≡ false) (set_of ts) → AreDistinct same_name (set_of (placed o ts))
+distinct-placed : (o : Owned) (ts : List Owned) → AreDistinct same_name (sheets_of ts) → AllByRecursion
+    (λ y. same_name o.sheet y ≡ false) (sheets_of ts) → AreDistinct same_name (sheets_of (placed o ts))
 distinct-placed o [] names apart = (tt, tt)
 distinct-placed o (x ∷ ts) names apart = elim (cases_Bool (is_lt (rank_cmp x.sheet o.sheet))) [
   | inl lt ↦ rw lt (
@@ -74,16 +80,16 @@ distinct-placed o (x ∷ ts) names apart = elim (cases_Bool (is_lt (rank_cmp x.s
 -- ---- fewer tasks
 
 module _ (p : Owned → Bool) where
-  pub all-kept : (P : Task → Type 0) (ts : List Owned) → AllByRecursion P (set_of ts)
-      → AllByRecursion P (set_of (filter p ts))
+  pub all-kept : (P : Task → Type 0) (ts : List Owned) → AllByRecursion P (sheets_of ts)
+      → AllByRecursion P (sheets_of (filter p ts))
   all-kept P [] all = tt
   all-kept P (x ∷ ts) all = elim (cases_Bool (p x)) [
     | inl stays ↦ rw stays (all.0, all-kept P ts all.1)
     | inr goes ↦ rw goes (all-kept P ts all.1)
   ]
 
-  pub ranked-kept : (ts : List Owned) → IsStrictlySortedBy rank_cmp (set_of ts)
-      → IsStrictlySortedBy rank_cmp (set_of (filter p ts))
+  pub ranked-kept : (ts : List Owned) → IsStrictlySortedBy rank_cmp (sheets_of ts)
+      → IsStrictlySortedBy rank_cmp (sheets_of (filter p ts))
   unfolding IsStrictlySortedBy
   ranked-kept [] up = tt
   ranked-kept (x ∷ ts) up = elim (cases_Bool (p x)) [
@@ -92,8 +98,8 @@ module _ (p : Owned → Bool) where
     | inr goes ↦ rw goes (ranked-kept ts up.1)
   ]
 
-  distinct-kept : (ts : List Owned) → AreDistinct same_name (set_of ts)
-      → AreDistinct same_name (set_of (filter p ts))
+  distinct-kept : (ts : List Owned) → AreDistinct same_name (sheets_of ts)
+      → AreDistinct same_name (sheets_of (filter p ts))
   distinct-kept [] names = tt
   distinct-kept (x ∷ ts) names = elim (cases_Bool (p x)) [
     | inl stays ↦ rw stays
@@ -113,12 +119,20 @@ pub roster_without : (name : List ℕ) (ts : List Owned) → IsRoster ts
 roster_without name ts roster = roster-kept (λ o. not (bears_name name o)) ts roster
 
 pub apart-without : (s : Task) (ts : List Owned)
-    → AllByRecursion (λ y. same_name s y ≡ false) (set_of (without_name s.name ts))
+    → AllByRecursion (λ y. same_name s y ≡ false) (sheets_of (without_name s.name ts))
 apart-without s [] = tt
 apart-without s (x ∷ ts) = elim (cases_Bool (same_bytes x.sheet.name s.name)) [
   | inl here ↦ rw here (apart-without s ts)
   | inr away ↦ rw away (same_turned s x.sheet ∙ away, apart-without s ts)
 ]
+
+pub no_interrupts : (xs : List Interrupt) → xs ≡ [] → AreInterrupts xs
+no_interrupts [] none = record { valid = λ i d lt. absurd (omega (arith, lt)); few = omega arith }
+no_interrupts (x ∷ xs) none = absurd (cc)
+
+pub bare_valid : (s : Task) → IsValidSheet s → IsValidSheet (bare s)
+bare_valid s valid =
+    valid-other s s.node [] valid valid.overheads (no_interrupts [] refl)
 
 pub roster_with : (o : Owned) (ts : List Owned) → IsValidSheet o.sheet → IsRoster ts
     → IsRoster (with_task o.sheet.name o ts)
@@ -160,63 +174,42 @@ place_none o ts is =
 
 -- ---- the set of a roster
 
-unseen-more : (seen : List Task) (x : Task) (xs : List Task)
-    → AllByRecursion (λ z. list_any (λ y. same_name y z) seen ≡ false) xs
-    → AllByRecursion (λ z. same_name x z ≡ false) xs
-    → AllByRecursion (λ z. list_any (λ y. same_name y z) (seen ++ x ∷ []) ≡ false) xs
-unseen-more seen x [] old new = tt
-unseen-more seen x (z ∷ xs) old new = (
-  list_any-append (λ y. same_name y z) seen (x ∷ [])
-      ∙ rw (old.0, new.0) refl,
-  unseen-more seen x xs old.1 new.1,
-)
-
-no_repeat : (seen : List Task) (place : ℕ) (xs : List Task)
-    → AllByRecursion (λ z. list_any (λ y. same_name y z) seen ≡ false) xs → AreDistinct same_name xs
-    → first_repeat seen place xs ≡ None
-no_repeat seen place [] old names = refl
-no_repeat seen place (x ∷ xs) old names = rw (old.0)
-    (no_repeat (seen ++ x ∷ []) (place + 1) xs (unseen-more seen x xs old.1 names.0) names.1)
-
-none_seen : (xs : List Task) → AllByRecursion (λ z. list_any (λ y. same_name y z) [] ≡ false) xs
-none_seen [] = tt
-none_seen (x ∷ xs) = (refl, none_seen xs)
-
--- the sheets of a few tasks are not refused
-pub roster_fits : (ts : List Owned) → IsRoster ts → length ts ≤ 32 → sheets_fault (set_of ts) ≡ None
-roster_fits ts roster few =
-    let room : nat_lt 32 (length (set_of ts)) ≡ false = let e = length-map ts (λ o. o.sheet) in
-    grind (arith, nat_tests) in
-    rw (no_repeat [] 1 (set_of ts) (none_seen (set_of ts)) roster.distinct, room) refl
-
--- and the set of sheets that are by rank is the list of them
+-- the set of sheets that are by rank is the list of them
 pub ranked_set : (ss us : List Task) → IsStrictlySortedBy rank_cmp ss → IsByRank ss us → us ≡ ss
 ranked_set ss us ranked by =
     sorted_unique rank_total us ss by.ranked ranked (IsPermutation-sym ss us by.permutation)
 
--- a set with teams is a roster
-pub roster-of_set : (ts : List Owned) → IsTaskSet (set_of ts) → IsRoster ts
-roster-of_set ts set = record {
-  valid = recursion_from_All IsValidSheet (set_of ts) set.valid;
-  ranked = set.ranked;
-  distinct = set.distinct;
+-- the set of a few tasks with a few interrupts
+set-of_roster : (ts : List Owned) → IsRoster ts → length ts ≤ 32 → IsTaskSet (sheets_of ts)
+set-of_roster ts roster few = record {
+  valid = All-from_recursion IsValidSheet (sheets_of ts) roster.valid;
+  ranked = roster.ranked;
+  distinct = roster.distinct;
+  few = omega (arith, few, length-map ts (λ o. o.sheet));
 }
 
--- ---- sheets and teams apart
+pub are_interrupts : (xs : List TeamInterrupt) → AreWithin xs → length xs ≤ 8
+    → AreInterrupts (said_of xs)
+are_interrupts xs within few = record {
+  valid = All-from_recursion IsInterrupt (said_of xs) within;
+  few = omega (arith, few, length-map xs (λ x. x.interrupt));
+}
 
-pub owned_of-parts : (ts : List Owned) → owned_of (set_of ts) (teams_of ts) ≡ ts
-owned_of-parts [] = refl
-owned_of-parts (x ∷ ts) = ap (λ xs. x ∷ xs) (owned_of-parts ts)
+module _ (ts : List Owned) (xs : List TeamInterrupt) (roster : IsRoster ts) (within : AreWithin xs)
+    (few : length ts ≤ 32) (some : length xs ≤ 8) where
+  pub charged_ranked : IsStrictlySortedBy rank_cmp (charged (said_of xs) (sheets_of ts))
+  charged_ranked = (set-charged (sheets_of ts) (said_of xs) (set-of_roster ts roster few)
+      (are_interrupts xs within some)).ranked
 
--- tasks are the same where their sheets and their teams are
-pub same-tasks : (xs ys : List Owned) → set_of xs ≡ set_of ys → teams_of xs ≡ teams_of ys → xs ≡ ys
-same-tasks xs ys set teams =
-    sym (owned_of-parts xs) ∙ ap (λ U. owned_of U (teams_of xs)) set
-    ∙ ap (owned_of (set_of ys)) teams ∙ owned_of-parts ys
+  pub charged_fits : sheets_fault (charged (said_of xs) (sheets_of ts)) ≡ None
+  charged_fits =
+      no_fault-charged (sheets_of ts) (said_of xs) (set-of_roster ts roster few)
 
-pub few_tasks : (ts : List Owned) → length ts ≤ 32 → if_few ts ≡ Ok ts
-few_tasks ts few = let test : nat_le (length ts) 32 ≡ true = grind (arith, nat_tests) in
-    rw test refl
+  pub few_made : if_few xs ts ≡ Ok (record { tasks = ts; interrupts = xs })
+  few_made =
+      let test : nat_le (length ts) 32 ≡ true = grind (arith, nat_tests) in
+      let again : nat_le (length xs) 8 ≡ true = grind (arith, nat_tests) in
+      rw (test, again) refl
 
 -- ---- changes, one after the other
 

@@ -13,7 +13,7 @@ use Rattle.drafts.specs.declared.draft.EditRefusal.TheVariants.{NotYours, NoSuch
 use Rattle.drafts.specs.declared.draft.EditCause.{EditCause}
 use Rattle.drafts.specs.declared.draft.EditCause.TheVariants.{OutOfMemory, Refused}
 use Rattle.drafts.specs.declared.change.Refusal.{Refusal}
-use Rattle.drafts.specs.Applied.{held, is_foreign, is_there, applied}
+use Rattle.drafts.specs.Applied.{OnNode, held, is_foreign, is_there, applied}
 use Rattle.drafts.specs.Machine.{MachineState}
 
 -- a draft: its team, the state that it was opened on, and its changes by name
@@ -46,13 +46,13 @@ has_put [] = false
 has_put (c ∷ changes) = is_put c.1 || has_put changes
 
 -- what changes come to, where they apply, has a task
-abbrev pub HasTasks : Result (List Owned) Refusal → Type 0
+abbrev pub HasTasks : Result OnNode Refusal → Type 0
 HasTasks (Err refusal) = Unit {0}
-HasTasks (Ok tasks) = 0 < length tasks
+HasTasks (Ok node) = 0 < length node.tasks
 
 -- what the changes come to on the state that they were made on
-abbrev pub on_base : Draft → Result (List Owned) Refusal
-on_base d = applied d.team d.base.tasks d.changes
+abbrev pub on_base : Draft → Result OnNode Refusal
+on_base d = applied d.team d.base.node d.changes
 
 -- the change on a name
 abbrev pub change_on : List ℕ → List (List ℕ × Change) → Option Change
@@ -71,7 +71,7 @@ shown base None = sheet_held base
 
 -- the sheet of that name as the draft shows it
 abbrev pub view : Draft → List ℕ → Option Task
-view d name = shown (held name d.base.tasks) (change_on name d.changes)
+view d name = shown (held name d.base.node.tasks) (change_on name d.changes)
 
 -- the change stands in the place of the one on its name, or last
 abbrev pub recorded : List ℕ → Change → List (List ℕ × Change) → List (List ℕ × Change)
@@ -88,7 +88,7 @@ is_full name changes = nat_le CHANGE_LIMIT (length changes) && not (is_some (cha
 -- the changes after a put, or why it is refused
 abbrev pub after_put : Draft → Task → Result (List (List ℕ × Change)) EditRefusal
 after_put d sheet =
-    if is_foreign d.team (held sheet.name d.base.tasks) then Err NotYours
+    if is_foreign d.team (held sheet.name d.base.node.tasks) then Err NotYours
     else (if is_full sheet.name d.changes then Err DraftFull
     else Ok (recorded sheet.name (Put sheet) d.changes))
 
@@ -96,8 +96,8 @@ after_put d sheet =
 abbrev pub after_remove : Draft → List ℕ → Result (List (List ℕ × Change)) EditRefusal
 after_remove d name =
     if not (is_some (view d name)) then Err NoSuchTask
-    else (if is_foreign d.team (held name d.base.tasks) then Err NotYours
-    else (if not (is_there (held name d.base.tasks)) then Ok (dropped name d.changes)
+    else (if is_foreign d.team (held name d.base.node.tasks) then Err NotYours
+    else (if not (is_there (held name d.base.node.tasks)) then Ok (dropped name d.changes)
     else (if is_full name d.changes then Err DraftFull
     else Ok (recorded name Remove d.changes))))
 

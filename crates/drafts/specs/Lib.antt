@@ -4,9 +4,11 @@ pub mod Rosters
 pub mod Machine
 pub mod Rulings
 pub mod Commits
+pub mod Interrupts
 pub mod Books
 pub mod Edits
 pub mod Outcomes
+pub mod StateFields
 pub mod DraftFields
 pub mod BookFields
 pub mod Proposals

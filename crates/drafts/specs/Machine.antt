@@ -2,11 +2,10 @@
 use Rattle.std.specs.Prelude.{◌≡◌, ℕ, ◌+◌, List, [], ◌∷◌, Result, Ok, Err}
 use Rattle.task_sheet.specs.Orders.{IsFeasible}
 use Rattle.task_sheet.specs.Verdicts as verdict
-use Rattle.drafts.specs.declared.roster.Owned.{Owned}
 use Rattle.drafts.specs.declared.change.Change.{Change}
 use Rattle.drafts.specs.declared.change.Refusal.{Refusal}
 use Rattle.assignment.specs.Kept.{ObstructionData}
-use Rattle.drafts.specs.Applied.{set_of, applied}
+use Rattle.drafts.specs.Applied.{OnNode, set_of, applied}
 
 -- a decision, by what it says
 pub data Ruling : Type 0 where
@@ -20,45 +19,45 @@ pub record Entry : Type 0 where
   pub changes : List (List ℕ × Change)
   pub decision : Ruling
 
--- the machine's state: how many commits were admitted, and the tasks with their teams
+-- the machine's state: how many commits were admitted, and what stands on the node
 pub record MachineState : Type 0 where
   pub version : ℕ
-  pub tasks : List Owned
+  pub node : OnNode
 
 -- the state before the first commit
 abbrev pub empty_desk : MachineState
-empty_desk = record { version = 0; tasks = [] }
+empty_desk = record { version = 0; node = record { tasks = []; interrupts = [] } }
 
 -- what the machine answers to a commit whose changes come to this; an infeasible one with the greatest obstruction
-abbrev pub IsRuling : ℕ → Result (List Owned) Refusal → Ruling → Type 0
+abbrev pub IsRuling : ℕ → Result OnNode Refusal → Ruling → Type 0
 IsRuling version (Err refusal) (Refused told) = told ≡ refusal
-IsRuling version (Ok tasks) (Admitted told) = IsFeasible (set_of tasks) × (told ≡ version + 1)
-IsRuling version (Ok tasks) (Infeasible o) =
-    (¬ IsFeasible (set_of tasks)) × (o.set ≡ set_of tasks)
-    × verdict.IsVerdictOf (set_of tasks) (verdict.Infeasible o.members)
+IsRuling version (Ok node) (Admitted told) = IsFeasible (set_of node) × (told ≡ version + 1)
+IsRuling version (Ok node) (Infeasible o) =
+    (¬ IsFeasible (set_of node)) × (o.set ≡ set_of node)
+    × verdict.IsVerdictOf (set_of node) (verdict.Infeasible o.members)
 IsRuling version (Err refusal) (Infeasible o) = ⊥
 IsRuling version (Err refusal) (Admitted told) = ⊥
-IsRuling version (Ok tasks) (Refused told) = ⊥
+IsRuling version (Ok node) (Refused told) = ⊥
 
 -- the decision is the machine's on the team's changes
 abbrev pub IsDecision : MachineState → ℕ → List (List ℕ × Change) → Ruling → Type 0
 IsDecision desk team changes decision =
-    IsRuling desk.version (applied team desk.tasks changes) decision
+    IsRuling desk.version (applied team desk.node changes) decision
 
--- the state with these tasks, a version on
-abbrev pub admitted : MachineState → Result (List Owned) Refusal → MachineState
-admitted desk (Ok tasks) = record { version = desk.version + 1; tasks = tasks }
+-- the state with this on the node, a version on
+abbrev pub admitted : MachineState → Result OnNode Refusal → MachineState
+admitted desk (Ok node) = record { version = desk.version + 1; node = node }
 admitted desk (Err refusal) = desk
 
 -- the machine moves where it admits, and else stays
-abbrev pub moved : MachineState → Ruling → Result (List Owned) Refusal → MachineState
+abbrev pub moved : MachineState → Ruling → Result OnNode Refusal → MachineState
 moved desk (Admitted version) outcome = admitted desk outcome
 moved desk (Refused refusal) outcome = desk
 moved desk (Infeasible o) outcome = desk
 
 -- the state after an entry
 abbrev pub after_entry : MachineState → Entry → MachineState
-after_entry desk e = moved desk e.decision (applied e.team desk.tasks e.changes)
+after_entry desk e = moved desk e.decision (applied e.team desk.node e.changes)
 
 -- each decision of the log is the machine's at its place
 abbrev pub IsLegal : MachineState → List Entry → Type 0

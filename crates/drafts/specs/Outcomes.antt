@@ -5,23 +5,22 @@ use Rattle.task_sheet.specs.TaskSet.{IsTaskSet}
 use Rattle.task_sheet.specs.Verdicts.{IsVerdictOf, Admitted, Infeasible}
 use Rattle.assignment.specs.declared.verdict.Verdict.{Verdict}
 use Rattle.assignment.specs.declared.verdict.Verdict.TheVariants as verdict
-use Rattle.drafts.specs.declared.roster.Owned.{Owned}
 use Rattle.drafts.specs.declared.change.Refusal.{Refusal}
 use Rattle.drafts.specs.declared.applying.Applied.{Applied}
 use Rattle.drafts.specs.declared.applying.Applied.TheVariants.{Tasks, Refused}
 use Rattle.drafts.specs.declared.judging.Judged.{Judged}
 use Rattle.drafts.specs.declared.judging.Judged.TheVariants as judged
-use Rattle.drafts.specs.Applied.{set_of}
+use Rattle.drafts.specs.Applied.{OnNode, set_of}
 use Rattle.drafts.specs.Machine.{MachineState, Ruling, Entry, admitted}
 use Rattle.drafts.specs.Machine as ruling
 use Rattle.drafts.specs.Edits.{Draft}
 
--- the changes are refused, or come to these tasks
-abbrev pub IsApplied : Result (List Owned) Refusal → Applied → Type 0
+-- the changes are refused, or come to this set
+abbrev pub IsApplied : Result OnNode Refusal → Applied → Type 0
 IsApplied (Err refusal) (Refused told) = told ≡ refusal
-IsApplied (Ok tasks) (Tasks set) = set.value ≡ set_of tasks
+IsApplied (Ok node) (Tasks set) = set.value ≡ set_of node
 IsApplied (Err refusal) (Tasks set) = ⊥
-IsApplied (Ok tasks) (Refused told) = ⊥
+IsApplied (Ok node) (Refused told) = ⊥
 
 -- the verdict on a set
 abbrev pub IsJudgedSet : List Task → Judged → Type 0
@@ -30,8 +29,8 @@ IsJudgedSet U (judged.Best a) = (a.value.set ≡ U) × IsVerdictOf U (Admitted a
 IsJudgedSet U (judged.Stuck o) = (o.value.set ≡ U) × IsVerdictOf U (Infeasible o.value.members)
 
 -- the refusal, or the verdict on the set that the changes come to
-abbrev pub IsJudged : Result (List Owned) Refusal → Judged → Type 0
-IsJudged (Ok tasks) j = IsJudgedSet (set_of tasks) j
+abbrev pub IsJudged : Result OnNode Refusal → Judged → Type 0
+IsJudged (Ok node) j = IsJudgedSet (set_of node) j
 IsJudged (Err refusal) (judged.Refused told) = told ≡ refusal
 IsJudged (Err refusal) (judged.Best a) = ⊥
 IsJudged (Err refusal) (judged.Stuck o) = ⊥
@@ -49,8 +48,8 @@ IsShared (verdict.Admitted a) (judged.Best b) = b.value ≡ a
 IsShared (verdict.Infeasible o) (judged.Stuck p) = p.value ≡ o
 IsShared v j = ⊥
 
--- where it is admitted, the state moves to the tasks that the changes come to
-abbrev pub IsNextState : MachineState → Result (List Owned) Refusal → Judged → Option MachineState
+-- where it is admitted, the state moves to what the changes come to
+abbrev pub IsNextState : MachineState → Result OnNode Refusal → Judged → Option MachineState
     → Type 0
 IsNextState desk outcome (judged.Best a) next = next ≡ Some (admitted desk outcome)
 IsNextState desk outcome (judged.Refused refusal) next = next ≡ None

@@ -18,7 +18,7 @@ IsProposal p = IsJudged (on_base p.draft) p.judged
 
 -- what was judged is what the changes come to on the present state
 abbrev pub StillHolds : Book → ProposalData → Type 0
-StillHolds b p = IsJudged (applied p.draft.team b.desk.tasks p.draft.changes) p.judged
+StillHolds b p = IsJudged (applied p.draft.team b.desk.node p.draft.changes) p.judged
 
 -- the decision says what was judged; an admitted one has the version after the base's
 abbrev pub IsSaidBy : ProposalData → Ruling → Type 0

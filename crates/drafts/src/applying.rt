@@ -1,33 +1,34 @@
-//! What changes make of the tasks on the node.
+//! What changes make of what stands on the node.
 
 ghost use Rattle.std.specs.Prelude.{◌≡◌, None, IfOk};
 ghost use Rattle.std.specs.List.Sorted.{IsStrictlySortedBy};
 ghost use Rattle.task_sheet.specs.Rank.{rank_cmp};
 ghost use Rattle.task_sheet.specs.SheetsFault.{sheets_fault};
 ghost use Rattle.drafts.specs.Applied.{after_change, all_changes, if_few, applied};
-ghost use Rattle.drafts.specs.Rosters.{IsRoster, IsMade};
+ghost use Rattle.drafts.specs.Rosters.{AreWithin, IsRoster, IsMade};
 ghost use Rattle.drafts.specs.Outcomes.{IsApplied};
 
 use crate::change::{Change, Refusal};
 use crate::draft::Draft;
+use crate::interrupts::{TeamInterrupt, charge};
 use crate::roster::{Owned, is_foreign, is_there, place, sheets_of, take_out};
 use crate::state::NodeState;
 use crate::team::Team;
 use indexmap::IndexMap;
 use std::alloc::{AllocError, Global};
 use std::sync::Arc;
-use task_sheet::{Name, SetCause, Sheet, TASK_LIMIT, TaskSet};
+use task_sheet::{INTERRUPT_LIMIT, Name, SetCause, Sheet, TASK_LIMIT, TaskSet};
 
 /// What changes come to.
 #[derive(Drop)]
 pub enum Applied {
-    /// These tasks by rank.
+    /// These tasks by rank, with all interrupts of the node.
     Tasks { set: Arc<TaskSet> },
     Refused { refusal: Refusal },
 }
 
-// Puts a sheet, or answers why it is refused.
-#[tactic(auto, using(crate::proofs::RosterLaws::roster_without))]
+// Puts a sheet without its interrupts, or answers why it is refused.
+#[tactic(auto, using(crate::proofs::RosterLaws::roster_without, crate::proofs::RosterLaws::no_interrupts))]
 fn put(
     alloc: Global,
     team: Team,
@@ -44,7 +45,7 @@ fn put(
     if is_foreign(tasks, team, name) {
         return Ok(Some(Refusal::NotYours { name }));
     }
-    let sheet = sheet.copy(alloc)?;
+    let sheet = sheet.copy(alloc)?.interrupted(Vec::new(alloc));
     take_out(tasks, name);
     place(tasks, Owned { sheet, team })?;
     Ok(None)
@@ -128,17 +129,27 @@ fn make_set(alloc: Global, sheets: Vec<Sheet>) -> Result<TaskSet, AllocError>
     }
 }
 
-// The set of the tasks, unless they are too many.
-#[tactic(auto, using(crate::proofs::RosterLaws::roster_fits, crate::proofs::RosterLaws::few_tasks))]
-fn as_set(alloc: Global, tasks: Vec<Owned>) -> Result<Applied, AllocError>
-    requires { IsRoster tasks.items }
-    ensures { IfOk result (IsApplied (if_few tasks.items)) }
+// The set of the tasks with the interrupts, unless there are too many.
+#[tactic(auto, using(crate::proofs::RosterLaws::are_interrupts))]
+fn as_set(
+    alloc: Global,
+    tasks: Vec<Owned>,
+    interrupts: &[TeamInterrupt],
+) -> Result<Applied, AllocError>
+    requires roster { IsRoster tasks.items }
+    requires within { AreWithin interrupts.now }
+    ensures { IfOk result (IsApplied (if_few interrupts.now tasks.items)) }
 {
     if tasks.len() > TASK_LIMIT {
         let refusal = Refusal::TooManyTasks;
         return Ok(Applied::Refused { refusal });
     }
-    let set = make_set(alloc, sheets_of(alloc, tasks)?)?;
+    if interrupts.len() > INTERRUPT_LIMIT {
+        let refusal = Refusal::TooManyInterrupts;
+        return Ok(Applied::Refused { refusal });
+    }
+    let sheets = charge(alloc, sheets_of(alloc, tasks)?, interrupts)?;
+    let set = make_set(alloc, sheets)?;
     match Arc::new(alloc, set) {
         Ok(set) => Ok(Applied::Tasks { set }),
         Err(_) => Err(AllocError),
@@ -146,13 +157,16 @@ fn as_set(alloc: Global, tasks: Vec<Owned>) -> Result<Applied, AllocError>
 }
 
 /// What a draft's changes, in their order, come to on a state. The first that is refused decides, and after all the
-/// number of tasks.
+/// number of tasks, then that of interrupts.
 pub fn apply(alloc: Global, draft: &Draft, state: &NodeState) -> Result<Applied, AllocError>
-    ensures { IfOk result (IsApplied (applied draft.now.team state.now.tasks draft.now.changes)) }
+    ensures { IfOk result (IsApplied (applied draft.now.team state.now.node draft.now.changes)) }
 {
     let mut tasks = state.roster(alloc)?;
     match make_changes(alloc, draft.team(), &mut tasks, draft.changes())? {
         Some(refusal) => Ok(Applied::Refused { refusal }),
-        None => as_set(alloc, tasks),
+        None => {
+            let interrupts = state.interrupts_after(alloc, draft.team(), draft.changes())?;
+            as_set(alloc, tasks, &interrupts)
+        }
     }
 }

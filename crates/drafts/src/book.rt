@@ -1,17 +1,20 @@
 //! The book: the present state, and the log that led to it.
 
-ghost use Rattle.std.specs.Prelude.{◌≡◌, ◌<◌, ◌+◌, ◌^◌, IfOk, IfSome, IfNone, OnOk, OnErr, length, map, option_map};
-ghost use Rattle.drafts.specs.Applied.{applied};
+ghost use Rattle.std.specs.Prelude.{◌≡◌, ◌<◌, ◌+◌, ◌^◌, Ok, IfOk, IfSome, IfNone, OnOk, OnErr, length, map, option_map};
+ghost use Rattle.drafts.specs.Applied.{all_changes, applied};
 ghost use Rattle.drafts.specs.Edits.{on_base};
 ghost use Rattle.drafts.specs.Machine.{Entry, IsDecision};
+ghost use Rattle.drafts.specs.Rosters.{AreMade, IsRoster};
 ghost use Rattle.drafts.specs.Outcomes.{IsJudged, IsSaid, IsNextState, IsEntryOf, after_next};
 ghost use Rattle.drafts.specs.Rulings.{ruling_of};
 ghost use Rattle.drafts.specs.Books.{empty_book, logged, IsLegalBook, IsNextEntry};
 
+use crate::applying::make_changes;
 use crate::change::Change;
 use crate::draft::Draft;
 use crate::entry::{Decision, Entry};
 use crate::judging::{Judged, judge};
+use crate::roster::Owned;
 use crate::state::NodeState;
 use indexmap::IndexMap;
 use std::alloc::{AllocError, Global};
@@ -182,7 +185,22 @@ impl Book {
         Ok(self.log.len())
     }
 
-    // The state after a decision: the tasks that are admitted with their teams, or the present one.
+    // The tasks after a draft's changes, which aren't refused.
+    fn tasks_after(&self, alloc: Global, draft: &Draft) -> Result<Vec<Owned>, AllocError>
+        requires { AreMade
+            (all_changes draft.now.team self.now.desk.node.tasks draft.now.changes) }
+        ensures same { IfOk result (λ tasks. Ok tasks.items
+            ≡ all_changes draft.now.team self.now.desk.node.tasks draft.now.changes) }
+        ensures roster { IfOk result (λ tasks. IsRoster tasks.items) }
+    {
+        let mut tasks = self.state.roster(alloc)?;
+        match make_changes(alloc, draft.team(), &mut tasks, draft.changes())? {
+            Some(_) => unreachable!(),
+            None => Ok(tasks),
+        }
+    }
+
+    // The state after a decision: what is admitted on the node, or the present one.
     fn next_state(
         &self,
         alloc: Global,
@@ -190,9 +208,9 @@ impl Book {
         judged: &Judged,
     ) -> Result<Option<Arc<NodeState>>, AllocError>
         requires judged { IsJudged
-            (applied draft.now.team self.now.desk.tasks draft.now.changes) judged.now }
+            (applied draft.now.team self.now.desk.node draft.now.changes) judged.now }
         requires room { self.now.desk.version + 1 < 2 ^ 64 }
-        ensures { let outcome = applied draft.now.team self.now.desk.tasks draft.now.changes in
+        ensures { let outcome = applied draft.now.team self.now.desk.node draft.now.changes in
             IfOk result (λ next. IsNextState self.now.desk outcome judged.now
             (option_map (λ s. s.value) next)) }
     {
@@ -200,11 +218,12 @@ impl Book {
             Judged::Refused { refusal: _ } => Ok(None),
             Judged::Stuck { obstruction: _ } => Ok(None),
             Judged::Best { assignment } => {
-                let teams = self
+                let tasks = self.tasks_after(alloc, draft)?;
+                let interrupts = self
                     .state
-                    .teams_after(alloc, draft.team(), assignment.set())?;
+                    .interrupts_after(alloc, draft.team(), draft.changes())?;
                 let version = self.state.version() + 1;
-                let next = NodeState::with(version, assignment.clone()?, teams);
+                let next = NodeState::with(version, tasks, interrupts, assignment.clone()?);
                 match Arc::new(alloc, next) {
                     Ok(next) => Ok(Some(next)),
                     Err(_) => Err(AllocError),
@@ -213,7 +232,7 @@ impl Book {
         }
     }
 
-    /// Logs the decision on a draft's changes to the present state, which were judged, and moves to the admitted tasks.
+    /// Logs the decision on a draft's changes to the present state, which were judged, and moves to what is admitted.
     pub fn enter(
         &mut self,
         alloc: Global,
@@ -221,7 +240,7 @@ impl Book {
         judged: &Judged,
     ) -> Result<Decided, AllocError>
         requires { IsJudged
-            (applied draft.now.team self.old.desk.tasks draft.now.changes) judged.now }
+            (applied draft.now.team self.old.desk.node draft.now.changes) judged.now }
         ensures entry { IfOk result (λ d. IsNextEntry self.old draft.now d.place d.entry.value) }
         ensures said { IfOk result
             (λ d. IsSaid self.old.desk.version judged.now d.entry.value.decision) }
@@ -235,8 +254,8 @@ impl Book {
         Ok(Decided { place, entry })
     }
 
-    /// Logs the decision on a draft's changes, which were judged on its base, and moves to the admitted tasks. None where
-    /// the present state hasn't the tasks of the base, and then nothing changes.
+    /// Logs the decision on a draft's changes, which were judged on its base, and moves to what is admitted. None where
+    /// the present state hasn't the tasks and the interrupts of the base, and then nothing changes.
     pub fn enter_tested(
         &mut self,
         alloc: Global,
@@ -251,11 +270,11 @@ impl Book {
         ensures ok { IfOk result (λ decided. IfSome decided
             (λ d. self.new ≡ logged self.old d.entry.value)) }
         ensures other { IfOk result (λ decided. IfNone decided
-            (¬ (draft.now.base.tasks ≡ self.old.desk.tasks))) }
+            (¬ (draft.now.base.node ≡ self.old.desk.node))) }
         ensures none { IfOk result (λ decided. IfNone decided (self.new ≡ self.old)) }
         ensures err { OnErr result (self.new ≡ self.old) }
     {
-        if !draft.base().has_same_tasks(self.state()) {
+        if !draft.base().has_same_node(self.state()) {
             return Ok(None);
         }
         match self.enter(alloc, draft, judged) {

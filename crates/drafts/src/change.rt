@@ -7,7 +7,10 @@ use task_sheet::{Name, Sheet};
 /// What a draft does with a name.
 #[derive(Drop)]
 pub enum Change {
+    /// The name gets the sheet; and the team the interrupts on its account, where there are some, in the place of all that
+    /// it said before.
     Put(Sheet),
+    /// The name's task goes. No interrupt goes with it.
     Remove,
 }
 
@@ -32,6 +35,8 @@ pub enum Refusal {
     NoSuchTask { name: Name },
     /// More than `TASK_LIMIT` tasks.
     TooManyTasks,
+    /// More than `INTERRUPT_LIMIT` interrupts, of all teams.
+    TooManyInterrupts,
 }
 
 impl Refusal {
@@ -43,6 +48,7 @@ impl Refusal {
             (Refusal::NotYours { name: a }, Refusal::NotYours { name: b }) => a == b,
             (Refusal::NoSuchTask { name: a }, Refusal::NoSuchTask { name: b }) => a == b,
             (Refusal::TooManyTasks, Refusal::TooManyTasks) => true,
+            (Refusal::TooManyInterrupts, Refusal::TooManyInterrupts) => true,
             _ => false,
         }
     }

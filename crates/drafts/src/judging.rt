@@ -42,7 +42,7 @@ pub fn share(alloc: Global, verdict: Verdict) -> Result<Judged, Verdict>
 /// What a draft's changes come to on a state, tested on the caller's thread.
 pub fn judge(alloc: Global, draft: &Draft, state: &NodeState) -> Result<Judged, AllocError>
     ensures { IfOk result (λ judged. IsJudged
-        (applied draft.now.team state.now.tasks draft.now.changes) judged) }
+        (applied draft.now.team state.now.node draft.now.changes) judged) }
 {
     match apply(alloc, draft, state)? {
         Applied::Refused { refusal } => Ok(Judged::Refused { refusal }),

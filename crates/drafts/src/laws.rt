@@ -1,9 +1,12 @@
 //! Laws of drafts. Each is the clause of a function that does nothing, and its names are defined in `specs/`.
 
-ghost use Rattle.std.specs.Prelude.{◌≡◌, ℕ, List, Some, None};
+ghost use Rattle.std.specs.Prelude.{◌≡◌, ◌+◌, ◌<◌, ℕ, List, [], length, sum_by, Ok, Some, None};
+ghost use Rattle.task_sheet.specs.Demand.{interrupt_within, interrupts_within};
+ghost use Rattle.drafts.specs.declared.change.Change.{Change};
 ghost use Rattle.drafts.specs.declared.roster.Owned.{Owned};
-ghost use Rattle.drafts.specs.Applied.{held, with_task, without_name};
-ghost use Rattle.drafts.specs.Machine.{Entry, IsLegal, empty_desk};
+ghost use Rattle.drafts.specs.Applied.{OnNode, applied, held, of_others, said_of, set_of, with_task, without_name};
+ghost use Rattle.drafts.specs.Interrupts.{SayNone, interrupts_along, timers_within};
+ghost use Rattle.drafts.specs.Machine.{Entry, IsLegal, empty_desk, replay};
 ghost use Rattle.drafts.specs.Rosters.{IsRoster};
 ghost use Rattle.drafts.specs.Commits.{commits_of, PutTasks};
 
@@ -26,4 +29,25 @@ pub fn tasks_are_a_map()
 pub fn log_is_one()
     ensures { (first second : List Entry) → PutTasks first → commits_of first ≡ commits_of second
         → IsLegal empty_desk first → IsLegal empty_desk second → first ≡ second }
+{}
+
+/// A team's changes leave the interrupts of other teams as they are; and all of them, where no put says any: so no task
+/// takes one along. After a legal log those stand that its admitted entries said, of each team the last ones.
+pub fn interrupts_stay()
+    ensures others { (team : ℕ) (before after : OnNode) (changes : List (List ℕ × Change))
+        → applied team before changes ≡ Ok after
+        → of_others team after.interrupts ≡ of_others team before.interrupts }
+    ensures unsaid { (team : ℕ) (before after : OnNode) (changes : List (List ℕ × Change))
+        → SayNone changes → applied team before changes ≡ Ok after
+        → after.interrupts ≡ before.interrupts }
+    ensures along { (log : List Entry) → IsLegal empty_desk log
+        → (replay empty_desk log).node.interrupts ≡ interrupts_along [] log }
+{}
+
+/// Where tasks stand on the node after a log, a demand counts their timers and all interrupts that stand on it.
+pub fn interrupts_counted()
+    ensures { (log : List Entry) (time : ℕ) → 0 < length (replay empty_desk log).node.tasks
+        → interrupts_within (set_of (replay empty_desk log).node) time
+        ≡ timers_within (replay empty_desk log).node.tasks time
+        + sum_by (interrupt_within time) (said_of (replay empty_desk log).node.interrupts) }
 {}

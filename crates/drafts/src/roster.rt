@@ -3,7 +3,7 @@
 ghost use Rattle.std.specs.Prelude.{◌≡◌, ◌↔◌, ◌≤◌, ◌<◌, length, insert, position, not, option_copied, IsTrue, IfOk, OnOk, OnErr};
 ghost use Rattle.std.specs.Ordering.{is_lt};
 ghost use Rattle.task_sheet.specs.Rank.{rank_cmp};
-ghost use Rattle.drafts.specs.Applied.{owned_of, set_of, held, is_foreign, is_there, without_name, placed};
+ghost use Rattle.drafts.specs.Applied.{sheets_of, held, is_foreign, is_there, without_name, placed};
 
 use crate::team::Team;
 use std::alloc::{AllocError, Global};
@@ -35,27 +35,35 @@ impl Owned {
     }
 }
 
-// Copies of sheets, each with its team.
-pub(crate) fn join(
-    alloc: Global,
-    sheets: &[Sheet],
-    teams: &[Team],
-) -> Result<Vec<Owned>, AllocError>
-    requires { length teams.now ≡ length sheets.now }
-    ensures { IfOk result (λ tasks. tasks.items ≡ owned_of sheets.now teams.now) }
+// The same tasks again.
+pub(crate) fn copy_tasks(alloc: Global, tasks: &[Owned]) -> Result<Vec<Owned>, AllocError>
+    ensures { IfOk result (λ copies. copies.items ≡ tasks.now) }
 {
-    let mut tasks = Vec::with_capacity(alloc, sheets.len())?;
-    for index in 0..sheets.len() {
-        let sheet = sheets[index].copy(alloc)?;
-        let team = teams[index];
-        tasks.push(Owned { sheet, team })?;
+    let mut copies = Vec::with_capacity(alloc, tasks.len())?;
+    for task in tasks {
+        copies.push(task.copy(alloc)?)?;
     }
-    Ok(tasks)
+    Ok(copies)
+}
+
+// Whether two lists of tasks are the same.
+pub(crate) fn are_same(first: &[Owned], second: &[Owned]) -> bool
+    ensures { IsTrue result ↔ (first.now ≡ second.now) }
+{
+    if first.len() != second.len() {
+        return false;
+    }
+    for index in 0..first.len() {
+        if !first[index].is_same(&second[index]) {
+            return false;
+        }
+    }
+    true
 }
 
 // The sheets, without their teams.
 pub(crate) fn sheets_of(alloc: Global, tasks: Vec<Owned>) -> Result<Vec<Sheet>, AllocError>
-    ensures { IfOk result (λ sheets. sheets.items ≡ set_of tasks.items) }
+    ensures { IfOk result (λ sheets. sheets.items ≡ sheets_of tasks.items) }
 {
     let mut sheets = Vec::with_capacity(alloc, tasks.len())?;
     for task in tasks {

@@ -45,13 +45,13 @@ pub struct HeldFault {
     pub draft: Draft,
 }
 
-// Whether a proposal's changes come to the same on the present state. They do where its tasks are those of the base, and
-// then nothing is applied again.
+// Whether a proposal's changes come to the same on the present state. They do where its tasks and
+// interrupts are those of the base, and then nothing is applied again.
 fn still_holds(alloc: Global, book: &Book, proposal: &Proposal) -> Result<bool, AllocError>
     ensures { IfOk result (λ holds. IsTrue holds ↔ StillHolds book.now proposal.now) }
 {
     let draft = proposal.draft();
-    if draft.base().has_same_tasks(book.state()) {
+    if draft.base().has_same_node(book.state()) {
         // What was judged is right for the base: the proof has it from the judgement.
         let _ = proposal.judged();
         return Ok(true);

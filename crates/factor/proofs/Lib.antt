@@ -1,4 +1,6 @@
-pub mod SectionLaws
-pub mod ScaledTasks
-pub mod ScaledSets
-pub mod FreeLaws
+pub mod WalkLaws
+pub mod MostLaws
+pub mod GreatestLaws
+pub mod AtLaws
+pub mod LatestAt
+pub mod SlowLaws

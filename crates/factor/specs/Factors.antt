@@ -1,113 +1,49 @@
 -- All execution of a set taken so many thousandths of itself, as on a slower processor, and the greatest such factor with
 -- which some order passes.
-use Rattle.std.specs.Prelude.{ℕ, ◌+◌, ◌*◌, ◌<◌, ◌≤◌, max, List, [], ◌∷◌, map, All, Option, Some, None}
-use Rattle.std.specs.Int.{div_ceil}
-use Rattle.task_sheet.specs.declared.node.Node.{Node}
-use Rattle.task_sheet.specs.declared.node.Interrupt.{Interrupt}
-use Rattle.task_sheet.specs.declared.sheet.TheConstants.{PERIOD_FROM}
-use Rattle.task_sheet.specs.Sheet.{CriticalSection, Task}
-use Rattle.task_sheet.specs.Orders.{IsPassingOrder, IsFeasible}
+use Rattle.std.specs.Prelude.{ℕ, ◌*◌, ◌<◌, ◌≤◌, List, [], ◌∷◌, IsFalse}
+use Rattle.task_sheet.specs.Sheet.{Task, task_at}
+use Rattle.task_sheet.specs.Indexes.{Indexes, among}
+use Rattle.task_sheet.specs.Demand.{limit_of, demand_of}
+use Rattle.task_sheet.specs.Orders.{is_bound, IsOrder}
 
--- so many thousandths of a number, rounded up
-abbrev pub thousandths : (factor number : ℕ) → ℕ
-thousandths factor number = div_ceil (factor * number) 1000
+-- task i passes with the tasks H above it where all execution takes so many thousandths: some time from 1 to its limit
+-- covers as much of its demand
+abbrev pub PassesAt : (factor : ℕ) → List Task → ℕ → Indexes → Type 0
+PassesAt factor U i H =
+    (t : ℕ) × (1 ≤ t) × (t ≤ limit_of (task_at U i)) × (factor * demand_of U i H t ≤ 1000 * t)
 
--- a section, scaled: where it begins and how long it is, each rounded up; no earlier than `from`
-abbrev pub scaled_section : (factor from : ℕ) → CriticalSection → CriticalSection
-scaled_section factor from s =
-    record {
-      locks = s.locks;
-      at = max from (thousandths factor s.at);
-      len = thousandths factor s.len;
-    }
+-- it passes so, and need not stand above any of them
+abbrev pub StandsAt : (factor : ℕ) → List Task → ℕ → Indexes → Type 0
+StandsAt factor U i H = PassesAt factor U i H × IsFalse (is_bound U i H)
 
--- the end of a section
-abbrev pub section_end : CriticalSection → ℕ
-section_end s = s.at + s.len
+-- each task stands so below those after it
+abbrev pub AllStandAt : (factor : ℕ) → List Task → List ℕ → Type 0
+AllStandAt factor U [] = Unit {0}
+AllStandAt factor U (i ∷ above) = StandsAt factor U i (among above) × AllStandAt factor U above
 
--- sections, scaled: each begins no earlier than the one before it ends
-abbrev pub scaled_sections : (factor from : ℕ) → List CriticalSection → List CriticalSection
-scaled_sections factor from [] = []
-scaled_sections factor from (s ∷ rest) =
-    scaled_section factor from s
-    ∷ scaled_sections factor (section_end (scaled_section factor from s)) rest
+-- an order of the set in which each task passes so
+pub record IsPassingAt (factor : ℕ) (U : List Task) (order : List ℕ) : Type 0 where
+  pub each_once : IsOrder U order
+  pub each_stands : AllStandAt factor U order
 
--- the end of the last of them; `from` of none
-abbrev pub scaled_end : (factor from : ℕ) → List CriticalSection → ℕ
-scaled_end factor from [] = from
-scaled_end factor from (s ∷ rest) = scaled_end factor (section_end (scaled_section factor from s)) rest
+-- some order passes so
+abbrev pub IsFeasibleAt : (factor : ℕ) → List Task → Type 0
+IsFeasibleAt factor U = (order : List ℕ) × IsPassingAt factor U order
 
--- a task's cost, scaled, and at least the end of its last section
-abbrev pub scaled_cost : ℕ → Task → ℕ
-scaled_cost factor t = max (thousandths factor t.cost) (scaled_end factor 0 t.sections)
-
--- a node, what a timer takes scaled
-abbrev pub scaled_node : ℕ → Node → Node
-scaled_node factor node = record node { release = thousandths factor node.release }
-
--- an interrupt, what it takes scaled
-abbrev pub scaled_interrupt : ℕ → Interrupt → Interrupt
-scaled_interrupt factor x = record x { cost = thousandths factor x.cost }
-
--- a task, its cost, its sections, its timer and the interrupts on its account scaled
-abbrev pub scaled_task : ℕ → Task → Task
-scaled_task factor t =
-    record t {
-      cost = scaled_cost factor t;
-      sections = scaled_sections factor 0 t.sections;
-      node = scaled_node factor t.node;
-      interrupts = map (scaled_interrupt factor) t.interrupts;
-    }
-
--- the set with each task scaled
-abbrev pub scaled : ℕ → List Task → List Task
-scaled factor U = map (scaled_task factor) U
-
--- the factor takes nothing of a task past its limit: its cost its period, its timer the shortest period, and what an
--- interrupt takes the time between two
-pub record IsWithin (factor : ℕ) (t : Task) : Type 0 where
-  pub cost : scaled_cost factor t ≤ t.period
-  pub release : thousandths factor t.node.release ≤ PERIOD_FROM
-  pub interrupts : All (λ x. thousandths factor x.cost ≤ x.period) t.interrupts
-
--- the factor is at least 1, and takes nothing of a task past its limit
-pub record MayScale (U : List Task) (factor : ℕ) : Type 0 where
+-- the greatest factor, from 1 on, at which something is so
+pub record IsGreatestFor (IsSo : ℕ → Type 0) (factor : ℕ) : Type 0 where
   pub some : 1 ≤ factor
-  pub within : All (IsWithin factor) U
+  pub is_so : IsSo factor
+  pub greatest : (more : ℕ) → factor < more → ¬ IsSo more
 
--- the factor may be taken, and the set is feasible with it in some sense
-pub record ScalesFor (Feasible : List Task → Type 0) (U : List Task) (factor : ℕ) : Type 0 where
-  pub may : MayScale U factor
-  pub feasible : Feasible (scaled factor U)
-
--- the greatest factor that may be taken and with which the set is feasible in that sense
-pub record IsFactorFor (Feasible : List Task → Type 0) (U : List Task) (factor : ℕ) : Type 0 where
-  pub may : MayScale U factor
-  pub feasible : Feasible (scaled factor U)
-  pub greatest : (more : ℕ) → factor < more → MayScale U more → ¬ Feasible (scaled more U)
-
--- the factor may be taken, and some order passes with it
-abbrev pub Scales : List Task → ℕ → Type 0
-Scales U factor = ScalesFor IsFeasible U factor
-
--- the greatest factor with which some order passes
+-- the greatest factor at which some order passes
 abbrev pub IsFactor : List Task → ℕ → Type 0
-IsFactor U factor = IsFactorFor IsFeasible U factor
+IsFactor U factor = IsGreatestFor (λ f. IsFeasibleAt f U) factor
+
+-- the greatest factor at which the order passes as it stands
+abbrev pub IsFactorIn : List Task → List ℕ → ℕ → Type 0
+IsFactorIn U order factor = IsGreatestFor (λ f. IsPassingAt f U order) factor
 
 -- no factor helps
 abbrev pub HasNoFactor : List Task → Type 0
-HasNoFactor U = (factor : ℕ) → MayScale U factor → ¬ IsFeasible (scaled factor U)
-
--- the greatest factor, or none where none helps
-abbrev pub AnswersFactor : List Task → Option ℕ → Type 0
-AnswersFactor U (Some factor) = IsFactor U factor
-AnswersFactor U None = HasNoFactor U
-
--- ---- in a given order
--- the factor may be taken, and the order passes with it as it stands
-abbrev pub ScalesIn : List Task → List ℕ → ℕ → Type 0
-ScalesIn U order factor = ScalesFor (λ V. IsPassingOrder V order) U factor
-
--- the greatest factor with which the order passes as it stands
-abbrev pub IsFactorIn : List Task → List ℕ → ℕ → Type 0
-IsFactorIn U order factor = IsFactorFor (λ V. IsPassingOrder V order) U factor
+HasNoFactor U = (factor : ℕ) → 1 ≤ factor → ¬ IsFeasibleAt factor U

@@ -1,54 +1,24 @@
 //! The factor with which a given order of the set passes.
-ghost use Rattle.std.specs.Prelude.{◌↔◌, ◌<◌, ◌≤◌, length, IsTrue, IfOk};
-ghost use Rattle.task_sheet.specs.TaskSet.{IsTaskSet};
-ghost use Rattle.task_sheet.specs.Orders.{IsOrder, IsPassingOrder};
-ghost use Rattle.factor.specs.declared.scaling.TheConstants.{FACTOR_END};
-ghost use Rattle.factor.specs.Factors.{ScalesIn, IsFactorIn};
+ghost use Rattle.std.specs.Prelude.{◌<◌, length};
+ghost use Rattle.task_sheet.specs.Orders.{IsPassingOrder};
+ghost use Rattle.factor.specs.Factors.{IsFactorIn};
 
-use crate::scaling::{FACTOR_END, first_past, scaled};
-use ceilings::{LockTable, Tabled};
-use limits::order_passes;
-use std::alloc::{AllocError, Global};
-use task_sheet::TaskSet;
-
-// Whether the factor takes nothing past its limit, and the order passes with it as it stands.
-fn order_passes_at(
-    alloc: Global,
-    set: &TaskSet,
-    order: &[usize],
-    factor: u64,
-) -> Result<bool, AllocError>
-    requires some { 1 ≤ factor }
-    requires short { factor < FACTOR_END }
-    requires each { IsOrder set.now order.now }
-    ensures answer { IfOk result (λ passes. IsTrue passes ↔ ScalesIn set.now order.now factor) }
-    ensures kept { IsTaskSet set.now }
-{
-    if first_past(set, factor).is_some() {
-        return Ok(false);
-    }
-    let other = scaled(alloc, set, factor)?;
-    let table = LockTable::new(alloc, &other)?;
-    Ok(order_passes(&Tabled::of(&other, &table), order))
-}
+use crate::most::{FACTOR_END, most_below};
+use ceilings::Tabled;
+use task_sheet::Members;
 
 /// The greatest factor, in thousandths, with which an order of the set that passes still passes as it stands. It is 1000 at
-/// least. The set has a task. The error is out of memory.
-pub fn factor_in_order(alloc: Global, set: &TaskSet, order: &[usize]) -> Result<u64, AllocError>
+/// least. The set has a task.
+pub fn factor_in_order(set: &Tabled<'_>, order: &[usize]) -> u64
     requires some { 0 < length set.now }
     requires passing { IsPassingOrder set.now order.now }
-    ensures { IfOk result (IsFactorIn set.now order.now) }
+    ensures { IsFactorIn set.now order.now result }
 {
-    let _ = set.sheets();
-    let mut failing = FACTOR_END;
-    let mut passing = 1000;
-    while failing - passing > 1 {
-        let middle = passing + (failing - passing) / 2;
-        if order_passes_at(alloc, set, order, middle)? {
-            passing = middle;
-        } else {
-            failing = middle;
-        }
+    let mut above = Members::all(set.sheets().len());
+    let mut most = FACTOR_END;
+    for low in order {
+        above = above.without(*low);
+        most = most_below(set, *low, above, most);
     }
-    Ok(passing)
+    most
 }

@@ -2,61 +2,68 @@
 //! pass. A factor is in thousandths.
 #![tactic(auto)]
 
-ghost use Rattle.std.specs.Prelude.{◌↔◌, ◌<◌, ◌≤◌, length, IsTrue, IfOk};
+ghost use Rattle.std.specs.Prelude.{◌+◌, ◌<◌, ℕ, length, IfSome, IfNone};
 ghost use Rattle.task_sheet.specs.TaskSet.{IsTaskSet};
-ghost use Rattle.factor.specs.declared.scaling.TheConstants.{FACTOR_END};
-ghost use Rattle.factor.specs.Factors.{Scales, AnswersFactor};
+ghost use Rattle.factor.specs.declared.most.TheConstants.{FACTOR_END};
+ghost use Rattle.factor.specs.Factors.{IsFeasibleAt};
+ghost use Rattle.factor.specs.Failing.{AnswersFactor, FailsFirst};
 
-mod failing;
+mod first;
 mod in_order;
 pub mod laws;
-mod scaling;
+mod most;
 
-pub use crate::failing::first_to_fail;
+use crate::first::first_latest;
 pub use crate::in_order::factor_in_order;
-use crate::scaling::{FACTOR_END, first_past, scaled};
-use assignment::is_feasible;
-use ceilings::{LockTable, Tabled};
-use std::alloc::{AllocError, Global};
-use task_sheet::TaskSet;
+use crate::most::{FACTOR_END, most_below};
+use ceilings::Tabled;
+use task_sheet::Members;
 
-// Whether the factor takes nothing past its limit, and some order passes with it.
-fn passes_at(alloc: Global, set: &TaskSet, factor: u64) -> Result<bool, AllocError>
-    requires some { 1 ≤ factor }
-    requires short { factor < FACTOR_END }
-    ensures answer { IfOk result (λ passes. IsTrue passes ↔ Scales set.now factor) }
+/// How far all execution may slow down, and who fails first.
+#[derive(Clone, Copy)]
+pub struct Slowdown {
+    /// The greatest factor at which some order passes, in thousandths.
+    pub most: u64,
+    /// Past it, of the tasks that are in the way of every order and need not stand above another of them, the first with
+    /// the longest limit.
+    pub task: usize,
+}
+
+// The same, from 0 on; none where tasks must outrank one another. One order decides: from the lowest level up it has the
+// tasks with the longest limits.
+fn factor_from_0(set: &Tabled<'_>) -> Option<Slowdown>
+    ensures passes { IfSome result (λ found. IsFeasibleAt found.most set.now) }
+    ensures fails { IfSome result (λ found. found.most < FACTOR_END
+        → FailsFirst set.now (found.most + 1) found.task) }
+    ensures none { IfNone result ((factor : ℕ) → ¬ IsFeasibleAt factor set.now) }
     ensures kept { IsTaskSet set.now }
 {
-    if first_past(set, factor).is_some() {
-        return Ok(false);
+    let mut left = Members::all(set.sheets().len());
+    let mut found = Slowdown {
+        most: FACTOR_END,
+        task: 0,
+    };
+    while !left.is_empty() {
+        let task = first_latest(set, left)?;
+        left = left.without(task);
+        let most = most_below(set, task, left, found.most);
+        if most < found.most {
+            found = Slowdown { most, task };
+        }
     }
-    let other = scaled(alloc, set, factor)?;
-    let table = LockTable::new(alloc, &other)?;
-    Ok(is_feasible(&Tabled::of(&other, &table)))
+    Some(found)
 }
 
 /// The greatest factor, in thousandths and at least 1, with which some order of the set passes where each execution takes
-/// that many thousandths of its time, as on a slower processor: each cost, the begin and the length of each section, each
-/// timer and interrupt, rounded up. Where that takes a section into the next one, or past the cost, the next one begins
-/// later, or the cost is the section's end. No cost is taken past its period, no timer past the shortest one, and no
-/// interrupt past the time between two. None where no factor helps. The set has a task. The error is out of memory.
-pub fn factor(alloc: Global, set: &TaskSet) -> Result<Option<u64>, AllocError>
+/// that many thousandths of its time, as on a slower processor: each cost, each section, each timer and interrupt. None
+/// where no factor helps. The set has a task.
+pub fn factor(set: &Tabled<'_>) -> Option<Slowdown>
     requires { 0 < length set.now }
-    ensures answer { IfOk result (λ answer. AnswersFactor set.now answer) }
-    ensures kept { IsTaskSet set.now }
+    ensures { AnswersFactor set.now result }
 {
-    let mut failing = FACTOR_END;
-    let mut passing = 1;
-    if !passes_at(alloc, set, passing)? {
-        return Ok(None);
+    let found = factor_from_0(set)?;
+    if found.most == 0 {
+        return None;
     }
-    while failing - passing > 1 {
-        let middle = passing + (failing - passing) / 2;
-        if passes_at(alloc, set, middle)? {
-            passing = middle;
-        } else {
-            failing = middle;
-        }
-    }
-    Ok(Some(passing))
+    Some(found)
 }

@@ -1,6 +1,6 @@
 -- How an order is judged: in one way, and as passing where it passes.
 use Rattle.std.proofs.Common.{◌≡◌, ◌∙◌, ℕ, suc, ◌+◌, ◌<◌, ◌≤◌, inl, inr, Bool, true}
-use Rattle.std.proofs.Common.{List, [], ◌∷◌, map, length, refl, sym, ap, subst}
+use Rattle.std.proofs.Common.{List, [], ◌∷◌, ◌++◌, map, length, refl, sym, ap, subst}
 use Rattle.std.proofs.Common.{arith}
 use Rattle.std.specs.List.Sorted.{IsStrictlyIncreasing}
 use Rattle.std.proofs.lemmas.Bool.{both_ways, cases_eq, cases_order, ne_eqb, true≢false, and_parts}
@@ -8,12 +8,15 @@ use Rattle.std.proofs.lemmas.Bool.{and_from, ltb-true}
 use Rattle.task_sheet.proofs.Common.{Task, AllTasks, task_at, Indexes, among, without_index, IsPart}
 use Rattle.task_sheet.proofs.Common.{IsResponseOf, Passes, all_of, is_bound, Stands, AllStand}
 use Rattle.task_sheet.proofs.Common.{IsOrderOf, IsLeastOver}
+use Rattle.task_sheet.proofs.Common.{demand_of, limit_of}
+use Rattle.task_sheet.proofs.ResponseLaws.{IsFullChain-one}
 use Rattle.task_sheet.proofs.PassingLaws.{IsResponseOf-one, is_bound-at, Passes-iff_response}
 use Rattle.task_sheet.proofs.IndexLaws.{IsOrderOf-among, IsOrderOf-head, IsOrderOf-rest}
 use Rattle.task_sheet.proofs.IndexLaws.{without-member, without-part_of}
 use Rattle.assignment.specs.Places.{PlaceData}
 use Rattle.assignment.specs.Placings.{AllRespond, IsBestPlacing, tasks_of_places}
-use Rattle.judge.specs.Judgements.{AllJudged, IsJudgementOf, all_meet, does_meet, judged_of}
+use Rattle.judge.specs.Judgements.{AllJudged, IsJudgementOf, IsNeeded, all_meet, does_meet}
+use Rattle.judge.specs.Judgements.{judged_of}
 use Rattle.judge.specs.Judgements.{order_judged}
 use Rattle.judge.specs.Faults.{thread_number}
 use Rattle.judge.specs.Rows.{heights, threads_of}
@@ -21,6 +24,20 @@ use Rattle.judge.specs.Node.{IsNodeOrderBy}
 use Rattle.judge.specs.declared.judging.JudgedTask.{JudgedTask}
 use Rattle.judge.specs.declared.judging.Judgement.{Judgement}
 use Rattle.judge.specs.declared.judging.Judgement.TheVariants.{Meets, Misses, Below}
+
+-- ---- the last number of a list
+last_in : ℕ → List ℕ → ℕ
+last_in found [] = found
+last_in found (x ∷ xs) = last_in x xs
+
+last_from : (found : ℕ) (rest : List ℕ) (before last : ℕ)
+    → last_in found (rest ++ before ∷ last ∷ []) ≡ last
+unfolding last_in
+last_from found [] before last = refl
+last_from found (x ∷ rest) before last = last_from x rest before last
+
+last_of : (rest : List ℕ) (before last : ℕ) → last_in 0 (rest ++ before ∷ last ∷ []) ≡ last
+last_of rest before last = last_from 0 rest before last
 
 -- ---- one task
 module _ (U : List Task) (i : ℕ) (H : Indexes) where
@@ -39,26 +56,36 @@ module _ (U : List Task) (i : ℕ) (H : Indexes) where
     | inr (inr lt) ↦ absurd (both_ways _ (first.least k lt second.above) second.named)
   ]
 
+  -- a full chain is one, and so is its last number
+  one_need : (m n : ℕ) → IsNeeded U i H m → IsNeeded U i H n → m ≡ n
+  one_need m n a b =
+      let chains = IsFullChain-one (demand_of U i H) (limit_of (task_at U i)) a.chain b.chain a.full
+      b.full in
+      let ends = sym a.ends.1 ∙ chains ∙ b.ends.1 in
+      let last : a.last ≡ b.last = sym (last_of a.ends.0 a.before a.last)
+      ∙ ap (λ xs. last_in 0 xs) ends ∙ last_of b.ends.0 b.before b.last in
+      omega (arith, a.time, b.time, last)
+
   one_judgement : (j k : Judgement) → IsJudgementOf U i H j → IsJudgementOf U i H k → j ≡ k
   one_judgement (Meets r) (Meets s) a b =
       ap (λ (n : ℕ). Meets n) (IsResponseOf-one U i H r s a.1 b.1)
-  one_judgement (Meets r) Misses a b = absurd (b.1 (meets_passes r a.1 a.2))
+  one_judgement (Meets r) (Misses m) a b = absurd (b.1 (meets_passes r a.1 a.2))
   one_judgement (Meets r) (Below k) a b = absurd (both_ways _ a.0 (bound_over k b))
-  one_judgement Misses (Meets s) a b = absurd (a.1 (meets_passes s b.1 b.2))
-  one_judgement Misses Misses a b = refl
-  one_judgement Misses (Below k) a b = absurd (both_ways _ a.0 (bound_over k b))
+  one_judgement (Misses m) (Meets s) a b = absurd (a.1 (meets_passes s b.1 b.2))
+  one_judgement (Misses m) (Misses n) a b = ap (λ (k : ℕ). Misses k) (one_need m n a.2 b.2)
+  one_judgement (Misses m) (Below k) a b = absurd (both_ways _ a.0 (bound_over k b))
   one_judgement (Below j) (Meets s) a b = absurd (both_ways _ b.0 (bound_over j a))
-  one_judgement (Below j) Misses a b = absurd (both_ways _ b.0 (bound_over j a))
+  one_judgement (Below j) (Misses n) a b = absurd (both_ways _ b.0 (bound_over j a))
   one_judgement (Below j) (Below k) a b = ap (λ (n : ℕ). Below n) (least_one j k a b)
 
   meets_stands : (j : Judgement) → IsJudgementOf U i H j → does_meet j ≡ true → Stands U i H
   meets_stands (Meets r) is meets = (meets_passes r is.1 is.2, is.0)
-  meets_stands Misses is meets = absurd (true≢false (sym meets))
+  meets_stands (Misses n) is meets = absurd (true≢false (sym meets))
   meets_stands (Below k) is meets = absurd (true≢false (sym meets))
 
   stands_meets : (j : Judgement) → IsJudgementOf U i H j → Stands U i H → does_meet j ≡ true
   stands_meets (Meets r) is stands = refl
-  stands_meets Misses is stands = absurd (is.1 stands.0)
+  stands_meets (Misses n) is stands = absurd (is.1 stands.0)
   stands_meets (Below k) is stands = absurd (both_ways _ stands.1 (bound_over k is))
 
   -- a task that stands has its response within its deadline

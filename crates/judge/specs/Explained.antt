@@ -35,7 +35,7 @@ abbrev pub AreLevelLines :
     Parted → List Task → (above : List ℕ) → (number task : ℕ) → Judgement → List ℕ → Type 0
 AreLevelLines parted U above number task (Meets response) text =
     AreMetLines parted U above number task response text
-AreLevelLines parted U above number task Misses text =
+AreLevelLines parted U above number task (Misses needs) text =
     (a : Account) × IsMissedBelow U above task a × (text ≡ missed_lines U number a)
 AreLevelLines parted U above number task (Below other) text =
     text ≡ judged_line U number (record { task = task; judgement = Below other })

@@ -29,7 +29,8 @@ meets_line U judged =
 -- what becomes of a task with this deadline
 abbrev pub judgement_words : List Task → ℕ → Judgement → List ℕ
 judgement_words U deadline (Meets response) = decimal response ++ codes " of " ++ decimal deadline
-judgement_words U deadline Misses = codes "misses " ++ decimal deadline
+judgement_words U deadline (Misses needs) =
+    codes "misses " ++ decimal deadline ++ codes " needs " ++ decimal needs
 judgement_words U deadline (Below other) = codes "below " ++ name_at U other
 
 -- the number that a thread has, where one is given

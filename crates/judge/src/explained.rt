@@ -134,7 +134,7 @@ fn level_text(
         Judgement::Meets { response } => {
             met_text(alloc, set, parted, number, entry.task, response, above)
         }
-        Judgement::Misses => {
+        Judgement::Misses { .. } => {
             let account = missed_account(alloc, set, entry.task, above)?;
             missed_text(alloc, set.tasks(), number, &account)
         }

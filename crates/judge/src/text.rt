@@ -69,7 +69,7 @@ fn push_judgement(
 {
     match judgement {
         Judgement::Meets { response } => write!(text, " {response} of {deadline}"),
-        Judgement::Misses => write!(text, " misses {deadline}"),
+        Judgement::Misses { needs } => write!(text, " misses {deadline} needs {needs}"),
         Judgement::Below { other } => {
             text.push_str(" below ")?;
             push_name(text, set, other)

@@ -1,14 +1,16 @@
--- Of jobs that keep their promises nothing is said to be broken.
-use Rattle.std.proofs.Common.{ℕ, suc, ◌-◌, ◌≤◌, ◌≡◌, refl, ap, ◌∙◌, arith, All, true, false, not}
+-- Of jobs that keep to the demand nothing is said to be broken, and of no others.
+use Rattle.std.proofs.Common.{ℕ, suc, ◌+◌, ◌-◌, ◌≤◌, ◌≡◌, refl, sym, ap, ◌∙◌, arith, All, true, false, not}
+use Rattle.std.proofs.Common.{get_or}
 use Rattle.std.proofs.Common.{List, [], ◌∷◌, ◌++◌, Option, None, Some, IfSome}
-use Rattle.std.proofs.lemmas.Bool.{le-ltb}
+use Rattle.std.proofs.lemmas.Bool.{false_from_ne_true, le-ltb, ltb-false, or_parts, true≢false}
+use Rattle.std.proofs.lemmas.List.Folds.{list_all_at}
 use Rattle.std.specs.List.{list_all}
 use Rattle.observed.specs.declared.seen.Seen.{Seen}
 use Rattle.observed_lines.specs.Breaks.{breaks_any, breaks_blocking, breaks_bound, breaks_cost}
-use Rattle.observed_lines.specs.Breaks.{breaks_foreign, breaks_idle, breaks_period, is_kept}
-use Rattle.observed_lines.specs.Breaks.{is_short}
+use Rattle.observed_lines.specs.Breaks.{breaks_foreign, breaks_idle, breaks_jitter, breaks_period}
+use Rattle.observed_lines.specs.Breaks.{is_kept, is_over, is_short, may_idle}
 use Rattle.observed_lines.specs.Broken.{broken_lines, broken_words}
-use Rattle.kept_promises.specs.Kept.{Keeps}
+use Rattle.kept_promises.specs.Kept.{Keeps, KeepsToDemand}
 
 -- a time that isn't short of a limit, is short of it by no tolerance
 not_short : (tolerance : ℕ) (time : Option ℕ) (limit : ℕ) → IfSome time (λ t. limit ≤ t)
@@ -16,36 +18,63 @@ not_short : (tolerance : ℕ) (time : Option ℕ) (limit : ℕ) → IfSome time 
 not_short tolerance None limit enough = refl
 not_short tolerance (Some t) limit enough = le-ltb tolerance (limit - t) (omega (arith, enough))
 
-module _ (tolerance : ℕ) (s : Seen) (keeps : Keeps s) where
+-- one that isn't past it, is past it by none
+not_over : (tolerance : ℕ) (time : Option ℕ) (limit : ℕ) → IfSome time (λ t. t ≤ limit)
+    → is_over tolerance time limit ≡ false
+not_over tolerance None limit short = refl
+not_over tolerance (Some t) limit short = le-ltb tolerance (t - limit) (omega (arith, short))
+
+-- a lesser limit, too
+lesser : (time : Option ℕ) (limit less : ℕ) → less ≤ limit → IfSome time (λ t. limit ≤ t)
+    → IfSome time (λ t. less ≤ t)
+lesser None limit less le enough = tt
+lesser (Some t) limit less le enough = omega (arith, le, enough)
+
+-- who keeps what is promised keeps to the demand, which has room for more
+pub keeps-to_demand : (s : Seen) → s.promise.cost ≤ s.may_execute → s.closest ≤ s.promise.period
+    → s.promise.blocking ≤ s.may_be_blocked → Keeps s → KeepsToDemand s
+keeps-to_demand s cost closest blocking keeps = record {
+  cost = omega (arith, cost, keeps.cost);
+  period = lesser s.gap s.promise.period s.closest closest keeps.period;
+  jitter = keeps.jitter;
+  bound = keeps.bound;
+  blocking = omega (arith, blocking, keeps.blocking);
+  taken = omega (arith, keeps.foreign, keeps.idle);
+}
+
+module _ (tolerance : ℕ) (s : Seen) (keeps : KeepsToDemand s) where
   cost : breaks_cost tolerance s ≡ false
-  cost = le-ltb tolerance (s.executed - s.promise.cost) (omega (arith, keeps.cost))
+  cost = le-ltb tolerance (s.executed - s.may_execute) (omega (arith, keeps.cost))
 
   period : breaks_period tolerance s ≡ false
-  period = not_short tolerance s.gap s.promise.period keeps.period
+  period = not_short tolerance s.gap s.closest keeps.period
+
+  jitter : breaks_jitter tolerance s ≡ false
+  jitter = not_over tolerance s.delay s.promise.jitter keeps.jitter
 
   bound : breaks_bound tolerance s ≡ false
   bound = le-ltb tolerance (s.lasted - s.promise.bound) (omega (arith, keeps.bound))
 
   blocking : breaks_blocking tolerance s ≡ false
-  blocking = le-ltb tolerance (s.blocked - s.promise.blocking) (omega (arith, keeps.blocking))
+  blocking = le-ltb tolerance (s.blocked - s.may_be_blocked) (omega (arith, keeps.blocking))
 
   foreign : breaks_foreign tolerance s ≡ false
-  foreign = le-ltb tolerance (s.foreign - 0) (omega (arith, keeps.foreign))
+  foreign = le-ltb tolerance (s.foreign - s.may_be_taken) (omega (arith, keeps.taken))
 
   idle : breaks_idle tolerance s ≡ false
-  idle = le-ltb tolerance (s.idle - 0) (omega (arith, keeps.idle))
+  idle = le-ltb tolerance (s.idle - may_idle s) (omega (arith, keeps.taken))
 
   any : breaks_any tolerance s ≡ false
-  any = rw (cost, period, bound, blocking, foreign, idle) refl
+  any = rw (cost, period, jitter, bound, blocking, foreign, idle) refl
 
   written : broken_words tolerance s ≡ []
-  written = rw (cost, period, bound, blocking, foreign, idle) refl
+  written = rw (cost, period, jitter, bound, blocking, foreign, idle) refl
 
 -- behind the first, too
-rest_keeps : (s : Seen) (seen : List Seen) → All Keeps (s ∷ seen) → All Keeps seen
+rest_keeps : (s : Seen) (seen : List Seen) → All KeepsToDemand (s ∷ seen) → All KeepsToDemand seen
 rest_keeps s seen all k d lt = all (suc k) d (omega (arith, lt))
 
-pub all_are_kept : (tolerance : ℕ) (seen : List Seen) → All Keeps seen
+pub all_are_kept : (tolerance : ℕ) (seen : List Seen) → All KeepsToDemand seen
     → is_kept tolerance seen ≡ true
 all_are_kept tolerance [] all = refl
 all_are_kept tolerance (s ∷ seen) all =
@@ -54,10 +83,52 @@ all_are_kept tolerance (s ∷ seen) all =
     all_are_kept tolerance seen (rest_keeps s seen all) in
     rw (here, rest) refl
 
-pub none_written : (tolerance : ℕ) (seen : List Seen) → All Keeps seen
+pub none_written : (tolerance : ℕ) (seen : List Seen) → All KeepsToDemand seen
     → broken_lines tolerance seen ≡ []
 none_written tolerance [] all = refl
 none_written tolerance (s ∷ seen) all =
     let here : broken_words tolerance s ≡ [] = written tolerance s (all 0 s (omega arith)) in
     ap (λ (words : List ℕ). words ++ broken_lines tolerance seen) here
     ∙ none_written tolerance seen (rest_keeps s seen all)
+
+-- ---- of no others
+-- a time that isn't short
+enough : (time : Option ℕ) (limit : ℕ) → is_short 0 time limit ≡ false
+    → IfSome time (λ t. limit ≤ t)
+enough None limit not_so = tt
+enough (Some t) limit not_so = omega (arith, ltb-false 0 (limit - t) not_so)
+
+-- a time that isn't over
+within : (time : Option ℕ) (limit : ℕ) → is_over 0 time limit ≡ false
+    → IfSome time (λ t. t ≤ limit)
+within None limit not_so = tt
+within (Some t) limit not_so = omega (arith, ltb-false 0 (t - limit) not_so)
+
+-- who breaks nothing keeps to the demand
+kept_one : (s : Seen) → breaks_any 0 s ≡ false → KeepsToDemand s
+kept_one s none =
+    let a = or_parts (breaks_cost 0 s) _ none in
+    let b = or_parts (breaks_period 0 s) _ a.1 in
+    let j = or_parts (breaks_jitter 0 s) _ b.1 in
+    let c = or_parts (breaks_bound 0 s) _ j.1 in
+    let d = or_parts (breaks_blocking 0 s) _ c.1 in
+    let e = or_parts (breaks_foreign 0 s) _ d.1 in
+    record {
+      cost = omega (arith, ltb-false 0 (s.executed - s.may_execute) a.0);
+      period = enough s.gap s.closest b.0;
+      jitter = within s.delay s.promise.jitter j.0;
+      bound = omega (arith, ltb-false 0 (s.lasted - s.promise.bound) c.0);
+      blocking = omega (arith, ltb-false 0 (s.blocked - s.may_be_blocked) d.0);
+      taken = omega (
+        arith,
+        ltb-false 0 (s.foreign - s.may_be_taken) e.0,
+        ltb-false 0 (s.idle - may_idle s) e.1,
+      );
+    }
+
+pub kept_all : (seen : List Seen) → is_kept 0 seen ≡ true → All KeepsToDemand seen
+kept_all seen kept k d lt =
+    let s = get_or seen k d in
+    let none : breaks_any 0 s ≡ false = false_from_ne_true _ (λ broken. true≢false (sym kept
+    ∙ list_all_at (λ (x : Seen). not (breaks_any 0 x)) seen k d lt (ap not broken))) in
+    kept_one s none

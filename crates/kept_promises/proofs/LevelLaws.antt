@@ -15,9 +15,8 @@ use Rattle.ceiling_kernel.proofs.Common.{level_from, after_of}
 use Rattle.ceiling_kernel.specs.declared.trace.Release.{Release}
 use Rattle.ceiling_kernel.specs.declared.trace.Trace.{Trace}
 use Rattle.run_lines.specs.Responses.{AllDoneWithin, DoneWithin}
-use Rattle.observed.specs.Observed.{no_promise}
 use Rattle.observed.specs.Pieces.{level_of}
-use Rattle.observed.specs.Promises.{promise_of, promises_of}
+use Rattle.observed.specs.Promises.{no_promise, promise_of, promises_of}
 
 -- the first place that passes a test
 pub position_is : {X : Type 0} (p : X → Bool) (xs : List X) (i : ℕ) (d : X) → i < length xs

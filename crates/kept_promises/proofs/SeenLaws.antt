@@ -35,7 +35,7 @@ use Rattle.ceiling_kernel.proofs.ReleaseLaws.{job_is, jobs_length}
 use Rattle.trace_text.specs.declared.rows.TraceJob.{TraceJob}
 use Rattle.observed.proofs.PlaceLaws.{order-within}
 use Rattle.observed.specs.Pieces.{is_of, job_of, level_of, homeless_line, is_homeless, pieces_of}
-use Rattle.observed.specs.Promises.{promises_of}
+use Rattle.observed.specs.Promises.{no_promise, promises_of}
 use Rattle.trace_text.specs.declared.reading.TraceLines.{TraceLines}
 use Rattle.kept_promises.specs.OfRuns.{AreOfRun}
 use Rattle.kept_promises.specs.Rows.{job_row, jobs_from, slice_row, slices_from}
@@ -56,15 +56,16 @@ use Rattle.run_lines.proofs.ResponseLaws.{all_in_time}
 use Rattle.trace_text.specs.declared.fault.TraceFault.TheVariants as fault
 use Rattle.trace_text.specs.declared.rows.TraceSlice.{TraceSlice}
 use Rattle.observed.specs.End.{end_of, last_of}
-use Rattle.observed.specs.Observed.{no_promise, observed_fault, observed_in, seen_jobs}
-use Rattle.observed.specs.Seen.{gap_since, last_arrival, ready_by, seen_job, until_of}
+use Rattle.observed.specs.Observed.{observed_fault, observed_in, seen_jobs}
+use Rattle.observed.specs.Seen.{gap_since, last_job, ready_by, seen_job, until_of}
 use Rattle.observed.specs.Shares.{is_at, is_below}
 use Rattle.observed.specs.declared.pieces.Piece.{Piece}
 use Rattle.observed.specs.declared.promises.Promise.{Promise}
 use Rattle.observed.specs.declared.seen.Seen.{Seen}
-use Rattle.kept_promises.specs.Kept.{Keeps}
+use Rattle.kept_promises.specs.Kept.{Keeps, KeepsToDemand}
 use Rattle.kept_promises.proofs.BlockLaws.{low, low_most}
-use Rattle.kept_promises.proofs.ListLaws.{each_seen, greatest_most, last_found}
+use Rattle.kept_promises.proofs.BreakLaws.{keeps-to_demand}
+use Rattle.kept_promises.proofs.ListLaws.{closest-short, each_seen, greatest_most, last_found}
 
 -- ---- lists
 rows_at : (node : Node) (jobs : List Job) (until line k : ℕ) (rs : List Release) (j : ℕ)
@@ -413,15 +414,15 @@ module _ {U : List Task} {places : List PlaceData} {lines : TraceLines}
 
   abbrev pub sight : (j : ℕ) → j < length rs → Seen
   sight j lt =
-      seen_job (promise_at j lt) (level_at j lt) end pieces (take j all) (shown j)
+      seen_job U promises (promise_at j lt) (level_at j lt) end pieces (take j all) (shown j)
 
   -- what holds of what is seen of each job, holds of all that is seen
   pub all_seen : (P : Seen → Type 0) → ((j : ℕ) (lt : j < length rs) → P (sight j lt))
-      → All P (observed_in promises lines)
+      → All P (observed_in U promises lines)
   all_seen P each =
       let here : (j level : ℕ) → j < length all
       → level_of promises (slice_index_or all j (shown 0)).name ≡ Some level
-      → P (seen_job (slice_index_or promises level no_promise) level end pieces (take j all)
+      → P (seen_job U promises (slice_index_or promises level no_promise) level end pieces (take j all)
       (slice_index_or all j (shown 0))) =
       λ j level within at.
       let lt : j < length rs = omega (arith, within, all_length) in
@@ -431,18 +432,18 @@ module _ {U : List Task} {places : List PlaceData} {lines : TraceLines}
       ap (λ (x : TraceJob). level_of promises x.name) (sym is) ∙ at in
       let same : level_at j lt ≡ level =
       same_Some (level_at j lt) level (sym (level_named j lt) ∙ found) in
-      subst (λ (x : TraceJob). P (seen_job (slice_index_or promises level no_promise) level end
+      subst (λ (x : TraceJob). P (seen_job U promises (slice_index_or promises level no_promise) level end
       pieces (take j all) x)) (sym is)
-      (subst (λ l. P (seen_job (slice_index_or promises l no_promise) l end pieces
+      (subst (λ l. P (seen_job U promises (slice_index_or promises l no_promise) l end pieces
       (take j all) (shown j))) same (each j lt)) in
-      let by_rows : All P (seen_jobs promises end pieces all) =
-      All-from_recursion P (seen_jobs promises end pieces all)
-      (each_seen P promises end pieces all (shown 0) here 0 all
+      let by_rows : All P (seen_jobs U promises end pieces all) =
+      All-from_recursion P (seen_jobs U promises end pieces all)
+      (each_seen P U promises end pieces all (shown 0) here 0 all
       (λ k within. (let z : k ≡ 0 + k = omega arith in
       (omega (arith, within), ap (λ n. slice_index_or all n (shown 0)) z)))) in
-      subst (λ (ss : List TraceSlice). All P (seen_jobs promises (end_of ss lines.jobs.items)
+      subst (λ (ss : List TraceSlice). All P (seen_jobs U promises (end_of ss lines.jobs.items)
       (pieces_of promises lines.jobs.items ss) lines.jobs.items)) (sym rows_are)
-      (subst (λ (js : List TraceJob). All P (seen_jobs promises (end_of rows js)
+      (subst (λ (js : List TraceJob). All P (seen_jobs U promises (end_of rows js)
       (pieces_of promises js rows) js)) (sym jobs_said) by_rows)
 
   -- ---- each slice of a task lies in a job of it
@@ -631,8 +632,8 @@ module _ {U : List Task} {places : List PlaceData} {lines : TraceLines}
     -- ---- its period
     period_kept : IfSome (sight j lt).gap (λ gap. (sight j lt).promise.period ≤ gap)
     period_kept =
-        elim (last_arrival (shown j).name (take j all)) as
-        (λ o. last_arrival (shown j).name (take j all) ≡ o → IfSome
+        elim (last_job (shown j).name (take j all)) as
+        (λ o. last_job (shown j).name (take j all) ≡ o → IfSome
         (gap_since o (release_at rs j).time) (λ gap. (promise_at j lt).period ≤ gap)) [
           | None ↦ λ _. tt
           | Some b ↦ λ is.
@@ -645,6 +646,7 @@ module _ {U : List Task} {places : List PlaceData} {lines : TraceLines}
                     let row : slice_index_or (take j all) k (shown 0) ≡ shown k =
                     get_or-take j all k (shown 0) earlier
                     ∙ all_at k (shown 0) inside in
+                    let before : shown k ≡ b = sym row ∙ found.3 in
                     let names : same_bytes (shown k).name (shown j).name ≡ true =
                     ap (λ (x : TraceJob). same_bytes x.name (shown j).name) (sym row)
                     ∙ found.2 in
@@ -655,8 +657,7 @@ module _ {U : List Task} {places : List PlaceData} {lines : TraceLines}
                       legal.spaced k j earlier is_job task,
                       ap (λ x. (task_at U x).period) (task_is j lt),
                       period_is,
-                      ap (λ (x : TraceJob). x.arrival) (sym row),
-                      found.3,
+                      ap (λ (x : TraceJob). x.arrival) before,
                       arrival_is k inside,
                       arrival_is j lt,
                     )
@@ -752,7 +753,7 @@ module _ {U : List Task} {places : List PlaceData} {lines : TraceLines}
             total_same lower_hits stop until (stop_in_run j lt)
                 (λ t late _. out t (lies_after from stop t late)),
             low_most node jobs is_node legal i (task_in j lt) from stop j from stop is_job
-                ready_then
+                (omega (arith, ready_then))
                 (omega (arith, ap (level_in_order node) (task_is j lt))) le
                 (λ t _ early. waits j t lt early),
             blocking_is,
@@ -764,9 +765,15 @@ module _ {U : List Task} {places : List PlaceData} {lines : TraceLines}
     keeps = record {
       cost = cost_kept;
       period = period_kept;
+      jitter = tt;
       bound = bound_kept;
       blocking =
           blocking_kept;
       foreign = foreign_kept;
       idle = idle_kept;
     }
+
+    -- and so all that the demand has room for
+    pub keeps_to_demand : KeepsToDemand (sight j lt)
+    keeps_to_demand = keeps-to_demand (sight j lt) (omega arith)
+        (closest-short (promise_at j lt) (last_job (shown j).name (take j all))) (omega arith) keeps

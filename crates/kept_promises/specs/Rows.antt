@@ -1,5 +1,5 @@
 -- What the lines say that a run is printed as.
-use Rattle.std.specs.Prelude.{◌≡◌, ℕ, ◌+◌, List, [], ◌∷◌, length, slice_index_or}
+use Rattle.std.specs.Prelude.{◌≡◌, ℕ, ◌+◌, List, [], ◌∷◌, length, slice_index_or, None}
 use Rattle.ceiling_kernel.specs.Runs.{no_record}
 use Rattle.ceiling_kernel.specs.declared.trace.JobRecord.{JobRecord}
 use Rattle.ceiling_kernel.specs.declared.trace.Slice.{Slice}
@@ -11,7 +11,13 @@ use Rattle.trace_text.specs.declared.rows.TraceSlice.{TraceSlice}
 -- the line of a slice says from when to when, and the name of its job's task
 abbrev pub slice_row : List JobRecord → ℕ → Slice → TraceSlice
 slice_row jobs line s =
-    record { line = line; start = s.start; stop = s.stop; name = (slice_index_or jobs s.job no_record).name }
+    record {
+      line = line;
+      start = s.start;
+      stop = s.stop;
+      name = (slice_index_or jobs s.job no_record).name;
+      priority = None;
+    }
 
 -- a line for each slice, of which the first has a number
 abbrev pub slices_from : List JobRecord → ℕ → List Slice → List TraceSlice
@@ -21,7 +27,7 @@ slices_from jobs line (s ∷ ss) = slice_row jobs line s ∷ slices_from jobs (l
 -- the line of a job says its task's name, its arrival, and its finish, if it has one
 abbrev pub job_row : ℕ → JobRecord → TraceJob
 job_row line job =
-    record { line = line; name = job.name; arrival = job.release; finish = job.finish }
+    record { line = line; name = job.name; arrival = job.release; finish = job.finish; ready = None }
 
 -- a line for each job, of which the first has a number
 abbrev pub jobs_from : ℕ → List JobRecord → List TraceJob

@@ -1,5 +1,6 @@
 -- The placing of a set's order, and the furthest value of a number in it.
-use Rattle.std.proofs.Common.{ℕ, List, Option, Some, None, IfSome}
+use Rattle.std.proofs.Common.{ℕ, ◌<◌, List, length, Option, Some, None, IfSome}
+use Rattle.std.proofs.lemmas.Bool.{ltb-true}
 use Rattle.task_sheet.proofs.Common.{Task, IsFeasible}
 use Rattle.assignment.specs.Places.{PlaceData}
 use Rattle.assignment.specs.Placings.{IsPlacingOf, tasks_of_places}
@@ -7,6 +8,8 @@ use Rattle.assignment.specs.declared.placing.Placing.{Placing}
 use Rattle.assignment.specs.declared.placing.Placing.TheVariants.{Best, Stuck}
 use Rattle.limits.specs.declared.number.Number.{Number}
 use Rattle.limits.specs.Numbers.{MayHave, numbered}
+use Rattle.factor.specs.Failing.{AnswersFactor}
+use Rattle.factor.specs.declared.Slowdown.{Slowdown}
 use Rattle.limit_lines.specs.Lines.{HasPassing, AnswersIn}
 
 -- the best order passes
@@ -22,3 +25,11 @@ known_in U (Some places) i number (Some value) is =
     (is.may, (tasks_of_places places, is.feasible))
 known_in U (Some places) i number None is = tt
 known_in U None i number own is = rw is tt
+
+-- the task that fails first is one of the set
+pub fails-inside : (U : List Task) (found : Option Slowdown) → AnswersFactor U found
+    → IfSome found (λ slowdown. slowdown.task < length U)
+fails-inside U (Some found) is =
+    let (S, obstructs, first) = is.1 in
+    ltb-true found.task (length U) (obstructs.obstruction.within found.task first.latest.free.0)
+fails-inside U None is = tt

@@ -1,6 +1,7 @@
 -- The lines that say how far the numbers of a set may go.
-use Rattle.std.specs.Prelude.{◌≡◌, ◌⊎◌, ℕ, zero, suc, ◌+◌, ◌-◌, ◌<◌, ◌==◌, Bool, true, nat_lt, nat_le, List, [], ◌∷◌, ◌++◌, length, codes, Option, Some, None, if◌then◌else◌}
+use Rattle.std.specs.Prelude.{◌≡◌, ◌⊎◌, ℕ, zero, suc, ◌+◌, ◌-◌, ◌<◌, ◌==◌, Bool, true, nat_lt, nat_le, List, [], ◌∷◌, ◌++◌, length, codes, Option, Some, None, option_map, if◌then◌else◌}
 use Rattle.std.specs.Fmt.{decimal}
+use Rattle.task_sheet.specs.declared.sheet.TheConstants.{PERIOD_FROM}
 use Rattle.task_sheet.specs.Sheet.{Task, task_at}
 use Rattle.task_sheet.specs.Overheads.{calls, overhead_of}
 use Rattle.task_sheet.specs.Orders.{IsPassingOrder}
@@ -9,12 +10,13 @@ use Rattle.assignment.specs.Places.{PlaceData}
 use Rattle.assignment.specs.Placings.{tasks_of_places}
 use Rattle.assignment.specs.declared.placing.Placing.{Placing}
 use Rattle.assignment.specs.declared.placing.Placing.TheVariants.{Best, Stuck}
-use Rattle.limits.specs.Numbers.{section_at, value_of, AnswersFurthest}
+use Rattle.limits.specs.Numbers.{section_at, value_of, with_number, AnswersFurthest}
 use Rattle.limits.specs.InOrder.{IsFurthestIn}
 use Rattle.limits.specs.declared.number.Number.{Number}
 use Rattle.limits.specs.declared.number.Number.TheVariants.{Cost, Period, Deadline, Jitter, Len}
-use Rattle.factor.specs.Factors.{AnswersFactor, IsFactorIn}
-use Rattle.factor.specs.Failing.{FailsFirst}
+use Rattle.factor.specs.Factors.{IsFactorIn}
+use Rattle.factor.specs.Failing.{AnswersFactor}
+use Rattle.factor.specs.declared.Slowdown.{Slowdown}
 
 -- the places of a placing's order; none after a no
 abbrev pub places_in : Placing → Option (List PlaceData)
@@ -82,21 +84,73 @@ leaves_own Deadline part value = true
 leaves_own Jitter part value = nat_le part value
 leaves_own (Len k) part value = nat_lt part value
 
--- the name of task i, what the number is, its value, the furthest in the order, and the furthest in any
-abbrev pub values_line : List Task → ℕ → Number → ℕ → Option ℕ → ℕ → List ℕ
-values_line U i number value own most =
-    name_at U i ++ label_of number ++ decimal value ++ codes " " ++ some_words own ++ codes " "
-    ++ decimal most ++ codes "\n"
+-- a number and a space, and nothing for none
+abbrev pub before_words : Option ℕ → List ℕ
+before_words None = []
+before_words (Some n) = decimal n ++ codes " "
 
--- a number of task i, each of its values less what is the node's; nothing where no value helps, or none that leaves the
--- task one of its own
+-- what another number was, and what it is with the furthest value in the order, where there is one, and with that in any;
+-- nothing where it stays with the latter
+abbrev pub moved_words : Number → (was : ℕ) → (own : Option ℕ) → (most : ℕ) → List ℕ
+moved_words other was own most =
+    if most == was then [] else codes " with" ++ label_of other ++ before_words own ++ decimal most
+
+-- what goes along with the furthest values of a number: the deadline with a period, the period with a deadline
+abbrev pub along_words : Number → Task → (own : Option ℕ) → (most : ℕ) → List ℕ
+along_words Cost t own most = []
+along_words Period t own most =
+    moved_words Deadline t.deadline (option_map (λ value. (with_number Period t value).deadline) own)
+    (with_number Period t most).deadline
+along_words Deadline t own most =
+    moved_words Period t.period (option_map (λ value. (with_number Deadline t value).period) own)
+    (with_number Deadline t most).period
+along_words Jitter t own most = []
+along_words (Len k) t own most = []
+
+-- ---- what holds a number where its sheet may have none further
+-- the word, where it is so
+abbrev pub word_if : Bool → List ℕ → List ℕ
+word_if holds word = if holds then word else []
+
+-- up to where the section at a place may reach: the next one, or the end of the task
+abbrev pub end_of : Task → ℕ → ℕ
+end_of t k =
+    if nat_lt (k + 1) (length t.sections) then (section_at t.sections (k + 1)).at else t.cost
+
+-- what stands there
+abbrev pub end_words : Task → ℕ → List ℕ
+end_words t k =
+    if nat_lt (k + 1) (length t.sections) then codes " by section " ++ decimal (k + 2)
+    else codes " by cost"
+
+-- what holds a number at this value: the period a cost; the cost, the jitter or the least period of all a period; the jitter
+-- a deadline, the deadline a jitter; the next section or the cost a length. Nothing where its sheet may have one further
+abbrev pub held_words : Number → Task → ℕ → List ℕ
+held_words Cost t most = word_if (most == t.period) (codes " by period")
+held_words Period t most =
+    if most == t.cost then codes " by cost" else if most == t.jitter + 1 then codes " by jitter"
+    else word_if (most == PERIOD_FROM) (codes " by 1000")
+held_words Deadline t most = word_if (most == t.jitter + 1) (codes " by jitter")
+held_words Jitter t most = word_if (most == t.deadline - 1) (codes " by deadline")
+held_words (Len k) t most =
+    if most == end_of t k - (section_at t.sections k).at then end_words t k else []
+
+-- the name of task i, what the number is, its value, the furthest in the order, and the furthest in any
+abbrev pub values_words : List Task → ℕ → Number → ℕ → Option ℕ → ℕ → List ℕ
+values_words U i number value own most =
+    name_at U i ++ label_of number ++ decimal value ++ codes " " ++ some_words own ++ codes " "
+    ++ decimal most
+
+-- a number of task i, each of its values less what is the node's, what goes along, and what holds the last; nothing where
+-- no value helps, or none that leaves the task one of its own
 abbrev pub number_line : List Task → ℕ → Number → Option ℕ → Option ℕ → List ℕ
 number_line U i number own None = []
 number_line U i number own (Some most) =
     let t = task_at U i in
     let part = node_part number t in
     if leaves_own number part most then
-    values_line U i number (value_of number t - part) (less_of part own) (most - part)
+    values_words U i number (value_of number t - part) (less_of part own) (most - part)
+    ++ along_words number t own most ++ held_words number t most ++ codes "\n"
     else []
 
 -- the line of a number of task i
@@ -146,18 +200,18 @@ AnswersFactorIn U None answer = answer ≡ None
 
 -- that factor, the greatest with which some order passes, and the task that fails first past the latter; `-` where no
 -- factor helps
-abbrev pub IsFactorLine : List Task → (own most : Option ℕ) → List ℕ → Type 0
-IsFactorLine U own (Some most) text =
-    (i : ℕ) × FailsFirst U (most + 1) i
-    × (text
-    ≡ codes "all " ++ some_words own ++ codes " " ++ decimal most ++ codes " " ++ name_at U i
-    ++ codes "\n")
-IsFactorLine U own None text = text ≡ codes "all - -\n"
+abbrev pub factor_line : List Task → Option ℕ → Option Slowdown → List ℕ
+factor_line U own (Some found) =
+    codes "all " ++ some_words own ++ codes " " ++ decimal found.most ++ codes " "
+    ++ name_at U found.task
+    ++ codes "\n"
+factor_line U own None = codes "all - -\n"
 
 -- the line of the factors, and nothing for the empty set
 abbrev pub IsLast : List Task → Option (List PlaceData) → List ℕ → Type 0
 IsLast U places text =
     ((length U ≡ 0) × (text ≡ []))
     ⊎ ((0 < length U)
-    × ((own : Option ℕ) × (most : Option ℕ) × AnswersFactorIn U places own × AnswersFactor U most
-    × IsFactorLine U own most text))
+    × ((own : Option ℕ) × (found : Option Slowdown) × AnswersFactorIn U places own
+    × AnswersFactor U found
+    × (text ≡ factor_line U own found)))

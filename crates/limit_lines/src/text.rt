@@ -1,19 +1,18 @@
 //! The lines of a task, and the last one.
-ghost use Rattle.std.specs.Prelude.{◌≡◌, ◌++◌, ◌<◌, ℕ, length, IfOk, IfSome, OnOk, string_bytes};
+ghost use Rattle.std.specs.Prelude.{◌≡◌, ◌++◌, ◌<◌, ℕ, length, option_map, IfOk, IfSome, OnOk, string_bytes};
 ghost use Rattle.task_sheet.specs.Sheet.{IsValidSheet, task_at};
 ghost use Rattle.task_sheet.specs.Orders.{IsFeasible};
 ghost use Rattle.task_sheet.specs.declared.sheet.TheConstants.{SECTION_LIMIT};
-ghost use Rattle.factor.specs.Factors.{AnswersFactor};
-ghost use Rattle.limits.specs.Numbers.{AnswersFurthest, HasNumber, MayHave, numbered};
-ghost use Rattle.limit_lines.specs.Lines.{AnswersFactorIn, AnswersIn, AreTaskLines, HasPassing, IsFactorLine, IsLast, IsNumberLine, label_of, leaves_own, less_of, node_part, number_at, number_line, order_in, places_in, slack_in, slack_line, slack_of, some_words};
+ghost use Rattle.limits.specs.Numbers.{AnswersFurthest, HasNumber, MayHave, numbered, with_number};
+ghost use Rattle.limit_lines.specs.Lines.{AnswersFactorIn, AnswersIn, AreTaskLines, HasPassing, IsLast, IsNumberLine, along_words, before_words, end_of, end_words, factor_line, held_words, label_of, leaves_own, less_of, moved_words, node_part, number_at, number_line, order_in, places_in, slack_in, slack_line, slack_of, some_words, word_if};
 
 use assignment::{Place, Placing};
 use ceilings::Tabled;
-use factor::{factor, factor_in_order, first_to_fail};
+use factor::{Slowdown, factor, factor_in_order};
 use limits::{Number, furthest, furthest_from, furthest_in_order, value_of};
 use lines::push_name;
 use std::alloc::{AllocError, Global};
-use task_sheet::{Sheet, TaskSet};
+use task_sheet::{PERIOD_FROM, Sheet, TaskSet};
 
 // The number of a task that stands at a place among its numbers, from 0.
 fn number_at(place: usize) -> Number
@@ -94,7 +93,182 @@ fn leaves_own(number: Number, part: u64, value: u64) -> bool
     }
 }
 
-// The line of a number of a task; nothing where no value helps, or none that leaves the task one of its own.
+// A number and a space; nothing for none.
+fn push_before(text: &mut String, number: Option<u64>) -> Result<(), AllocError>
+    ensures { OnOk result (string_bytes text.new ≡ string_bytes text.old ++ before_words number) }
+{
+    match number {
+        Some(number) => write!(text, "{number} "),
+        None => Ok(()),
+    }
+}
+
+// What another number is with these values, where it doesn't stay with the last.
+fn push_moved(
+    text: &mut String,
+    other: Number,
+    was: u64,
+    own: Option<u64>,
+    most: u64,
+) -> Result<(), AllocError>
+    requires { (place : ℕ) → other ≡ Number.Len place → place < SECTION_LIMIT }
+    ensures { OnOk result (string_bytes text.new ≡ string_bytes text.old
+        ++ moved_words other was own most) }
+{
+    if most == was {
+        return Ok(());
+    }
+    text.push_str(" with")?;
+    push_label(text, other)?;
+    push_before(text, own)?;
+    write!(text, "{most}")
+}
+
+// The deadline that goes along with a period, if any.
+fn deadline_with(sheet: &Sheet, period: Option<u64>) -> Option<u64>
+    ensures { result ≡ option_map (λ value. (with_number Number.Period sheet.now value).deadline) period }
+{
+    match period {
+        Some(period) => Some(sheet.deadline().min(period)),
+        None => None,
+    }
+}
+
+// The period that goes along with a deadline, if any.
+fn period_with(sheet: &Sheet, deadline: Option<u64>) -> Option<u64>
+    ensures { result ≡ option_map (λ value. (with_number Number.Deadline sheet.now value).period) deadline }
+{
+    match deadline {
+        Some(deadline) => Some(sheet.period().max(deadline)),
+        None => None,
+    }
+}
+
+// What goes along with the furthest values of a number.
+fn push_along(
+    text: &mut String,
+    sheet: &Sheet,
+    number: Number,
+    own: Option<u64>,
+    most: u64,
+) -> Result<(), AllocError>
+    ensures { OnOk result (string_bytes text.new ≡ string_bytes text.old
+        ++ along_words number sheet.now own most) }
+{
+    match number {
+        Number::Period => {
+            let was = sheet.deadline();
+            push_moved(
+                text,
+                Number::Deadline,
+                was,
+                deadline_with(sheet, own),
+                was.min(most),
+            )
+        }
+        Number::Deadline => {
+            let was = sheet.period();
+            push_moved(
+                text,
+                Number::Period,
+                was,
+                period_with(sheet, own),
+                was.max(most),
+            )
+        }
+        Number::Cost | Number::Jitter | Number::Len(_) => Ok(()),
+    }
+}
+
+// The word, where it is so.
+fn push_if(text: &mut String, holds: bool, word: &str) -> Result<(), AllocError>
+    ensures { OnOk result (string_bytes text.new ≡ string_bytes text.old
+        ++ word_if holds word.now) }
+{
+    if holds { text.push_str(word) } else { Ok(()) }
+}
+
+// What holds a period at this value, in microseconds.
+fn push_period_held(text: &mut String, sheet: &Sheet, most: u64) -> Result<(), AllocError>
+    requires { IsValidSheet sheet.now }
+    ensures { OnOk result (string_bytes text.new ≡ string_bytes text.old
+        ++ held_words Number.Period sheet.now most) }
+{
+    if most == sheet.cost() {
+        return text.push_str(" by cost");
+    }
+    if most == sheet.jitter() + 1 {
+        return text.push_str(" by jitter");
+    }
+    push_if(text, most == PERIOD_FROM, " by 1000")
+}
+
+// Up to where a section may reach: the next one, or the end of the task.
+fn end_of(sheet: &Sheet, place: usize) -> u64
+    requires { place < length sheet.now.sections }
+    ensures { result ≡ end_of sheet.now place }
+{
+    let sections = sheet.sections();
+    if place + 1 < sections.len() {
+        let next = &sections[place + 1];
+        next.at
+    } else {
+        sheet.cost()
+    }
+}
+
+// What stands there.
+fn push_end(text: &mut String, sheet: &Sheet, place: usize) -> Result<(), AllocError>
+    requires valid { IsValidSheet sheet.now }
+    requires place { place < length sheet.now.sections }
+    ensures { OnOk result (string_bytes text.new ≡ string_bytes text.old
+        ++ end_words sheet.now place) }
+{
+    if place + 1 < sheet.sections().len() {
+        let count = place as u64 + 2;
+        write!(text, " by section {count}")
+    } else {
+        text.push_str(" by cost")
+    }
+}
+
+// What holds the length of a section at this value, in microseconds.
+fn push_len_held(
+    text: &mut String,
+    sheet: &Sheet,
+    place: usize,
+    most: u64,
+) -> Result<(), AllocError>
+    requires valid { IsValidSheet sheet.now }
+    requires place { place < length sheet.now.sections }
+    ensures { OnOk result (string_bytes text.new ≡ string_bytes text.old
+        ++ held_words (Number.Len place) sheet.now most) }
+{
+    let section = &sheet.sections()[place];
+    if most == end_of(sheet, place).saturating_sub(section.at) {
+        push_end(text, sheet, place)
+    } else {
+        Ok(())
+    }
+}
+
+// What holds a number at this value, where its sheet may have none further.
+fn push_held(text: &mut String, sheet: &Sheet, number: Number, most: u64) -> Result<(), AllocError>
+    requires valid { IsValidSheet sheet.now }
+    requires has { HasNumber sheet.now number }
+    ensures { OnOk result (string_bytes text.new ≡ string_bytes text.old
+        ++ held_words number sheet.now most) }
+{
+    match number {
+        Number::Cost => push_if(text, most == sheet.period(), " by period"),
+        Number::Period => push_period_held(text, sheet, most),
+        Number::Deadline => push_if(text, most == sheet.jitter() + 1, " by jitter"),
+        Number::Jitter => push_if(text, most == sheet.deadline() - 1, " by deadline"),
+        Number::Len(place) => push_len_held(text, sheet, place, most),
+    }
+}
+
+// The line of a number of a task, with what goes along and what holds it; nothing where no value helps, or none that leaves the task one of its own.
 fn push_number(
     text: &mut String,
     set: &TaskSet,
@@ -117,12 +291,15 @@ fn push_number(
         return Ok(());
     }
     let value = value_of(sheet, number).saturating_sub(part);
-    let most = most.saturating_sub(part);
+    let left = most.saturating_sub(part);
     push_name(text, set, task)?;
     push_label(text, number)?;
     write!(text, "{value} ")?;
     push_some(text, less_of(part, own))?;
-    write!(text, " {most}\n")
+    write!(text, " {left}")?;
+    push_along(text, sheet, number, own, most)?;
+    push_held(text, sheet, number, most)?;
+    text.push_str("\n")
 }
 
 // The furthest value of a number with which the order of a placing passes; none after a no.
@@ -239,8 +416,8 @@ fn push_slack(
 }
 
 /// The lines of a task of a placed set: for each of its numbers that may help its value, the furthest with which the
-/// order passes, and the furthest with which some order does, each less what of it is the node's; and where there is an
-/// order, its slack. That is any one which passes, the best or another; `order` is the same, the lowest first. The error is
+/// order passes, and the furthest with which some order does, each less what of it is the node's, what goes along, and what
+/// holds the last; and where there is an order, its slack. That is any one which passes, the best or another; `order` is the same, the lowest first. The error is
 /// out of memory.
 pub fn task_text(
     alloc: Global,
@@ -267,23 +444,15 @@ pub fn task_text(
 }
 
 // The greatest factor with which the order of a placing passes; none after a no.
-fn factor_in(
-    alloc: Global,
-    set: &TaskSet,
-    placing: &Placing,
-    order: &[usize],
-) -> Result<Option<u64>, AllocError>
+fn factor_in(set: &Tabled<'_>, placing: &Placing, order: &[usize]) -> Option<u64>
     requires some { 0 < length set.now }
     requires placing { HasPassing set.now placing.now }
     requires order { order.now ≡ order_in placing.now }
-    ensures { IfOk result (λ own. AnswersFactorIn set.now (places_in placing.now) own) }
+    ensures { AnswersFactorIn set.now (places_in placing.now) result }
 {
     match placing {
-        Placing::Best(_) => {
-            let factor = factor_in_order(alloc, set, order)?;
-            Ok(Some(factor))
-        }
-        Placing::Stuck(_) => Ok(None),
+        Placing::Best(_) => Some(factor_in_order(set, order)),
+        Placing::Stuck(_) => None,
     }
 }
 
@@ -293,20 +462,19 @@ fn factor_text(
     alloc: Global,
     set: &TaskSet,
     own: Option<u64>,
-    most: Option<u64>,
+    found: Option<Slowdown>,
 ) -> Result<String, AllocError>
-    requires some { 0 < length set.now }
-    requires most { AnswersFactor set.now most }
-    ensures { IfOk result (λ text. IsFactorLine set.now own most (string_bytes text)) }
+    requires { IfSome found (λ slowdown. slowdown.task < length set.now) }
+    ensures { IfOk result (λ text. string_bytes text ≡ factor_line set.now own found) }
 {
     let mut text = String::new(alloc);
-    match most {
-        Some(most) => {
-            let task = first_to_fail(alloc, set, most)?;
+    match found {
+        Some(found) => {
             text.push_str("all ")?;
             push_some(&mut text, own)?;
+            let most = found.most;
             write!(text, " {most} ")?;
-            push_name(&mut text, set, task)?;
+            push_name(&mut text, set, found.task)?;
             text.push_str("\n")?;
         }
         None => text.push_str("all - -\n")?,
@@ -318,7 +486,7 @@ fn factor_text(
 /// that of the placing, the lowest first. The error is out of memory.
 pub fn last_text(
     alloc: Global,
-    set: &TaskSet,
+    set: &Tabled<'_>,
     placing: &Placing,
     order: &[usize],
 ) -> Result<String, AllocError>
@@ -326,10 +494,10 @@ pub fn last_text(
     requires order { order.now ≡ order_in placing.now }
     ensures { IfOk result (λ text. IsLast set.now (places_in placing.now) (string_bytes text)) }
 {
-    if set.is_empty() {
+    if set.len() == 0 {
         return Ok(String::new(alloc));
     }
-    let most = factor(alloc, set)?;
-    let own = factor_in(alloc, set, placing, order)?;
-    factor_text(alloc, set, own, most)
+    let found = factor(set);
+    let own = factor_in(set, placing, order);
+    factor_text(alloc, set.tasks(), own, found)
 }

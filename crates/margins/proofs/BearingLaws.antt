@@ -12,8 +12,8 @@ use Rattle.limits.specs.declared.number.Number.TheVariants.{Cost}
 use Rattle.limits.specs.Numbers.{numbered, MayHave, IsFurthest}
 use Rattle.limits.specs.InOrder.{IsFurthestIn}
 use Rattle.limits.proofs.NumberLaws.{in_order-within}
-use Rattle.factor.specs.Factors.{scaled, MayScale, IsFactor}
-use Rattle.factor.proofs.ScaledSets.{count-scaled, scaled-at, valid-at, keeps-scaled}
+use Rattle.factor.specs.Factors.{IsPassingAt, IsFeasibleAt, IsFactor}
+use Rattle.factor.proofs.LatestAt.{IsPassingAt-latest}
 use Rattle.preferences.specs.Preferences.{IsPreferred}
 use Rattle.latest_first.specs.LatestFirst.{AllPrompt, AreAlike}
 use Rattle.task_sheet.specs.declared.prefer.Preference.TheVariants.{Deadline}
@@ -60,21 +60,16 @@ module _ (U V : List Task) (order : List ℕ) (preferred : IsPreferred Deadline 
             best.passing.each_once) (IsLatestFirst-alike V W are.alike order first),
       )
 
-  pub passes-scaled : (factor : ℕ) → MayScale V factor → IsPassingOrder (scaled factor V) order
-      ↔ IsFeasible (scaled factor V)
-  passes-scaled factor may = recosted {W = scaled factor V} (record {
-    alike = record {
-      count = count-scaled factor V;
-      limits = keeps-scaled (λ (t : Task). limit_of t) (λ factor t. refl) V factor;
-      names = keeps-scaled (λ (t : Task). t.name) (λ factor t. refl) V factor;
-      outranks = keeps-scaled (λ (t : Task). t.outranks) (λ factor t. refl) V factor;
-    };
-    valid = λ k lt.
-        subst IsValidSheet (sym (scaled-at factor V k lt)) (valid-at factor V k set may lt);
-  })
+  pub passes-slower : (factor : ℕ) → IsPassingAt factor V order ↔ IsFeasibleAt factor V
+  passes-slower factor = (
+    λ passing. (order, passing),
+    IsPassingAt-latest V (AllTasks-from_set V set) factor (AllPrompt-valid V set) order
+        best.passing.each_once (best-latest V (AllTasks-from_set V set) (AllPrompt-valid V set)
+        (FollowLimits-preferred U V preferred) order best),
+  )
 
-  pub passes-factor : (most : ℕ) → IsFactor V most → IsPassingOrder (scaled most V) order
-  passes-factor most is = (passes-scaled most is.may).1 is.feasible
+  pub passes-factor : (most : ℕ) → IsFactor V most → IsPassingAt most V order
+  passes-factor most is = (passes-slower most).1 is.is_so
 
   pub passes-costed : (i cost : ℕ) → i < length V → MayHave V i Cost cost
       → IsPassingOrder (numbered V i Cost cost) order ↔ IsFeasible (numbered V i Cost cost)

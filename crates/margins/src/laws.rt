@@ -7,22 +7,21 @@ ghost use Rattle.task_sheet.specs.Orders.{IsOrder, IsPassingOrder, IsFeasible, I
 ghost use Rattle.limits.specs.declared.number.Number.TheVariants.{Cost};
 ghost use Rattle.limits.specs.Numbers.{numbered, MayHave, IsFurthest};
 ghost use Rattle.limits.specs.InOrder.{IsFurthestIn};
-ghost use Rattle.factor.specs.Factors.{scaled, MayScale, IsFactor};
+ghost use Rattle.factor.specs.Factors.{IsPassingAt, IsFeasibleAt, IsFactor};
 ghost use Rattle.margins.specs.Bearing.{Bears};
 ghost use Rattle.latest_first.specs.LatestFirst.{AllPrompt, IsLatestFirst};
 ghost use Rattle.preferences.specs.Preferences.{IsPreferred};
 ghost use Rattle.task_sheet.specs.declared.prefer.Preference.TheVariants.{Deadline};
 
-/// Of a set by deadlines the best order bears as much as any: with all execution scaled it passes exactly where some order
-/// does, and so at the factor of the set; and no cost of one task may grow further with another order.
+/// Of a set by deadlines the best order bears as much as any: at each factor on all execution it passes exactly where some
+/// order does, and so at that of the set; and no cost of one task may grow further with another order.
 pub fn preferred_is_greatest()
-    ensures scaled { (U V : List Task) (order : List ℕ) (factor : ℕ) → IsPreferred Deadline U V
+    ensures slower { (U V : List Task) (order : List ℕ) (factor : ℕ) → IsPreferred Deadline U V
         → IsTaskSet V
-        → IsBest V order → MayScale V factor
-        → IsPassingOrder (scaled factor V) order ↔ IsFeasible (scaled factor V) }
+        → IsBest V order → IsPassingAt factor V order ↔ IsFeasibleAt factor V }
     ensures factor { (U V : List Task) (order : List ℕ) (most : ℕ) → IsPreferred Deadline U V
         → IsTaskSet V
-        → IsBest V order → IsFactor V most → IsPassingOrder (scaled most V) order }
+        → IsBest V order → IsFactor V most → IsPassingAt most V order }
     ensures costed { (U V : List Task) (order : List ℕ) (i cost : ℕ) → IsPreferred Deadline U V
         → IsTaskSet V
         → IsBest V order → i < length V → MayHave V i Cost cost

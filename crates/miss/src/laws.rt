@@ -41,7 +41,8 @@ pub fn is_met_exactly()
         → TighterBoundHolds node jobs }
 {}
 
-/// Without locks, timers and interrupts a no is shown by a run: where no task must miss its deadline, each passes.
+/// Without locks, timers and interrupts a no that rests on deadlines is shown by a run: where no task must miss its
+/// deadline, each meets it. (Of which task must outrank which, no run says anything.)
 pub fn no_is_shown()
     ensures { (node : Node) → IsNode node → NoIsShown node }
 {}

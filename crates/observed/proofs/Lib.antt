@@ -1,3 +1,5 @@
+pub mod InterruptSums
 pub mod NearLaws
 pub mod PlaceLaws
 pub mod SightLaws
+pub mod SweepLaws

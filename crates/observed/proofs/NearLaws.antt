@@ -1,18 +1,21 @@
 -- What is seen of a job is seen in the pieces near it.
-use Rattle.std.proofs.Common.{◌≡◌, ◌∙◌, ℕ, ◌+◌, ◌≤◌, nat_le, nat_lt, Bool, true, false, cond, List}
+use Rattle.std.proofs.Common.{◌≡◌, ◌∙◌, ℕ, zero, suc, ◌+◌, ◌≤◌, nat_le, nat_lt, Bool, true, false, cond, List}
 use Rattle.std.proofs.Common.{[], ◌∷◌, length, Option, Some, None, option_map, refl, sym, ap, arith}
 use Rattle.std.specs.List.{find}
 use Rattle.std.specs.Prelude.{if◌then◌else◌}
 use Rattle.std.proofs.Math.Nat.{min-le_left, min-le_right, le-max_left, le-max_right}
 use Rattle.std.proofs.lemmas.Bool.{and_parts, le-leb, leb-true}
+use Rattle.task_sheet.specs.Sheet.{Task}
 use Rattle.trace_text.specs.declared.rows.TraceJob.{TraceJob}
 use Rattle.observed.specs.Near.{ahead, behind, near, rise_from}
-use Rattle.observed.specs.Seen.{ready_by, seen_job, until_of}
+use Rattle.observed.specs.Culprits.{longest_below, next_culprit}
+use Rattle.observed.specs.Seen.{first_blocker, ready_by, seen_job, until_of}
 use Rattle.observed.specs.Shares.{counts, first_name, overlap, share_of, time_in}
+use Rattle.observed.specs.declared.culprits.Culprit.{Culprit}
 use Rattle.observed.specs.declared.pieces.Piece.{Piece}
 use Rattle.observed.specs.declared.promises.Promise.{Promise}
 use Rattle.observed.specs.declared.shares.Whom.{Whom}
-use Rattle.observed.specs.declared.shares.Whom.TheVariants.{Job, Below, Foreign, Anyone}
+use Rattle.observed.specs.declared.shares.Whom.TheVariants.{Job, Level, Below, Foreign, Anyone}
 
 -- ---- what lies behind a time
 
@@ -150,23 +153,47 @@ module _ (whom : Whom) (from to : ℕ) where
       let rest = behind-same time pieces le in (first.0 ∙ rest.0, first.1 ∙ rest.1)
   near-same false time pieces rises le = behind-same time pieces le
 
+-- who executes longest below a level is seen in them, too
+longest_near : (promises : List Promise) (but : Option ℕ) (from to : ℕ) (b : Bool) (time : ℕ)
+    (pieces : List Piece) → rise_from 0 pieces ≡ b → time ≤ from → (level : ℕ)
+    → longest_below promises but from to (near b to (behind time pieces)) level
+    ≡ longest_below promises but from to pieces level
+longest_near promises but from to b time pieces rises le zero = refl
+longest_near promises but from to b time pieces rises le (suc level) =
+    rw (
+      longest_near promises but from to b time pieces rises le level,
+      (near-same (Level level) from to b time pieces rises le).0,
+    )
+    refl
+
+-- and of those who execute longest, the next
+next_near : (promises : List Promise) (first : Option Culprit) (from to : ℕ) (b : Bool) (time : ℕ)
+    (pieces : List Piece) → rise_from 0 pieces ≡ b → time ≤ from → (level : ℕ)
+    → next_culprit first promises from to (near b to (behind time pieces)) level
+    ≡ next_culprit first promises from to pieces level
+next_near promises None from to b time pieces rises le level = refl
+next_near promises (Some first) from to b time pieces rises le level =
+    longest_near promises (Some first.level) from to b time pieces rises le level
+
 -- what is seen of a job is seen in the pieces near it
-pub seen-near : (promise : Promise) (level end : ℕ) (pieces : List Piece) (past : List TraceJob)
-    (job : TraceJob)
-    → seen_job promise level end (near (rise_from 0 pieces) (until_of end job)
-    (behind job.arrival pieces)) past job ≡ seen_job promise level end pieces past job
-seen-near promise level end pieces past job =
+pub seen-near : (U : List Task) (promises : List Promise) (promise : Promise) (level end : ℕ)
+    (pieces : List Piece) (past : List TraceJob) (job : TraceJob)
+    → seen_job U promises promise level end (near (rise_from 0 pieces) (until_of end job)
+    (behind job.arrival pieces)) past job
+    ≡ seen_job U promises promise level end pieces past job
+seen-near U promises promise level end pieces past job =
     let b = rise_from 0 pieces in
     let to = until_of end job in
     let ready = ready_by promise job in
     let at : job.arrival ≤ job.arrival = omega (arith) in
     let soon : job.arrival ≤ ready = omega (arith) in
-    let below = near-same (Below level) ready to b job.arrival pieces refl soon in
     let foreign = near-same Foreign ready to b job.arrival pieces refl soon in
+    let first = first_blocker U promises promise level end pieces job in
     rw (
       (near-same (Job (length past)) job.arrival to b job.arrival pieces refl at).0,
-      below.0,
-      below.1,
+      (near-same (Below level) ready to b job.arrival pieces refl soon).0,
+      longest_near promises None ready to b job.arrival pieces refl soon level,
+      next_near promises first ready to b job.arrival pieces refl soon level,
       foreign.0,
       foreign.1,
       (near-same Anyone ready to b job.arrival pieces refl soon).0,

@@ -1,8 +1,10 @@
 pub mod Promises
 pub mod Pieces
+pub mod Sweeps
 pub mod End
 pub mod Near
 pub mod Shares
+pub mod Culprits
 pub mod Seen
 pub mod Observed
 pub mod Sights

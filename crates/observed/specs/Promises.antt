@@ -7,6 +7,10 @@ use Rattle.assignment.specs.Places.{PlaceData}
 use Rattle.assignment.specs.Placings.{tasks_of_places}
 use Rattle.observed.specs.declared.promises.Promise.{Promise}
 
+-- stands past the end of a list of promises
+abbrev pub no_promise : Promise
+no_promise = record { name = []; cost = 0; period = 0; jitter = 0; blocking = 0; bound = 0 }
+
 -- what the sheet of a task says, with its blocking and its bound
 abbrev pub promised : Task → (blocking bound : ℕ) → Promise
 promised t blocking bound =

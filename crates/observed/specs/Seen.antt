@@ -1,51 +1,97 @@
 -- What a trace shows of a job.
-use Rattle.std.specs.Prelude.{ℕ, ◌+◌, ◌-◌, List, [], ◌∷◌, length, Option, Some, None, unwrap_or, if◌then◌else◌}
+use Rattle.std.specs.Prelude.{ℕ, ◌+◌, ◌-◌, Bool, nat_lt, max, List, [], ◌∷◌, length, Option, Some, None, unwrap_or, if◌then◌else◌}
 use Rattle.std.specs.Option.{is_some, option_map}
-use Rattle.task_sheet.specs.Sheet.{same_bytes}
+use Rattle.task_sheet.specs.Sheet.{Task, same_bytes}
+use Rattle.task_sheet.specs.Demand.{interrupts_within}
 use Rattle.trace_text.specs.declared.rows.TraceJob.{TraceJob}
+use Rattle.observed.specs.Culprits.{first_culprit, name_of, next_culprit, time_of}
 use Rattle.observed.specs.Shares.{first_name, time_in}
 use Rattle.observed.specs.declared.promises.Promise.{Promise}
+use Rattle.observed.specs.declared.culprits.Culprit.{Culprit}
 use Rattle.observed.specs.declared.pieces.Piece.{Piece}
 use Rattle.observed.specs.declared.seen.Seen.{Seen}
 use Rattle.observed.specs.declared.shares.Whom.TheVariants.{Job, Below, Foreign, Anyone}
 
--- the arrival of the last of these jobs that is of the task with a name, else what came before them
-abbrev pub last_from : List ℕ → Option ℕ → List TraceJob → Option ℕ
+-- the last of these jobs that is of the task with a name, else what came before them
+abbrev pub last_from : List ℕ → Option TraceJob → List TraceJob → Option TraceJob
 last_from name last [] = last
 last_from name last (j ∷ js) =
-    last_from name (if same_bytes j.name name then Some j.arrival else last) js
+    last_from name (if same_bytes j.name name then Some j else last) js
 
--- when the last of these jobs that is of the task with a name arrived
-abbrev pub last_arrival : List ℕ → List TraceJob → Option ℕ
-last_arrival name jobs = last_from name None jobs
+-- the last of these jobs that is of the task with a name
+abbrev pub last_job : List ℕ → List TraceJob → Option TraceJob
+last_job name jobs = last_from name None jobs
 
--- a time from another, if there is one
-abbrev pub gap_since : Option ℕ → ℕ → Option ℕ
-gap_since before time = option_map (λ b. time - b) before
+-- a time from the arrival of a job, if there is one
+abbrev pub gap_since : Option TraceJob → ℕ → Option ℕ
+gap_since before time = option_map (λ b. time - b.arrival) before
+
+-- the least time between two arrivals as they are seen: the first may be seen late by the jitter, where it isn't said when
+-- its job was ready
+abbrev pub closest_to : Promise → Option TraceJob → ℕ
+closest_to promise None = promise.period
+closest_to promise (Some before) =
+    if is_some before.ready then promise.period else promise.period - promise.jitter
 
 -- when a job finished, or the end of the trace
 abbrev pub until_of : ℕ → TraceJob → ℕ
 until_of end job = unwrap_or job.finish end
 
--- when a job is ready at the latest: its task's jitter after its arrival. It waits from then to its finish, or to the end
+-- when a job is ready: when it says so, or its task's jitter after its arrival, at the latest. It waits from then to its
+-- finish, or to the end
 abbrev pub ready_by : Promise → TraceJob → ℕ
-ready_by promise job = job.arrival + promise.jitter
+ready_by promise job = max job.arrival (unwrap_or job.ready (job.arrival + promise.jitter))
 
--- what is seen of a job behind these, whose task has this level
-abbrev pub seen_job : Promise → ℕ → ℕ → List Piece → List TraceJob → TraceJob → Seen
-seen_job promise level end pieces before job =
+-- for how long it waits for sure
+abbrev pub waited_of : Promise → ℕ → TraceJob → ℕ
+waited_of promise end job = until_of end job - ready_by promise job
+
+-- how long after its arrival it was ready, where it says so
+abbrev pub delay_of : TraceJob → Option ℕ
+delay_of job = option_map (λ r. r - job.arrival) job.ready
+
+-- tasks below a level execute for longer, while a job waits, than they may
+abbrev pub is_blocked_past : List Task → Promise → ℕ → ℕ → List Piece → TraceJob → Bool
+is_blocked_past U promise level end pieces job =
+    nat_lt (promise.blocking + interrupts_within U (waited_of promise end job))
+    (time_in (Below level) (ready_by promise job) (until_of end job) pieces)
+
+-- who of them does so longest, and who of the others
+abbrev pub first_blocker : List Task → List Promise → Promise → ℕ → ℕ → List Piece → TraceJob → Option Culprit
+first_blocker U promises promise level end pieces job =
+    first_culprit (is_blocked_past U promise level end pieces job) promises (ready_by promise job)
+    (until_of end job) pieces level
+
+abbrev pub other_blocker : List Task → List Promise → Promise → ℕ → ℕ → List Piece → TraceJob → Option Culprit
+other_blocker U promises promise level end pieces job =
+    next_culprit (first_blocker U promises promise level end pieces job) promises
+    (ready_by promise job) (until_of end job) pieces level
+
+-- what is seen of a job of a set behind these, whose task has this level. What timers and interrupts may take of its whole
+-- time it may execute beside its cost; what they may take while it waits, it may be blocked for beside its blocking, and
+-- others may take, or nobody
+abbrev pub seen_job : List Task → List Promise → Promise → ℕ → ℕ → List Piece → List TraceJob → TraceJob → Seen
+seen_job U promises promise level end pieces before job =
     record {
       level = level;
       promise = promise;
       arrival = job.arrival;
-      gap = gap_since (last_arrival job.name before) job.arrival;
+      gap = gap_since (last_job job.name before) job.arrival;
+      closest = closest_to promise (last_job job.name before);
+      delay = delay_of job;
       is_finished = is_some job.finish;
       lasted = until_of end job - job.arrival;
       executed = time_in (Job (length before)) job.arrival (until_of end job) pieces;
+      may_execute = promise.cost + interrupts_within U (until_of end job - job.arrival);
       blocked = time_in (Below level) (ready_by promise job) (until_of end job) pieces;
-      blocker = first_name (Below level) (ready_by promise job) (until_of end job) pieces;
+      blocker = name_of (first_blocker U promises promise level end pieces job);
+      blocker_time = time_of (first_blocker U promises promise level end pieces job);
+      next_blocker = name_of (other_blocker U promises promise level end pieces job);
+      next_time = time_of (other_blocker U promises promise level end pieces job);
+      may_be_blocked = promise.blocking + interrupts_within U (waited_of promise end job);
       foreign = time_in Foreign (ready_by promise job) (until_of end job) pieces;
       stranger = first_name Foreign (ready_by promise job) (until_of end job) pieces;
       idle = until_of end job - ready_by promise job
           - time_in Anyone (ready_by promise job) (until_of end job) pieces;
+      may_be_taken = interrupts_within U (waited_of promise end job);
     }

@@ -4,7 +4,7 @@ use Rattle.std.specs.Option.{option_map}
 use Rattle.std.specs.List.{find}
 use Rattle.observed.specs.declared.pieces.Piece.{Piece}
 use Rattle.observed.specs.declared.shares.Whom.{Whom}
-use Rattle.observed.specs.declared.shares.Whom.TheVariants.{Job, Below, Foreign, Anyone}
+use Rattle.observed.specs.declared.shares.Whom.TheVariants.{Job, Level, Below, Foreign, Anyone}
 
 -- it is this number
 abbrev pub is_at : ℕ → Option ℕ → Bool
@@ -16,9 +16,10 @@ abbrev pub is_below : ℕ → Option ℕ → Bool
 is_below number None = false
 is_below number (Some other) = nat_lt other number
 
--- the piece is counted: one of a job, of the tasks below a level, of a thread that the set doesn't have, or any
+-- the piece is counted: one of a job, of the task of a level, of the tasks below one, of a thread that the set doesn't have, or any
 abbrev pub counts : Whom → Piece → Bool
 counts (Job place) piece = is_at place piece.job
+counts (Level level) piece = is_at level piece.level
 counts (Below level) piece = is_below level piece.level
 counts Foreign piece = is_none piece.level
 counts Anyone piece = true

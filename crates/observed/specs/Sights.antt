@@ -23,7 +23,7 @@ pub record IsShownAt (U : List Task) (places : List PlaceData) (lines : TraceLin
     (observed : Observed) : Type 0 where
   pub promises : observed.promises.items ≡ promises_of U places
   pub housed : observed_fault (promises_of U places) lines ≡ None
-  pub seen : observed.seen.items ≡ observed_in (promises_of U places) lines
+  pub seen : observed.seen.items ≡ observed_in U (promises_of U places) lines
 
 -- ---- in the best order
 -- what was read is a trace, and the places are those of the best order
@@ -39,7 +39,7 @@ pub record IsObserved (U : List Task) (found : Result (List TraceRow) ℕ) (obse
   pub inputs : AreInputs U found places lines
   pub promises : observed.promises.items ≡ promises_of U places
   pub housed : observed_fault (promises_of U places) lines ≡ None
-  pub seen : observed.seen.items ≡ observed_in (promises_of U places) lines
+  pub seen : observed.seen.items ≡ observed_in U (promises_of U places) lines
 
 -- what a reading shows of a set, or that no order of the set passes
 abbrev pub IsSightOf : List Task → Result (List TraceRow) ℕ → Sight → Type 0

@@ -1,7 +1,9 @@
 //! What a trace shows of the jobs of a set's tasks, beside what the set promises of them.
 #![tactic(auto)]
 
+mod culprits;
 mod end;
+mod interrupts;
 mod near;
 mod observing;
 mod pieces;
@@ -9,6 +11,7 @@ mod promises;
 mod seen;
 mod shares;
 mod sight;
+mod sweeps;
 
 pub use crate::observing::observe;
 pub use crate::pieces::Piece;

@@ -8,18 +8,20 @@ use crate::near::{behind, behind_next, near, rises};
 use crate::pieces::{Piece, homeless_line, level_of, pieces_of};
 use crate::promises::Promise;
 use crate::seen::{Seen, seen_job, until_of};
+use ceilings::Tabled;
 use std::alloc::{AllocError, Global};
 use trace_text::{TraceFault, TraceJob, TraceLines};
 
 // What is seen of each job of a task of the set.
 fn seen_jobs(
     alloc: Global,
+    set: &Tabled<'_>,
     promises: &[Promise],
     end: u64,
     pieces: &[Piece],
     jobs: &[TraceJob],
 ) -> Result<Vec<Seen>, AllocError>
-    ensures { IfOk result (λ seen. seen.items ≡ seen_jobs promises.now end pieces.now jobs.now) }
+    ensures { IfOk result (λ seen. seen.items ≡ seen_jobs set.now promises.now end pieces.now jobs.now) }
 {
     let sorted = rises(pieces);
     let mut seen = Vec::new(alloc);
@@ -31,7 +33,7 @@ fn seen_jobs(
         reached = job.arrival;
         if let Some(level) = level_of(promises, job.name) {
             let near = near(sorted, rest, until_of(end, job));
-            seen.push(seen_job(&promises[level], level, end, near, &jobs[..place], job))?;
+            seen.push(seen_job(set, promises, level, end, near, &jobs[..place], job))?;
         }
     }
     Ok(seen)
@@ -42,12 +44,13 @@ fn seen_jobs(
 /// that lies in no job of it, or as `OutOfMemory`.
 pub fn observe(
     alloc: Global,
+    set: &Tabled<'_>,
     promises: &[Promise],
     trace: &TraceLines,
 ) -> Result<Vec<Seen>, TraceFault>
     ensures { MatchResult result
         (λ seen. (observed_fault promises.now trace.now ≡ None)
-        × (seen.items ≡ observed_in promises.now trace.now))
+        × (seen.items ≡ observed_in set.now promises.now trace.now))
         (λ fault. IsTraceFault fault (observed_fault promises.now trace.now)) }
 {
     let pieces = pieces_of(alloc, promises, &trace.jobs, &trace.slices)?;
@@ -55,6 +58,6 @@ pub fn observe(
         return Err(TraceFault::NoJob { line });
     }
     let end = end_of(&trace.slices, &trace.jobs);
-    let seen = seen_jobs(alloc, promises, end, &pieces, &trace.jobs)?;
+    let seen = seen_jobs(alloc, set, promises, end, &pieces, &trace.jobs)?;
     Ok(seen)
 }

@@ -1,8 +1,10 @@
 //! Of which level and of which job a slice of a trace is.
-ghost use Rattle.std.specs.Prelude.{◌≡◌, ◌<◌, length, IfOk, IfSome};
+ghost use Rattle.std.specs.Prelude.{◌≡◌, ◌<◌, true, length, IfOk, IfSome};
 ghost use Rattle.observed.specs.Pieces.{homeless_line, is_homeless, is_of, job_of, level_of, piece_of, pieces_of};
+ghost use Rattle.observed.specs.Sweeps.{IsSwept};
 
 use crate::promises::Promise;
+use crate::sweeps::{job_from, jobs_rise, past_over, slices_rise};
 use std::alloc::{AllocError, Global};
 use task_sheet::Name;
 use trace_text::{TraceJob, TraceSlice};
@@ -28,7 +30,7 @@ pub(crate) fn level_of(promises: &[Promise], name: Name) -> Option<usize>
 }
 
 // The slice is of the job's task and lies between its arrival and its finish.
-fn is_of(job: TraceJob, slice: TraceSlice) -> bool
+pub(crate) fn is_of(job: TraceJob, slice: TraceSlice) -> bool
     ensures { result ≡ is_of slice job }
 {
     job.name == slice.name
@@ -43,12 +45,31 @@ fn job_of(jobs: &[TraceJob], slice: TraceSlice) -> Option<usize>
     jobs.iter().position(|job| is_of(*job, slice))
 }
 
+// The same, where jobs that stand in order before a place are known not to be.
+fn job_found(jobs: &[TraceJob], in_order: bool, first: usize, slice: &TraceSlice) -> Option<usize>
+    requires { in_order ≡ true → IsSwept jobs.now first slice.now }
+    ensures { result ≡ job_of jobs.now slice.now }
+{
+    if in_order {
+        job_from(jobs, first, slice)
+    } else {
+        job_of(jobs, *slice)
+    }
+}
+
 // A slice with its level and its job.
-fn piece_of(promises: &[Promise], jobs: &[TraceJob], slice: &TraceSlice) -> Piece
+fn piece_of(
+    promises: &[Promise],
+    jobs: &[TraceJob],
+    in_order: bool,
+    first: usize,
+    slice: &TraceSlice,
+) -> Piece
+    requires { in_order ≡ true → IsSwept jobs.now first slice.now }
     ensures { result ≡ piece_of promises.now jobs.now slice.now }
 {
     let level = level_of(promises, slice.name);
-    let job = job_of(jobs, *slice);
+    let job = job_found(jobs, in_order, first, slice);
     Piece {
         line: slice.line,
         name: slice.name,
@@ -69,8 +90,15 @@ pub(crate) fn pieces_of(
     ensures { IfOk result (λ pieces. pieces.items ≡ pieces_of promises.now jobs.now slices.now) }
 {
     let mut pieces = Vec::with_capacity(alloc, slices.len())?;
+    let in_order = jobs_rise(jobs) && slices_rise(slices);
+    let mut first = 0;
+    let mut reached = 0;
     for slice in slices {
-        pieces.push(piece_of(promises, jobs, slice))?;
+        if in_order {
+            reached = slice.start;
+            first = past_over(jobs, first, reached);
+        }
+        pieces.push(piece_of(promises, jobs, in_order, first, slice))?;
     }
     Ok(pieces)
 }

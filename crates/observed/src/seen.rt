@@ -1,15 +1,19 @@
 //! What a trace shows of a job.
-ghost use Rattle.std.specs.Prelude.{◌≡◌, ◌<◌};
-ghost use Rattle.observed.specs.Seen.{gap_since, last_arrival, seen_job, until_of};
+ghost use Rattle.std.specs.Prelude.{◌≡◌, ◌<◌, ◌≤◌, length, slice_index_or};
+ghost use Rattle.observed.specs.Promises.{no_promise};
+ghost use Rattle.observed.specs.Seen.{closest_to, delay_of, gap_since, last_job, ready_by, seen_job, until_of, waited_of};
 
+use crate::culprits::{first_culprit, name_of, next_culprit, time_of};
+use crate::interrupts::interrupts_within;
 use crate::pieces::Piece;
 use crate::promises::Promise;
 use crate::shares::{Whom, first_name, time_in};
+use ceilings::Tabled;
 use task_sheet::Name;
 use trace_text::TraceJob;
 
-/// What a trace shows of a job of a task of the set, in microseconds. It waits for sure from when it is ready at the
-/// latest, its task's jitter after its arrival, up to its finish, or to the end of the trace.
+/// What a trace shows of a job of a task of the set, in microseconds. It waits for sure from when it is ready,
+/// at the latest its task's jitter after its arrival, up to its finish, or to the end of the trace.
 #[derive(Clone, Copy)]
 pub struct Seen {
     /// Of its task, counted from 0, the lowest.
@@ -19,42 +23,73 @@ pub struct Seen {
     pub arrival: u64,
     /// From the arrival before of its task.
     pub gap: Option<u64>,
+    /// The least that it may be: the arrival before may be seen late by the jitter, where it isn't said when its job was ready.
+    pub closest: u64,
+    /// How long after its arrival it was ready, where that is said.
+    pub delay: Option<u64>,
     pub is_finished: bool,
     /// From its arrival to its finish, or to the end of the trace.
     pub lasted: u64,
     /// For how long it executed.
     pub executed: u128,
+    /// For how long it may: for its cost, and for what timers and interrupts may take in that time.
+    pub may_execute: u128,
     /// For how long tasks below executed while it waited.
     pub blocked: u128,
-    /// The first of them.
+    /// Where that is more: who of them did so longest, the lowest of equals, and who of the others, and for how long.
     pub blocker: Option<Name>,
+    pub blocker_time: u128,
+    pub next_blocker: Option<Name>,
+    pub next_time: u128,
+    /// For how long they may: for its blocking, and for what timers and interrupts may take while it waits.
+    pub may_be_blocked: u128,
     /// For how long threads executed, while it waited, that the set doesn't have.
     pub foreign: u128,
     /// The first of them.
     pub stranger: Option<Name>,
     /// For how long nobody executed while it waited.
     pub idle: u128,
+    /// What timers and interrupts may take while it waits: for how long such threads, and nobody, may execute in all.
+    pub may_be_taken: u128,
 }
 
-// When the last of these jobs that is of the task with a name arrived.
-fn last_arrival(jobs: &[TraceJob], name: Name) -> Option<u64>
-    ensures { result ≡ last_arrival name jobs.now }
+// The last of these jobs that is of the task with a name.
+fn last_job(jobs: &[TraceJob], name: Name) -> Option<TraceJob>
+    ensures { result ≡ last_job name jobs.now }
 {
-    let mut last = None;
-    for job in jobs {
+    let mut place = jobs.len();
+    while 0 < place {
+        place -= 1;
+        let job = &jobs[place];
         if job.name == name {
-            last = Some(job.arrival);
+            return Some(*job);
         }
     }
-    last
+    None
 }
 
-// A time from another, if there is one.
-fn gap_since(before: Option<u64>, time: u64) -> Option<u64>
+// A time from the arrival of a job, if there is one.
+fn gap_since(before: Option<TraceJob>, time: u64) -> Option<u64>
     ensures { result ≡ gap_since before time }
 {
     let before = before?;
-    Some(time.saturating_sub(before))
+    Some(time.saturating_sub(before.arrival))
+}
+
+// The least time between two arrivals as they are seen, of which this is the first's job.
+fn closest_to(promise: &Promise, before: &Option<TraceJob>) -> u64
+    ensures { result ≡ closest_to promise.now before.now }
+{
+    match before {
+        None => promise.period,
+        Some(before) => {
+            if before.ready.is_some() {
+                promise.period
+            } else {
+                promise.period.saturating_sub(promise.jitter)
+            }
+        }
+    }
 }
 
 // When a job finished, or the end of the trace.
@@ -64,34 +99,82 @@ pub(crate) fn until_of(end: u64, job: &TraceJob) -> u64
     job.finish.unwrap_or(end)
 }
 
-// What is seen of the job at a place, whose task has this level, with the jobs before it.
+// When a job is ready, at the latest.
+fn ready_by(promise: &Promise, job: &TraceJob) -> u128
+    ensures { result ≡ ready_by promise.now job.now }
+{
+    match job.ready {
+        Some(ready) => u128::from(job.arrival.max(ready)),
+        None => u128::from(job.arrival) + u128::from(promise.jitter),
+    }
+}
+
+// For how long a job waits for sure.
+fn waited_of(promise: &Promise, end: u64, job: &TraceJob) -> u64
+    ensures { result ≡ waited_of promise.now end job.now }
+{
+    let lasted = until_of(end, job).saturating_sub(job.arrival);
+    match job.ready {
+        Some(ready) => until_of(end, job).saturating_sub(job.arrival.max(ready)),
+        None => lasted.saturating_sub(promise.jitter),
+    }
+}
+
+// How long after its arrival a job was ready, where it says so.
+fn delay_of(job: &TraceJob) -> Option<u64>
+    ensures { result ≡ delay_of job.now }
+{
+    let ready = job.ready?;
+    Some(ready.saturating_sub(job.arrival))
+}
+
+// What is seen of the job of a set at a place, whose task has this level, with the jobs before it.
 pub(crate) fn seen_job(
-    promise: &Promise,
+    set: &Tabled<'_>,
+    promises: &[Promise],
     level: usize,
     end: u64,
     pieces: &[Piece],
     before: &[TraceJob],
     job: &TraceJob,
 ) -> Seen
-    ensures { result ≡ seen_job promise.now level end pieces.now before.now job.now }
+    requires { level < length promises.now }
+    ensures { result ≡ seen_job set.now promises.now (slice_index_or promises.now level no_promise) level end pieces.now before.now job.now }
 {
-    let ready = u128::from(job.arrival) + u128::from(promise.jitter);
+    let promise = &promises[level];
+    let ready = ready_by(promise, job);
     let until = until_of(end, job);
     let to = u128::from(until);
+    let lasted = until.saturating_sub(job.arrival);
+    let taken = interrupts_within(set, waited_of(promise, end, job));
+    let last = last_job(before, job.name);
+    let closest = closest_to(promise, &last);
+    let blocked = time_in(Whom::Below(level), ready, to, pieces);
+    let may_be_blocked = u128::from(promise.blocking) + taken;
+    let first = first_culprit(may_be_blocked < blocked, promises, ready, to, pieces, level);
+    let next = next_culprit(&first, promises, ready, to, pieces, level);
     Seen {
         level,
-        promise: *promise,
+        promise: promises[level],
         arrival: job.arrival,
-        gap: gap_since(last_arrival(before, job.name), job.arrival),
+        gap: gap_since(last, job.arrival),
+        closest,
+        delay: delay_of(job),
         is_finished: job.finish.is_some(),
-        lasted: until.saturating_sub(job.arrival),
+        lasted,
         executed: time_in(Whom::Job(before.len()), u128::from(job.arrival), to, pieces),
-        blocked: time_in(Whom::Below(level), ready, to, pieces),
-        blocker: first_name(Whom::Below(level), ready, to, pieces),
+        may_execute: u128::from(promise.cost) + interrupts_within(set, lasted),
+        blocked,
+        may_be_blocked,
+        blocker: name_of(&first),
+        blocker_time: time_of(&first),
+        next_blocker: name_of(&next),
+        next_time: time_of(&next),
         foreign: time_in(Whom::Foreign, ready, to, pieces),
         stranger: first_name(Whom::Foreign, ready, to, pieces),
         idle: to
             .saturating_sub(ready)
             .saturating_sub(time_in(Whom::Anyone, ready, to, pieces)),
+        may_be_taken: taken,
     }
 }

@@ -10,6 +10,8 @@ use task_sheet::Name;
 pub(crate) enum Whom {
     /// Those of the job at a place.
     Job(usize),
+    /// Those of the task of a level.
+    Level(usize),
     /// Those of the tasks below a level.
     Below(usize),
     /// Those of threads that the set doesn't have.
@@ -18,7 +20,7 @@ pub(crate) enum Whom {
 }
 
 // It is this number.
-fn is_at(number: usize, some: Option<usize>) -> bool
+pub(crate) fn is_at(number: usize, some: Option<usize>) -> bool
     ensures { result ≡ is_at number some }
 {
     match some {
@@ -43,6 +45,7 @@ fn counts(whom: Whom, piece: &Piece) -> bool
 {
     match whom {
         Whom::Job(place) => is_at(place, piece.job),
+        Whom::Level(level) => is_at(level, piece.level),
         Whom::Below(level) => is_below(level, piece.level),
         Whom::Foreign => piece.level.is_none(),
         Whom::Anyone => true,

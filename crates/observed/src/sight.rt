@@ -47,7 +47,7 @@ pub fn observe_places(
         (observed_fault (promises_of set.now places.now) trace.now)) }
 {
     let promises = promises_of(alloc, set, places)?;
-    let seen = observe(alloc, &promises, trace)?;
+    let seen = observe(alloc, set, &promises, trace)?;
     Ok(Observed { promises, seen })
 }
 

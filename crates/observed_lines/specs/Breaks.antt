@@ -12,37 +12,51 @@ abbrev pub is_short : ℕ → Option ℕ → ℕ → Bool
 is_short tolerance None limit = false
 is_short tolerance (Some time) limit = nat_lt tolerance (limit - time)
 
--- it executed longer than its cost
-abbrev pub breaks_cost : ℕ → Seen → Bool
-breaks_cost tolerance s = is_past tolerance s.executed s.promise.cost
+-- what is left for nobody of what may be taken while it waits, beside what others took
+abbrev pub may_idle : Seen → ℕ
+may_idle s = s.may_be_taken - s.foreign
 
--- it arrived sooner than a period after the one before it of its task
+-- a time, if there is one, is past a limit by more than the tolerance
+abbrev pub is_over : ℕ → Option ℕ → ℕ → Bool
+is_over tolerance None limit = false
+is_over tolerance (Some time) limit = is_past tolerance time limit
+
+-- it executed longer than it may
+abbrev pub breaks_cost : ℕ → Seen → Bool
+breaks_cost tolerance s = is_past tolerance s.executed s.may_execute
+
+-- it arrived sooner after the one before it of its task than it may
 abbrev pub breaks_period : ℕ → Seen → Bool
-breaks_period tolerance s = is_short tolerance s.gap s.promise.period
+breaks_period tolerance s = is_short tolerance s.gap s.closest
+
+-- it was ready later after its arrival than its jitter
+abbrev pub breaks_jitter : ℕ → Seen → Bool
+breaks_jitter tolerance s = is_over tolerance s.delay s.promise.jitter
 
 -- it took longer than its bound, or isn't done and its bound is past
 abbrev pub breaks_bound : ℕ → Seen → Bool
 breaks_bound tolerance s = is_past tolerance s.lasted s.promise.bound
 
--- while it waited, tasks below it executed for longer than its blocking
+-- while it waited, tasks below it executed for longer than they may
 abbrev pub breaks_blocking : ℕ → Seen → Bool
-breaks_blocking tolerance s = is_past tolerance s.blocked s.promise.blocking
+breaks_blocking tolerance s = is_past tolerance s.blocked s.may_be_blocked
 
--- while it waited, threads executed that the set doesn't have
+-- while it waited, threads executed that the set doesn't have, for longer than what may be taken
 abbrev pub breaks_foreign : ℕ → Seen → Bool
-breaks_foreign tolerance s = is_past tolerance s.foreign 0
+breaks_foreign tolerance s = is_past tolerance s.foreign s.may_be_taken
 
--- while it waited, nobody executed
+-- while it waited, nobody executed for longer than what is left of that
 abbrev pub breaks_idle : ℕ → Seen → Bool
-breaks_idle tolerance s = is_past tolerance s.idle 0
+breaks_idle tolerance s = is_past tolerance s.idle (may_idle s)
 
 -- a job breaks some promise
 abbrev pub breaks_any : ℕ → Seen → Bool
 breaks_any tolerance s =
     breaks_cost tolerance s
     || (breaks_period tolerance s
+    || (breaks_jitter tolerance s
     || (breaks_bound tolerance s
-    || (breaks_blocking tolerance s || (breaks_foreign tolerance s || breaks_idle tolerance s))))
+    || (breaks_blocking tolerance s || (breaks_foreign tolerance s || breaks_idle tolerance s)))))
 
 -- no job does
 abbrev pub is_kept : ℕ → List Seen → Bool

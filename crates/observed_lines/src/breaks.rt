@@ -1,14 +1,14 @@
 //! Which promises a job breaks. Each is broken where it is missed by more than the tolerance.
 ghost use Rattle.std.specs.Prelude.{◌≡◌};
-ghost use Rattle.observed_lines.specs.Breaks.{breaks_any, breaks_blocking, breaks_bound, breaks_cost, breaks_foreign, breaks_idle, breaks_period, is_kept, is_past, is_short};
+ghost use Rattle.observed_lines.specs.Breaks.{breaks_any, breaks_blocking, breaks_bound, breaks_cost, breaks_foreign, breaks_idle, breaks_jitter, breaks_period, is_kept, is_over, is_past, is_short, may_idle};
 
 use observed::Seen;
 
 // A time is past a limit by more than the tolerance.
-fn is_past(tolerance: u64, time: u128, limit: u64) -> bool
+fn is_past(tolerance: u64, time: u128, limit: u128) -> bool
     ensures { result ≡ is_past tolerance time limit }
 {
-    u128::from(tolerance) < time.saturating_sub(u128::from(limit))
+    u128::from(tolerance) < time.saturating_sub(limit)
 }
 
 // A time, if there is one, is short of a limit by more than the tolerance.
@@ -21,46 +21,74 @@ fn is_short(tolerance: u64, time: Option<u64>, limit: u64) -> bool
     }
 }
 
-// It executed longer than its cost.
+// A time, if there is one, is past a limit by more than the tolerance.
+fn is_over(tolerance: u64, time: Option<u64>, limit: u64) -> bool
+    ensures { result ≡ is_over tolerance time limit }
+{
+    match time {
+        Some(time) => is_past(tolerance, u128::from(time), u128::from(limit)),
+        None => false,
+    }
+}
+
+// What is left for nobody of what may be taken while it waits.
+pub(crate) fn may_idle(seen: &Seen) -> u128
+    ensures { result ≡ may_idle seen.now }
+{
+    seen.may_be_taken.saturating_sub(seen.foreign)
+}
+
+// It executed longer than it may.
 pub(crate) fn breaks_cost(tolerance: u64, seen: &Seen) -> bool
     ensures { result ≡ breaks_cost tolerance seen.now }
 {
-    is_past(tolerance, seen.executed, seen.promise.cost)
+    is_past(tolerance, seen.executed, seen.may_execute)
 }
 
-// It arrived sooner than a period after the one before it.
+// It arrived sooner after the one before it than it may.
 pub(crate) fn breaks_period(tolerance: u64, seen: &Seen) -> bool
     ensures { result ≡ breaks_period tolerance seen.now }
 {
-    is_short(tolerance, seen.gap, seen.promise.period)
+    is_short(tolerance, seen.gap, seen.closest)
+}
+
+// It was ready later after its arrival than its jitter.
+pub(crate) fn breaks_jitter(tolerance: u64, seen: &Seen) -> bool
+    ensures { result ≡ breaks_jitter tolerance seen.now }
+{
+    is_over(tolerance, seen.delay, seen.promise.jitter)
 }
 
 // It took longer than its bound, or isn't done and its bound is past.
 pub(crate) fn breaks_bound(tolerance: u64, seen: &Seen) -> bool
     ensures { result ≡ breaks_bound tolerance seen.now }
 {
-    is_past(tolerance, u128::from(seen.lasted), seen.promise.bound)
+    is_past(
+        tolerance,
+        u128::from(seen.lasted),
+        u128::from(seen.promise.bound),
+    )
 }
 
-// While it waited, tasks below it executed for longer than its blocking.
+// While it waited, tasks below it executed for longer than they may.
 pub(crate) fn breaks_blocking(tolerance: u64, seen: &Seen) -> bool
     ensures { result ≡ breaks_blocking tolerance seen.now }
 {
-    is_past(tolerance, seen.blocked, seen.promise.blocking)
+    is_past(tolerance, seen.blocked, seen.may_be_blocked)
 }
 
-// While it waited, threads executed that the set doesn't have.
+// While it waited, threads executed that the set doesn't have, for longer than what may be taken.
 pub(crate) fn breaks_foreign(tolerance: u64, seen: &Seen) -> bool
     ensures { result ≡ breaks_foreign tolerance seen.now }
 {
-    is_past(tolerance, seen.foreign, 0)
+    is_past(tolerance, seen.foreign, seen.may_be_taken)
 }
 
-// While it waited, nobody executed.
+// While it waited, nobody executed for longer than what is left of that.
 pub(crate) fn breaks_idle(tolerance: u64, seen: &Seen) -> bool
     ensures { result ≡ breaks_idle tolerance seen.now }
 {
-    is_past(tolerance, seen.idle, 0)
+    is_past(tolerance, seen.idle, may_idle(seen))
 }
 
 /// Whether a job breaks a promise.
@@ -69,6 +97,7 @@ pub fn breaks_any(tolerance: u64, seen: &Seen) -> bool
 {
     breaks_cost(tolerance, seen)
         || breaks_period(tolerance, seen)
+        || breaks_jitter(tolerance, seen)
         || breaks_bound(tolerance, seen)
         || breaks_blocking(tolerance, seen)
         || breaks_foreign(tolerance, seen)

@@ -7,7 +7,7 @@ use ceiling_kernel::JobRecord;
 use task_sheet::Name;
 
 /// Jobs of a task: how many they are, and when the last of them arrives, in microseconds.
-#[derive(Clone, Copy, Debug, PartialEq, Eq)]
+#[derive(Clone, Copy)]
 pub struct Band {
     pub count: usize,
     pub latest: u64,

@@ -7,9 +7,8 @@ use Rattle.std.specs.FinSet.{contains}
 use Rattle.std.proofs.lemmas.Bool.{both_ways, cases_Bool}
 use Rattle.task_sheet.specs.Sheet.{Task}
 use Rattle.assignment.specs.Questions.{QuestionData, FindingData}
-use Rattle.drafts.specs.declared.roster.Owned.{Owned}
 use Rattle.drafts.specs.declared.change.Refusal.{Refusal}
-use Rattle.drafts.specs.Applied.{set_of}
+use Rattle.drafts.specs.Applied.{OnNode, set_of}
 use Rattle.drafts.specs.Edits.{on_base}
 use Rattle.desk_core.specs.declared.told.Told.{Told}
 use Rattle.desk_core.specs.declared.told.Told.TheVariants as told
@@ -26,9 +25,9 @@ use Rattle.desk_core.proofs.FindingLaws.{IsPresent-one}
 use Rattle.desk_core.proofs.OpenLaws.{open_of, open-news}
 
 -- how many findings the test of a draft can still take, at most
-left_on : Result (List Owned) Refusal → List Asked → ℕ
+left_on : Result OnNode Refusal → List Asked → ℕ
 left_on (Err refusal) found = 0
-left_on (Ok tasks) found = open_of (set_of tasks) found
+left_on (Ok node) found = open_of (set_of node) found
 
 pub left_of : Option Live → ℕ
 left_of None = 0
@@ -60,13 +59,13 @@ told-more U found q k told.Taken asked is = refl
 told-more U found q k (told.LevelDone level task response) asked is = refl
 told-more U found q k told.Tested asked is = refl
 
-found-less : (outcome : Result (List Owned) Refusal) (found after : List Asked) (q : QuestionData)
+found-less : (outcome : Result OnNode Refusal) (found after : List Asked) (q : QuestionData)
     (r : Reply) → IsStandingOn outcome found (Asking q) → IsFound outcome found q r after
     → left_on outcome after < left_on outcome found
 unfolding left_on
 found-less (Err refusal) found after q r standing is = absurd cc
-found-less (Ok tasks) found after q r standing is =
-    let U = set_of tasks in
+found-less (Ok node) found after q r standing is =
+    let U = set_of node in
     let asked = standing.1 in
     let news : IsNews U found q standing.0 =
     record { present = asked.present; asked = asked.asked; missing = asked.missing } in

@@ -2,9 +2,8 @@
 use Rattle.std.specs.Prelude.{◌≡◌, ◌⊎◌, ℕ, List, [], ◌∷◌, ◌++◌, map, Option, Some, None, Result, Ok, Err, option_map, codes}
 use Rattle.task_sheet.specs.Verdicts.{LevelData, IsBestOrder}
 use Rattle.assignment.specs.Questions.{FindingData}
-use Rattle.drafts.specs.declared.roster.Owned.{Owned}
 use Rattle.drafts.specs.declared.change.Refusal.{Refusal}
-use Rattle.drafts.specs.Applied.{set_of}
+use Rattle.drafts.specs.Applied.{OnNode, set_of}
 use Rattle.drafts.specs.Edits.{on_base}
 use Rattle.drafts.specs.Machine.{MachineState}
 use Rattle.desk_core.specs.declared.events.Cause.{Cause}
@@ -27,9 +26,9 @@ abbrev pub Answers : World → Event → World → List ℕ → Type 0
 Answers w e v text = (r : Reply) × Happens w e r v × (text ≡ printed r)
 
 -- ---- a finding of a draft's present level
-abbrev pub no_levels_on : Result (List Owned) Refusal → Option Cause
+abbrev pub no_levels_on : Result OnNode Refusal → Option Cause
 no_levels_on (Err refusal) = Some cause.Untestable
-no_levels_on (Ok tasks) = None
+no_levels_on (Ok node) = None
 
 -- why a draft has no levels
 abbrev pub no_levels : Option Live → Option Cause
@@ -126,8 +125,8 @@ IsLedBy w events v = (replies : List Reply) × IsRun w events replies v
 -- the book: its version and the best order of its tasks
 abbrev pub IsBookText : MachineState → List ℕ → Type 0
 IsBookText desk text =
-    (levels : List LevelData) × IsBestOrder (set_of desk.tasks) levels
-    × (text ≡ state_lines desk.version desk.tasks levels)
+    (levels : List LevelData) × IsBestOrder (set_of desk.node) levels
+    × (text ≡ state_lines desk.version desk.node levels)
 
 -- all lines are played from an empty desk on, and then the book, which is legal, is printed
 abbrev pub PlaysAll : World → List Line → List ℕ → Type 0

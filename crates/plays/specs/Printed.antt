@@ -8,7 +8,7 @@ use Rattle.drafts.specs.declared.draft.EditRefusal.{EditRefusal}
 use Rattle.drafts.specs.declared.change.Refusal.{Refusal}
 use Rattle.drafts.specs.declared.change.Refusal.TheVariants as refusal
 use Rattle.drafts.specs.declared.roster.Owned.{Owned}
-use Rattle.drafts.specs.Applied.{held, set_of}
+use Rattle.drafts.specs.Applied.{OnNode, held, set_of}
 use Rattle.drafts.specs.Machine.{Ruling, Admitted, Refused, Infeasible}
 use Rattle.desk_core.specs.World.{cause_of}
 use Rattle.desk_core.specs.declared.events.Cause.{Cause}
@@ -50,6 +50,7 @@ abbrev pub refusal_words : Refusal → List ℕ
 refusal_words (refusal.NotYours name) = codes "NotYours " ++ name
 refusal_words (refusal.NoSuchTask name) = codes "NoSuchTask " ++ name
 refusal_words refusal.TooManyTasks = codes "TooManyTasks"
+refusal_words refusal.TooManyInterrupts = codes "TooManyInterrupts"
 
 -- a commit is decided
 abbrev pub ruling_line : Ruling → List ℕ
@@ -91,20 +92,20 @@ holder tasks None = None
 holder tasks (Some task) = option_map (λ o. o.team) (held task.name tasks)
 
 -- a level of the book: its task, the team that holds it, and the response
-abbrev pub held_line : List Owned → ℕ → LevelData → List ℕ
-held_line tasks number level =
-    codes "level " ++ decimal number ++ codes " " ++ name_at (set_of tasks) level.task
+abbrev pub held_line : OnNode → ℕ → LevelData → List ℕ
+held_line node number level =
+    codes "level " ++ decimal number ++ codes " " ++ name_at (set_of node) level.task
     ++ codes " "
-    ++ team_text (holder tasks (slice_get (set_of tasks) level.task)) ++ codes " "
+    ++ team_text (holder node.tasks (slice_get (set_of node) level.task)) ++ codes " "
     ++ decimal level.response ++ codes "\n"
 
 -- a line for each level, of which the first has a number
-abbrev pub held_lines : List Owned → ℕ → List LevelData → List ℕ
-held_lines tasks number [] = []
-held_lines tasks number (level ∷ levels) =
-    held_line tasks number level ++ held_lines tasks (number + 1) levels
+abbrev pub held_lines : OnNode → ℕ → List LevelData → List ℕ
+held_lines node number [] = []
+held_lines node number (level ∷ levels) =
+    held_line node number level ++ held_lines node (number + 1) levels
 
 -- the version, and the levels from the lowest up
-abbrev pub state_lines : ℕ → List Owned → List LevelData → List ℕ
-state_lines version tasks levels =
-    codes "version " ++ decimal version ++ codes "\n" ++ held_lines tasks 1 levels
+abbrev pub state_lines : ℕ → OnNode → List LevelData → List ℕ
+state_lines version node levels =
+    codes "version " ++ decimal version ++ codes "\n" ++ held_lines node 1 levels

@@ -89,6 +89,7 @@ fn refusal_text(alloc: Global, refusal: Refusal) -> Result<String, AllocError>
         Refusal::NotYours { name } => format!(in alloc; "refused NotYours {name}\n"),
         Refusal::NoSuchTask { name } => format!(in alloc; "refused NoSuchTask {name}\n"),
         Refusal::TooManyTasks => String::from_str(alloc, "refused TooManyTasks\n"),
+        Refusal::TooManyInterrupts => String::from_str(alloc, "refused TooManyInterrupts\n"),
     }
 }
 
@@ -148,7 +149,7 @@ pub(crate) fn reply_text(alloc: Global, reply: &Reply) -> Result<String, AllocEr
 
 // The team that holds the name of the task at an index.
 fn holder_of(state: &NodeState, task: usize) -> Option<Team>
-    ensures { result ≡ holder state.now.tasks (slice_get (set_of state.now.tasks) task) }
+    ensures { result ≡ holder state.now.node.tasks (slice_get (set_of state.now.node) task) }
 {
     let sheet = state.set().get(task)?;
     state.team_of(sheet.name())
@@ -175,7 +176,7 @@ fn push_level(
     level: &LevelRecord,
 ) -> Result<(), AllocError>
     ensures { OnOk result (string_bytes text.new
-        ≡ string_bytes text.old ++ held_line state.now.tasks number level.now) }
+        ≡ string_bytes text.old ++ held_line state.now.node number level.now) }
 {
     let response = level.response;
     write!(text, "level {number} ")?;

@@ -23,10 +23,10 @@ use Rattle.observed.specs.declared.sight.Sight.{Sight}
 use Rattle.observed.specs.declared.sight.Sight.TheVariants.{Infeasible, Seen}
 use Rattle.observed_lines.specs.Breaks.{is_kept}
 use Rattle.observed_lines.specs.Broken.{broken_lines}
-use Rattle.kept_promises.specs.Kept.{Keeps}
+use Rattle.kept_promises.specs.Kept.{KeepsToDemand}
 use Rattle.kept_promises.specs.OfRuns.{AreOfRun}
 use Rattle.kept_promises.proofs.BreakLaws.{all_are_kept, none_written}
-use Rattle.kept_promises.proofs.SeenLaws.{all_seen, housed, keeps}
+use Rattle.kept_promises.proofs.SeenLaws.{all_seen, housed, keeps_to_demand}
 use Rattle.printed_runs.specs.Clean.{IsClean, IsForRoom}
 use Rattle.printed_runs.specs.TraceLines.{trace_lines}
 use Rattle.printed_runs.proofs.RunLaws.{in_order, says}
@@ -59,11 +59,11 @@ module _ (U : List Task) (places : List PlaceData) (rs : List Release) (until : 
   clean tolerance (Seen shown) is =
       let run : AreOfRun U is.places is.lines =
       of_run is.places is.lines is.inputs.best is.inputs.read in
-      let kept = all_seen run Keeps (keeps run) in (
+      let kept = all_seen run KeepsToDemand (keeps_to_demand run) in (
         subst (λ (seen : List SeenData). is_kept tolerance seen ≡ true) (sym is.seen)
-            (all_are_kept tolerance (observed_in (promises_of U is.places) is.lines) kept),
+            (all_are_kept tolerance (observed_in U (promises_of U is.places) is.lines) kept),
         subst (λ (seen : List SeenData). broken_lines tolerance seen ≡ []) (sym is.seen)
-            (none_written tolerance (observed_in (promises_of U is.places) is.lines) kept),
+            (none_written tolerance (observed_in U (promises_of U is.places) is.lines) kept),
       )
 
   -- of faults of the text, there is only want of room

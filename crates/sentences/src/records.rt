@@ -14,7 +14,7 @@ pub fn of_certificate(alloc: Global, bytes: &[u8], fault: CertFault) -> Option<S
     let mut told = Told::new(alloc);
     match fault {
         CertFault::BadHead => {
-            told.words("line 1 has to be desk-certificate 1, 2 or 3");
+            told.words("line 1 has to be desk-certificate 1, 2 or 4");
             told.quoted("; it is ", line_at(bytes, 1));
             tell_unseen(&mut told, bytes, 1);
         }
@@ -47,7 +47,7 @@ pub fn of_check(
     let mut told = Told::new(alloc);
     match fault {
         CheckFault::WrongVersion => told.words(
-            "its version is too low: a set with release of [node] or an interrupt needs 3, another one with jitter, late of [node] or outranks 2",
+            "its version doesn't serve for this set: one with release of [node] or an interrupt needs 4, and no other takes it; else one with jitter, late of [node] or outranks needs 2",
         ),
         CheckFault::WrongTasks { level } => tell_tasks(&mut told, level),
         CheckFault::BadPass { level } => tell_pass(&mut told, bytes, set, level),

@@ -71,7 +71,7 @@ fn end_text(alloc: Global, listing: &Listing<'_>, is_silent: bool) -> Result<Str
         IfOk result (λ text. (last : List ℕ) × IsLast listing.now.set (places_in placing) last
         × (string_bytes text ≡ alone_line is_silent placing ++ last)) }
 {
-    let last = last_text(alloc, listing.set.tasks(), listing.placing, &listing.order)?;
+    let last = last_text(alloc, &listing.set, listing.placing, &listing.order)?;
     match listing.placing {
         Placing::Best(_) => Ok(last),
         Placing::Stuck(_) => {

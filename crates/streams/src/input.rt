@@ -17,7 +17,7 @@ const TURN_LIMIT: usize = 33_554_432;
 const CHUNK: usize = 16_384;
 
 /// Why an input was not read.
-#[derive(Clone, Copy, Debug, PartialEq, Eq)]
+#[derive(Clone, Copy)]
 pub enum InputFault {
     /// It has more than 16,777,216 bytes.
     TooLong,

@@ -10,7 +10,7 @@ use std::io::{ErrorKind, Read, Write};
 use std::marker::Model;
 
 /// Why a read gave no bytes.
-#[derive(Clone, Copy, Debug, PartialEq, Eq)]
+#[derive(Clone, Copy)]
 pub enum ReadFault {
     /// It was interrupted, and may be tried again.
     Interrupted,
@@ -19,7 +19,7 @@ pub enum ReadFault {
 }
 
 /// The writer failed; how much of the bytes went out is open.
-#[derive(Clone, Copy, Debug, PartialEq, Eq)]
+#[derive(Clone, Copy)]
 pub struct WriteFailed;
 
 /// A reader or a writer, and what became of its calls.

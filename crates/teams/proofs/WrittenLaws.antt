@@ -1,9 +1,9 @@
 -- What a text says as it is written, and with what its node takes: numbers and interrupts within the limits, and documents of the
 -- same set, preference, node and interrupts as one answer.
 use Rattle.std.proofs.Common.{◌≡◌, ◌∙◌, ℕ, inl, inr, Bool, true, false, List, [], ◌∷◌, length}
-use Rattle.std.proofs.Common.{Option, Some, None, IfSome, option_map, All, Ok, sym, ap, subst}
+use Rattle.std.proofs.Common.{Option, Some, None, IfSome, option_map, All, Ok, sym, ap}
 use Rattle.std.proofs.Common.{arith, Result, Err, refl}
-use Rattle.std.proofs.lemmas.List.Elements.{All-nil, All-append}
+use Rattle.std.proofs.lemmas.List.Elements.{All-append, All-from_recursion, All-nil}
 use Rattle.std.specs.List.{AllByRecursion}
 use Rattle.std.specs.Option.{option_or}
 use Rattle.task_sheet.specs.Sheet.{Task, AreOverheads, IsInterrupt}
@@ -13,6 +13,7 @@ use Rattle.task_sheet.specs.declared.node.Interrupt.{Interrupt}
 use Rattle.task_sheet.specs.declared.read.Document.{Document}
 use Rattle.task_sheet.proofs.WithinLimits.{says_within}
 use Rattle.teams.specs.Agreeing.{first_saying, interrupts_by, node_by, said_by}
+use Rattle.teams.specs.Budgets.{AreSound}
 use Rattle.teams.specs.Owned.{TeamSetData}
 use Rattle.teams.specs.ReadsTeams.{AreRead, UnitesAll}
 use Rattle.teams.specs.ReadsText.{ReadsEither, ReadsWritten, is_gathered, Pads, ReadsText}
@@ -28,6 +29,14 @@ each_within [] [] all = tt
 each_within (p ∷ ps) (s ∷ sets) all =
     (says_within p.text.now s.set s.prefers s.node s.interrupts all.0.1, each_within ps sets all.1)
 each_within ps sets all = absurd all
+
+pub sound_sets : (ps : List Part) (sets : List TeamSetData) → AreRead ps sets → AreSound sets
+sound_sets ps sets all = All-from_recursion (λ s. All IsInterrupt s.interrupts) sets (by sets (each_within ps sets all))
+  where
+    by : (xs : List TeamSetData) → AllByRecursion (λ s. AreWithinLimits s.node s.interrupts) xs
+        → AllByRecursion (λ s. All IsInterrupt s.interrupts) xs
+    by [] all = tt
+    by (x ∷ xs) all = (all.0.interrupts.valid, by xs all.1)
 
 node_within : (sets : List TeamSetData) → AllByRecursion (λ s. AreWithinLimits s.node s.interrupts)
     sets → IfSome (node_by sets) AreOverheads

@@ -1,23 +1,41 @@
 -- What a team takes of a node, beside what it may take.
-use Rattle.std.specs.Prelude.{◌≡◌, ℕ, ◌*◌, ◌≤◌, nat_lt, Bool, true, ◌&&◌, not, List, [], ◌∷◌, Option, Some, None, sum_by, if◌then◌else◌}
+use Rattle.std.specs.Prelude.{◌≡◌, ℕ, ◌*◌, ◌≤◌, nat_lt, Bool, true, ◌&&◌, not, List, [], ◌∷◌, ◌++◌, map, All, Option, Some, None, if◌then◌else◌}
 use Rattle.std.specs.Int.{div_ceil}
 use Rattle.std.specs.List.{list_any}
 use Rattle.std.specs.Option.{option_or}
-use Rattle.task_sheet.specs.Sheet.{CriticalSection, Task, same_bytes}
+use Rattle.task_sheet.specs.Sheet.{CriticalSection, IsInterrupt, Task, same_bytes}
 use Rattle.task_sheet.specs.Demand.{greatest_of}
 use Rattle.task_sheet.specs.Locks.{shares_lock}
-use Rattle.explain.specs.Load.{share_of}
+use Rattle.task_sheet.specs.declared.node.Interrupt.{Interrupt}
 use Rattle.teams.specs.Owned.{OwnedData, TeamSetData, owned_all}
+use Rattle.teams.specs.Shares.{costs_of, periods_of}
+use Rattle.teams.specs.declared.shares.Share.{Share}
 use Rattle.teams.specs.declared.node.Budget.{Budget}
-use Rattle.teams.specs.declared.node.Quantity.{Quantity}
 use Rattle.teams.specs.declared.node.Quantity.TheVariants.{Load, Section}
 use Rattle.teams.specs.declared.fault.TeamsFault.{TeamsFault}
 use Rattle.teams.specs.declared.fault.TeamsFault.TheVariants.{NoSuchTeam, PastBudget}
 
 -- ---- what a team takes
--- the load of a team's tasks, in millionths, as that of a set is (Liu and Layland 1973)
-abbrev pub load_by : List OwnedData → List ℕ → ℕ
-load_by tasks team = sum_by (λ o. if same_bytes o.team team then share_of o.sheet else 0) tasks
+-- what a task takes: its cost in each period, as it is written
+abbrev pub task_share : Task → Share
+task_share t = record { cost = t.cost; period = t.period }
+
+-- and an interrupt
+abbrev pub interrupt_share : Interrupt → Share
+interrupt_share x = record { cost = x.cost; period = x.period }
+
+-- the shares of a document: of its tasks and its interrupts
+abbrev pub shares_in : TeamSetData → List Share
+shares_in s = map task_share s.set ++ map interrupt_share s.interrupts
+
+-- those of a team's documents, whose load is ∑ costᵢ / periodᵢ (Liu and Layland 1973)
+abbrev pub shares_by : List TeamSetData → List ℕ → List Share
+shares_by [] team = []
+shares_by (s ∷ sets) team = (if same_bytes s.team team then shares_in s else []) ++ shares_by sets team
+
+-- the interrupts of each document are within the limits
+abbrev pub AreSound : List TeamSetData → Type 0
+AreSound sets = All (λ s. All IsInterrupt s.interrupts) sets
 
 -- a task of another team uses one of the section's locks
 abbrev pub is_shared : List OwnedData → List ℕ → CriticalSection → Bool
@@ -36,29 +54,37 @@ longest_shared tasks team =
 abbrev pub has_team : List TeamSetData → List ℕ → Bool
 has_team sets team = list_any (λ s. same_bytes s.team team) sets
 
--- what a team takes of a quantity: of the processor in thousandths, rounded up, which is past a limit exactly where the
--- millionths are
-unfoldable pub taken_by : List OwnedData → List ℕ → Quantity → ℕ
-taken_by tasks team Load = div_ceil (load_by tasks team) 1000
-taken_by tasks team Section = longest_shared tasks team
-
 -- ---- beside its budget
--- a number is past its limit, where there is one
-abbrev pub past : List ℕ → Quantity → ℕ → Option ℕ → Option TeamsFault
-past team quantity number None = None
-past team quantity number (Some limit) =
-    if nat_lt limit number then Some (PastBudget team quantity number limit) else None
+-- ∑ costᵢ / periodᵢ > limit / 1000, cleared of the denominators
+abbrev pub is_load_past : List Share → ℕ → Bool
+is_load_past shares limit = nat_lt (limit * periods_of shares) (costs_of shares * 1000)
 
--- which of a budget's limits a team's tasks are past: that of the load, then that of the longest shared section
-unfoldable pub limits_fault : List OwnedData → Budget → Option TeamsFault
-limits_fault tasks b =
-    option_or (past b.team Load (taken_by tasks b.team Load) b.load)
-    (past b.team Section (taken_by tasks b.team Section) b.section)
+-- the load in thousandths, rounded up once
+abbrev pub thousandths_of : List Share → ℕ
+thousandths_of shares = div_ceil (costs_of shares * 1000) (periods_of shares)
+
+-- a load is past its limit, where there is one
+abbrev pub load_fault : List ℕ → List Share → Option ℕ → Option TeamsFault
+load_fault team shares None = None
+load_fault team shares (Some limit) =
+    if is_load_past shares limit then Some (PastBudget team Load (thousandths_of shares) limit) else None
+
+-- a section is past its limit, where there is one
+abbrev pub section_fault : List ℕ → ℕ → Option ℕ → Option TeamsFault
+section_fault team len None = None
+section_fault team len (Some limit) =
+    if nat_lt limit len then Some (PastBudget team Section len limit) else None
+
+-- which of a budget's limits a team is past: that of its load, then that of its longest shared section
+unfoldable pub limits_fault : List TeamSetData → Budget → Option TeamsFault
+limits_fault sets b =
+    option_or (load_fault b.team (shares_by sets b.team) b.load)
+    (section_fault b.team (longest_shared (owned_all sets) b.team) b.section)
 
 -- why a team doesn't keep to its budget: it has no document, or is past a limit
 unfoldable pub budget_fault : List TeamSetData → Budget → Option TeamsFault
 budget_fault sets b =
-    if has_team sets b.team then limits_fault (owned_all sets) b else Some (NoSuchTeam b.team)
+    if has_team sets b.team then limits_fault sets b else Some (NoSuchTeam b.team)
 
 -- the first budget to which its team doesn't keep, and why
 abbrev pub budgets_fault : List TeamSetData → List Budget → Option TeamsFault
@@ -71,13 +97,13 @@ abbrev pub IsAtMost : ℕ → Option ℕ → Type 0
 IsAtMost number None = Unit {0}
 IsAtMost number (Some limit) = number ≤ limit
 
--- a thousandth of the processor is 1000 millionths
-abbrev pub IsLoadAtMost : ℕ → Option ℕ → Type 0
-IsLoadAtMost load None = Unit {0}
-IsLoadAtMost load (Some limit) = load ≤ limit * 1000
+-- ∑ costᵢ / periodᵢ ≤ limit / 1000, cleared of the denominators
+abbrev pub IsLoadAtMost : List Share → Option ℕ → Type 0
+IsLoadAtMost shares None = Unit {0}
+IsLoadAtMost shares (Some limit) = costs_of shares * 1000 ≤ limit * periods_of shares
 
 -- a team keeps to its budget
 pub record IsWithin (sets : List TeamSetData) (b : Budget) : Type 0 where
   pub known : has_team sets b.team ≡ true
-  pub load : IsLoadAtMost (load_by (owned_all sets) b.team) b.load
+  pub load : IsLoadAtMost (shares_by sets b.team) b.load
   pub section : IsAtMost (longest_shared (owned_all sets) b.team) b.section

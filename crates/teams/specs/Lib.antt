@@ -3,5 +3,7 @@ pub mod Agreeing
 pub mod ReadsTeams
 pub mod Gathering
 pub mod NodeDocument
+pub mod Shares
+pub mod Digits
 pub mod Budgets
 pub mod ReadsText

@@ -8,6 +8,7 @@ mod keeping;
 pub mod laws;
 mod node;
 mod reading;
+mod shares;
 mod text;
 mod uniting;
 

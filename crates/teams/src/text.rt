@@ -49,7 +49,8 @@ fn read_bounded(alloc: Global, node: &[u8], text: &[u8]) -> Result<Document, Tea
     let budgets = read_node(alloc, node)?;
     let (sets, document) = read_united(alloc, text)?;
     let tasks = owned_all(alloc, &sets)?;
-    match budgets_fault(&sets, &tasks, &budgets) {
+    let past = budgets_fault(alloc, &sets, &tasks, &budgets)?;
+    match past {
         Some(fault) => Err(fault),
         None => Ok(document),
     }

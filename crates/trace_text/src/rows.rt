@@ -1,7 +1,8 @@
-//! The lines of a trace: `START STOP NAME` and `job NAME ARRIVAL FINISH`.
-ghost use Rattle.std.specs.Prelude.{◌≡◌, Ok, MatchResult, IfOk};
+//! The lines of a trace: `START STOP NAME`, perhaps with `@P`, and `job NAME ARRIVAL FINISH`, perhaps with READY.
+ghost use Rattle.std.specs.Prelude.{◌≡◌, Some, Ok, MatchResult, IfOk};
+ghost use Rattle.lines.specs.Words.{number_in};
 ghost use Rattle.trace_text.specs.Faults.{IsRowsFault};
-ghost use Rattle.trace_text.specs.Rows.{finish_in, job_at, job_words, jobs_of, rows_at, slice_at, slices_of};
+ghost use Rattle.trace_text.specs.Rows.{finish_in, five_words, four_words, job_at, jobs_of, priority_in, ranked, readied, rows_at, slice_at, slices_of, three_words};
 
 use crate::fault::TraceFault;
 use lines::{LineRow, TextPlace, Words, name_of, number_of, read_lines};
@@ -18,6 +19,8 @@ pub struct TraceSlice {
     pub stop: u64,
     /// That of a task, or of a thread of the node's own.
     pub name: Name,
+    /// At which the thread ran, where it is said.
+    pub priority: Option<u64>,
 }
 
 /// A job of the task with a name: when it arrived, and when it finished, if it did; in microseconds.
@@ -29,6 +32,8 @@ pub struct TraceJob {
     pub arrival: u64,
     /// Not before the arrival.
     pub finish: Option<u64>,
+    /// When it was ready, where it is said: not before its arrival, nor behind its finish.
+    pub ready: Option<u64>,
 }
 
 /// A line of a trace.
@@ -39,22 +44,45 @@ pub enum TraceRow {
 }
 
 // The slice that the words of a line are.
-fn slice_at(line: u64, start: &[u8], stop: &[u8], name: &[u8]) -> Option<TraceRow>
+fn slice_at(line: u64, start: &[u8], stop: &[u8], name: &[u8]) -> Option<TraceSlice>
     ensures { result ≡ slice_at line start.now stop.now name.now }
 {
     let start = number_of(start)?;
     let stop = number_of(stop)?;
     let name = name_of(name)?;
     if start < stop {
-        Some(TraceRow::Slice(TraceSlice {
+        Some(TraceSlice {
             line,
             start,
             stop,
             name,
-        }))
+            priority: None,
+        })
     } else {
         None
     }
+}
+
+// The number behind the `@` that a word begins with.
+fn priority_in(word: &[u8]) -> Option<u64>
+    ensures { result ≡ priority_in word.now }
+{
+    let (first, digits) = word.split_first()?;
+    if *first == b'@' {
+        number_of(digits)
+    } else {
+        None
+    }
+}
+
+// The slice at the priority that a word says.
+fn ranked(slice: TraceSlice, word: &[u8]) -> Option<TraceSlice>
+    ensures { result ≡ ranked (Some slice) (priority_in word.now) }
+{
+    let priority = priority_in(word)?;
+    let mut slice = slice;
+    slice.priority = Some(priority);
+    Some(slice)
 }
 
 // The finish that a word says: `-`, or a number that isn't before the arrival.
@@ -73,29 +101,79 @@ fn finish_in(arrival: u64, word: &[u8]) -> Option<Option<u64>>
 }
 
 // The job that the words of a line behind its first are.
-fn job_at(line: u64, name: &[u8], arrival: &[u8], finish: &[u8]) -> Option<TraceRow>
+fn job_at(line: u64, name: &[u8], arrival: &[u8], finish: &[u8]) -> Option<TraceJob>
     ensures { result ≡ job_at line name.now arrival.now finish.now }
 {
     let name = name_of(name)?;
     let arrival = number_of(arrival)?;
     let finish = finish_in(arrival, finish)?;
-    Some(TraceRow::Job(TraceJob {
+    Some(TraceJob {
         line,
         name,
         arrival,
         finish,
-    }))
+        ready: None,
+    })
 }
 
-// The job of a first word.
-fn job_words(line: u64, word: &[u8], name: &[u8], arrival: &[u8], finish: &[u8]) -> Option<TraceRow>
-    ensures { result ≡ job_words line word.now name.now arrival.now finish.now }
+// The job that was ready at the time that a word says.
+fn readied(job: TraceJob, word: &[u8]) -> Option<TraceJob>
+    ensures { result ≡ readied (Some job) (number_in word.now) }
 {
-    if word == b"job".as_slice() {
-        job_at(line, name, arrival, finish)
+    let ready = number_of(word)?;
+    if job.arrival <= ready && ready <= job.finish.unwrap_or(ready) {
+        let mut job = job;
+        job.ready = Some(ready);
+        Some(job)
     } else {
         None
     }
+}
+
+// What a line of three words says.
+fn three_words(line: u64, start: &[u8], stop: &[u8], name: &[u8]) -> Option<TraceRow>
+    ensures { result ≡ three_words line start.now stop.now name.now }
+{
+    let slice = slice_at(line, start, stop, name)?;
+    Some(TraceRow::Slice(slice))
+}
+
+// What a line of four words says.
+fn four_words(
+    line: u64,
+    first: &[u8],
+    second: &[u8],
+    third: &[u8],
+    fourth: &[u8],
+) -> Option<TraceRow>
+    ensures { result ≡ four_words line first.now second.now third.now fourth.now }
+{
+    if first == b"job".as_slice() {
+        let job = job_at(line, second, third, fourth)?;
+        return Some(TraceRow::Job(job));
+    }
+    let slice = slice_at(line, first, second, third)?;
+    let slice = ranked(slice, fourth)?;
+    Some(TraceRow::Slice(slice))
+}
+
+// What a line of five words says.
+fn five_words(
+    line: u64,
+    first: &[u8],
+    second: &[u8],
+    third: &[u8],
+    fourth: &[u8],
+    fifth: &[u8],
+) -> Option<TraceRow>
+    ensures { result ≡ five_words line first.now second.now third.now fourth.now fifth.now }
+{
+    if first != b"job".as_slice() {
+        return None;
+    }
+    let job = job_at(line, second, third, fourth)?;
+    let job = readied(job, fifth)?;
+    Some(TraceRow::Job(job))
 }
 
 impl LineRow for TraceRow {
@@ -111,11 +189,14 @@ impl LineRow for TraceRow {
         let second = words.next()?;
         let third = words.next()?;
         let Some(fourth) = words.next() else {
-            return slice_at(line, first, second, third);
+            return three_words(line, first, second, third);
+        };
+        let Some(fifth) = words.next() else {
+            return four_words(line, first, second, third, fourth);
         };
         match words.next() {
             Some(_more) => None,
-            None => job_words(line, first, second, third, fourth),
+            None => five_words(line, first, second, third, fourth, fifth),
         }
     }
 }

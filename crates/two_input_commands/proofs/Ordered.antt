@@ -37,7 +37,7 @@ are_bounds U (j ∷ above) all = (
   elim j.judgement as (λ x. IsJudgementOf U j.task (among (order_judged above)) x
       → IsBoundBelow U (tasks_of_bounds (bounds_judged above)) j.task (bound_judged x)) [
         | Meets r ↦ λ is. rw (tasks_same above) (is.1, is.2)
-        | Misses ↦ λ _. tt
+        | Misses needs ↦ λ _. tt
         | Below other ↦ λ _. tt
       ] all.0,
   are_bounds U above all.1,

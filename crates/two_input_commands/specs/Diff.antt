@@ -1,7 +1,6 @@
 -- What `desk diff` answers and prints.
-use Rattle.std.specs.Prelude.{◌≡◌, ℕ, Bool, true, false, List, ◌++◌, codes, Option, Result, Ok, Err}
+use Rattle.std.specs.Prelude.{◌≡◌, ℕ, List, ◌++◌, codes, Option, Result, Ok, Err}
 use Rattle.task_sheet.specs.declared.prefer.Preference.{Preference}
-use Rattle.task_sheet.specs.declared.prefer.Preference.TheVariants.{Weights}
 use Rattle.task_sheet.specs.declared.read.Document.{Document}
 use Rattle.preferences.specs.Preferences.{IsPreferred}
 use Rattle.preferences.specs.ReadsPreferred.{chosen}
@@ -14,6 +13,7 @@ use Rattle.owners.specs.declared.words.Naming.TheVariants.{Changes}
 use Rattle.assignment.specs.Placings.{IsPlacingOf}
 use Rattle.assignment.specs.declared.placing.Placing.{Placing}
 use Rattle.diff.specs.Lines.{change_lines}
+use Rattle.diff.specs.Whole.{both_weigh, whole_lines}
 use Rattle.answering.specs.Statuses.{placing_status}
 use Rattle.answering.specs.OrderParts.{placing_first}
 use Rattle.two_input_commands.specs.OnBoth.{OfTwoSays, SaysOnBothOwned}
@@ -21,40 +21,40 @@ use Rattle.two_input_commands.specs.declared.diff_lines.Compared.{Compared}
 use Rattle.answering.specs.declared.refusal.CommandRefusal.{CommandRefusal}
 use Rattle.answering.specs.declared.refusal.CommandRefusal.TheVariants as refusal
 
--- weights are the sheets' own
-abbrev pub does_weigh : Preference → Bool
-does_weigh Weights = true
-does_weigh _ = false
-
--- the text says this set, by what the call prefers or else the text; weights are the sheets' own where that is by weights
-abbrev pub IsNew : Option Preference → List ℕ → List Task → Bool → Type 0
-IsNew preference text V weighs =
+-- the text says this set, by what the call prefers or else the text
+abbrev pub IsNew : Option Preference → List ℕ → List Task → Preference → Type 0
+IsNew preference text V by =
     (d : Document) × ReadsText text (Ok d) × IsPreferred (chosen preference d.prefers) d.set V
-    × (weighs ≡ does_weigh (chosen preference d.prefers))
+    × (by ≡ chosen preference d.prefers)
 
--- the text says the new set, and this becomes of both
-pub record IsComparison (preference : Option Preference) (U : List Task) (text : List ℕ) (c : Compared) : Type 0 where
-  pub new : IsNew preference text c.set c.weighs
+-- the text says the new set, and this becomes of both, of which the old one was taken by a preference
+pub record IsComparison (preference : Option Preference) (by : Preference) (U : List Task) (text : List ℕ) (c : Compared) : Type 0 where
+  pub old : c.was_by ≡ by
+  pub new : IsNew preference text c.set c.is_by
   pub owners : AreOwners text c.owners.items
   pub was : IsPlacingOf U c.was
   pub is : IsPlacingOf c.set c.is
 
 -- the answer on a set and the text of the new one
-abbrev pub ComparesText : Option Preference → List Task → List ℕ → Result Compared CommandRefusal → Type 0
-ComparesText preference U text (Ok c) = IsComparison preference U text c
-ComparesText preference U text (Err (refusal.New fault)) = ReadsText text (Err fault)
-ComparesText preference U text (Err refusal.OutOfMemory) = Unit {0}
-ComparesText preference U text _ = ⊥
+abbrev pub ComparesText :
+    Option Preference → Preference → List Task → List ℕ → Result Compared CommandRefusal → Type 0
+ComparesText preference by U text (Ok c) = IsComparison preference by U text c
+ComparesText preference by U text (Err (refusal.New fault)) = ReadsText text (Err fault)
+ComparesText preference by U text (Err refusal.OutOfMemory) = Unit {0}
+ComparesText preference by U text _ = ⊥
 
 -- what becomes of the new set, and what became of the old one
 abbrev pub both_lines : List Task → Placing → List Task → Placing → List ℕ
 both_lines U P V Q = placing_first V Q ++ codes "was " ++ placing_first U P
 
--- these, and then the change, each task with its team: that of the new set, where it has the task, else that of the old one
+-- these, then what of the change no task has, and then what becomes of the tasks, each with its team: that of the new set,
+-- where it has the task, else that of the old one
 abbrev pub compared_lines : List Owner → List Task → Compared → List ℕ
 compared_lines owners U c =
     both_lines U c.was c.set c.is
-    ++ named_lines Changes (c.owners.items ++ owners) (change_lines c.weighs U c.was c.set c.is)
+    ++ whole_lines c.was_by U c.is_by c.set
+    ++ named_lines Changes (c.owners.items ++ owners)
+    (change_lines (both_weigh c.was_by c.is_by) U c.was c.set c.is)
 
 -- the answer on what the readers had is printed after what the writer held, and the status is that of the new set
 abbrev pub SaysCompared : OfTwoSays

@@ -28,5 +28,5 @@ explained_at_lines owners U found =
 -- the answer on what the readers had is printed after what the writer held, and the status is the answer's
 abbrev pub SaysExplainedAt : Option (List ℕ) → OfTwoSays
 SaysExplainedAt word =
-    SaysOnBothOwned (ExplainsText word) explained_at_lines
+    SaysOnBothOwned (λ by. ExplainsText word) explained_at_lines
     (λ found. judged_status found.node.judged.items)

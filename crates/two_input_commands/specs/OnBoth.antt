@@ -22,14 +22,16 @@ WithSet answers preference set other (Ok found) =
     × answers found.0 text (Ok found.1)
 WithSet answers preference set other (Err r) = OnBoth answers preference set other (Err r)
 
--- the same with whose its tasks are, too
+-- the same with whose its tasks are, too, where the answers rest on the preference by which the set is taken
 abbrev pub WithOwners :
-    {X : Type 0} → (List Task → List ℕ → Result X CommandRefusal → Type 0) → Option Preference
+    {X : Type 0} → (Preference → List Task → List ℕ → Result X CommandRefusal → Type 0)
+    → Option Preference
     → (set other : Option (List ℕ)) → Result (List Task × List Owner × X) CommandRefusal → Type 0
 WithOwners answers preference set other (Ok found) =
-    (text : List ℕ) × HaveOwned preference set other found.0 found.1 text
-    × answers found.0 text (Ok found.2)
-WithOwners answers preference set other (Err r) = OnBoth answers preference set other (Err r)
+    (by : Preference) × (text : List ℕ) × HaveOwned preference set other by found.0 found.1 text
+    × answers by found.0 text (Ok found.2)
+WithOwners answers preference set other (Err r) =
+    (by : Preference) × OnBoth (answers by) preference set other (Err r)
 
 -- the answer on what the readers had is printed after what the writer held, and the status is the answer's
 abbrev pub SaysOnBoth :
@@ -41,7 +43,7 @@ SaysOnBoth answers lines done preference set other before after s =
 
 -- the same, where whose the tasks are is printed, too
 abbrev pub SaysOnBothOwned :
-    {X : Type 0} → (List Task → List ℕ → Result X CommandRefusal → Type 0)
+    {X : Type 0} → (Preference → List Task → List ℕ → Result X CommandRefusal → Type 0)
     → (List Owner → List Task → X → List ℕ) → (X → Status) → OfTwoSays
 SaysOnBothOwned answers lines done preference set other before after s =
     Prints (WithOwners answers preference set other) (λ found. lines found.1 found.0 found.2)

@@ -75,7 +75,7 @@ order_fault U _ = None
 -- the bound of a task in an order: its response, where it meets its deadline
 abbrev pub bound_judged : Judgement → Option ℕ
 bound_judged (Meets response) = Some response
-bound_judged Misses = None
+bound_judged (Misses needs) = None
 bound_judged (Below other) = None
 
 -- those of the tasks, the lowest first

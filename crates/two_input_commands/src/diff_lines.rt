@@ -1,13 +1,13 @@
 //! `desk diff`.
 ghost use Rattle.std.specs.Prelude.{◌≡◌, ◌++◌, Err, IfOk, MatchResult, string_bytes};
 ghost use Rattle.assignment.specs.Placings.{IsPlacingOf};
-ghost use Rattle.two_input_commands.specs.Diff.{ComparesText, IsNew, both_lines, compared_lines, does_weigh};
+ghost use Rattle.two_input_commands.specs.Diff.{ComparesText, IsNew, both_lines, compared_lines};
 ghost use Rattle.teams.specs.ReadsText.{ReadsText};
 
 use answering::{CommandRefusal, OrderPart, joined, placing_text};
 use assignment::{Placing, place_all};
 use ceilings::{LockTable, Tabled};
-use diff::{Side, change_text};
+use diff::{Side, change_text, whole_text};
 use owners::{Naming, Owner, named_text, read_owners};
 use preferences::{Preference, read_preferred};
 use std::alloc::{AllocError, Global};
@@ -25,8 +25,10 @@ pub struct Compared {
     pub owners: Vec<Owner>,
     /// What becomes of it.
     pub is: Placing,
-    /// Whether weights are the sheets' own.
-    pub weighs: bool,
+    /// By what the first set was taken.
+    pub was_by: Preference,
+    /// By what the new one is.
+    pub is_by: Preference,
 }
 
 // What becomes of a set's tasks.
@@ -37,41 +39,35 @@ fn place_set(alloc: Global, set: &TaskSet) -> Result<Placing, AllocError>
     place_all(alloc, &Tabled::of(set, &table))
 }
 
-// Whether weights are the sheets' own.
-fn does_weigh(preference: Preference) -> bool
-    ensures { result ≡ does_weigh preference }
-{
-    match preference {
-        Preference::Weights => true,
-        _ => false,
-    }
-}
-
-// The set that a text says, by what the call prefers or else the text, and whether weights are the sheets' own there.
+// The set that a text says, by what the call prefers or else the text, and which that is.
 fn read_new(
     alloc: Global,
     preference: Option<Preference>,
     text: &[u8],
-) -> Result<(TaskSet, bool), TeamsFault>
+) -> Result<(TaskSet, Preference), TeamsFault>
     ensures { MatchResult result (λ new. IsNew preference text.now new.0 new.1)
         (λ fault. ReadsText text.now (Err fault)) }
 {
     match read_preferred(alloc, text, preference) {
-        Ok(new) => Ok((new.set, does_weigh(new.choice.preference()))),
+        Ok(new) => {
+            let by = new.choice.preference();
+            Ok((new.set, by))
+        }
         Err(fault) => Err(fault),
     }
 }
 
-/// What becomes of a set and of the one that a text says.
+/// What becomes of a set, which was taken by a preference, and of the one that a text says.
 pub fn compare_text(
     alloc: Global,
     preference: Option<Preference>,
+    by: Preference,
     tasks: &TaskSet,
     text: &[u8],
 ) -> Result<Compared, CommandRefusal>
-    ensures { ComparesText preference tasks.now text.now result }
+    ensures { ComparesText preference by tasks.now text.now result }
 {
-    let (set, weighs) = match read_new(alloc, preference, text) {
+    let (set, is_by) = match read_new(alloc, preference, text) {
         Ok(new) => new,
         Err(fault) => return Err(CommandRefusal::New(fault)),
     };
@@ -83,7 +79,8 @@ pub fn compare_text(
         set,
         owners,
         is,
-        weighs,
+        was_by: by,
+        is_by,
     })
 }
 
@@ -111,7 +108,8 @@ fn all_owners(alloc: Global, new: &[Owner], old: &[Owner]) -> Result<Vec<Owner>,
     Ok(all)
 }
 
-/// What becomes of the new set, what became of the old one, and then the change, each task with its team.
+/// What becomes of the new set, what became of the old one, what of the change no task has, and then what becomes of the
+/// tasks, each with its team.
 pub fn compared_text(
     alloc: Global,
     owners: &[Owner],
@@ -123,17 +121,21 @@ pub fn compared_text(
     ensures { IfOk result (λ text. text.items ≡ compared_lines owners.now tasks.now compared.now) }
 {
     let old = Side {
+        preference: compared.was_by,
         set: tasks,
         placing: &compared.was,
     };
     let new = Side {
+        preference: compared.is_by,
         set: &compared.set,
         placing: &compared.is,
     };
     let first = both_text(alloc, &old, &new)?;
-    let change = change_text(alloc, compared.weighs, &old, &new)?;
+    let whole = whole_text(alloc, &old, &new)?;
+    let change = change_text(alloc, &old, &new)?;
     let all = all_owners(alloc, &compared.owners, owners)?;
     let named = named_text(alloc, Naming::Changes, &all, change.as_bytes())?;
-    let text = joined(alloc, first.as_bytes(), &named)?;
+    let front = joined(alloc, first.as_bytes(), whole.as_bytes())?;
+    let text = joined(alloc, &front, &named)?;
     Ok(text)
 }

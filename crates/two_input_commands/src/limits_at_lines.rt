@@ -51,7 +51,7 @@ fn whole_text(
         (string_bytes text)) }
 {
     let mut text = each_text(alloc, set, placing, order)?;
-    let last = last_text(alloc, set.tasks(), placing, order)?;
+    let last = last_text(alloc, set, placing, order)?;
     text.push_str(last.as_str())?;
     Ok(text)
 }

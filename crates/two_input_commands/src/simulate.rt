@@ -217,7 +217,7 @@ fn bound_judged(judgement: Judgement) -> Option<u64>
 {
     match judgement {
         Judgement::Meets { response } => Some(response),
-        Judgement::Misses | Judgement::Below { .. } => None,
+        Judgement::Misses { .. } | Judgement::Below { .. } => None,
     }
 }
 

@@ -9,7 +9,7 @@ use Rattle.judge.specs.declared.judging.Judgement.TheVariants.{Meets, Misses, Be
 -- how much later than at its response a task has to be done; 0 of one that doesn't meet its deadline
 abbrev pub slack_by : ℕ → Judgement → ℕ
 slack_by deadline (Meets response) = deadline - response
-slack_by deadline Misses = 0
+slack_by deadline (Misses needs) = 0
 slack_by deadline (Below other) = 0
 
 -- the same of a task that was judged

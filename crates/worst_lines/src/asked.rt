@@ -18,7 +18,7 @@ fn slack_of(set: &TaskSet, entry: JudgedTask) -> u64
             let deadline = set.sheets()[entry.task].deadline();
             deadline.saturating_sub(response)
         }
-        Judgement::Misses | Judgement::Below { .. } => 0,
+        Judgement::Misses { .. } | Judgement::Below { .. } => 0,
     }
 }
 
@@ -60,7 +60,7 @@ fn meets(judgement: Judgement) -> bool
 {
     match judgement {
         Judgement::Meets { .. } => true,
-        Judgement::Misses | Judgement::Below { .. } => false,
+        Judgement::Misses { .. } | Judgement::Below { .. } => false,
     }
 }
 

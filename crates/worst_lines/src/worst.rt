@@ -37,7 +37,7 @@ pub(crate) fn worst_of(
                 reached,
             })
         }
-        Judgement::Misses => Ok(Worst::Fails(show_miss(alloc, set, order, entry.task)?)),
+        Judgement::Misses { .. } => Ok(Worst::Fails(show_miss(alloc, set, order, entry.task)?)),
         Judgement::Below { .. } => Ok(Worst::Fails(show_miss(alloc, set, order, entry.task)?)),
     }
 }

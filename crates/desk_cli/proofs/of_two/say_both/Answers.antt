@@ -7,16 +7,19 @@ use Rattle.desk_cli.proofs.of_two.say_both.Goals as goal
 
 pub returns-in-Ok : goal.returns-in-Ok
 returns-in-Ok g c =
-    let finds = rw c.in-Ok.is at c.find-answer.ensures.answer in
-    said_as c.print_found.ensures (λ told. printed_in c.args.options c.args.owners.now
-    c.args.tasks.now c.args.text.now _ _ _ c.args.command c.in-Ok.found finds told)
+    let both = c.args.both.now in
+    let finds = rw (c.in-Ok.is, c.deref.ensures.value) at c.find-answer.ensures.answer in
+    said_as (rw c.deref-in-Ok.ensures.value at c.print_found.ensures) (λ told. printed_in c.args.options both.by both.owners.items
+    both.tasks both.text.items _ _ _ c.args.command c.in-Ok.found finds told)
 
 pub returns-in-Err : goal.returns-in-Err
 returns-in-Err g c =
-    let U = c.args.tasks.now in
-    let text = c.args.text.now in
-    let why = rw c.in-Err.is at c.find-answer.ensures.answer in
-    refusal_said c.in-Err.refusal (λ (r : CommandRefusal). FindsIn c.args.command c.args.options U
-    text (Err r)) why (never_unread c.args.command c.args.options U text) c.refuse.ensures
-    (λ wrote is. refused_in c.args.options c.args.owners.now U text _ _ _ c.args.command
+    let both = c.args.both.now in
+    let U = both.tasks in
+    let text = both.text.items in
+    let why = rw (c.in-Err.is, c.deref.ensures.value) at c.find-answer.ensures.answer in
+    refusal_said c.in-Err.refusal (λ (r : CommandRefusal). FindsIn c.args.command c.args.options
+    both.by U text (Err r)) why (never_unread c.args.command c.args.options both.by U text)
+    c.refuse.ensures
+    (λ wrote is. refused_in c.args.options both.by both.owners.items U text _ _ _ c.args.command
     c.in-Err.refusal why wrote is)

@@ -1,5 +1,8 @@
-use Rattle.diff.proofs.SameLaws.{unchanged_is_silent}
+use Rattle.diff.proofs.SameLaws.{unchanged_is_silent, whole_is_silent}
 use Rattle.diff.proofs.laws.unchanged_says_nothing.Goals as goal
 
-pub returns : goal.returns
-returns c = λ weighs U P set. unchanged_is_silent weighs U P set.distinct
+pub returns-clause-whole : goal.returns-clause-whole
+returns-clause-whole c = λ by U. whole_is_silent by U
+
+pub returns-clause-tasks : goal.returns-clause-tasks
+returns-clause-tasks c = λ weighs U P set. unchanged_is_silent weighs U P set.distinct

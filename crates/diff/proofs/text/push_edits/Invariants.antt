@@ -1,9 +1,10 @@
 use Rattle.std.proofs.Common.{◌≡◌, ◌++◌, string_bytes}
-use Rattle.diff.specs.Lines.{lines_below, edit_line}
+use Rattle.diff.specs.Keys.{words_below}
+use Rattle.diff.specs.Lines.{edit_line}
 use Rattle.diff.proofs.text.push_edits.Given as goal
 
 abbrev pub invariant-loop-task : goal.invariant-loop-task
 invariant-loop-task l =
     string_bytes l.text ≡ string_bytes l.fn.text
-    ++ lines_below l.task
+    ++ words_below l.task
     (edit_line l.weighs l.old.set.now l.old.placing.now l.new.set.now l.new.placing.now)

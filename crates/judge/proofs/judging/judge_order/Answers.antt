@@ -8,9 +8,9 @@ loop-place-init c = judged_start c.args.set.now c.args.order.now c.in_ok-judged.
 pub loop-place-preserved : goal.loop-place-preserved
 loop-place-preserved c =
     judged_step c.args.set.now c.args.order.now c.loop-place.place c.loop-place.judged.items
-    c.push.new.self.items c.judge_place.result
-    c.loop-place-test.true c.loop-place.invariant c.judge_place.ensures.task
-    c.judge_place.ensures.judged c.in_ok-push.ensures.items
+    c.push.new.self.items c.in_ok-judge_place.field-0
+    c.loop-place-test.true c.loop-place.invariant c.in_ok-judge_place.ensures.task
+    c.in_ok-judge_place.ensures.judged c.in_ok-push.ensures.items
 
 pub returns-clause-order : goal.returns-clause-order
 returns-clause-order c = (judged_end c.args.set.now c.args.order.now c.loop-place.place

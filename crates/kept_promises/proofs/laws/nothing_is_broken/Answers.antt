@@ -1,6 +1,6 @@
 use Rattle.kept_promises.proofs.BreakLaws.{all_are_kept, none_written}
-use Rattle.kept_promises.proofs.SeenLaws.{all_seen, housed, keeps}
-use Rattle.kept_promises.specs.Kept.{Keeps}
+use Rattle.kept_promises.proofs.SeenLaws.{all_seen, housed, keeps_to_demand}
+use Rattle.kept_promises.specs.Kept.{KeepsToDemand}
 use Rattle.observed.specs.Observed.{observed_in}
 use Rattle.observed.specs.Promises.{promises_of}
 use Rattle.kept_promises.proofs.laws.nothing_is_broken.Goals as goal
@@ -10,8 +10,8 @@ returns-clause-housed c = λ U places lines run. housed run
 
 pub returns-clause-kept : goal.returns-clause-kept
 returns-clause-kept c = λ tolerance U places lines run. all_are_kept tolerance
-    (observed_in (promises_of U places) lines) (all_seen run Keeps (keeps run))
+    (observed_in U (promises_of U places) lines) (all_seen run KeepsToDemand (keeps_to_demand run))
 
 pub returns-clause-lines : goal.returns-clause-lines
 returns-clause-lines c = λ tolerance U places lines run. none_written tolerance
-    (observed_in (promises_of U places) lines) (all_seen run Keeps (keeps run))
+    (observed_in U (promises_of U places) lines) (all_seen run KeepsToDemand (keeps_to_demand run))

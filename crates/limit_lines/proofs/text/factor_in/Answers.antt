@@ -4,6 +4,6 @@ pub factor_in_order-requires-clause-passing : goal.factor_in_order-requires-clau
 factor_in_order-requires-clause-passing c =
     rw (c.requires.order, c.in-Best.is) (rw c.in-Best.is at c.requires.placing)
 
-pub returns-in_ok-factor-in-Best : goal.returns-in_ok-factor-in-Best
-returns-in_ok-factor-in-Best c = rw c.in-Best.is
-    (rw (c.requires.order, c.in-Best.is) at c.in_ok-factor-in-Best.ensures)
+pub returns-in-Best : goal.returns-in-Best
+returns-in-Best c = rw c.in-Best.is
+    (rw (c.requires.order, c.in-Best.is) at c.factor_in_order.ensures)

@@ -1,9 +1,9 @@
-use Rattle.margins.proofs.BearingLaws.{passes-scaled, passes-factor, passes-costed, headroom-same}
+use Rattle.margins.proofs.BearingLaws.{passes-slower, passes-factor, passes-costed, headroom-same}
 use Rattle.margins.proofs.laws.preferred_is_greatest.Goals as goal
 
 pub returns : goal.returns
 returns c = record {
-  scaled = λ U V order factor preferred set best. passes-scaled U V order preferred set best factor;
+  slower = λ U V order factor preferred set best. passes-slower U V order preferred set best factor;
   factor = λ U V order most preferred set best. passes-factor U V order preferred set best most;
   costed = λ U V order i cost preferred set best.
       passes-costed U V order preferred set best i cost;

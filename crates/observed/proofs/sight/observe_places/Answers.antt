@@ -29,5 +29,5 @@ returns c =
       promises = c.in_ok-promises.ensures;
       housed = ap (λ (ps : List Promise). observed_fault ps trace) (sym same)
           ∙ c.in_ok-seen.ensures.0;
-      seen = c.in_ok-seen.ensures.1 ∙ ap (λ (ps : List Promise). observed_in ps trace) same;
+      seen = c.in_ok-seen.ensures.1 ∙ ap (λ (ps : List Promise). observed_in c.args.set.now ps trace) same;
     }

@@ -3,5 +3,4 @@ use Rattle.set_commands.proofs.limits_lines.end_text.Goals as goal
 
 pub last_text-requires-clause-placing : goal.last_text-requires-clause-placing
 last_text-requires-clause-placing c =
-    rw c.tasks.ensures
-    (best_passes c.args.listing.now.set c.args.listing.now.placing.now c.requires.placing)
+    best_passes c.args.listing.now.set c.args.listing.now.placing.now c.requires.placing

@@ -1,6 +1,7 @@
 use Rattle.std.proofs.Common.{◌≡◌, Some, None, rules}
 use Rattle.teams.specs.Budgets.{budgets_fault}
 use Rattle.teams.proofs.TeamLaws.{refused_budget, refused_gathered}
+use Rattle.teams.proofs.WrittenLaws.{sound_sets}
 use Rattle.teams.proofs.text.read_bounded.Goals as goal
 
 pub returns-in_err-sets : goal.returns-in_err-sets
@@ -9,6 +10,15 @@ returns-in_err-sets c = search (
   refused_gathered c.args.node.now c.args.text.now _
       (c.in_ok-budgets.budgets, c.in_ok-budgets.ensures) c.in_err-sets.ensures.err,
 )
+
+pub budgets_fault-requires-clause-bounded : goal.budgets_fault-requires-clause-bounded
+budgets_fault-requires-clause-bounded c =
+    rw (c.deref-2.ensures.value) c.in_ok-sets.ensures.ok.1.0.interrupts
+
+pub budgets_fault-requires-clause-sound : goal.budgets_fault-requires-clause-sound
+budgets_fault-requires-clause-sound c =
+    let read = c.in_ok-sets.ensures.ok.0 in
+    rw (c.deref-2.ensures.value) (sound_sets read.0 c.in_ok-sets.sets.items read.2)
 
 pub returns-in-Some : goal.returns-in-Some
 returns-in-Some c =

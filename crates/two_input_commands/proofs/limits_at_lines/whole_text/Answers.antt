@@ -7,6 +7,6 @@ returns c =
       lines,
       string_bytes c.in_ok-last.last,
       c.in_ok-text.ensures,
-      rw c.tasks.ensures at c.in_ok-last.ensures,
+      c.in_ok-last.ensures,
       c.in_ok-push_str.ensures.bytes ∙ ap (λ (t : List ℕ). lines ++ t) c.as_str.ensures.value,
     )

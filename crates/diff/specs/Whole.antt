@@ -1,0 +1,98 @@
+-- What of a change no task has: what a set prefers, what its node takes, and its interrupts.
+use Rattle.std.specs.Prelude.{ℕ, ◌+◌, Bool, true, false, ◌||◌, not, nat_eq, List, [], ◌∷◌, ◌++◌, slice_get, codes, Option, Some, None, if◌then◌else◌}
+use Rattle.std.specs.Fmt.{decimal}
+use Rattle.std.specs.Option.{option_map}
+use Rattle.task_sheet.specs.declared.node.Node.{Node}
+use Rattle.task_sheet.specs.declared.node.Interrupt.{Interrupt}
+use Rattle.task_sheet.specs.declared.node.TheConstants.{INTERRUPT_LIMIT}
+use Rattle.task_sheet.specs.declared.prefer.Preference.{Preference}
+use Rattle.task_sheet.specs.declared.prefer.Preference.TheVariants.{Weights, Deadline}
+use Rattle.task_sheet.specs.Prefer.{preference_word}
+use Rattle.task_sheet.specs.Sheet.{Task, task_at, same_node, same_interrupt}
+use Rattle.diff.specs.Keys.{number_words, pair_words, words_below}
+
+-- ---- the preference
+abbrev pub same_preference : Preference → Preference → Bool
+same_preference Weights Weights = true
+same_preference Weights Deadline = false
+same_preference Deadline Weights = false
+same_preference Deadline Deadline = true
+
+-- by what a set was taken, and by what the new one is, where that is another
+abbrev pub preference_line : Preference → Preference → List ℕ
+preference_line old new =
+    if same_preference old new then []
+    else codes "prefer " ++ preference_word old ++ codes " " ++ preference_word new ++ codes "\n"
+
+-- weights count: they are the sheets' own, before and after
+abbrev pub both_weigh : Preference → Preference → Bool
+both_weigh Weights Weights = true
+both_weigh _ _ = false
+
+-- ---- the node
+-- what a set's node takes: that of a document is each task's; nothing of a set without tasks
+abbrev pub node_of : List Task → Node
+node_of U = (task_at U 0).node
+
+-- the numbers in which two nodes differ
+abbrev pub node_words : Node → Node → List ℕ
+node_words x y =
+    number_words (codes "job") (not (nat_eq x.job y.job)) x.job y.job
+    ++ number_words (codes "lock") (not (nat_eq x.lock y.lock)) x.lock y.lock
+    ++ number_words (codes "release") (not (nat_eq x.release y.release)) x.release y.release
+    ++ number_words (codes "late") (not (nat_eq x.late y.late)) x.late y.late
+
+-- their line, where there is one
+abbrev pub node_line : List Task → List Task → List ℕ
+node_line U V =
+    if same_node (node_of U) (node_of V) then []
+    else codes "node" ++ node_words (node_of U) (node_of V) ++ codes "\n"
+
+-- ---- the interrupts
+-- these, where there are some, and else others
+abbrev pub some_of : List Interrupt → List Interrupt → List Interrupt
+some_of [] others = others
+some_of (x ∷ xs) others = x ∷ xs
+
+-- those of a set, as written: those of documents are on the account of one task; none of a set without tasks
+abbrev pub interrupts_of : List Task → List Interrupt
+interrupts_of [] = []
+interrupts_of (t ∷ U) = some_of t.interrupts (interrupts_of U)
+
+-- interrupts at a place are the same
+abbrev pub same_some : Option Interrupt → Option Interrupt → Bool
+same_some None None = true
+same_some None (Some y) = false
+same_some (Some x) None = false
+same_some (Some x) (Some y) = same_interrupt x y
+
+abbrev pub same_number : Option ℕ → Option ℕ → Bool
+same_number None None = true
+same_number None (Some n) = false
+same_number (Some m) None = false
+same_number (Some m) (Some n) = nat_eq m n
+
+-- a number of theirs, where it is another one
+abbrev pub some_number_words : List ℕ → Option ℕ → Option ℕ → List ℕ
+some_number_words word old new =
+    if same_number old new then [] else pair_words word old new
+
+-- what of interrupts at a place, which is counted from 1, is another
+abbrev pub interrupt_words : ℕ → Option Interrupt → Option Interrupt → List ℕ
+interrupt_words place x y =
+    codes "interrupt " ++ decimal (place + 1)
+    ++ some_number_words (codes " period ") (option_map (λ i. i.period) x) (option_map (λ i. i.period) y)
+    ++ some_number_words (codes " cost ") (option_map (λ i. i.cost) x) (option_map (λ i. i.cost) y)
+    ++ codes "\n"
+
+-- its line, where there is one
+abbrev pub interrupt_line : List Task → List Task → ℕ → List ℕ
+interrupt_line U V place =
+    if same_some (slice_get (interrupts_of U) place) (slice_get (interrupts_of V) place) then []
+    else interrupt_words place (slice_get (interrupts_of U) place) (slice_get (interrupts_of V) place)
+
+-- ---- all
+-- the lines of a change that no task has
+abbrev pub whole_lines : Preference → List Task → Preference → List Task → List ℕ
+whole_lines old U new V =
+    preference_line old new ++ node_line U V ++ words_below INTERRUPT_LIMIT (interrupt_line U V)

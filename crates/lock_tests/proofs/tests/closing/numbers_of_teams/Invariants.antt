@@ -1,4 +1,0 @@
-use Rattle.lock_tests.proofs.tests.closing.numbers_of_teams.Given as goal
-
-abbrev pub ghosts-passes_on : goal.ghosts-passes_on
-ghosts-passes_on g a = record { name = a.blank.name; parts = a.blank.parts }

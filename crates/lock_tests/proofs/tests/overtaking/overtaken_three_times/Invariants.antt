@@ -1,4 +1,0 @@
-use Rattle.lock_tests.proofs.tests.overtaking.overtaken_three_times.Given as goal
-
-abbrev pub ghosts-overtaken_on : goal.ghosts-overtaken_on
-ghosts-overtaken_on g a = record { name = a.start.blank.name; parts = a.start.blank.parts }

@@ -1,4 +1,0 @@
-use Rattle.lock_tests.proofs.tests.workers.counted.Given as goal
-
-abbrev pub ghosts-counted_on : goal.ghosts-counted_on
-ghosts-counted_on g a = record { name = a.start.blank.name; parts = a.start.blank.parts }
