@@ -13,7 +13,7 @@ use Rattle.command_line.specs.declared.calls.OfNumber.TheVariants.{Releases, Scr
 use Rattle.command_line.specs.declared.calls.Verb.{Verb}
 use Rattle.command_line.specs.declared.calls.Verb.TheVariants.{One, Two, Number}
 use Rattle.command_line.specs.declared.calls.Choice.{Choice}
-use Rattle.command_line.specs.declared.calls.Choice.TheVariants.{Prefer, Task, Base, LowerIsHigher, Seed, Tasks, Tolerance, Keep, At, From, To, Width, Title, Rows}
+use Rattle.command_line.specs.declared.calls.Choice.TheVariants.{Prefer, Task, Base, LowerIsHigher, Seed, Tasks, Tolerance, Jobless, Keep, At, From, To, Width, Title, Rows}
 use Rattle.command_line.specs.declared.calls.Takes.{Takes}
 use Rattle.command_line.specs.declared.calls.Takes.TheVariants as takes
 use Rattle.command_line.specs.declared.calls.TheConstants.{MOST_WORKERS, MOST_TEAM, MOST_PRIORITY, MOST_SEED, MOST_TOLERANCE, LEAST_WIDTH, MOST_WIDTH, LATEST_END}
@@ -34,7 +34,7 @@ commands =
     ∷ (codes "worst", One Worst, Prefer ∷ Task ∷ At ∷ [])
     ∷ (codes "simulate", Two Simulate, Prefer ∷ Tasks ∷ [])
     ∷ (codes "draw", Two Draw, Prefer ∷ From ∷ To ∷ Width ∷ Title ∷ Rows ∷ [])
-    ∷ (codes "observe", Two Observe, Prefer ∷ Tolerance ∷ [])
+    ∷ (codes "observe", Two Observe, Prefer ∷ Tolerance ∷ Jobless ∷ [])
     ∷ (codes "script", Number Script, Prefer ∷ [])
     ∷ (codes "play", One Play, [])
     ∷ (codes "rush", Number Rush, [])
@@ -97,6 +97,7 @@ choice_name LowerIsHigher = codes "lower-is-higher"
 choice_name Seed = codes "seed"
 choice_name Tasks = codes "tasks"
 choice_name Tolerance = codes "tolerance"
+choice_name Jobless = codes "jobless"
 choice_name Keep = codes "keep"
 choice_name At = codes "at"
 choice_name From = codes "from"
@@ -119,6 +120,7 @@ takes_of LowerIsHigher = takes.Flag
 takes_of Seed = takes.Number 0 MOST_SEED
 takes_of Tasks = takes.Flag
 takes_of Tolerance = takes.Number 0 MOST_TOLERANCE
+takes_of Jobless = takes.Flag
 takes_of Keep = takes.Word
 takes_of At = takes.Word
 takes_of From = takes.Number 0 LATEST_END

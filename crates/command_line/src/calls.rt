@@ -126,6 +126,8 @@ pub(crate) enum Choice {
     Tasks,
     // `--tolerance N`
     Tolerance,
+    // `--jobless`
+    Jobless,
     // `--keep SETTINGS`
     Keep,
     // `--at SETTINGS`
@@ -177,6 +179,8 @@ pub struct Options<'a> {
     pub by_task: bool,
     /// `--tolerance N`: by so many microseconds the times of a trace may be past what is promised.
     pub tolerance: Option<usize>,
+    /// `--jobless`: it is meant that a task may have no job in a trace.
+    pub jobless: bool,
     /// `--from T`: where a picture begins, in microseconds.
     pub from: Option<usize>,
     /// `--to T`: where it ends.
@@ -293,6 +297,7 @@ impl Choice {
             Choice::Seed => "seed",
             Choice::Tasks => "tasks",
             Choice::Tolerance => "tolerance",
+            Choice::Jobless => "jobless",
             Choice::Keep => "keep",
             Choice::At => "at",
             Choice::From => "from",
@@ -344,7 +349,7 @@ impl Choice {
                 least: LEAST_WIDTH as u32,
                 most: MOST_WIDTH as u32,
             },
-            Choice::LowerIsHigher | Choice::Tasks => Takes::Flag,
+            Choice::LowerIsHigher | Choice::Tasks | Choice::Jobless => Takes::Flag,
         }
     }
 
@@ -362,6 +367,7 @@ impl Choice {
             | Choice::LowerIsHigher
             | Choice::Tasks
             | Choice::Tolerance
+            | Choice::Jobless
             | Choice::Width => "N",
         }
     }
@@ -378,6 +384,7 @@ impl Choice {
             Choice::Tolerance => {
                 "By how many microseconds a time may be past what is promised, up to 60000000"
             }
+            Choice::Jobless => "It is meant that some task has no job",
             Choice::Keep => "Settings of a node whose order stays, as far as both have its tasks",
             Choice::At => "Settings that give the order, in place of the best one",
             Choice::From => "Where the picture begins, in microseconds",
@@ -402,6 +409,7 @@ impl<'a> Options<'a> {
             seed: None,
             by_task: false,
             tolerance: None,
+            jobless: false,
             from: None,
             to: None,
             width: None,

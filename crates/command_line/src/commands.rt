@@ -172,11 +172,11 @@ const COMMANDS: [Listed; 16] = [
     Listed {
         verb: Verb::Two(OfTwo::Observe),
         word: "observe",
-        options: &[Choice::Prefer, Choice::Tolerance],
+        options: &[Choice::Prefer, Choice::Tolerance, Choice::Jobless],
         about: "Prints what a trace of a node shows of each task, and each promise that it breaks",
         example: example!(
             "observe examples/shared-lock.toml examples/shared-lock.trace",
-            "0 each promise is kept, 3 one is broken, or nothing is promised, 4 the set or the trace is refused"
+            "0 each promise is kept, 3 one is broken, a task has no job, or nothing is promised, 4 the set or the trace is refused"
         ),
     },
     Listed {

@@ -71,7 +71,7 @@ module _ (options : Options) (by : Preference) (owners : List Owner) (U : List T
       λ set other has. rw finds.0 (Ok (U, answer), (text, both set other has, finds.1), wrote, is)
   said_in command.Draw (Drawn drawing) finds wrote is =
       λ set other has. (Ok (U, drawing), (text, both set other has, finds), wrote, is)
-  said_in command.Observe (Observed tolerance sight) finds wrote is = λ set other has.
+  said_in command.Observe (Observed leeway sight) finds wrote is = λ set other has.
       rw (← finds.0) (Ok (U, sight), (text, both set other has, finds.1), wrote, is)
   said_in command.Keep (Keeping keeping base) finds wrote is = λ set other has.
       rw (← finds.0) (Ok (U, keeping), (text, both set other has, finds.1), wrote, is)

@@ -13,7 +13,7 @@ use Rattle.two_input_commands.specs.Draw.{SaysDrawn}
 use Rattle.two_input_commands.specs.ExplainAt.{SaysExplainedAt}
 use Rattle.two_input_commands.specs.Judge.{SaysJudged}
 use Rattle.two_input_commands.specs.LimitsAt.{SaysLimitsAt}
-use Rattle.two_input_commands.specs.Observe.{SaysObserved, tolerance_of}
+use Rattle.two_input_commands.specs.Observe.{SaysObserved, leeway_of}
 use Rattle.two_input_commands.specs.Keep.{SaysKeeping}
 use Rattle.set_commands.specs.OneTask.{SaysPart}
 use Rattle.script_commands.specs.Play.{SaysPlayed}
@@ -46,7 +46,7 @@ TwoSay Judge options = SaysJudged options.lower_is_higher (preference_of options
 TwoSay Diff options = SaysCompared (preference_of options)
 TwoSay Simulate options = SaysSimulation options.by_task (preference_of options)
 TwoSay Draw options = SaysDrawn options (preference_of options)
-TwoSay Observe options = SaysObserved (tolerance_of options) (preference_of options)
+TwoSay Observe options = SaysObserved (leeway_of options) (preference_of options)
 TwoSay Keep options = SaysKeeping (base_of options) (preference_of options)
 TwoSay WorstAt options = SaysWorstAt (task_of options) (preference_of options)
 TwoSay LimitsAt options = SaysLimitsAt (task_of options) (preference_of options)

@@ -14,6 +14,7 @@ use command_line::{OfTwo, Options};
 use judge::{JudgedNode, judged_text};
 use kept_order::Keeping;
 use observed::{Seen, Sight};
+use observed_lines::Leeway;
 use owners::Owner;
 use std::alloc::Global;
 use std::io::{Read, Write};
@@ -22,8 +23,8 @@ use task_sheet::{Members, Name, Preference, TaskSet};
 use two_input_commands::{
     Compared, Drawing, InOrder, Observation, Simulated, check_text, checked_line, compare_text,
     compared_text, draw_text, explain_at, explained_at_text, judge_text, judged_status, keep_text,
-    keeping_status, keeping_text, limits_at, observe_text, print_drawing, print_observation,
-    print_reached, print_simulated, simulate_text, tolerance_of, worst_at,
+    keeping_status, keeping_text, leeway_of, limits_at, observe_text, print_drawing,
+    print_observation, print_reached, print_simulated, simulate_text, worst_at,
 };
 
 /// What a command finds of a set and a text.
@@ -41,8 +42,8 @@ pub enum Found {
     Reached(Simulated),
     /// The same, to be shown as an SVG 1.1 document.
     Drawn(Drawing),
-    /// What a trace shows, by so many microseconds that a time may be past what is promised.
-    Observed(u64, Observation),
+    /// What a trace shows, and what of it is let pass.
+    Observed(Leeway, Observation),
     /// What becomes of a set that is to keep the order that settings give, and the priority of level 1.
     Keeping { keeping: Keeping, base: u32 },
     /// The worst case of a task in the order that settings give.
@@ -86,7 +87,7 @@ fn find(
         OfTwo::Draw => Ok(Found::Drawn(draw_text(alloc, options, tasks, text)?)),
         OfTwo::Observe => {
             let shown = observe_text(alloc, tasks, text)?;
-            Ok(Found::Observed(tolerance_of(options), shown))
+            Ok(Found::Observed(leeway_of(options), shown))
         }
         OfTwo::Keep => Ok(Found::Keeping {
             keeping: keep_text(alloc, tasks, text)?,
@@ -124,8 +125,8 @@ fn print_found<W: Write + Drop>(
         Found::Simulated(answer) => print_simulated(alloc, tasks, answer, output),
         Found::Reached(answer) => print_reached(alloc, tasks, answer, output),
         Found::Drawn(drawing) => print_drawing(alloc, tasks, drawing, output),
-        Found::Observed(tolerance, shown) => {
-            print_observation(alloc, tasks, *tolerance, shown, output)
+        Found::Observed(leeway, shown) => {
+            print_observation(alloc, tasks, *leeway, shown, output)
         }
         Found::Keeping { keeping, base } => print_made(
             keeping_text(alloc, tasks, *base, keeping),

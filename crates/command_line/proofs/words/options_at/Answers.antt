@@ -12,6 +12,7 @@ returns-clause-known c = record {
   seed = c.number_chosen-2.ensures;
   by_task = c.flag_chosen-2.ensures;
   tolerance = c.number_chosen-3.ensures;
+  jobless = c.flag_chosen-3.ensures;
   from = c.number_chosen-4.ensures;
   to = c.number_chosen-5.ensures;
   width = c.number_chosen-6.ensures;
