@@ -31,8 +31,8 @@ use Rattle.judge.specs.declared.fault.SettingsFault.{SettingsFault}
 use Rattle.judge.specs.declared.fault.SettingsFault.TheVariants as settings
 use Rattle.trace_text.specs.declared.fault.TraceFault.{TraceFault}
 use Rattle.trace_text.specs.declared.fault.TraceFault.TheVariants as trace
-use Rattle.rushes.specs.declared.fault.RushFault.{RushFault}
-use Rattle.rushes.specs.declared.fault.RushFault.TheVariants as rush
+use Rattle.scripts.specs.declared.rush_fault.RushFault.{RushFault}
+use Rattle.scripts.specs.declared.rush_fault.RushFault.TheVariants as rush
 use Rattle.streams.specs.declared.input.InputFault.TheVariants as input
 use Rattle.answering.specs.declared.refusal.CommandRefusal.{CommandRefusal}
 use Rattle.answering.specs.declared.refusal.CommandRefusal.TheVariants as refusal
