@@ -6,7 +6,7 @@ use Rattle.set_commands.proofs.script.run_script.Goals as goal
 pub returns-in-Ok : goal.returns-in-Ok
 returns-in-Ok g c =
     let script = c.in-Ok.ensures.answer in
-    let has = rw c.preference_of-preference.ensures at script.has in
+    let has = rw c.asking_of-asking.ensures at script.has in
     let same = ap (λ (team : ℕ). script_of team script.set) c.in-Some.ensures.some.0 in
     let lines = c.as_bytes.ensures.value ∙ script.says ∙ same in
     carried_out c.in-Ok.ensures.read
