@@ -99,7 +99,7 @@ order, and each comes to the same:
   refused: NamesDecide a b
   [4]
   $ sed 's/cost = 1000/cost = 8000/' known.toml | desk admit --strict -
-  refused: CostPastDeadline
+  refused: NamesDecide a b
   [4]
 
 What is no set comes first, and what is read beside it later:
@@ -128,7 +128,7 @@ What is no set comes first, and what is read beside it later:
 Of several teams' documents all are judged together, the last one, too; the sentence names the team's:
 
   $ mkdir node
-  $ sed '1,9d' shared.toml > node/arm.toml
+  $ sed '1,8d' shared.toml > node/arm.toml
   $ sed '9,99d' shared.toml > node/base.toml
   $ said admit --strict node
   node: base.toml: line 1, task 1 (a): a outranks c, which is no task of the set: that binds nothing
@@ -148,7 +148,7 @@ Of several teams' documents all are judged together, the last one, too; the sent
   node: arm.toml: line 1, task 1 (b): lock k has one user, b
   [4]
 
-A certificate, a script and `rush` have no set that could have doubts; it is a flag:
+`play` and `rush` read no set; the option is a flag:
 
   $ desk play --strict examples/two-teams-fit.script 2> /dev/null
   [2]

@@ -13,5 +13,7 @@ returns-in-Ok g c =
     (shown c.print.ensures lines refl done_ends (λ wrote is. (Ok script.set, has, wrote, is)))
 
 pub returns-in-Err : goal.returns-in-Err
-returns-in-Err g c = refused c.in-Err.ensures.read c.refuse.ensures
-    (λ wrote is. (Err c.in-Err.refusal, c.in-Err.ensures.answer, wrote, is))
+returns-in-Err g c =
+    let answer = rw c.asking_of-asking.ensures at c.in-Err.ensures.answer in
+    refused c.in-Err.ensures.read c.refuse.ensures
+    (λ wrote is. (Err c.in-Err.refusal, answer, wrote, is))
