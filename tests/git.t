@@ -104,6 +104,14 @@ What the node gives to a team, and whose a lock becomes:
   [team.bsae] in teams/node.toml is of no document; the teams are arm, base and cam: nora or root may change it
   refused: COMMIT "mistyped"
 
+What only the node's document may say:
+
+  $ fresh ann && printf '[node]\njob = 10\n' >> ann/teams/arm.toml && save ann 'what a job takes' && push ann
+  arm.toml: [node] is for node.toml to say, for all teams: move it there, or let node.toml give the right, by node = true in [team.arm]
+  refused: NodesOwn arm node
+  team arm (yours) has to take it out of teams/arm.toml, or teams/node.toml to give the right: nora or root may change it
+  refused: COMMIT "what a job takes"
+
 What is no document:
 
   $ fresh cy && chmod +x cy/teams/cam.toml && save cy 'run it' && push cy

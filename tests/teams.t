@@ -172,10 +172,11 @@ processor, and a nine-millionth more, of an interrupt or a task, is more than th
   refused: PastBudget cam load 1001 1000
   [4]
 
-An interrupt counts for the team that writes it, whose tasks may be none:
+An interrupt counts for the team that writes it, whose tasks may be none, and one of `node.toml` for no team:
 
   $ tick 100 25 > exact/base.toml
   $ tick 100 25 > exact/cam.toml
+  $ budget() { { tick 100 25; printf '[team.base]\nnode = true\n[team.cam]\nnode = true\nload = %s\n' $1; } > exact/node.toml; }
   $ budget 249
   $ desk admit exact
   refused: PastBudget cam load 250 249
@@ -183,6 +184,52 @@ An interrupt counts for the team that writes it, whose tasks may be none:
   $ budget 250
   $ desk admit exact
   admitted 0
+
+What `node.toml` says holds for all, its interrupts before the teams', and there alone it is said:
+
+  $ { printf 'prefer = "deadline"\n[node]\njob = 28\nrelease = 5\n'; tick 4000 17; } > exact/node.toml
+  $ { tick 5000 20; task p 3000 1000; } > exact/cam.toml
+  $ : > exact/base.toml
+  $ desk admit exact
+  refused: NodesOwn cam interrupt
+  (on standard error) exact: cam.toml: [[interrupt]] is for node.toml to say, for all teams: move it there, or let node.toml give the right, by node = true in [team.cam]
+  [4]
+  $ printf 'prefer = "deadline"\n' > exact/base.toml
+  $ desk admit exact
+  refused: NodesOwn base prefer
+  (on standard error) exact: base.toml: prefer is for node.toml to say, for all teams: move it there, or let node.toml give the right, by node = true in [team.base]
+  [4]
+  $ printf '[team.cam]\nnode = true\n[team.base]\nnode = false\n' >> exact/node.toml
+  $ desk admit exact 2> said
+  refused: NodesOwn base prefer
+  [4]
+  $ : > exact/base.toml
+  $ desk script exact 1
+  open 1
+  put 1 p 0 3000 3000 1023 node=28+0+5+0 irq=4000:17+5000:20
+  commit 1
+
+Who has the right may not say otherwise, nor more than the node has room for:
+
+  $ printf 'prefer = "weight"\n' > exact/cam.toml
+  $ desk admit exact
+  refused: OtherPreference cam node
+  (on standard error) exact: cam.toml: prefers otherwise than node.toml; one team says it for all
+  [4]
+  $ printf '[node]\njob = 27\n' > exact/cam.toml
+  $ desk admit exact 2> said
+  refused: OtherNode cam node
+  [4]
+  $ for n in 1 2 3 4 5 6 7 8; do tick 100000 $n; done > exact/cam.toml
+  $ desk admit exact
+  refused: TooManyInterrupts
+  (on standard error) exact: the teams and node.toml have more than 8 interrupts together
+  [4]
+  $ task p 3000 2990 > exact/cam.toml
+  $ desk admit exact
+  refused: PaddedCost p
+  (on standard error) exact: cam.toml: line 1, task 1 (p): with job and lock of [node] the cost is past the period: cost 2990, job 28 and 0 times lock 0 make 3018, period 3000
+  [4]
 
 A budget needs a team that has a document:
 
@@ -202,12 +249,28 @@ What is no such document, in the order of its refusals:
   refused: node Syntax
   [4]
   $ told '[[task]]\nname = "a"\n[team]\ncam = 1\n'
-  kept: node.toml: unknown key task; it has budgets of teams alone, each headed by [team.NAME]
+  kept: node.toml: unknown key task; it may have prefer in front, [node], [[interrupt]], and for each team [team.NAME]; a task stands in its team's document
   refused: node UnknownKey
   [4]
   $ told '[[team]]\nload = 1\n'
-  kept: node.toml: team has to be a table of budgets, each headed by [team.NAME]; it is an array
+  kept: node.toml: team has to be a table of teams, each headed by [team.NAME]; it is an array
   refused: node WrongKind
+  [4]
+  $ told 'prefer = "weights"\nteam = 1\n'
+  kept: node.toml: prefer has to be "deadline" or "weight"; it is the string "weights"
+  refused: node BadPreference
+  [4]
+  $ told '[node]\nrelease = 3\n'
+  kept: node.toml: release has to be at most 1000 and at most job; it is 3, job 0
+  refused: node BadOverhead release
+  [4]
+  $ told 'node = 3\n'
+  kept: node.toml: node has to be a table, headed by [node]; it is 3
+  refused: node WrongKind 0 0 node
+  [4]
+  $ told '[[interrupt]]\nperiod = 100\ncost = 101\n'
+  kept: node.toml: interrupt 1: period has to be from 100 to 10000000, and cost at most period; period is 100, cost is 101
+  refused: node BadInterrupt 1
   [4]
   $ told '[team."c m"]\nload = 1\n'
   kept: node.toml: c m is no name of a team
@@ -218,12 +281,16 @@ What is no such document, in the order of its refusals:
   refused: node WrongKind cam
   [4]
   $ told '[team.cam]\nlaod = 250\n'
-  kept: node.toml: line 1: cam: unknown key laod; a budget has load, section
+  kept: node.toml: line 1: cam: unknown key laod; it may have load, section, node
   refused: node UnknownKey cam
   [4]
   $ told '[team.cam]\nload = 25.0\n'
   kept: node.toml: line 1: cam: load has to be a whole number of thousandths of the processor from 0; it is a number with a fraction
   refused: node WrongKind cam load
+  [4]
+  $ told '[team.cam]\nnode = 1\n'
+  kept: node.toml: line 1: cam: node has to be true, where the team may say prefer, [node] and [[interrupt]], or false; it is 1
+  refused: node WrongKind cam node
   [4]
 
 Its refusals come before those of the teams' documents, and what is past comes after them. In one text it stands first,

@@ -216,6 +216,7 @@ fn write_node_fault<W: fmt::Write>(fault: NodeFault, f: &mut fmt::Formatter<W>) 
     match fault {
         NodeFault::Syntax => f.write_str("Syntax"),
         NodeFault::UnknownRoot => f.write_str("UnknownKey"),
+        NodeFault::Says { fault } => write_fault(fault, f),
         NodeFault::NoTeams => f.write_str("WrongKind"),
         NodeFault::BadName => f.write_str("BadName"),
         NodeFault::NoBudget { team } => write!(f, "WrongKind {team}"),
@@ -224,6 +225,7 @@ fn write_node_fault<W: fmt::Write>(fault: NodeFault, f: &mut fmt::Formatter<W>) 
             let word = quantity.word();
             write!(f, "WrongKind {team} {word}")
         }
+        NodeFault::NoRight { team } => write!(f, "WrongKind {team} node"),
         NodeFault::OutOfMemory => f.write_str("OutOfMemory"),
     }
 }
@@ -251,6 +253,10 @@ fn write_teams_fault<W: fmt::Write>(fault: TeamsFault, f: &mut fmt::Formatter<W>
             write_fault(fault, f)
         }
         TeamsFault::Taken { team, task, other } => write!(f, "TakenName {team} {task} {other}"),
+        TeamsFault::NodesOwn { team, key } => {
+            let word = key.word();
+            write!(f, "NodesOwn {team} {word}")
+        }
         TeamsFault::OtherPreference { team, other } => write!(f, "OtherPreference {team} {other}"),
         TeamsFault::OtherNode { team, other } => write!(f, "OtherNode {team} {other}"),
         TeamsFault::TooManyInterrupts => f.write_str("TooManyInterrupts"),

@@ -1,6 +1,6 @@
 //! Why a set's text is no task set.
 
-use crate::node::{tell_budget, tell_node, tell_stranger};
+use crate::node::{node_of, tell_budget, tell_node, tell_nodes_own, tell_stranger};
 use crate::padding::{task_of, tell_padding};
 use crate::sets::tell_set;
 use crate::texts::tell_unseen;
@@ -31,6 +31,7 @@ fn tell_gathered(told: &mut Told, alloc: Global, bytes: &[u8], fault: TeamsFault
             told.name(".toml: ", task);
             told.name(" is the name of a task of ", other);
         }
+        TeamsFault::NodesOwn { team, key } => tell_nodes_own(told, team, key),
         TeamsFault::OtherPreference { team, other } => {
             tell_two(told, team, ".toml: prefers otherwise than ", other);
         }
@@ -38,7 +39,7 @@ fn tell_gathered(told: &mut Told, alloc: Global, bytes: &[u8], fault: TeamsFault
             tell_two(told, team, ".toml: another [node] than ", other);
         }
         TeamsFault::TooManyInterrupts => {
-            told.words("the teams have more than 8 interrupts together");
+            told.words("the teams and node.toml have more than 8 interrupts together");
         }
         TeamsFault::Node { fault } => tell_node(told, alloc, node, fault),
         TeamsFault::NoSuchTeam { team } => tell_stranger(told, node, team),
@@ -48,7 +49,7 @@ fn tell_gathered(told: &mut Told, alloc: Global, bytes: &[u8], fault: TeamsFault
             number,
             limit,
         } => tell_budget(told, node, team, quantity, number, limit),
-        TeamsFault::Padded { fault } => tell_padded(told, alloc, bytes, teams, fault),
+        TeamsFault::Padded { fault } => tell_padded(told, alloc, bytes, fault),
         TeamsFault::TooManyTasks => told.words("the teams have more than 32 tasks together"),
         TeamsFault::OutOfMemory => told.give_up(),
     }
@@ -145,10 +146,13 @@ fn node_said(alloc: Global, document: &[u8]) -> Option<Node> {
 }
 
 // Documents of teams without room for what the node takes, of the one with the task; another one may say the node.
-fn tell_padded_teams(told: &mut Told, alloc: Global, bytes: &[u8], fault: PadFault) {
-    let node = match first_sought(alloc, bytes, &Sought::Node) {
-        Some(part) => node_said(alloc, part.text),
-        None => None,
+fn tell_padded_teams(told: &mut Told, alloc: Global, own: &[u8], bytes: &[u8], fault: PadFault) {
+    let node = match node_of(alloc, own) {
+        Some(node) => Some(node),
+        None => match first_sought(alloc, bytes, &Sought::Node) {
+            Some(part) => node_said(alloc, part.text),
+            None => None,
+        },
     };
     let (Some(node), Some(task)) = (node, task_of(&fault)) else {
         return told.give_up();
@@ -163,13 +167,15 @@ fn tell_padded_teams(told: &mut Told, alloc: Global, bytes: &[u8], fault: PadFau
 }
 
 // A set's text that has no room for what its node takes.
-fn tell_padded(told: &mut Told, alloc: Global, bytes: &[u8], teams: &[u8], fault: PadFault) {
+fn tell_padded(told: &mut Told, alloc: Global, bytes: &[u8], fault: PadFault) {
     if !bytes.starts_with(b"#% ") {
         match node_said(alloc, bytes) {
             Some(node) => tell_padding(told, alloc, bytes, &node, &fault),
             None => told.give_up(),
         }
     } else {
-        tell_padded_teams(told, alloc, teams, fault);
+        let nothing: &[u8] = b"";
+        let (own, teams) = node_part(bytes).unwrap_or((nothing, bytes));
+        tell_padded_teams(told, alloc, own, teams, fault);
     }
 }

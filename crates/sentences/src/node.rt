@@ -1,11 +1,11 @@
-//! Why a node's document says no budgets, or why a team doesn't keep to its own.
+//! Why a node's document is none, or why a team doesn't do as it says.
 
-use crate::sets::{tell_syntax, tell_value};
+use crate::sets::{tell_fault as tell_said, tell_syntax, tell_value};
 use crate::texts::is_line_end;
 use crate::told::Told;
 use crate::tree::{Known, head_in, unknown_key};
 use std::alloc::Global;
-use task_sheet::Name;
+use task_sheet::{Key, Name, Node, read_node};
 use teams::{NodeFault, Quantity};
 use toml::{Table, Value};
 
@@ -53,16 +53,22 @@ fn tell_found(told: &mut Told, value: Option<&Value>) {
     }
 }
 
+// The keys of the document.
+const ROOT_WORDS: [&str; 4] = ["prefer", "node", "interrupt", "team"];
+
+// The keys of a team's table.
+const TEAM_WORDS: [&str; 3] = ["load", "section", "node"];
+
 // A key of the document that is not known.
 fn tell_unknown_root(told: &mut Told, root: &Table) {
-    let key = unknown_key(Known::Words("team", "team"), root).unwrap_or("");
+    let key = unknown_key(Known::Words(&ROOT_WORDS), root).unwrap_or("");
     told.shown(
         "node.toml: unknown key ",
         key,
-        "; it has budgets of teams alone, each headed by [team.NAME]",
+        "; it may have prefer in front, [node], [[interrupt]], and for each team [team.NAME]",
     );
-    if key == "node" {
-        told.words("; [node] stands in a team's document");
+    if key == "task" {
+        told.words("; a task stands in its team's document");
     }
 }
 
@@ -70,13 +76,13 @@ fn tell_unknown_root(told: &mut Told, root: &Table) {
 fn tell_unknown(told: &mut Told, root: &Table, team: Name) {
     told.name("", team);
     let key = match value_of(root, team) {
-        Some(Value::Table(table)) => unknown_key(Known::Words("load", "section"), table),
+        Some(Value::Table(table)) => unknown_key(Known::Words(&TEAM_WORDS), table),
         _ => None,
     };
     told.shown(
         ": unknown key ",
         key.unwrap_or(""),
-        "; a budget has load, section",
+        "; it may have load, section, node",
     );
 }
 
@@ -94,12 +100,27 @@ fn tell_number(told: &mut Told, root: &Table, team: Name, quantity: Quantity) {
     }
 }
 
+// The value at a team's right that is neither true nor false.
+fn tell_no_right(told: &mut Told, root: &Table, team: Name) {
+    told.name("", team);
+    told.words(
+        ": node has to be true, where the team may say prefer, [node] and [[interrupt]], or false",
+    );
+    if let Some(value) = value_of(root, team) {
+        tell_found(told, value.get("node"));
+    }
+}
+
 // What is wrong in a document.
 fn tell_fault(told: &mut Told, bytes: &[u8], root: &Table, fault: NodeFault) {
     match fault {
         NodeFault::UnknownRoot => tell_unknown_root(told, root),
+        NodeFault::Says { fault } => {
+            told.words("node.toml: ");
+            tell_said(told, root, fault);
+        }
         NodeFault::NoTeams => {
-            told.words("node.toml: team has to be a table of budgets, each headed by [team.NAME]");
+            told.words("node.toml: team has to be a table of teams, each headed by [team.NAME]");
             tell_found(told, root.get("team"));
         }
         NodeFault::BadName => {
@@ -124,6 +145,10 @@ fn tell_fault(told: &mut Told, bytes: &[u8], root: &Table, fault: NodeFault) {
             tell_place(told, bytes, team);
             tell_number(told, root, team, quantity);
         }
+        NodeFault::NoRight { team } => {
+            tell_place(told, bytes, team);
+            tell_no_right(told, root, team);
+        }
         NodeFault::Syntax | NodeFault::OutOfMemory => {}
     }
 }
@@ -136,6 +161,35 @@ pub(crate) fn tell_node(told: &mut Told, alloc: Global, bytes: &[u8], fault: Nod
             told.words("node.toml: ");
             tell_syntax(told, bytes, &error);
         }
+    }
+}
+
+// What a key of the node's is called.
+fn called(key: Key) -> &'static str {
+    match key {
+        Key::Node => "[node]",
+        Key::Interrupt => "[[interrupt]]",
+        _ => key.word(),
+    }
+}
+
+/// A team that says what is the node's, and how it may.
+pub(crate) fn tell_nodes_own(told: &mut Told, team: Name, key: Key) {
+    told.name("", team);
+    told.words(".toml: ");
+    told.words(called(key));
+    told.words(
+        " is for node.toml to say, for all teams: move it there, or let node.toml give the right, by node = true",
+    );
+    told.name(" in [team.", team);
+    told.words("]");
+}
+
+/// The node that a node's document says.
+pub(crate) fn node_of(alloc: Global, bytes: &[u8]) -> Option<Node> {
+    match toml::table_from_slice(alloc, bytes) {
+        Ok(root) => read_node(&root).unwrap_or(None),
+        Err(_) => None,
     }
 }
 

@@ -6,4 +6,5 @@ pub mod NodeDocument
 pub mod Shares
 pub mod Digits
 pub mod Budgets
+pub mod Rights
 pub mod ReadsText
