@@ -71,6 +71,7 @@ def of_set(rng, subject):
         others = [interrupts, interrupts, interrupts[1:], make_sets.interrupts(rng)]
         inputs.append(set_input(rng, make_sets.changed(rng, sheets), 0.1, rng.choice([own, own, None]), rng.choice(nodes), rng.choice(others)))
     options = [] if prefer is None or rng.random() < 0.05 else [("prefer", prefer)]
+    options += [("strict", None)] * (rng.random() < 0.15)
     if subject in ("explain", "limits", "worst") and rng.random() < 0.3:
         options.append(("task", rng.choice([*(sheet.name for sheet in sheets), "none", "0", ""])))
     number = None

@@ -357,7 +357,7 @@ def rush(rows, workers):
     return RUSHED, 0
 
 
-PREFERS = {"prefer": calls.one_of("weight", "deadline")}
+PREFERS = {"prefer": calls.one_of("weight", "deadline"), "strict": calls.FLAG}
 OF_TASK = {**PREFERS, "task": calls.any_word}
 
 
@@ -420,8 +420,8 @@ def answer(words, files, stdin=b""):
 
 
 def keywords(call):
-    """The options of a call but for what it prefers, by the names that functions know."""
-    return {KEYWORDS.get(name, name): value for name, value in call.options.items() if name != "prefer"}
+    """The options of a call but for how it reads sets, by the names that functions know."""
+    return {KEYWORDS.get(name, name): value for name, value in call.options.items() if name not in PREFERS}
 
 
 def told(call, said, text, status):
@@ -439,6 +439,32 @@ def told(call, said, text, status):
             lines.append("the highest thread is above 99, the most that Linux has for SCHED_FIFO")
         lines += notes_of(call, tasks, others, text, status)
     return "".join(f"note: {line}\n" for line in lines)
+
+
+def doubts(call, tasks):
+    """For what `--strict` refuses a set, by the first: names of tasks, locks and tasks to outrank."""
+    for task in tasks:
+        for section in task.sections:
+            for lock in section.locks:
+                if sum(any(lock in part.locks for part in other.sections) for other in tasks) == 1:
+                    yield "LoneLock", task.name, lock
+    names = {task.name for task in tasks}
+    for task in tasks:
+        for name in task.named:
+            if name not in names:
+                yield "NoSuchName", task.name, name
+    if names_decide(call, tasks):
+        for lower, higher in zip(tasks, tasks[1:]):
+            if lower.limit < higher.limit:
+                yield "NamesDecide", lower.name, higher.name
+
+
+def strictly(call, reader, tasks):
+    """The set; or the refusal of its first doubt, where the call asks for none, but for the old set of `diff`."""
+    is_old = call.command is COMMANDS["diff"] and reader is teams.read_set
+    for doubt in doubts(call, tasks) if "strict" in call.options and not is_old else ():
+        raise Refused(4, *["new"] * (reader is read_change), *doubt)
+    return tasks
 
 
 def notes_of(call, tasks, others, text, status):
@@ -527,6 +553,6 @@ def read_inputs(call, files, stdin):
         raise Refused(4, "InputTooLong")
     preference = call.options.get("prefer")
     return [
-        reader(text, preference) if reader in OF_A_PREFERENCE else reader(text)
+        strictly(call, reader, reader(text, preference)) if reader in OF_A_PREFERENCE else reader(text)
         for reader, text in zip(call.command.readers, data)
     ]

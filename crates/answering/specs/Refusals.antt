@@ -17,6 +17,8 @@ use Rattle.overheads.specs.declared.padding.PadFault.{PadFault}
 use Rattle.overheads.specs.declared.padding.PadFault.TheVariants as pad
 use Rattle.teams.specs.declared.fault.TeamsFault.{TeamsFault}
 use Rattle.teams.specs.declared.fault.TeamsFault.TheVariants as teams
+use Rattle.doubts.specs.declared.doubt.Doubt.{Doubt}
+use Rattle.doubts.specs.declared.doubt.Doubt.TheVariants as doubt
 use Rattle.certificate.specs.declared.fault.CertFault.{CertFault}
 use Rattle.certificate.specs.declared.fault.CertFault.TheVariants as text
 use Rattle.cert_checker.specs.declared.fault.CheckFault.{CheckFault}
@@ -31,8 +33,8 @@ use Rattle.judge.specs.declared.fault.SettingsFault.{SettingsFault}
 use Rattle.judge.specs.declared.fault.SettingsFault.TheVariants as settings
 use Rattle.trace_text.specs.declared.fault.TraceFault.{TraceFault}
 use Rattle.trace_text.specs.declared.fault.TraceFault.TheVariants as trace
-use Rattle.rushes.specs.declared.fault.RushFault.{RushFault}
-use Rattle.rushes.specs.declared.fault.RushFault.TheVariants as rush
+use Rattle.scripts.specs.declared.rush_fault.RushFault.{RushFault}
+use Rattle.scripts.specs.declared.rush_fault.RushFault.TheVariants as rush
 use Rattle.streams.specs.declared.input.InputFault.TheVariants as input
 use Rattle.answering.specs.declared.refusal.CommandRefusal.{CommandRefusal}
 use Rattle.answering.specs.declared.refusal.CommandRefusal.TheVariants as refusal
@@ -154,6 +156,13 @@ teams_words (teams.Padded fault) = padding_words fault
 teams_words teams.TooManyTasks = codes "TooManyTasks"
 teams_words teams.OutOfMemory = codes "OutOfMemory"
 
+-- what may be a mistake in a set: two names
+abbrev pub doubt_words : Doubt → List ℕ
+doubt_words (doubt.LoneLock task lock) = codes "LoneLock " ++ task ++ codes " " ++ lock
+doubt_words (doubt.NoSuchName task name) = codes "NoSuchName " ++ task ++ codes " " ++ name
+doubt_words (doubt.NamesDecide lower higher) =
+    codes "NamesDecide " ++ lower ++ codes " " ++ higher
+
 -- the fault of a certificate's text
 abbrev pub certificate_words : CertFault → List ℕ
 certificate_words text.BadHead = codes "BadHead"
@@ -239,6 +248,8 @@ words_of (refusal.Input input.ReadFailed) = codes "ReadFailed"
 words_of (refusal.Set fault) = teams_words fault
 words_of (refusal.New teams.OutOfMemory) = codes "OutOfMemory"
 words_of (refusal.New fault) = codes "new " ++ teams_words fault
+words_of (refusal.Doubtful doubt) = doubt_words doubt
+words_of (refusal.NewDoubtful doubt) = codes "new " ++ doubt_words doubt
 words_of (refusal.Certificate fault) = certificate_words fault
 words_of (refusal.Check fault) = check_words fault
 words_of (refusal.Text fault) = text_words fault
@@ -265,6 +276,8 @@ status_of (refusal.Set teams.OutOfMemory) = status.OutOfMemory
 status_of (refusal.Set _) = status.BadInput
 status_of (refusal.New teams.OutOfMemory) = status.OutOfMemory
 status_of (refusal.New _) = status.BadInput
+status_of (refusal.Doubtful _) = status.BadInput
+status_of (refusal.NewDoubtful _) = status.BadInput
 status_of (refusal.Certificate text.OutOfMemory) = status.OutOfMemory
 status_of (refusal.Certificate _) = status.BadCertificate
 status_of (refusal.Check _) = status.BadCertificate

@@ -114,6 +114,8 @@ pub(crate) enum Verb {
 pub(crate) enum Choice {
     // `--prefer weight|deadline`
     Prefer,
+    // `--strict`
+    Strict,
     // `--task NAME`
     Task,
     // `--base N`
@@ -165,6 +167,8 @@ pub enum Preferred {
 pub struct Options<'a> {
     /// `--prefer weight|deadline`
     pub prefer: Option<Preferred>,
+    /// `--strict`: a set is refused for what may be a mistake.
+    pub is_strict: bool,
     /// `--task NAME`: the task that is asked about.
     pub task: Option<&'a str>,
     /// `--base N`: the priority of level 1.
@@ -287,6 +291,7 @@ impl Choice {
     {
         match self {
             Choice::Prefer => "prefer",
+            Choice::Strict => "strict",
             Choice::Task => "task",
             Choice::Base => "base",
             Choice::LowerIsHigher => "lower-is-higher",
@@ -344,7 +349,7 @@ impl Choice {
                 least: LEAST_WIDTH as u32,
                 most: MOST_WIDTH as u32,
             },
-            Choice::LowerIsHigher | Choice::Tasks => Takes::Flag,
+            Choice::Strict | Choice::LowerIsHigher | Choice::Tasks => Takes::Flag,
         }
     }
 
@@ -359,6 +364,7 @@ impl Choice {
             Choice::Rows => "NAMES",
             Choice::Base
             | Choice::Seed
+            | Choice::Strict
             | Choice::LowerIsHigher
             | Choice::Tasks
             | Choice::Tolerance
@@ -370,6 +376,7 @@ impl Choice {
     pub(crate) fn help<'a>(self) -> &'a str {
         match self {
             Choice::Prefer => "What decides among the orders that pass: weight or deadline",
+            Choice::Strict => "Refuses a set that may have a mistake, for what is a note else",
             Choice::Task => "The task that is asked about, alone",
             Choice::Base => "The priority of level 1, from 1 to 999969",
             Choice::LowerIsHigher => "The smaller number is the higher priority",
@@ -396,6 +403,7 @@ impl<'a> Options<'a> {
     {
         Options {
             prefer: None,
+            is_strict: false,
             task: None,
             base: None,
             lower_is_higher: false,

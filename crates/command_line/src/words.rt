@@ -85,6 +85,7 @@ fn options_at<'a>(matches: &ArgMatches<'a>) -> Option<Options<'a>>
     let prefer = preference_at(matches)?;
     Some(Options {
         prefer,
+        is_strict: flag_chosen(matches, Choice::Strict),
         task: matches.get_str("task"),
         base: number_chosen(matches, Choice::Base),
         lower_is_higher: flag_chosen(matches, Choice::LowerIsHigher),

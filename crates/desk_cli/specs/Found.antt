@@ -11,7 +11,7 @@ use Rattle.command_line.specs.declared.calls.OfTwo.TheVariants as command
 use Rattle.judge.specs.Lines.{judged_lines}
 use Rattle.two_input_commands.specs.Check.{ChecksText, checked_line}
 use Rattle.answering.specs.Statuses.{placing_status}
-use Rattle.answering.specs.Chosen.{base_of, preference_of, task_of}
+use Rattle.answering.specs.Chosen.{base_of, asking_of, task_of}
 use Rattle.two_input_commands.specs.Diff.{ComparesText, compared_lines}
 use Rattle.two_input_commands.specs.Draw.{DrawsText, drawing_said}
 use Rattle.two_input_commands.specs.ExplainAt.{ExplainsText, explained_at_lines}
@@ -32,8 +32,8 @@ use Rattle.answering.specs.declared.status.Status.TheVariants.{Done}
 abbrev pub FindsIn : OfTwo → Options → Preference → List Task → List ℕ → Result Found CommandRefusal → Type 0
 FindsIn command.Check options by U text (Ok (Shown kind)) = ChecksText U text (Ok kind)
 FindsIn command.Check options by U text (Err r) = ChecksText U text (Err r)
-FindsIn command.Diff options by U text (Ok (Compared c)) = ComparesText (preference_of options) by U text (Ok c)
-FindsIn command.Diff options by U text (Err r) = ComparesText (preference_of options) by U text (Err r)
+FindsIn command.Diff options by U text (Ok (Compared c)) = ComparesText (asking_of options) by U text (Ok c)
+FindsIn command.Diff options by U text (Err r) = ComparesText (asking_of options) by U text (Err r)
 FindsIn command.Judge options by U text (Ok (Judged node)) =
     JudgesText options.lower_is_higher U text (Ok node)
 FindsIn command.Judge options by U text (Err r) = JudgesText options.lower_is_higher U text (Err r)

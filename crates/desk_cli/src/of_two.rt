@@ -1,12 +1,12 @@
 //! The commands of a task set and a second input.
 ghost use Rattle.std.specs.Prelude.{IfOk};
-ghost use Rattle.desk_cli.specs.Commands.{TwoSay};
+ghost use Rattle.desk_cli.specs.Commands.{TwoSay, first_asking};
 ghost use Rattle.desk_cli.specs.Found.{FindsIn, IsFoundOf, PrintsFound};
 ghost use Rattle.desk_cli.specs.Saying.{SaysOfBoth};
 ghost use Rattle.answering.specs.Outcomes.{IsCarriedOutOnBoth, IsSaidOn};
 
 use answering::{
-    Audience, Both, CommandRefusal, Status, Which, base_of, placing_status, preference_of, print,
+    Audience, Both, CommandRefusal, Status, Which, asking_of, base_of, placing_status, print,
     print_bytes, print_made, read_two, refuse, tell,
 };
 use cert_checker::Checked;
@@ -15,6 +15,7 @@ use judge::{JudgedNode, judged_text};
 use kept_order::Keeping;
 use observed::{Seen, Sight};
 use owners::Owner;
+use preferences::Asking;
 use std::alloc::Global;
 use std::io::{Read, Write};
 use streams::Watched;
@@ -69,7 +70,7 @@ fn find(
         OfTwo::Check => Ok(Found::Shown(check_text(alloc, tasks, text)?)),
         OfTwo::Diff => Ok(Found::Compared(compare_text(
             alloc,
-            preference_of(options),
+            asking_of(options),
             by,
             tasks,
             text,
@@ -245,6 +246,16 @@ fn say_both<W: Write + Drop, P: Audience>(
     }
 }
 
+// What a call asks of its set: of the old one of `diff` no doubt is told.
+fn first_asking(command: OfTwo, options: Options<'_>) -> Asking
+    ensures { result ≡ first_asking command options.entry }
+{
+    match command {
+        OfTwo::Diff => asking_of(options).lenient(),
+        _ => asking_of(options),
+    }
+}
+
 /// A command of two inputs: reads a task set and a text, and prints what docs/FORMATS.md says of the command and of
 /// what the words choose, or why one of them was refused. Both are read before either is parsed, the set first.
 pub fn carry_out_on_both<R: Read + Drop, S: Read + Drop, W: Write + Drop, P: Audience>(
@@ -259,8 +270,8 @@ pub fn carry_out_on_both<R: Read + Drop, S: Read + Drop, W: Write + Drop, P: Aud
     ensures { IsCarriedOutOnBoth (TwoSay command options.entry) R.remaining S.remaining W.contents
         set.old set.new other.old other.new output.old output.new result }
 {
-    let preference = preference_of(options);
-    match read_two(alloc, preference, set, other, people) {
+    let asking = first_asking(command, options);
+    match read_two(alloc, asking, set, other, people) {
         Ok(both) => say_both(alloc, command, options, &both, output, people),
         Err(refusal) => refuse(refusal, output),
     }

@@ -1,10 +1,13 @@
 //! Why a set's text is no task set.
 
+use crate::choices::NAMES_DECIDE;
 use crate::node::{node_of, tell_budget, tell_node, tell_nodes_own, tell_stranger};
 use crate::padding::{task_of, tell_padding};
 use crate::sets::tell_set;
 use crate::texts::tell_unseen;
 use crate::told::Told;
+use crate::tree::{place_of_name, tell_place};
+use doubts::Doubt;
 use overheads::PadFault;
 use std::alloc::Global;
 use task_sheet::{Name, Node, SetFault, read_document};
@@ -75,6 +78,54 @@ fn tell_head(told: &mut Told, bytes: &[u8], part: usize) {
         &[part as u64],
     );
     tell_unseen(told, rest, 1);
+}
+
+/// What a person is told of what may be a mistake in a set, in the words of its note, from the set's bytes; none where
+/// memory runs out.
+pub fn of_doubt(alloc: Global, bytes: &[u8], doubt: Doubt) -> Option<String> {
+    let mut told = Told::new(alloc);
+    match doubt {
+        Doubt::LoneLock { task, lock } => {
+            tell_task(&mut told, alloc, bytes, task);
+            told.name("lock ", lock);
+            told.name(" has one user, ", task);
+        }
+        Doubt::NoSuchName { task, name } => {
+            tell_task(&mut told, alloc, bytes, task);
+            told.name("", task);
+            told.name(" outranks ", name);
+            told.words(", which is no task of the set: that binds nothing");
+        }
+        Doubt::NamesDecide { .. } => told.words(NAMES_DECIDE),
+    }
+    told.whole()
+}
+
+// The place of a task of a document.
+fn tell_task_in(told: &mut Told, alloc: Global, bytes: &[u8], task: Name) {
+    match toml::table_from_slice(alloc, bytes) {
+        Ok(root) => match place_of_name(&root, task.as_str()) {
+            Some(place) => tell_place(told, alloc, bytes, &root, place, 0),
+            None => told.give_up(),
+        },
+        Err(_) => told.give_up(),
+    }
+}
+
+// The place of a task of a set's text, behind its team's file.
+fn tell_task(told: &mut Told, alloc: Global, bytes: &[u8], task: Name) {
+    if !bytes.starts_with(b"#% ") {
+        return tell_task_in(told, alloc, bytes, task);
+    }
+    let nothing: &[u8] = b"";
+    let (_, teams) = node_part(bytes).unwrap_or((nothing, bytes));
+    match first_sought(alloc, teams, &Sought::Task(task)) {
+        Some(part) => {
+            tell_file(told, part.team);
+            tell_task_in(told, alloc, part.text, task);
+        }
+        None => told.give_up(),
+    }
 }
 
 // What is looked for among the documents of teams.

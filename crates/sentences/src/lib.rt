@@ -29,7 +29,7 @@ pub use asked::{of_task, of_tasks, of_window};
 pub use choices::{put_names_decide, put_override, put_past_priorities};
 pub use conflicts::{put_conflict, put_parted};
 pub use density::{greatest_until, of_density};
-pub use gathered::of_set_text;
+pub use gathered::{of_doubt, of_set_text};
 pub use lists::{of_release_line, of_run, of_settings};
 pub use notes::put_notes;
 pub use overload::put_overload;
