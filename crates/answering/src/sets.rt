@@ -2,7 +2,7 @@
 ghost use Rattle.std.specs.Prelude.{◌≡◌, Err, IfOk, MatchResult};
 ghost use Rattle.preferences.specs.ReadsPreferred.{SaysPreferred};
 ghost use Rattle.teams.specs.ReadsText.{ReadsText};
-ghost use Rattle.answering.specs.Chosen.{base_of, preference_of};
+ghost use Rattle.answering.specs.Chosen.{base_of, preference_of, room_of};
 ghost use Rattle.answering.specs.Owning.{HasOwned, HaveOwned, IsTakenBy, SaysOwned};
 ghost use Rattle.answering.specs.Sets.{HasNoSet, HasSet, HaveNotBoth};
 ghost use Rattle.answering.specs.Outcomes.{AreRead, IsRead, failed_read};
@@ -10,7 +10,7 @@ ghost use Rattle.streams.specs.Inputs.{IsReadFrom, IsTooLong};
 
 use crate::audience::{Audience, Which};
 use crate::refusal::CommandRefusal;
-use command_line::{MOST_PRIORITY, Options, Preferred};
+use command_line::{MOST_PRIORITY, MOST_ROOM, Options, Preferred};
 use owners::{Owner, read_owners};
 use preferences::{Preference, read_preferred};
 use std::alloc::Global;
@@ -72,6 +72,16 @@ pub fn base_of(options: Options<'_>) -> u32
     match options.base {
         Some(base) => base.min(MOST_PRIORITY) as u32,
         None => 1,
+    }
+}
+
+/// How much room the words choose beside a number that is given anew.
+pub fn room_of(options: Options<'_>) -> u32
+    ensures { result ≡ room_of options.entry }
+{
+    match options.room {
+        Some(room) => room.min(MOST_ROOM) as u32,
+        None => 0,
     }
 }
 

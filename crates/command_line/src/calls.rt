@@ -16,6 +16,9 @@ pub const LATEST_END: usize = 60_000_000;
 /// The greatest priority of level 1: that of the 32nd level is 1,000,000, the greatest that a reader of settings takes.
 pub const MOST_PRIORITY: usize = 999_969;
 
+/// The greatest room beside a number.
+pub const MOST_ROOM: usize = 1_000_000;
+
 /// The greatest tolerance of a trace, in microseconds.
 pub const MOST_TOLERANCE: usize = 60_000_000;
 
@@ -118,6 +121,8 @@ pub(crate) enum Choice {
     Task,
     // `--base N`
     Base,
+    // `--room N`
+    Room,
     // `--lower-is-higher`
     LowerIsHigher,
     // `--seed N`
@@ -169,6 +174,8 @@ pub struct Options<'a> {
     pub task: Option<&'a str>,
     /// `--base N`: the priority of level 1.
     pub base: Option<usize>,
+    /// `--room N`: how many numbers are to stay free beside one that is given anew.
+    pub room: Option<usize>,
     /// `--lower-is-higher`: the smaller number is the higher priority.
     pub lower_is_higher: bool,
     /// `--seed N`: the seed of a random release list.
@@ -289,6 +296,7 @@ impl Choice {
             Choice::Prefer => "prefer",
             Choice::Task => "task",
             Choice::Base => "base",
+            Choice::Room => "room",
             Choice::LowerIsHigher => "lower-is-higher",
             Choice::Seed => "seed",
             Choice::Tasks => "tasks",
@@ -328,6 +336,10 @@ impl Choice {
                 least: 1,
                 most: MOST_PRIORITY as u32,
             },
+            Choice::Room => Takes::Number {
+                least: 0,
+                most: MOST_ROOM as u32,
+            },
             Choice::Seed => Takes::Number {
                 least: 0,
                 most: MOST_SEED as u32,
@@ -358,6 +370,7 @@ impl Choice {
             Choice::Title => "TEXT",
             Choice::Rows => "NAMES",
             Choice::Base
+            | Choice::Room
             | Choice::Seed
             | Choice::LowerIsHigher
             | Choice::Tasks
@@ -371,14 +384,15 @@ impl Choice {
         match self {
             Choice::Prefer => "What decides among the orders that pass: weight or deadline",
             Choice::Task => "The task that is asked about, alone",
-            Choice::Base => "The priority of level 1, from 1 to 999969",
+            Choice::Base => "The least priority, that of level 1, from 1 to 999969",
+            Choice::Room => "How many numbers stay free beside each that is given anew, if they fit",
             Choice::LowerIsHigher => "The smaller number is the higher priority",
             Choice::Seed => "A random list in place of the densest, the same for the same seed",
             Choice::Tasks => "What each task came to, in place of who executes when",
             Choice::Tolerance => {
                 "By how many microseconds a time may be past what is promised, up to 60000000"
             }
-            Choice::Keep => "Settings of a node whose order stays, as far as both have its tasks",
+            Choice::Keep => "Settings of a node whose order stays, and its numbers as far as they can",
             Choice::At => "Settings that give the order, in place of the best one",
             Choice::From => "Where the picture begins, in microseconds",
             Choice::To => "Where the picture ends, in microseconds, if not with the run",
@@ -398,6 +412,7 @@ impl<'a> Options<'a> {
             prefer: None,
             task: None,
             base: None,
+            room: None,
             lower_is_higher: false,
             seed: None,
             by_task: false,

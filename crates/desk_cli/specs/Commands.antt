@@ -22,7 +22,7 @@ use Rattle.two_input_commands.specs.WorstAt.{SaysWorstAt}
 use Rattle.set_commands.specs.declared.one_task.TaskPart.TheVariants as part
 use Rattle.answering.specs.declared.answer.OrderPart.TheVariants as order
 use Rattle.answering.specs.declared.status.Status.{Status}
-use Rattle.answering.specs.Chosen.{base_of, preference_of, task_of}
+use Rattle.answering.specs.Chosen.{base_of, preference_of, room_of, task_of}
 
 -- what the writer held, what it holds then, and the status, are those of the command's answer on what a reader has, by
 -- what the words choose
@@ -32,7 +32,7 @@ OneSays Admit options = SaysPlacing order.Levels (preference_of options)
 OneSays Certify options = SaysCertified (preference_of options)
 OneSays Limits options = SaysPart part.Limits (task_of options) (preference_of options)
 OneSays Settings options =
-    SaysPlacing (order.Settings (base_of options)) (preference_of options)
+    SaysPlacing (order.Settings (base_of options) (room_of options)) (preference_of options)
 OneSays Explain options = SaysPart part.Reasons (task_of options) (preference_of options)
 OneSays Worst options = SaysPart part.Worst (task_of options) (preference_of options)
 OneSays Play options = SaysPlayed
@@ -47,7 +47,7 @@ TwoSay Diff options = SaysCompared (preference_of options)
 TwoSay Simulate options = SaysSimulation options.by_task (preference_of options)
 TwoSay Draw options = SaysDrawn options (preference_of options)
 TwoSay Observe options = SaysObserved (tolerance_of options) (preference_of options)
-TwoSay Keep options = SaysKeeping (base_of options) (preference_of options)
+TwoSay Keep options = SaysKeeping (base_of options) (room_of options) (preference_of options)
 TwoSay WorstAt options = SaysWorstAt (task_of options) (preference_of options)
 TwoSay LimitsAt options = SaysLimitsAt (task_of options) (preference_of options)
 TwoSay ExplainAt options = SaysExplainedAt (task_of options) (preference_of options)
