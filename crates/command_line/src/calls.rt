@@ -384,7 +384,7 @@ impl Choice {
         match self {
             Choice::Prefer => "What decides among the orders that pass: weight or deadline",
             Choice::Task => "The task that is asked about, alone",
-            Choice::Base => "The least priority, that of level 1, from 1 to 999969",
+            Choice::Base => "The least priority, from 1 to 999969",
             Choice::Room => "How many numbers stay free beside each that is given anew, if they fit",
             Choice::LowerIsHigher => "The smaller number is the higher priority",
             Choice::Seed => "A random list in place of the densest, the same for the same seed",

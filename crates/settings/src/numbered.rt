@@ -156,7 +156,8 @@ fn numbers_from(
     ensures each { IfOk result (λ numbers. length numbers.items ≡ length old.now) }
 {
     let most = top_of(u64::from(base), old);
-    numbers_of(alloc, u64::from(room), u64::from(base), most, old)
+    let numbers = numbers_of(alloc, u64::from(room), u64::from(base), most, old)?;
+    Ok(numbers)
 }
 
 /// The lines that say what a node is set to for an order of a set, its places the lowest first, whose threads have these
