@@ -11,6 +11,8 @@
 enum { TURN = 997000, BETWEEN = 200000000 };
 /* How many pauses of a second are kept; where there are more, the looking ends early. */
 enum { PAUSES = 5000 };
+/* The most that a set may say of the timer's part of a job, in us. */
+enum { MOST_RELEASE = 1000 };
 
 struct gauge {
     const char *name, *text;
@@ -157,6 +159,9 @@ static void print_interrupts(void)
 static void print_node(void)
 {
     long timer = greatest(&release);
+    if (timer > MOST_RELEASE)
+        fprintf(stderr, "warning: release = %ld: a set may have at most %d; timers take too long here\n",
+                timer, MOST_RELEASE);
     printf("[node] # the greatest seen, in us\njob = %ld\nlock = %ld\nrelease = %ld\nlate = %ld\n",
            most(greatest(&job), timer), greatest(&lock), timer,
            most(greatest(&late), greatest(&idle)));

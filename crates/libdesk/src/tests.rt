@@ -69,7 +69,7 @@ const ANSWERS: [(Call, &[u8], u8); 18] = [
     (Call::Check(b"", CERTIFICATE), b"best\n", 0),
     (
         Call::Limits(SET),
-        b"admitted 1\nx cost 1000 1000 1000\nx period 1000 1000 1000\nx deadline 1000 1000 1000\nx jitter 0 0 0\nx slack 0\nall 1000 1000 x\n",
+        b"admitted 1\nx cost 1000 1000 1000 by period\nx period 1000 1000 1000 by cost\nx deadline 1000 1000 1000\nx jitter 0 0 0\nx slack 0\nall 1000 1000 x\n",
         0,
     ),
     (Call::Settings(SET), b"thread x 1\n", 0),
