@@ -145,12 +145,7 @@ fn settings_at(
 }
 
 // The numbers of an order, from a base on.
-fn numbers_from(
-    alloc: Global,
-    base: u32,
-    room: u32,
-    old: &[u64],
-) -> Result<Vec<u64>, AllocError>
+fn numbers_from(alloc: Global, base: u32, room: u32, old: &[u64]) -> Result<Vec<u64>, AllocError>
     requires { length old.now ≤ TASK_LIMIT }
     ensures is { IfOk result (λ numbers. numbers.items ≡ numbers_from base room old.now) }
     ensures each { IfOk result (λ numbers. length numbers.items ≡ length old.now) }
@@ -158,6 +153,13 @@ fn numbers_from(
     let most = top_of(u64::from(base), old);
     let numbers = numbers_of(alloc, u64::from(room), u64::from(base), most, old)?;
     Ok(numbers)
+}
+
+// So many threads have no number.
+fn no_numbers(alloc: Global, count: usize) -> Result<Vec<u64>, AllocError>
+    ensures { IfOk result (λ none. none.items ≡ replicate count 0) }
+{
+    vec![in alloc; 0; count]
 }
 
 /// The lines that say what a node is set to for an order of a set, its places the lowest first, whose threads have these
@@ -201,7 +203,7 @@ pub fn anew_text(
     // The set is valid: the proof has it from its sheets.
     let _ = set.sheets();
     let order = tasks_of_places(alloc, places)?;
-    let none = vec![in alloc; 0; order.len()]?;
+    let none = no_numbers(alloc, order.len())?;
     let numbers = numbers_from(alloc, base, room, &none)?;
     settings_at(alloc, set, &numbers, &order)
 }
