@@ -1,7 +1,7 @@
 -- What the settings of an order print whose threads have numbers of their own gives the order back; what is said of those that
 -- moved is skipped.
-use Rattle.std.proofs.Common.{◌≡◌, ◌∙◌, ℕ, zero, suc, ◌+◌, ◌-◌, ◌<◌, ◌≤◌, ◌^◌, ◌==◌, ◌&&◌, ◌||◌, inl, inr, Bool}
-use Rattle.std.proofs.Common.{true, false, cond, List, [], ◌∷◌, ◌++◌, length, get_or, replicate, All}
+use Rattle.std.proofs.Common.{◌≡◌, ◌∙◌, ℕ, zero, suc, ◌+◌, ◌-◌, ◌<◌, ◌≤◌, ◌==◌, ◌&&◌, ◌||◌, inl, inr}
+use Rattle.std.proofs.Common.{List, [], ◌∷◌, ◌++◌, length, replicate, All}
 use Rattle.std.proofs.Common.{Ok, option_map, refl, sym, ap, append_assoc, append-nil, arith}
 use Rattle.std.specs.Prelude.{codes, slice_index, nat_le}
 use Rattle.std.specs.Fmt.{decimal}
@@ -11,12 +11,11 @@ use Rattle.std.proofs.lemmas.List.{length-replicate}
 use Rattle.std.proofs.lemmas.List.Elements.{recursion_from_All}
 use Rattle.task_sheet.proofs.Common.{Task, IsName, IsTaskSet, IsOrder, ceiling_of, task_at}
 use Rattle.task_sheet.proofs.TaskLaws.{valid_at}
-use Rattle.ceiling_kernel.proofs.OrderLaws.{order_iff}
 use Rattle.ceilings.specs.IsTableOf.{locks_of}
 use Rattle.lines.specs.Lines.{kept_from, lines_of}
 use Rattle.lines.proofs.Lacks.{Lacks, joined_lacks, lacks_in, name_lacks, number_lacks, one_more}
 use Rattle.settings.specs.Numbering.{Rise, top_of}
-use Rattle.settings.specs.Settings.{moved_line, moved_lines, mutex_line, mutex_lines_at, number_at}
+use Rattle.settings.specs.Settings.{moved_lines, mutex_line, mutex_lines_at, number_at}
 use Rattle.settings.specs.Settings.{numbers_from, settings_anew, settings_at, settings_kept}
 use Rattle.settings.specs.Settings.{thread_line, thread_lines_at}
 use Rattle.settings.proofs.NumberingLaws.{numbers_keep}
@@ -78,7 +77,12 @@ are_rising least most numbers some few rise = record {
         let low = (rise_within least most numbers p here rise).0 in
         elim (cases_Bool (nat_le (q + 1) (length numbers))) [
           | inl inside ↦
-              omega (arith, same, rise_at least most numbers p q lt (leb-true (q + 1) _ inside) rise)
+              omega (
+                arith,
+                same,
+                rise_at least most numbers p q lt
+                    (omega (arith, leb-true (q + 1) _ inside)) rise,
+              )
           | inr outside ↦
               omega (arith, same, low, some, past numbers q (omega (arith, leb-false (q + 1) _ outside)))
         ]
@@ -180,14 +184,19 @@ bounded : (least most : ℕ) (numbers : List ℕ) → most ≤ NUMBER_LIMIT → 
     → (p : ℕ) → slice_index numbers p ≤ NUMBER_LIMIT
 bounded least most numbers few rise p = elim (cases_Bool (nat_le (p + 1) (length numbers))) [
   | inl inside ↦
-      omega (arith, few, (rise_within least most numbers p (leb-true (p + 1) _ inside) rise).1)
+      omega (
+        arith,
+        few,
+        (rise_within least most numbers p
+            (omega (arith, leb-true (p + 1) _ inside)) rise).1,
+      )
   | inr outside ↦ omega (arith, past numbers p (omega (arith, leb-false (p + 1) _ outside)))
 ]
 
 each_few : (old : List ℕ) → All (λ n. n ≤ NUMBER_LIMIT) old → (p : ℕ)
     → slice_index old p ≤ NUMBER_LIMIT
 each_few old each p = elim (cases_Bool (nat_le (p + 1) (length old))) [
-  | inl inside ↦ each p 0 (leb-true (p + 1) _ inside)
+  | inl inside ↦ each p 0 (omega (arith, leb-true (p + 1) _ inside))
   | inr outside ↦ omega (arith, past old p (omega (arith, leb-false (p + 1) _ outside)))
 ]
 

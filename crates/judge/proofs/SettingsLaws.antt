@@ -266,13 +266,13 @@ module _ (U : List Task) (f : ℕ → ℕ) where
 
     -- ---- the text
     -- the mutexes of some locks, and what stands behind them
-    abbrev mutexes_then : List (List ℕ) → List ℕ
+    abbrev pub mutexes_then : List (List ℕ) → List ℕ
     mutexes_then [] = tail
     mutexes_then (lock ∷ locks) =
         mutex_line lock (option_map g (ceiling_of U order lock)) ++ mutexes_then locks
 
     -- the threads of some tasks, and what stands behind them
-    abbrev threads_then : (level : ℕ) → List ℕ → List ℕ
+    abbrev pub threads_then : (level : ℕ) → List ℕ → List ℕ
     threads_then level [] = mutexes_then (locks_of U)
     threads_then level (i ∷ is) = thread_line U (f level) i ++ threads_then (level + 1) is
 
@@ -350,8 +350,12 @@ module _ (U : List Task) (f : ℕ → ℕ) where
             let next : k + 1 < length order = omega (arith, lt, length-map order number) in
             let here : k < length order = omega arith in
             rw (get_or-map number order k 0 0 here, get_or-map number order (k + 1) 0 0 next)
-            (omega (arith, number_at k here, number_at (k + 1) next,
-            are.rise k (k + 1) (omega arith) next));
+            (omega (
+              arith,
+              number_at k here,
+              number_at (k + 1) next,
+              are.rise k (k + 1) (omega arith) next,
+            ));
       }
 
       -- ---- locks and ceilings
