@@ -385,14 +385,16 @@ impl Choice {
             Choice::Prefer => "What decides among the orders that pass: weight or deadline",
             Choice::Task => "The task that is asked about, alone",
             Choice::Base => "The least priority, from 1 to 999969",
-            Choice::Room => "How many numbers stay free beside each that is given anew, if they fit",
+            Choice::Room =>
+                "How many numbers stay free beside each that is given anew, if they fit",
             Choice::LowerIsHigher => "The smaller number is the higher priority",
             Choice::Seed => "A random list in place of the densest, the same for the same seed",
             Choice::Tasks => "What each task came to, in place of who executes when",
             Choice::Tolerance => {
                 "By how many microseconds a time may be past what is promised, up to 60000000"
             }
-            Choice::Keep => "Settings of a node whose order stays, and its numbers as far as they can",
+            Choice::Keep =>
+                "Settings of a node whose order stays, and its numbers as far as they can",
             Choice::At => "Settings that give the order, in place of the best one",
             Choice::From => "Where the picture begins, in microseconds",
             Choice::To => "Where the picture ends, in microseconds, if not with the run",
