@@ -117,6 +117,8 @@ pub(crate) enum Verb {
 pub(crate) enum Choice {
     // `--prefer weight|deadline`
     Prefer,
+    // `--strict`
+    Strict,
     // `--task NAME`
     Task,
     // `--base N`
@@ -131,6 +133,8 @@ pub(crate) enum Choice {
     Tasks,
     // `--tolerance N`
     Tolerance,
+    // `--jobless`
+    Jobless,
     // `--keep SETTINGS`
     Keep,
     // `--at SETTINGS`
@@ -170,6 +174,8 @@ pub enum Preferred {
 pub struct Options<'a> {
     /// `--prefer weight|deadline`
     pub prefer: Option<Preferred>,
+    /// `--strict`: a set is refused for what may be a mistake.
+    pub is_strict: bool,
     /// `--task NAME`: the task that is asked about.
     pub task: Option<&'a str>,
     /// `--base N`: the priority of level 1.
@@ -184,6 +190,8 @@ pub struct Options<'a> {
     pub by_task: bool,
     /// `--tolerance N`: by so many microseconds the times of a trace may be past what is promised.
     pub tolerance: Option<usize>,
+    /// `--jobless`: it is meant that a task may have no job in a trace.
+    pub jobless: bool,
     /// `--from T`: where a picture begins, in microseconds.
     pub from: Option<usize>,
     /// `--to T`: where it ends.
@@ -294,6 +302,7 @@ impl Choice {
     {
         match self {
             Choice::Prefer => "prefer",
+            Choice::Strict => "strict",
             Choice::Task => "task",
             Choice::Base => "base",
             Choice::Room => "room",
@@ -301,6 +310,7 @@ impl Choice {
             Choice::Seed => "seed",
             Choice::Tasks => "tasks",
             Choice::Tolerance => "tolerance",
+            Choice::Jobless => "jobless",
             Choice::Keep => "keep",
             Choice::At => "at",
             Choice::From => "from",
@@ -356,7 +366,7 @@ impl Choice {
                 least: LEAST_WIDTH as u32,
                 most: MOST_WIDTH as u32,
             },
-            Choice::LowerIsHigher | Choice::Tasks => Takes::Flag,
+            Choice::Strict | Choice::LowerIsHigher | Choice::Tasks | Choice::Jobless => Takes::Flag,
         }
     }
 
@@ -372,9 +382,11 @@ impl Choice {
             Choice::Base
             | Choice::Room
             | Choice::Seed
+            | Choice::Strict
             | Choice::LowerIsHigher
             | Choice::Tasks
             | Choice::Tolerance
+            | Choice::Jobless
             | Choice::Width => "N",
         }
     }
@@ -383,18 +395,18 @@ impl Choice {
     pub(crate) fn help<'a>(self) -> &'a str {
         match self {
             Choice::Prefer => "What decides among the orders that pass: weight or deadline",
+            Choice::Strict => "Refuses a set that may have a mistake, for what is a note else",
             Choice::Task => "The task that is asked about, alone",
             Choice::Base => "The least priority, from 1 to 999969",
-            Choice::Room =>
-                "How many numbers stay free beside each that is given anew, if they fit",
+            Choice::Room => "How many numbers stay free beside each given anew, if they fit",
             Choice::LowerIsHigher => "The smaller number is the higher priority",
             Choice::Seed => "A random list in place of the densest, the same for the same seed",
             Choice::Tasks => "What each task came to, in place of who executes when",
             Choice::Tolerance => {
                 "By how many microseconds a time may be past what is promised, up to 60000000"
             }
-            Choice::Keep =>
-                "Settings of a node whose order stays, and its numbers as far as they can",
+            Choice::Jobless => "It is meant that some task has no job",
+            Choice::Keep => "Settings of a node whose order stays, and numbers as far as can be",
             Choice::At => "Settings that give the order, in place of the best one",
             Choice::From => "Where the picture begins, in microseconds",
             Choice::To => "Where the picture ends, in microseconds, if not with the run",
@@ -412,6 +424,7 @@ impl<'a> Options<'a> {
     {
         Options {
             prefer: None,
+            is_strict: false,
             task: None,
             base: None,
             room: None,
@@ -419,6 +432,7 @@ impl<'a> Options<'a> {
             seed: None,
             by_task: false,
             tolerance: None,
+            jobless: false,
             from: None,
             to: None,
             width: None,
