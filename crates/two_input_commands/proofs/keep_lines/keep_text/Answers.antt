@@ -22,9 +22,3 @@ have_old U text (Kept places) old has =
     ap length has.each ∙ length-map (tasks_of_places places.items) _ ∙ length-map places.items _
 have_old U text _ old has = tt
 
-pub old_of-requires : goal.old_of-requires
-old_of-requires c = kept_in c.args.tasks.now _ c.in_ok-keeping.keeping
-    (rw c.of-set.ensures at c.in_ok-keeping.ensures)
-
-pub returns-in_Ok-clause-answer : goal.returns-in_Ok-clause-answer
-returns-in_Ok-clause-answer c = ?
