@@ -22,10 +22,10 @@ use std::io::{Read, Write};
 use streams::Watched;
 use task_sheet::{Members, Name, Preference, TaskSet};
 use two_input_commands::{
-    Compared, Drawing, InOrder, KeptNode, Observation, Simulated, check_text, checked_line, compare_text,
-    compared_text, draw_text, explain_at, explained_at_text, judge_text, judged_status, keep_text,
-    keeping_status, keeping_text, leeway_of, limits_at, observe_text, print_drawing,
-    print_observation, print_reached, print_simulated, simulate_text, worst_at,
+    Compared, Drawing, InOrder, KeptNode, Observation, Simulated, check_text, checked_line,
+    compare_text, compared_text, draw_text, explain_at, explained_at_text, judge_text,
+    judged_status, keep_text, keeping_status, keeping_text, leeway_of, limits_at, observe_text,
+    print_drawing, print_observation, print_reached, print_simulated, simulate_text, worst_at,
 };
 
 /// What a command finds of a set and a text.
