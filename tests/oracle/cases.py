@@ -149,8 +149,13 @@ def set_input(rng, sheets, damaged, own=None, overheads=None, interrupts=()):
     cut = rng.randint(0, len(interrupts))
     hands = [interrupts[:cut], interrupts[cut:]]
     hand = lambda: hands.pop(0) if hands and rng.random() < 0.6 else rng.choice([[]] * 9 + [interrupts])
+    is_kept, said = rng.random() < 0.5, b""
+    if is_kept and rng.random() < 0.7:
+        said = set_text(rng, None, damaged, rng.choice(owns), rng.choice(nodes), hand())
+        if rng.random() < 0.7:
+            owns, nodes, hands, interrupts = [None], [None], [], []
     parts = make_sets.teams_of(rng, sheets, lambda part: set_text(rng, part, damaged / 3, rng.choice(owns), rng.choice(nodes), hand()))
-    node = make_sets.node_of(rng, parts, sheets) if rng.random() < 0.5 else None
+    node = make_sets.node_of(rng, parts, sheets, said) if is_kept else None
     if rng.random() < 0.5:
         return make_sets.gathered(rng, parts, node)
     return make_sets.folder(rng, parts, node)
@@ -158,8 +163,8 @@ def set_input(rng, sheets, damaged, own=None, overheads=None, interrupts=()):
 
 def set_text(rng, sheets, damaged, own=None, overheads=None, interrupts=()):
     """The set as TOML with what it prefers, and its node and interrupts, if any; one of two ways of damage at the given
-    rate."""
-    tables = [make_sets.table_of(rng, sheet) for sheet in sheets]
+    rate. Without sheets what else is said stands alone."""
+    tables = [make_sets.table_of(rng, sheet) for sheet in sheets or []]
     prefers = {} if own is None else {"prefer": own}
     node = {} if overheads is None else {"node": overheads}
     more = {"interrupt": list(interrupts)} if interrupts or rng.random() < 0.01 else {}
@@ -171,8 +176,8 @@ def set_text(rng, sheets, damaged, own=None, overheads=None, interrupts=()):
             node = {"node": make_sets.wrong_overheads(rng, overheads)}
         if interrupts and rng.random() < 0.5:
             more = {"interrupt": make_sets.wrong_interrupts(rng, list(interrupts))}
-        return make_sets.toml(rng, prefers | make_sets.with_faults(rng, tables) | node | more)
-    text = make_sets.toml(rng, prefers | {"task": tables} | node | more)
+        return make_sets.toml(rng, prefers | ({} if sheets is None else make_sets.with_faults(rng, tables)) | node | more)
+    text = make_sets.toml(rng, prefers | ({} if sheets is None else {"task": tables}) | node | more)
     return make_sets.damaged_bytes(rng, text) if kind < damaged else text
 
 

@@ -115,16 +115,22 @@ fault_words (fault.SameName task) = at_task (codes "SameName") task
 fault_words fault.TooManyTasks = codes "TooManyTasks"
 fault_words fault.OutOfMemory = codes "OutOfMemory"
 
--- the fault of a node's document: the team and the key, where it is one of them
+-- the fault of a node's document: that of what it says for all teams, or the team and the key, where it is one of them
 abbrev pub node_words : NodeFault → List ℕ
 node_words node.Syntax = codes "Syntax"
 node_words node.UnknownRoot = codes "UnknownKey"
+node_words (node.Says fault) = fault_words fault
+node_words node.NoLocks = codes "WrongKind 0 0 locks"
+node_words node.BadLockName = codes "BadLock"
+node_words (node.BadLock name) = codes "BadLock " ++ name
+node_words node.TooManyLocks = codes "TooManyLocks"
 node_words node.NoTeams = codes "WrongKind"
 node_words node.BadName = codes "BadName"
 node_words (node.NoBudget team) = codes "WrongKind " ++ team
 node_words (node.UnknownKey team) = codes "UnknownKey " ++ team
 node_words (node.NoNumber team quantity) =
     codes "WrongKind " ++ team ++ codes " " ++ quantity_word quantity
+node_words (node.NoRight team) = codes "WrongKind " ++ team ++ codes " node"
 node_words node.OutOfMemory = codes "OutOfMemory"
 
 -- what the node doesn't leave room for, and the task
@@ -140,6 +146,11 @@ teams_words (teams.BadHead part) = at_task (codes "BadHead") part
 teams_words (teams.Of team fault) = codes "team " ++ team ++ codes " " ++ fault_words fault
 teams_words (teams.Taken team task other) =
     codes "TakenName " ++ team ++ codes " " ++ task ++ codes " " ++ other
+teams_words (teams.NodesOwn team key) = codes "NodesOwn " ++ team ++ codes " " ++ word_of key
+teams_words (teams.UnknownLock team task section lock) =
+    codes "UnknownLock " ++ team ++ codes " " ++ task ++ codes " " ++ decimal section ++ codes " " ++ lock
+teams_words (teams.Renamed team task cause) =
+    codes "team " ++ team ++ codes " task " ++ task ++ codes " " ++ lone_cause_words cause
 teams_words (teams.OtherPreference team other) =
     codes "OtherPreference " ++ team ++ codes " " ++ other
 teams_words (teams.OtherNode team other) = codes "OtherNode " ++ team ++ codes " " ++ other

@@ -221,6 +221,11 @@ fn write_node_fault<W: fmt::Write>(fault: NodeFault, f: &mut fmt::Formatter<W>) 
     match fault {
         NodeFault::Syntax => f.write_str("Syntax"),
         NodeFault::UnknownRoot => f.write_str("UnknownKey"),
+        NodeFault::Says { fault } => write_fault(fault, f),
+        NodeFault::NoLocks => f.write_str("WrongKind 0 0 locks"),
+        NodeFault::BadLockName => f.write_str("BadLock"),
+        NodeFault::BadLock { name } => write!(f, "BadLock {name}"),
+        NodeFault::TooManyLocks => f.write_str("TooManyLocks"),
         NodeFault::NoTeams => f.write_str("WrongKind"),
         NodeFault::BadName => f.write_str("BadName"),
         NodeFault::NoBudget { team } => write!(f, "WrongKind {team}"),
@@ -229,6 +234,7 @@ fn write_node_fault<W: fmt::Write>(fault: NodeFault, f: &mut fmt::Formatter<W>) 
             let word = quantity.word();
             write!(f, "WrongKind {team} {word}")
         }
+        NodeFault::NoRight { team } => write!(f, "WrongKind {team} node"),
         NodeFault::OutOfMemory => f.write_str("OutOfMemory"),
     }
 }
@@ -256,6 +262,20 @@ fn write_teams_fault<W: fmt::Write>(fault: TeamsFault, f: &mut fmt::Formatter<W>
             write_fault(fault, f)
         }
         TeamsFault::Taken { team, task, other } => write!(f, "TakenName {team} {task} {other}"),
+        TeamsFault::NodesOwn { team, key } => {
+            let word = key.word();
+            write!(f, "NodesOwn {team} {word}")
+        }
+        TeamsFault::UnknownLock {
+            team,
+            task,
+            section,
+            lock,
+        } => write!(f, "UnknownLock {team} {task} {section} {lock}"),
+        TeamsFault::Renamed { team, task, cause } => {
+            write!(f, "team {team} task {task} ")?;
+            write_lone_cause(cause, f)
+        }
         TeamsFault::OtherPreference { team, other } => write!(f, "OtherPreference {team} {other}"),
         TeamsFault::OtherNode { team, other } => write!(f, "OtherNode {team} {other}"),
         TeamsFault::TooManyInterrupts => f.write_str("TooManyInterrupts"),
