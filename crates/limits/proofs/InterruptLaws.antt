@@ -1,7 +1,7 @@
 -- What another cost or period of an interrupt does to a task.
 use Rattle.std.proofs.Common.{◌≡◌, ℕ, zero, suc, ◌+◌, ◌-◌, ◌<◌, ◌≤◌, max, List, [], ◌∷◌, length}
-use Rattle.std.proofs.Common.{slice_set, get_or, refl, ◌∙◌, ap, subst, arith}
-use Rattle.std.proofs.lemmas.List.{length-set, get_or-set_same, get_or_read}
+use Rattle.std.proofs.Common.{slice_set, refl, subst, arith}
+use Rattle.std.proofs.lemmas.List.{length-set, get_or-set_same}
 use Rattle.std.proofs.lemmas.List.Elements.{All-set}
 use Rattle.task_sheet.specs.declared.node.Interrupt.{Interrupt}
 use Rattle.task_sheet.specs.Sheet.{Task, IsInterrupt, AreInterrupts, IsValidSheet}
@@ -86,12 +86,6 @@ valid-interrupts t xs valid are = record {
   overheads = valid.overheads;
   interrupts = are;
 }
-
--- an interrupt that is read from a sheet's
-pub interrupt_read : (xs ys : List Interrupt) (k : ℕ) (x : Interrupt) → ys ≡ xs → k < length xs
-    → x ≡ get_or ys k x → x ≡ interrupt_at xs k
-interrupt_read xs ys k x same lt is =
-    get_or_read xs k x lt (is ∙ ap (λ zs. get_or zs k x) same) no_interrupt
 
 pub IsSpan-interrupt_cost : (t : Task) (k long : ℕ) → IsValidSheet t → k < length t.interrupts
     → long ≡ (interrupt_at t.interrupts k).period → IsSpan t (InterruptCost k) 0 long

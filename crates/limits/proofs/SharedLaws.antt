@@ -63,7 +63,7 @@ said-less Late node low high from le is = record {
 }
 
 -- no document may say a value out of these bounds
-said-within : (number : Shared) (node : Node) (value : ℕ) → IsNode (with_shared number node value)
+pub said-within : (number : Shared) (node : Node) (value : ℕ) → IsNode (with_shared number node value)
     → (least_shared number node ≤ value) × (value ≤ most_shared number)
 said-within Job node value is = (is.part, is.limits.job)
 said-within Lock node value is = (omega arith, is.limits.lock)
@@ -76,16 +76,16 @@ PassesIn-lighter W light heavy set is (Some order) passes =
     order-padded W light heavy set is order passes
 PassesIn-lighter W light heavy set is None passes = feasible-padded W light heavy set is passes
 
+-- with a value the order passes, and a document may say it
+abbrev pub Admits : List Task → Node → Shared → Option (List ℕ) → ℕ → Type 0
+Admits W node number order value =
+    MayTake W (with_shared number node value)
+    × PassesIn order (padded (with_shared number node value) W)
+
 module _ (W : List Task) (node : Node) (number : Shared) (order : Option (List ℕ))
     (set : IsTaskSet W) where
-  -- with a value the order passes, and a document may say it
-  abbrev pub Admits : ℕ → Type 0
-  Admits value =
-      MayTake W (with_shared number node value)
-      × PassesIn order (padded (with_shared number node value) W)
-
-  pub admits-less : (low high : ℕ) → least_shared number node ≤ low → low ≤ high → Admits high
-      → Admits low
+  pub admits-less : (low high : ℕ) → least_shared number node ≤ low → low ≤ high
+      → Admits W node number order high → Admits W node number order low
   admits-less low high from le admits =
       let is = lighter-shared number node low high le in (
         record {
@@ -107,14 +107,15 @@ module _ (W : List Task) (node : Node) (number : Shared) (order : Option (List �
   )
 
   -- none where the least one doesn't
-  pub none-admits : ¬ Admits (least_shared number node) → AnswersShared W node number order None
+  pub none-admits : ¬ Admits W node number order (least_shared number node) → AnswersShared W node number order None
   none-admits fails value may passes =
       let bounds = said-within number node value may.said in
       fails (admits-less (least_shared number node) value (omega arith) bounds.0 (may, passes))
 
   -- the last one that does, up to the greatest of all
-  pub last-admits : (value : ℕ) → Admits value
-      → ((more : ℕ) → value < more → more ≤ most_shared number → ¬ Admits more)
+  pub last-admits : (value : ℕ) → Admits W node number order value
+      → ((more : ℕ) → value < more → more ≤ most_shared number
+      → ¬ Admits W node number order more)
       → AnswersShared W node number order (Some value)
   last-admits value admits fails = record {
     may = admits.0;

@@ -215,6 +215,8 @@ at-start Period easiest = omega arith
 at-start Deadline easiest = omega arith
 at-start Jitter easiest = omega arith
 at-start (Len k) easiest = omega arith
+at-start (InterruptCost k) easiest = omega arith
+at-start (InterruptPeriod k) easiest = omega arith
 
 -- a section that is read from a sheet's sections
 pub section_read : (xs ys : List CriticalSection) (k : ℕ) (x : CriticalSection) → ys ≡ xs

@@ -1,6 +1,6 @@
 -- A set without what its node takes is the one that the documents say.
-use Rattle.std.proofs.Common.{◌≡◌, ℕ, ◌+◌, ◌-◌, ◌<◌, Option, None, Some, List, [], ◌∷◌, ◌++◌, length}
-use Rattle.std.proofs.Common.{get_or, take, map, refl, sym, ◌∙◌, ap, arith}
+use Rattle.std.proofs.Common.{◌≡◌, ℕ, ◌+◌, ◌-◌, ◌*◌, ◌<◌, ◌≤◌, Option, None, Some, List, [], ◌∷◌, ◌++◌, length}
+use Rattle.std.proofs.Common.{get_or, take, map, refl, sym, ◌∙◌, ap, subst, arith, MatchOption}
 use Rattle.std.specs.List.{AllByRecursion}
 use Rattle.std.proofs.lemmas.List.{take_more}
 use Rattle.std.proofs.lemmas.List.Elements.{recursion_from_All}
@@ -9,10 +9,14 @@ use Rattle.task_sheet.specs.declared.node.Node.{Node}
 use Rattle.task_sheet.specs.declared.node.Interrupt.{Interrupt}
 use Rattle.task_sheet.specs.Overheads.{calls, calls_in}
 use Rattle.task_sheet.proofs.Common.{CriticalSection, Task, no_overhead, IsValidSheet, IsTaskSet}
-use Rattle.task_sheet.proofs.Common.{AreOutranked, IsByRank, sheets_fault, task_of}
+use Rattle.task_sheet.proofs.Common.{AreOverheads, AreSections}
+use Rattle.task_sheet.proofs.OverheadLaws.{calls-fit, locks-few}
+use Rattle.task_sheet.proofs.Common.{IsByRank, sheets_fault, task_of}
 use Rattle.overheads.specs.Padding.{padded_section, padded_sections, padded_task, padded, charged}
 use Rattle.overheads.specs.Padding.{IsUnpadded}
 use Rattle.overheads.proofs.MappedSets.{KeepsRanks, IsByRank-mapped, no_fault-mapped}
+use Rattle.overheads.proofs.MappedSets.{count-mapped, mapped-at}
+use Rattle.task_sheet.proofs.TaskLaws.{task_read, valid_at}
 use Rattle.limits.specs.Written.{written_section, written_sections, written_task, written, node_of}
 
 -- ---- what was put into a task is taken out again
@@ -102,6 +106,22 @@ IsByRank-written U V set by_rank = IsByRank-mapped written_task keeps-written U 
 pub no_fault-written : (U : List Task) → IsTaskSet U → sheets_fault (written U) ≡ None
 no_fault-written U set = no_fault-mapped written_task keeps-written U set
 
+-- a set of which one task is no sheet so is none
+pub no-set : (U items : List Task) (i : ℕ) (x : Task) → items ≡ U → i < length items
+    → x ≡ get_or items i x → ¬ IsValidSheet (written_task x) → ¬ IsTaskSet (written U)
+no-set U items i x same lt is invalid set =
+    let inside : i < length U = omega (arith, lt, ap (λ (xs : List Task). length xs) same) in
+    let read = task_read U items i x same inside is in
+    invalid (subst IsValidSheet
+    (mapped-at written_task U i inside ∙ ap written_task (sym read))
+    (valid_at (written U) i set (omega (arith, inside, count-mapped written_task U))))
+
+-- what is said of none
+pub when-none : {X : Type 0} (o : Option X) (P : Type 0) (Q : X → Type 0)
+    → ((x : X) → o ≡ Some x → ⊥) → MatchOption o P Q → P
+when-none None P Q never said = said
+when-none (Some x) P Q never said = absurd (never x refl)
+
 -- ---- a sheet that is made from these values
 -- where the task is valid it is so without its jitter, and names the tasks above which it must stand
 pub valid-plain : (t : Task) → IsValidSheet (written_task t)
@@ -151,6 +171,18 @@ valid-again s t jitter valid other name below = record {
 }
 
 -- ---- one section more
+-- what the calls on a section's locks take
+pub calls-taken : (node : Node) (t : Task) (items : List CriticalSection) (i : ℕ)
+    (x : CriticalSection) (count : ℕ) → AreOverheads node → IsValidSheet t → items ≡ t.sections
+    → i < length items → x ≡ get_or items i x → count ≡ length x.locks
+    → (node.lock * count ≡ calls node x) × (calls node x ≤ 40000000)
+calls-taken node t items i x count limits valid same lt is few =
+    let are : AreSections 0 t.cost items =
+    subst (λ (xs : List CriticalSection). AreSections 0 t.cost xs) (sym same) valid.sections in (
+      ap (λ n. node.lock * n) few,
+      calls-fit node x limits.lock (locks-few 0 t.cost items i x are lt is),
+    )
+
 sections-push : (node : Node) (before : ℕ) (xs : List CriticalSection) (y : CriticalSection)
     → written_sections node before (xs ++ y ∷ []) ≡ written_sections node before xs
     ++ written_section node (before + calls_in node xs) y ∷ []

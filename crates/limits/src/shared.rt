@@ -151,15 +151,21 @@ pub fn furthest_shared(
     ensures { IfOk result (λ answer. AnswersShared written.now node number
         (option_map (λ o. o.now) order.entry) answer) }
 {
+    // (a set, as its sheets say)
+    let _sheets = written.sheets();
     let least = least_shared(node, number);
-    if !takes(alloc, written, with_shared(node, number, least), order)? {
+    let easy = with_shared(node, number, least);
+    let is_possible = takes(alloc, written, easy, order)?;
+    if !is_possible {
         return Ok(None);
     }
     let mut passing = least;
     let mut failing = most_shared(number) + 1;
     while failing - passing > 1 {
         let middle = passing + (failing - passing) / 2;
-        if takes(alloc, written, with_shared(node, number, middle), order)? {
+        let other = with_shared(node, number, middle);
+        let is_passing = takes(alloc, written, other, order)?;
+        if is_passing {
             passing = middle;
         } else {
             failing = middle;

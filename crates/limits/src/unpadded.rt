@@ -1,19 +1,19 @@
 //! Tasks as their documents say them, without what the node takes of them.
 ghost use Rattle.std.specs.Prelude.{◌≡◌, ◌-◌, IfOk, MatchOption};
-ghost use Rattle.task_sheet.specs.Sheet.{IsValidSheet};
+ghost use Rattle.task_sheet.specs.Sheet.{AreOverheads, IsValidSheet};
 ghost use Rattle.task_sheet.specs.TaskSet.{IsTaskSet};
 ghost use Rattle.limits.specs.Written.{node_of, written_sections, written_task, written};
 
 use std::alloc::{AllocError, Global};
 use task_sheet::{Node, Section, SetCause, Sheet, TaskSet};
 
-// A task's sections, each as much earlier and shorter as the node takes before it and in it.
-fn written_sections(alloc: Global, sheet: &Sheet) -> Result<Vec<Section>, AllocError>
-    requires { IsValidSheet sheet.now }
-    ensures { IfOk result (λ others. others.items ≡ written_sections sheet.now.node
-        (sheet.now.node.job - sheet.now.node.release) sheet.now.sections) }
+// A task's sections, each as much earlier and shorter as a node takes before it and in it.
+fn written_sections(alloc: Global, sheet: &Sheet, node: Node) -> Result<Vec<Section>, AllocError>
+    requires valid { IsValidSheet sheet.now }
+    requires limits { AreOverheads node }
+    ensures { IfOk result (λ others. others.items
+        ≡ written_sections node (node.job - node.release) sheet.now.sections) }
 {
-    let node = sheet.node();
     let sections = sheet.sections();
     let mut others = Vec::with_capacity(alloc, sections.len())?;
     let mut before = node.job.saturating_sub(node.release);
@@ -34,7 +34,8 @@ fn written_sheet(alloc: Global, sheet: &Sheet) -> Result<Option<Sheet>, AllocErr
     ensures { IfOk result (λ other. MatchOption other (¬ IsValidSheet (written_task sheet.now))
         (λ s. s ≡ written_task sheet.now)) }
 {
-    let sections = written_sections(alloc, sheet)?;
+    let node = sheet.node();
+    let sections = written_sections(alloc, sheet, node)?;
     let outranks = sheet.outranks().copy(alloc)?;
     let interrupts = Vec::from_slice(alloc, sheet.interrupts())?;
     let cost = sheet.cost().saturating_sub(sheet.overhead());
@@ -48,7 +49,6 @@ fn written_sheet(alloc: Global, sheet: &Sheet) -> Result<Option<Sheet>, AllocErr
     ) else {
         return Ok(None);
     };
-    let node = sheet.node();
     let Ok(other) = other.jittered(sheet.jitter().saturating_sub(node.late)) else {
         unreachable!()
     };

@@ -1,9 +1,8 @@
-use Rattle.std.proofs.Common.{◌≡◌, ◌<◌, length, sym, ◌∙◌, ap, subst}
+use Rattle.std.proofs.Common.{◌≡◌, ◌<◌, List, length, sym, ◌∙◌, ap, subst}
 use Rattle.task_sheet.specs.declared.node.Interrupt.{Interrupt}
 use Rattle.task_sheet.specs.Sheet.{CriticalSection}
-use Rattle.limits.specs.Numbers.{HasNumber, value_of}
+use Rattle.limits.specs.Numbers.{HasNumber, interrupt_at, value_of}
 use Rattle.limits.proofs.SpanLaws.{section_read}
-use Rattle.limits.proofs.InterruptLaws.{interrupt_read}
 use Rattle.limits.proofs.spans.value_of.Goals as goal
 
 pub returns-in-Len : goal.returns-in-Len
@@ -21,22 +20,14 @@ pub returns-in-InterruptCost : goal.returns-in-InterruptCost
 returns-in-InterruptCost c =
     let t = c.args.sheet.now in
     let k = c.in-InterruptCost.place in
-    let inside : k < length t.interrupts =
-    subst (λ n. HasNumber t n) c.in-InterruptCost.is c.requires in
-    let read = interrupt_read t.interrupts c.interrupts.result.now k
-    c.index-interrupts-place.result
-    c.interrupts.ensures.same inside c.index-interrupts-place.is in
-    subst (λ n. c.index-interrupts-place.result.cost ≡ value_of n t) (sym c.in-InterruptCost.is)
-    (ap (λ (x : Interrupt). x.cost) read)
+    subst (λ n. (interrupt_at c.interrupts.result.now k).cost ≡ value_of n t)
+    (sym c.in-InterruptCost.is)
+    (ap (λ (xs : List Interrupt). (interrupt_at xs k).cost) c.interrupts.ensures.same)
 
 pub returns-in-InterruptPeriod : goal.returns-in-InterruptPeriod
 returns-in-InterruptPeriod c =
     let t = c.args.sheet.now in
     let k = c.in-InterruptPeriod.place in
-    let inside : k < length t.interrupts =
-    subst (λ n. HasNumber t n) c.in-InterruptPeriod.is c.requires in
-    let read = interrupt_read t.interrupts c.interrupts-in-InterruptPeriod.result.now k
-    c.index-interrupts-place-in-InterruptPeriod.result
-    c.interrupts-in-InterruptPeriod.ensures.same inside c.index-interrupts-place-in-InterruptPeriod.is in
-    subst (λ n. c.index-interrupts-place-in-InterruptPeriod.result.period ≡ value_of n t) (sym c.in-InterruptPeriod.is)
-    (ap (λ (x : Interrupt). x.period) read)
+    subst (λ n. (interrupt_at c.interrupts-in-InterruptPeriod.result.now k).period ≡ value_of n t)
+    (sym c.in-InterruptPeriod.is)
+    (ap (λ (xs : List Interrupt). (interrupt_at xs k).period) c.interrupts-in-InterruptPeriod.ensures.same)

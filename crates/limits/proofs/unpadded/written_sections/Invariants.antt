@@ -1,4 +1,4 @@
-use Rattle.std.proofs.Common.{◌≡◌, ◌+◌, ◌-◌, take}
+use Rattle.std.proofs.Common.{◌≡◌, ◌+◌, ◌-◌, ◌*◌, ◌≤◌, take}
 use Rattle.task_sheet.proofs.Common.{calls_in}
 use Rattle.limits.specs.Written.{written_sections}
 use Rattle.limits.proofs.unpadded.written_sections.Given as goal
@@ -9,4 +9,5 @@ invariant-loop-section l = record {
       (take l.section-index l.sections);
   items : l.others.items ≡ written_sections l.node (l.node.job - l.node.release)
       (take l.section-index l.sections);
+  short : l.before ≤ 10000000 + l.section-index * 40000000;
 }
