@@ -18,16 +18,12 @@ pub record Gathers (text rest : List ℕ) (owners : List Owner) : Type 0 where
 owners_more : (sets : List TeamSetData) (s : TeamSetData)
     → owners_of (sets ++ s ∷ []) ≡ owners_of sets ++ (owned_by s.team s.set
     ++ interrupts_from s.team 1 s.interrupts)
-owners_more [] s =
-    ap (λ (l : List Owner). owned_by s.team s.set ++ l)
-    (append-nil (interrupts_from s.team 1 s.interrupts))
+owners_more [] s = append-nil (owned_by s.team s.set ++ interrupts_from s.team 1 s.interrupts)
 owners_more (r ∷ sets) s =
-    let tasks = owned_by r.team r.set in
-    let others = interrupts_from r.team 1 r.interrupts in
+    let own = owned_by r.team r.set ++ interrupts_from r.team 1 r.interrupts in
     let last = owned_by s.team s.set ++ interrupts_from s.team 1 s.interrupts in
-    ap (λ (l : List Owner). tasks ++ (others ++ l)) (owners_more sets s)
-    ∙ ap (λ (l : List Owner). tasks ++ l) (sym (append_assoc others (owners_of sets) last))
-    ∙ sym (append_assoc tasks (others ++ owners_of sets) last)
+    ap (λ (l : List Owner). own ++ l) (owners_more sets s)
+    ∙ sym (append_assoc own (owners_of sets) last)
 
 -- one document more
 pub gathers_more : (text rest after : List ℕ) (owners more : List Owner) (p : Part) (d : Document)
@@ -45,7 +41,10 @@ gathers_more text rest after owners more p d all first says is =
     record {
       sets = all.sets ++ s ∷ [];
       gathered = gathered_more text rest after all.sets p s all.gathered first (refl, says);
-      are = is ∙ ap (λ (l : List Owner). l ++ (owned_by p.team d.set
+      are = is
+          ∙ append_assoc owners (owned_by p.team d.set)
+          (interrupts_from p.team 1 d.interrupts.items)
+          ∙ ap (λ (l : List Owner). l ++ (owned_by p.team d.set
           ++ interrupts_from p.team 1 d.interrupts.items)) all.are
           ∙ sym (owners_more all.sets s);
     }
