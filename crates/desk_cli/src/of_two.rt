@@ -243,7 +243,15 @@ fn say_both<W: Write + Drop, P: Audience>(
         both.now.tasks both.now.text.items) W.contents output.old output.new result }
 {
     let tasks = &both.tasks;
-    let answer = find(alloc, command, options, both.by, &both.owners, tasks, &both.text);
+    let answer = find(
+        alloc,
+        command,
+        options,
+        both.by,
+        &both.owners,
+        tasks,
+        &both.text,
+    );
     tell(&answer, tasks, Which::Second, &both.text, people);
     tell_found(&answer, tasks, &both.text, people);
     match answer {

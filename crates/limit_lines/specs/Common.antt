@@ -58,11 +58,15 @@ shared_label Release = codes " release "
 shared_label Late = codes " late "
 
 -- what of which task leaves no room
-abbrev pub fault_words : Option PadFault → List ℕ
-fault_words (Some (CostPastPeriod name)) = codes " by " ++ name ++ codes " period"
-fault_words (Some (JitterPastDeadline name)) = codes " by " ++ name ++ codes " deadline"
-fault_words (Some OutOfMemory) = []
-fault_words None = []
+abbrev pub fault_words : PadFault → List ℕ
+fault_words (CostPastPeriod name) = codes " by " ++ name ++ codes " period"
+fault_words (JitterPastDeadline name) = codes " by " ++ name ++ codes " deadline"
+fault_words OutOfMemory = []
+
+-- the same, where there is no room
+abbrev pub room_words : Option PadFault → List ℕ
+room_words None = []
+room_words (Some fault) = fault_words fault
 
 -- a timer at this value is all of a job
 abbrev pub is_whole : Shared → Node → ℕ → Bool
@@ -75,7 +79,7 @@ abbrev pub shared_held : List Task → Node → Shared → ℕ → List ℕ
 shared_held W node number most =
     if is_whole number node most then codes " by job"
     else if most == most_shared number then codes " by " ++ decimal most
-    else fault_words (padding_fault (with_shared number node (most + 1)) W)
+    else room_words (padding_fault (with_shared number node (most + 1)) W)
 
 -- the line of a number of the node of tasks as they are written; nothing where no value helps
 abbrev pub shared_line : List Task → Node → Shared → Option ℕ → Option ℕ → List ℕ

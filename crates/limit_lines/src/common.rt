@@ -1,10 +1,11 @@
 //! The lines of numbers that are no task's own: of the interrupts, and of what the node takes.
-ghost use Rattle.std.specs.Prelude.{◌≡◌, ◌++◌, ◌<◌, ◌≤◌, length, IfOk, IfSome, OnOk, string_bytes};
+ghost use Rattle.std.specs.Prelude.{◌≡◌, ◌++◌, ◌<◌, ◌≤◌, length, codes, IfOk, IfSome, OnOk, string_bytes};
+ghost use Rattle.task_sheet.specs.declared.node.TheConstants.{INTERRUPT_LIMIT};
 ghost use Rattle.task_sheet.specs.Sheet.{AreOverheads, task_at};
 ghost use Rattle.limits.specs.Shared.{most_shared};
 ghost use Rattle.limits.specs.Written.{node_of, written};
 ghost use Rattle.limit_lines.specs.Lines.{HasPassing, order_in, places_in};
-ghost use Rattle.limit_lines.specs.Common.{AnswersSharedIn, AreAccountLines, AreCommonLines, AreInterruptLines, AreInterruptsLines, AreNodeLines, AreNodeLinesOf, IsNodeLine, OrdersOf, IsSharedLine, fault_words, is_whole, shared_held, shared_label, shared_line};
+ghost use Rattle.limit_lines.specs.Common.{AnswersSharedIn, AreAccountLines, AreCommonLines, AreInterruptLines, AreInterruptsLines, AreNodeLines, AreNodeLinesOf, IsNodeLine, OrdersOf, IsSharedLine, fault_words, is_whole, room_words, shared_held, shared_label, shared_line};
 
 use crate::text::{number_text, push_some};
 use assignment::Placing;
@@ -13,7 +14,7 @@ use limits::{Number, Shared, furthest_shared, most_shared, node_of, room_fault, 
 use overheads::PadFault;
 use owners::{Owner, push_interrupt};
 use std::alloc::{AllocError, Global};
-use task_sheet::{Node, TaskSet};
+use task_sheet::{Name, Node, TaskSet};
 
 // ---- interrupts
 
@@ -31,6 +32,7 @@ fn interrupt_text(
     requires order { order.now ≡ order_in placing.now }
     requires task { task < length set.now }
     requires place { place < length (task_at set.now task).interrupts }
+    requires few { place < INTERRUPT_LIMIT }
     ensures { IfOk result (λ text. AreInterruptLines owners.now set.now (places_in placing.now) task
         place (string_bytes text)) }
 {
@@ -104,14 +106,33 @@ fn shared_label(number: Shared) -> &'static str
     }
 }
 
+// What of this task holds a number.
+fn push_by(text: &mut String, name: Name, what: &str) -> Result<(), AllocError>
+    ensures { OnOk result (string_bytes text.new
+        ≡ string_bytes text.old ++ codes " by " ++ name ++ what.now) }
+{
+    write!(text, " by {name}")?;
+    text.push_str(what)
+}
+
 // What of which task leaves no room.
-fn push_fault(text: &mut String, fault: Option<PadFault>) -> Result<(), AllocError>
+fn push_fault(text: &mut String, fault: PadFault) -> Result<(), AllocError>
     ensures { OnOk result (string_bytes text.new ≡ string_bytes text.old ++ fault_words fault) }
 {
     match fault {
-        Some(PadFault::CostPastPeriod { task }) => write!(text, " by {task} period"),
-        Some(PadFault::JitterPastDeadline { task }) => write!(text, " by {task} deadline"),
-        Some(PadFault::OutOfMemory) | None => Ok(()),
+        PadFault::CostPastPeriod { task } => push_by(text, task, " period"),
+        PadFault::JitterPastDeadline { task } => push_by(text, task, " deadline"),
+        PadFault::OutOfMemory => Ok(()),
+    }
+}
+
+// The same, where there is no room.
+fn push_room(text: &mut String, fault: Option<PadFault>) -> Result<(), AllocError>
+    ensures { OnOk result (string_bytes text.new ≡ string_bytes text.old ++ room_words fault) }
+{
+    match fault {
+        Some(fault) => push_fault(text, fault),
+        None => Ok(()),
     }
 }
 
@@ -146,7 +167,7 @@ fn push_held(
         return write!(text, " by {most}");
     }
     let fault = room_fault(alloc, written, with_shared(node, number, most + 1))?;
-    push_fault(text, fault)
+    push_room(text, fault)
 }
 
 // The line of a number of the node; nothing where no value helps.
@@ -276,10 +297,12 @@ fn node_text(
     ensures { IfOk result (λ text. AreNodeLinesOf set.now (places_in placing.now)
         (string_bytes text)) }
 {
+    // (a set, as its sheets say)
+    let _own = set.sheets();
     let node = node_of(set);
-    match written(alloc, set)? {
+    let said = written(alloc, set)?;
+    match said {
         Some(tasks) => {
-            // (a set, as its sheets say)
             let _sheets = tasks.sheets();
             node_lines(alloc, &tasks, node, placing, order)
         }

@@ -4,6 +4,7 @@ ghost use Rattle.task_sheet.specs.declared.node.TheConstants.{INTERRUPT_FROM};
 ghost use Rattle.task_sheet.specs.Sheet.{IsValidSheet, task_at};
 ghost use Rattle.task_sheet.specs.Orders.{IsFeasible};
 ghost use Rattle.task_sheet.specs.declared.sheet.TheConstants.{SECTION_LIMIT};
+ghost use Rattle.lines.specs.Naming.{name_at};
 ghost use Rattle.limits.specs.Numbers.{AnswersFurthest, HasNumber, MayHave, numbered, with_number};
 ghost use Rattle.limit_lines.specs.Lines.{AnswersFactorIn, AnswersIn, AreTaskLines, HasPassing, IsLast, IsNumberLine, along_words, before_words, end_of, end_words, factor_line, held_words, label_of, leaves_own, less_of, moved_words, node_part, number_at, number_line, order_in, places_in, slack_in, slack_line, slack_of, some_words, word_if};
 
@@ -444,6 +445,15 @@ fn push_slack(
     }
 }
 
+// The name of a task.
+fn name_text(alloc: Global, set: &TaskSet, task: usize) -> Result<String, AllocError>
+    ensures { IfOk result (λ name. string_bytes name ≡ name_at set.now task) }
+{
+    let mut name = String::new(alloc);
+    push_name(&mut name, set, task)?;
+    Ok(name)
+}
+
 /// The lines of a task of a placed set: for each of its numbers that may help its value, the furthest with which the
 /// order passes, and the furthest with which some order does, each less what of it is the node's, what goes along, and what
 /// holds the last; and where there is an order, its slack. That is any one which passes, the best or another; `order` is the same, the lowest first. The error is
@@ -462,11 +472,10 @@ pub fn task_text(
         (string_bytes text)) }
 {
     let count = 4 + set.sheets()[task].sections().len();
-    let mut name = String::new(alloc);
-    push_name(&mut name, set.tasks(), task)?;
+    let name = name_text(alloc, set.tasks(), task)?;
+    let whose = name.as_str();
     let mut text = String::new(alloc);
     for place in 0..count {
-        let whose = name.as_str();
         let line = number_text(alloc, whose, set, placing, order, task, number_at(place))?;
         text.push_str(line.as_str())?;
     }

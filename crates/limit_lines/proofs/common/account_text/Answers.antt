@@ -1,4 +1,4 @@
-use Rattle.std.proofs.Common.{◌∙◌, ◌++◌, ℕ, List, add-one, ap, string_bytes}
+use Rattle.std.proofs.Common.{◌∙◌, ◌++◌, ℕ, List, add-one, ap, arith, string_bytes}
 use Rattle.limit_lines.proofs.common.account_text.Goals as goal
 
 pub loop-place-preserved : goal.loop-place-preserved
@@ -11,3 +11,7 @@ loop-place-preserved c =
       c.in_ok-lines.ensures,
       c.in_ok-push_str.ensures.bytes ∙ ap (λ (t : List ℕ). front ++ t) c.as_str.ensures.value,
     )
+
+pub interrupt_text-requires-clause-few : goal.interrupt_text-requires-clause-few
+interrupt_text-requires-clause-few c =
+    omega (arith, c.loop-place-test.true, c.interrupts-count.ensures.limits.few)

@@ -1,4 +1,4 @@
-use Rattle.std.proofs.Common.{arith}
+use Rattle.std.proofs.Common.{◌+◌, arith}
 use Rattle.limits.proofs.SharedLaws.{within-shared}
 use Rattle.limit_lines.proofs.common.push_held.Goals as goal
 
