@@ -10,7 +10,10 @@ ghost use Rattle.limit_lines.specs.Common.{AnswersSharedIn, AreAccountLines, Are
 use crate::text::{number_text, push_some};
 use assignment::Placing;
 use ceilings::Tabled;
-use limits::{Number, Shared, furthest_shared, most_shared, node_of, room_fault, shared_of, with_shared, written};
+use limits::{
+    Number, Shared, furthest_shared, most_shared, node_of, room_fault, shared_of, with_shared,
+    written,
+};
 use overheads::PadFault;
 use owners::{Owner, push_interrupt};
 use std::alloc::{AllocError, Global};

@@ -124,4 +124,3 @@ IsSpan-interrupt_period t k least long valid lt from to =
       );
       rises = λ near far le. omega (arith, le);
     }
-

@@ -24,8 +24,12 @@ loop-failing-init c =
     record {
       admits = here;
       fails = λ value from to. absurd (omega (arith, from, to, c.most_shared-failing.ensures.same));
-      apart = omega (arith, (said-within c.args.number c.args.node c.least_shared-least.result
-          here.0.said).1, c.most_shared-failing.ensures.same);
+      apart = omega (
+        arith,
+        (said-within c.args.number c.args.node c.least_shared-least.result
+            here.0.said).1,
+        c.most_shared-failing.ensures.same,
+      );
       within = omega (arith, c.most_shared-failing.ensures.same);
     }
 
@@ -40,8 +44,11 @@ loop-failing-preserved c =
       fails = λ value from to admits. both_ways _ c.if-is_passing.false
           (c.in_ok-is_passing.ensures.1 (rw c.with_shared-other.ensures
           (admits-less W c.args.node c.args.number order c.sheets-sheets.ensures.kept mid value
-          (omega (arith, (said-within c.args.number c.args.node c.loop-failing.passing
-          inv.admits.0.said).0)) from admits)));
+          (omega (
+            arith,
+            (said-within c.args.number c.args.node c.loop-failing.passing
+                inv.admits.0.said).0,
+          )) from admits)));
       apart = omega (arith, c.loop-failing-test.true);
       within = omega (arith, inv.within);
     }

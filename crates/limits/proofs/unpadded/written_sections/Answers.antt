@@ -21,14 +21,14 @@ overflow_add-before c =
     c.loop-section.section-index c.section-item.result c.len.result c.requires.limits
     c.requires.valid c.sections-sections.ensures c.loop-section-test.true c.section-item.is count in
     omega (
-  arith,
-  taken.0,
-  taken.1,
-  c.loop-section.invariant.short,
-  c.requires.valid.few,
-  ap (λ (xs : List CriticalSection). length xs) c.sections-sections.ensures,
-  c.loop-section-test.true,
-)
+      arith,
+      taken.0,
+      taken.1,
+      c.loop-section.invariant.short,
+      c.requires.valid.few,
+      ap (λ (xs : List CriticalSection). length xs) c.sections-sections.ensures,
+      c.loop-section-test.true,
+    )
 
 pub loop-section-preserved : goal.loop-section-preserved
 loop-section-preserved c =
