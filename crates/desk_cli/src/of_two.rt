@@ -59,16 +59,17 @@ pub enum Found {
     LimitedAt(InOrder),
 }
 
-// What a command finds of a set, which was taken by a preference, and a text.
+// What a command finds of a set, which was taken by a preference, whose tasks these have, and a text.
 fn find(
     alloc: Global,
     command: OfTwo,
     options: Options<'_>,
     by: Preference,
+    owners: &[Owner],
     tasks: &TaskSet,
     text: &[u8],
 ) -> Result<Found, CommandRefusal>
-    ensures answer { FindsIn command options.entry by tasks.now text.now result }
+    ensures answer { FindsIn command options.entry by owners.now tasks.now text.now result }
     ensures found { IfOk result (IsFoundOf tasks.now) }
 {
     match command {
@@ -100,7 +101,13 @@ fn find(
             room: room_of(options),
         }),
         OfTwo::WorstAt => Ok(Found::WorstAt(worst_at(alloc, options.task, tasks, text)?)),
-        OfTwo::LimitsAt => Ok(Found::LimitedAt(limits_at(alloc, options.task, tasks, text)?)),
+        OfTwo::LimitsAt => Ok(Found::LimitedAt(limits_at(
+            alloc,
+            options.task,
+            owners,
+            tasks,
+            text,
+        )?)),
         OfTwo::ExplainAt => Ok(Found::ExplainedAt(explain_at(alloc, options.task, tasks, text)?)),
     }
 }
@@ -243,7 +250,15 @@ fn say_both<W: Write + Drop, P: Audience>(
         both.now.tasks both.now.text.items) W.contents output.old output.new result }
 {
     let tasks = &both.tasks;
-    let answer = find(alloc, command, options, both.by, tasks, &both.text);
+    let answer = find(
+        alloc,
+        command,
+        options,
+        both.by,
+        &both.owners,
+        tasks,
+        &both.text,
+    );
     tell(&answer, tasks, Which::Second, &both.text, people);
     tell_found(&answer, tasks, &both.text, people);
     match answer {
