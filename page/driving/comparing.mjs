@@ -132,7 +132,7 @@ export function compare_set(what, set, seen) {
   compare_told(what, wanted.admit, seen);
   const list = (wanted.releases ?? wanted.worst)?.text;
   if (wanted.worst) compare_worst(what, wanted.worst, shown.worst);
-  if (!/^until /m.test(list ?? '')) return equal(slices.length, 0, `${what}: a picture of no run`);
+  if (!/^until [1-9]/m.test(list ?? '')) return equal(slices.length, 0, `${what}: a picture of no run`);
   compare_run(what, set, list, slices);
 }
 // The slices of a picture are those of the run.

@@ -85,7 +85,7 @@ export function lines_told(file, { admit, releases, worst }, has_settings, task)
   if (releases?.status === 0)
     lines.push(
       `desk releases ${set} ${releases.text.split(/\s/)[1]} | desk draw ${set} - > desk.svg`);
-  if (/^until /m.test(worst?.text))
+  if (/^until [1-9]/m.test(worst?.text))
     lines.push(`desk worst ${set}${task === null ? '' : ` --task ${task}`} | ` +
       `desk draw ${set} - > worst.svg`);
   if (has_settings) lines.push(`desk judge ${set} node-settings`);

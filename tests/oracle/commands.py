@@ -303,8 +303,9 @@ def simulate_best(tasks, order, until, releases, of_tasks):
 def simulate_in(tasks, order, until, releases, of_tasks):
     """What is printed of a run in an order, passing or not."""
     kernel.check_releases(tasks, until, releases)
-    slices, jobs = kernel.run(tasks, order, analysis.ceilings(tasks, order), until, releases)
-    kernel.check_overruns(jobs)
+    ceilings = analysis.ceilings(tasks, order)
+    until, releases, _ = kernel.cut(tasks, order, ceilings, until, releases)
+    slices, jobs = kernel.run(tasks, order, ceilings, until, releases)
     if not of_tasks:
         return kernel.simulated(slices, jobs)
     return "".join(kernel.came_to(tasks[i], bound, jobs) for i, bound in settings.bounds_in(tasks, order).items())
@@ -343,7 +344,7 @@ def draw(tasks, said, **options):
             raise no_such_task(word)
     if status != 0:
         return text, status
-    start, stop = view.window(said[1])
+    start, stop = view.window(picture.cut(tasks, *said)[0])
     if start >= stop:
         raise Refused(4, "EmptyWindow")
     return DRAWN, 0
@@ -453,7 +454,7 @@ def notes_of(call, tasks, others, text, status):
     if command in ("simulate", "draw"):
         if status == INFEASIBLE:
             return ["no order passes, so there is no run: desk explain says why"]
-        return ([] if others[0][0] else names_decide(call, tasks)) + left_out(tasks)
+        return ([] if others[0][0] else names_decide(call, tasks)) + left_out(tasks) + overran(picture.cut(tasks, *others[0])[2])
     if command == "observe":
         seen = {line.split()[1]: int(line.split()[2]) for line in text.splitlines() if line.startswith("task ")}
         unseen = [task.name for task in tasks if seen.get(task.name) == 0]
@@ -492,6 +493,11 @@ def notes(tasks):
 def left_out(tasks):
     """What a run doesn't have."""
     return ["what timers and interrupts take is in the bounds, and not in the run"] * analysis.has_interrupts(tasks)
+
+
+def overran(name):
+    """Where a run ends at a job that is ready too soon."""
+    return [] if name is None else [f"the run ends where a job of {name} is ready and the one before it isn't done"]
 
 
 def strange_threads(tasks, rows):
