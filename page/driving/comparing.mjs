@@ -90,7 +90,8 @@ function compare_told(what, admit, { verdict, strip, notes, conflict }) {
 export function compare_set(what, set, seen) {
   const { answers, shown, slices, bars } = seen;
   const wanted = Object.fromEntries(
-    ['admit', 'explain', 'settings', 'certify', 'limits'].map(it => [it, native(it, [set])]));
+    ['admit', 'settings', 'certify', 'limits'].map(it => [it, native(it, [set])]));
+  wanted.explain = native('explain', [set], ['--all']);
   if (wanted.certify.status !== 4) wanted.check = native('check', [set, wanted.certify.text]);
   if (wanted.admit.status === 0) {
     wanted.releases = native('releases', [set], [answers.releases.text.split(/\s/)[1]]);

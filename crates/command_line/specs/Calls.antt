@@ -6,7 +6,7 @@ use Rattle.command_line.specs.App.{desk_app}
 use Rattle.command_line.specs.Commands.{choice_id, input_of, least_of, most_of, number_choices, number_name, second_of, takes_of, verb_of, by_file}
 use Rattle.command_line.specs.declared.calls.TheConstants.{MOST_PRIORITY, MOST_SEED, MOST_TOLERANCE, LATEST_END, LEAST_WIDTH, MOST_WIDTH}
 use Rattle.command_line.specs.declared.calls.Choice.{Choice}
-use Rattle.command_line.specs.declared.calls.Choice.TheVariants.{Base, LowerIsHigher, Seed, Tasks, Tolerance, From, To, Width}
+use Rattle.command_line.specs.declared.calls.Choice.TheVariants.{All, Base, LowerIsHigher, Seed, Tasks, Tolerance, From, To, Width}
 use Rattle.command_line.specs.declared.calls.Takes.{Takes}
 use Rattle.command_line.specs.declared.calls.Takes.TheVariants as takes
 use Rattle.command_line.specs.declared.calls.Preferred.{Preferred}
@@ -121,6 +121,7 @@ Flags c rows false = first_of (choice_id c) rows ≢ Some (codes "true")
 pub record AreOptions (given : List Row) (options : OptionsData) : Type 0 where
   pub prefer : Prefers given options.prefer
   pub task : option_map (λ s. s.now) options.task ≡ first_of (codes "task") given
+  pub all : Flags All given options.all
   pub base : IsNumberOf Base given options.base
   pub lower_is_higher : Flags LowerIsHigher given options.lower_is_higher
   pub seed : IsNumberOf Seed given options.seed
@@ -138,6 +139,7 @@ no_options =
     record {
       prefer = None;
       task = None;
+      all = false;
       base = None;
       lower_is_higher = false;
       seed = None;

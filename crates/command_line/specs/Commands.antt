@@ -13,7 +13,7 @@ use Rattle.command_line.specs.declared.calls.OfNumber.TheVariants.{Releases, Scr
 use Rattle.command_line.specs.declared.calls.Verb.{Verb}
 use Rattle.command_line.specs.declared.calls.Verb.TheVariants.{One, Two, Number}
 use Rattle.command_line.specs.declared.calls.Choice.{Choice}
-use Rattle.command_line.specs.declared.calls.Choice.TheVariants.{Prefer, Task, Base, LowerIsHigher, Seed, Tasks, Tolerance, Keep, At, From, To, Width, Title, Rows}
+use Rattle.command_line.specs.declared.calls.Choice.TheVariants.{Prefer, Task, Base, LowerIsHigher, Seed, Tasks, Tolerance, Keep, At, All, From, To, Width, Title, Rows}
 use Rattle.command_line.specs.declared.calls.Takes.{Takes}
 use Rattle.command_line.specs.declared.calls.Takes.TheVariants as takes
 use Rattle.command_line.specs.declared.calls.TheConstants.{MOST_WORKERS, MOST_TEAM, MOST_PRIORITY, MOST_SEED, MOST_TOLERANCE, LEAST_WIDTH, MOST_WIDTH, LATEST_END}
@@ -23,7 +23,7 @@ use Rattle.command_line.specs.declared.calls.TheConstants.{MOST_WORKERS, MOST_TE
 abbrev pub commands : List (Text × Verb × List Choice)
 commands =
     (codes "admit", One Admit, Prefer ∷ [])
-    ∷ (codes "explain", One Explain, Prefer ∷ Task ∷ At ∷ [])
+    ∷ (codes "explain", One Explain, Prefer ∷ Task ∷ At ∷ All ∷ [])
     ∷ (codes "limits", One Limits, Prefer ∷ Task ∷ At ∷ [])
     ∷ (codes "settings", One Settings, Prefer ∷ Base ∷ Keep ∷ [])
     ∷ (codes "judge", Two Judge, Prefer ∷ LowerIsHigher ∷ [])
@@ -99,6 +99,7 @@ choice_name Tasks = codes "tasks"
 choice_name Tolerance = codes "tolerance"
 choice_name Keep = codes "keep"
 choice_name At = codes "at"
+choice_name All = codes "all"
 choice_name From = codes "from"
 choice_name To = codes "to"
 choice_name Width = codes "width"
@@ -121,6 +122,7 @@ takes_of Tasks = takes.Flag
 takes_of Tolerance = takes.Number 0 MOST_TOLERANCE
 takes_of Keep = takes.Word
 takes_of At = takes.Word
+takes_of All = takes.Flag
 takes_of From = takes.Number 0 LATEST_END
 takes_of To = takes.Number 0 LATEST_END
 takes_of Width = takes.Number LEAST_WIDTH MOST_WIDTH

@@ -130,6 +130,8 @@ pub(crate) enum Choice {
     Keep,
     // `--at SETTINGS`
     At,
+    // `--all`
+    All,
     // `--from T`
     From,
     // `--to T`
@@ -167,6 +169,8 @@ pub struct Options<'a> {
     pub prefer: Option<Preferred>,
     /// `--task NAME`: the task that is asked about.
     pub task: Option<&'a str>,
+    /// `--all`: what each task of a conflict needs, however many there are.
+    pub all: bool,
     /// `--base N`: the priority of level 1.
     pub base: Option<usize>,
     /// `--lower-is-higher`: the smaller number is the higher priority.
@@ -183,7 +187,7 @@ pub struct Options<'a> {
     pub to: Option<usize>,
     /// `--width N`: how wide it is, in pixels.
     pub width: Option<usize>,
-    /// `--title TEXT`: what stands before its verdict.
+    /// `--title TEXT`: what stands behind its verdict.
     pub title: Option<&'a str>,
     /// `--tasks NAMES`: the tasks that have rows in it, a comma between two.
     pub rows: Option<&'a str>,
@@ -295,6 +299,7 @@ impl Choice {
             Choice::Tolerance => "tolerance",
             Choice::Keep => "keep",
             Choice::At => "at",
+            Choice::All => "all",
             Choice::From => "from",
             Choice::To => "to",
             Choice::Width => "width",
@@ -344,7 +349,7 @@ impl Choice {
                 least: LEAST_WIDTH as u32,
                 most: MOST_WIDTH as u32,
             },
-            Choice::LowerIsHigher | Choice::Tasks => Takes::Flag,
+            Choice::LowerIsHigher | Choice::Tasks | Choice::All => Takes::Flag,
         }
     }
 
@@ -361,6 +366,7 @@ impl Choice {
             | Choice::Seed
             | Choice::LowerIsHigher
             | Choice::Tasks
+            | Choice::All
             | Choice::Tolerance
             | Choice::Width => "N",
         }
@@ -380,10 +386,11 @@ impl Choice {
             }
             Choice::Keep => "Settings of a node whose order stays, as far as both have its tasks",
             Choice::At => "Settings that give the order, in place of the best one",
+            Choice::All => "What each task of a conflict needs, also of more than three",
             Choice::From => "Where the picture begins, in microseconds",
             Choice::To => "Where the picture ends, in microseconds, if not with the run",
             Choice::Width => "How wide the picture is, in pixels, from 960 to 16000",
-            Choice::Title => "What stands before its verdict",
+            Choice::Title => "What stands behind its verdict",
             Choice::Rows => "The tasks that have rows, a comma between two; else all",
         }
     }
@@ -397,6 +404,7 @@ impl<'a> Options<'a> {
         Options {
             prefer: None,
             task: None,
+            all: false,
             base: None,
             lower_is_higher: false,
             seed: None,

@@ -33,7 +33,7 @@ OneSays Certify options = SaysCertified (preference_of options)
 OneSays Limits options = SaysPart part.Limits (task_of options) (preference_of options)
 OneSays Settings options =
     SaysPlacing (order.Settings (base_of options)) (preference_of options)
-OneSays Explain options = SaysPart part.Reasons (task_of options) (preference_of options)
+OneSays Explain options = SaysPart (part.Reasons options.all) (task_of options) (preference_of options)
 OneSays Worst options = SaysPart part.Worst (task_of options) (preference_of options)
 OneSays Play options = SaysPlayed
 
