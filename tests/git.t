@@ -104,6 +104,24 @@ What the node gives to a team, and whose a lock becomes:
   [team.bsae] in teams/node.toml is of no document; the teams are arm, base and cam: nora or root may change it
   refused: COMMIT "mistyped"
 
+What only the node's document may say:
+
+  $ fresh ann && printf '[node]\njob = 10\n' >> ann/teams/arm.toml && save ann 'what a job takes' && push ann
+  arm.toml: [node] is for node.toml to say, for all teams: move it there, or let node.toml give the right, by node = true in [team.arm]
+  refused: NodesOwn arm node
+  team arm (yours) has to take it out of teams/arm.toml, or teams/node.toml to give the right: nora or root may change it
+  refused: COMMIT "what a job takes"
+
+  $ fresh nora && printf '[locks]\nbus = true\neye = true\n' >> nora/teams/node.toml && save nora locks && push nora | grep '^all'
+  all 1000 -> 1000
+  $ fresh cy && sed -i s/eye/eyes/ cy/teams/cam.toml && save cy eyes && push cy
+  cam.toml: line 1, task 1 (pan), section 1: eyes is no lock in [locks] of node.toml; the nearest is eye: write one that is, or have it added there, eyes = true
+  refused: UnknownLock cam pan 1 eyes
+  team cam (yours) has to take another lock, or teams/node.toml to list eyes: nora or root may change it
+  refused: COMMIT "eyes"
+  $ fresh nora && git -C nora revert --no-edit HEAD > said && push nora | grep '^all'
+  all 1000 -> 1000
+
 What is no document:
 
   $ fresh cy && chmod +x cy/teams/cam.toml && save cy 'run it' && push cy

@@ -145,14 +145,14 @@ Sentences:
   $ refused "[node]\nlate = 100\n$two" > /dev/null || cat said
   wrong.toml: line 3, task 1 (b): with late of [node] the jitter isn't below the deadline: jitter 0 and late 100 make 100, deadline 100
 
-Of several teams' documents those that say a node must say the same, and it holds for the tasks of all; a budget bounds what
-a document says, here 50 thousandths and no more.
+Of several teams' documents those that say a node must say the same, and it holds for the tasks of all; where there is a
+`node.toml`, it has to give them the right to. A budget bounds what a document says, here 50 thousandths and no more.
 
   $ mkdir teams
   $ printf '[[task]]\nname = "a"\nperiod = 10000\ndeadline = 10000\ncost = 500\n' > teams/one.toml
   $ printf '[[task]]\nname = "b"\nperiod = 10000\ndeadline = 10000\ncost = 500\n' > teams/two.toml
   $ printf '[node]\njob = 100\n' > teams/base.toml
-  $ printf '[team.one]\nload = 50\n' > teams/node.toml
+  $ printf '[team.one]\nload = 50\n[team.base]\nnode = true\n[team.two]\nnode = true\n' > teams/node.toml
   $ desk admit teams
   admitted 2
   1 a 1200
@@ -168,7 +168,7 @@ a document says, here 50 thousandths and no more.
   teams: two.toml: another [node] than base.toml; one team says it for all
   [4]
 
-What the node takes has no room in another team's task; and `[node]` isn't what `node.toml` has:
+What the node takes has no room in another team's task; `node.toml` itself may say it:
 
   $ printf '[node]\njob = 99\nlock = 0\n[[task]]\nname = "c"\nperiod = 10000\ndeadline = 10000\ncost = 9902\n' > teams/base.toml
   $ printf '[[task]]\nname = "b"\nperiod = 10000\ndeadline = 10000\ncost = 500\n' > teams/two.toml
@@ -180,7 +180,8 @@ What the node takes has no room in another team's task; and `[node]` isn't what 
   $ desk admit teams 2>&1 > /dev/null
   teams: one.toml: line 1, task 1 (a): with job and lock of [node] the cost is past the period: cost 500, job 9501 and 0 times lock 0 make 10001, period 10000
   [4]
-  $ printf '[node]\njob = 99\n' > teams/node.toml
-  $ desk admit teams 2>&1 > /dev/null
-  teams: node.toml: unknown key node; it has budgets of teams alone, each headed by [team.NAME]; [node] stands in a team's document
+  $ printf '[node]\njob = 9501\n' > teams/node.toml && : > teams/base.toml
+  $ desk admit teams 2>&1
+  teams: one.toml: line 1, task 1 (a): with job and lock of [node] the cost is past the period: cost 500, job 9501 and 0 times lock 0 make 10001, period 10000
+  refused: PaddedCost a
   [4]

@@ -172,10 +172,11 @@ processor, and a nine-millionth more, of an interrupt or a task, is more than th
   refused: PastBudget cam load 1001 1000
   [4]
 
-An interrupt counts for the team that writes it, whose tasks may be none:
+An interrupt counts for the team that writes it, whose tasks may be none, and one of `node.toml` for no team:
 
   $ tick 100 25 > exact/base.toml
   $ tick 100 25 > exact/cam.toml
+  $ budget() { { tick 100 25; printf '[team.base]\nnode = true\n[team.cam]\nnode = true\nload = %s\n' $1; } > exact/node.toml; }
   $ budget 249
   $ desk admit exact
   refused: PastBudget cam load 250 249
@@ -183,6 +184,90 @@ An interrupt counts for the team that writes it, whose tasks may be none:
   $ budget 250
   $ desk admit exact
   admitted 0
+
+What `node.toml` says holds for all, its interrupts before the teams', and there alone it is said:
+
+  $ { printf 'prefer = "deadline"\n[node]\njob = 28\nrelease = 5\n'; tick 4000 17; } > exact/node.toml
+  $ { tick 5000 20; task p 3000 1000; } > exact/cam.toml
+  $ : > exact/base.toml
+  $ desk admit exact
+  refused: NodesOwn cam interrupt
+  (on standard error) exact: cam.toml: [[interrupt]] is for node.toml to say, for all teams: move it there, or let node.toml give the right, by node = true in [team.cam]
+  [4]
+  $ printf 'prefer = "deadline"\n' > exact/base.toml
+  $ desk admit exact
+  refused: NodesOwn base prefer
+  (on standard error) exact: base.toml: prefer is for node.toml to say, for all teams: move it there, or let node.toml give the right, by node = true in [team.base]
+  [4]
+  $ printf '[team.cam]\nnode = true\n[team.base]\nnode = false\n' >> exact/node.toml
+  $ desk admit exact 2> said
+  refused: NodesOwn base prefer
+  [4]
+  $ : > exact/base.toml
+  $ desk script exact 1
+  open 1
+  put 1 p 0 3000 3000 1023 node=28+0+5+0 irq=4000:17+5000:20
+  commit 1
+
+`[locks]` has the names that sections may take; a second name is its lock's, so that teams rename one after the other:
+
+  $ mkdir locks
+  $ held() { task "$1" "$2" "$3"; shift 3; printf 'section = [{ locks = [%s], len = 100 }]\n' "$1"; }
+  $ held arm 10000 2000 '"can"' > locks/arm.toml
+  $ held pan 20000 5000 '"bus"' > locks/cam.toml
+  $ desk admit locks 2> said
+  admitted 2
+  1 arm 7000
+  2 pan 5000
+  $ printf '[locks]\nbus = true\ncan = "bus"\nm = true\n' > locks/node.toml
+  $ desk admit locks
+  admitted 2
+  1 arm 7000
+  2 pan 5100
+  $ desk explain locks | sed -n '/blocked/p'
+    blocked 100 by arm section 1 lock bus team arm
+  $ printf '[team.cam]\nsection = 99\n' >> locks/node.toml
+  $ desk admit locks 2> said
+  refused: PastBudget cam section 100 99
+  [4]
+  $ printf '[locks]\nbus = true\ncan = "bus"\nm = true\n' > locks/node.toml
+  $ { task tilt 30000 1000; held pan 20000 5000 '"m"], len = 5 }, { locks = ["buss"'; } > locks/cam.toml
+  $ desk admit locks
+  refused: UnknownLock cam pan 2 buss
+  (on standard error) locks: cam.toml: line 6, task 2 (pan), section 2: buss is no lock in [locks] of node.toml; the nearest is bus: write one that is, or have it added there, buss = true
+  [4]
+  $ held pan 20000 5000 '"can", "m", "bus"' > locks/cam.toml
+  $ desk admit locks
+  refused: team cam task pan LockTwice 1
+  (on standard error) locks: cam.toml: line 1, task 1 (pan): by [locks] of node.toml, section 1: a lock twice
+  [4]
+  $ : > locks/node.toml
+  $ desk admit locks 2> said
+  admitted 2
+  1 arm 7000
+  2 pan 5100
+
+Who has the right may not say otherwise, nor more than the node has room for:
+
+  $ printf 'prefer = "weight"\n' > exact/cam.toml
+  $ desk admit exact
+  refused: OtherPreference cam node
+  (on standard error) exact: cam.toml: prefers otherwise than node.toml; one team says it for all
+  [4]
+  $ printf '[node]\njob = 27\n' > exact/cam.toml
+  $ desk admit exact 2> said
+  refused: OtherNode cam node
+  [4]
+  $ for n in 1 2 3 4 5 6 7 8; do tick 100000 $n; done > exact/cam.toml
+  $ desk admit exact
+  refused: TooManyInterrupts
+  (on standard error) exact: the teams and node.toml have more than 8 interrupts together
+  [4]
+  $ task p 3000 2990 > exact/cam.toml
+  $ desk admit exact
+  refused: PaddedCost p
+  (on standard error) exact: cam.toml: line 1, task 1 (p): with job and lock of [node] the cost is past the period: cost 2990, job 28 and 0 times lock 0 make 3018, period 3000
+  [4]
 
 A budget needs a team that has a document:
 
@@ -202,12 +287,40 @@ What is no such document, in the order of its refusals:
   refused: node Syntax
   [4]
   $ told '[[task]]\nname = "a"\n[team]\ncam = 1\n'
-  kept: node.toml: unknown key task; it has budgets of teams alone, each headed by [team.NAME]
+  kept: node.toml: unknown key task; it may have prefer in front, [node], [[interrupt]], [locks], and for each team [team.NAME]; a task stands in its team's document
   refused: node UnknownKey
   [4]
   $ told '[[team]]\nload = 1\n'
-  kept: node.toml: team has to be a table of budgets, each headed by [team.NAME]; it is an array
+  kept: node.toml: team has to be a table of teams, each headed by [team.NAME]; it is an array
   refused: node WrongKind
+  [4]
+  $ told 'prefer = "weights"\nteam = 1\n'
+  kept: node.toml: prefer has to be "deadline" or "weight"; it is the string "weights"
+  refused: node BadPreference
+  [4]
+  $ told '[node]\nrelease = 3\n'
+  kept: node.toml: release has to be at most 1000 and at most job; it is 3, job 0
+  refused: node BadOverhead release
+  [4]
+  $ told 'node = 3\n'
+  kept: node.toml: node has to be a table, headed by [node]; it is 3
+  refused: node WrongKind 0 0 node
+  [4]
+  $ told 'locks = ["a"]\n'
+  kept: node.toml: locks has to be a table, headed by [locks]; it is an array
+  refused: node WrongKind 0 0 locks
+  [4]
+  $ told '[locks]\n"a b" = true\n'
+  kept: node.toml: a b is no name of a lock
+  refused: node BadLock
+  [4]
+  $ told '[locks]\na = "b"\nb = "c"\nc = true\n'
+  kept: node.toml: a in [locks] has to be true, or in quotes the name of a lock that is true there: a is a second name of that then; it is the string "b"
+  refused: node BadLock a
+  [4]
+  $ told '[[interrupt]]\nperiod = 100\ncost = 101\n'
+  kept: node.toml: interrupt 1: period has to be from 100 to 10000000, and cost at most period; period is 100, cost is 101
+  refused: node BadInterrupt 1
   [4]
   $ told '[team."c m"]\nload = 1\n'
   kept: node.toml: c m is no name of a team
@@ -218,12 +331,16 @@ What is no such document, in the order of its refusals:
   refused: node WrongKind cam
   [4]
   $ told '[team.cam]\nlaod = 250\n'
-  kept: node.toml: line 1: cam: unknown key laod; a budget has load, section
+  kept: node.toml: line 1: cam: unknown key laod; it may have load, section, node
   refused: node UnknownKey cam
   [4]
   $ told '[team.cam]\nload = 25.0\n'
   kept: node.toml: line 1: cam: load has to be a whole number of thousandths of the processor from 0; it is a number with a fraction
   refused: node WrongKind cam load
+  [4]
+  $ told '[team.cam]\nnode = 1\n'
+  kept: node.toml: line 1: cam: node has to be true, where the team may say prefer, [node] and [[interrupt]], or false; it is 1
+  refused: node WrongKind cam node
   [4]
 
 Its refusals come before those of the teams' documents, and what is past comes after them. In one text it stands first,

@@ -59,10 +59,11 @@ Help names each command, and of a command its inputs, an example and its statuse
   1
   $ for command in admit explain limits settings judge diff certify check releases worst simulate draw observe script play rush; do desk $command --help | grep -q "^Example: .*desk $command " || echo $command; desk $command --help | grep -q '^Status: 0 ' || echo $command; done
 
-That of each command that reads a task set names its option:
+That of each command that reads a task set names its two options:
 
   $ for command in admit explain limits settings judge diff certify check releases worst simulate draw observe script; do desk $command --help | grep -q -e '^ *--prefer <ORDER>  *[A-Z].*deadline$' || echo $command; done
-  $ for command in play rush; do ! desk $command --help | grep -e --prefer; done
+  $ for command in admit explain limits settings judge diff certify check releases worst simulate draw observe script; do desk $command --help | grep -q -e '^ *--strict  *[A-Z]' || echo $command; done
+  $ for command in play rush; do ! desk $command --help | grep -e --prefer -e --strict; done
 
 No such command, also in other letters; a word too few; a word too many; an option that isn't there:
 

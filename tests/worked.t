@@ -1011,7 +1011,7 @@ Traces
 A third job of hi a tick too soon after the second, with a job of mid between; hi isn't done, and its bound is past by a tick at
 the end; by how much a job breaks a promise, and by which tolerance it doesn't:
 
-  $ seen() { printf "$1" | desk observe examples/shared-lock.toml - --tolerance ${2-0} 2> told; }
+  $ seen() { printf "$1" | desk observe examples/shared-lock.toml - --jobless --tolerance ${2-0} 2> told; }
   $ seen '0 1000 hi\n10000 11000 hi\n15000 17000 mid\n19999 20999 hi\njob hi 0 1000\njob hi 10000 11000\njob mid 15000 17000\njob hi 19999 20999\n'
   task lo 0 0 20000 - 100000 - 27000
   task mid 1 2000 2000 - 20000 2000 7000
@@ -1022,8 +1022,8 @@ the end; by how much a job breaks a promise, and by which tolerance it doesn't:
   task lo 1 20000 20000 - 100000 23000 27000
   task mid 1 2000 2000 - 20000 7001 7000
   task hi 1 1000 1000 - 10000 5000 5000
-  bound mid 0 7001 of 7000
   blocked mid 0 4001 of 4000 by lo 4001
+  bound mid 0 7001 of 7000 after blocked mid 0
   [3]
   $ late='0 1000 hi\n10000 11003 hi\njob hi 0 1000\njob hi 10000 11003\n'
   $ for tolerance in 0 2 3; do seen "$late" $tolerance | grep -c '^cost hi 10000'; done
@@ -1094,6 +1094,7 @@ with a number that it doesn't take:
   > simulate s r --from 1
   > simulate s r --tasks --tasks
   > observe s t --tolerance 60000001
+  > observe s t --jobless --jobless
   > judge s t --tolerance 1
   > worst s --tolerance 1
   > settings s --keep
@@ -1120,7 +1121,7 @@ And words that are right, where no file is there:
   > releases --seed=4294967295 s 100
   > simulate s --tasks r
   > draw s r --from=0 --to 60000000 --width 960 --title a:b --tasks a,b
-  > observe s - --tolerance 60000000
+  > observe s - --tolerance 60000000 --jobless
   > worst s --task a
   > worst --at n s --task=a
   > explain --at=- s

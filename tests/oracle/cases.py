@@ -71,6 +71,7 @@ def of_set(rng, subject):
         others = [interrupts, interrupts, interrupts[1:], make_sets.interrupts(rng)]
         inputs.append(set_input(rng, make_sets.changed(rng, sheets), 0.1, rng.choice([own, own, None]), rng.choice(nodes), rng.choice(others)))
     options = [] if prefer is None or rng.random() < 0.05 else [("prefer", prefer)]
+    options += [("strict", None)] * (rng.random() < 0.15)
     if subject in ("explain", "limits", "worst") and rng.random() < 0.3:
         options.append(("task", rng.choice([*(sheet.name for sheet in sheets), "none", "0", ""])))
     number = None
@@ -84,6 +85,8 @@ def of_set(rng, subject):
         options += view_of(rng, sheets)
     if subject == "observe" and rng.random() < 0.3:
         options.append(("tolerance", rng.choice(["0", "1", "5", str(rng.randint(0, 5000)), "60000000", "60000001", "", "-1"])))
+    if subject == "observe" and rng.random() < 0.3:
+        options.append(("jobless", None))
     if subject == "judge" and rng.random() < 0.3:
         options.append(("lower-is-higher", None))
         if rng.random() < 0.8:
@@ -146,8 +149,13 @@ def set_input(rng, sheets, damaged, own=None, overheads=None, interrupts=()):
     cut = rng.randint(0, len(interrupts))
     hands = [interrupts[:cut], interrupts[cut:]]
     hand = lambda: hands.pop(0) if hands and rng.random() < 0.6 else rng.choice([[]] * 9 + [interrupts])
+    is_kept, said = rng.random() < 0.5, b""
+    if is_kept and rng.random() < 0.7:
+        said = set_text(rng, None, damaged, rng.choice(owns), rng.choice(nodes), hand())
+        if rng.random() < 0.7:
+            owns, nodes, hands, interrupts = [None], [None], [], []
     parts = make_sets.teams_of(rng, sheets, lambda part: set_text(rng, part, damaged / 3, rng.choice(owns), rng.choice(nodes), hand()))
-    node = make_sets.node_of(rng, parts, sheets) if rng.random() < 0.5 else None
+    node = make_sets.node_of(rng, parts, sheets, said) if is_kept else None
     if rng.random() < 0.5:
         return make_sets.gathered(rng, parts, node)
     return make_sets.folder(rng, parts, node)
@@ -155,8 +163,8 @@ def set_input(rng, sheets, damaged, own=None, overheads=None, interrupts=()):
 
 def set_text(rng, sheets, damaged, own=None, overheads=None, interrupts=()):
     """The set as TOML with what it prefers, and its node and interrupts, if any; one of two ways of damage at the given
-    rate."""
-    tables = [make_sets.table_of(rng, sheet) for sheet in sheets]
+    rate. Without sheets what else is said stands alone."""
+    tables = [make_sets.table_of(rng, sheet) for sheet in sheets or []]
     prefers = {} if own is None else {"prefer": own}
     node = {} if overheads is None else {"node": overheads}
     more = {"interrupt": list(interrupts)} if interrupts or rng.random() < 0.01 else {}
@@ -168,8 +176,8 @@ def set_text(rng, sheets, damaged, own=None, overheads=None, interrupts=()):
             node = {"node": make_sets.wrong_overheads(rng, overheads)}
         if interrupts and rng.random() < 0.5:
             more = {"interrupt": make_sets.wrong_interrupts(rng, list(interrupts))}
-        return make_sets.toml(rng, prefers | make_sets.with_faults(rng, tables) | node | more)
-    text = make_sets.toml(rng, prefers | {"task": tables} | node | more)
+        return make_sets.toml(rng, prefers | ({} if sheets is None else make_sets.with_faults(rng, tables)) | node | more)
+    text = make_sets.toml(rng, prefers | ({} if sheets is None else {"task": tables}) | node | more)
     return make_sets.damaged_bytes(rng, text) if kind < damaged else text
 
 
@@ -206,7 +214,7 @@ def called(rng, subject, inputs, options=(), number=None, by=None):
 
 
 WORDS = ["-", "--", "set", "set", "none", "folder", "--prefer", "deadline", "--prefer=deadline", "--prefer=weight", "--prefer=name", "--prefer=",
-         "--task", "--task=a", "--task=", "--seed", "--seed=8", "--seed=4294967296", "--tasks", "--tasks=", "--tasks=a,a", "--from", "--from=8", "--to=60000001", "--width=959", "--width=960", "--title", "--title=x", "--tolerance", "--tolerance=8", "--base=1", "--base=0", "--base", "--lower-is-higher", "--lower-is-higher=1", "--keep", "--keep=set", "--keep=-", "--at", "--at=set", "--at=-", "-x", "--x",
+         "--task", "--task=a", "--task=", "--seed", "--seed=8", "--seed=4294967296", "--tasks", "--tasks=", "--tasks=a,a", "--from", "--from=8", "--to=60000001", "--width=959", "--width=960", "--title", "--title=x", "--tolerance", "--tolerance=8", "--jobless", "--jobless=1", "--base=1", "--base=0", "--base", "--lower-is-higher", "--lower-is-higher=1", "--keep", "--keep=set", "--keep=-", "--at", "--at=set", "--at=-", "-x", "--x",
          "", "0", "1", "8", "9", "+8", "007", "+", "++8", "0x8", "-8", " 8", "8_0", "60000000", "60000001", "1" * 25]  # fmt: skip
 
 

@@ -320,17 +320,19 @@ def script(tasks, team):
     return "".join([f"open {team}\n", *puts, "commit 1\n"]), 0
 
 
-def observe(tasks, said, tolerance=0):
+def observe(tasks, said, tolerance=0, is_jobless=False):
     rows, *trace = said
     if rows:
         order = settings.node_order(tasks, rows)
         if None in settings.bounds_in(tasks, order).values():
             return settings.judge(tasks, order, rows)
+        numbers = {name: number for _, name, number in settings.of_kind(rows, "thread")}
     else:
         order = analysis.best_order(tasks)
         if order is None:
             return admitted(tasks, None), INFEASIBLE
-    return observed.observe(tasks, order, *trace, tolerance)
+        numbers = {tasks[i].name: level for level, i, _ in analysis.levels_of(order)}
+    return observed.observe(tasks, order, numbers, *trace, tolerance, is_jobless)
 
 
 def draw(tasks, said, **options):
@@ -357,7 +359,7 @@ def rush(rows, workers):
     return RUSHED, 0
 
 
-PREFERS = {"prefer": calls.one_of("weight", "deadline")}
+PREFERS = {"prefer": calls.one_of("weight", "deadline"), "strict": calls.FLAG}
 OF_TASK = {**PREFERS, "task": calls.any_word}
 
 
@@ -374,6 +376,8 @@ AT = {**OF_TASK, "at": calls.any_word}
 TIME = calls.number_within(0, kernel.HORIZON)
 VIEW = {"from": TIME, "to": TIME, "width": calls.number_within(960, 16_000), "title": calls.any_word, "tasks": calls.any_word}
 
+LEEWAY = {"tolerance": calls.number_within(0, observed.TOLERANCE_MOST), "jobless": calls.FLAG}
+
 
 COMMANDS = {
     "admit": on_set(admit),
@@ -388,14 +392,12 @@ COMMANDS = {
     "releases": on_set(releases, number=(0, kernel.HORIZON), options={**PREFERS, "seed": calls.number_within(0, 2**32 - 1)}),
     "worst": on_set(of_task(worst.worst), options=AT, by_file=("at", WORST_AT)),
     "draw": on_set(draw, kernel.read_releases, options={**PREFERS, **VIEW}),
-    "observe": on_set(
-        observe, observed.read_trace, options={**PREFERS, "tolerance": calls.number_within(0, observed.TOLERANCE_MOST)}
-    ),
+    "observe": on_set(observe, observed.read_trace, options={**PREFERS, **LEEWAY}),
     "script": on_set(script, number=(1, scripts.TEAMS)),
     "play": calls.Command(play, (scripts.read_script,)),
     "rush": calls.Command(rush, (scripts.read_script,), (1, scripts.TEAMS)),
 }
-KEYWORDS = {"tasks": "of_tasks", "lower-is-higher": "lower_is_higher", "from": "start", "to": "stop"}  # options by another name
+KEYWORDS = {"tasks": "of_tasks", "lower-is-higher": "lower_is_higher", "from": "start", "to": "stop", "jobless": "is_jobless"}  # options by another name
 OF_THE_ORDER = ("admit", "explain", "limits", "settings", "worst")  # commands whose answer speaks of the order alone
 OF_A_PREFERENCE = (teams.read_set, read_change)  # readers that are told it
 HELP = {(word,) for word in ("help", "-h", "--help", "-V", "--version")}
@@ -420,8 +422,8 @@ def answer(words, files, stdin=b""):
 
 
 def keywords(call):
-    """The options of a call but for what it prefers, by the names that functions know."""
-    return {KEYWORDS.get(name, name): value for name, value in call.options.items() if name != "prefer"}
+    """The options of a call but for how it reads sets, by the names that functions know."""
+    return {KEYWORDS.get(name, name): value for name, value in call.options.items() if name not in PREFERS}
 
 
 def told(call, said, text, status):
@@ -439,6 +441,32 @@ def told(call, said, text, status):
             lines.append("the highest thread is above 99, the most that Linux has for SCHED_FIFO")
         lines += notes_of(call, tasks, others, text, status)
     return "".join(f"note: {line}\n" for line in lines)
+
+
+def doubts(call, tasks):
+    """For what `--strict` refuses a set, by the first: names of tasks, locks and tasks to outrank."""
+    for task in tasks:
+        for section in task.sections:
+            for lock in section.locks:
+                if sum(any(lock in part.locks for part in other.sections) for other in tasks) == 1:
+                    yield "LoneLock", task.name, lock
+    names = {task.name for task in tasks}
+    for task in tasks:
+        for name in task.named:
+            if name not in names:
+                yield "NoSuchName", task.name, name
+    if names_decide(call, tasks):
+        for lower, higher in zip(tasks, tasks[1:]):
+            if lower.limit < higher.limit:
+                yield "NamesDecide", lower.name, higher.name
+
+
+def strictly(call, reader, tasks):
+    """The set; or the refusal of its first doubt, where the call asks for none, but for the old set of `diff`."""
+    is_old = call.command is COMMANDS["diff"] and reader is teams.read_set
+    for doubt in doubts(call, tasks) if "strict" in call.options and not is_old else ():
+        raise Refused(4, *["new"] * (reader is read_change), *doubt)
+    return tasks
 
 
 def notes_of(call, tasks, others, text, status):
@@ -527,6 +555,6 @@ def read_inputs(call, files, stdin):
         raise Refused(4, "InputTooLong")
     preference = call.options.get("prefer")
     return [
-        reader(text, preference) if reader in OF_A_PREFERENCE else reader(text)
+        strictly(call, reader, reader(text, preference)) if reader in OF_A_PREFERENCE else reader(text)
         for reader, text in zip(call.command.readers, data)
     ]

@@ -233,20 +233,38 @@ def teams_of(rng, sheets, text_of):
     return [(team, text_of(hand)) for team, hand in hands.items()]
 
 
-def node_of(rng, parts, sheets):
-    """What teams may take, near what they take; some of it is wrong."""
+def node_of(rng, parts, sheets, said=b""):
+    """The node's document, which says this for all: what teams may take, near what they take, and which may say what is the
+    node's; some of it is wrong."""
     total, longest = analysis.share_of_tasks(sheets) // 1000, max((part.len for sheet in sheets for part in sheet.sections), default=0)
-    out = ""
-    for team in rng.sample([team for team, _ in parts], rng.randrange(len(parts) + 1)):
+    out, free = "", rng.random() < 0.4
+    for team in rng.sample([team for team, _ in parts], len(parts) if free else rng.randrange(len(parts) + 1)):
         out += rng.choice([f"[team.{team}]\n", f"[team.{team}]\n", f'[team."{team}"]\n'])
         keys = {"load": [total, total + 1, total // 2, 1000, rng.randrange(1000)], "section": [longest, longest - 1, 1000, 0]}
         for key in rng.sample(list(keys), rng.choice([0, 1, 1, 2])):
             out += f"{key} = {max(0, rng.choice(keys[key]))}\n"
+        if free or rng.random() < 0.3:
+            out += f"node = {rng.choice(['true'] * 40 + ['false', '1', '[]'])}\n"
         if rng.random() < 0.08:
             out += rng.choice(["extra = 1\n", 'load = "1"\n', "section = -1\n", "load = 1.0\n", "section = [1]\n", "load = true\n"])
     if rng.random() < 0.08:
         out = rng.choice(["x = 1\n", "team = 1\n", "team = []\n", "[team]\ncam = 1\n", '[team."1"]\n', "[team.nobody]\n", "[[task]]\n"]) + out
-    return out.encode()
+    if rng.random() < 0.3:
+        out = locks_of(rng, sheets) + out
+    return said + out.encode()
+
+
+def locks_of(rng, sheets):
+    """A list of locks that has mostly each that a set uses, some under second names; some of it is wrong."""
+    used = sorted({lock for sheet in sheets for part in sheet.sections for lock in part.locks} | set(rng.sample(LOCKS, 2)))
+    if used and rng.random() < 0.35:
+        used.remove(rng.choice(used))
+    out = {lock: "true" for lock in used}
+    for lock in rng.sample(used, rng.choice([0, 0, 1, 1, 2]) if len(used) > 2 else 0):
+        out[lock] = f'"{rng.choice(used)}"'
+    if rng.random() < 0.1:
+        out[rng.choice(["new", "1", *used])] = rng.choice(["true", "false", "1", '"none"', "[]", '"new"'])
+    return "[locks]\n" + "".join(f'"{lock}" = {value}\n' for lock, value in out.items())
 
 
 def gathered(rng, parts, node=None):

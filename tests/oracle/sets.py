@@ -207,6 +207,17 @@ def padded(sheets, node, interrupts=()):
     return out
 
 
+def read_whole(tree):
+    """What a document's tree prefers, and its node, if it says so, and its interrupts."""
+    prefer = tree.get("prefer")
+    if prefer is not None and not isinstance(prefer, str):
+        raise Refused(4, "WrongKind", 0, 0, "prefer")
+    if prefer is not None and prefer not in PREFERENCES:
+        raise Refused(4, "BadPreference")
+    node = read_node(tree["node"]) if "node" in tree else None
+    return prefer, node, read_interrupts(tree.get("interrupt", []))
+
+
 def read_document(data):
     """What a document prefers, and its node, if it says so, its interrupts, and its sheets, as they stand; or the first
     refusal."""
@@ -216,13 +227,7 @@ def read_document(data):
     tables = tree.get("task", [])
     if not are(tables, dict):
         raise Refused(4, "WrongKind", 0, 0, "task")
-    prefer = tree.get("prefer")
-    if prefer is not None and not isinstance(prefer, str):
-        raise Refused(4, "WrongKind", 0, 0, "prefer")
-    if prefer is not None and prefer not in PREFERENCES:
-        raise Refused(4, "BadPreference")
-    node = read_node(tree["node"]) if "node" in tree else None
-    interrupts = read_interrupts(tree.get("interrupt", []))
+    prefer, node, interrupts = read_whole(tree)
     sheets = [read_task(table, number) for number, table in enumerate(tables, 1)]
     names = [sheet.name for sheet in sheets]
     for number, name in enumerate(names, 1):

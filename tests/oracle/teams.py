@@ -1,4 +1,5 @@
-"""Sets of one document or of several teams', budgets and folders: FORMATS.md, Documents of several teams, Budgets."""
+"""Sets of one document or of several teams', the node's document and folders: FORMATS.md, Documents of several teams, The
+node's document."""
 
 import math
 import re
@@ -6,12 +7,15 @@ from fractions import Fraction
 
 from lines import Faulty, NUMBER
 from refusals import Refused
-from sets import by_limits, by_rank, INTERRUPTS_MOST, is_name, padded, read_document, TASKS_MOST
+from sets import by_limits, by_rank, INTERRUPTS_MOST, is_name, padded, read_document, read_whole, sheet_fault, TASKS_MOST
 from toml_tree import tree_of
 
 MARK = b"#% "
 NODE_HEAD = re.compile(rb"#% ([^ \n]*)\n")
 NODE = "node"
+# What a document may say for all, in the order of refusals.
+OWN = ("prefer", "node", "interrupt")
+LOCKS_MOST = 1024
 HEAD = re.compile(rb"#% ([^ \n]*) ([^ \n]*)\n")
 ENDING = ".toml"
 
@@ -38,20 +42,28 @@ def read_set(data, preference=None):
 def read_teams(data):
     """What the documents prefer, and their node, if one says so, the interrupts and sheets of all, document by document, and
     the team of each sheet."""
-    node, data = node_document(data)
-    budgets = {} if node is None else read_budgets(node)
-    teams, preferring, overheads_of, interrupts, part = [], [], [], (), 0
+    document, data = node_document(data)
+    own, locks, budgets = ((None, None, ()), None, {}) if document is None else read_node_document(document)
+    teams, said_by, part = [], [], 0
     while data:
         part += 1
-        team, document, data = next_document(data, part)
+        team, text, data = next_document(data, part)
         try:
-            prefer, overheads, more, sheets = read_document(document)
+            *said, sheets = read_document(text)
         except Refused as refusal:
             raise refusal.behind("team", team) from None
-        teams.append((team, by_rank(sheets), more))
-        preferring += [(team, prefer)] * (prefer is not None)
-        overheads_of += [(team, overheads)] * (overheads is not None)
-        interrupts += more
+        teams.append((team, by_rank(sheets), said[-1]))
+        said_by.append((team, said))
+    if document is not None:
+        for team, said in said_by:
+            keys = [key for key, it in zip(OWN, said) if it is not None and it != ()]
+            if keys and not budgets.get(team, {}).get("node", False):
+                raise Refused(4, "NodesOwn", team, keys[0])
+    if locks is not None:
+        teams = [(team, [named(locks, team, sheet) for sheet in sheets], more) for team, sheets, more in teams]
+    said_by.insert(0, (NODE, own))
+    preferring, overheads_of = ([(team, said[k]) for team, said in said_by if said[k] is not None] for k in (0, 1))
+    interrupts = tuple(one for _, said in said_by for one in said[2])
     for said, refusal in (preferring, "OtherPreference"), (overheads_of, "OtherNode"):
         for team, it in said:
             if it != said[0][1]:
@@ -81,29 +93,65 @@ def node_document(data):
     return data[head.end() : end], data[end:]
 
 
-def read_budgets(data):
-    """What each team may take, by its name."""
+def read_node_document(data):
+    """What the node's document says for all, and what each team may take and say, by its name."""
     try:
         root = tree_of(data)
+        if set(root) - {"team", "locks", *OWN}:
+            raise Refused(4, "UnknownKey")
+        own = read_whole(root)
+        locks = read_locks(root["locks"]) if "locks" in root else None
+        read_teams_of(root.get("team", {}))
     except Refused as refusal:
         raise refusal.behind("node") from None
-    if set(root) - {"team"}:
-        raise Refused(4, "node", "UnknownKey")
-    budgets = root.get("team", {})
+    return own, locks, root.get("team", {})
+
+
+def read_locks(table):
+    """The lock that each listed name is of."""
+    if not isinstance(table, dict):
+        raise Refused(4, "WrongKind", 0, 0, "locks")
+    locks = {}
+    for name, value in sorted(table.items(), key=lambda it: it[0].encode()):
+        if not is_name(name):
+            raise Refused(4, "BadLock")
+        if value is not True and (not isinstance(value, str) or table.get(value) is not True or not is_name(value)):
+            raise Refused(4, "BadLock", name)
+        locks[name] = name if value is True else value
+    if len(locks) > LOCKS_MOST:
+        raise Refused(4, "TooManyLocks")
+    return locks
+
+
+def named(locks, team, sheet):
+    """A team's sheet, each lock in it by its own name."""
+    for number, section in enumerate(sheet.sections, 1):
+        for lock in section.locks:
+            if lock not in locks:
+                raise Refused(4, "UnknownLock", team, sheet.name, number, lock)
+    sheet = sheet._replace(sections=tuple(it._replace(locks=tuple(map(locks.get, it.locks))) for it in sheet.sections))
+    if sheet_fault(sheet):
+        raise Refused(4, "team", team, "task", sheet.name, *sheet_fault(sheet))
+    return sheet
+
+
+def read_teams_of(budgets):
+    """Refuses the first of a node's tables of teams that is none."""
     if not isinstance(budgets, dict):
-        raise Refused(4, "node", "WrongKind")
+        raise Refused(4, "WrongKind")
     for team, budget in sorted(budgets.items(), key=lambda it: it[0].encode()):
         if not is_name(team):
-            raise Refused(4, "node", "BadName")
+            raise Refused(4, "BadName")
         if not isinstance(budget, dict):
-            raise Refused(4, "node", "WrongKind", team)
-        if set(budget) - {"load", "section"}:
-            raise Refused(4, "node", "UnknownKey", team)
+            raise Refused(4, "WrongKind", team)
+        if set(budget) - {"load", "section", "node"}:
+            raise Refused(4, "UnknownKey", team)
         for key in "load", "section":
             number = budget.get(key, 0)
             if type(number) is not int or number < 0:
-                raise Refused(4, "node", "WrongKind", team, key)
-    return budgets
+                raise Refused(4, "WrongKind", team, key)
+        if type(budget.get("node", False)) is not bool:
+            raise Refused(4, "WrongKind", team, "node")
 
 
 def keep_budgets(budgets, teams):

@@ -5,8 +5,8 @@ use ceiling_kernel::RunFault;
 use command_line::Options;
 use desk_cli::{CommandRefusal, TextFault};
 use sentences::{
-    of_certificate, of_check, of_density, of_release_line, of_run, of_script, of_set_text,
-    of_settings, of_trace, of_window,
+    of_certificate, of_check, of_density, of_doubt, of_release_line, of_run, of_script,
+    of_set_text, of_settings, of_trace, of_window,
 };
 use std::alloc::{AllocError, Global};
 use streams::InputFault;
@@ -71,6 +71,9 @@ pub(crate) fn sentence_of(
     match refusal {
         CommandRefusal::Input(fault) => of_input(alloc, known.last, fault),
         CommandRefusal::Set(fault) | CommandRefusal::New(fault) => of_set_text(alloc, bytes, fault),
+        CommandRefusal::Doubtful(doubt) | CommandRefusal::NewDoubtful(doubt) => {
+            of_doubt(alloc, bytes, doubt)
+        }
         CommandRefusal::Certificate(fault) => of_certificate(alloc, bytes, fault),
         CommandRefusal::Check(fault) => of_check(
             alloc,

@@ -1,1 +1,2 @@
 pub mod CarriedOut
+pub mod SetRefusals

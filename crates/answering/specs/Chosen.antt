@@ -2,6 +2,7 @@
 use Rattle.std.specs.Prelude.{Option, Some, None, ℕ, min, List, option_map}
 use Rattle.task_sheet.specs.declared.prefer.Preference.{Preference}
 use Rattle.task_sheet.specs.declared.prefer.Preference.TheVariants as preference
+use Rattle.preferences.specs.declared.asking.Asking.{Asking}
 use Rattle.command_line.specs.declared.calls.Preferred.{Preferred}
 use Rattle.command_line.specs.declared.calls.Preferred.TheVariants as preferred
 use Rattle.command_line.specs.declared.calls.Options.{Options}
@@ -13,9 +14,9 @@ preferred_by (Some preferred.Deadline) = Some preference.Deadline
 preferred_by (Some preferred.Weight) = Some preference.Weights
 preferred_by None = None
 
--- the same of what a call's words choose
-abbrev pub preference_of : Options → Option Preference
-preference_of options = preferred_by options.prefer
+-- what a call asks of the sets that it reads
+abbrev pub asking_of : Options → Asking
+asking_of options = record { prefer = preferred_by options.prefer; is_strict = options.is_strict }
 
 -- a priority that words choose for level 1, else 1; they choose none above the greatest
 abbrev pub base_chosen : Option ℕ → ℕ

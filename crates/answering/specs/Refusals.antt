@@ -17,6 +17,8 @@ use Rattle.overheads.specs.declared.padding.PadFault.{PadFault}
 use Rattle.overheads.specs.declared.padding.PadFault.TheVariants as pad
 use Rattle.teams.specs.declared.fault.TeamsFault.{TeamsFault}
 use Rattle.teams.specs.declared.fault.TeamsFault.TheVariants as teams
+use Rattle.doubts.specs.declared.doubt.Doubt.{Doubt}
+use Rattle.doubts.specs.declared.doubt.Doubt.TheVariants as doubt
 use Rattle.certificate.specs.declared.fault.CertFault.{CertFault}
 use Rattle.certificate.specs.declared.fault.CertFault.TheVariants as text
 use Rattle.cert_checker.specs.declared.fault.CheckFault.{CheckFault}
@@ -31,8 +33,8 @@ use Rattle.judge.specs.declared.fault.SettingsFault.{SettingsFault}
 use Rattle.judge.specs.declared.fault.SettingsFault.TheVariants as settings
 use Rattle.trace_text.specs.declared.fault.TraceFault.{TraceFault}
 use Rattle.trace_text.specs.declared.fault.TraceFault.TheVariants as trace
-use Rattle.rushes.specs.declared.fault.RushFault.{RushFault}
-use Rattle.rushes.specs.declared.fault.RushFault.TheVariants as rush
+use Rattle.scripts.specs.declared.rush_fault.RushFault.{RushFault}
+use Rattle.scripts.specs.declared.rush_fault.RushFault.TheVariants as rush
 use Rattle.streams.specs.declared.input.InputFault.TheVariants as input
 use Rattle.answering.specs.declared.refusal.CommandRefusal.{CommandRefusal}
 use Rattle.answering.specs.declared.refusal.CommandRefusal.TheVariants as refusal
@@ -113,16 +115,22 @@ fault_words (fault.SameName task) = at_task (codes "SameName") task
 fault_words fault.TooManyTasks = codes "TooManyTasks"
 fault_words fault.OutOfMemory = codes "OutOfMemory"
 
--- the fault of a node's document: the team and the key, where it is one of them
+-- the fault of a node's document: that of what it says for all teams, or the team and the key, where it is one of them
 abbrev pub node_words : NodeFault → List ℕ
 node_words node.Syntax = codes "Syntax"
 node_words node.UnknownRoot = codes "UnknownKey"
+node_words (node.Says fault) = fault_words fault
+node_words node.NoLocks = codes "WrongKind 0 0 locks"
+node_words node.BadLockName = codes "BadLock"
+node_words (node.BadLock name) = codes "BadLock " ++ name
+node_words node.TooManyLocks = codes "TooManyLocks"
 node_words node.NoTeams = codes "WrongKind"
 node_words node.BadName = codes "BadName"
 node_words (node.NoBudget team) = codes "WrongKind " ++ team
 node_words (node.UnknownKey team) = codes "UnknownKey " ++ team
 node_words (node.NoNumber team quantity) =
     codes "WrongKind " ++ team ++ codes " " ++ quantity_word quantity
+node_words (node.NoRight team) = codes "WrongKind " ++ team ++ codes " node"
 node_words node.OutOfMemory = codes "OutOfMemory"
 
 -- what the node doesn't leave room for, and the task
@@ -138,6 +146,11 @@ teams_words (teams.BadHead part) = at_task (codes "BadHead") part
 teams_words (teams.Of team fault) = codes "team " ++ team ++ codes " " ++ fault_words fault
 teams_words (teams.Taken team task other) =
     codes "TakenName " ++ team ++ codes " " ++ task ++ codes " " ++ other
+teams_words (teams.NodesOwn team key) = codes "NodesOwn " ++ team ++ codes " " ++ word_of key
+teams_words (teams.UnknownLock team task section lock) =
+    codes "UnknownLock " ++ team ++ codes " " ++ task ++ codes " " ++ decimal section ++ codes " " ++ lock
+teams_words (teams.Renamed team task cause) =
+    codes "team " ++ team ++ codes " task " ++ task ++ codes " " ++ lone_cause_words cause
 teams_words (teams.OtherPreference team other) =
     codes "OtherPreference " ++ team ++ codes " " ++ other
 teams_words (teams.OtherNode team other) = codes "OtherNode " ++ team ++ codes " " ++ other
@@ -150,6 +163,13 @@ teams_words (teams.PastBudget team quantity number limit) =
 teams_words (teams.Padded fault) = padding_words fault
 teams_words teams.TooManyTasks = codes "TooManyTasks"
 teams_words teams.OutOfMemory = codes "OutOfMemory"
+
+-- what may be a mistake in a set: two names
+abbrev pub doubt_words : Doubt → List ℕ
+doubt_words (doubt.LoneLock task lock) = codes "LoneLock " ++ task ++ codes " " ++ lock
+doubt_words (doubt.NoSuchName task name) = codes "NoSuchName " ++ task ++ codes " " ++ name
+doubt_words (doubt.NamesDecide lower higher) =
+    codes "NamesDecide " ++ lower ++ codes " " ++ higher
 
 -- the fault of a certificate's text
 abbrev pub certificate_words : CertFault → List ℕ
@@ -236,6 +256,8 @@ words_of (refusal.Input input.ReadFailed) = codes "ReadFailed"
 words_of (refusal.Set fault) = teams_words fault
 words_of (refusal.New teams.OutOfMemory) = codes "OutOfMemory"
 words_of (refusal.New fault) = codes "new " ++ teams_words fault
+words_of (refusal.Doubtful doubt) = doubt_words doubt
+words_of (refusal.NewDoubtful doubt) = codes "new " ++ doubt_words doubt
 words_of (refusal.Certificate fault) = certificate_words fault
 words_of (refusal.Check fault) = check_words fault
 words_of (refusal.Text fault) = text_words fault
@@ -262,6 +284,8 @@ status_of (refusal.Set teams.OutOfMemory) = status.OutOfMemory
 status_of (refusal.Set _) = status.BadInput
 status_of (refusal.New teams.OutOfMemory) = status.OutOfMemory
 status_of (refusal.New _) = status.BadInput
+status_of (refusal.Doubtful _) = status.BadInput
+status_of (refusal.NewDoubtful _) = status.BadInput
 status_of (refusal.Certificate text.OutOfMemory) = status.OutOfMemory
 status_of (refusal.Certificate _) = status.BadCertificate
 status_of (refusal.Check _) = status.BadCertificate

@@ -15,6 +15,6 @@ pub use audience::{Audience, Nobody, Which};
 pub use output::{print, print_bytes, print_made, refuse, refuse_words};
 pub use refusal::CommandRefusal;
 pub use release_list::TextFault;
-pub use rushes::RushFault;
-pub use sets::{Both, base_of, preference_of, read_one, read_owned, read_told, read_two, tell};
+pub use scripts::RushFault;
+pub use sets::{Both, asking_of, base_of, read_one, read_owned, read_told, read_two, tell};
 pub use status::{Status, placing_status};

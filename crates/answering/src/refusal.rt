@@ -2,7 +2,7 @@
 ghost use Rattle.std.specs.Prelude.{◌≡◌, Some};
 ghost use Rattle.std.specs.Fmt.{DisplaysOnOk};
 ghost use Rattle.answering.specs.declared.refusal.CommandRefusal.TheVariants.{OutOfMemory};
-ghost use Rattle.answering.specs.Refusals.{cause_words, certificate_words, check_words, fault_words, lone_cause_words, node_words, outranks_words, padding_words, refusal_line, run_words, rush_words, script_words, settings_words, status_of, teams_words, text_words, trace_words, words_of};
+ghost use Rattle.answering.specs.Refusals.{cause_words, certificate_words, check_words, doubt_words, fault_words, lone_cause_words, node_words, outranks_words, padding_words, refusal_line, run_words, rush_words, script_words, settings_words, status_of, teams_words, text_words, trace_words, words_of};
 
 use crate::status::Status;
 use ceiling_kernel::RunFault;
@@ -10,9 +10,9 @@ use cert_checker::CheckFault;
 use certificate::CertFault;
 use judge::SettingsFault;
 use overheads::PadFault;
+use preferences::Doubt;
 use release_list::TextFault;
-use rushes::RushFault;
-use scripts::ScriptFault;
+use scripts::{RushFault, ScriptFault};
 use std::alloc::AllocError;
 use std::fmt;
 use streams::InputFault;
@@ -29,6 +29,10 @@ pub enum CommandRefusal {
     Set(TeamsFault),
     /// The new set's input is no set.
     New(TeamsFault),
+    /// The set may have a mistake, and the call is strict.
+    Doubtful(Doubt),
+    /// The same of the new set.
+    NewDoubtful(Doubt),
     /// The certificate's input is no certificate.
     Certificate(CertFault),
     /// The certificate does not show what it says.
@@ -74,6 +78,7 @@ impl CommandRefusal {
             CommandRefusal::Set(_) => Status::BadInput,
             CommandRefusal::New(TeamsFault::OutOfMemory) => Status::OutOfMemory,
             CommandRefusal::New(_) => Status::BadInput,
+            CommandRefusal::Doubtful(_) | CommandRefusal::NewDoubtful(_) => Status::BadInput,
             CommandRefusal::Certificate(CertFault::OutOfMemory) => Status::OutOfMemory,
             CommandRefusal::Certificate(_) => Status::BadCertificate,
             CommandRefusal::Check(_) => Status::BadCertificate,
@@ -216,6 +221,11 @@ fn write_node_fault<W: fmt::Write>(fault: NodeFault, f: &mut fmt::Formatter<W>) 
     match fault {
         NodeFault::Syntax => f.write_str("Syntax"),
         NodeFault::UnknownRoot => f.write_str("UnknownKey"),
+        NodeFault::Says { fault } => write_fault(fault, f),
+        NodeFault::NoLocks => f.write_str("WrongKind 0 0 locks"),
+        NodeFault::BadLockName => f.write_str("BadLock"),
+        NodeFault::BadLock { name } => write!(f, "BadLock {name}"),
+        NodeFault::TooManyLocks => f.write_str("TooManyLocks"),
         NodeFault::NoTeams => f.write_str("WrongKind"),
         NodeFault::BadName => f.write_str("BadName"),
         NodeFault::NoBudget { team } => write!(f, "WrongKind {team}"),
@@ -224,6 +234,7 @@ fn write_node_fault<W: fmt::Write>(fault: NodeFault, f: &mut fmt::Formatter<W>) 
             let word = quantity.word();
             write!(f, "WrongKind {team} {word}")
         }
+        NodeFault::NoRight { team } => write!(f, "WrongKind {team} node"),
         NodeFault::OutOfMemory => f.write_str("OutOfMemory"),
     }
 }
@@ -251,6 +262,20 @@ fn write_teams_fault<W: fmt::Write>(fault: TeamsFault, f: &mut fmt::Formatter<W>
             write_fault(fault, f)
         }
         TeamsFault::Taken { team, task, other } => write!(f, "TakenName {team} {task} {other}"),
+        TeamsFault::NodesOwn { team, key } => {
+            let word = key.word();
+            write!(f, "NodesOwn {team} {word}")
+        }
+        TeamsFault::UnknownLock {
+            team,
+            task,
+            section,
+            lock,
+        } => write!(f, "UnknownLock {team} {task} {section} {lock}"),
+        TeamsFault::Renamed { team, task, cause } => {
+            write!(f, "team {team} task {task} ")?;
+            write_lone_cause(cause, f)
+        }
         TeamsFault::OtherPreference { team, other } => write!(f, "OtherPreference {team} {other}"),
         TeamsFault::OtherNode { team, other } => write!(f, "OtherNode {team} {other}"),
         TeamsFault::TooManyInterrupts => f.write_str("TooManyInterrupts"),
@@ -286,6 +311,26 @@ fn write_new_fault<W: fmt::Write>(fault: TeamsFault, f: &mut fmt::Formatter<W>) 
             write_teams_fault(fault, f)
         }
     }
+}
+
+// The name of what may be a mistake in a set, with two names.
+fn write_doubt<W: fmt::Write>(doubt: Doubt, f: &mut fmt::Formatter<W>) -> fmt::Result
+    ensures { DisplaysOnOk W.write_str_gives f.old result (Some (doubt_words doubt)) f.new }
+{
+    match doubt {
+        Doubt::LoneLock { task, lock } => write!(f, "LoneLock {task} {lock}"),
+        Doubt::NoSuchName { task, name } => write!(f, "NoSuchName {task} {name}"),
+        Doubt::NamesDecide { lower, higher } => write!(f, "NamesDecide {lower} {higher}"),
+    }
+}
+
+// The same of the new set, which the line says.
+fn write_new_doubt<W: fmt::Write>(doubt: Doubt, f: &mut fmt::Formatter<W>) -> fmt::Result
+    ensures { DisplaysOnOk W.write_str_gives f.old result
+        (Some (words_of (CommandRefusal.NewDoubtful doubt))) f.new }
+{
+    f.write_str("new ")?;
+    write_doubt(doubt, f)
 }
 
 // The name of a fault of a certificate's text, with its line.
@@ -403,6 +448,8 @@ fn write_words<W: fmt::Write>(refusal: CommandRefusal, f: &mut fmt::Formatter<W>
         CommandRefusal::Input(InputFault::ReadFailed) => f.write_str("ReadFailed"),
         CommandRefusal::Set(fault) => write_teams_fault(fault, f),
         CommandRefusal::New(fault) => write_new_fault(fault, f),
+        CommandRefusal::Doubtful(doubt) => write_doubt(doubt, f),
+        CommandRefusal::NewDoubtful(doubt) => write_new_doubt(doubt, f),
         CommandRefusal::Certificate(fault) => write_certificate_fault(fault, f),
         CommandRefusal::Check(fault) => write_check_fault(fault, f),
         CommandRefusal::Text(fault) => write_text_fault(fault, f),

@@ -1,10 +1,9 @@
 //! Reading the inputs of a command: a set, or a set and a text.
 ghost use Rattle.std.specs.Prelude.{◌≡◌, Err, IfOk, MatchResult};
-ghost use Rattle.preferences.specs.ReadsPreferred.{SaysPreferred};
-ghost use Rattle.teams.specs.ReadsText.{ReadsText};
-ghost use Rattle.answering.specs.Chosen.{base_of, preference_of};
+ghost use Rattle.preferences.specs.ReadsAsked.{SaysAsked};
+ghost use Rattle.answering.specs.Chosen.{asking_of, base_of};
 ghost use Rattle.answering.specs.Owning.{HasOwned, HaveOwned, IsTakenBy, SaysOwned};
-ghost use Rattle.answering.specs.Sets.{HasNoSet, HasSet, HaveNotBoth};
+ghost use Rattle.answering.specs.Sets.{HasNoSet, HasSet, HaveNotBoth, IsNoSet, asked_refusal};
 ghost use Rattle.answering.specs.Outcomes.{AreRead, IsRead, failed_read};
 ghost use Rattle.streams.specs.Inputs.{IsReadFrom, IsTooLong};
 
@@ -12,12 +11,11 @@ use crate::audience::{Audience, Which};
 use crate::refusal::CommandRefusal;
 use command_line::{MOST_PRIORITY, Options, Preferred};
 use owners::{Owner, read_owners};
-use preferences::{Preference, read_preferred};
+use preferences::{AskedFault, Asking, Preference, read_asked};
 use std::alloc::Global;
 use std::io::Read;
 use streams::{InputFault, Watched, read_input};
 use task_sheet::TaskSet;
-use teams::TeamsFault;
 
 /// A set, by what it was taken, and whose its tasks are, and all that a second input has.
 #[derive(Drop)]
@@ -54,14 +52,26 @@ pub fn read_told<R: Read + Drop, P: Audience>(
     bytes
 }
 
-/// What a call prefers, where its words say so.
-pub fn preference_of(options: Options<'_>) -> Option<Preference>
-    ensures { result ≡ preference_of options.entry }
+/// What a call's words ask of the sets that it reads.
+pub fn asking_of(options: Options<'_>) -> Asking
+    ensures { result ≡ asking_of options.entry }
 {
-    match options.prefer {
+    let prefer = match options.prefer {
         Some(Preferred::Deadline) => Some(Preference::Deadline),
         Some(Preferred::Weight) => Some(Preference::Weights),
         None => None,
+    };
+    let is_strict = options.is_strict;
+    Asking { prefer, is_strict }
+}
+
+// Why bytes say no set as it is asked for.
+fn asked_refusal(fault: AskedFault) -> CommandRefusal
+    ensures { result ≡ asked_refusal fault }
+{
+    match fault {
+        AskedFault::Text(fault) => CommandRefusal::Set(fault),
+        AskedFault::Doubt(doubt) => CommandRefusal::Doubtful(doubt),
     }
 }
 
@@ -75,120 +85,123 @@ pub fn base_of(options: Options<'_>) -> u32
     }
 }
 
-// The set that bytes say, by what the call prefers, or else the set, and which that is; or why there is none. The audience is
-// told either.
+// The set that bytes say, as the call asks for it, and by what it is taken; or why there is none. The audience is told
+// either.
+#[tactic(auto, using(crate::proofs::SetRefusals::refused_as))]
 fn set_told<P: Audience>(
     alloc: Global,
-    preference: Option<Preference>,
+    asking: Asking,
     bytes: &[u8],
     people: &mut P,
-) -> Result<(TaskSet, Preference), TeamsFault>
-    ensures { MatchResult result (λ taken. SaysPreferred preference bytes.now taken.0
-        × IsTakenBy preference bytes.now taken.1)
-        (λ fault. ReadsText bytes.now (Err fault)) }
+) -> Result<(TaskSet, Preference), CommandRefusal>
+    ensures { MatchResult result (λ taken. SaysAsked asking bytes.now taken.0
+        × IsTakenBy asking bytes.now taken.1)
+        (λ r. IsNoSet asking bytes.now r) }
 {
-    let read = read_preferred(alloc, bytes, preference);
+    let read = read_asked(alloc, bytes, asking);
     match &read {
         Ok(preferred) => people.preferred(&preferred.set, preferred.choice),
-        Err(fault) => people.refused(Which::First, bytes, CommandRefusal::Set(*fault)),
+        Err(fault) => people.refused(Which::First, bytes, asked_refusal(*fault)),
     }
     match read {
         Ok(preferred) => {
             let by = preferred.choice.preference();
             Ok((preferred.set, by))
         }
-        Err(fault) => Err(fault),
+        Err(fault) => Err(asked_refusal(fault)),
     }
 }
 
 // The same, with whose its tasks are.
 fn taken_told<P: Audience>(
     alloc: Global,
-    preference: Option<Preference>,
+    asking: Asking,
     bytes: &[u8],
     people: &mut P,
-) -> Result<Taken, TeamsFault>
+) -> Result<Taken, CommandRefusal>
     ensures { MatchResult result
-        (λ taken. SaysOwned preference bytes.now taken.tasks taken.owners.items
-        × IsTakenBy preference bytes.now taken.by)
-        (λ fault. ReadsText bytes.now (Err fault)) }
+        (λ taken. SaysOwned asking bytes.now taken.tasks taken.owners.items
+        × IsTakenBy asking bytes.now taken.by)
+        (λ r. IsNoSet asking bytes.now r) }
 {
-    let (tasks, by) = match set_told(alloc, preference, bytes, people) {
+    let (tasks, by) = match set_told(alloc, asking, bytes, people) {
         Ok(taken) => taken,
-        Err(fault) => return Err(fault),
+        Err(refusal) => return Err(refusal),
     };
     match read_owners(alloc, bytes) {
         Ok(owners) => Ok(Taken { by, tasks, owners }),
-        Err(_) => Err(TeamsFault::OutOfMemory),
+        Err(_) => Err(CommandRefusal::OutOfMemory),
     }
 }
 
-/// The set that the reader has, by a preference; or why there is none, which the audience is told.
+/// The set that the reader has, as the call asks for it; or why there is none, which the audience is told.
+#[tactic(auto, using(crate::proofs::SetRefusals::one_refused))]
 pub fn read_one<R: Read + Drop, P: Audience>(
     alloc: Global,
-    preference: Option<Preference>,
+    asking: Asking,
     set: &mut Watched<R>,
     people: &mut P,
 ) -> Result<TaskSet, CommandRefusal>
-    ensures answer { MatchResult result (λ tasks. HasSet preference
+    ensures answer { MatchResult result (λ tasks. HasSet asking
         (R.remaining set.old.inner) tasks)
-        (λ r. HasNoSet (R.remaining set.old.inner) r) }
+        (λ r. HasNoSet asking (R.remaining set.old.inner) r) }
     ensures read { IsRead failed_read set.old set.new result }
 {
     let bytes = read_told(alloc, Which::First, set, people).map_err(CommandRefusal::Input)?;
-    match set_told(alloc, preference, &bytes, people) {
+    match set_told(alloc, asking, &bytes, people) {
         Ok((tasks, _by)) => Ok(tasks),
-        Err(fault) => Err(CommandRefusal::Set(fault)),
+        Err(refusal) => Err(refusal),
     }
 }
 
-/// The set that the reader has, by a preference, and whose its tasks are; or why there is none, which the audience is
-/// told.
+/// The set that the reader has, as the call asks for it, and whose its tasks are; or why there is none, which the audience
+/// is told.
+#[tactic(auto, using(crate::proofs::SetRefusals::one_refused))]
 pub fn read_owned<R: Read + Drop, P: Audience>(
     alloc: Global,
-    preference: Option<Preference>,
+    asking: Asking,
     set: &mut Watched<R>,
     people: &mut P,
 ) -> Result<(TaskSet, Vec<Owner>), CommandRefusal>
     ensures answer { MatchResult result
-        (λ owned. HasOwned preference (R.remaining set.old.inner) owned.0 owned.1.items)
-        (λ r. HasNoSet (R.remaining set.old.inner) r) }
+        (λ owned. HasOwned asking (R.remaining set.old.inner) owned.0 owned.1.items)
+        (λ r. HasNoSet asking (R.remaining set.old.inner) r) }
     ensures read { IsRead failed_read set.old set.new result }
 {
     let bytes = read_told(alloc, Which::First, set, people).map_err(CommandRefusal::Input)?;
-    match taken_told(alloc, preference, &bytes, people) {
+    match taken_told(alloc, asking, &bytes, people) {
         Ok(Taken { tasks, owners, .. }) => Ok((tasks, owners)),
-        Err(fault) => Err(CommandRefusal::Set(fault)),
+        Err(refusal) => Err(refusal),
     }
 }
 
-/// The set that the first reader has, by a preference, whose its tasks are, and what the second has; or why there
+/// The set that the first reader has, as the call asks for it, whose its tasks are, and what the second has; or why there
 /// are not both, which the audience is told. Both are read before the set's bytes are, the first one first: where it
 /// is refused, nothing is read of the second.
 pub fn read_two<R: Read + Drop, S: Read + Drop, P: Audience>(
     alloc: Global,
-    preference: Option<Preference>,
+    asking: Asking,
     set: &mut Watched<R>,
     other: &mut Watched<S>,
     people: &mut P,
 ) -> Result<Both, CommandRefusal>
     ensures answer { MatchResult result
-        (λ both. HaveOwned preference (R.remaining set.old.inner)
+        (λ both. HaveOwned asking (R.remaining set.old.inner)
         (S.remaining other.old.inner) both.by both.tasks both.owners.items both.text.items)
-        (λ r. HaveNotBoth (R.remaining set.old.inner) (S.remaining other.old.inner) r) }
+        (λ r. HaveNotBoth asking (R.remaining set.old.inner) (S.remaining other.old.inner) r) }
     ensures read { AreRead failed_read R.remaining set.old set.new other.old other.new
         result }
 {
     let bytes = read_told(alloc, Which::First, set, people).map_err(CommandRefusal::Input)?;
     let text = read_told(alloc, Which::Second, other, people).map_err(CommandRefusal::Input)?;
-    match taken_told(alloc, preference, &bytes, people) {
+    match taken_told(alloc, asking, &bytes, people) {
         Ok(Taken { by, tasks, owners }) => Ok(Both {
             by,
             tasks,
             owners,
             text,
         }),
-        Err(fault) => Err(CommandRefusal::Set(fault)),
+        Err(refusal) => Err(refusal),
     }
 }
 

@@ -6,7 +6,7 @@ use Rattle.command_line.specs.App.{desk_app}
 use Rattle.command_line.specs.Commands.{choice_id, input_of, least_of, most_of, number_choices, number_name, second_of, takes_of, verb_of, by_file}
 use Rattle.command_line.specs.declared.calls.TheConstants.{MOST_PRIORITY, MOST_SEED, MOST_TOLERANCE, LATEST_END, LEAST_WIDTH, MOST_WIDTH}
 use Rattle.command_line.specs.declared.calls.Choice.{Choice}
-use Rattle.command_line.specs.declared.calls.Choice.TheVariants.{Base, LowerIsHigher, Seed, Tasks, Tolerance, From, To, Width}
+use Rattle.command_line.specs.declared.calls.Choice.TheVariants.{Strict, Base, LowerIsHigher, Seed, Tasks, Tolerance, Jobless, From, To, Width}
 use Rattle.command_line.specs.declared.calls.Takes.{Takes}
 use Rattle.command_line.specs.declared.calls.Takes.TheVariants as takes
 use Rattle.command_line.specs.declared.calls.Preferred.{Preferred}
@@ -120,12 +120,14 @@ Flags c rows false = first_of (choice_id c) rows ≢ Some (codes "true")
 -- what the words of a command choose
 pub record AreOptions (given : List Row) (options : OptionsData) : Type 0 where
   pub prefer : Prefers given options.prefer
+  pub is_strict : Flags Strict given options.is_strict
   pub task : option_map (λ s. s.now) options.task ≡ first_of (codes "task") given
   pub base : IsNumberOf Base given options.base
   pub lower_is_higher : Flags LowerIsHigher given options.lower_is_higher
   pub seed : IsNumberOf Seed given options.seed
   pub by_task : Flags Tasks given options.by_task
   pub tolerance : IsNumberOf Tolerance given options.tolerance
+  pub jobless : Flags Jobless given options.jobless
   pub from : IsNumberOf From given options.from
   pub to : IsNumberOf To given options.to
   pub width : IsNumberOf Width given options.width
@@ -137,12 +139,14 @@ abbrev pub no_options : OptionsData
 no_options =
     record {
       prefer = None;
+      is_strict = false;
       task = None;
       base = None;
       lower_is_higher = false;
       seed = None;
       by_task = false;
       tolerance = None;
+      jobless = false;
       from = None;
       to = None;
       width = None;

@@ -13,7 +13,7 @@ use Rattle.command_line.specs.declared.calls.OfNumber.TheVariants.{Releases, Scr
 use Rattle.command_line.specs.declared.calls.Verb.{Verb}
 use Rattle.command_line.specs.declared.calls.Verb.TheVariants.{One, Two, Number}
 use Rattle.command_line.specs.declared.calls.Choice.{Choice}
-use Rattle.command_line.specs.declared.calls.Choice.TheVariants.{Prefer, Task, Base, LowerIsHigher, Seed, Tasks, Tolerance, Keep, At, From, To, Width, Title, Rows}
+use Rattle.command_line.specs.declared.calls.Choice.TheVariants.{Prefer, Strict, Task, Base, LowerIsHigher, Seed, Tasks, Tolerance, Jobless, Keep, At, From, To, Width, Title, Rows}
 use Rattle.command_line.specs.declared.calls.Takes.{Takes}
 use Rattle.command_line.specs.declared.calls.Takes.TheVariants as takes
 use Rattle.command_line.specs.declared.calls.TheConstants.{MOST_WORKERS, MOST_TEAM, MOST_PRIORITY, MOST_SEED, MOST_TOLERANCE, LEAST_WIDTH, MOST_WIDTH, LATEST_END}
@@ -22,20 +22,20 @@ use Rattle.command_line.specs.declared.calls.TheConstants.{MOST_WORKERS, MOST_TE
 -- those for certificates and runs, those for scripts
 abbrev pub commands : List (Text × Verb × List Choice)
 commands =
-    (codes "admit", One Admit, Prefer ∷ [])
-    ∷ (codes "explain", One Explain, Prefer ∷ Task ∷ At ∷ [])
-    ∷ (codes "limits", One Limits, Prefer ∷ Task ∷ At ∷ [])
-    ∷ (codes "settings", One Settings, Prefer ∷ Base ∷ Keep ∷ [])
-    ∷ (codes "judge", Two Judge, Prefer ∷ LowerIsHigher ∷ [])
-    ∷ (codes "diff", Two Diff, Prefer ∷ [])
-    ∷ (codes "certify", One Certify, Prefer ∷ [])
-    ∷ (codes "check", Two Check, Prefer ∷ [])
-    ∷ (codes "releases", Number Releases, Prefer ∷ Seed ∷ [])
-    ∷ (codes "worst", One Worst, Prefer ∷ Task ∷ At ∷ [])
-    ∷ (codes "simulate", Two Simulate, Prefer ∷ Tasks ∷ [])
-    ∷ (codes "draw", Two Draw, Prefer ∷ From ∷ To ∷ Width ∷ Title ∷ Rows ∷ [])
-    ∷ (codes "observe", Two Observe, Prefer ∷ Tolerance ∷ [])
-    ∷ (codes "script", Number Script, Prefer ∷ [])
+    (codes "admit", One Admit, Prefer ∷ Strict ∷ [])
+    ∷ (codes "explain", One Explain, Prefer ∷ Strict ∷ Task ∷ At ∷ [])
+    ∷ (codes "limits", One Limits, Prefer ∷ Strict ∷ Task ∷ At ∷ [])
+    ∷ (codes "settings", One Settings, Prefer ∷ Strict ∷ Base ∷ Keep ∷ [])
+    ∷ (codes "judge", Two Judge, Prefer ∷ Strict ∷ LowerIsHigher ∷ [])
+    ∷ (codes "diff", Two Diff, Prefer ∷ Strict ∷ [])
+    ∷ (codes "certify", One Certify, Prefer ∷ Strict ∷ [])
+    ∷ (codes "check", Two Check, Prefer ∷ Strict ∷ [])
+    ∷ (codes "releases", Number Releases, Prefer ∷ Strict ∷ Seed ∷ [])
+    ∷ (codes "worst", One Worst, Prefer ∷ Strict ∷ Task ∷ At ∷ [])
+    ∷ (codes "simulate", Two Simulate, Prefer ∷ Strict ∷ Tasks ∷ [])
+    ∷ (codes "draw", Two Draw, Prefer ∷ Strict ∷ From ∷ To ∷ Width ∷ Title ∷ Rows ∷ [])
+    ∷ (codes "observe", Two Observe, Prefer ∷ Strict ∷ Tolerance ∷ Jobless ∷ [])
+    ∷ (codes "script", Number Script, Prefer ∷ Strict ∷ [])
     ∷ (codes "play", One Play, [])
     ∷ (codes "rush", Number Rush, [])
     ∷ []
@@ -91,12 +91,14 @@ most_of Rush = MOST_WORKERS
 -- the word of an option, behind its dashes
 abbrev pub choice_name : Choice → Text
 choice_name Prefer = codes "prefer"
+choice_name Strict = codes "strict"
 choice_name Task = codes "task"
 choice_name Base = codes "base"
 choice_name LowerIsHigher = codes "lower-is-higher"
 choice_name Seed = codes "seed"
 choice_name Tasks = codes "tasks"
 choice_name Tolerance = codes "tolerance"
+choice_name Jobless = codes "jobless"
 choice_name Keep = codes "keep"
 choice_name At = codes "at"
 choice_name From = codes "from"
@@ -113,12 +115,14 @@ choice_id c = choice_name c
 -- what an option takes
 abbrev pub takes_of : Choice → Takes
 takes_of Prefer = takes.Word
+takes_of Strict = takes.Flag
 takes_of Task = takes.Word
 takes_of Base = takes.Number 1 MOST_PRIORITY
 takes_of LowerIsHigher = takes.Flag
 takes_of Seed = takes.Number 0 MOST_SEED
 takes_of Tasks = takes.Flag
 takes_of Tolerance = takes.Number 0 MOST_TOLERANCE
+takes_of Jobless = takes.Flag
 takes_of Keep = takes.Word
 takes_of At = takes.Word
 takes_of From = takes.Number 0 LATEST_END

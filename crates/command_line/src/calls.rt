@@ -114,6 +114,8 @@ pub(crate) enum Verb {
 pub(crate) enum Choice {
     // `--prefer weight|deadline`
     Prefer,
+    // `--strict`
+    Strict,
     // `--task NAME`
     Task,
     // `--base N`
@@ -126,6 +128,8 @@ pub(crate) enum Choice {
     Tasks,
     // `--tolerance N`
     Tolerance,
+    // `--jobless`
+    Jobless,
     // `--keep SETTINGS`
     Keep,
     // `--at SETTINGS`
@@ -165,6 +169,8 @@ pub enum Preferred {
 pub struct Options<'a> {
     /// `--prefer weight|deadline`
     pub prefer: Option<Preferred>,
+    /// `--strict`: a set is refused for what may be a mistake.
+    pub is_strict: bool,
     /// `--task NAME`: the task that is asked about.
     pub task: Option<&'a str>,
     /// `--base N`: the priority of level 1.
@@ -177,6 +183,8 @@ pub struct Options<'a> {
     pub by_task: bool,
     /// `--tolerance N`: by so many microseconds the times of a trace may be past what is promised.
     pub tolerance: Option<usize>,
+    /// `--jobless`: it is meant that a task may have no job in a trace.
+    pub jobless: bool,
     /// `--from T`: where a picture begins, in microseconds.
     pub from: Option<usize>,
     /// `--to T`: where it ends.
@@ -287,12 +295,14 @@ impl Choice {
     {
         match self {
             Choice::Prefer => "prefer",
+            Choice::Strict => "strict",
             Choice::Task => "task",
             Choice::Base => "base",
             Choice::LowerIsHigher => "lower-is-higher",
             Choice::Seed => "seed",
             Choice::Tasks => "tasks",
             Choice::Tolerance => "tolerance",
+            Choice::Jobless => "jobless",
             Choice::Keep => "keep",
             Choice::At => "at",
             Choice::From => "from",
@@ -344,7 +354,7 @@ impl Choice {
                 least: LEAST_WIDTH as u32,
                 most: MOST_WIDTH as u32,
             },
-            Choice::LowerIsHigher | Choice::Tasks => Takes::Flag,
+            Choice::Strict | Choice::LowerIsHigher | Choice::Tasks | Choice::Jobless => Takes::Flag,
         }
     }
 
@@ -359,9 +369,11 @@ impl Choice {
             Choice::Rows => "NAMES",
             Choice::Base
             | Choice::Seed
+            | Choice::Strict
             | Choice::LowerIsHigher
             | Choice::Tasks
             | Choice::Tolerance
+            | Choice::Jobless
             | Choice::Width => "N",
         }
     }
@@ -370,6 +382,7 @@ impl Choice {
     pub(crate) fn help<'a>(self) -> &'a str {
         match self {
             Choice::Prefer => "What decides among the orders that pass: weight or deadline",
+            Choice::Strict => "Refuses a set that may have a mistake, for what is a note else",
             Choice::Task => "The task that is asked about, alone",
             Choice::Base => "The priority of level 1, from 1 to 999969",
             Choice::LowerIsHigher => "The smaller number is the higher priority",
@@ -378,6 +391,7 @@ impl Choice {
             Choice::Tolerance => {
                 "By how many microseconds a time may be past what is promised, up to 60000000"
             }
+            Choice::Jobless => "It is meant that some task has no job",
             Choice::Keep => "Settings of a node whose order stays, as far as both have its tasks",
             Choice::At => "Settings that give the order, in place of the best one",
             Choice::From => "Where the picture begins, in microseconds",
@@ -396,12 +410,14 @@ impl<'a> Options<'a> {
     {
         Options {
             prefer: None,
+            is_strict: false,
             task: None,
             base: None,
             lower_is_higher: false,
             seed: None,
             by_task: false,
             tolerance: None,
+            jobless: false,
             from: None,
             to: None,
             width: None,

@@ -45,7 +45,7 @@ const COMMANDS: [Listed; 16] = [
     Listed {
         verb: Verb::One(OfOne::Admit),
         word: "admit",
-        options: &[Choice::Prefer],
+        options: &[Choice::Prefer, Choice::Strict],
         about: "Prints the best order with its responses, or the tasks that stand in the way of all",
         example: example!(
             "admit examples/shared-lock.toml",
@@ -55,7 +55,7 @@ const COMMANDS: [Listed; 16] = [
     Listed {
         verb: Verb::One(OfOne::Explain),
         word: "explain",
-        options: &[Choice::Prefer, Choice::Task, Choice::At],
+        options: &[Choice::Prefer, Choice::Strict, Choice::Task, Choice::At],
         about: "Prints what each response is made of, or a minimal set of tasks that collide and how one order fails",
         example: example!(
             "explain examples/shared-lock.toml",
@@ -65,7 +65,7 @@ const COMMANDS: [Listed; 16] = [
     Listed {
         verb: Verb::One(OfOne::Limits),
         word: "limits",
-        options: &[Choice::Prefer, Choice::Task, Choice::At],
+        options: &[Choice::Prefer, Choice::Strict, Choice::Task, Choice::At],
         about: "Prints how far each number of a set may go with some order passing, all else equal",
         example: example!(
             "limits examples/robot.toml",
@@ -75,7 +75,7 @@ const COMMANDS: [Listed; 16] = [
     Listed {
         verb: Verb::One(OfOne::Settings),
         word: "settings",
-        options: &[Choice::Prefer, Choice::Base, Choice::Keep],
+        options: &[Choice::Prefer, Choice::Strict, Choice::Base, Choice::Keep],
         about: "Prints the level of each thread and the ceiling of each mutex in the best order",
         example: example!(
             "settings examples/shared-lock.toml",
@@ -85,7 +85,7 @@ const COMMANDS: [Listed; 16] = [
     Listed {
         verb: Verb::Two(OfTwo::Judge),
         word: "judge",
-        options: &[Choice::Prefer, Choice::LowerIsHigher],
+        options: &[Choice::Prefer, Choice::Strict, Choice::LowerIsHigher],
         about: "Prints which tasks meet their deadlines at priorities that are given",
         example: example!(
             "settings examples/shared-lock.toml | desk judge examples/shared-lock.toml -",
@@ -95,7 +95,7 @@ const COMMANDS: [Listed; 16] = [
     Listed {
         verb: Verb::Two(OfTwo::Diff),
         word: "diff",
-        options: &[Choice::Prefer],
+        options: &[Choice::Prefer, Choice::Strict],
         about: "Prints what a change of a task set does to each task",
         example: example!(
             "diff examples/robot.toml examples/robot-mended.toml",
@@ -105,7 +105,7 @@ const COMMANDS: [Listed; 16] = [
     Listed {
         verb: Verb::One(OfOne::Certify),
         word: "certify",
-        options: &[Choice::Prefer],
+        options: &[Choice::Prefer, Choice::Strict],
         about: "Prints a certificate of what admit answers",
         example: example!(
             "certify examples/shared-lock.toml",
@@ -115,7 +115,7 @@ const COMMANDS: [Listed; 16] = [
     Listed {
         verb: Verb::Two(OfTwo::Check),
         word: "check",
-        options: &[Choice::Prefer],
+        options: &[Choice::Prefer, Choice::Strict],
         about: "Checks a certificate against a task set, whoever wrote it",
         example: example!(
             "check examples/three-tasks.toml examples/three-tasks.cert",
@@ -125,7 +125,7 @@ const COMMANDS: [Listed; 16] = [
     Listed {
         verb: Verb::Number(OfNumber::Releases),
         word: "releases",
-        options: &[Choice::Prefer, Choice::Seed],
+        options: &[Choice::Prefer, Choice::Strict, Choice::Seed],
         about: "Prints the densest release list that a set allows, or a random one, for simulate and draw",
         example: example!(
             "releases examples/shared-lock.toml 100000",
@@ -135,7 +135,7 @@ const COMMANDS: [Listed; 16] = [
     Listed {
         verb: Verb::One(OfOne::Worst),
         word: "worst",
-        options: &[Choice::Prefer, Choice::Task, Choice::At],
+        options: &[Choice::Prefer, Choice::Strict, Choice::Task, Choice::At],
         about: "Prints the release list of a task's worst case: its latest response, or a missed deadline",
         example: example!(
             "worst examples/shared-lock.toml --task lo",
@@ -145,7 +145,7 @@ const COMMANDS: [Listed; 16] = [
     Listed {
         verb: Verb::Two(OfTwo::Simulate),
         word: "simulate",
-        options: &[Choice::Prefer, Choice::Tasks],
+        options: &[Choice::Prefer, Choice::Strict, Choice::Tasks],
         about: "Runs a release list in a simulated kernel, at the levels of the best order",
         example: example!(
             "simulate examples/shared-lock.toml examples/shared-lock.releases",
@@ -157,6 +157,7 @@ const COMMANDS: [Listed; 16] = [
         word: "draw",
         options: &[
             Choice::Prefer,
+            Choice::Strict,
             Choice::From,
             Choice::To,
             Choice::Width,
@@ -172,17 +173,22 @@ const COMMANDS: [Listed; 16] = [
     Listed {
         verb: Verb::Two(OfTwo::Observe),
         word: "observe",
-        options: &[Choice::Prefer, Choice::Tolerance],
+        options: &[
+            Choice::Prefer,
+            Choice::Strict,
+            Choice::Tolerance,
+            Choice::Jobless,
+        ],
         about: "Prints what a trace of a node shows of each task, and each promise that it breaks",
         example: example!(
             "observe examples/shared-lock.toml examples/shared-lock.trace",
-            "0 each promise is kept, 3 one is broken, or nothing is promised, 4 the set or the trace is refused"
+            "0 each promise is kept, 3 one is broken, a task has no job, or nothing is promised, 4 the set or the trace is refused"
         ),
     },
     Listed {
         verb: Verb::Number(OfNumber::Script),
         word: "script",
-        options: &[Choice::Prefer],
+        options: &[Choice::Prefer, Choice::Strict],
         about: "Prints a task set as the script of a team, for play and rush",
         example: example!(
             "script examples/shared-lock.toml 1",

@@ -85,12 +85,14 @@ fn options_at<'a>(matches: &ArgMatches<'a>) -> Option<Options<'a>>
     let prefer = preference_at(matches)?;
     Some(Options {
         prefer,
+        is_strict: flag_chosen(matches, Choice::Strict),
         task: matches.get_str("task"),
         base: number_chosen(matches, Choice::Base),
         lower_is_higher: flag_chosen(matches, Choice::LowerIsHigher),
         seed: number_chosen(matches, Choice::Seed),
         by_task: flag_chosen(matches, Choice::Tasks),
         tolerance: number_chosen(matches, Choice::Tolerance),
+        jobless: flag_chosen(matches, Choice::Jobless),
         from: number_chosen(matches, Choice::From),
         to: number_chosen(matches, Choice::To),
         width: number_chosen(matches, Choice::Width),

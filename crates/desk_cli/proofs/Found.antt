@@ -3,6 +3,7 @@ use Rattle.std.proofs.Common.{◌≡◌, ℕ, true, false, List, Option, Ok, Err
 use Rattle.std.specs.Io.KnownBytes.{Appends}
 use Rattle.task_sheet.specs.Sheet.{Task}
 use Rattle.task_sheet.specs.declared.prefer.Preference.{Preference}
+use Rattle.preferences.specs.declared.asking.Asking.{Asking}
 use Rattle.owners.specs.declared.owner.Owner.{Owner}
 use Rattle.command_line.specs.declared.calls.Options.{Options}
 use Rattle.command_line.specs.declared.calls.OfTwo.{OfTwo}
@@ -12,7 +13,7 @@ use Rattle.answering.specs.Outcomes.{failed_read}
 use Rattle.answering.specs.Printed.{IsPrinted}
 use Rattle.answering.specs.Refusals.{refusal_line, status_of}
 use Rattle.desk_cli.specs.Saying.{SaysOfBoth}
-use Rattle.answering.specs.Chosen.{preference_of}
+use Rattle.answering.specs.Chosen.{asking_of}
 use Rattle.answering.specs.Owning.{HaveOwned}
 use Rattle.answering.specs.Sets.{HaveBoth}
 use Rattle.two_input_commands.specs.Simulate.{SaysSimulation}
@@ -33,9 +34,9 @@ never_unread _ options by U text never = never
 
 module _ (options : Options) (by : Preference) (owners : List Owner) (U : List Task) (text : List ℕ)
     (before after : Option (List ℕ)) (s : Status) where
-  both : (set other : Option (List ℕ)) → HaveOwned (preference_of options) set other by U owners text
-      → HaveBoth (preference_of options) set other U text
-  both set other has = ((has.0.0, has.0.1, has.0.2.set), has.1)
+  both : (asking : Asking) (set other : Option (List ℕ)) → HaveOwned asking set other by U owners text
+      → HaveBoth asking set other U text
+  both asking set other has = ((has.0.0, has.0.1, has.0.2.set), has.1)
 
   -- a refusal was printed
   pub refused_in : (c : OfTwo) (r : CommandRefusal) → FindsIn c options by U text (Err r)
@@ -43,42 +44,42 @@ module _ (options : Options) (by : Preference) (owners : List Owner) (U : List T
       → SaysOfBoth c options by owners U text before after s
   refused_in command.Simulate r why wrote is =
       elim options.by_task as (λ b. (set other : Option (List ℕ))
-      → HaveOwned (preference_of options) set other by U owners text
-      → SaysSimulation b (preference_of options) set other before after s) [
-        | true ↦ λ set other has. (Err r, inr (U, text, both set other has, why), wrote, is)
-        | false ↦ λ set other has. (Err r, inr (U, text, both set other has, why), wrote, is)
+      → HaveOwned (asking_of options) set other by U owners text
+      → SaysSimulation b (asking_of options) set other before after s) [
+        | true ↦ λ set other has. (Err r, inr (U, text, both _ set other has, why), wrote, is)
+        | false ↦ λ set other has. (Err r, inr (U, text, both _ set other has, why), wrote, is)
       ]
   refused_in command.Diff r why wrote is =
-      λ set other has. (Err r, (by, inr (U, text, both set other has, why)), wrote, is)
+      λ set other has. (Err r, (by, inr (U, text, both _ set other has, why)), wrote, is)
   refused_in command.ExplainAt r why wrote is =
-      λ set other has. (Err r, (by, inr (U, text, both set other has, why)), wrote, is)
+      λ set other has. (Err r, (by, inr (U, text, both _ set other has, why)), wrote, is)
   refused_in _ r why wrote is =
-      λ set other has. (Err r, inr (U, text, both set other has, why), wrote, is)
+      λ set other has. (Err r, inr (U, text, both _ set other has, why), wrote, is)
 
   -- what was found was printed
   said_in : (c : OfTwo) (found : Found) → FindsIn c options by U text (Ok found)
       → Appends before after (found_said owners U found) → s ≡ found_status found
       → SaysOfBoth c options by owners U text before after s
   said_in command.Check (Shown kind) finds wrote is =
-      λ set other has. (Ok kind, (U, text, both set other has, finds), wrote, is)
+      λ set other has. (Ok kind, (U, text, both _ set other has, finds), wrote, is)
   said_in command.Diff (Compared c) finds wrote is =
       λ set other has. (Ok (U, owners, c), (by, text, has, finds), wrote, is)
   said_in command.Judge (Judged judged) finds wrote is =
-      λ set other has. (Ok (U, judged), (text, both set other has, finds), wrote, is)
+      λ set other has. (Ok (U, judged), (text, both _ set other has, finds), wrote, is)
   said_in command.Simulate (Simulated answer) finds wrote is =
-      λ set other has. rw finds.0 (Ok (U, answer), (text, both set other has, finds.1), wrote, is)
+      λ set other has. rw finds.0 (Ok (U, answer), (text, both _ set other has, finds.1), wrote, is)
   said_in command.Simulate (Reached answer) finds wrote is =
-      λ set other has. rw finds.0 (Ok (U, answer), (text, both set other has, finds.1), wrote, is)
+      λ set other has. rw finds.0 (Ok (U, answer), (text, both _ set other has, finds.1), wrote, is)
   said_in command.Draw (Drawn drawing) finds wrote is =
-      λ set other has. (Ok (U, drawing), (text, both set other has, finds), wrote, is)
-  said_in command.Observe (Observed tolerance sight) finds wrote is = λ set other has.
-      rw (← finds.0) (Ok (U, sight), (text, both set other has, finds.1), wrote, is)
+      λ set other has. (Ok (U, drawing), (text, both _ set other has, finds), wrote, is)
+  said_in command.Observe (Observed leeway sight) finds wrote is = λ set other has.
+      rw (← finds.0) (Ok (U, sight), (text, both _ set other has, finds.1), wrote, is)
   said_in command.Keep (Keeping keeping base) finds wrote is = λ set other has.
-      rw (← finds.0) (Ok (U, keeping), (text, both set other has, finds.1), wrote, is)
+      rw (← finds.0) (Ok (U, keeping), (text, both _ set other has, finds.1), wrote, is)
   said_in command.WorstAt (WorstAt worst) finds wrote is =
-      λ set other has. (Ok (U, worst), (text, both set other has, finds), wrote, is)
+      λ set other has. (Ok (U, worst), (text, both _ set other has, finds), wrote, is)
   said_in command.LimitsAt (LimitedAt found) finds wrote is =
-      λ set other has. (Ok (U, found), (text, both set other has, finds), wrote, is)
+      λ set other has. (Ok (U, found), (text, both _ set other has, finds), wrote, is)
   said_in command.ExplainAt (ExplainedAt found) finds wrote is =
       λ set other has. (Ok (U, owners, found), (by, text, has, finds), wrote, is)
   said_in _ _ finds wrote is = absurd finds

@@ -6,10 +6,10 @@ use Rattle.command_line.specs.declared.calls.OfOne.TheVariants.{Limits, Explain,
 use Rattle.command_line.specs.declared.calls.OfTwo.{OfTwo}
 use Rattle.command_line.specs.declared.calls.OfTwo.TheVariants.{Simulate, Diff, ExplainAt}
 use Rattle.command_line.specs.declared.calls.Options.{Options}
-use Rattle.task_sheet.specs.declared.prefer.Preference.{Preference}
+use Rattle.preferences.specs.declared.asking.Asking.{Asking}
 use Rattle.task_sheet.specs.declared.prefer.Preference.TheVariants.{Weights}
-use Rattle.desk_cli.specs.Commands.{OneSays, TwoSay}
-use Rattle.answering.specs.Chosen.{preference_of, task_of}
+use Rattle.desk_cli.specs.Commands.{OneSays, TwoSay, first_asking}
+use Rattle.answering.specs.Chosen.{asking_of, task_of}
 use Rattle.set_commands.specs.OneTask.{AnswersOfTask, SaysPart}
 use Rattle.set_commands.specs.declared.one_task.TaskPart.{TaskPart}
 use Rattle.set_commands.specs.declared.one_task.TaskPart.TheVariants as part
@@ -23,41 +23,41 @@ use Rattle.answering.specs.declared.status.Status.{Status}
 
 module _ (before after : Option (List ℕ)) (s : Status) (r : CommandRefusal)
     (wrote : Appends before after (refusal_line r)) (is : s ≡ status_of r) where
-  no_set : (part : TaskPart) (word : List ℕ) (preference : Option Preference)
-      (known : Option (List ℕ)) (r : CommandRefusal) → HasNoSet known r
-      → AnswersOfTask part word preference known (Err r)
-  no_set part word preference known (refusal.NoSuchTask name) why = absurd why
-  no_set part word preference known _ why = why
+  no_set : (part : TaskPart) (word : List ℕ) (asking : Asking)
+      (known : Option (List ℕ)) (r : CommandRefusal) → HasNoSet asking known r
+      → AnswersOfTask part word asking known (Err r)
+  no_set part word asking known (refusal.NoSuchTask name) why = absurd why
+  no_set part word asking known _ why = why
 
-  part_refused : (p : TaskPart) (asked : Option (List ℕ)) (preference : Option Preference)
-      (known : Option (List ℕ)) → HasNoSet known r
-      → SaysPart p asked preference known before after s
-  part_refused p (Some word) preference known why =
-      (Err r, no_set p word preference known r why, wrote, is)
-  part_refused part.Limits None preference known why = (Err r, why, wrote, is)
-  part_refused _ None preference known why = (Err r, why, wrote, is)
+  part_refused : (p : TaskPart) (asked : Option (List ℕ)) (asking : Asking)
+      (known : Option (List ℕ)) → HasNoSet asking known r
+      → SaysPart p asked asking known before after s
+  part_refused p (Some word) asking known why =
+      (Err r, no_set p word asking known r why, wrote, is)
+  part_refused part.Limits None asking known why = (Err r, why, wrote, is)
+  part_refused _ None asking known why = (Err r, why, wrote, is)
 
   pub one_refused : (c : OfOne) (options : Options) (known : Option (List ℕ))
-      → IsRefusalOf c known r → OneSays c options known before after s
+      → IsRefusalOf c options known r → OneSays c options known before after s
   one_refused Limits options known why =
-      part_refused part.Limits (task_of options) (preference_of options) known why
+      part_refused part.Limits (task_of options) (asking_of options) known why
   one_refused Explain options known why =
-      part_refused part.Reasons (task_of options) (preference_of options) known why
+      part_refused part.Reasons (task_of options) (asking_of options) known why
   one_refused Worst options known why =
-      part_refused part.Worst (task_of options) (preference_of options) known why
+      part_refused part.Worst (task_of options) (asking_of options) known why
   one_refused Play options known why = (refusal_line r, wrote, inl (r, why, refl, is))
   one_refused _ options known why = (Err r, why, wrote, is)
 
   pub placed_refused : (c : OfOne) (options : Options) (known : Option (List ℕ)) → (c ≡ Play → ⊥)
-      → HasNoSet known r → OneSays c options known before after s
+      → HasNoSet (asking_of options) known r → OneSays c options known before after s
   placed_refused Play options known other why = absurd (other refl)
   placed_refused c options known other why = one_refused c options known why
 
   pub two_refused : (c : OfTwo) (options : Options) (first second : Option (List ℕ))
-      → HaveNotBoth first second r → TwoSay c options first second before after s
+      → HaveNotBoth (first_asking c options) first second r → TwoSay c options first second before after s
   two_refused Simulate options first second why =
       elim options.by_task as
-      (λ b. SaysSimulation b (preference_of options) first second before after s) [
+      (λ b. SaysSimulation b (asking_of options) first second before after s) [
         | true ↦ (Err r, inl why, wrote, is)
         | false ↦ (Err r, inl why, wrote, is)
       ]

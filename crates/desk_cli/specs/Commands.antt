@@ -13,7 +13,7 @@ use Rattle.two_input_commands.specs.Draw.{SaysDrawn}
 use Rattle.two_input_commands.specs.ExplainAt.{SaysExplainedAt}
 use Rattle.two_input_commands.specs.Judge.{SaysJudged}
 use Rattle.two_input_commands.specs.LimitsAt.{SaysLimitsAt}
-use Rattle.two_input_commands.specs.Observe.{SaysObserved, tolerance_of}
+use Rattle.two_input_commands.specs.Observe.{SaysObserved, leeway_of}
 use Rattle.two_input_commands.specs.Keep.{SaysKeeping}
 use Rattle.set_commands.specs.OneTask.{SaysPart}
 use Rattle.script_commands.specs.Play.{SaysPlayed}
@@ -22,32 +22,39 @@ use Rattle.two_input_commands.specs.WorstAt.{SaysWorstAt}
 use Rattle.set_commands.specs.declared.one_task.TaskPart.TheVariants as part
 use Rattle.answering.specs.declared.answer.OrderPart.TheVariants as order
 use Rattle.answering.specs.declared.status.Status.{Status}
-use Rattle.answering.specs.Chosen.{base_of, preference_of, task_of}
+use Rattle.answering.specs.Chosen.{asking_of, base_of, task_of}
+use Rattle.preferences.specs.ReadsAsked.{lenient}
+use Rattle.preferences.specs.declared.asking.Asking.{Asking}
 
 -- what the writer held, what it holds then, and the status, are those of the command's answer on what a reader has, by
 -- what the words choose
 abbrev pub OneSays : OfOne → Options → Option (List ℕ) → (before after : Option (List ℕ))
     → Status → Type 0
-OneSays Admit options = SaysPlacing order.Levels (preference_of options)
-OneSays Certify options = SaysCertified (preference_of options)
-OneSays Limits options = SaysPart part.Limits (task_of options) (preference_of options)
+OneSays Admit options = SaysPlacing order.Levels (asking_of options)
+OneSays Certify options = SaysCertified (asking_of options)
+OneSays Limits options = SaysPart part.Limits (task_of options) (asking_of options)
 OneSays Settings options =
-    SaysPlacing (order.Settings (base_of options)) (preference_of options)
-OneSays Explain options = SaysPart part.Reasons (task_of options) (preference_of options)
-OneSays Worst options = SaysPart part.Worst (task_of options) (preference_of options)
+    SaysPlacing (order.Settings (base_of options)) (asking_of options)
+OneSays Explain options = SaysPart part.Reasons (task_of options) (asking_of options)
+OneSays Worst options = SaysPart part.Worst (task_of options) (asking_of options)
 OneSays Play options = SaysPlayed
+
+-- what a call of a command of two inputs asks of its set: of the old one of `diff` no doubt is told
+abbrev pub first_asking : OfTwo → Options → Asking
+first_asking Diff options = lenient (asking_of options)
+first_asking _ options = asking_of options
 
 -- the same of a command of two inputs
 abbrev pub TwoSay :
     OfTwo → Options → (first second : Option (List ℕ)) → (before after : Option (List ℕ))
     → Status → Type 0
-TwoSay Check options = SaysChecked (preference_of options)
-TwoSay Judge options = SaysJudged options.lower_is_higher (preference_of options)
-TwoSay Diff options = SaysCompared (preference_of options)
-TwoSay Simulate options = SaysSimulation options.by_task (preference_of options)
-TwoSay Draw options = SaysDrawn options (preference_of options)
-TwoSay Observe options = SaysObserved (tolerance_of options) (preference_of options)
-TwoSay Keep options = SaysKeeping (base_of options) (preference_of options)
-TwoSay WorstAt options = SaysWorstAt (task_of options) (preference_of options)
-TwoSay LimitsAt options = SaysLimitsAt (task_of options) (preference_of options)
-TwoSay ExplainAt options = SaysExplainedAt (task_of options) (preference_of options)
+TwoSay Check options = SaysChecked (asking_of options)
+TwoSay Judge options = SaysJudged options.lower_is_higher (asking_of options)
+TwoSay Diff options = SaysCompared (asking_of options)
+TwoSay Simulate options = SaysSimulation options.by_task (asking_of options)
+TwoSay Draw options = SaysDrawn options (asking_of options)
+TwoSay Observe options = SaysObserved (leeway_of options) (asking_of options)
+TwoSay Keep options = SaysKeeping (base_of options) (asking_of options)
+TwoSay WorstAt options = SaysWorstAt (task_of options) (asking_of options)
+TwoSay LimitsAt options = SaysLimitsAt (task_of options) (asking_of options)
+TwoSay ExplainAt options = SaysExplainedAt (task_of options) (asking_of options)

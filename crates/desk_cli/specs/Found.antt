@@ -11,13 +11,13 @@ use Rattle.command_line.specs.declared.calls.OfTwo.TheVariants as command
 use Rattle.judge.specs.Lines.{judged_lines}
 use Rattle.two_input_commands.specs.Check.{ChecksText, checked_line}
 use Rattle.answering.specs.Statuses.{placing_status}
-use Rattle.answering.specs.Chosen.{base_of, preference_of, task_of}
+use Rattle.answering.specs.Chosen.{base_of, asking_of, task_of}
 use Rattle.two_input_commands.specs.Diff.{ComparesText, compared_lines}
 use Rattle.two_input_commands.specs.Draw.{DrawsText, drawing_said}
 use Rattle.two_input_commands.specs.ExplainAt.{ExplainsText, explained_at_lines}
 use Rattle.two_input_commands.specs.Judge.{JudgesText, judged_status}
 use Rattle.two_input_commands.specs.LimitsAt.{LimitsText}
-use Rattle.two_input_commands.specs.Observe.{IsObservationOf, ObservesText, observation_said, observation_status, tolerance_of}
+use Rattle.two_input_commands.specs.Observe.{IsObservationOf, ObservesText, leeway_of, observation_said, observation_status}
 use Rattle.answering.specs.Printed.{IsPrinted}
 use Rattle.two_input_commands.specs.Simulate.{IsInOrder, SimulatesText, reached_said, simulation_said, simulation_status}
 use Rattle.desk_cli.specs.declared.of_two.Found.{Found}
@@ -32,8 +32,8 @@ use Rattle.answering.specs.declared.status.Status.TheVariants.{Done}
 abbrev pub FindsIn : OfTwo → Options → Preference → List Task → List ℕ → Result Found CommandRefusal → Type 0
 FindsIn command.Check options by U text (Ok (Shown kind)) = ChecksText U text (Ok kind)
 FindsIn command.Check options by U text (Err r) = ChecksText U text (Err r)
-FindsIn command.Diff options by U text (Ok (Compared c)) = ComparesText (preference_of options) by U text (Ok c)
-FindsIn command.Diff options by U text (Err r) = ComparesText (preference_of options) by U text (Err r)
+FindsIn command.Diff options by U text (Ok (Compared c)) = ComparesText (asking_of options) by U text (Ok c)
+FindsIn command.Diff options by U text (Err r) = ComparesText (asking_of options) by U text (Err r)
 FindsIn command.Judge options by U text (Ok (Judged node)) =
     JudgesText options.lower_is_higher U text (Ok node)
 FindsIn command.Judge options by U text (Err r) = JudgesText options.lower_is_higher U text (Err r)
@@ -44,8 +44,8 @@ FindsIn command.Simulate options by U text (Ok (Reached answer)) =
 FindsIn command.Simulate options by U text (Err r) = SimulatesText U text (Err r)
 FindsIn command.Draw options by U text (Ok (Drawn drawing)) = DrawsText options U text (Ok drawing)
 FindsIn command.Draw options by U text (Err r) = DrawsText options U text (Err r)
-FindsIn command.Observe options by U text (Ok (Observed tolerance shown)) =
-    (tolerance ≡ tolerance_of options) × ObservesText U text (Ok shown)
+FindsIn command.Observe options by U text (Ok (Observed leeway shown)) =
+    (leeway ≡ leeway_of options) × ObservesText U text (Ok shown)
 FindsIn command.Observe options by U text (Err r) = ObservesText U text (Err r)
 FindsIn command.Keep options by U text (Ok (Keeping keeping base)) =
     (base ≡ base_of options) × KeepsText U text (Ok keeping)
@@ -65,7 +65,7 @@ IsFoundOf U (Judged node) = All (λ j. j.task < TASK_LIMIT) node.judged.items
 IsFoundOf U (Compared c) = IsPlacingOf U c.was × IsPlacingOf c.set c.is
 IsFoundOf U (Reached answer) = IsInOrder U answer
 IsFoundOf U (Drawn drawing) = IsInOrder U drawing.answer
-IsFoundOf U (Observed tolerance shown) = IsObservationOf shown
+IsFoundOf U (Observed leeway shown) = IsObservationOf shown
 IsFoundOf U (Keeping keeping base) = IsKeptIn U keeping
 IsFoundOf U (ExplainedAt found) = All (λ j. j.task < TASK_LIMIT) found.node.judged.items
 IsFoundOf U _ = Unit {0}
@@ -78,7 +78,7 @@ found_said owners U (Judged node) = judged_lines U node.judged.items node.number
 found_said owners U (Simulated answer) = simulation_said U answer
 found_said owners U (Reached answer) = reached_said U answer
 found_said owners U (Drawn drawing) = drawing_said U drawing
-found_said owners U (Observed tolerance shown) = observation_said tolerance U shown
+found_said owners U (Observed leeway shown) = observation_said leeway U shown
 found_said owners U (Keeping keeping base) = keeping_lines U base keeping
 found_said owners U (WorstAt found) = string_bytes found.text
 found_said owners U (LimitedAt found) = string_bytes found.text
@@ -92,7 +92,7 @@ found_status (Judged node) = judged_status node.judged.items
 found_status (Simulated answer) = simulation_status answer
 found_status (Reached answer) = simulation_status answer
 found_status (Drawn drawing) = simulation_status drawing.answer
-found_status (Observed tolerance shown) = observation_status tolerance shown
+found_status (Observed leeway shown) = observation_status leeway shown
 found_status (Keeping keeping base) = keeping_status keeping
 found_status (WorstAt found) = judged_status found.node.judged.items
 found_status (LimitedAt found) = judged_status found.node.judged.items

@@ -7,8 +7,8 @@ use Rattle.owners.specs.declared.owner.Owner.{Owner}
 use Rattle.command_line.specs.declared.calls.OfOne.{OfOne}
 use Rattle.command_line.specs.declared.calls.OfOne.TheVariants.{Certify, Play}
 use Rattle.command_line.specs.declared.calls.OfTwo.{OfTwo}
-use Rattle.desk_cli.specs.Commands.{OneSays, TwoSay}
-use Rattle.answering.specs.Chosen.{preference_of}
+use Rattle.desk_cli.specs.Commands.{OneSays, TwoSay, first_asking}
+use Rattle.answering.specs.Chosen.{asking_of}
 use Rattle.script_commands.specs.Play.{Scripts}
 use Rattle.answering.specs.Sets.{HasNoSet}
 use Rattle.answering.specs.Owning.{HasOwned, HaveOwned}
@@ -16,9 +16,9 @@ use Rattle.answering.specs.declared.refusal.CommandRefusal.{CommandRefusal}
 use Rattle.answering.specs.declared.status.Status.{Status}
 
 -- why a command of one input has no answer
-abbrev pub IsRefusalOf : OfOne → Option (List ℕ) → CommandRefusal → Type 0
-IsRefusalOf Play known r = Scripts known (Err r)
-IsRefusalOf _ known r = HasNoSet known r
+abbrev pub IsRefusalOf : OfOne → Options → Option (List ℕ) → CommandRefusal → Type 0
+IsRefusalOf Play options known r = Scripts known (Err r)
+IsRefusalOf _ options known r = HasNoSet (asking_of options) known r
 
 -- the command speaks of what becomes of a set's tasks, with nothing that shows it
 abbrev pub IsOfPlacing : OfOne → Type 0
@@ -30,7 +30,7 @@ IsOfPlacing _ = Unit {0}
 abbrev pub SaysOfSet :
     OfOne → Options → List Owner → List Task → (before after : Option (List ℕ)) → Status → Type 0
 SaysOfSet command options owners U before after s =
-    (known : Option (List ℕ)) → HasOwned (preference_of options) known U owners
+    (known : Option (List ℕ)) → HasOwned (asking_of options) known U owners
     → OneSays command options known before after s
 
 -- what a command says of each two readers that have this set, taken by this preference, and this text, by what the words
@@ -40,5 +40,5 @@ abbrev pub SaysOfBoth :
     → (before after : Option (List ℕ)) → Status → Type 0
 SaysOfBoth command options by owners U text before after s =
     (set other : Option (List ℕ))
-    → HaveOwned (preference_of options) set other by U owners text
+    → HaveOwned (first_asking command options) set other by U owners text
     → TwoSay command options set other before after s

@@ -5,7 +5,7 @@ ghost use Rattle.desk_cli.specs.Saying.{IsOfPlacing, SaysOfSet};
 ghost use Rattle.answering.specs.Outcomes.{IsCarriedOut, IsSaidOn};
 
 use answering::{
-    Audience, OrderPart, Status, base_of, placing_status, placing_text, preference_of, print_made,
+    Audience, OrderPart, Status, asking_of, base_of, placing_status, placing_text, print_made,
     refuse,
 };
 use assignment::Placing;
@@ -91,9 +91,9 @@ pub fn carry_out<R: Read + Drop, W: Write + Drop, P: Audience>(
     ensures { IsCarriedOut (OneSays command options.entry) R.remaining W.contents
         input.old input.new output.old output.new result }
 {
-    let preference = preference_of(options);
+    let asking = asking_of(options);
     match command {
-        OfOne::Certify => match decide(alloc, preference, input, people) {
+        OfOne::Certify => match decide(alloc, asking, input, people) {
             Ok(verdict) => print_verdict(alloc, &verdict, output),
             Err(refusal) => refuse(refusal, output),
         },
@@ -101,7 +101,7 @@ pub fn carry_out<R: Read + Drop, W: Write + Drop, P: Audience>(
             Ok(lines) => play(alloc, lines, output),
             Err(refusal) => refuse(refusal, output),
         },
-        _ => match place(alloc, preference, input, people) {
+        _ => match place(alloc, asking, input, people) {
             Ok((tasks, owners, placing)) => {
                 say_placing(alloc, command, options, &owners, &tasks, &placing, output)
             }

@@ -1,12 +1,12 @@
 //! The commands of a task set and a second input.
 ghost use Rattle.std.specs.Prelude.{IfOk};
-ghost use Rattle.desk_cli.specs.Commands.{TwoSay};
+ghost use Rattle.desk_cli.specs.Commands.{TwoSay, first_asking};
 ghost use Rattle.desk_cli.specs.Found.{FindsIn, IsFoundOf, PrintsFound};
 ghost use Rattle.desk_cli.specs.Saying.{SaysOfBoth};
 ghost use Rattle.answering.specs.Outcomes.{IsCarriedOutOnBoth, IsSaidOn};
 
 use answering::{
-    Audience, Both, CommandRefusal, Status, Which, base_of, placing_status, preference_of, print,
+    Audience, Both, CommandRefusal, Status, Which, asking_of, base_of, placing_status, print,
     print_bytes, print_made, read_two, refuse, tell,
 };
 use cert_checker::Checked;
@@ -14,7 +14,9 @@ use command_line::{OfTwo, Options};
 use judge::{JudgedNode, judged_text};
 use kept_order::Keeping;
 use observed::{Seen, Sight};
+use observed_lines::Leeway;
 use owners::Owner;
+use preferences::Asking;
 use std::alloc::Global;
 use std::io::{Read, Write};
 use streams::Watched;
@@ -22,8 +24,8 @@ use task_sheet::{Members, Name, Preference, TaskSet};
 use two_input_commands::{
     Compared, Drawing, InOrder, Observation, Simulated, check_text, checked_line, compare_text,
     compared_text, draw_text, explain_at, explained_at_text, judge_text, judged_status, keep_text,
-    keeping_status, keeping_text, limits_at, observe_text, print_drawing, print_observation,
-    print_reached, print_simulated, simulate_text, tolerance_of, worst_at,
+    keeping_status, keeping_text, leeway_of, limits_at, observe_text, print_drawing,
+    print_observation, print_reached, print_simulated, simulate_text, worst_at,
 };
 
 /// What a command finds of a set and a text.
@@ -41,8 +43,8 @@ pub enum Found {
     Reached(Simulated),
     /// The same, to be shown as an SVG 1.1 document.
     Drawn(Drawing),
-    /// What a trace shows, by so many microseconds that a time may be past what is promised.
-    Observed(u64, Observation),
+    /// What a trace shows, and what of it is let pass.
+    Observed(Leeway, Observation),
     /// What becomes of a set that is to keep the order that settings give, and the priority of level 1.
     Keeping { keeping: Keeping, base: u32 },
     /// The worst case of a task in the order that settings give.
@@ -69,7 +71,7 @@ fn find(
         OfTwo::Check => Ok(Found::Shown(check_text(alloc, tasks, text)?)),
         OfTwo::Diff => Ok(Found::Compared(compare_text(
             alloc,
-            preference_of(options),
+            asking_of(options),
             by,
             tasks,
             text,
@@ -86,7 +88,7 @@ fn find(
         OfTwo::Draw => Ok(Found::Drawn(draw_text(alloc, options, tasks, text)?)),
         OfTwo::Observe => {
             let shown = observe_text(alloc, tasks, text)?;
-            Ok(Found::Observed(tolerance_of(options), shown))
+            Ok(Found::Observed(leeway_of(options), shown))
         }
         OfTwo::Keep => Ok(Found::Keeping {
             keeping: keep_text(alloc, tasks, text)?,
@@ -124,8 +126,8 @@ fn print_found<W: Write + Drop>(
         Found::Simulated(answer) => print_simulated(alloc, tasks, answer, output),
         Found::Reached(answer) => print_reached(alloc, tasks, answer, output),
         Found::Drawn(drawing) => print_drawing(alloc, tasks, drawing, output),
-        Found::Observed(tolerance, shown) => {
-            print_observation(alloc, tasks, *tolerance, shown, output)
+        Found::Observed(leeway, shown) => {
+            print_observation(alloc, tasks, *leeway, shown, output)
         }
         Found::Keeping { keeping, base } => print_made(
             keeping_text(alloc, tasks, *base, keeping),
@@ -245,6 +247,16 @@ fn say_both<W: Write + Drop, P: Audience>(
     }
 }
 
+// What a call asks of its set: of the old one of `diff` no doubt is told.
+fn first_asking(command: OfTwo, options: Options<'_>) -> Asking
+    ensures { result ≡ first_asking command options.entry }
+{
+    match command {
+        OfTwo::Diff => asking_of(options).lenient(),
+        _ => asking_of(options),
+    }
+}
+
 /// A command of two inputs: reads a task set and a text, and prints what docs/FORMATS.md says of the command and of
 /// what the words choose, or why one of them was refused. Both are read before either is parsed, the set first.
 pub fn carry_out_on_both<R: Read + Drop, S: Read + Drop, W: Write + Drop, P: Audience>(
@@ -259,8 +271,8 @@ pub fn carry_out_on_both<R: Read + Drop, S: Read + Drop, W: Write + Drop, P: Aud
     ensures { IsCarriedOutOnBoth (TwoSay command options.entry) R.remaining S.remaining W.contents
         set.old set.new other.old other.new output.old output.new result }
 {
-    let preference = preference_of(options);
-    match read_two(alloc, preference, set, other, people) {
+    let asking = first_asking(command, options);
+    match read_two(alloc, asking, set, other, people) {
         Ok(both) => say_both(alloc, command, options, &both, output, people),
         Err(refusal) => refuse(refusal, output),
     }

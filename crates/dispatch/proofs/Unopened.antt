@@ -18,16 +18,16 @@ use Rattle.desk_cli.proofs.Refused.{one_refused, two_refused}
 use Rattle.dispatch.specs.Running.{NumberSays}
 
 -- a failed read may come at any time
-any_time : (c : OfOne) (known : Option (List ℕ)) → IsRefusalOf c known failed_read
-any_time Play known = tt
-any_time _ known = tt
+any_time : (c : OfOne) (options : Options) (known : Option (List ℕ)) → IsRefusalOf c options known failed_read
+any_time Play options known = tt
+any_time _ options known = tt
 
 module _ (before after : Option (List ℕ)) (s : Status)
     (says : Appends before after (refusal_line failed_read)) (is : s ≡ InputOrOutputFailed) where
   pub one_unopened : (c : OfOne) (options : Options) (known : Option (List ℕ))
       → OneSays c options known before after s
   one_unopened c options known =
-      one_refused before after s failed_read says is c options known (any_time c known)
+      one_refused before after s failed_read says is c options known (any_time c options known)
 
   pub two_unopened : (c : OfTwo) (options : Options) (first second : Option (List ℕ))
       → TwoSay c options first second before after s

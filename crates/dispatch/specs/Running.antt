@@ -1,7 +1,7 @@
 -- What a call prints and how it ends, on the inputs that it names.
 use Rattle.std.specs.Prelude.{ℕ, List, Option}
 use Rattle.desk_cli.specs.Commands.{OneSays, TwoSay}
-use Rattle.answering.specs.Chosen.{preference_of}
+use Rattle.answering.specs.Chosen.{asking_of}
 use Rattle.set_commands.specs.Releases.{SaysList}
 use Rattle.set_commands.specs.Script.{SaysScript}
 use Rattle.script_commands.specs.Rush.{SaysRushed}
@@ -21,9 +21,9 @@ abbrev pub NumberSays :
     {E : Type 0} → OfNumber → Options → ℕ → Option (List ℕ) → (before after : Option (List ℕ))
     → (E → Option (List ℕ)) → (old new : WatchedData E) → Status → Type 0
 NumberSays Releases options until known before after told old new s =
-    SaysList (preference_of options) options.seed until known before after s
+    SaysList (asking_of options) options.seed until known before after s
 NumberSays Script options team known before after told old new s =
-    SaysScript (preference_of options) team known before after s
+    SaysScript (asking_of options) team known before after s
 NumberSays Rush options workers known before after told old new s =
     SaysRushed known workers before after told old new s
 

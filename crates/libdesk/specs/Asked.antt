@@ -2,7 +2,7 @@
 use Rattle.std.specs.Prelude.{◌≡◌, ◌⊎◌, ℕ, List, [], ◌∷◌, Option, Some, None, IsUtf8}
 use Rattle.command_line.specs.Calls.{no_options}
 use Rattle.desk_cli.specs.Commands.{OneSays, TwoSay}
-use Rattle.answering.specs.Chosen.{preference_of}
+use Rattle.answering.specs.Chosen.{asking_of}
 use Rattle.set_commands.specs.OneTask.{SaysPart}
 use Rattle.set_commands.specs.declared.one_task.TaskPart.TheVariants as part
 use Rattle.set_commands.specs.Releases.{SaysList}
@@ -28,5 +28,5 @@ AskedSays (One command input) before after s =
 AskedSays (Two command first second) before after s =
     TwoSay command no_options (Some first.now) (Some second.now) before after s
 AskedSays (Releases set until) before after s =
-    SaysList (preference_of no_options) no_options.seed until (Some set.now) before after s
+    SaysList (asking_of no_options) no_options.seed until (Some set.now) before after s
 AskedSays (Worst set name) before after s = SaysWorstAsked set.now name.now before after s

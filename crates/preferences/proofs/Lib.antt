@@ -3,3 +3,4 @@ pub mod LimitLaws
 pub mod FollowLaws
 pub mod MonotonicLaws
 pub mod Renumbering
+pub mod ToldLaws

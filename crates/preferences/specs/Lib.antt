@@ -1,3 +1,4 @@
 pub mod Preferences
 pub mod ReadsPreferred
+pub mod ReadsAsked
 pub mod LimitOrders

@@ -2,10 +2,13 @@
 //! which bears most.
 #![tactic(auto)]
 
+mod asking;
 mod choice;
 pub mod laws;
 mod preferred;
 
+pub use asking::{AskedFault, Asking, read_asked};
 pub use choice::Choice;
+pub use doubts::Doubt;
 pub use preferred::{Preferred, prefer, read_preferred};
 pub use task_sheet::Preference;

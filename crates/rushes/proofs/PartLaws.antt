@@ -12,7 +12,7 @@ use Rattle.scripts.specs.declared.line.Line.{Line}
 use Rattle.rushes.specs.Hands.{Hand, new_hand, AreDone, AreParts}
 use Rattle.rushes.specs.Faults.{Each, IsEnd, first_fault}
 use Rattle.rushes.specs.TeamLines.{TeamLine, lines_of}
-use Rattle.rushes.specs.declared.fault.RushFault.{RushFault}
+use Rattle.scripts.specs.declared.rush_fault.RushFault.{RushFault}
 use Rattle.rushes.proofs.RunLaws.{run_team}
 
 -- so many teams, from that one on, after their lines

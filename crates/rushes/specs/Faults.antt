@@ -3,7 +3,7 @@ use Rattle.std.specs.Prelude.{ℕ, List, [], ◌∷◌, Option, None, Some, Resu
 use Rattle.book_lock.specs.TeamPass.{Known}
 use Rattle.rushes.specs.Hands.{Hand, new_hand, AreDone}
 use Rattle.rushes.specs.TeamLines.{TeamLine}
-use Rattle.rushes.specs.declared.fault.RushFault.{RushFault}
+use Rattle.scripts.specs.declared.rush_fault.RushFault.{RushFault}
 
 -- what a team's lines come to: the team after all of them, or a fault
 abbrev pub IsEnd : ℕ → List TeamLine → Known → Result Hand RushFault → Type 0

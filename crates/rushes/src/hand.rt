@@ -6,14 +6,13 @@ ghost use Rattle.drafts.specs.declared.draft.EditCause.TheVariants.{Refused};
 ghost use Rattle.rushes.specs.Hands.{draft_at, edited, new_hand, noted, refusal_in, AreDone, IsCommitted, IsLineDone, IsOn, IsOpened, IsSet, IsStep};
 ghost use Rattle.rushes.specs.HandFields.{AllOwn};
 
-use crate::fault::RushFault;
 use crate::note::{Missed, Note};
 use crate::site::Site;
 use crate::split::{TeamLine, opens};
 use book_lock::{CommitCause, OpenFault, Pass};
 use candidate_workers::OpenGate;
 use drafts::{Draft, EditCause, EditRefusal};
-use scripts::Row;
+use scripts::{Row, RushFault};
 use std::alloc::{AllocError, Global};
 use std::collections::HashMap;
 use std::marker::Model;

@@ -1,7 +1,6 @@
 //! Rushing a script: each team's lines run on a thread of its own over one locked book, and then the log is printed.
 #![tactic(auto)]
 
-mod fault;
 mod hand;
 mod note;
 mod printing;
@@ -10,6 +9,5 @@ mod site;
 mod split;
 mod teams;
 
-pub use fault::RushFault;
 pub use note::{Missed, Note};
 pub use rushing::{RushTexts, rush_lines};

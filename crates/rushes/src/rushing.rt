@@ -4,14 +4,13 @@ ghost use Rattle.candidate_workers.specs.Faults.{IsBadCount};
 ghost use Rattle.drafts.specs.declared.team.TheConstants.{TEAM_LIMIT};
 ghost use Rattle.rushes.specs.Printed.{IsRushText};
 
-use crate::fault::RushFault;
 use crate::printing::{log_text, notes_text};
 use crate::site::Site;
 use crate::split::Split;
 use crate::teams::{passes_of, run_teams, teams_of};
 use book_lock::{CloseCause, Desk};
 use drafts::TEAM_LIMIT;
-use scripts::Line;
+use scripts::{Line, RushFault};
 use std::alloc::Global;
 use std::marker::Brand;
 use std::sync::Wait;

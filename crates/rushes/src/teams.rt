@@ -4,11 +4,11 @@ ghost use Rattle.candidate_workers.specs.Faults.{IsBadCount};
 ghost use Rattle.rushes.specs.Faults.{Each, IsEnd, first_fault};
 ghost use Rattle.rushes.specs.TeamLines.{lines_of};
 
-use crate::fault::RushFault;
 use crate::hand::{Hand, run_lines};
 use crate::site::Site;
 use crate::split::{Split, TeamLine};
 use book_lock::Pass;
+use scripts::RushFault;
 use std::alloc::{AllocError, Global};
 use std::snapshot::Snapshot;
 use std::sync::Wait;

@@ -4,7 +4,7 @@ use Rattle.std.specs.Io.KnownBytes.{Appends}
 use Rattle.scripts.specs.declared.line.Line.{Line}
 use Rattle.streams.specs.Watching.{WatchedData}
 use Rattle.rushes.specs.Printed.{IsRushText}
-use Rattle.rushes.specs.declared.fault.RushFault.{RushFault}
+use Rattle.scripts.specs.declared.rush_fault.RushFault.{RushFault}
 use Rattle.script_commands.specs.Play.{IsRefused, IsScript}
 use Rattle.answering.specs.Refusals.{refusal_line, status_of}
 use Rattle.answering.specs.declared.refusal.CommandRefusal.TheVariants.{Rush}

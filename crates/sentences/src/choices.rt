@@ -24,6 +24,10 @@ pub fn put_override<W: Write + Drop>(
     write_note(&pieces, out)
 }
 
+/// That names decide the order.
+pub(crate) const NAMES_DECIDE: &str =
+    "names decide the order; prefer = \"deadline\" in front of the tasks has shorter ones higher";
+
 // Whether no task has a weight, and one stands lower than one of a longer limit.
 fn are_against_limits(sheets: &[Sheet]) -> bool {
     let mut is_one = false;
@@ -44,12 +48,11 @@ pub fn put_names_decide<W: Write + Drop>(
     set: &TaskSet,
     out: &mut Watched<W>,
 ) -> Result<(), WriteFailed> {
-    let note: &[u8] = if are_against_limits(set.sheets()) {
-        b"note: names decide the order; prefer = \"deadline\" in front of the tasks has shorter ones higher\n"
+    if are_against_limits(set.sheets()) {
+        write_note(&["note: ", NAMES_DECIDE, "\n"], out)
     } else {
-        b""
-    };
-    out.write(note)
+        Ok(())
+    }
 }
 
 /// Writes a note where a base puts the highest thread of a set above the most that Linux has for `SCHED_FIFO`. It takes no

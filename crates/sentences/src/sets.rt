@@ -77,8 +77,8 @@ fn place_of(fault: SetFault) -> (usize, usize) {
     }
 }
 
-// What is wrong at the fault's place.
-fn tell_fault(told: &mut Told, root: &Table, fault: SetFault) {
+/// What is wrong at the fault's place.
+pub(crate) fn tell_fault(told: &mut Told, root: &Table, fault: SetFault) {
     match fault {
         SetFault::UnknownKey { task, section } => tell_unknown(told, root, task, section),
         SetFault::MissingKey { section, key, .. } => tell_missing(told, section, key),

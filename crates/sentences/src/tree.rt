@@ -140,8 +140,8 @@ fn line_of_task(alloc: Global, bytes: &[u8], task: usize) -> Result<Option<u64>,
 pub(crate) enum Known<'a> {
     /// These.
     Keys(&'a [Key]),
-    /// These two words.
-    Words(&'a str, &'a str),
+    /// These words.
+    Words(&'a [&'a str]),
     /// Each name.
     Names,
 }
@@ -157,7 +157,14 @@ fn is_known(known: Known<'_>, text: &str) -> bool {
             }
             false
         }
-        Known::Words(one, other) => text == one || text == other,
+        Known::Words(words) => {
+            for word in words {
+                if *word == text {
+                    return true;
+                }
+            }
+            false
+        }
         Known::Names => is_name(text),
     }
 }

@@ -1,7 +1,7 @@
 -- What `desk admit` and `desk settings` answer and print.
 use Rattle.std.specs.Prelude.{ℕ, List, Option, Result, Ok, Err, Vec}
 use Rattle.task_sheet.specs.Sheet.{Task}
-use Rattle.task_sheet.specs.declared.prefer.Preference.{Preference}
+use Rattle.preferences.specs.declared.asking.Asking.{Asking}
 use Rattle.assignment.specs.Placings.{IsPlacingOf}
 use Rattle.assignment.specs.declared.placing.Placing.{Placing}
 use Rattle.answering.specs.OrderParts.{placing_said}
@@ -17,24 +17,24 @@ use Rattle.answering.specs.Owning.{HasOwned}
 
 -- what is said of a reader, by what the call prefers: what the writer held, what it holds then, and the status
 abbrev pub OfOneSays : Type 1
-OfOneSays = Option Preference → Option (List ℕ) → (before after : Option (List ℕ)) → Status → Type 0
+OfOneSays = Asking → Option (List ℕ) → (before after : Option (List ℕ)) → Status → Type 0
 
 -- the answer on what a reader has: its set and the placing of that, or why there is none
-abbrev pub Places : Option Preference → Option (List ℕ) → Result (List Task × Placing) CommandRefusal
+abbrev pub Places : Asking → Option (List ℕ) → Result (List Task × Placing) CommandRefusal
     → Type 0
-Places preference known (Ok placed) =
-    HasSet preference known placed.0 × IsPlacingOf placed.0 placed.1
-Places preference known (Err r) = HasNoSet known r
+Places asking known (Ok placed) =
+    HasSet asking known placed.0 × IsPlacingOf placed.0 placed.1
+Places asking known (Err r) = HasNoSet asking known r
 
 -- so much of the placing of what the reader had is printed after what the writer held, and the status is the answer's
 abbrev pub SaysPlacing : OrderPart → OfOneSays
-SaysPlacing part preference known before after s =
-    Prints (Places preference known) (λ placed. placing_said part placed.0 placed.1)
+SaysPlacing part asking known before after s =
+    Prints (Places asking known) (λ placed. placing_said part placed.0 placed.1)
     (λ placed. placing_status placed.1) before after s
 
 -- the answer on what a reader has: a set, whose its tasks are, and its placing; or why there is none
-abbrev pub PlacesOwned : Option Preference → Option (List ℕ)
+abbrev pub PlacesOwned : Asking → Option (List ℕ)
     → Result (List Task × Vec Owner Global × Placing) CommandRefusal → Type 0
-PlacesOwned preference known (Ok placed) =
-    HasOwned preference known placed.0 placed.1.items × IsPlacingOf placed.0 placed.2
-PlacesOwned preference known (Err r) = HasNoSet known r
+PlacesOwned asking known (Ok placed) =
+    HasOwned asking known placed.0 placed.1.items × IsPlacingOf placed.0 placed.2
+PlacesOwned asking known (Err r) = HasNoSet asking known r

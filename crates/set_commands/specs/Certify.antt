@@ -1,6 +1,6 @@
 -- What `desk certify` answers and prints.
 use Rattle.std.specs.Prelude.{ℕ, List, Option, Result, Ok, Err}
-use Rattle.task_sheet.specs.declared.prefer.Preference.{Preference}
+use Rattle.preferences.specs.declared.asking.Asking.{Asking}
 use Rattle.task_sheet.specs.Verdicts.{IsVerdictOf}
 use Rattle.assignment.specs.Verdict.{verdict_set, verdict_of}
 use Rattle.assignment.specs.declared.verdict.Verdict.{Verdict}
@@ -15,10 +15,10 @@ use Rattle.answering.specs.declared.status.Status.{Status}
 use Rattle.answering.specs.declared.status.Status.TheVariants as status
 
 -- the answer on what a reader has: the verdict of its set, or why there is none
-abbrev pub Admits : Option Preference → Option (List ℕ) → Result Verdict CommandRefusal → Type 0
-Admits preference known (Ok v) =
-    HasSet preference known (verdict_set v) × IsVerdictOf (verdict_set v) (verdict_of v)
-Admits preference known (Err r) = HasNoSet known r
+abbrev pub Admits : Asking → Option (List ℕ) → Result Verdict CommandRefusal → Type 0
+Admits asking known (Ok v) =
+    HasSet asking known (verdict_set v) × IsVerdictOf (verdict_set v) (verdict_of v)
+Admits asking known (Err r) = HasNoSet asking known r
 
 -- the exit status of a verdict
 abbrev pub verdict_status : Verdict → Status
@@ -31,5 +31,5 @@ certificate_lines v = spelling (certificate_of (verdict_set v) (verdict_of v))
 
 -- the answer on what the reader had is printed after what the writer held, and the status is the answer's
 abbrev pub SaysCertified : OfOneSays
-SaysCertified preference known before after s =
-    Prints (Admits preference known) certificate_lines verdict_status before after s
+SaysCertified asking known before after s =
+    Prints (Admits asking known) certificate_lines verdict_status before after s

@@ -1,6 +1,6 @@
 -- What `desk explain` answers and prints.
 use Rattle.std.specs.Prelude.{◌≡◌, ℕ, List, [], ◌++◌, Option, Some, None, Result, Ok, Err}
-use Rattle.task_sheet.specs.declared.prefer.Preference.{Preference}
+use Rattle.preferences.specs.declared.asking.Asking.{Asking}
 use Rattle.task_sheet.specs.Sheet.{Task}
 use Rattle.assignment.specs.Placings.{IsPlacingOf}
 use Rattle.assignment.specs.declared.placing.Placing.{Placing}
@@ -41,12 +41,12 @@ pub record ExplainedData : Type 0 where
   pub decided : List ℕ
 
 -- the answer on what a reader has: that of `desk admit`, explained
-abbrev pub AnswersExplained : Option Preference → Option (List ℕ) → Result ExplainedData CommandRefusal
+abbrev pub AnswersExplained : Asking → Option (List ℕ) → Result ExplainedData CommandRefusal
     → Type 0
-AnswersExplained preference known (Ok e) =
-    HasOwned preference known e.set e.owners × IsPlacingOf e.set e.placing
+AnswersExplained asking known (Ok e) =
+    HasOwned asking known e.set e.owners × IsPlacingOf e.set e.placing
     × Explains e.set e.placing e.explanation × AreDecided e.set None e.placing e.decided
-AnswersExplained preference known (Err r) = Places preference known (Err r)
+AnswersExplained asking known (Err r) = Places asking known (Err r)
 
 -- what explains a placing, or the lines of the task that is asked about in that
 abbrev pub asked_lines : List Task → Option ℕ → Explanation → List ℕ
@@ -65,6 +65,6 @@ explained_output e =
 
 -- the answer on what the reader had is printed after what the writer held, and the status is the answer's
 abbrev pub SaysExplained : OfOneSays
-SaysExplained preference known before after s =
-    Prints (AnswersExplained preference known) explained_output (λ e. placing_status e.placing)
+SaysExplained asking known before after s =
+    Prints (AnswersExplained asking known) explained_output (λ e. placing_status e.placing)
     before after s

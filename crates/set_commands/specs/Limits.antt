@@ -1,7 +1,7 @@
 -- What `desk limits` answers and prints.
 use Rattle.std.specs.Prelude.{◌≡◌, ◌⊎◌, ℕ, ◌≤◌, ◌==◌, Bool, true, false, List, [], ◌++◌, length, codes, Option, Result, Ok, Err}
 use Rattle.std.specs.Io.KnownBytes.{Appends}
-use Rattle.task_sheet.specs.declared.prefer.Preference.{Preference}
+use Rattle.preferences.specs.declared.asking.Asking.{Asking}
 use Rattle.task_sheet.specs.Sheet.{Task}
 use Rattle.assignment.specs.Placings.{IsPlacingOf}
 use Rattle.assignment.specs.declared.placing.Placing.{Placing}
@@ -66,14 +66,14 @@ pub record LimitsData : Type 0 where
   pub status : Status
 
 -- the answer on what a reader has: that of `desk admit`, and the lines of how far the numbers of its set may go
-abbrev pub AnswersLimits : Option Preference → Option (List ℕ) → Result LimitsData CommandRefusal
+abbrev pub AnswersLimits : Asking → Option (List ℕ) → Result LimitsData CommandRefusal
     → Type 0
-AnswersLimits preference known (Ok l) =
-    Places preference known (Ok (l.set, l.placing)) × Lists l.set l.placing l.lines l.status
-AnswersLimits preference known (Err r) = Places preference known (Err r)
+AnswersLimits asking known (Ok l) =
+    Places asking known (Ok (l.set, l.placing)) × Lists l.set l.placing l.lines l.status
+AnswersLimits asking known (Err r) = Places asking known (Err r)
 
 -- the answer on what the reader had is printed after what the writer held, and the status is the answer's
 abbrev pub SaysLimits : OfOneSays
-SaysLimits preference known before after s =
-    Prints (AnswersLimits preference known) (λ l. placing_first l.set l.placing ++ l.lines)
+SaysLimits asking known before after s =
+    Prints (AnswersLimits asking known) (λ l. placing_first l.set l.placing ++ l.lines)
     (λ l. l.status) before after s

@@ -1,6 +1,6 @@
 -- What is said of one task of a set, where the words ask about it.
 use Rattle.std.specs.Prelude.{◌≡◌, ℕ, List, [], ◌++◌, Option, Some, None, Result, Ok, Err}
-use Rattle.task_sheet.specs.declared.prefer.Preference.{Preference}
+use Rattle.preferences.specs.declared.asking.Asking.{Asking}
 use Rattle.task_sheet.specs.Sheet.{Task}
 use Rattle.lines.specs.Words.{name_in}
 use Rattle.assignment.specs.Placings.{IsPlacingOf}
@@ -43,16 +43,16 @@ pub record OfTaskData : Type 0 where
   pub lines : List ℕ
 
 -- the answer on what a reader has: what is said of the task that a word names; or that there is none
-abbrev pub AnswersOfTask : TaskPart → List ℕ → Option Preference → Option (List ℕ)
+abbrev pub AnswersOfTask : TaskPart → List ℕ → Asking → Option (List ℕ)
     → Result OfTaskData CommandRefusal → Type 0
-AnswersOfTask part word preference known (Ok d) =
-    HasOwned preference known d.set d.owners × IsPlacingOf d.set d.placing
+AnswersOfTask part word asking known (Ok d) =
+    HasOwned asking known d.set d.owners × IsPlacingOf d.set d.placing
     × ((task : ℕ) × (asked_task d.set word ≡ Some task)
     × AreLinesOf part d.owners d.set d.placing task d.lines)
-AnswersOfTask part word preference known (Err (refusal.NoSuchTask name)) =
-    (U : List Task) × (placing : Placing) × Places preference known (Ok (U, placing))
+AnswersOfTask part word asking known (Err (refusal.NoSuchTask name)) =
+    (U : List Task) × (placing : Placing) × Places asking known (Ok (U, placing))
     × (asked_task U word ≡ None) × (name ≡ name_in word)
-AnswersOfTask part word preference known (Err r) = Places preference known (Err r)
+AnswersOfTask part word asking known (Err r) = Places asking known (Err r)
 
 -- what is printed in front of that: the first line of the verdict; before a worst case nothing
 abbrev pub first_said : TaskPart → List Task → Placing → List ℕ
@@ -65,8 +65,8 @@ task_said part d = first_said part d.set d.placing ++ d.lines
 
 -- the answer on what the reader had is printed after what the writer held, and the status is the answer's
 abbrev pub SaysTask : TaskPart → List ℕ → OfOneSays
-SaysTask part word preference known before after s =
-    Prints (AnswersOfTask part word preference known) (task_said part)
+SaysTask part word asking known before after s =
+    Prints (AnswersOfTask part word asking known) (task_said part)
     (λ d. placing_status d.placing) before after s
 
 -- what is said of all tasks: how far their numbers may go, or what explains the placing; or the worst case of the one that the
@@ -85,5 +85,5 @@ SaysPart part (Some word) = SaysTask part word
 abbrev pub OfPlaced :
     OfOneSays → List Owner → List Task → (before after : Option (List ℕ)) → Status → Type 0
 OfPlaced says owners U before after s =
-    (preference : Option Preference) → (known : Option (List ℕ)) → HasOwned preference known U owners
-    → says preference known before after s
+    (asking : Asking) → (known : Option (List ℕ)) → HasOwned asking known U owners
+    → says asking known before after s

@@ -1,7 +1,7 @@
 -- What `desk releases` answers and prints.
 use Rattle.std.specs.Prelude.{◌≡◌, ◌⊎◌, ℕ, List, None, Option, Some, Result, Ok, Err}
 use Rattle.std.specs.Global.{Vec}
-use Rattle.task_sheet.specs.declared.prefer.Preference.{Preference}
+use Rattle.preferences.specs.declared.asking.Asking.{Asking}
 use Rattle.task_sheet.specs.Sheet.{Task}
 use Rattle.ceiling_kernel.specs.Releases.{IsRefusal, refusal_of}
 use Rattle.ceiling_kernel.specs.declared.trace.Release.{Release}
@@ -36,16 +36,16 @@ ListsOf seed until U _ = ⊥
 
 -- the answer on what a reader has
 abbrev pub Lists :
-    Option Preference → Option ℕ → ℕ → Option (List ℕ) → Result (Vec Release) CommandRefusal → Type 0
-Lists preference seed until known (Ok releases) =
-    (U : List Task) × HasSet preference known U × ListsOf seed until U (Ok releases)
-Lists preference seed until known (Err r) =
-    HasNoSet known r ⊎ ((U : List Task) × HasSet preference known U × ListsOf seed until U (Err r))
+    Asking → Option ℕ → ℕ → Option (List ℕ) → Result (Vec Release) CommandRefusal → Type 0
+Lists asking seed until known (Ok releases) =
+    (U : List Task) × HasSet asking known U × ListsOf seed until U (Ok releases)
+Lists asking seed until known (Err r) =
+    HasNoSet asking known r ⊎ ((U : List Task) × HasSet asking known U × ListsOf seed until U (Err r))
 
 -- the answer on what the reader had is printed after what the writer held, and the status is the answer's
 abbrev pub SaysList :
-    Option Preference → Option ℕ → ℕ → Option (List ℕ) → (before after : Option (List ℕ)) → Status
+    Asking → Option ℕ → ℕ → Option (List ℕ) → (before after : Option (List ℕ)) → Status
     → Type 0
-SaysList preference seed until known before after s =
-    Prints (Lists preference seed until known) (λ releases. list_lines until releases.items)
+SaysList asking seed until known before after s =
+    Prints (Lists asking seed until known) (λ releases. list_lines until releases.items)
     (λ _. status.Done) before after s

@@ -6,7 +6,7 @@ use answering::{Audience, CommandRefusal, read_owned};
 use assignment::{Placing, place_all};
 use ceilings::{LockTable, Tabled};
 use owners::Owner;
-use preferences::Preference;
+use preferences::Asking;
 use std::alloc::Global;
 use std::io::Read;
 use streams::Watched;
@@ -16,14 +16,14 @@ use task_sheet::TaskSet;
 /// there is none.
 pub fn place<R: Read + Drop, P: Audience>(
     alloc: Global,
-    preference: Option<Preference>,
+    asking: Asking,
     set: &mut Watched<R>,
     people: &mut P,
 ) -> Result<(TaskSet, Vec<Owner>, Placing), CommandRefusal>
-    ensures answer { PlacesOwned preference (R.remaining set.old.inner) result }
+    ensures answer { PlacesOwned asking (R.remaining set.old.inner) result }
     ensures read { IsRead failed_read set.old set.new result }
 {
-    let (tasks, owners) = read_owned(alloc, preference, set, people)?;
+    let (tasks, owners) = read_owned(alloc, asking, set, people)?;
     let table = LockTable::new(alloc, &tasks)?;
     let placing = place_all(alloc, &Tabled::of(&tasks, &table))?;
     people.read(&tasks);

@@ -8,7 +8,7 @@ ghost use Rattle.answering.specs.Printed.{IsPrinted};
 use answering::{Audience, CommandRefusal, Status, read_one, refuse};
 use assignment::{Verdict, assign};
 use certificate::Certificate;
-use preferences::Preference;
+use preferences::Asking;
 use std::alloc::{AllocError, Global};
 use std::io::{Read, Write};
 use std::sync::Arc;
@@ -17,14 +17,14 @@ use streams::Watched;
 /// The verdict of the set that the reader has, or why there is none.
 pub fn decide<R: Read + Drop, P: Audience>(
     alloc: Global,
-    preference: Option<Preference>,
+    asking: Asking,
     set: &mut Watched<R>,
     people: &mut P,
 ) -> Result<Verdict, CommandRefusal>
-    ensures answer { Admits preference (R.remaining set.old.inner) result }
+    ensures answer { Admits asking (R.remaining set.old.inner) result }
     ensures read { IsRead failed_read set.old set.new result }
 {
-    let tasks = read_one(alloc, preference, set, people)?;
+    let tasks = read_one(alloc, asking, set, people)?;
     let shared = Arc::new(alloc, tasks).map_err(AllocError::from)?;
     let verdict = assign(alloc, shared)?;
     people.read(verdict.set());

@@ -1,15 +1,15 @@
 //! `desk releases`.
 ghost use Rattle.std.specs.Prelude.{None, Some};
-ghost use Rattle.answering.specs.Chosen.{preference_of};
+ghost use Rattle.answering.specs.Chosen.{asking_of};
 ghost use Rattle.set_commands.specs.Releases.{Lists, ListsOf, SaysList};
 ghost use Rattle.answering.specs.Outcomes.{IsCarriedOut, IsRead, failed_read};
 
 use answering::{
-    Audience, CommandRefusal, Status, Which, preference_of, print, read_one, refuse, tell,
+    Audience, CommandRefusal, Status, Which, asking_of, print, read_one, refuse, tell,
 };
 use ceiling_kernel::Release;
 use command_line::Options;
-use preferences::Preference;
+use preferences::Asking;
 use release_list::{densest, list_text, random};
 use std::alloc::Global;
 use std::io::{Read, Write};
@@ -59,16 +59,16 @@ fn list_of(
 // The list of the set that the reader has, or why there is none.
 fn list<R: Read + Drop, P: Audience>(
     alloc: Global,
-    preference: Option<Preference>,
+    asking: Asking,
     set: &mut Watched<R>,
     until: u64,
     seed: Option<usize>,
     people: &mut P,
 ) -> Result<Vec<Release>, CommandRefusal>
-    ensures answer { Lists preference seed until (R.remaining set.old.inner) result }
+    ensures answer { Lists asking seed until (R.remaining set.old.inner) result }
     ensures read { IsRead failed_read set.old set.new result }
 {
-    let tasks = read_one(alloc, preference, set, people)?;
+    let tasks = read_one(alloc, asking, set, people)?;
     let releases = list_of(alloc, &tasks, until, seed);
     tell(&releases, &tasks, Which::First, b"", people);
     releases
@@ -85,11 +85,11 @@ pub fn run_releases<R: Read + Drop, W: Write + Drop, P: Audience>(
     output: &mut Watched<W>,
     people: &mut P,
 ) -> Status
-    ensures { IsCarriedOut (SaysList (preference_of options.entry) options.entry.seed until)
+    ensures { IsCarriedOut (SaysList (asking_of options.entry) options.entry.seed until)
         R.remaining W.contents set.old set.new output.old output.new result }
 {
-    let preference = preference_of(options);
-    match list(alloc, preference, set, until, options.seed, people) {
+    let asking = asking_of(options);
+    match list(alloc, asking, set, until, options.seed, people) {
         Ok(releases) => match list_text(alloc, until, &releases) {
             Ok(text) => print(text.as_bytes(), Status::Done, output),
             Err(_) => refuse(CommandRefusal::OutOfMemory, output),

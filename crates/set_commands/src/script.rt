@@ -1,18 +1,18 @@
 //! `desk script`.
 ghost use Rattle.std.specs.Prelude.{◌≡◌, ◌≤◌, MatchResult, string_bytes};
 ghost use Rattle.drafts.specs.declared.team.TheConstants.{TEAM_LIMIT};
-ghost use Rattle.answering.specs.Chosen.{preference_of};
+ghost use Rattle.answering.specs.Chosen.{asking_of};
 ghost use Rattle.set_commands.specs.Script.{IsScript, SaysScript};
 ghost use Rattle.answering.specs.Sets.{HasNoSet};
 ghost use Rattle.scripted.specs.Scripted.{script_of};
 ghost use Rattle.answering.specs.Outcomes.{IsCarriedOut, IsRead, failed_read};
 
 use answering::{
-    Audience, CommandRefusal, Status, Which, preference_of, print, read_one, refuse, tell,
+    Audience, CommandRefusal, Status, Which, asking_of, print, read_one, refuse, tell,
 };
 use command_line::Options;
 use drafts::Team;
-use preferences::Preference;
+use preferences::Asking;
 use scripted::script_text;
 use std::alloc::Global;
 use std::io::{Read, Write};
@@ -33,17 +33,17 @@ fn script_of(alloc: Global, team: Team, tasks: &TaskSet) -> Result<String, Comma
 // The script of a team that is the set that the reader has, or why there is none.
 fn script<R: Read + Drop, P: Audience>(
     alloc: Global,
-    preference: Option<Preference>,
+    asking: Asking,
     set: &mut Watched<R>,
     team: Team,
     people: &mut P,
 ) -> Result<String, CommandRefusal>
     ensures answer { MatchResult result
-        (λ text. IsScript preference team (R.remaining set.old.inner) (string_bytes text))
-        (λ r. HasNoSet (R.remaining set.old.inner) r) }
+        (λ text. IsScript asking team (R.remaining set.old.inner) (string_bytes text))
+        (λ r. HasNoSet asking (R.remaining set.old.inner) r) }
     ensures read { IsRead failed_read set.old set.new result }
 {
-    let tasks = read_one(alloc, preference, set, people)?;
+    let tasks = read_one(alloc, asking, set, people)?;
     let text = script_of(alloc, team, &tasks);
     tell(&text, &tasks, Which::First, b"", people);
     text
@@ -61,14 +61,14 @@ pub fn run_script<R: Read + Drop, W: Write + Drop, P: Audience>(
 ) -> Status
     requires from { 1 ≤ team }
     requires to { team ≤ TEAM_LIMIT }
-    ensures { IsCarriedOut (SaysScript (preference_of options.entry) team) R.remaining W.contents
+    ensures { IsCarriedOut (SaysScript (asking_of options.entry) team) R.remaining W.contents
         set.old set.new output.old output.new result }
 {
-    let preference = preference_of(options);
+    let asking = asking_of(options);
     let Some(team) = Team::new(team) else {
         unreachable!();
     };
-    match script(alloc, preference, set, team, people) {
+    match script(alloc, asking, set, team, people) {
         Ok(text) => print(text.as_bytes(), Status::Done, output),
         Err(refusal) => refuse(refusal, output),
     }

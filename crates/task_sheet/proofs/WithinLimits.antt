@@ -58,7 +58,7 @@ table_within None none = tt
 table_within (Some ms) none =
     numbers_within (node_at ms) (neither (node_kinds_fault ms) (numbers_fault (node_at ms)) none).1
 
-overheads_within : (o : Option Data) → overheads_fault o ≡ None
+pub overheads_within : (o : Option Data) → overheads_fault o ≡ None
     → IfSome (option_map node_at (option_and_then as_table o)) AreOverheads
 overheads_within None none = tt
 overheads_within (Some d) none = table_within (as_table d) none
@@ -90,7 +90,7 @@ none_bad : (o : Option ℕ) → option_map fault.BadInterrupt o ≡ None → o �
 none_bad None none = refl
 none_bad (Some place) none = cc
 
-tables_within : (o : Option (List Members)) → interrupts_fault o ≡ None
+pub tables_within : (o : Option (List Members)) → interrupts_fault o ≡ None
     → AreInterrupts (map interrupt_at (unwrap_or o []))
 tables_within None none = cc
 tables_within (Some mss) none =

@@ -62,6 +62,10 @@ with_jitter s jitter = record s { jitter = jitter }
 abbrev pub outranking : Task → OutranksData → Task
 outranking s outranks = record s { outranks = outranks }
 
+-- the same task with these sections
+abbrev pub holding : Task → List CriticalSection → Task
+holding s sections = record s { sections = sections }
+
 -- the same task with this weight
 abbrev pub weighing : Task → ℕ → Task
 weighing s weight = record s { weight = weight }

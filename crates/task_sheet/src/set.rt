@@ -209,6 +209,13 @@ impl TaskSet {
         &self.sheets
     }
 
+    /// The sheets by rank.
+    pub fn into_sheets(self) -> Vec<Sheet>
+        ensures { result.items ≡ self }
+    {
+        self.sheets
+    }
+
     /// Whether two sets say the same: equal sheets in the order of rank, with their sections and locks in order.
     pub fn is_same(&self, other: &TaskSet) -> bool
         ensures { IsTrue result ↔ (self.now ≡ other.now) }

@@ -2,7 +2,7 @@
 ghost use Rattle.std.specs.Prelude.{◌≡◌, ◌↔◌, ◌+◌, ◌<◌, ◌≤◌, length, All, IsTrue, Some, None, IfNone, IfOk, IfErr, OnOk, OnErr};
 ghost use Rattle.std.specs.Bool.{OnFalse};
 ghost use Rattle.task_sheet.specs.Name.{IsName};
-ghost use Rattle.task_sheet.specs.Sheet.{CriticalSection, Task, IsSection, AreSections, AreOutranked, MayOutrank, AreOverheads, AreInterrupts, IsValidSheet, task_of, with_jitter, outranking, outranks_task, weighing, with_node, interrupted, repeats, same_section, same_sheet};
+ghost use Rattle.task_sheet.specs.Sheet.{CriticalSection, Task, IsSection, AreSections, AreOutranked, MayOutrank, AreOverheads, AreInterrupts, IsValidSheet, task_of, with_jitter, outranking, outranks_task, holding, weighing, with_node, interrupted, repeats, same_section, same_sheet};
 ghost use Rattle.task_sheet.specs.Overheads.{overhead_of};
 ghost use Rattle.task_sheet.specs.SheetFields.{outranks_of};
 ghost use Rattle.task_sheet.specs.Demand.{interrupts_some, limit_of};
@@ -423,6 +423,19 @@ impl Sheet {
             });
         }
         self.outranks = outranks;
+        Ok(self)
+    }
+
+    /// The same sheet with these sections, in the place of those that it had. Refused as by `Sheet::new`.
+    pub fn holding(mut self, sections: Vec<Section>) -> Result<Sheet, SheetCause>
+        ensures ok { IfOk result (λ s. (list_fault self.cost sections.items ≡ None)
+            × (s ≡ holding self sections.items)) }
+        ensures err { IfErr result (λ e. list_fault self.cost sections.items ≡ Some e) }
+    {
+        if let Some(cause) = list_fault(&sections, self.cost) {
+            return Err(cause);
+        }
+        self.sections = sections;
         Ok(self)
     }
 

@@ -1,7 +1,7 @@
 -- Documents that were read one after the other, and where a name first repeats.
 use Rattle.std.proofs.Common.{◌≡◌, ◌≢◌, ◌∙◌, ◌<◌, ◌≤◌, ◌+◌, ◌-◌, ◌==◌, ℕ, suc, inl, inr}
 use Rattle.std.proofs.Common.{true, false, cond, map, List, [], ◌∷◌, ◌++◌, length, Option, Some}
-use Rattle.std.proofs.Common.{None, Err, Ok, refl, sym, ap, subst, arith, nat_lt}
+use Rattle.std.proofs.Common.{None, Result, Err, Ok, refl, sym, ap, subst, arith, nat_lt}
 use Rattle.std.proofs.lemmas.Bool.{cases_Bool}
 use Rattle.std.specs.List.{join_with_byte}
 use Rattle.std.proofs.lemmas.List.{length-append, length-map}
@@ -12,11 +12,17 @@ use Rattle.task_sheet.specs.declared.set.TheConstants.{TASK_LIMIT}
 use Rattle.task_sheet.specs.declared.set.SetCause.{SetCause}
 use Rattle.task_sheet.specs.declared.set.SetCause.TheVariants as cause
 use Rattle.teams.specs.Gathering.{AreGathered, Begins, HasNoHead, IsCutOff, IsFirstPart, IsHead}
-use Rattle.teams.specs.Gathering.{IsNodeHead, IsNotGathered, IsPartBy}
+use Rattle.teams.specs.Gathering.{IsNoDocuments, IsNodeHead, IsNotGathered, IsPartBy, ReadsGathered}
 use Rattle.teams.specs.Owned.{OwnedData, TeamSetData}
-use Rattle.teams.specs.ReadsTeams.{AreRead, ReadsPart}
+use Rattle.teams.specs.ReadsTeams.{AreRead, ReadsPart, UnitesAll}
 use Rattle.teams.specs.Budgets.{budgets_fault}
-use Rattle.teams.specs.ReadsText.{AreJudged, HasBudgets, IsUnited, ReadsBounded}
+use Rattle.teams.specs.NodeDocument.{NodeData}
+use Rattle.teams.specs.ReadsText.{AreCut, AreJudged, IsUnited, Joins, Judges, ReadsBounded}
+use Rattle.std.specs.Option.{option_or}
+use Rattle.teams.specs.Rights.{rights_fault}
+use Rattle.teams.specs.Naming.{locks_fault, named_by}
+use Rattle.teams.specs.declared.node.Budget.{Budget}
+use Rattle.task_sheet.specs.declared.read.Document.{Document}
 use Rattle.teams.specs.declared.reading.Part.{Part}
 use Rattle.teams.specs.declared.fault.TeamsFault.{TeamsFault}
 use Rattle.teams.specs.declared.fault.TeamsFault.TheVariants.{Of, OutOfMemory}
@@ -44,7 +50,7 @@ gathered_more text rest after sets p s (ps, begins, read) first one =
 -- ---- a text of documents that is none
 pub stopped : (text rest after : List ℕ) (sets : List TeamSetData) (p : Part) (e : TeamsFault)
     → AreGathered text rest sets → IsFirstPart rest p.team p.text.now after → ReadsPart p (Err e)
-    → IsNotGathered text e
+    → IsNoDocuments text e
 stopped text rest after sets p OutOfMemory all first why = tt
 stopped text rest after sets p (Of team f) all first why =
     (all.0, sets, rest, p, after, all.1, all.2, first, why)
@@ -136,14 +142,49 @@ taken tasks why n is known =
     let at = repeat_at (map (λ (o : OwnedData). o.sheet) tasks) n fault in
     (fault, at.0, omega (arith, at.1, length-map tasks (λ (o : OwnedData). o.sheet)))
 
--- ---- the node's document before those of teams
-pub refused_gathered : (document text : List ℕ) (e : TeamsFault) → HasBudgets document
-    → IsNotGathered text e → ReadsBounded document text (Err e)
-refused_gathered document text OutOfMemory budgets why = tt
-refused_gathered document text e budgets why = inr (inl (budgets, why))
+-- ---- why documents are no set
+pub none_gathered : (text : List ℕ) (e : TeamsFault) → IsNoDocuments text e → IsNotGathered text e
+none_gathered text OutOfMemory why = tt
+none_gathered text e why = inl why
 
-pub refused_budget : (document text : List ℕ) (e : TeamsFault) → AreJudged document text
-    (λ sets budgets. IsUnited sets × (budgets_fault sets budgets ≡ Some e))
+pub not_united : (text : List ℕ) (sets : List TeamSetData) (answer : Result Document TeamsFault)
+    → AreGathered text [] sets → UnitesAll sets answer → ReadsGathered text answer
+not_united text sets (Ok d) all is = (sets, all, is)
+not_united text sets (Err OutOfMemory) all is = tt
+not_united text sets (Err e) all is = inr (sets, all, is)
+
+-- ---- the node's document before those of teams
+pub refused_documents : (document text : List ℕ) (e : TeamsFault) → AreCut document text e
     → ReadsBounded document text (Err e)
-refused_budget document text OutOfMemory why = tt
-refused_budget document text e why = inr (inr why)
+refused_documents document text OutOfMemory why = tt
+refused_documents document text e why = inr (inl why)
+
+pub judged_so : (document text : List ℕ) (answer : Result Document TeamsFault)
+    → AreJudged document text answer → ReadsBounded document text answer
+judged_so document text (Ok d) is = is
+judged_so document text (Err OutOfMemory) is = tt
+judged_so document text (Err e) is = inr (inr is)
+
+pub refused_union : (own : TeamSetData) (budgets : List Budget) (sets : List TeamSetData)
+    (e : TeamsFault) → UnitesAll (own ∷ sets) (Err e) → Joins own budgets sets (Err e)
+refused_union own budgets sets OutOfMemory why = tt
+refused_union own budgets sets e why = inl why
+
+pub refused_budget : (own : TeamSetData) (budgets : List Budget) (sets : List TeamSetData)
+    (e : TeamsFault) → IsUnited (own ∷ sets) → budgets_fault sets budgets ≡ Some e
+    → Joins own budgets sets (Err e)
+refused_budget own budgets sets OutOfMemory united why = tt
+refused_budget own budgets sets e united why = inr (united, why)
+
+pub refused_right : (n : NodeData) (sets : List TeamSetData) (e : TeamsFault)
+    → option_or (rights_fault n.budgets sets) (locks_fault n.locks sets) ≡ Some e
+    → Judges n sets (Err e)
+refused_right n sets OutOfMemory why = tt
+refused_right n sets e why = inl why
+
+pub joins_so : (n : NodeData) (sets : List TeamSetData) (answer : Result Document TeamsFault)
+    → rights_fault n.budgets sets ≡ None → locks_fault n.locks sets ≡ None
+    → Joins n.own n.budgets (named_by n.locks sets) answer → Judges n sets answer
+joins_so n sets (Ok d) right locks is = (record { rights = right; locks = locks }, is)
+joins_so n sets (Err OutOfMemory) right locks is = tt
+joins_so n sets (Err e) right locks is = inr (record { rights = right; locks = locks }, is)

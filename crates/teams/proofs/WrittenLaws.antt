@@ -1,9 +1,10 @@
 -- What a text says as it is written, and with what its node takes: numbers and interrupts within the limits, and documents of the
 -- same set, preference, node and interrupts as one answer.
 use Rattle.std.proofs.Common.{◌≡◌, ◌∙◌, ℕ, inl, inr, Bool, true, false, List, [], ◌∷◌, length}
-use Rattle.std.proofs.Common.{Option, Some, None, IfSome, option_map, All, Ok, sym, ap}
+use Rattle.std.proofs.Common.{map, Option, Some, None, IfSome, option_map, All, Ok, sym, ap}
 use Rattle.std.proofs.Common.{arith, Result, Err, refl}
-use Rattle.std.proofs.lemmas.List.Elements.{All-append, All-from_recursion, All-nil}
+use Rattle.std.proofs.lemmas.Bool.{cases_Bool}
+use Rattle.std.proofs.lemmas.List.Elements.{All-append, All-from_recursion, All-head, All-nil, All-tail}
 use Rattle.std.specs.List.{AllByRecursion}
 use Rattle.std.specs.Option.{option_or}
 use Rattle.task_sheet.specs.Sheet.{Task, AreOverheads, IsInterrupt}
@@ -11,9 +12,20 @@ use Rattle.task_sheet.specs.ReadsSet.{AreWithinLimits}
 use Rattle.task_sheet.specs.declared.node.Node.{Node}
 use Rattle.task_sheet.specs.declared.node.Interrupt.{Interrupt}
 use Rattle.task_sheet.specs.declared.read.Document.{Document}
-use Rattle.task_sheet.proofs.WithinLimits.{says_within}
+use Rattle.toml.specs.Data.{Members}
+use Rattle.task_sheet.specs.Tree.{tables_at, value_at}
+use Rattle.task_sheet.specs.TreeFault.{overheads_fault, prefer_fault}
+use Rattle.task_sheet.specs.declared.keys.Key.TheVariants as key
+use Rattle.task_sheet.specs.declared.read.SetFault.{SetFault}
+use Rattle.task_sheet.proofs.WithinLimits.{overheads_within, says_within, tables_within}
+use Rattle.teams.specs.NodeDocument.{NodeData, ReadsNodeDocument, node_fault, only_keys, own_fault}
+use Rattle.teams.specs.declared.node.NodeKey.TheVariants.{Locks, Said, Team}
+use Rattle.teams.specs.declared.node.NodeFault.{NodeFault}
+use Rattle.teams.specs.declared.node.NodeFault.TheVariants as node
 use Rattle.teams.specs.Agreeing.{first_saying, interrupts_by, node_by, said_by}
 use Rattle.teams.specs.Budgets.{AreSound}
+use Rattle.teams.specs.Naming.{named_by, named_set}
+use Rattle.teams.specs.declared.naming.Lock.{Lock}
 use Rattle.teams.specs.Owned.{TeamSetData}
 use Rattle.teams.specs.ReadsTeams.{AreRead, UnitesAll}
 use Rattle.teams.specs.ReadsText.{ReadsEither, ReadsWritten, is_gathered, Pads, ReadsText}
@@ -55,24 +67,94 @@ interrupts_within [] all = All-nil IsInterrupt
 interrupts_within (s ∷ sets) all = All-append IsInterrupt s.interrupts (interrupts_by sets)
     all.0.interrupts.valid (interrupts_within sets all.1)
 
+all_within : (sets : List TeamSetData) (d : Document)
+    → AllByRecursion (λ s. AreWithinLimits s.node s.interrupts) sets → UnitesAll sets (Ok d)
+    → AreWithinLimits d.node d.interrupts.items
+all_within sets d each all = record {
+  node = rw (all.2) (node_within sets each);
+  interrupts = record {
+    valid = rw (all.3) (interrupts_within sets each);
+    few = omega (arith, all.0.interrupts, ap length all.3);
+  };
+}
+
 united_within : (ps : List Part) (sets : List TeamSetData) (d : Document) → AreRead ps sets
     → UnitesAll sets (Ok d) → AreWithinLimits d.node d.interrupts.items
-united_within ps sets d read all =
-    let each = each_within ps sets read in
-    record {
-      node = rw (all.2) (node_within sets each);
-      interrupts = record {
-        valid = rw (all.3) (interrupts_within sets each);
-        few = omega (arith, all.0.interrupts, ap length all.3);
-      };
-    }
+united_within ps sets d read all = all_within sets d (each_within ps sets read) all
+
+-- ---- the node's document
+no_fault : (o p : Option SetFault) → option_or o p ≡ None → (o ≡ None) × (p ≡ None)
+no_fault None p e = (refl, e)
+no_fault (Some f) p e = cc
+
+no_node_fault : (o p : Option NodeFault) → option_or o p ≡ None → o ≡ None
+no_node_fault None p e = refl
+no_node_fault (Some f) p e = cc
+
+none_said : (o : Option SetFault) → option_map node.Says o ≡ None → o ≡ None
+none_said None e = refl
+none_said (Some f) e = cc
+
+root_none : (tree : Members) → node_fault tree ≡ None → own_fault tree ≡ None
+root_none tree none = elim (cases_Bool (only_keys
+    (Said key.Prefer ∷ Said key.Node ∷ Said key.Interrupt ∷ Locks ∷ Team ∷ []) tree)) [
+      | inl known ↦ none_said _ (no_node_fault _ _ (rw known at none))
+      | inr other ↦
+          let some : Some node.UnknownRoot ≡ None = (rw other at none) in
+          absurd (cc)
+    ]
+
+-- the node's document says as much
+pub node_bounds : (document : List ℕ) (n : NodeData) → ReadsNodeDocument document (Ok n)
+    → AreWithinLimits n.own.node n.own.interrupts
+node_bounds document n (tree, is, none, says) =
+    let first = root_none tree none in
+    let prefers = no_fault (prefer_fault (value_at key.Prefer tree)) _ first in
+    let node = no_fault (overheads_fault (value_at key.Node tree)) _ prefers.1 in
+    rw says (record {
+      node = overheads_within (value_at key.Node tree) node.0;
+      interrupts = tables_within (tables_at key.Interrupt tree) node.1;
+    })
+
+-- and teams' documents with locks by their own names say as much as they are
+named_within : (o : Option (List Lock)) (sets : List TeamSetData)
+    → AllByRecursion (λ s. AreWithinLimits s.node s.interrupts) sets
+    → AllByRecursion (λ s. AreWithinLimits s.node s.interrupts) (named_by o sets)
+named_within None sets all = all
+named_within (Some locks) sets all = by sets all
+  where
+    by : (xs : List TeamSetData) → AllByRecursion (λ s. AreWithinLimits s.node s.interrupts) xs
+        → AllByRecursion (λ s. AreWithinLimits s.node s.interrupts) (map (named_set locks) xs)
+    by [] all = tt
+    by (x ∷ xs) all = (all.0, by xs all.1)
+
+pub sound_named : (locks : List Lock) (sets : List TeamSetData) → AreSound sets
+    → AreSound (map (named_set locks) sets)
+sound_named locks sets all =
+    All-from_recursion (λ s. All IsInterrupt s.interrupts) (map (named_set locks) sets) (by sets all)
+  where
+    by : (xs : List TeamSetData) → AreSound xs
+        → AllByRecursion (λ s. All IsInterrupt s.interrupts) (map (named_set locks) xs)
+    by [] all = tt
+    by (x ∷ xs) all = (
+      All-head (λ (s : TeamSetData). All IsInterrupt s.interrupts) x xs all,
+      by xs (All-tail (λ (s : TeamSetData). All IsInterrupt s.interrupts) x xs all),
+    )
+
+pub bounded_within : (n : NodeData) (sets : List TeamSetData) (d : Document)
+    → AreWithinLimits n.own.node n.own.interrupts → (ps : List Part) → AreRead ps sets
+    → UnitesAll (n.own ∷ named_by n.locks sets) (Ok d)
+    → AreWithinLimits d.node d.interrupts.items
+bounded_within n sets d own ps read all = all_within (n.own ∷ named_by n.locks sets) d
+    (own, named_within n.locks sets (each_within ps sets read)) all
 
 either_within : (b : Bool) (text : List ℕ) (d : Document) → ReadsEither b text (Ok d)
     → AreWithinLimits d.node d.interrupts.items
 either_within false text d says = says_within text d.set d.prefers d.node d.interrupts.items says
 either_within true text d (inl bounded) =
     let judged = bounded.3 in
-    united_within judged.3.0 judged.1 d judged.3.2 judged.4.0
+    bounded_within judged.0 judged.1 d (node_bounds bounded.0 judged.0 judged.2) judged.3.0 judged.3.2
+    judged.4.1.0
 either_within true text d (inr gathered) =
     let teams = gathered.1 in
     united_within teams.1.0 teams.0 d teams.1.2 teams.2

@@ -1,13 +1,13 @@
 -- The documents of teams in one text: each behind a line that names the team and counts the document's bytes, and begins
 -- as a comment of TOML does.
-use Rattle.std.specs.Prelude.{◌≡◌, ◌≢◌, ℕ, ◌+◌, List, [], ◌∷◌, ◌++◌, length, codes, Some, Result, Ok, Err}
+use Rattle.std.specs.Prelude.{◌≡◌, ◌≢◌, ◌⊎◌, ℕ, ◌+◌, List, [], ◌∷◌, ◌++◌, length, codes, Some, Result, Ok, Err}
 use Rattle.lines.specs.Lines.{parts}
 use Rattle.lines.specs.Words.{name_in, number_in, words}
 use Rattle.task_sheet.specs.declared.read.Document.{Document}
 use Rattle.teams.specs.Owned.{TeamSetData}
 use Rattle.teams.specs.ReadsTeams.{AreRead, ReadsPart, UnitesAll}
 use Rattle.teams.specs.declared.fault.TeamsFault.{TeamsFault}
-use Rattle.teams.specs.declared.fault.TeamsFault.TheVariants.{Alone, BadHead, Of, OutOfMemory}
+use Rattle.teams.specs.declared.fault.TeamsFault.TheVariants.{BadHead, Of, OutOfMemory}
 use Rattle.teams.specs.declared.reading.Part.{Part}
 
 -- the line is `#% TEAM COUNT`
@@ -71,14 +71,19 @@ IsStopped text e =
     × (after : List ℕ) × Begins text ps rest × AreRead ps sets
     × IsFirstPart rest p.team p.text.now after × ReadsPart p (Err e)
 
--- why a text is no documents of teams with a set: the first part that is none, or why the tasks of all are no set
+-- why a text is no documents of teams: the first part that is none
+abbrev pub IsNoDocuments : List ℕ → TeamsFault → Type 0
+IsNoDocuments text OutOfMemory = Unit {0}
+IsNoDocuments text (BadHead part) = IsCutOff text part
+IsNoDocuments text (Of team fault) = IsStopped text (Of team fault)
+IsNoDocuments text _ = ⊥
+
+-- why it is none with a set: the same, or why the tasks of all are no set
 abbrev pub IsNotGathered : List ℕ → TeamsFault → Type 0
 IsNotGathered text OutOfMemory = Unit {0}
-IsNotGathered text (Alone fault) = ⊥
-IsNotGathered text (BadHead part) = IsCutOff text part
-IsNotGathered text (Of team fault) = IsStopped text (Of team fault)
 IsNotGathered text e =
-    (sets : List TeamSetData) × AreGathered text [] sets × UnitesAll sets (Err e)
+    IsNoDocuments text e
+    ⊎ ((sets : List TeamSetData) × AreGathered text [] sets × UnitesAll sets (Err e))
 
 -- the answer on a text of documents of teams
 abbrev pub ReadsGathered : List ℕ → Result Document TeamsFault → Type 0

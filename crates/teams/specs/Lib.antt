@@ -6,4 +6,6 @@ pub mod NodeDocument
 pub mod Shares
 pub mod Digits
 pub mod Budgets
+pub mod Rights
+pub mod Naming
 pub mod ReadsText

@@ -5,7 +5,7 @@ ghost use Rattle.teams.specs.declared.fault.TeamsFault.TheVariants.{OutOfMemory}
 use crate::node::{NodeFault, Quantity};
 use overheads::PadFault;
 use std::alloc::AllocError;
-use task_sheet::{Name, SetFault};
+use task_sheet::{Key, Name, SetFault, SheetCause};
 use thiserror::Error;
 
 /// Why a text is no set. Of documents of teams, the first reason: all are read before their tasks are put together.
@@ -34,6 +34,27 @@ pub enum TeamsFault {
         task: Name,
         other: Name,
     },
+    /// A team's document has a key that is the node's: the node has a document, which doesn't give the team the right.
+    #[error("{team}: {key:?} is the node's")]
+    NodesOwn {
+        team: Name,
+        key: Key,
+    },
+    /// A section, by its place from 1, of a team's task takes a lock that the node's document doesn't list.
+    #[error("{team}: {task}, section {section}: no lock {lock}")]
+    UnknownLock {
+        team: Name,
+        task: Name,
+        section: usize,
+        lock: Name,
+    },
+    /// With the own names of its locks, in the place of second names, a team's task is no sheet.
+    #[error("{team}: {task}: {cause}")]
+    Renamed {
+        team: Name,
+        task: Name,
+        cause: SheetCause,
+    },
     /// A team's document prefers otherwise than that of another, which stands before it.
     #[error("{team}: prefers otherwise than {other}")]
     OtherPreference {
@@ -49,7 +70,7 @@ pub enum TeamsFault {
     /// The documents have more than 8 interrupts together.
     #[error("more than 8 interrupts")]
     TooManyInterrupts,
-    /// The node's document says no budgets.
+    /// The node's document is none.
     #[error("node: {fault}")]
     Node {
         fault: NodeFault,

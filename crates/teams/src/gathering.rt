@@ -1,6 +1,6 @@
 //! The documents of teams in one text.
 ghost use Rattle.std.specs.Prelude.{◌<◌, ℕ, List, [], length, IfOk, IfErr, IfSome, MatchOption};
-ghost use Rattle.teams.specs.Gathering.{AreGathered, HasNoHead, HasNoNode, IsFirstPart, IsHead, IsNodeHead, IsNodePart, IsNotGathered, ReadsGathered};
+ghost use Rattle.teams.specs.Gathering.{AreGathered, HasNoHead, HasNoNode, IsFirstPart, IsHead, IsNodeHead, IsNodePart, IsNoDocuments, ReadsGathered};
 
 use crate::fault::TeamsFault;
 use crate::reading::{Part, read_part};
@@ -74,7 +74,7 @@ pub fn first_part<'a>(text: &'a [u8]) -> Option<(Part<'a>, &'a [u8])>
 // The set of each document that a text has, in their order.
 pub(crate) fn read_documents(alloc: Global, text: &[u8]) -> Result<Vec<TeamSet>, TeamsFault>
     ensures ok { IfOk result (λ sets. AreGathered text.now [] sets.items) }
-    ensures err { IfErr result (IsNotGathered text.now) }
+    ensures err { IfErr result (IsNoDocuments text.now) }
 {
     let mut sets = Vec::new(alloc);
     let mut rest = text;

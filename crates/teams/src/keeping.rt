@@ -70,7 +70,7 @@ fn shares_by(alloc: Global, sets: &[TeamSet], team: Name) -> Result<Vec<Share>, 
     let mut shares = Vec::new(alloc);
     for part in sets {
         if part.team == team {
-            push_tasks(&mut shares, part.set.sheets())?;
+            push_tasks(&mut shares, &part.set)?;
             push_interrupts(&mut shares, &part.interrupts)?;
         }
     }

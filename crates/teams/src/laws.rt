@@ -4,7 +4,7 @@ ghost use Rattle.task_sheet.specs.declared.read.Document.{Document};
 ghost use Rattle.teams.specs.Budgets.{budget_fault, IsWithin};
 ghost use Rattle.teams.specs.Gathering.{ReadsGathered};
 ghost use Rattle.teams.specs.Owned.{TeamSetData};
-ghost use Rattle.teams.specs.ReadsText.{ReadsBounded, ReadsText, ReadsWritten};
+ghost use Rattle.teams.specs.ReadsText.{ReadsBounded, ReadsText, ReadsWritten, SaysNothing};
 ghost use Rattle.teams.specs.declared.node.Budget.{Budget};
 
 /// A budget has no fault exactly where its team has a document, its load in millionths is at most a thousand times the
@@ -14,10 +14,11 @@ pub fn kept_is_within()
         → budget_fault sets b ≡ None ↔ IsWithin sets b }
 {}
 
-/// A set that is read with budgets is the one that its documents are without them.
+/// A set that is read behind a node's document which says nothing for all teams is the one that the teams' documents are
+/// without it.
 pub fn budgets_keep_set()
-    ensures { (document text : List ℕ) (d : Document) → ReadsBounded document text (Ok d)
-        → ReadsGathered text (Ok d) }
+    ensures { (document text : List ℕ) (d : Document) → SaysNothing document
+        → ReadsBounded document text (Ok d) → ReadsGathered text (Ok d) }
 {}
 
 /// Where no document says a node or interrupts, a set's text says the set that is written.

@@ -6,14 +6,16 @@ mod fault;
 mod gathering;
 mod keeping;
 pub mod laws;
+mod naming;
 mod node;
 mod reading;
+mod rights;
 mod shares;
 mod text;
 mod uniting;
 
 pub use crate::fault::TeamsFault;
 pub use crate::gathering::{first_part, node_part, read_gathered};
-pub use crate::node::{Budget, NodeFault, Quantity, read_budgets};
+pub use crate::node::{NodeFault, Quantity};
 pub use crate::reading::Part;
 pub use crate::text::{is_gathered, read_text};

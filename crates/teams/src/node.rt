@@ -1,14 +1,17 @@
-//! The node's document: what each team may take.
-ghost use Rattle.std.specs.Prelude.{◌≡◌, ◌≢◌, None, Some, IfOk, IfErr, option_map};
+//! The node's document: what holds for all teams, and what each of them may take and say.
+ghost use Rattle.std.specs.Prelude.{◌≡◌, ◌≢◌, None, Some, IfOk, IfErr, codes, option_map};
 ghost use Rattle.toml.specs.Data.{get_member};
 ghost use Rattle.toml.specs.View.{view, table_view};
 ghost use Rattle.task_sheet.specs.Tree.{number_of};
-ghost use Rattle.teams.specs.NodeDocument.{budget_of, budgets_in, budgets_of, entries_fault, entry_budget, entry_fault, is_word_of, key_word, limit_of, node_fault, only_keys, ReadsBudgets, table_fault, quantity_word};
+ghost use Rattle.teams.specs.NodeDocument.{budget_of, budgets_in, budgets_of, entries_fault, entry_budget, entry_fault, is_true, is_word_of, key_word, limit_of, lock_at, lock_fault, lock_said, locks_fault, locks_in, names_fault, names_of, node_fault, node_of, node_word, only_keys, own_fault, own_of, ReadsNodeDocument, right_of, table_fault, teams_fault, quantity_word};
 ghost use Rattle.teams.specs.ReadsText.{ReadsNode};
 
 use crate::fault::TeamsFault;
+use crate::naming::Lock;
+use crate::uniting::TeamSet;
 use std::alloc::{AllocError, Global};
-use task_sheet::Name;
+use std::marker::Model;
+use task_sheet::{Key, Name, SetFault, read_interrupts, read_node, read_preference};
 use thiserror::Error;
 use toml::{Table, Value};
 
@@ -33,15 +36,42 @@ impl Quantity {
     }
 }
 
-/// What a team may take.
+/// What a team may take, and whether it may say what is the node's.
 #[derive(Clone, Copy, Debug)]
-pub struct Budget {
+pub(crate) struct Budget {
     pub team: Name,
     /// In thousandths of the processor; none where it has no limit.
     pub load: Option<u64>,
     /// In microseconds; none where it has no limit.
     pub section: Option<u64>,
+    /// It may say `prefer`, `node` and `interrupt`.
+    pub right: bool,
 }
+
+/// What the node's document says: for all teams, as a document of its own without tasks; and what each may take and say.
+#[derive(Drop)]
+pub(crate) struct NodeDocument {
+    pub own: TeamSet,
+    /// Under which names sections may take locks; none where all may.
+    pub locks: Option<Vec<Lock>>,
+    pub budgets: Vec<Budget>,
+}
+
+impl Model for NodeDocument {
+    ghost use Rattle.std.specs.Prelude.{option_map};
+    ghost use Rattle.teams.specs.NodeDocument.{NodeData};
+
+    ghost Value = { NodeData };
+
+    ghost view = { λ n. record {
+      own = n.own;
+      locks = option_map (λ v. v.items) n.locks;
+      budgets = n.budgets.items;
+    } };
+}
+
+/// The most names of locks: as many as the sections of a set can say.
+pub const LOCKS_LIMIT: usize = 1024;
 
 /// Why bytes are no node's document.
 #[derive(Clone, Copy, Debug, PartialEq, Eq, Error)]
@@ -49,9 +79,24 @@ pub enum NodeFault {
     /// The bytes are no TOML document; bytes that are not UTF-8 are none.
     #[error("the bytes are no document")]
     Syntax,
-    /// The root has a key but `team`.
+    /// The root has a key that is not known.
     #[error("a key that is not known")]
     UnknownRoot,
+    /// `prefer`, `node` or `interrupt` of the root is none.
+    #[error("{fault}")]
+    Says { fault: SetFault },
+    /// `locks` of the root is no table.
+    #[error("locks is no table")]
+    NoLocks,
+    /// A key of that table is no name.
+    #[error("no name of a lock")]
+    BadLockName,
+    /// What it has for a name is neither `true` nor, as a string, a name for which it has `true`.
+    #[error("{name}: no lock")]
+    BadLock { name: Name },
+    /// It has more than 1,024 names.
+    #[error("more than 1024 locks")]
+    TooManyLocks,
     /// `team` of the root is no table.
     #[error("team is no table")]
     NoTeams,
@@ -67,6 +112,9 @@ pub enum NodeFault {
     /// The value at a team's key is no number: an integer that isn't negative.
     #[error("{team}: no number at {quantity:?}")]
     NoNumber { team: Name, quantity: Quantity },
+    /// The value at a team's key `node` is neither true nor false.
+    #[error("{team}: neither true nor false at node")]
+    NoRight { team: Name },
     /// An allocation was refused.
     #[error("out of memory")]
     OutOfMemory,
@@ -88,7 +136,10 @@ impl From<AllocError> for NodeFault {
 #[derive(Clone, Copy)]
 pub(crate) enum NodeKey {
     Team,
+    Locks,
     Limit(Quantity),
+    // One that a set's document has, too.
+    Said(Key),
 }
 
 impl NodeKey {
@@ -98,7 +149,9 @@ impl NodeKey {
     {
         match self {
             NodeKey::Team => "team",
+            NodeKey::Locks => "locks",
             NodeKey::Limit(quantity) => quantity.word(),
+            NodeKey::Said(key) => key.word(),
         }
     }
 }
@@ -139,6 +192,88 @@ fn number_of(value: &Value) -> Option<u64>
     }
 }
 
+// ---- locks
+
+// The lock of which a name is, as it is said beside: its own, or another of the table.
+fn lock_said(locks: &Table, name: Name, value: &Value) -> Option<Name>
+    ensures { result ≡ lock_said (table_view locks.now) name (view value.now) }
+{
+    if is_true(value) {
+        return Some(name);
+    }
+    let text = value.as_str()?;
+    if !is_true(value_at(text, locks)?) {
+        return None;
+    }
+    match Name::read(text.as_bytes()) {
+        Ok(lock) => Some(lock),
+        Err(_) => None,
+    }
+}
+
+// Whether a value is true.
+fn is_true(value: &Value) -> bool
+    ensures { result ≡ is_true (view value.now) }
+{
+    value.as_bool() == Some(true)
+}
+
+// A name, and the lock that it is of.
+fn read_lock(locks: &Table, name: &str, value: &Value) -> Result<Lock, NodeFault>
+    ensures ok { IfOk result (λ l. (lock_fault (table_view locks.now) name.now (view value.now) ≡ None)
+        × (l ≡ lock_at (table_view locks.now) name.now (view value.now))) }
+    ensures err { IfErr result (λ e.
+        lock_fault (table_view locks.now) name.now (view value.now) ≡ Some e) }
+    ensures tree { IfErr result (λ e. e ≢ NodeFault.Syntax) }
+{
+    let Ok(name) = Name::read(name.as_bytes()) else {
+        return Err(NodeFault::BadLockName);
+    };
+    match lock_said(locks, name, value) {
+        Some(lock) => Ok(Lock { name, lock }),
+        None => Err(NodeFault::BadLock { name }),
+    }
+}
+
+// The names of a table of locks.
+fn read_names(alloc: Global, locks: &Table) -> Result<Vec<Lock>, NodeFault>
+    ensures ok { IfOk result (λ v.
+        (names_fault (table_view locks.now) (table_view locks.now) ≡ None)
+        × (v.items ≡ names_of (table_view locks.now) (table_view locks.now))) }
+    ensures err { IfErr result (λ e. e ≢ NodeFault.OutOfMemory
+        → names_fault (table_view locks.now) (table_view locks.now) ≡ Some e) }
+    ensures tree { IfErr result (λ e. e ≢ NodeFault.Syntax) }
+{
+    let mut names = Vec::new(alloc);
+    for (name, value) in locks.iter() {
+        let lock = read_lock(locks, name.as_str(), value)?;
+        names.push(lock).map_err(AllocError::from)?;
+    }
+    Ok(names)
+}
+
+// The locks that are listed, where some are: none where `locks` is absent.
+fn read_locks(alloc: Global, root: &Table) -> Result<Option<Vec<Lock>>, NodeFault>
+    ensures ok { IfOk result (λ o.
+        (locks_fault (get_member (key_word NodeKey.Locks) (table_view root.now)) ≡ None)
+        × (option_map (λ v. v.items) o ≡ locks_in (table_view root.now))) }
+    ensures err { IfErr result (λ e. e ≢ NodeFault.OutOfMemory
+        → locks_fault (get_member (key_word NodeKey.Locks) (table_view root.now)) ≡ Some e) }
+    ensures tree { IfErr result (λ e. e ≢ NodeFault.Syntax) }
+{
+    let Some(value) = value_at(NodeKey::Locks.word(), root) else {
+        return Ok(None);
+    };
+    let Some(table) = value.as_table() else {
+        return Err(NodeFault::NoLocks);
+    };
+    let names = read_names(alloc, table)?;
+    if names.len() > LOCKS_LIMIT {
+        return Err(NodeFault::TooManyLocks);
+    }
+    Ok(Some(names))
+}
+
 // ---- a team's table
 
 // The limit at a key, where one is; none where the value there is no number.
@@ -154,6 +289,16 @@ fn limit_at(quantity: Quantity, table: &Table) -> Option<Option<u64>>
     }
 }
 
+// Whether a team has the right, as it is said; none where that is neither true nor false.
+fn right_at(table: &Table) -> Option<bool>
+    ensures { result ≡ right_of (get_member (key_word (NodeKey.Said Key.Node)) (table_view table.now)) }
+{
+    match value_at(Key::Node.word(), table) {
+        Some(value) => value.as_bool(),
+        None => Some(false),
+    }
+}
+
 // The budget that a team's table says.
 fn read_table(team: Name, table: &Table) -> Result<Budget, NodeFault>
     ensures ok { IfOk result (λ b. (table_fault team (table_view table.now) ≡ None)
@@ -164,6 +309,7 @@ fn read_table(team: Name, table: &Table) -> Result<Budget, NodeFault>
     let keys = [
         NodeKey::Limit(Quantity::Load),
         NodeKey::Limit(Quantity::Section),
+        NodeKey::Said(Key::Node),
     ];
     if !only_keys(&keys, table) {
         return Err(NodeFault::UnknownKey { team });
@@ -176,10 +322,14 @@ fn read_table(team: Name, table: &Table) -> Result<Budget, NodeFault>
     let Some(section) = limit_at(quantity, table) else {
         return Err(NodeFault::NoNumber { team, quantity });
     };
+    let Some(right) = right_at(table) else {
+        return Err(NodeFault::NoRight { team });
+    };
     Ok(Budget {
         team,
         load,
         section,
+        right,
     })
 }
 
@@ -217,18 +367,16 @@ fn read_entries(alloc: Global, table: &Table) -> Result<Vec<Budget>, NodeFault>
     Ok(budgets)
 }
 
-// The budgets of a document's tree.
-fn read_root(alloc: Global, root: &Table) -> Result<Vec<Budget>, NodeFault>
-    ensures ok { IfOk result (λ v. (node_fault (table_view root.now) ≡ None)
+// The budgets at `team`, which may be absent.
+fn read_teams(alloc: Global, root: &Table) -> Result<Vec<Budget>, NodeFault>
+    ensures ok { IfOk result (λ v.
+        (teams_fault (get_member (key_word NodeKey.Team) (table_view root.now)) ≡ None)
         × (v.items ≡ budgets_in (table_view root.now))) }
     ensures err { IfErr result (λ e. e ≢ NodeFault.OutOfMemory
-        → node_fault (table_view root.now) ≡ Some e) }
+        → teams_fault (get_member (key_word NodeKey.Team) (table_view root.now)) ≡ Some e) }
     ensures tree { IfErr result (λ e. e ≢ NodeFault.Syntax) }
 {
-    if !only_keys(&[NodeKey::Team], root) {
-        return Err(NodeFault::UnknownRoot);
-    }
-    let Some(value) = value_at("team", root) else {
+    let Some(value) = value_at(NodeKey::Team.word(), root) else {
         return Ok(Vec::new(alloc));
     };
     match value.as_table() {
@@ -237,11 +385,72 @@ fn read_root(alloc: Global, root: &Table) -> Result<Vec<Budget>, NodeFault>
     }
 }
 
-/// What each team may take, by the names of the teams, from the node's document, in TOML: for a team a table
-/// `team.NAME`, with a number at `load`, at `section`, or at both. Refused in this order: `Syntax`; `UnknownRoot`;
-/// `NoTeams`; for each team by its name: `BadName`, `NoBudget`, `UnknownKey`, `NoNumber`.
-pub fn read_budgets(alloc: Global, text: &[u8]) -> Result<Vec<Budget>, NodeFault>
-    ensures { ReadsBudgets text.now result }
+// The name of the node's document among those of teams.
+fn node_name() -> Name
+    ensures { result ≡ node_word }
+{
+    match Name::read(b"node") {
+        Ok(name) => name,
+        Err(_) => unreachable!(),
+    }
+}
+
+// What is said for all teams, as a document without tasks.
+fn read_own(alloc: Global, root: &Table) -> Result<TeamSet, SetFault>
+    ensures ok { IfOk result (λ own. (own_fault (table_view root.now) ≡ None)
+        × (own ≡ own_of (table_view root.now))) }
+    ensures err { IfErr result (λ e. e ≢ SetFault.OutOfMemory
+        → own_fault (table_view root.now) ≡ Some e) }
+{
+    let prefers = read_preference(root)?;
+    let node = read_node(root)?;
+    let interrupts = read_interrupts(alloc, root)?;
+    Ok(TeamSet {
+        team: node_name(),
+        set: Vec::new(alloc),
+        prefers,
+        node,
+        interrupts,
+    })
+}
+
+// What a document's tree says.
+fn read_root(alloc: Global, root: &Table) -> Result<NodeDocument, NodeFault>
+    ensures ok { IfOk result (λ n. (node_fault (table_view root.now) ≡ None)
+        × (n ≡ node_of (table_view root.now))) }
+    ensures err { IfErr result (λ e. e ≢ NodeFault.OutOfMemory
+        → node_fault (table_view root.now) ≡ Some e) }
+    ensures tree { IfErr result (λ e. e ≢ NodeFault.Syntax) }
+{
+    let keys = [
+        NodeKey::Said(Key::Prefer),
+        NodeKey::Said(Key::Node),
+        NodeKey::Said(Key::Interrupt),
+        NodeKey::Locks,
+        NodeKey::Team,
+    ];
+    if !only_keys(&keys, root) {
+        return Err(NodeFault::UnknownRoot);
+    }
+    let own = match read_own(alloc, root) {
+        Ok(own) => own,
+        Err(SetFault::OutOfMemory) => return Err(NodeFault::OutOfMemory),
+        Err(fault) => return Err(NodeFault::Says { fault }),
+    };
+    let locks = read_locks(alloc, root)?;
+    let budgets = read_teams(alloc, root)?;
+    Ok(NodeDocument {
+        own,
+        locks,
+        budgets,
+    })
+}
+
+// What the node's document says, in TOML: `prefer`, `node` and `interrupt` as a set's document has them; a table `locks`; and for a team a
+// table `team.NAME`, with a number at `load` and `section`, and true or false at `node`. Refused in this order: `Syntax`;
+// `UnknownRoot`; `Says`; `NoLocks`; for each name of a lock `BadLockName`, `BadLock`; `TooManyLocks`; `NoTeams`; for each team by its name: `BadName`, `NoBudget`, `UnknownKey`, `NoNumber`, `NoRight`.
+fn read_document(alloc: Global, text: &[u8]) -> Result<NodeDocument, NodeFault>
+    ensures { ReadsNodeDocument text.now result }
 {
     match toml::table_from_slice(alloc, text) {
         Ok(root) => read_root(alloc, &root),
@@ -251,11 +460,11 @@ pub fn read_budgets(alloc: Global, text: &[u8]) -> Result<Vec<Budget>, NodeFault
 }
 
 // The same, a refusal as one of a set's text.
-pub(crate) fn read_node(alloc: Global, text: &[u8]) -> Result<Vec<Budget>, TeamsFault>
+pub(crate) fn read_node_document(alloc: Global, text: &[u8]) -> Result<NodeDocument, TeamsFault>
     ensures { ReadsNode text.now result }
 {
-    match read_budgets(alloc, text) {
-        Ok(budgets) => Ok(budgets),
+    match read_document(alloc, text) {
+        Ok(document) => Ok(document),
         Err(NodeFault::OutOfMemory) => Err(TeamsFault::OutOfMemory),
         Err(fault) => Err(TeamsFault::Node { fault }),
     }

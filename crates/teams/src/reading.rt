@@ -20,7 +20,7 @@ pub(crate) fn read_part(alloc: Global, part: &Part<'_>) -> Result<TeamSet, Teams
     match read_document(alloc, part.text) {
         Ok(document) => Ok(TeamSet {
             team: part.team,
-            set: document.set,
+            set: document.set.into_sheets(),
             prefers: document.prefers,
             node: document.node,
             interrupts: document.interrupts,

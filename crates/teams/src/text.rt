@@ -1,17 +1,18 @@
 //! A set's text.
-ghost use Rattle.std.specs.Prelude.{◌≡◌, [], Ok, IfOk, IfErr};
+ghost use Rattle.std.specs.Prelude.{◌≡◌, []};
 ghost use Rattle.task_sheet.specs.ReadsSet.{AreWithinLimits};
-ghost use Rattle.teams.specs.Gathering.{AreGathered, IsNotGathered};
-ghost use Rattle.teams.specs.ReadsText.{ReadsAlone, ReadsBounded, ReadsDocuments, ReadsText, ReadsWritten, Pads, is_gathered};
-ghost use Rattle.teams.specs.ReadsTeams.{UnitesAll};
+ghost use Rattle.teams.specs.Budgets.{AreSound};
+ghost use Rattle.teams.specs.ReadsText.{Joins, Judges, ReadsAlone, ReadsBounded, ReadsDocuments, ReadsText, ReadsWritten, Pads, is_gathered};
 
 use crate::fault::TeamsFault;
 use crate::gathering::{node_part, read_documents, read_gathered};
 use crate::keeping::budgets_fault;
-use crate::node::read_node;
+use crate::naming::named_sets;
+use crate::node::{Budget, NodeDocument, read_node_document};
+use crate::rights::rights_fault;
 use crate::uniting::{TeamSet, owned_all, united};
 use overheads::{PadFault, pad};
-use std::alloc::Global;
+use std::alloc::{AllocError, Global};
 use task_sheet::{Document, SetFault, read_document};
 
 /// Whether a text is documents of teams: it begins with `#% `.
@@ -32,28 +33,58 @@ fn read_alone(alloc: Global, text: &[u8]) -> Result<Document, TeamsFault>
     }
 }
 
-// The sets of the documents of teams, and what these say together.
-fn read_united(alloc: Global, text: &[u8]) -> Result<(Vec<TeamSet>, Document), TeamsFault>
-    ensures ok { IfOk result (λ x. AreGathered text.now [] x.0.items × UnitesAll x.0.items (Ok x.1)) }
-    ensures err { IfErr result (IsNotGathered text.now) }
+// What is said for all and what the teams say together, where each keeps to its budget.
+fn joined(
+    alloc: Global,
+    own: TeamSet,
+    budgets: &[Budget],
+    teams: Vec<TeamSet>,
+) -> Result<Document, TeamsFault>
+    requires sound { AreSound teams.items }
+    requires bare { own.set ≡ [] }
+    ensures { Joins own budgets.now teams.items result }
 {
-    let sets = read_documents(alloc, text)?;
+    let mut sets = teams;
+    sets.insert(0, own).map_err(AllocError::from)?;
     let document = united(alloc, &sets)?;
-    Ok((sets, document))
-}
-
-// What the documents of teams say, where the node's document has budgets that the teams keep to.
-fn read_bounded(alloc: Global, node: &[u8], text: &[u8]) -> Result<Document, TeamsFault>
-    ensures { ReadsBounded node.now text.now result }
-{
-    let budgets = read_node(alloc, node)?;
-    let (sets, document) = read_united(alloc, text)?;
-    let tasks = owned_all(alloc, &sets)?;
-    let past = budgets_fault(alloc, &sets, &tasks, &budgets)?;
-    match past {
+    let teams = &sets[1..];
+    let tasks = owned_all(alloc, teams)?;
+    match budgets_fault(alloc, teams, &tasks, budgets)? {
         Some(fault) => Err(fault),
         None => Ok(document),
     }
+}
+
+// What the node's document and those of teams say together.
+fn judged(alloc: Global, node: NodeDocument, teams: Vec<TeamSet>) -> Result<Document, TeamsFault>
+    requires sound { AreSound teams.items }
+    requires bare { node.own.set ≡ [] }
+    ensures { Judges node teams.items result }
+{
+    let NodeDocument {
+        own,
+        locks,
+        budgets,
+    } = node;
+    if let Some(fault) = rights_fault(&budgets, &teams) {
+        return Err(fault);
+    }
+    match locks {
+        Some(locks) => {
+            let teams = named_sets(alloc, &locks, &teams)?;
+            joined(alloc, own, &budgets, teams)
+        }
+        None => joined(alloc, own, &budgets, teams),
+    }
+}
+
+// What the documents of teams say behind the node's.
+fn read_bounded(alloc: Global, node: &[u8], text: &[u8]) -> Result<Document, TeamsFault>
+    ensures { ReadsBounded node.now text.now result }
+{
+    let document = read_node_document(alloc, node)?;
+    let teams = read_documents(alloc, text)?;
+    judged(alloc, document, teams)
 }
 
 // What documents say: the node's and those of the teams, or the latter alone.
@@ -99,8 +130,11 @@ fn padded(alloc: Global, document: Document) -> Result<Document, TeamsFault>
 
 /// The set that a text says, and what it prefers: of documents of teams where it begins with `#% `, as `read_gathered`
 /// reads them; else of one document, as `task_sheet::read_document` does. In front of the teams' documents that of the
-/// node may stand, behind a line `#% COUNT`: what it refuses comes first, and last the first budget by the names of the
-/// teams whose team has no document, or takes more. To TOML the lines with `#% ` are comments. Where a document says a
+/// node may stand, behind a line `#% COUNT`: what it says holds for all, as in a document of a team before theirs, and
+/// these may not say `prefer`, `node` or `interrupt` without the right to, nor take locks that it doesn't list, where it
+/// does. What it refuses comes first; behind the parts the first document that does so; the first task with another lock, or
+/// that by the own names of its locks is no sheet; and behind all of the teams the first budget by the names of the teams whose team has
+/// no document, or takes more. To TOML the lines with `#% ` are comments. Where a document says a
 /// node or interrupts, the set has what these take, as `overheads::pad` puts it in; what that refuses comes last of all.
 pub fn read_text(alloc: Global, text: &[u8]) -> Result<Document, TeamsFault>
     ensures { ReadsText text.now result }

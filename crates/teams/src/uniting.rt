@@ -13,11 +13,11 @@ use task_sheet::{
     Document, INTERRUPT_LIMIT, Interrupt, Name, Node, Preference, SetCause, Sheet, TaskSet,
 };
 
-// A team's set, what its document prefers, the node that it says, and its interrupts.
+// The tasks of a team's set by rank, what its document prefers, the node that it says, and its interrupts.
 #[derive(Drop)]
 pub(crate) struct TeamSet {
     pub team: Name,
-    pub set: TaskSet,
+    pub set: Vec<Sheet>,
     pub prefers: Option<Preference>,
     pub node: Option<Node>,
     pub interrupts: Vec<Interrupt>,
@@ -30,7 +30,7 @@ impl Model for TeamSet {
 
     ghost view = { λ s. record {
       team = s.team;
-      set = s.set;
+      set = s.set.items;
       prefers = s.prefers;
       node = s.node;
       interrupts = s.interrupts.items;
@@ -57,11 +57,10 @@ fn push_tasks(
     alloc: Global,
     tasks: &mut Vec<Owned>,
     team: Name,
-    set: &TaskSet,
+    sheets: &[Sheet],
 ) -> Result<(), AllocError>
-    ensures { OnOk result (tasks.new.items ≡ tasks.old.items ++ owned_by team set.now) }
+    ensures { OnOk result (tasks.new.items ≡ tasks.old.items ++ owned_by team sheets.now) }
 {
-    let sheets = set.sheets();
     for own in sheets {
         let sheet = own.copy(alloc)?;
         tasks.push(Owned { team, sheet })?;

@@ -2,3 +2,4 @@ mod Drawings
 pub mod Observations
 pub mod Ordered
 mod RowNames
+pub mod NewRefusals

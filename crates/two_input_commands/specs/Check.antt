@@ -39,6 +39,6 @@ checked_line NoOrder = codes "no order\n"
 
 -- the answer on what the readers had is printed after what the writer held, and the status is the answer's
 abbrev pub SaysChecked : OfTwoSays
-SaysChecked preference set certificate before after s =
-    Prints (OnBoth ChecksText preference set certificate) checked_line (λ _. status.Done) before
+SaysChecked asking set certificate before after s =
+    Prints (OnBoth ChecksText asking set certificate) checked_line (λ _. status.Done) before
     after s

@@ -1,9 +1,13 @@
 -- What `desk diff` answers and prints.
-use Rattle.std.specs.Prelude.{◌≡◌, ℕ, List, ◌++◌, codes, Option, Result, Ok, Err}
+use Rattle.std.specs.Prelude.{◌≡◌, ℕ, List, ◌++◌, codes, Option, None, Result, Ok, Err}
 use Rattle.task_sheet.specs.declared.prefer.Preference.{Preference}
+use Rattle.preferences.specs.declared.asking.Asking.{Asking}
 use Rattle.task_sheet.specs.declared.read.Document.{Document}
 use Rattle.preferences.specs.Preferences.{IsPreferred}
 use Rattle.preferences.specs.ReadsPreferred.{chosen}
+use Rattle.preferences.specs.ReadsAsked.{IsDoubted, doubt_told, lenient}
+use Rattle.preferences.specs.declared.asking.AskedFault.{AskedFault}
+use Rattle.preferences.specs.declared.asking.AskedFault.TheVariants as asked
 use Rattle.task_sheet.specs.Sheet.{Task}
 use Rattle.teams.specs.ReadsText.{ReadsText}
 use Rattle.owners.specs.NamedLines.{named_lines}
@@ -21,27 +25,40 @@ use Rattle.two_input_commands.specs.declared.diff_lines.Compared.{Compared}
 use Rattle.answering.specs.declared.refusal.CommandRefusal.{CommandRefusal}
 use Rattle.answering.specs.declared.refusal.CommandRefusal.TheVariants as refusal
 
--- the text says this set, by what the call prefers or else the text
-abbrev pub IsNew : Option Preference → List ℕ → List Task → Preference → Type 0
-IsNew preference text V by =
-    (d : Document) × ReadsText text (Ok d) × IsPreferred (chosen preference d.prefers) d.set V
-    × (by ≡ chosen preference d.prefers)
+-- the text says this set, as the call asks for it, taken by this preference
+abbrev pub IsNew : Asking → List ℕ → List Task → Preference → Type 0
+IsNew asking text V by =
+    (d : Document) × ReadsText text (Ok d) × IsPreferred (chosen asking.prefer d.prefers) d.set V
+    × (by ≡ chosen asking.prefer d.prefers)
+    × (doubt_told asking.is_strict asking.prefer d.prefers V ≡ None)
+
+-- why a text says no new set as it is asked for, as a refusal
+abbrev pub new_refusal : AskedFault → CommandRefusal
+new_refusal (asked.Text fault) = refusal.New fault
+new_refusal (asked.Doubt doubt) = refusal.NewDoubtful doubt
+
+-- a text says no new set as the call asks for it: its first fault, or the first doubt of the set
+abbrev pub IsNoNew : Asking → List ℕ → CommandRefusal → Type 0
+IsNoNew asking text (refusal.New fault) = ReadsText text (Err fault)
+IsNoNew asking text (refusal.NewDoubtful doubt) = IsDoubted asking text doubt
+IsNoNew asking text _ = ⊥
 
 -- the text says the new set, and this becomes of both, of which the old one was taken by a preference
-pub record IsComparison (preference : Option Preference) (by : Preference) (U : List Task) (text : List ℕ) (c : Compared) : Type 0 where
+pub record IsComparison (asking : Asking) (by : Preference) (U : List Task) (text : List ℕ) (c : Compared) : Type 0 where
   pub old : c.was_by ≡ by
-  pub new : IsNew preference text c.set c.is_by
+  pub new : IsNew asking text c.set c.is_by
   pub owners : AreOwners text c.owners.items
   pub was : IsPlacingOf U c.was
   pub is : IsPlacingOf c.set c.is
 
 -- the answer on a set and the text of the new one
 abbrev pub ComparesText :
-    Option Preference → Preference → List Task → List ℕ → Result Compared CommandRefusal → Type 0
-ComparesText preference by U text (Ok c) = IsComparison preference by U text c
-ComparesText preference by U text (Err (refusal.New fault)) = ReadsText text (Err fault)
-ComparesText preference by U text (Err refusal.OutOfMemory) = Unit {0}
-ComparesText preference by U text _ = ⊥
+    Asking → Preference → List Task → List ℕ → Result Compared CommandRefusal → Type 0
+ComparesText asking by U text (Ok c) = IsComparison asking by U text c
+ComparesText asking by U text (Err (refusal.New fault)) = ReadsText text (Err fault)
+ComparesText asking by U text (Err (refusal.NewDoubtful doubt)) = IsDoubted asking text doubt
+ComparesText asking by U text (Err refusal.OutOfMemory) = Unit {0}
+ComparesText asking by U text _ = ⊥
 
 -- what becomes of the new set, and what became of the old one
 abbrev pub both_lines : List Task → Placing → List Task → Placing → List ℕ
@@ -56,7 +73,8 @@ compared_lines owners U c =
     ++ named_lines Changes (c.owners.items ++ owners)
     (change_lines (both_weigh c.was_by c.is_by) U c.was c.set c.is)
 
--- the answer on what the readers had is printed after what the writer held, and the status is that of the new set
+-- the answer on what the readers had is printed after what the writer held, and the status is that of the new set; of the
+-- old one no doubt is told
 abbrev pub SaysCompared : OfTwoSays
-SaysCompared preference =
-    SaysOnBothOwned (ComparesText preference) compared_lines (λ c. placing_status c.is) preference
+SaysCompared asking =
+    SaysOnBothOwned (ComparesText asking) compared_lines (λ c. placing_status c.is) (lenient asking)

@@ -2,6 +2,7 @@
 use Rattle.std.specs.Prelude.{ℕ, List, Option, Result, Ok, Err}
 use Rattle.task_sheet.specs.Sheet.{Task}
 use Rattle.task_sheet.specs.declared.prefer.Preference.{Preference}
+use Rattle.preferences.specs.declared.asking.Asking.{Asking}
 use Rattle.owners.specs.declared.owner.Owner.{Owner}
 use Rattle.answering.specs.Owning.{HaveOwned}
 use Rattle.answering.specs.Printed.{Prints}
@@ -11,40 +12,40 @@ use Rattle.answering.specs.declared.status.Status.{Status}
 
 -- what is said of two readers, by what the call prefers: what the writer held, what it holds then, and the status
 abbrev pub OfTwoSays : Type 1
-OfTwoSays = Option Preference → (set other : Option (List ℕ)) → (before after : Option (List ℕ)) → Status → Type 0
+OfTwoSays = Asking → (set other : Option (List ℕ)) → (before after : Option (List ℕ)) → Status → Type 0
 
 -- the answer on what the readers have, where a set and a text have such answers, with the set
 abbrev pub WithSet :
-    {X : Type 0} → (List Task → List ℕ → Result X CommandRefusal → Type 0) → Option Preference
+    {X : Type 0} → (List Task → List ℕ → Result X CommandRefusal → Type 0) → Asking
     → (set other : Option (List ℕ)) → Result (List Task × X) CommandRefusal → Type 0
-WithSet answers preference set other (Ok found) =
-    (text : List ℕ) × HaveBoth preference set other found.0 text
+WithSet answers asking set other (Ok found) =
+    (text : List ℕ) × HaveBoth asking set other found.0 text
     × answers found.0 text (Ok found.1)
-WithSet answers preference set other (Err r) = OnBoth answers preference set other (Err r)
+WithSet answers asking set other (Err r) = OnBoth answers asking set other (Err r)
 
 -- the same with whose its tasks are, too, where the answers rest on the preference by which the set is taken
 abbrev pub WithOwners :
     {X : Type 0} → (Preference → List Task → List ℕ → Result X CommandRefusal → Type 0)
-    → Option Preference
+    → Asking
     → (set other : Option (List ℕ)) → Result (List Task × List Owner × X) CommandRefusal → Type 0
-WithOwners answers preference set other (Ok found) =
-    (by : Preference) × (text : List ℕ) × HaveOwned preference set other by found.0 found.1 text
+WithOwners answers asking set other (Ok found) =
+    (by : Preference) × (text : List ℕ) × HaveOwned asking set other by found.0 found.1 text
     × answers by found.0 text (Ok found.2)
-WithOwners answers preference set other (Err r) =
-    (by : Preference) × OnBoth (answers by) preference set other (Err r)
+WithOwners answers asking set other (Err r) =
+    (by : Preference) × OnBoth (answers by) asking set other (Err r)
 
 -- the answer on what the readers had is printed after what the writer held, and the status is the answer's
 abbrev pub SaysOnBoth :
     {X : Type 0} → (List Task → List ℕ → Result X CommandRefusal → Type 0) → (List Task → X → List ℕ)
     → (X → Status) → OfTwoSays
-SaysOnBoth answers lines done preference set other before after s =
-    Prints (WithSet answers preference set other) (λ found. lines found.0 found.1)
+SaysOnBoth answers lines done asking set other before after s =
+    Prints (WithSet answers asking set other) (λ found. lines found.0 found.1)
     (λ found. done found.1) before after s
 
 -- the same, where whose the tasks are is printed, too
 abbrev pub SaysOnBothOwned :
     {X : Type 0} → (Preference → List Task → List ℕ → Result X CommandRefusal → Type 0)
     → (List Owner → List Task → X → List ℕ) → (X → Status) → OfTwoSays
-SaysOnBothOwned answers lines done preference set other before after s =
-    Prints (WithOwners answers preference set other) (λ found. lines found.1 found.0 found.2)
+SaysOnBothOwned answers lines done asking set other before after s =
+    Prints (WithOwners answers asking set other) (λ found. lines found.1 found.0 found.2)
     (λ found. done found.2) before after s

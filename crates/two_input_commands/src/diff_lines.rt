@@ -1,18 +1,16 @@
 //! `desk diff`.
-ghost use Rattle.std.specs.Prelude.{◌≡◌, ◌++◌, Err, IfOk, MatchResult, string_bytes};
+ghost use Rattle.std.specs.Prelude.{◌≡◌, ◌++◌, IfOk, MatchResult, string_bytes};
 ghost use Rattle.assignment.specs.Placings.{IsPlacingOf};
-ghost use Rattle.two_input_commands.specs.Diff.{ComparesText, IsNew, both_lines, compared_lines};
-ghost use Rattle.teams.specs.ReadsText.{ReadsText};
+ghost use Rattle.two_input_commands.specs.Diff.{ComparesText, IsNew, IsNoNew, both_lines, compared_lines, new_refusal};
 
 use answering::{CommandRefusal, OrderPart, joined, placing_text};
 use assignment::{Placing, place_all};
 use ceilings::{LockTable, Tabled};
 use diff::{Side, change_text, whole_text};
 use owners::{Naming, Owner, named_text, read_owners};
-use preferences::{Preference, read_preferred};
+use preferences::{AskedFault, Asking, Preference, read_asked};
 use std::alloc::{AllocError, Global};
 use task_sheet::TaskSet;
-use teams::TeamsFault;
 
 /// What becomes of a set, and the set that it becomes.
 #[derive(Drop)]
@@ -39,38 +37,47 @@ fn place_set(alloc: Global, set: &TaskSet) -> Result<Placing, AllocError>
     place_all(alloc, &Tabled::of(set, &table))
 }
 
-// The set that a text says, by what the call prefers or else the text, and which that is.
+// Why a text says no new set as it is asked for.
+fn new_refusal(fault: AskedFault) -> CommandRefusal
+    ensures { result ≡ new_refusal fault }
+{
+    match fault {
+        AskedFault::Text(fault) => CommandRefusal::New(fault),
+        AskedFault::Doubt(doubt) => CommandRefusal::NewDoubtful(doubt),
+    }
+}
+
+// The set that a text says, as the call asks for it, and by what it is taken.
+#[tactic(auto, using(crate::proofs::NewRefusals::new_refused_as))]
 fn read_new(
     alloc: Global,
-    preference: Option<Preference>,
+    asking: Asking,
     text: &[u8],
-) -> Result<(TaskSet, Preference), TeamsFault>
-    ensures { MatchResult result (λ new. IsNew preference text.now new.0 new.1)
-        (λ fault. ReadsText text.now (Err fault)) }
+) -> Result<(TaskSet, Preference), CommandRefusal>
+    ensures { MatchResult result (λ new. IsNew asking text.now new.0 new.1)
+        (λ r. IsNoNew asking text.now r) }
 {
-    match read_preferred(alloc, text, preference) {
+    match read_asked(alloc, text, asking) {
         Ok(new) => {
             let by = new.choice.preference();
             Ok((new.set, by))
         }
-        Err(fault) => Err(fault),
+        Err(fault) => Err(new_refusal(fault)),
     }
 }
 
 /// What becomes of a set, which was taken by a preference, and of the one that a text says.
+#[tactic(auto, using(crate::proofs::NewRefusals::new_refused))]
 pub fn compare_text(
     alloc: Global,
-    preference: Option<Preference>,
+    asking: Asking,
     by: Preference,
     tasks: &TaskSet,
     text: &[u8],
 ) -> Result<Compared, CommandRefusal>
-    ensures { ComparesText preference by tasks.now text.now result }
+    ensures { ComparesText asking by tasks.now text.now result }
 {
-    let (set, is_by) = match read_new(alloc, preference, text) {
-        Ok(new) => new,
-        Err(fault) => return Err(CommandRefusal::New(fault)),
-    };
+    let (set, is_by) = read_new(alloc, asking, text)?;
     let owners = read_owners(alloc, text)?;
     let was = place_set(alloc, tasks)?;
     let is = place_set(alloc, &set)?;

@@ -6,12 +6,14 @@ use Rattle.command_line.proofs.words.options_at.Goals as goal
 pub returns-clause-known : goal.returns-clause-known
 returns-clause-known c = record {
   prefer = c.in_ok-prefer.ensures.known;
+  is_strict = c.flag_chosen.ensures;
   task = c.get_str.ensures ∙ first_value-rows (found_of c.args.matches.now) _;
   base = c.number_chosen.ensures;
-  lower_is_higher = c.flag_chosen.ensures;
+  lower_is_higher = c.flag_chosen-2.ensures;
   seed = c.number_chosen-2.ensures;
-  by_task = c.flag_chosen-2.ensures;
+  by_task = c.flag_chosen-3.ensures;
   tolerance = c.number_chosen-3.ensures;
+  jobless = c.flag_chosen-4.ensures;
   from = c.number_chosen-4.ensures;
   to = c.number_chosen-5.ensures;
   width = c.number_chosen-6.ensures;

@@ -20,7 +20,7 @@ say_placing-requires-clause-command g c =
 -- out of memory for what is printed is an answer of its own
 pub returns-in-Ok : goal.returns-in-Ok
 returns-in-Ok g c =
-    let answer = rw c.preference_of-preference.ensures at c.in-Ok.ensures.answer in
+    let answer = rw c.asking_of-asking.ensures at c.in-Ok.ensures.answer in
     rw c.in-Certify.is
     (carried_out c.in-Ok.ensures.read (said_as c.print_verdict.ensures (λ told. elim told [
       | inl wrote ↦ (Ok c.in-Ok.verdict, answer, wrote.0, wrote.1)
@@ -29,8 +29,9 @@ returns-in-Ok g c =
 
 pub returns-in-Err : goal.returns-in-Err
 returns-in-Err g c =
+    let answer = rw c.asking_of-asking.ensures at c.in-Err.ensures.answer in
     rw c.in-Certify.is (refused c.in-Err.ensures.read c.refuse.ensures (λ wrote is. one_refused _ _
-    _ c.in-Err.refusal wrote is Certify c.args.options _ c.in-Err.ensures.answer))
+    _ c.in-Err.refusal wrote is Certify c.args.options _ answer))
 
 pub returns-in-Ok-lines_of : goal.returns-in-Ok-lines_of
 returns-in-Ok-lines_of g c =
@@ -46,13 +47,14 @@ returns-in-Err-lines_of g c =
 
 pub returns-in-Ok-place : goal.returns-in-Ok-place
 returns-in-Ok-place g c =
-    let placed = rw c.preference_of-preference.ensures at c.in-Ok-place.ensures.answer in
+    let placed = rw c.asking_of-asking.ensures at c.in-Ok-place.ensures.answer in
     carried_out c.in-Ok-place.ensures.read (said_as c.say_placing.ensures
     (λ told.
     told (g.R.Read.remaining c.args.input.now.inner) (rw c.deref.ensures.value placed.0)))
 
 pub returns-in-Err-place : goal.returns-in-Err-place
 returns-in-Err-place g c =
+    let answer = rw c.asking_of-asking.ensures at c.in-Err-place.ensures.answer in
     refused c.in-Err-place.ensures.read c.refuse-in-Err-place.ensures
     (λ wrote is. placed_refused _ _ _ c.in-Err-place.refusal wrote is c.args.command c.args.options
-    _ c.in_default.not-Play c.in-Err-place.ensures.answer)
+    _ c.in_default.not-Play answer)

@@ -1,9 +1,9 @@
 use Rattle.std.proofs.Common.{ℕ, List, Option, Ok, Err, inl, inr, string_bytes}
 use Rattle.task_sheet.specs.Sheet.{Task}
-use Rattle.task_sheet.specs.declared.prefer.Preference.{Preference}
+use Rattle.preferences.specs.declared.asking.Asking.{Asking}
 use Rattle.assignment.specs.declared.placing.Placing.{Placing}
 use Rattle.set_commands.specs.Admit.{Places, SaysPlacing}
-use Rattle.answering.specs.Chosen.{base_of, preference_of}
+use Rattle.answering.specs.Chosen.{base_of, asking_of}
 use Rattle.answering.specs.OrderParts.{placing_said}
 use Rattle.answering.specs.Printed.{IsPrinted}
 use Rattle.answering.specs.Statuses.{placing_status}
@@ -15,21 +15,21 @@ use Rattle.answering.proofs.CarriedOut.{made_printed, said_as}
 use Rattle.desk_cli.proofs.of_one.say_placing.Goals as goal
 
 -- what is printed of a placing is the answer on what a reader has; out of memory for it is an answer of its own
-printed_says : (part : OrderPart) (preference : Option Preference)
+printed_says : (part : OrderPart) (asking : Asking)
     (known before after : Option (List ℕ)) (U : List Task) (p : Placing) (s : Status)
-    → Places preference known (Ok (U, p))
+    → Places asking known (Ok (U, p))
     → IsPrinted before after (placing_said part U p) (placing_status p) s
-    → SaysPlacing part preference known before after s
-printed_says part preference known before after U p s placed (inl wrote) =
+    → SaysPlacing part asking known before after s
+printed_says part asking known before after U p s placed (inl wrote) =
     (Ok (U, p), placed, wrote.0, wrote.1)
-printed_says part preference known before after U p s placed (inr want) =
+printed_says part asking known before after U p s placed (inr want) =
     (Err refusal.OutOfMemory, tt, want.0, want.1)
 
 pub returns-in-Admit : goal.returns-in-Admit
 returns-in-Admit g c =
     rw c.in-Admit.is (said_as (made_printed c.placing_text-text.result (λ t. string_bytes t) _ _
     c.placing_text-text.ensures c.print_made.ensures) (λ told. λ known has.
-    printed_says Levels (preference_of c.args.options) known _ _ c.args.set.now
+    printed_says Levels (asking_of c.args.options) known _ _ c.args.set.now
     c.args.placing.now _ ((has.0, has.1, has.2.set), c.requires.placing)
     (rw c.placing_status-status.ensures at told)))
 
@@ -38,7 +38,7 @@ returns-in-Settings g c =
     rw c.in-Settings.is (said_as (made_printed c.placing_text-text-in-Settings.result
     (λ t. string_bytes t) _ _ c.placing_text-text-in-Settings.ensures
     c.print_made-in-Settings.ensures) (λ told. λ known has.
-    printed_says (Settings (base_of c.args.options)) (preference_of c.args.options) known _ _
+    printed_says (Settings (base_of c.args.options)) (asking_of c.args.options) known _ _
     c.args.set.now c.args.placing.now _ ((has.0, has.1, has.2.set), c.requires.placing)
     (rw (c.base_of.ensures, c.placing_status-status.ensures) at told)))
 

@@ -5,7 +5,7 @@ use Rattle.set_commands.proofs.one_task.say_all.Goals as goal
 
 pub returns-in-Limits : goal.returns-in-Limits
 returns-in-Limits g c =
-    rw c.in-Limits.is (said_as c.print_placing.ensures (λ told. λ preference known has. elim told [
+    rw c.in-Limits.is (said_as c.print_placing.ensures (λ told. λ asking known has. elim told [
       | inl listed ↦ (
         Ok (record {
           set = c.args.set.now;
@@ -25,7 +25,7 @@ pub returns-in-Reasons : goal.returns-in-Reasons
 returns-in-Reasons g c =
     rw c.in-Reasons.is (made_said c.explained_text.result (λ t. t.items) _ c.explained_text.ensures
     c.print_bytes.ensures
-    (λ text found wrote is. λ preference known has. (
+    (λ text found wrote is. λ asking known has. (
       Ok (record {
         set = c.args.set.now;
         owners = c.args.owners.now;
@@ -37,16 +37,16 @@ returns-in-Reasons g c =
       rw found.4 at wrote,
       is ∙ c.placing_status-status.ensures,
     ))
-    (λ wrote is. λ preference known has. (Err refusal.OutOfMemory, tt, wrote, is)))
+    (λ wrote is. λ asking known has. (Err refusal.OutOfMemory, tt, wrote, is)))
 
 pub returns-in-Worst : goal.returns-in-Worst
 returns-in-Worst g c =
     rw c.in-Worst.is (made_said c.worst_text.result (λ t. string_bytes t) _ c.worst_text.ensures
     c.print_made.ensures
-    (λ text lines wrote is. λ preference known has. (
+    (λ text lines wrote is. λ asking known has. (
       Ok (record { set = c.args.set.now; placing = c.args.placing.now; lines = string_bytes text }),
       (((has.0, has.1, has.2.set), c.requires), lines),
       wrote,
       is ∙ c.placing_status-status.ensures,
     ))
-    (λ wrote is. λ preference known has. (Err refusal.OutOfMemory, tt, wrote, is)))
+    (λ wrote is. λ asking known has. (Err refusal.OutOfMemory, tt, wrote, is)))

@@ -10,7 +10,7 @@ pub returns-in-Some : goal.returns-in-Some
 returns-in-Some g c =
     let named = sym c.find_task.ensures.found ∙ c.in-Some.is in
     made_said c.task_text.result (λ t. t.items) _ c.task_text.ensures c.print_bytes.ensures
-    (λ text found wrote is. λ preference known has. (
+    (λ text found wrote is. λ asking known has. (
       Ok (record {
         set = c.args.set.now;
         owners = c.args.owners.now;
@@ -21,14 +21,14 @@ returns-in-Some g c =
       rw found.2 at wrote,
       is ∙ c.placing_status-status.ensures,
     ))
-    (λ wrote is. λ preference known has. (Err refusal.OutOfMemory, tt, wrote, is))
+    (λ wrote is. λ asking known has. (Err refusal.OutOfMemory, tt, wrote, is))
 
 pub returns-in-None : goal.returns-in-None
 returns-in-None g c =
     let none = sym c.find_task.ensures.found ∙ c.in-None.is in
     shown c.refuse.ensures (ap refusal_line c.no_such_task.ensures)
     (ap status_of c.no_such_task.ensures) (λ is. cc)
-    (λ wrote is. λ preference known has. (
+    (λ wrote is. λ asking known has. (
       Err (no_such_task c.args.word.now),
       (c.args.set.now, c.args.placing.now, ((has.0, has.1, has.2.set), c.requires), none, refl),
       wrote,

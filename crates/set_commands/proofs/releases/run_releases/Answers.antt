@@ -5,7 +5,7 @@ use Rattle.set_commands.proofs.releases.run_releases.Goals as goal
 
 pub returns-in-Ok-list_text : goal.returns-in-Ok-list_text
 returns-in-Ok-list_text g c =
-    let answer = rw c.preference_of-preference.ensures at c.in-Ok.ensures.answer in
+    let answer = rw c.asking_of-asking.ensures at c.in-Ok.ensures.answer in
     let lines = c.as_bytes.ensures.value ∙ rw c.deref.ensures.value at c.in-Ok-list_text.ensures in
     carried_out c.in-Ok.ensures.read (shown c.print.ensures lines refl done_ends
     (λ wrote is. (Ok c.in-Ok.releases, answer, wrote, is)))
@@ -17,6 +17,6 @@ returns-in-Ok g c = carried_out c.in-Ok.ensures.read
 
 pub returns : goal.returns
 returns g c =
-    let answer = rw c.preference_of-preference.ensures at c.in-Err.ensures.answer in
+    let answer = rw c.asking_of-asking.ensures at c.in-Err.ensures.answer in
     refused c.in-Err.ensures.read c.refuse-in-Err.ensures
     (λ wrote is. (Err c.in-Err.refusal, answer, wrote, is))

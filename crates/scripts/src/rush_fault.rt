@@ -1,4 +1,4 @@
-//! Why there is no log.
+//! Why the teams of a script have no log.
 
 use std::alloc::{AllocError, AllocFailed};
 
@@ -19,7 +19,7 @@ pub enum RushFault {
 
 impl From<AllocError> for RushFault {
     ghost use Rattle.std.specs.Prelude.{◌≡◌};
-    ghost use Rattle.rushes.specs.declared.fault.RushFault.TheVariants.{OutOfMemory};
+    ghost use Rattle.scripts.specs.declared.rush_fault.RushFault.TheVariants.{OutOfMemory};
 
     ghost from_gives = { λ _ fault. fault ≡ OutOfMemory };
 
@@ -30,7 +30,7 @@ impl From<AllocError> for RushFault {
 
 impl<T: Drop> From<AllocFailed<T>> for RushFault {
     ghost use Rattle.std.specs.Prelude.{◌≡◌};
-    ghost use Rattle.rushes.specs.declared.fault.RushFault.TheVariants.{OutOfMemory};
+    ghost use Rattle.scripts.specs.declared.rush_fault.RushFault.TheVariants.{OutOfMemory};
 
     ghost from_gives = { λ _ fault. fault ≡ OutOfMemory };
 

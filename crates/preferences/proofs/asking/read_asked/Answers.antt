@@ -1,0 +1,26 @@
+use Rattle.std.proofs.Common.{◌∙◌, sym}
+use Rattle.preferences.proofs.ToldLaws.{told_as}
+use Rattle.preferences.proofs.asking.read_asked.Goals as goal
+
+pub returns-in-None : goal.returns-in-None
+returns-in-None c =
+    let read = c.in-Ok.ensures in (
+      read.0,
+      read.1,
+      read.2,
+      read.3,
+      read.4,
+      told_as c.args.asking.is_strict _ _ _ _ c.in-Ok.read.set _ read.2 read.3
+          (sym c.in-None.is ∙ c.doubt_told.ensures),
+    )
+
+pub returns-in-Some : goal.returns-in-Some
+returns-in-Some c =
+    let read = c.in-Ok.ensures in (
+      read.0,
+      c.in-Ok.read.set,
+      read.1,
+      read.4,
+      told_as c.args.asking.is_strict _ _ _ _ c.in-Ok.read.set _ read.2 read.3
+          (sym c.in-Some.is ∙ c.doubt_told.ensures),
+    )
