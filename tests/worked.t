@@ -460,10 +460,13 @@ Of three tasks the order that keeps one above another; those in the way, or the 
   thread c 1
   thread b 2
   thread a 3
+  # moved b 1 2
+  # moved a 2 3
   $ kept three-tasks 'thread c 1\nthread b 2\n'
   thread c 1
   thread a 2
   thread b 3
+  # moved b 2 3
   $ kept three-tasks 'thread a 1\nthread c 2\n'
   parted a c
   [3]
@@ -477,10 +480,10 @@ Of three tasks the order that keeps one above another; those in the way, or the 
   parted brake camera
   [3]
   $ kept shared-lock 'thread hi 9\nthread gone 5\nthread lo 3\nthread mid 7\n'
-  thread lo 1
-  thread mid 2
-  thread hi 3
-  mutex m 3
+  thread lo 3
+  thread mid 7
+  thread hi 9
+  mutex m 9
   $ kept shared-lock 'mutex none 1\nmutex none 1\nthread mid 1000000\n' | head -n 1
   thread lo 1
   $ for text in 'thread gone 1\nthread gone 1\nthread\n' 'thread gone 1\nthread other 1\nthread gone 2\n' 'thread gone 1\nthread lo 1\n' 'thread lo 0\n'; do kept shared-lock "$text"; done

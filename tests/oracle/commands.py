@@ -273,12 +273,14 @@ def read_change(data, preference):
 
 
 @with_order
-def settings_of(tasks, order, base=1):
-    return settings.settings(tasks, order, base)
+def settings_of(tasks, order, base=1, room=0):
+    return settings.settings(tasks, order, base, room)
 
 
-def keep(tasks, rows, base=1):
-    return settings.keep(tasks, settings.kept_order(tasks, rows), base)
+def keep(tasks, rows, base=1, room=0):
+    kept = settings.kept_order(tasks, rows)
+    old = {name: number for _, name, number in settings.of_kind(rows, "thread")}
+    return settings.keep(tasks, kept, old, base, room)
 
 
 def judge(tasks, rows, lower_is_higher=False):
@@ -385,7 +387,7 @@ COMMANDS = {
     "check": on_set(check, certificate.read),
     "explain": on_set(explain, options=AT, by_file=("at", EXPLAIN_AT)),
     "limits": on_set(limits_of, options=AT, by_file=("at", LIMITS_AT)),
-    "settings": on_set(settings_of, options={**PREFERS, "keep": calls.any_word, "base": calls.number_within(1, settings.BASE_MOST)}, by_file=("keep", KEEP)),
+    "settings": on_set(settings_of, options={**PREFERS, "keep": calls.any_word, "base": calls.number_within(1, settings.BASE_MOST), "room": calls.number_within(0, settings.ROOM_MOST)}, by_file=("keep", KEEP)),
     "judge": on_set(judge, settings.read_settings, options={**PREFERS, "lower-is-higher": calls.FLAG}),
     "diff": on_set(diff, read_change),
     "simulate": on_set(simulate, kernel.read_releases, options={**PREFERS, "tasks": calls.FLAG}),

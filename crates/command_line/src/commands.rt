@@ -75,7 +75,13 @@ const COMMANDS: [Listed; 16] = [
     Listed {
         verb: Verb::One(OfOne::Settings),
         word: "settings",
-        options: &[Choice::Prefer, Choice::Strict, Choice::Base, Choice::Keep],
+        options: &[
+            Choice::Prefer,
+            Choice::Strict,
+            Choice::Base,
+            Choice::Room,
+            Choice::Keep,
+        ],
         about: "Prints the level of each thread and the ceiling of each mutex in the best order",
         example: example!(
             "settings examples/shared-lock.toml",

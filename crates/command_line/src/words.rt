@@ -98,6 +98,7 @@ fn options_at<'a>(matches: &ArgMatches<'a>) -> Option<Options<'a>>
         width: number_chosen(matches, Choice::Width),
         title: matches.get_str("title"),
         rows: matches.get_str("rows"),
+        room: number_chosen(matches, Choice::Room),
     })
 }
 

@@ -7,7 +7,7 @@ ghost use Rattle.answering.specs.Outcomes.{IsCarriedOutOnBoth, IsSaidOn};
 
 use answering::{
     Audience, Both, CommandRefusal, Status, Which, asking_of, base_of, placing_status, print,
-    print_bytes, print_made, read_two, refuse, tell,
+    print_bytes, print_made, read_two, refuse, room_of, tell,
 };
 use cert_checker::Checked;
 use command_line::{OfTwo, Options};
@@ -22,7 +22,7 @@ use std::io::{Read, Write};
 use streams::Watched;
 use task_sheet::{Members, Name, Preference, TaskSet};
 use two_input_commands::{
-    Compared, Drawing, InOrder, Observation, Simulated, check_text, checked_line, compare_text,
+    Compared, Drawing, InOrder, KeptNode, Observation, Simulated, check_text, checked_line, compare_text,
     compared_text, draw_text, explain_at, explained_at_text, judge_text, judged_status, keep_text,
     keeping_status, keeping_text, leeway_of, limits_at, observe_text, print_drawing,
     print_observation, print_reached, print_simulated, simulate_text, worst_at,
@@ -45,8 +45,12 @@ pub enum Found {
     Drawn(Drawing),
     /// What a trace shows, and what of it is let pass.
     Observed(Leeway, Observation),
-    /// What becomes of a set that is to keep the order that settings give, and the priority of level 1.
-    Keeping { keeping: Keeping, base: u32 },
+    /// What becomes of a set that is to keep the order and the numbers that settings give, from the base on, with room.
+    Keeping {
+        node: KeptNode,
+        base: u32,
+        room: u32,
+    },
     /// The worst case of a task in the order that settings give.
     WorstAt(InOrder),
     /// What explains the order that settings give, without the teams of its tasks.
@@ -91,8 +95,9 @@ fn find(
             Ok(Found::Observed(leeway_of(options), shown))
         }
         OfTwo::Keep => Ok(Found::Keeping {
-            keeping: keep_text(alloc, tasks, text)?,
+            node: keep_text(alloc, tasks, text)?,
             base: base_of(options),
+            room: room_of(options),
         }),
         OfTwo::WorstAt => Ok(Found::WorstAt(worst_at(alloc, options.task, tasks, text)?)),
         OfTwo::LimitsAt => Ok(Found::LimitedAt(limits_at(alloc, options.task, tasks, text)?)),
@@ -129,9 +134,9 @@ fn print_found<W: Write + Drop>(
         Found::Observed(leeway, shown) => {
             print_observation(alloc, tasks, *leeway, shown, output)
         }
-        Found::Keeping { keeping, base } => print_made(
-            keeping_text(alloc, tasks, *base, keeping),
-            keeping_status(keeping),
+        Found::Keeping { node, base, room } => print_made(
+            keeping_text(alloc, tasks, *base, *room, node),
+            keeping_status(&node.keeping),
             output,
         ),
         Found::WorstAt(found) => print(
@@ -220,7 +225,7 @@ fn tell_found<P: Audience>(
         Found::Simulated(answer) | Found::Reached(answer) => tell_run(answer, tasks, people),
         Found::Drawn(drawing) => tell_run(&drawing.answer, tasks, people),
         Found::Observed(_, shown) => tell_seen(shown, tasks, people),
-        Found::Keeping { keeping, .. } => tell_kept(keeping, tasks, text, people),
+        Found::Keeping { node, .. } => tell_kept(&node.keeping, tasks, text, people),
         _ => {}
     }
 }

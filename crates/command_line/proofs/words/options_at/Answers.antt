@@ -9,6 +9,7 @@ returns-clause-known c = record {
   is_strict = c.flag_chosen.ensures;
   task = c.get_str.ensures ∙ first_value-rows (found_of c.args.matches.now) _;
   base = c.number_chosen.ensures;
+  room = c.number_chosen-7.ensures;
   lower_is_higher = c.flag_chosen-2.ensures;
   seed = c.number_chosen-2.ensures;
   by_task = c.flag_chosen-3.ensures;
