@@ -88,7 +88,7 @@ size_t desk_draw(const uint8_t *set, size_t set_length, const uint8_t *releases,
                  size_t room_length, uint8_t *status);
 
 /* What a trace of a node shows of each task, and which promises it breaks, at the levels of the best order or of that which
- * the trace gives; no time may be past what is promised. */
+ * the trace gives; no time may be past what is promised, and each task is to have a job. */
 size_t desk_observe(const uint8_t *set, size_t set_length, const uint8_t *trace, size_t trace_length, uint8_t *room,
                     size_t room_length, uint8_t *status);
 

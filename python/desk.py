@@ -395,9 +395,10 @@ class Seen:
 
 @dataclass(frozen=True)
 class Broken:
-    """A promise that a job breaks, by its arrival: `kind` is cost, period, bound, open, blocked,
-    late, foreign or idle; `time` beside its `limit`, and `by` whom, where there is one. Of tasks below
-    that blocked it, `by` did so longest, for `by_time`; then `next_by`, for `next_time`."""
+    """A promise that a job breaks, by its arrival: `kind` is priority, cost, period, late, blocked,
+    foreign, idle, bound or open; `time`, or the priority, beside its `limit`, and `by` whom, where
+    there is one. Of tasks below that blocked it, `by` did so longest, for `by_time`; then `next_by`,
+    for `next_time`. It follows from `after`: the kind, task and arrival of another."""
 
     kind: str
     task: str
@@ -408,18 +409,21 @@ class Broken:
     by_time: int | None = None
     next_by: str | None = None
     next_time: int | None = None
+    after: tuple[str, str, int] | None = None
 
 
 @dataclass(frozen=True)
 class Observed(_Answer):
-    """What a trace shows of each task, the lowest level first, and which promises are broken. It is
-    false where one is."""
+    """What a trace shows of each task, the lowest level first, which of them have no job, and which
+    promises are broken, those that follow from others last. It is false where there is such a task or
+    promise."""
 
     tasks: tuple[Seen, ...]
+    jobless: tuple[str, ...]
     broken: tuple[Broken, ...]
 
     def __bool__(self) -> bool:
-        return not self.broken
+        return not self.jobless and not self.broken
 
 
 @dataclass(frozen=True)
@@ -890,21 +894,31 @@ def observe(tasks: Sheets, trace: Text | Run) -> Observed | Judged | Infeasible:
         return _no(said)
     if said.startswith("misses"):
         return _judged(said)
-    seen, broken = [], []
+    seen, jobless, broken = [], [], []
     for kind, name, *words in (it.split() for it in said.splitlines()):
         if kind == "task":
             seen.append(Seen(name, *(_time(it) for it in words)))
+        elif kind == "jobless":
+            jobless.append(name)
         else:
-            arrival, *time = words[:2]
-            more = dict(zip(words[2::2], words[3::2]))
-            limit = int(more["of"]) if "of" in more else None
-            it = Broken(kind, name, int(arrival), *map(int, time), limit=limit, by=more.get("by"))
-            if kind == "blocked":
-                longest, *others = (part.split() for part in " ".join(words[5:]).split(", "))
-                it = replace(it, by_time=int(longest[1]))
-                it = replace(it, next_by=others[0][0], next_time=int(others[0][1])) if others else it
-            broken.append(it)
-    return Observed(tuple(seen), tuple(broken), text=said)
+            broken.append(_broken(kind, name, words))
+    return Observed(tuple(seen), tuple(jobless), tuple(broken), text=said)
+
+
+def _broken(kind: str, name: str, words: list[str]) -> Broken:
+    place = words.index("after") if "after" in words else len(words)
+    words, cause = words[:place], words[place + 1 :]
+    arrival, *time = words[:2]
+    more = dict(zip(words[2::2], words[3::2]))
+    limit = int(more["of"]) if "of" in more else None
+    it = Broken(kind, name, int(arrival), *map(int, time), limit=limit, by=more.get("by"))
+    if cause:
+        it = replace(it, after=(cause[0], cause[1], int(cause[2])))
+    if kind == "blocked":
+        longest, *others = (part.split() for part in " ".join(words[5:]).split(", "))
+        it = replace(it, by_time=int(longest[1]))
+        it = replace(it, next_by=others[0][0], next_time=int(others[0][1])) if others else it
+    return it
 
 
 def play(script: Text) -> Played:

@@ -615,6 +615,7 @@ A trace that doesn't have a task's jobs, and settings to keep of a thread that n
 
   $ printf '0 1000 hi\njob hi 0 1000\n' | said observe examples/shared-lock.toml -
   note: the trace has no job of lo, mid
+  [3]
   $ printf 'job hi 5 6\njob hi 4 6\n' | said observe examples/shared-lock.toml -
   standard input: line 2, "job hi 4 6" arrives before the job above it: they stand by arrival
   [4]

@@ -112,6 +112,16 @@ What only the node's document may say:
   team arm (yours) has to take it out of teams/arm.toml, or teams/node.toml to give the right: nora or root may change it
   refused: COMMIT "what a job takes"
 
+  $ fresh nora && printf '[locks]\nbus = true\neye = true\n' >> nora/teams/node.toml && save nora locks && push nora | grep '^all'
+  all 1000 -> 1000
+  $ fresh cy && sed -i s/eye/eyes/ cy/teams/cam.toml && save cy eyes && push cy
+  cam.toml: line 1, task 1 (pan), section 1: eyes is no lock in [locks] of node.toml; the nearest is eye: write one that is, or have it added there, eyes = true
+  refused: UnknownLock cam pan 1 eyes
+  team cam (yours) has to take another lock, or teams/node.toml to list eyes: nora or root may change it
+  refused: COMMIT "eyes"
+  $ fresh nora && git -C nora revert --no-edit HEAD > said && push nora | grep '^all'
+  all 1000 -> 1000
+
 What is no document:
 
   $ fresh cy && chmod +x cy/teams/cam.toml && save cy 'run it' && push cy

@@ -1,8 +1,8 @@
 `desk observe SET TRACE` says what a trace of a node shows of each task, and which of its promises a job breaks. Its lines
 are those that `simulate` prints. Of shared-lock.toml the order is lo mid hi, with blocking 0, 4000 and 4000 and bounds
-27000, 7000 and 5000; `observed` takes a trace of it.
+27000, 7000 and 5000; `observed` takes a trace of it, in which some task may have no job.
 
-  $ observed() { printf "$1" | desk observe examples/shared-lock.toml - $2 $3; }
+  $ observed() { printf "$1" | desk observe examples/shared-lock.toml - --jobless $2 $3; }
 
 What `simulate` prints of a set that is admitted breaks nothing:
 
@@ -19,8 +19,8 @@ A mutex without a protocol: mid executes while hi waits for the lock that lo hol
   task lo 1 20000 20000 - 100000 23000 27000
   task mid 1 2000 2000 - 20000 2000 7000
   task hi 1 1000 1000 - 10000 6900 5000
-  bound hi 200 6900 of 5000
   blocked hi 200 5900 of 4000 by lo 3900, mid 2000
+  bound hi 200 6900 of 5000 after blocked hi 200
   [3]
 
 A job past its cost, by one microsecond; and where one is allowed:
@@ -51,8 +51,8 @@ A section longer than its sheet says, for which hi waits too long:
   task lo 1 20000 20000 - 100000 21000 27000
   task mid 0 0 2000 - 20000 - 7000
   task hi 1 1000 1000 - 10000 5001 5000
-  bound hi 100 5001 of 5000
   blocked hi 100 4001 of 4000 by lo 4001
+  bound hi 100 5001 of 5000 after blocked hi 100
   [3]
 
 A job that isn't done when the trace ends, its bound past; until then it may be open:
@@ -62,7 +62,7 @@ A job that isn't done when the trace ends, its bound past; until then it may be 
   task mid 0 0 2000 - 20000 - 7000
   task hi 1 500 1000 - 10000 - 5000
   $ observed '0 500 hi\njob hi 0 -\njob irq 5001 -\n' | grep open
-  open hi 0
+  open hi 0 after idle hi 0
 
 A thread of the node's own, while hi waits; what it executes later delays nobody:
 
@@ -104,7 +104,7 @@ together; a microsecond more isn't:
   > cost = 5000
   > section = [{ locks = ["m"], len = 400 }]
   > END
-  $ taken() { printf "$1" | desk observe taken.toml -; }
+  $ taken() { printf "$1" | desk observe taken.toml - --jobless; }
   $ taken '0 1155 hi\njob hi 0 1155\n'
   task lo 0 0 5015 - 100000 - 6270
   task hi 1 1155 1015 - 10000 1155 1560
@@ -113,8 +113,8 @@ together; a microsecond more isn't:
   $ taken '0 545 lo\n545 1560 hi\njob hi 0 1560\njob lo 0 -\n' | grep -v task
   [1]
   $ taken '0 546 lo\n546 1561 hi\njob hi 0 1561\njob lo 0 -\n' | grep -v task
-  bound hi 0 1561 of 1560
   blocked hi 0 546 of 545 by lo 546
+  bound hi 0 1561 of 1560 after blocked hi 0
   $ taken '0 500 hi\n540 600 irq\n640 1155 hi\njob hi 0 1155\n' | grep -v task
   [1]
   $ taken '0 500 hi\n541 601 irq\n641 1156 hi\njob hi 0 1156\n' | grep -v task
@@ -138,18 +138,68 @@ A job may say when it was ready: later than its jitter, or it waits for sure fro
   $ printf '300 3000 a\n3010 3310 a\njob a 0 3310 300\n' | desk observe examples/jitter.toml - | grep ' a '
   task a 1 3000 3000 - 7000 3310 7000
   idle a 0 10
-  $ printf '0 3000 a\n6000 9000 a\njob a 0 3000\njob a 6000 9000\n' | desk observe examples/jitter.toml - | grep -v task
+  $ printf '0 3000 a\n6000 9000 a\njob a 0 3000\njob a 6000 9000\n' | desk observe examples/jitter.toml - --jobless | grep -v task
   [1]
-  $ printf '0 3000 a\n6000 9000 a\njob a 0 3000 0\njob a 6000 9000\n' | desk observe examples/jitter.toml - | grep -v task
+  $ printf '0 3000 a\n6000 9000 a\njob a 0 3000 0\njob a 6000 9000\n' | desk observe examples/jitter.toml - --jobless | grep -v task
   period a 6000 6000 of 7000
-  $ observed '0 1000 hi @9\njob hi 0 1000\n' | grep hi
-  task hi 1 1000 1000 - 10000 1000 5000
   $ for text in 'job hi 5 9 4' 'job hi 5 9 10' 'job hi 5 - x' 'job hi 5 9 9 9' '0 10 hi 9' '0 10 hi @' '0 10 hi @-1'; do observed "$text\n" 2> /dev/null; done | uniq -c | sed 's/^ *//'
   7 refused: BadLine 1
 
+A slice may say at which priority it ran: at its thread's, which are the levels where no settings stand in front, or the
+ceiling of a lock of its task, as lo's and hi's m. A priority between is none, nor is one below; the first of a job is said, and
+what follows from it behind all else:
+
+  $ observed '0 500 lo @1\n500 600 lo @3\n600 900 hi @3\n900 1000 mid @2\n1000 1100 irq @99\njob lo 0 -\njob hi 600 900\njob mid 900 1000\n' | grep -v task
+  foreign lo 0 100 by irq
+  $ observed '0 500 lo @1\n500 600 lo @2\n600 700 lo @0\njob lo 0 -\n' | grep -v task
+  priority lo 0 2 of 1
+  $ observed '0 5000 lo @1\n5000 7000 mid @3\n7000 8000 hi @2\njob lo 0 -\njob hi 900 8000\njob mid 5000 7000\n' | grep -v task
+  priority hi 900 2 of 3
+  priority mid 5000 3 of 2
+  blocked hi 900 6100 of 4000 by lo 4100, mid 2000 after priority hi 900
+  bound hi 900 7100 of 5000 after priority hi 900
+  $ observed 'thread lo 10\nthread mid 20\nthread hi 30\n0 500 lo @10\n500 600 lo @30\n600 700 hi @3\njob lo 0 -\njob hi 600 700\n' | grep -v task
+  priority hi 600 3 of 30
+  $ observed '0 10 lo @1\njob lo 0 -\n10 20 hi @3\njob hi 10 20\n20 30 mid @3\njob mid 20 30\n' --tolerance 60000000 | grep -v task
+  priority mid 20 3 of 2
+
+A job above that executes too long, arrives too soon or is ready too late delays those below, which are blocked by none. Those
+that it meets at no time it doesn't delay, nor those above it:
+
+  $ observed '0 9000 hi\n9000 11000 mid\njob hi 0 9000\njob mid 100 11000\n' | grep -v task
+  cost hi 0 9000 of 1000
+  bound hi 0 9000 of 5000 after cost hi 0
+  bound mid 100 10900 of 7000 after cost hi 0
+  $ observed '0 1000 hi\n1000 4000 mid\n4000 5000 hi\n8000 9000 mid\njob hi 0 1000\njob mid 1000 9000\njob hi 4000 5000\n' | grep -v task
+  cost mid 1000 4000 of 2000
+  period hi 4000 4000 of 10000
+  idle mid 1000 3000 after cost mid 1000
+  bound mid 1000 8000 of 7000 after cost mid 1000
+  $ observed '0 1001 hi\n1001 8300 lo\n8300 10300 mid\njob hi 0 1001\njob lo 1001 -\njob mid 1001 10300\n' | grep -v task
+  cost hi 0 1001 of 1000
+  blocked mid 1001 7299 of 4000 by lo 7299
+  bound mid 1001 9299 of 7000 after blocked mid 1001
+
+A task without a job is named, unless this is meant; an empty trace is no yes:
+
+  $ printf '0 1000 hi\njob hi 0 1000\n' | desk observe examples/shared-lock.toml -
+  task lo 0 0 20000 - 100000 - 27000
+  task mid 0 0 2000 - 20000 - 7000
+  task hi 1 1000 1000 - 10000 1000 5000
+  jobless lo
+  jobless mid
+  (on standard error) note: the trace has no job of lo, mid
+  [3]
+  $ desk observe examples/shared-lock.toml /dev/null 2> /dev/null | grep -v task
+  jobless lo
+  jobless mid
+  jobless hi
+  $ desk observe examples/shared-lock.toml /dev/null --jobless 2> /dev/null | grep -v task
+  [1]
+
 Where deadlines are preferred, another order may be the best:
 
-  $ desk observe --prefer deadline examples/three-tasks-weighted.toml /dev/null > by-deadline
+  $ desk observe --prefer deadline examples/three-tasks-weighted.toml /dev/null --jobless > by-deadline
   $ desk admit --prefer deadline examples/three-tasks-weighted.toml | sed '1d; s/^[0-9]* \([^ ]*\) .*/\1/' > order
   $ sed 's/^task \([^ ]*\) .*/\1/' by-deadline | cmp - order
 
@@ -169,16 +219,16 @@ ones, and a run that keeps to them breaks nothing, as it would in the set's best
   task hi 1 1000 1000 - 10000 6800 7000
   task mid 1 2000 2000 - 20000 2000 2000
   $ desk observe examples/shared-lock.toml node.trace | grep -v task
-  bound hi 300 6800 of 5000
   blocked hi 300 5800 of 4000 by lo 3900, mid 1900
-  $ { cat node.settings; echo '0 2001 mid'; echo 'job mid 0 2001'; } | desk observe examples/shared-lock.toml -
+  bound hi 300 6800 of 5000 after blocked hi 300
+  $ { cat node.settings; echo '0 2001 mid'; echo 'job mid 0 2001'; } | desk observe examples/shared-lock.toml - --jobless
   task lo 0 0 20000 - 100000 - 27000
   task hi 0 0 1000 - 10000 - 7000
   task mid 1 2001 2000 - 20000 2001 2000
   cost mid 0 2001 of 2000
-  bound mid 0 2001 of 2000
+  bound mid 0 2001 of 2000 after cost mid 0
   [3]
-  $ { cat node.settings; echo '0 2001 mid'; echo 'job mid 0 2001'; } | desk observe examples/shared-lock.toml - --tolerance 1 | grep -v task
+  $ { cat node.settings; echo '0 2001 mid'; echo 'job mid 0 2001'; } | desk observe examples/shared-lock.toml - --jobless --tolerance 1 | grep -v task
   [1]
 
 The best order may be given, too:
@@ -244,7 +294,7 @@ Each refusal, with its line:
   $ seq 0 10000 | sed 's/.*/job x & -/' | desk observe examples/shared-lock.toml -
   refused: TooManyLines
   [4]
-  $ seq 0 9999 | sed 's/.*/job x & -/' | desk observe examples/shared-lock.toml - | grep -c .
+  $ seq 0 9999 | sed 's/.*/job x & -/' | desk observe examples/shared-lock.toml - --jobless | grep -c .
   3
   $ desk observe examples/cost-past-deadline.toml - < examples/shared-lock.toml
   refused: BadLine 5
@@ -263,12 +313,12 @@ sched script` of a run of examples/posix/measure.c, with a thread `foreign` abov
   task mid 1 2048 2000 - 20000 18280 7000
   task hi 1 1015 1000 - 10000 10228 5000
   cost lo 0 20245 of 20000
-  bound lo 0 59359 of 27000
   foreign lo 0 36051 by desk-unproved
-  bound hi 997 10228 of 5000
   foreign hi 997 6009 by foreign
-  bound mid 999 18280 of 7000
   foreign mid 999 12015 by foreign
+  bound lo 0 59359 of 27000 after cost lo 0
+  bound hi 997 10228 of 5000 after foreign hi 997
+  bound mid 999 18280 of 7000 after foreign mid 999
   [3]
 
 A record in which something is wrong ends in a line that isn't one of a trace, so that what it shows isn't taken for all:

@@ -63,6 +63,7 @@ What to set on the node, also where it isn't to change more than it must:
   $ desk settings examples/robot-mended.toml --keep running | grep -e camera -e planner
   thread camera 4
   thread planner 5
+  # moved planner 4 5
 
 Priorities that a node has:
 

@@ -55,6 +55,8 @@ An infeasible set prints as in `admit`, and so does a refused one:
   thread c 999969
   thread b 999970
   thread a 999971
+  # moved b 10 999970
+  # moved a 20 999971
   (on standard error) note: the highest thread is above 99, the most that Linux has for SCHED_FIFO
   $ desk settings examples/watchdog.toml > levels
   $ desk settings --base=1 examples/watchdog.toml | cmp - levels
@@ -67,17 +69,99 @@ An infeasible set prints as in `admit`, and so does a refused one:
   2
   2
 
-`--keep` names the settings of a node whose order stays, as far as the set has its tasks; the best order is another:
+`--room` leaves numbers free beside each, as many as fit below 99 or, with a greater base, below 1,000,000:
+
+  $ desk settings examples/shared-lock.toml --room 9
+  thread lo 10
+  thread mid 20
+  thread hi 30
+  mutex m 30
+  $ desk settings examples/shared-lock.toml --room=30 --base 50
+  thread lo 61
+  thread mid 74
+  thread hi 87
+  mutex m 87
+  $ desk settings examples/shared-lock.toml --room 1000000 --base 98 2> /dev/null
+  thread lo 250073
+  thread mid 500049
+  thread hi 750025
+  mutex m 750025
+  $ desk settings examples/watchdog.toml --room 0 | cmp - levels
+  $ desk settings examples/shared-lock.toml --room 9 | desk judge examples/shared-lock.toml - | head -n 1
+  meets 3
+  $ for room in 1000001 -1 x ''; do desk settings examples/shared-lock.toml --room "$room" 2> /dev/null || echo $?; done
+  2
+  2
+  2
+  2
+
+`--keep` names the settings of a node whose order stays, as far as the set has its tasks; the best order is another. Numbers
+stay, too:
 
   $ printf 'thread b 10\nthread a 20\n' | desk settings examples/three-tasks.toml --keep -
-  thread c 1
-  thread b 2
-  thread a 3
+  thread c 9
+  thread b 10
+  thread a 20
   $ printf 'thread b 3\nthread a 5\nthread gone 4\n' > node
   $ desk settings --keep=node examples/jitter.toml
-  thread c 1
-  thread b 2
-  thread a 3
+  thread c 2
+  thread b 3
+  thread a 5
+
+A new task gets a number between, in the middle of a gap with room for that; mutexes go with their users:
+
+  $ between() { printf "thread lo $1\nthread hi $2\n" | desk settings examples/shared-lock.toml --keep - $3 $4; }
+  $ between 50 60
+  thread lo 50
+  thread mid 51
+  thread hi 60
+  mutex m 60
+  $ between 50 60 --room 3
+  thread lo 50
+  thread mid 54
+  thread hi 60
+  mutex m 60
+  $ between 50 60 --room 50
+  thread lo 50
+  thread mid 55
+  thread hi 60
+  mutex m 60
+
+Where there is no gap as few as possible move, and each is named; none goes above 99, but where one is already:
+
+  $ between 50 51
+  thread lo 50
+  thread mid 51
+  thread hi 52
+  mutex m 52
+  # moved hi 51 52
+  $ between 98 99
+  thread lo 97
+  thread mid 98
+  thread hi 99
+  mutex m 99
+  # moved lo 98 97
+  $ between 99 100
+  thread lo 99
+  thread mid 100
+  thread hi 101
+  mutex m 101
+  # moved hi 100 101
+  $ between 60 61 --room 4
+  thread lo 60
+  thread mid 65
+  thread hi 70
+  mutex m 70
+  # moved hi 61 70
+  $ between 50 51 | desk judge examples/shared-lock.toml - | head -n 1
+  meets 3
+  $ between 1 2 --base 40
+  thread lo 40
+  thread mid 41
+  thread hi 42
+  mutex m 42
+  # moved lo 1 40
+  # moved hi 2 42
 
 Settings of other tasks alone, of mutexes alone and of nothing keep nothing; the settings of the best order keep it:
 

@@ -209,6 +209,44 @@ What `node.toml` says holds for all, its interrupts before the teams', and there
   put 1 p 0 3000 3000 1023 node=28+0+5+0 irq=4000:17+5000:20
   commit 1
 
+`[locks]` has the names that sections may take; a second name is its lock's, so that teams rename one after the other:
+
+  $ mkdir locks
+  $ held() { task "$1" "$2" "$3"; shift 3; printf 'section = [{ locks = [%s], len = 100 }]\n' "$1"; }
+  $ held arm 10000 2000 '"can"' > locks/arm.toml
+  $ held pan 20000 5000 '"bus"' > locks/cam.toml
+  $ desk admit locks 2> said
+  admitted 2
+  1 arm 7000
+  2 pan 5000
+  $ printf '[locks]\nbus = true\ncan = "bus"\nm = true\n' > locks/node.toml
+  $ desk admit locks
+  admitted 2
+  1 arm 7000
+  2 pan 5100
+  $ desk explain locks | sed -n '/blocked/p'
+    blocked 100 by arm section 1 lock bus team arm
+  $ printf '[team.cam]\nsection = 99\n' >> locks/node.toml
+  $ desk admit locks 2> said
+  refused: PastBudget cam section 100 99
+  [4]
+  $ printf '[locks]\nbus = true\ncan = "bus"\nm = true\n' > locks/node.toml
+  $ { task tilt 30000 1000; held pan 20000 5000 '"m"], len = 5 }, { locks = ["buss"'; } > locks/cam.toml
+  $ desk admit locks
+  refused: UnknownLock cam pan 2 buss
+  (on standard error) locks: cam.toml: line 6, task 2 (pan), section 2: buss is no lock in [locks] of node.toml; the nearest is bus: write one that is, or have it added there, buss = true
+  [4]
+  $ held pan 20000 5000 '"can", "m", "bus"' > locks/cam.toml
+  $ desk admit locks
+  refused: team cam task pan LockTwice 1
+  (on standard error) locks: cam.toml: line 1, task 1 (pan): by [locks] of node.toml, section 1: a lock twice
+  [4]
+  $ : > locks/node.toml
+  $ desk admit locks 2> said
+  admitted 2
+  1 arm 7000
+  2 pan 5100
+
 Who has the right may not say otherwise, nor more than the node has room for:
 
   $ printf 'prefer = "weight"\n' > exact/cam.toml
@@ -249,7 +287,7 @@ What is no such document, in the order of its refusals:
   refused: node Syntax
   [4]
   $ told '[[task]]\nname = "a"\n[team]\ncam = 1\n'
-  kept: node.toml: unknown key task; it may have prefer in front, [node], [[interrupt]], and for each team [team.NAME]; a task stands in its team's document
+  kept: node.toml: unknown key task; it may have prefer in front, [node], [[interrupt]], [locks], and for each team [team.NAME]; a task stands in its team's document
   refused: node UnknownKey
   [4]
   $ told '[[team]]\nload = 1\n'
@@ -267,6 +305,18 @@ What is no such document, in the order of its refusals:
   $ told 'node = 3\n'
   kept: node.toml: node has to be a table, headed by [node]; it is 3
   refused: node WrongKind 0 0 node
+  [4]
+  $ told 'locks = ["a"]\n'
+  kept: node.toml: locks has to be a table, headed by [locks]; it is an array
+  refused: node WrongKind 0 0 locks
+  [4]
+  $ told '[locks]\n"a b" = true\n'
+  kept: node.toml: a b is no name of a lock
+  refused: node BadLock
+  [4]
+  $ told '[locks]\na = "b"\nb = "c"\nc = true\n'
+  kept: node.toml: a in [locks] has to be true, or in quotes the name of a lock that is true there: a is a second name of that then; it is the string "b"
+  refused: node BadLock a
   [4]
   $ told '[[interrupt]]\nperiod = 100\ncost = 101\n'
   kept: node.toml: interrupt 1: period has to be from 100 to 10000000, and cost at most period; period is 100, cost is 101

@@ -47,8 +47,8 @@ Help names each command, and of a command its inputs, an example and its statuse
   1
   $ desk observe --help | grep -c '<SET> <TRACE>$'
   1
-  $ desk settings --help | grep -c -e '^ *--keep <SETTINGS>  *[A-Z]' -e '^ *--base <N>  *[A-Z]'
-  2
+  $ desk settings --help | grep -c -e '^ *--keep <SETTINGS>  *[A-Z]' -e '^ *--base <N>  *[A-Z]' -e '^ *--room <N>  *[A-Z]'
+  3
   $ desk releases --help | grep -c '<SET> <UNTIL>$'
   1
   $ for command in explain limits worst; do desk $command --help | grep -c -e '<SET>$' -e '^ *--task <NAME>  *[A-Z]' -e '^ *--at <SETTINGS>  *[A-Z]'; done

@@ -460,10 +460,13 @@ Of three tasks the order that keeps one above another; those in the way, or the 
   thread c 1
   thread b 2
   thread a 3
+  # moved b 1 2
+  # moved a 2 3
   $ kept three-tasks 'thread c 1\nthread b 2\n'
   thread c 1
   thread a 2
   thread b 3
+  # moved b 2 3
   $ kept three-tasks 'thread a 1\nthread c 2\n'
   parted a c
   [3]
@@ -477,10 +480,10 @@ Of three tasks the order that keeps one above another; those in the way, or the 
   parted brake camera
   [3]
   $ kept shared-lock 'thread hi 9\nthread gone 5\nthread lo 3\nthread mid 7\n'
-  thread lo 1
-  thread mid 2
-  thread hi 3
-  mutex m 3
+  thread lo 3
+  thread mid 7
+  thread hi 9
+  mutex m 9
   $ kept shared-lock 'mutex none 1\nmutex none 1\nthread mid 1000000\n' | head -n 1
   thread lo 1
   $ for text in 'thread gone 1\nthread gone 1\nthread\n' 'thread gone 1\nthread other 1\nthread gone 2\n' 'thread gone 1\nthread lo 1\n' 'thread lo 0\n'; do kept shared-lock "$text"; done
@@ -1011,7 +1014,7 @@ Traces
 A third job of hi a tick too soon after the second, with a job of mid between; hi isn't done, and its bound is past by a tick at
 the end; by how much a job breaks a promise, and by which tolerance it doesn't:
 
-  $ seen() { printf "$1" | desk observe examples/shared-lock.toml - --tolerance ${2-0} 2> told; }
+  $ seen() { printf "$1" | desk observe examples/shared-lock.toml - --jobless --tolerance ${2-0} 2> told; }
   $ seen '0 1000 hi\n10000 11000 hi\n15000 17000 mid\n19999 20999 hi\njob hi 0 1000\njob hi 10000 11000\njob mid 15000 17000\njob hi 19999 20999\n'
   task lo 0 0 20000 - 100000 - 27000
   task mid 1 2000 2000 - 20000 2000 7000
@@ -1022,8 +1025,8 @@ the end; by how much a job breaks a promise, and by which tolerance it doesn't:
   task lo 1 20000 20000 - 100000 23000 27000
   task mid 1 2000 2000 - 20000 7001 7000
   task hi 1 1000 1000 - 10000 5000 5000
-  bound mid 0 7001 of 7000
   blocked mid 0 4001 of 4000 by lo 4001
+  bound mid 0 7001 of 7000 after blocked mid 0
   [3]
   $ late='0 1000 hi\n10000 11003 hi\njob hi 0 1000\njob hi 10000 11003\n'
   $ for tolerance in 0 2 3; do seen "$late" $tolerance | grep -c '^cost hi 10000'; done
@@ -1094,6 +1097,7 @@ with a number that it doesn't take:
   > simulate s r --from 1
   > simulate s r --tasks --tasks
   > observe s t --tolerance 60000001
+  > observe s t --jobless --jobless
   > judge s t --tolerance 1
   > worst s --tolerance 1
   > settings s --keep
@@ -1120,7 +1124,7 @@ And words that are right, where no file is there:
   > releases --seed=4294967295 s 100
   > simulate s --tasks r
   > draw s r --from=0 --to 60000000 --width 960 --title a:b --tasks a,b
-  > observe s - --tolerance 60000000
+  > observe s - --tolerance 60000000 --jobless
   > worst s --task a
   > worst --at n s --task=a
   > explain --at=- s

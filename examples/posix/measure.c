@@ -51,7 +51,7 @@ enum { MOST = 1000000000, WORDS = 32 };
 
 struct slice {
     int64_t start, stop;
-    int job;
+    int job, priority;
 };
 
 struct section {
@@ -59,10 +59,10 @@ struct section {
     int64_t at, len;
 };
 
-/* All times in nanoseconds; `last` is the last look at the clock. */
+/* All times in nanoseconds; `last` is the last look at the clock, `priority` that which the kernel has for its thread. */
 struct task {
     char name[25];
-    int level, sections;
+    int level, sections, priority;
     int64_t deadline, cost, bound, last;
     struct slice *slice;
     struct section section[SECTIONS];
@@ -103,13 +103,20 @@ static int is_cut(void)
     return slice_count() == SLICES;
 }
 
-/* A look at the clock: the slice goes on, or a new one begins where something else executed. */
+static int priority_now(void)
+{
+    struct sched_param now;
+    return sched_getparam(0, &now) == 0 ? now.sched_priority : 0;
+}
+
+/* A look at the clock: the slice goes on, or a new one begins where something else executed, or at another priority. */
 static int64_t look_up(struct task *task, int number)
 {
     int64_t time = now(CLOCK_MONOTONIC) - start;
-    if (task->slice == NULL || time - task->last > GAP) {
+    int goes_on = task->slice != NULL && time - task->last <= GAP;
+    if (!goes_on || task->slice->priority != task->priority) {
         task->slice = next_slice();
-        *task->slice = (struct slice){time, time, number};
+        *task->slice = (struct slice){goes_on ? task->last : time, time, number, task->priority};
     }
     return task->slice->stop = task->last = time;
 }
@@ -138,10 +145,12 @@ static int execute_section(struct task *task, int number, const struct section *
     for (int i = 0; i < section->count; i++)
         need(pthread_mutex_lock(&locks[section->locks[i]].mutex), "lock",
              locks[section->locks[i]].name);
+    task->priority = priority_now();
     int more = work(task, number, end - section->at);
     for (int i = section->count; i-- > 0;)
         need(pthread_mutex_unlock(&locks[section->locks[i]].mutex), "unlock",
              locks[section->locks[i]].name);
+    task->priority = priority_now();
     return more;
 }
 
@@ -177,6 +186,7 @@ static void *run_task(void *argument)
     memcpy(name, task->name, sizeof name - 1);
     pthread_setname_np(pthread_self(), name);
     lock_each(task);
+    task->priority = priority_now();
     for (int i = 0, more = 1; more && i < job_count; i++)
         if (&tasks[jobs[i].task] == task) {
             sleep_until(start + jobs[i].ready);
@@ -391,8 +401,8 @@ static void write_trace(FILE *file)
 {
     for (int i = 0; i < slice_count(); i++)
         if (in_set(slices[i].start) < in_set(slices[i].stop))
-            fprintf(file, "%ld %ld %s\n", in_set(slices[i].start), in_set(slices[i].stop),
-                    tasks[jobs[slices[i].job].task].name);
+            fprintf(file, "%ld %ld %s @%d\n", in_set(slices[i].start), in_set(slices[i].stop),
+                    tasks[jobs[slices[i].job].task].name, slices[i].priority - base + 1);
     for (int i = 0; i < job_count; i++)
         fprintf(file, jobs[i].finish != 0 ? "job %s %ld %ld\n" : "job %s %ld -\n",
                 tasks[jobs[i].task].name, in_set(jobs[i].arrival), in_set(jobs[i].finish));

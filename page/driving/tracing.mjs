@@ -52,8 +52,9 @@ export async function tracing() {
   let seen = await observes(set, trace, 'a mutex without a protocol');
   equal(seen.shown.observed, '2 broken promises', 'how many');
   equal((await rows_of('broken')).map(digits).join('|'),
-    'hi, arrived at 200 µs: takes 6900 µs, and its bound is 5000 µs|hi, arrived at 200 µs: ' +
-    'waits 5900 µs for tasks below it, lo longest; its blocking is 4000 µs', 'which');
+    'hi, arrived at 200 µs: waits 5900 µs for tasks below it, lo longest; its blocking is 4000 µs|' +
+    'hi, arrived at 200 µs: takes 6900 µs, and its bound is 5000 µs, after blocked of hi at 200 µs',
+  'which');
   equal(JSON.stringify(await drawn()), JSON.stringify(
     { slices: 5, broken: 1, crosses: 1, beside: (await drawn()).beside,
       names: 'processor,hi,mid,lo' }),

@@ -157,24 +157,27 @@ function read_seen([, name, jobs, ...words]) {
   const [executed, cost, gap, period, response, bound] = words.map(number);
   return { name, jobs: Number(jobs), executed, cost, gap, period, response, bound };
 }
-// `KIND NAME AT`, and as the kind has them a time, what was promised, and by whom.
+// `KIND NAME AT`, and as the kind has them a time, what was promised, by whom, and what it follows from.
 function read_break([kind, name, time, value, ...words]) {
   const after = word => words[words.indexOf(word) + 1];
   return { kind, name, time: Number(time), value: number(value),
     promised: words[0] === 'of' ? Number(words[1]) : null,
-    by: words.includes('by') ? after('by') : null };
+    by: words.includes('by') ? after('by') : null,
+    after: words.includes('after') ? words.slice(words.indexOf('after') + 1) : null };
 }
 export function read_observe({ text, status, told }) {
   if (status !== 0 && status !== 3)
-    return { refused: sentence_of({ text, told }, 'trace'), rows: [], breaks: [] };
+    return { refused: sentence_of({ text, told }, 'trace'), rows: [], jobless: [], breaks: [] };
   const lines = lines_of(text).map(it => it.split(' '));
   if (lines[0]?.[0] === 'infeasible')
-    return { refused: 'No order passes, so a node has nothing to keep to.', rows: [], breaks: [] };
+    return { refused: 'No order passes, so a node has nothing to keep to.', rows: [], jobless: [],
+      breaks: [] };
   if (lines[0]?.[0] === 'misses')
     return { refused: 'In the order of the trace not every deadline is met, so the node has ' +
-      'nothing to keep to.', rows: [], breaks: [] };
+      'nothing to keep to.', rows: [], jobless: [], breaks: [] };
   return { refused: null, rows: lines.filter(it => it[0] === 'task').map(read_seen),
-    breaks: lines.filter(it => it[0] !== 'task').map(read_break) };
+    jobless: lines.filter(it => it[0] === 'jobless').map(([, name]) => name),
+    breaks: lines.filter(it => !['task', 'jobless'].includes(it[0])).map(read_break) };
 }
 
 // `worst`: whose worst case it is, and what the job comes to, or why no list shows it.

@@ -1,9 +1,10 @@
 // What a trace shows of a node, as `observe` prints it, and what the trace is.
 import { coloured, element, grouped, plural, us } from './dom.mjs';
 
-export function observation({ refused, breaks, rows }) {
+export function observation({ refused, jobless, breaks, rows }) {
   if (refused) return { text: refused, is_good: false };
   if (breaks.length) return { text: plural(breaks.length, 'broken promise'), is_good: false };
+  if (jobless.length) return { text: `No job of ${jobless.join(', ')}`, is_good: false };
   const jobs = rows.reduce((sum, it) => sum + it.jobs, 0);
   return { text: `Each promise is kept: ${plural(jobs, 'job')}`, is_good: true };
 }
@@ -28,6 +29,7 @@ export function seen_rows({ rows, breaks }) {
 // ---- what is broken
 
 const BROKEN = {
+  priority: it => `runs at priority ${it.value}, and its own is ${it.promised}`,
   cost: it => `executes ${us(it.value)}, and its cost is ${us(it.promised)}`,
   period: it =>
     `arrives ${us(it.value)} after the one before, and its period is ${us(it.promised)}`,
@@ -39,7 +41,8 @@ const BROKEN = {
   foreign: it => `waits ${us(it.value)} for ${it.by}, which the set doesn't have`,
   idle: it => `waits ${us(it.value)} while nobody executes`,
 };
-export const broken_words = it => BROKEN[it.kind](it);
+const after_words = ([what, name, time]) => `, after ${what} of ${name} at ${us(Number(time))}`;
+export const broken_words = it => BROKEN[it.kind](it) + (it.after ? after_words(it.after) : '');
 const broken_told = it => `${it.name}, arrived at ${us(it.time)}: ${broken_words(it)}`;
 const MANY = 100;
 export function broken_rows({ breaks }) {
@@ -51,8 +54,8 @@ export function broken_rows({ breaks }) {
 // ---- the trace as slices and jobs, and what a release list says of the same arrivals
 
 const TRACE_SETTING = /^(?:thread|mutex) [^ \n]+ \d+$/gm;
-const TRACE_SLICE = /^(\d+) (\d+) ([^ \n]+)$/gm;
-const TRACE_JOB = /^job ([^ \n]+) (\d+) (\d+|-)$/gm;
+const TRACE_SLICE = /^(\d+) (\d+) ([^ \n]+)(?: @\d+)?$/gm;
+const TRACE_JOB = /^job ([^ \n]+) (\d+) (\d+|-)(?: \d+)?$/gm;
 export function read_trace(text) {
   const settings = text.match(TRACE_SETTING) ?? [];
   const slices = [...text.matchAll(TRACE_SLICE)]

@@ -85,12 +85,16 @@ def of_set(rng, subject):
         options += view_of(rng, sheets)
     if subject == "observe" and rng.random() < 0.3:
         options.append(("tolerance", rng.choice(["0", "1", "5", str(rng.randint(0, 5000)), "60000000", "60000001", "", "-1"])))
+    if subject == "observe" and rng.random() < 0.3:
+        options.append(("jobless", None))
     if subject == "judge" and rng.random() < 0.3:
         options.append(("lower-is-higher", None))
         if rng.random() < 0.8:
             inputs[1] = make_lines.turned(inputs[1])
     if subject == "settings" and rng.random() < 0.3:
         options.append(("base", rng.choice(["1", "2", "80", "+007", "999968", "999969", "999970", "0"])))
+    if subject == "settings" and rng.random() < 0.3:
+        options.append(("room", rng.choice(["0", "1", "2", "4", "+030", "1000000", "1000001", "-1"])))
     if subject == "settings" and rng.random() < 0.5:
         others = make_sets.changed(rng, sheets) if rng.random() < 0.7 else sheets
         inputs.append(make_lines.settings_of(rng, sets.by_rank(others)))
@@ -212,7 +216,7 @@ def called(rng, subject, inputs, options=(), number=None, by=None):
 
 
 WORDS = ["-", "--", "set", "set", "none", "folder", "--prefer", "deadline", "--prefer=deadline", "--prefer=weight", "--prefer=name", "--prefer=",
-         "--task", "--task=a", "--task=", "--seed", "--seed=8", "--seed=4294967296", "--tasks", "--tasks=", "--tasks=a,a", "--from", "--from=8", "--to=60000001", "--width=959", "--width=960", "--title", "--title=x", "--tolerance", "--tolerance=8", "--base=1", "--base=0", "--base", "--lower-is-higher", "--lower-is-higher=1", "--keep", "--keep=set", "--keep=-", "--at", "--at=set", "--at=-", "-x", "--x",
+         "--task", "--task=a", "--task=", "--seed", "--seed=8", "--seed=4294967296", "--tasks", "--tasks=", "--tasks=a,a", "--from", "--from=8", "--to=60000001", "--width=959", "--width=960", "--title", "--title=x", "--tolerance", "--tolerance=8", "--jobless", "--jobless=1", "--base=1", "--base=0", "--base", "--room", "--room=1", "--lower-is-higher", "--lower-is-higher=1", "--keep", "--keep=set", "--keep=-", "--at", "--at=set", "--at=-", "-x", "--x",
          "", "0", "1", "8", "9", "+8", "007", "+", "++8", "0x8", "-8", " 8", "8_0", "60000000", "60000001", "1" * 25]  # fmt: skip
 
 

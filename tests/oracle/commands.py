@@ -273,12 +273,14 @@ def read_change(data, preference):
 
 
 @with_order
-def settings_of(tasks, order, base=1):
-    return settings.settings(tasks, order, base)
+def settings_of(tasks, order, base=1, room=0):
+    return settings.settings(tasks, order, base, room)
 
 
-def keep(tasks, rows, base=1):
-    return settings.keep(tasks, settings.kept_order(tasks, rows), base)
+def keep(tasks, rows, base=1, room=0):
+    kept = settings.kept_order(tasks, rows)
+    old = {name: number for _, name, number in settings.of_kind(rows, "thread")}
+    return settings.keep(tasks, kept, old, base, room)
 
 
 def judge(tasks, rows, lower_is_higher=False):
@@ -320,17 +322,19 @@ def script(tasks, team):
     return "".join([f"open {team}\n", *puts, "commit 1\n"]), 0
 
 
-def observe(tasks, said, tolerance=0):
+def observe(tasks, said, tolerance=0, is_jobless=False):
     rows, *trace = said
     if rows:
         order = settings.node_order(tasks, rows)
         if None in settings.bounds_in(tasks, order).values():
             return settings.judge(tasks, order, rows)
+        numbers = {name: number for _, name, number in settings.of_kind(rows, "thread")}
     else:
         order = analysis.best_order(tasks)
         if order is None:
             return admitted(tasks, None), INFEASIBLE
-    return observed.observe(tasks, order, *trace, tolerance)
+        numbers = {tasks[i].name: level for level, i, _ in analysis.levels_of(order)}
+    return observed.observe(tasks, order, numbers, *trace, tolerance, is_jobless)
 
 
 def draw(tasks, said, **options):
@@ -374,6 +378,8 @@ AT = {**OF_TASK, "at": calls.any_word}
 TIME = calls.number_within(0, kernel.HORIZON)
 VIEW = {"from": TIME, "to": TIME, "width": calls.number_within(960, 16_000), "title": calls.any_word, "tasks": calls.any_word}
 
+LEEWAY = {"tolerance": calls.number_within(0, observed.TOLERANCE_MOST), "jobless": calls.FLAG}
+
 
 COMMANDS = {
     "admit": on_set(admit),
@@ -381,21 +387,19 @@ COMMANDS = {
     "check": on_set(check, certificate.read),
     "explain": on_set(explain, options=AT, by_file=("at", EXPLAIN_AT)),
     "limits": on_set(limits_of, options=AT, by_file=("at", LIMITS_AT)),
-    "settings": on_set(settings_of, options={**PREFERS, "keep": calls.any_word, "base": calls.number_within(1, settings.BASE_MOST)}, by_file=("keep", KEEP)),
+    "settings": on_set(settings_of, options={**PREFERS, "keep": calls.any_word, "base": calls.number_within(1, settings.BASE_MOST), "room": calls.number_within(0, settings.ROOM_MOST)}, by_file=("keep", KEEP)),
     "judge": on_set(judge, settings.read_settings, options={**PREFERS, "lower-is-higher": calls.FLAG}),
     "diff": on_set(diff, read_change),
     "simulate": on_set(simulate, kernel.read_releases, options={**PREFERS, "tasks": calls.FLAG}),
     "releases": on_set(releases, number=(0, kernel.HORIZON), options={**PREFERS, "seed": calls.number_within(0, 2**32 - 1)}),
     "worst": on_set(of_task(worst.worst), options=AT, by_file=("at", WORST_AT)),
     "draw": on_set(draw, kernel.read_releases, options={**PREFERS, **VIEW}),
-    "observe": on_set(
-        observe, observed.read_trace, options={**PREFERS, "tolerance": calls.number_within(0, observed.TOLERANCE_MOST)}
-    ),
+    "observe": on_set(observe, observed.read_trace, options={**PREFERS, **LEEWAY}),
     "script": on_set(script, number=(1, scripts.TEAMS)),
     "play": calls.Command(play, (scripts.read_script,)),
     "rush": calls.Command(rush, (scripts.read_script,), (1, scripts.TEAMS)),
 }
-KEYWORDS = {"tasks": "of_tasks", "lower-is-higher": "lower_is_higher", "from": "start", "to": "stop"}  # options by another name
+KEYWORDS = {"tasks": "of_tasks", "lower-is-higher": "lower_is_higher", "from": "start", "to": "stop", "jobless": "is_jobless"}  # options by another name
 OF_THE_ORDER = ("admit", "explain", "limits", "settings", "worst")  # commands whose answer speaks of the order alone
 OF_A_PREFERENCE = (teams.read_set, read_change)  # readers that are told it
 HELP = {(word,) for word in ("help", "-h", "--help", "-V", "--version")}

@@ -204,8 +204,9 @@ def settings_of(rng, tasks):
         place = rng.randrange(len(order) - 1)
         order[place], order[place + 1] = order[place + 1], order[place]
     lines = settings.settings(tasks, order).splitlines()
-    most = rng.choice([len(order), 99, 1_000_000])
-    numbers = [0, *sorted(rng.sample(range(1, max(most, len(order)) + 1), len(order)))]
+    most = max(rng.choice([len(order), len(order) + 2, 99, 1_000_000]), len(order))
+    first = rng.choice([1, 1, most - len(order) + 1 if most < 99 else 1, max(99 - most, 1)])
+    numbers = [0, *sorted(rng.sample(range(first, max(most, first + len(order) - 1) + 1), len(order)))]
     if order and rng.random() < 0.15:
         numbers[-1] = rng.choice([1_000_000, 1_000_001])
     lines = [re.sub(r"\d+$", lambda level: str(numbers[int(level[0])]), line) for line in lines]

@@ -249,7 +249,22 @@ def node_of(rng, parts, sheets, said=b""):
             out += rng.choice(["extra = 1\n", 'load = "1"\n', "section = -1\n", "load = 1.0\n", "section = [1]\n", "load = true\n"])
     if rng.random() < 0.08:
         out = rng.choice(["x = 1\n", "team = 1\n", "team = []\n", "[team]\ncam = 1\n", '[team."1"]\n', "[team.nobody]\n", "[[task]]\n"]) + out
+    if rng.random() < 0.3:
+        out = locks_of(rng, sheets) + out
     return said + out.encode()
+
+
+def locks_of(rng, sheets):
+    """A list of locks that has mostly each that a set uses, some under second names; some of it is wrong."""
+    used = sorted({lock for sheet in sheets for part in sheet.sections for lock in part.locks} | set(rng.sample(LOCKS, 2)))
+    if used and rng.random() < 0.35:
+        used.remove(rng.choice(used))
+    out = {lock: "true" for lock in used}
+    for lock in rng.sample(used, rng.choice([0, 0, 1, 1, 2]) if len(used) > 2 else 0):
+        out[lock] = f'"{rng.choice(used)}"'
+    if rng.random() < 0.1:
+        out[rng.choice(["new", "1", *used])] = rng.choice(["true", "false", "1", '"none"', "[]", '"new"'])
+    return "[locks]\n" + "".join(f'"{lock}" = {value}\n' for lock, value in out.items())
 
 
 def gathered(rng, parts, node=None):

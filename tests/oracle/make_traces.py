@@ -18,8 +18,8 @@ def trace_of(rng, tasks):
     slices, jobs = run_of(rng, tasks, given(tasks, front))
     if rng.random() < 0.4:
         jobs = [readied(rng, tasks, job) if rng.random() < 0.8 else job for job in jobs]
-    if rng.random() < 0.3:
-        slices = [part._replace(priority=rng.choice([1, 2, 99, 9999999999])) for part in slices]
+    if rng.random() < 0.4:
+        slices = ranked(rng, tasks, given(tasks, front), front, slices)
     if rng.random() < 0.75 and slices:
         slices, jobs = rng.choice([longer, sooner, foreign, paused, swapped, stretched, unfinished])(rng, tasks, slices, jobs)
     data = front + make_lines.with_gaps(rng, spelled(rng, slices, jobs).encode())
@@ -65,6 +65,26 @@ def spelled(rng, slices, jobs):
     while lines or more:
         mixed.append((lines if rng.random() * (len(lines) + len(more)) < len(lines) else more).pop(0))
     return "".join(mixed)
+
+
+def ranked(rng, tasks, order, front, slices):
+    """Slices at the priorities of their threads or at ceilings of their locks, now and then at others."""
+    if order is None:
+        return slices
+    said = settings.of_kind(settings.read_settings(front), "thread")
+    numbers = {name: number for _, name, number in said} or {tasks[i].name: level for level, i in enumerate(order, 1)}
+    named = {task.name: task for task in tasks}
+    ceilings = {lock: numbers[tasks[order[level - 1]].name] for lock, level in analysis.ceilings(tasks, order).items()}
+    wrong = rng.choice([0, 0, 0.02, 0.3])
+
+    def one(part):
+        task = named.get(part.name)
+        if task is None or rng.random() < wrong:
+            return part._replace(priority=rng.choice([0, 1, 2, 99, 9999999999, *numbers.values()]))
+        own = [ceilings[lock] for section in task.sections for lock in section.locks]
+        return part._replace(priority=rng.choice([None, numbers[part.name], numbers[part.name], *own]))
+
+    return [one(part) for part in slices]
 
 
 def readied(rng, tasks, job):

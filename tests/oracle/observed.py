@@ -67,11 +67,13 @@ def common(part, since, until):
 
 class Seen:
     """What is seen of a job; `owned` are all slices, each with the number of its job; `taken` says what timers and interrupts
-    may take of a time."""
+    may take of a time; `ranks` are the priorities at which it may run, its thread's first."""
 
-    def __init__(self, number, jobs, owned, end, taken, task, levels, blocking, bound):
+    def __init__(self, number, jobs, owned, end, taken, task, levels, blocking, bound, ranks):
         job = jobs[number]
-        self.job, self.task, self.bound, self.levels = job, task, bound, levels
+        self.job, self.task, self.bound, self.levels, self.number = job, task, bound, levels, ranks[0]
+        ran = [part.priority for part, owner in owned if owner == number and part.priority is not None]
+        self.strays = [priority for priority in ran if priority not in ranks]
         earlier = [other for other in jobs[:number] if other.name == job.name]
         self.gap = job.arrival - earlier[-1].arrival if earlier else None
         self.closest = task.period if earlier and earlier[-1].ready is not None else max(0, task.period - task.jitter)
@@ -88,27 +90,70 @@ class Seen:
         self.may_be_taken = taken(max(0, until - since))
         self.may_be_blocked = blocking + self.may_be_taken
 
-    def broken(self, tolerance):
-        """A line for each promise that the job breaks."""
+    def own(self, tolerance):
+        """A line for each promise that the job, its thread's settings or its timer breaks."""
         at = f"{self.job.name} {self.job.arrival}"
         past = lambda time, most: time - most > tolerance
         limit = lambda most: f" of {most}" if most > 0 else ""
+        if self.strays:
+            yield f"priority {at} {self.strays[0]} of {self.number}"
         if past(self.executed, self.may_execute):
             yield f"cost {at} {self.executed} of {self.may_execute}"
         if self.gap is not None and past(self.closest, self.gap):
             yield f"period {at} {self.gap} of {self.closest}"
         if self.delay is not None and past(self.delay, self.task.jitter):
             yield f"late {at} {self.delay} of {self.task.jitter}"
-        if past(self.lasted, self.bound):
-            yield f"open {at}" if self.job.finish is None else f"bound {at} {self.lasted} of {self.bound}"
+
+    def waits(self, tolerance):
+        """A line for each promise that is broken while it waited."""
+        at = f"{self.job.name} {self.job.arrival}"
+        past = lambda time, most: time - most > tolerance
+        limit = lambda most: f" of {most}" if most > 0 else ""
         if past(total(self.below), self.may_be_blocked):
-            culprits = ", ".join(f"{name} {time}" for name, time in longest(self.below, self.levels)[:2])
+            culprits = ", ".join(f"{name} {time}" for name, time in self.culprits())
             yield f"blocked {at} {total(self.below)} of {self.may_be_blocked} by {culprits}"
         if past(total(self.foreign), self.may_be_taken):
             yield f"foreign {at} {total(self.foreign)}{limit(self.may_be_taken)} by {self.foreign[0][0]}"
         left = max(0, self.may_be_taken - total(self.foreign))
         if past(self.idle, left):
             yield f"idle {at} {self.idle}{limit(left)}"
+
+    def late(self, tolerance):
+        """The line of its bound."""
+        at = f"{self.job.name} {self.job.arrival}"
+        if self.lasted - self.bound > tolerance:
+            yield f"open {at}" if self.job.finish is None else f"bound {at} {self.lasted} of {self.bound}"
+
+    def culprits(self):
+        """The two tasks below that executed longest while it waited."""
+        return longest(self.below, self.levels)[:2]
+
+    def delays(self, other, tolerance):
+        """Whether it may have delayed another job, or itself."""
+        ends = lambda one: one.job.arrival + one.lasted
+        named = other.culprits() if total(other.below) - other.may_be_blocked > 0 else []
+        stands = self.levels[self.job.name] >= other.levels[other.job.name] or self.job.name in [name for name, _ in named]
+        return self.job.arrival < ends(other) and other.job.arrival < ends(self) and stands
+
+
+def cause(line):
+    """The words by which a line is named as a cause."""
+    return " after " + " ".join(line.split(" ")[:3])
+
+
+def broken_lines(seen, tolerance):
+    """What is broken: what jobs break themselves, what follows from nothing that is known, and what follows from something."""
+    own = [(one, line) for one in seen for line in one.own(tolerance)]
+    causes = [(one, next(one.own(tolerance))) for one in dict.fromkeys(one for one, _ in own)]
+    first, behind = [], []
+    for one in seen:
+        from_others = next((cause(line) for other, line in causes if other.delays(one, tolerance)), "")
+        waits = list(one.waits(tolerance))
+        follows = {line: "" if line.startswith("foreign ") else from_others for line in waits}
+        follows |= {line: from_others or (cause(waits[0]) if waits else "") for line in one.late(tolerance)}
+        first += [line for line, why in follows.items() if not why]
+        behind += [line + why for line, why in follows.items() if why]
+    return [line for _, line in own] + first + behind
 
 
 def longest(shares, levels):
@@ -129,8 +174,15 @@ def owner_of(part, jobs):
     return None
 
 
-def observe(tasks, order, slices, jobs, tolerance):
-    """What is printed of a trace, an order that passes being given, and the status."""
+def ranks_of(task, numbers, tasks):
+    """The priorities at which a task may run: its thread's, and the ceilings of its locks."""
+    locks = {lock for section in task.sections for lock in section.locks}
+    users = lambda lock: [other.name for other in tasks if any(lock in section.locks for section in other.sections)]
+    return [numbers[task.name], *(max(numbers[name] for name in users(lock)) for lock in locks)]
+
+
+def observe(tasks, order, numbers, slices, jobs, tolerance, is_jobless):
+    """What is printed of a trace, an order that passes being given with the numbers of its threads, and the status."""
     levels = {tasks[i].name: level for level, i, _ in analysis.levels_of(order)}
     owned = []
     for line, part in slices:
@@ -139,14 +191,22 @@ def observe(tasks, order, slices, jobs, tolerance):
             raise Refused(4, "NoJob", line)
     end = max([part.stop for part, _ in owned] + [job.arrival if job.finish is None else job.finish for job in jobs], default=0)
     promised = {
-        tasks[i].name: (tasks[i], levels, analysis.blocking_of(tasks, i, above), analysis.response_of(tasks, i, above))
+        tasks[i].name: (
+            tasks[i],
+            levels,
+            analysis.blocking_of(tasks, i, above),
+            analysis.response_of(tasks, i, above),
+            ranks_of(tasks[i], numbers, tasks),
+        )
         for _, i, above in analysis.levels_of(order)
     }
     taken = lambda time: analysis.interrupts_within(tasks, time)
     seen = [Seen(k, jobs, owned, end, taken, *promised[job.name]) for k, job in enumerate(jobs) if job.name in promised]
-    lines = [task_line(task, bound, [one for one in seen if one.task is task]) for task, _, _, bound in promised.values()]
-    broken = [line for one in seen for line in one.broken(tolerance)]
-    return "".join(line + "\n" for line in lines + broken), 3 if broken else 0
+    lines = [task_line(task, bound, [one for one in seen if one.task is task]) for task, _, _, bound, _ in promised.values()]
+    named = {one.job.name for one in seen}
+    missing = [f"jobless {name}" for name in promised if name not in named and not is_jobless]
+    broken = broken_lines(seen, tolerance)
+    return "".join(line + "\n" for line in lines + missing + broken), 3 if missing or broken else 0
 
 
 def task_line(task, bound, seen):

@@ -7,7 +7,7 @@ from fractions import Fraction
 
 from lines import Faulty, NUMBER
 from refusals import Refused
-from sets import by_limits, by_rank, INTERRUPTS_MOST, is_name, padded, read_document, read_whole, TASKS_MOST
+from sets import by_limits, by_rank, INTERRUPTS_MOST, is_name, padded, read_document, read_whole, sheet_fault, TASKS_MOST
 from toml_tree import tree_of
 
 MARK = b"#% "
@@ -15,6 +15,7 @@ NODE_HEAD = re.compile(rb"#% ([^ \n]*)\n")
 NODE = "node"
 # What a document may say for all, in the order of refusals.
 OWN = ("prefer", "node", "interrupt")
+LOCKS_MOST = 1024
 HEAD = re.compile(rb"#% ([^ \n]*) ([^ \n]*)\n")
 ENDING = ".toml"
 
@@ -42,7 +43,7 @@ def read_teams(data):
     """What the documents prefer, and their node, if one says so, the interrupts and sheets of all, document by document, and
     the team of each sheet."""
     document, data = node_document(data)
-    own, budgets = ((None, None, ()), {}) if document is None else read_node_document(document)
+    own, locks, budgets = ((None, None, ()), None, {}) if document is None else read_node_document(document)
     teams, said_by, part = [], [], 0
     while data:
         part += 1
@@ -58,6 +59,8 @@ def read_teams(data):
             keys = [key for key, it in zip(OWN, said) if it is not None and it != ()]
             if keys and not budgets.get(team, {}).get("node", False):
                 raise Refused(4, "NodesOwn", team, keys[0])
+    if locks is not None:
+        teams = [(team, [named(locks, team, sheet) for sheet in sheets], more) for team, sheets, more in teams]
     said_by.insert(0, (NODE, own))
     preferring, overheads_of = ([(team, said[k]) for team, said in said_by if said[k] is not None] for k in (0, 1))
     interrupts = tuple(one for _, said in said_by for one in said[2])
@@ -94,13 +97,42 @@ def read_node_document(data):
     """What the node's document says for all, and what each team may take and say, by its name."""
     try:
         root = tree_of(data)
-        if set(root) - {"team", *OWN}:
+        if set(root) - {"team", "locks", *OWN}:
             raise Refused(4, "UnknownKey")
         own = read_whole(root)
+        locks = read_locks(root["locks"]) if "locks" in root else None
         read_teams_of(root.get("team", {}))
     except Refused as refusal:
         raise refusal.behind("node") from None
-    return own, root.get("team", {})
+    return own, locks, root.get("team", {})
+
+
+def read_locks(table):
+    """The lock that each listed name is of."""
+    if not isinstance(table, dict):
+        raise Refused(4, "WrongKind", 0, 0, "locks")
+    locks = {}
+    for name, value in sorted(table.items(), key=lambda it: it[0].encode()):
+        if not is_name(name):
+            raise Refused(4, "BadLock")
+        if value is not True and (not isinstance(value, str) or table.get(value) is not True or not is_name(value)):
+            raise Refused(4, "BadLock", name)
+        locks[name] = name if value is True else value
+    if len(locks) > LOCKS_MOST:
+        raise Refused(4, "TooManyLocks")
+    return locks
+
+
+def named(locks, team, sheet):
+    """A team's sheet, each lock in it by its own name."""
+    for number, section in enumerate(sheet.sections, 1):
+        for lock in section.locks:
+            if lock not in locks:
+                raise Refused(4, "UnknownLock", team, sheet.name, number, lock)
+    sheet = sheet._replace(sections=tuple(it._replace(locks=tuple(map(locks.get, it.locks))) for it in sheet.sections))
+    if sheet_fault(sheet):
+        raise Refused(4, "team", team, "task", sheet.name, *sheet_fault(sheet))
+    return sheet
 
 
 def read_teams_of(budgets):

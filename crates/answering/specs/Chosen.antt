@@ -6,7 +6,7 @@ use Rattle.preferences.specs.declared.asking.Asking.{Asking}
 use Rattle.command_line.specs.declared.calls.Preferred.{Preferred}
 use Rattle.command_line.specs.declared.calls.Preferred.TheVariants as preferred
 use Rattle.command_line.specs.declared.calls.Options.{Options}
-use Rattle.command_line.specs.declared.calls.TheConstants.{MOST_PRIORITY}
+use Rattle.command_line.specs.declared.calls.TheConstants.{MOST_PRIORITY, MOST_ROOM}
 
 -- what a call prefers, where its words say so
 abbrev pub preferred_by : Option Preferred → Option Preference
@@ -26,6 +26,15 @@ base_chosen None = 1
 -- the same of what a call's words choose
 abbrev pub base_of : Options → ℕ
 base_of options = base_chosen options.base
+
+-- how much room words choose beside a number that is given anew, else none; they choose no more than the greatest
+abbrev pub room_chosen : Option ℕ → ℕ
+room_chosen (Some room) = min room MOST_ROOM
+room_chosen None = 0
+
+-- the same of what a call's words choose
+abbrev pub room_of : Options → ℕ
+room_of options = room_chosen options.room
 
 -- the word that names the task that is asked about
 abbrev pub task_of : Options → Option (List ℕ)

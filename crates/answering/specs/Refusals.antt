@@ -120,6 +120,10 @@ abbrev pub node_words : NodeFault → List ℕ
 node_words node.Syntax = codes "Syntax"
 node_words node.UnknownRoot = codes "UnknownKey"
 node_words (node.Says fault) = fault_words fault
+node_words node.NoLocks = codes "WrongKind 0 0 locks"
+node_words node.BadLockName = codes "BadLock"
+node_words (node.BadLock name) = codes "BadLock " ++ name
+node_words node.TooManyLocks = codes "TooManyLocks"
 node_words node.NoTeams = codes "WrongKind"
 node_words node.BadName = codes "BadName"
 node_words (node.NoBudget team) = codes "WrongKind " ++ team
@@ -143,6 +147,10 @@ teams_words (teams.Of team fault) = codes "team " ++ team ++ codes " " ++ fault_
 teams_words (teams.Taken team task other) =
     codes "TakenName " ++ team ++ codes " " ++ task ++ codes " " ++ other
 teams_words (teams.NodesOwn team key) = codes "NodesOwn " ++ team ++ codes " " ++ word_of key
+teams_words (teams.UnknownLock team task section lock) =
+    codes "UnknownLock " ++ team ++ codes " " ++ task ++ codes " " ++ decimal section ++ codes " " ++ lock
+teams_words (teams.Renamed team task cause) =
+    codes "team " ++ team ++ codes " task " ++ task ++ codes " " ++ lone_cause_words cause
 teams_words (teams.OtherPreference team other) =
     codes "OtherPreference " ++ team ++ codes " " ++ other
 teams_words (teams.OtherNode team other) = codes "OtherNode " ++ team ++ codes " " ++ other

@@ -5,13 +5,15 @@ ghost use Rattle.answering.specs.Outcomes.{IsSaidOn};
 ghost use Rattle.answering.specs.Printed.{IsPrinted};
 ghost use Rattle.assignment.specs.Placings.{IsPlacingOf};
 ghost use Rattle.answering.specs.Lines.{admitted_lines, infeasible_line, level_line};
-ghost use Rattle.answering.specs.OrderParts.{placing_said};
+ghost use Rattle.answering.specs.OrderParts.{placing_said, settings_said};
+ghost use Rattle.assignment.specs.Placings.{tasks_of_places};
+ghost use Rattle.task_sheet.specs.Orders.{IsOrder};
 
 use crate::output::print_made;
 use crate::status::Status;
 use assignment::{Place, Placing};
 use lines::{push_name, push_names};
-use settings::settings_text;
+use settings::{anew_text, settings_text};
 use std::alloc::{AllocError, Global};
 use std::io::Write;
 use streams::Watched;
@@ -24,8 +26,8 @@ pub enum OrderPart {
     Count,
     /// That, and each level, the lowest first.
     Levels,
-    /// What a node is set to, where level 1 has this priority.
-    Settings { base: u32 },
+    /// What a node is set to, where level 1 has this priority, with so much room beside each.
+    Settings { base: u32, room: u32 },
 }
 
 // The line of a level, which has a number.
@@ -67,6 +69,25 @@ pub fn infeasible_text(alloc: Global, set: &TaskSet, members: Members) -> Result
     Ok(text)
 }
 
+// What a node is set to for an order, where level 1 has this priority, with so much room beside each.
+fn set_text(
+    alloc: Global,
+    set: &TaskSet,
+    base: u32,
+    room: u32,
+    places: &[Place],
+) -> Result<String, AllocError>
+    requires { IsOrder set.now (tasks_of_places places.now) }
+    ensures { IfOk result (λ text. string_bytes text
+        ≡ settings_said set.now base room (tasks_of_places places.now)) }
+{
+    if room == 0 {
+        settings_text(alloc, set, base, places)
+    } else {
+        anew_text(alloc, set, base, room, places)
+    }
+}
+
 /// So much of the order of a placing, or the line of its obstruction.
 pub fn placing_text(
     alloc: Global,
@@ -85,7 +106,7 @@ pub fn placing_text(
     match part {
         OrderPart::Count => format!(in alloc; "admitted {count}\n"),
         OrderPart::Levels => admitted_text(alloc, set, places),
-        OrderPart::Settings { base } => settings_text(alloc, set, base, places),
+        OrderPart::Settings { base, room } => set_text(alloc, set, base, room, places),
     }
 }
 

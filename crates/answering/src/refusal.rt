@@ -222,6 +222,10 @@ fn write_node_fault<W: fmt::Write>(fault: NodeFault, f: &mut fmt::Formatter<W>) 
         NodeFault::Syntax => f.write_str("Syntax"),
         NodeFault::UnknownRoot => f.write_str("UnknownKey"),
         NodeFault::Says { fault } => write_fault(fault, f),
+        NodeFault::NoLocks => f.write_str("WrongKind 0 0 locks"),
+        NodeFault::BadLockName => f.write_str("BadLock"),
+        NodeFault::BadLock { name } => write!(f, "BadLock {name}"),
+        NodeFault::TooManyLocks => f.write_str("TooManyLocks"),
         NodeFault::NoTeams => f.write_str("WrongKind"),
         NodeFault::BadName => f.write_str("BadName"),
         NodeFault::NoBudget { team } => write!(f, "WrongKind {team}"),
@@ -261,6 +265,16 @@ fn write_teams_fault<W: fmt::Write>(fault: TeamsFault, f: &mut fmt::Formatter<W>
         TeamsFault::NodesOwn { team, key } => {
             let word = key.word();
             write!(f, "NodesOwn {team} {word}")
+        }
+        TeamsFault::UnknownLock {
+            team,
+            task,
+            section,
+            lock,
+        } => write!(f, "UnknownLock {team} {task} {section} {lock}"),
+        TeamsFault::Renamed { team, task, cause } => {
+            write!(f, "team {team} task {task} ")?;
+            write_lone_cause(cause, f)
         }
         TeamsFault::OtherPreference { team, other } => write!(f, "OtherPreference {team} {other}"),
         TeamsFault::OtherNode { team, other } => write!(f, "OtherNode {team} {other}"),

@@ -1,7 +1,7 @@
 //! Reading the inputs of a command: a set, or a set and a text.
 ghost use Rattle.std.specs.Prelude.{◌≡◌, Err, IfOk, MatchResult};
 ghost use Rattle.preferences.specs.ReadsAsked.{SaysAsked};
-ghost use Rattle.answering.specs.Chosen.{asking_of, base_of};
+ghost use Rattle.answering.specs.Chosen.{asking_of, base_of, room_of};
 ghost use Rattle.answering.specs.Owning.{HasOwned, HaveOwned, IsTakenBy, SaysOwned};
 ghost use Rattle.answering.specs.Sets.{HasNoSet, HasSet, HaveNotBoth, IsNoSet, asked_refusal};
 ghost use Rattle.answering.specs.Outcomes.{AreRead, IsRead, failed_read};
@@ -9,7 +9,7 @@ ghost use Rattle.streams.specs.Inputs.{IsReadFrom, IsTooLong};
 
 use crate::audience::{Audience, Which};
 use crate::refusal::CommandRefusal;
-use command_line::{MOST_PRIORITY, Options, Preferred};
+use command_line::{MOST_PRIORITY, MOST_ROOM, Options, Preferred};
 use owners::{Owner, read_owners};
 use preferences::{AskedFault, Asking, Preference, read_asked};
 use std::alloc::Global;
@@ -82,6 +82,16 @@ pub fn base_of(options: Options<'_>) -> u32
     match options.base {
         Some(base) => base.min(MOST_PRIORITY) as u32,
         None => 1,
+    }
+}
+
+/// How much room the words choose beside a number that is given anew.
+pub fn room_of(options: Options<'_>) -> u32
+    ensures { result ≡ room_of options.entry }
+{
+    match options.room {
+        Some(room) => room.min(MOST_ROOM) as u32,
+        None => 0,
     }
 }
 

@@ -8,7 +8,7 @@ use Rattle.clap.specs.declared.parser.matches.SubCommand.{SubCommand}
 use Rattle.clap.specs.declared.parser.matches.ArgMatches.TheViews.{out-ArgMatches, out-SubCommand}
 use Rattle.command_line.specs.Calls.{AreOptions, CountsWithin, HasNumber, HaveNumbers, IsCall}
 use Rattle.command_line.specs.Calls.{IsTaken}
-use Rattle.command_line.specs.declared.calls.TheConstants.{MOST_PRIORITY, MOST_SEED, MOST_TOLERANCE}
+use Rattle.command_line.specs.declared.calls.TheConstants.{MOST_PRIORITY, MOST_ROOM, MOST_SEED, MOST_TOLERANCE}
 use Rattle.command_line.specs.declared.calls.TheConstants.{LATEST_END, LEAST_WIDTH, MOST_WIDTH}
 use Rattle.command_line.specs.declared.calls.Takes.TheVariants as takes
 use Rattle.command_line.specs.declared.calls.Options.{Options}
@@ -45,6 +45,7 @@ number_within least most text (Some n) given = within least most text n given
 have_numbers : (rows : List Row) (options : Options) → AreOptions rows options → HaveNumbers options
 have_numbers rows options are = (
   number_within 1 MOST_PRIORITY _ options.base are.base,
+  number_within 0 MOST_ROOM _ options.room are.room,
   number_within 0 MOST_SEED _ options.seed are.seed,
   number_within 0 MOST_TOLERANCE _ options.tolerance are.tolerance,
   number_within 0 LATEST_END _ options.from are.from,

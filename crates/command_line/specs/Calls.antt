@@ -4,9 +4,9 @@ use Rattle.std.specs.Str.Parse.{digits_value, without_leading_plus}
 use Rattle.clap.specs.Words.{HasKind, IsUnsignedIn, Row, Text, fault_of, first_of, one_of, subcommand_of}
 use Rattle.command_line.specs.App.{desk_app}
 use Rattle.command_line.specs.Commands.{choice_id, input_of, least_of, most_of, number_choices, number_name, second_of, takes_of, verb_of, by_file}
-use Rattle.command_line.specs.declared.calls.TheConstants.{MOST_PRIORITY, MOST_SEED, MOST_TOLERANCE, LATEST_END, LEAST_WIDTH, MOST_WIDTH}
+use Rattle.command_line.specs.declared.calls.TheConstants.{MOST_PRIORITY, MOST_ROOM, MOST_SEED, MOST_TOLERANCE, LATEST_END, LEAST_WIDTH, MOST_WIDTH}
 use Rattle.command_line.specs.declared.calls.Choice.{Choice}
-use Rattle.command_line.specs.declared.calls.Choice.TheVariants.{Strict, Base, LowerIsHigher, Seed, Tasks, Tolerance, From, To, Width}
+use Rattle.command_line.specs.declared.calls.Choice.TheVariants.{Strict, Base, Room, LowerIsHigher, Seed, Tasks, Tolerance, Jobless, From, To, Width}
 use Rattle.command_line.specs.declared.calls.Takes.{Takes}
 use Rattle.command_line.specs.declared.calls.Takes.TheVariants as takes
 use Rattle.command_line.specs.declared.calls.Preferred.{Preferred}
@@ -123,10 +123,12 @@ pub record AreOptions (given : List Row) (options : OptionsData) : Type 0 where
   pub is_strict : Flags Strict given options.is_strict
   pub task : option_map (λ s. s.now) options.task ≡ first_of (codes "task") given
   pub base : IsNumberOf Base given options.base
+  pub room : IsNumberOf Room given options.room
   pub lower_is_higher : Flags LowerIsHigher given options.lower_is_higher
   pub seed : IsNumberOf Seed given options.seed
   pub by_task : Flags Tasks given options.by_task
   pub tolerance : IsNumberOf Tolerance given options.tolerance
+  pub jobless : Flags Jobless given options.jobless
   pub from : IsNumberOf From given options.from
   pub to : IsNumberOf To given options.to
   pub width : IsNumberOf Width given options.width
@@ -141,10 +143,12 @@ no_options =
       is_strict = false;
       task = None;
       base = None;
+      room = None;
       lower_is_higher = false;
       seed = None;
       by_task = false;
       tolerance = None;
+      jobless = false;
       from = None;
       to = None;
       width = None;
@@ -156,6 +160,7 @@ no_options =
 abbrev pub HaveNumbers : OptionsData → Type 0
 HaveNumbers options =
     IfSome options.base (λ base. (1 ≤ base) × (base ≤ MOST_PRIORITY))
+    × IfSome options.room (λ room. (0 ≤ room) × (room ≤ MOST_ROOM))
     × IfSome options.seed (λ seed. (0 ≤ seed) × (seed ≤ MOST_SEED))
     × IfSome options.tolerance (λ tolerance. (0 ≤ tolerance) × (tolerance ≤ MOST_TOLERANCE))
     × IfSome options.from (λ from. (0 ≤ from) × (from ≤ LATEST_END))

@@ -13,10 +13,10 @@ use Rattle.command_line.specs.declared.calls.OfNumber.TheVariants.{Releases, Scr
 use Rattle.command_line.specs.declared.calls.Verb.{Verb}
 use Rattle.command_line.specs.declared.calls.Verb.TheVariants.{One, Two, Number}
 use Rattle.command_line.specs.declared.calls.Choice.{Choice}
-use Rattle.command_line.specs.declared.calls.Choice.TheVariants.{Prefer, Strict, Task, Base, LowerIsHigher, Seed, Tasks, Tolerance, Keep, At, From, To, Width, Title, Rows}
+use Rattle.command_line.specs.declared.calls.Choice.TheVariants.{Prefer, Strict, Task, Base, Room, LowerIsHigher, Seed, Tasks, Tolerance, Jobless, Keep, At, From, To, Width, Title, Rows}
 use Rattle.command_line.specs.declared.calls.Takes.{Takes}
 use Rattle.command_line.specs.declared.calls.Takes.TheVariants as takes
-use Rattle.command_line.specs.declared.calls.TheConstants.{MOST_WORKERS, MOST_TEAM, MOST_PRIORITY, MOST_SEED, MOST_TOLERANCE, LEAST_WIDTH, MOST_WIDTH, LATEST_END}
+use Rattle.command_line.specs.declared.calls.TheConstants.{MOST_WORKERS, MOST_TEAM, MOST_PRIORITY, MOST_ROOM, MOST_SEED, MOST_TOLERANCE, LEAST_WIDTH, MOST_WIDTH, LATEST_END}
 
 -- the commands with their words and the options that they take, as help lists them: those that answer on a task set,
 -- those for certificates and runs, those for scripts
@@ -25,7 +25,7 @@ commands =
     (codes "admit", One Admit, Prefer ∷ Strict ∷ [])
     ∷ (codes "explain", One Explain, Prefer ∷ Strict ∷ Task ∷ At ∷ [])
     ∷ (codes "limits", One Limits, Prefer ∷ Strict ∷ Task ∷ At ∷ [])
-    ∷ (codes "settings", One Settings, Prefer ∷ Strict ∷ Base ∷ Keep ∷ [])
+    ∷ (codes "settings", One Settings, Prefer ∷ Strict ∷ Base ∷ Room ∷ Keep ∷ [])
     ∷ (codes "judge", Two Judge, Prefer ∷ Strict ∷ LowerIsHigher ∷ [])
     ∷ (codes "diff", Two Diff, Prefer ∷ Strict ∷ [])
     ∷ (codes "certify", One Certify, Prefer ∷ Strict ∷ [])
@@ -34,7 +34,7 @@ commands =
     ∷ (codes "worst", One Worst, Prefer ∷ Strict ∷ Task ∷ At ∷ [])
     ∷ (codes "simulate", Two Simulate, Prefer ∷ Strict ∷ Tasks ∷ [])
     ∷ (codes "draw", Two Draw, Prefer ∷ Strict ∷ From ∷ To ∷ Width ∷ Title ∷ Rows ∷ [])
-    ∷ (codes "observe", Two Observe, Prefer ∷ Strict ∷ Tolerance ∷ [])
+    ∷ (codes "observe", Two Observe, Prefer ∷ Strict ∷ Tolerance ∷ Jobless ∷ [])
     ∷ (codes "script", Number Script, Prefer ∷ Strict ∷ [])
     ∷ (codes "play", One Play, [])
     ∷ (codes "rush", Number Rush, [])
@@ -94,10 +94,12 @@ choice_name Prefer = codes "prefer"
 choice_name Strict = codes "strict"
 choice_name Task = codes "task"
 choice_name Base = codes "base"
+choice_name Room = codes "room"
 choice_name LowerIsHigher = codes "lower-is-higher"
 choice_name Seed = codes "seed"
 choice_name Tasks = codes "tasks"
 choice_name Tolerance = codes "tolerance"
+choice_name Jobless = codes "jobless"
 choice_name Keep = codes "keep"
 choice_name At = codes "at"
 choice_name From = codes "from"
@@ -117,10 +119,12 @@ takes_of Prefer = takes.Word
 takes_of Strict = takes.Flag
 takes_of Task = takes.Word
 takes_of Base = takes.Number 1 MOST_PRIORITY
+takes_of Room = takes.Number 0 MOST_ROOM
 takes_of LowerIsHigher = takes.Flag
 takes_of Seed = takes.Number 0 MOST_SEED
 takes_of Tasks = takes.Flag
 takes_of Tolerance = takes.Number 0 MOST_TOLERANCE
+takes_of Jobless = takes.Flag
 takes_of Keep = takes.Word
 takes_of At = takes.Word
 takes_of From = takes.Number 0 LATEST_END
@@ -131,4 +135,4 @@ takes_of Rows = takes.Word
 
 -- the options that take a number
 abbrev pub number_choices : List Choice
-number_choices = Base ∷ Seed ∷ Tolerance ∷ From ∷ To ∷ Width ∷ []
+number_choices = Base ∷ Room ∷ Seed ∷ Tolerance ∷ From ∷ To ∷ Width ∷ []

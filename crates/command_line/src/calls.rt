@@ -16,6 +16,9 @@ pub const LATEST_END: usize = 60_000_000;
 /// The greatest priority of level 1: that of the 32nd level is 1,000,000, the greatest that a reader of settings takes.
 pub const MOST_PRIORITY: usize = 999_969;
 
+/// The greatest room beside a number.
+pub const MOST_ROOM: usize = 1_000_000;
+
 /// The greatest tolerance of a trace, in microseconds.
 pub const MOST_TOLERANCE: usize = 60_000_000;
 
@@ -120,6 +123,8 @@ pub(crate) enum Choice {
     Task,
     // `--base N`
     Base,
+    // `--room N`
+    Room,
     // `--lower-is-higher`
     LowerIsHigher,
     // `--seed N`
@@ -128,6 +133,8 @@ pub(crate) enum Choice {
     Tasks,
     // `--tolerance N`
     Tolerance,
+    // `--jobless`
+    Jobless,
     // `--keep SETTINGS`
     Keep,
     // `--at SETTINGS`
@@ -173,6 +180,8 @@ pub struct Options<'a> {
     pub task: Option<&'a str>,
     /// `--base N`: the priority of level 1.
     pub base: Option<usize>,
+    /// `--room N`: how many numbers are to stay free beside one that is given anew.
+    pub room: Option<usize>,
     /// `--lower-is-higher`: the smaller number is the higher priority.
     pub lower_is_higher: bool,
     /// `--seed N`: the seed of a random release list.
@@ -181,6 +190,8 @@ pub struct Options<'a> {
     pub by_task: bool,
     /// `--tolerance N`: by so many microseconds the times of a trace may be past what is promised.
     pub tolerance: Option<usize>,
+    /// `--jobless`: it is meant that a task may have no job in a trace.
+    pub jobless: bool,
     /// `--from T`: where a picture begins, in microseconds.
     pub from: Option<usize>,
     /// `--to T`: where it ends.
@@ -294,10 +305,12 @@ impl Choice {
             Choice::Strict => "strict",
             Choice::Task => "task",
             Choice::Base => "base",
+            Choice::Room => "room",
             Choice::LowerIsHigher => "lower-is-higher",
             Choice::Seed => "seed",
             Choice::Tasks => "tasks",
             Choice::Tolerance => "tolerance",
+            Choice::Jobless => "jobless",
             Choice::Keep => "keep",
             Choice::At => "at",
             Choice::From => "from",
@@ -333,6 +346,10 @@ impl Choice {
                 least: 1,
                 most: MOST_PRIORITY as u32,
             },
+            Choice::Room => Takes::Number {
+                least: 0,
+                most: MOST_ROOM as u32,
+            },
             Choice::Seed => Takes::Number {
                 least: 0,
                 most: MOST_SEED as u32,
@@ -349,7 +366,7 @@ impl Choice {
                 least: LEAST_WIDTH as u32,
                 most: MOST_WIDTH as u32,
             },
-            Choice::Strict | Choice::LowerIsHigher | Choice::Tasks => Takes::Flag,
+            Choice::Strict | Choice::LowerIsHigher | Choice::Tasks | Choice::Jobless => Takes::Flag,
         }
     }
 
@@ -363,11 +380,13 @@ impl Choice {
             Choice::Title => "TEXT",
             Choice::Rows => "NAMES",
             Choice::Base
+            | Choice::Room
             | Choice::Seed
             | Choice::Strict
             | Choice::LowerIsHigher
             | Choice::Tasks
             | Choice::Tolerance
+            | Choice::Jobless
             | Choice::Width => "N",
         }
     }
@@ -378,14 +397,16 @@ impl Choice {
             Choice::Prefer => "What decides among the orders that pass: weight or deadline",
             Choice::Strict => "Refuses a set that may have a mistake, for what is a note else",
             Choice::Task => "The task that is asked about, alone",
-            Choice::Base => "The priority of level 1, from 1 to 999969",
+            Choice::Base => "The least priority, from 1 to 999969",
+            Choice::Room => "How many numbers stay free beside each given anew, if they fit",
             Choice::LowerIsHigher => "The smaller number is the higher priority",
             Choice::Seed => "A random list in place of the densest, the same for the same seed",
             Choice::Tasks => "What each task came to, in place of who executes when",
             Choice::Tolerance => {
                 "By how many microseconds a time may be past what is promised, up to 60000000"
             }
-            Choice::Keep => "Settings of a node whose order stays, as far as both have its tasks",
+            Choice::Jobless => "It is meant that some task has no job",
+            Choice::Keep => "Settings of a node whose order stays, and numbers as far as can be",
             Choice::At => "Settings that give the order, in place of the best one",
             Choice::From => "Where the picture begins, in microseconds",
             Choice::To => "Where the picture ends, in microseconds, if not with the run",
@@ -406,10 +427,12 @@ impl<'a> Options<'a> {
             is_strict: false,
             task: None,
             base: None,
+            room: None,
             lower_is_higher: false,
             seed: None,
             by_task: false,
             tolerance: None,
+            jobless: false,
             from: None,
             to: None,
             width: None,

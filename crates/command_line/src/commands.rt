@@ -75,7 +75,13 @@ const COMMANDS: [Listed; 16] = [
     Listed {
         verb: Verb::One(OfOne::Settings),
         word: "settings",
-        options: &[Choice::Prefer, Choice::Strict, Choice::Base, Choice::Keep],
+        options: &[
+            Choice::Prefer,
+            Choice::Strict,
+            Choice::Base,
+            Choice::Room,
+            Choice::Keep,
+        ],
         about: "Prints the level of each thread and the ceiling of each mutex in the best order",
         example: example!(
             "settings examples/shared-lock.toml",
@@ -173,11 +179,16 @@ const COMMANDS: [Listed; 16] = [
     Listed {
         verb: Verb::Two(OfTwo::Observe),
         word: "observe",
-        options: &[Choice::Prefer, Choice::Strict, Choice::Tolerance],
+        options: &[
+            Choice::Prefer,
+            Choice::Strict,
+            Choice::Tolerance,
+            Choice::Jobless,
+        ],
         about: "Prints what a trace of a node shows of each task, and each promise that it breaks",
         example: example!(
             "observe examples/shared-lock.toml examples/shared-lock.trace",
-            "0 each promise is kept, 3 one is broken, or nothing is promised, 4 the set or the trace is refused"
+            "0 each promise is kept, 3 one is broken, a task has no job, or nothing is promised, 4 the set or the trace is refused"
         ),
     },
     Listed {

@@ -5,5 +5,7 @@ mod calls;
 mod commands;
 mod words;
 
-pub use calls::{Call, Input, MOST_PRIORITY, OfNumber, OfOne, OfTwo, Options, Preferred};
+pub use calls::{
+    Call, Input, MOST_PRIORITY, MOST_ROOM, OfNumber, OfOne, OfTwo, Options, Preferred,
+};
 pub use words::{WordsFault, read_words};

@@ -92,11 +92,13 @@ fn options_at<'a>(matches: &ArgMatches<'a>) -> Option<Options<'a>>
         seed: number_chosen(matches, Choice::Seed),
         by_task: flag_chosen(matches, Choice::Tasks),
         tolerance: number_chosen(matches, Choice::Tolerance),
+        jobless: flag_chosen(matches, Choice::Jobless),
         from: number_chosen(matches, Choice::From),
         to: number_chosen(matches, Choice::To),
         width: number_chosen(matches, Choice::Width),
         title: matches.get_str("title"),
         rows: matches.get_str("rows"),
+        room: number_chosen(matches, Choice::Room),
     })
 }
 

@@ -13,7 +13,7 @@ use Rattle.two_input_commands.specs.Draw.{SaysDrawn}
 use Rattle.two_input_commands.specs.ExplainAt.{SaysExplainedAt}
 use Rattle.two_input_commands.specs.Judge.{SaysJudged}
 use Rattle.two_input_commands.specs.LimitsAt.{SaysLimitsAt}
-use Rattle.two_input_commands.specs.Observe.{SaysObserved, tolerance_of}
+use Rattle.two_input_commands.specs.Observe.{SaysObserved, leeway_of}
 use Rattle.two_input_commands.specs.Keep.{SaysKeeping}
 use Rattle.set_commands.specs.OneTask.{SaysPart}
 use Rattle.script_commands.specs.Play.{SaysPlayed}
@@ -22,7 +22,7 @@ use Rattle.two_input_commands.specs.WorstAt.{SaysWorstAt}
 use Rattle.set_commands.specs.declared.one_task.TaskPart.TheVariants as part
 use Rattle.answering.specs.declared.answer.OrderPart.TheVariants as order
 use Rattle.answering.specs.declared.status.Status.{Status}
-use Rattle.answering.specs.Chosen.{asking_of, base_of, task_of}
+use Rattle.answering.specs.Chosen.{asking_of, base_of, room_of, task_of}
 use Rattle.preferences.specs.ReadsAsked.{lenient}
 use Rattle.preferences.specs.declared.asking.Asking.{Asking}
 
@@ -34,7 +34,7 @@ OneSays Admit options = SaysPlacing order.Levels (asking_of options)
 OneSays Certify options = SaysCertified (asking_of options)
 OneSays Limits options = SaysPart part.Limits (task_of options) (asking_of options)
 OneSays Settings options =
-    SaysPlacing (order.Settings (base_of options)) (asking_of options)
+    SaysPlacing (order.Settings (base_of options) (room_of options)) (asking_of options)
 OneSays Explain options = SaysPart part.Reasons (task_of options) (asking_of options)
 OneSays Worst options = SaysPart part.Worst (task_of options) (asking_of options)
 OneSays Play options = SaysPlayed
@@ -53,8 +53,8 @@ TwoSay Judge options = SaysJudged options.lower_is_higher (asking_of options)
 TwoSay Diff options = SaysCompared (asking_of options)
 TwoSay Simulate options = SaysSimulation options.by_task (asking_of options)
 TwoSay Draw options = SaysDrawn options (asking_of options)
-TwoSay Observe options = SaysObserved (tolerance_of options) (asking_of options)
-TwoSay Keep options = SaysKeeping (base_of options) (asking_of options)
+TwoSay Observe options = SaysObserved (leeway_of options) (asking_of options)
+TwoSay Keep options = SaysKeeping (base_of options) (room_of options) (asking_of options)
 TwoSay WorstAt options = SaysWorstAt (task_of options) (asking_of options)
 TwoSay LimitsAt options = SaysLimitsAt (task_of options) (asking_of options)
 TwoSay ExplainAt options = SaysExplainedAt (task_of options) (asking_of options)

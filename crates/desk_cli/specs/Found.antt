@@ -11,18 +11,18 @@ use Rattle.command_line.specs.declared.calls.OfTwo.TheVariants as command
 use Rattle.judge.specs.Lines.{judged_lines}
 use Rattle.two_input_commands.specs.Check.{ChecksText, checked_line}
 use Rattle.answering.specs.Statuses.{placing_status}
-use Rattle.answering.specs.Chosen.{base_of, asking_of, task_of}
+use Rattle.answering.specs.Chosen.{asking_of, base_of, room_of, task_of}
 use Rattle.two_input_commands.specs.Diff.{ComparesText, compared_lines}
 use Rattle.two_input_commands.specs.Draw.{DrawsText, drawing_said}
 use Rattle.two_input_commands.specs.ExplainAt.{ExplainsText, explained_at_lines}
 use Rattle.two_input_commands.specs.Judge.{JudgesText, judged_status}
 use Rattle.two_input_commands.specs.LimitsAt.{LimitsText}
-use Rattle.two_input_commands.specs.Observe.{IsObservationOf, ObservesText, observation_said, observation_status, tolerance_of}
+use Rattle.two_input_commands.specs.Observe.{IsObservationOf, ObservesText, leeway_of, observation_said, observation_status}
 use Rattle.answering.specs.Printed.{IsPrinted}
 use Rattle.two_input_commands.specs.Simulate.{IsInOrder, SimulatesText, reached_said, simulation_said, simulation_status}
 use Rattle.desk_cli.specs.declared.of_two.Found.{Found}
 use Rattle.desk_cli.specs.declared.of_two.Found.TheVariants.{Shown, Compared, Judged, Simulated, Reached, Drawn, Observed, Keeping, WorstAt, ExplainedAt, LimitedAt}
-use Rattle.two_input_commands.specs.Keep.{IsKeptIn, KeepsText, keeping_lines, keeping_status}
+use Rattle.two_input_commands.specs.Keep.{IsKeptIn, IsOldOf, KeepsText, keeping_lines, keeping_status}
 use Rattle.two_input_commands.specs.WorstAt.{WorstsText}
 use Rattle.answering.specs.declared.refusal.CommandRefusal.{CommandRefusal}
 use Rattle.answering.specs.declared.status.Status.{Status}
@@ -44,11 +44,11 @@ FindsIn command.Simulate options by U text (Ok (Reached answer)) =
 FindsIn command.Simulate options by U text (Err r) = SimulatesText U text (Err r)
 FindsIn command.Draw options by U text (Ok (Drawn drawing)) = DrawsText options U text (Ok drawing)
 FindsIn command.Draw options by U text (Err r) = DrawsText options U text (Err r)
-FindsIn command.Observe options by U text (Ok (Observed tolerance shown)) =
-    (tolerance ≡ tolerance_of options) × ObservesText U text (Ok shown)
+FindsIn command.Observe options by U text (Ok (Observed leeway shown)) =
+    (leeway ≡ leeway_of options) × ObservesText U text (Ok shown)
 FindsIn command.Observe options by U text (Err r) = ObservesText U text (Err r)
-FindsIn command.Keep options by U text (Ok (Keeping keeping base)) =
-    (base ≡ base_of options) × KeepsText U text (Ok keeping)
+FindsIn command.Keep options by U text (Ok (Keeping node base room)) =
+    (base ≡ base_of options) × (room ≡ room_of options) × KeepsText U text (Ok node)
 FindsIn command.Keep options by U text (Err r) = KeepsText U text (Err r)
 FindsIn command.WorstAt options by U text (Ok (WorstAt found)) = WorstsText (task_of options) U text (Ok found)
 FindsIn command.WorstAt options by U text (Err r) = WorstsText (task_of options) U text (Err r)
@@ -65,8 +65,8 @@ IsFoundOf U (Judged node) = All (λ j. j.task < TASK_LIMIT) node.judged.items
 IsFoundOf U (Compared c) = IsPlacingOf U c.was × IsPlacingOf c.set c.is
 IsFoundOf U (Reached answer) = IsInOrder U answer
 IsFoundOf U (Drawn drawing) = IsInOrder U drawing.answer
-IsFoundOf U (Observed tolerance shown) = IsObservationOf shown
-IsFoundOf U (Keeping keeping base) = IsKeptIn U keeping
+IsFoundOf U (Observed leeway shown) = IsObservationOf shown
+IsFoundOf U (Keeping node base room) = IsKeptIn U node.keeping × IsOldOf node
 IsFoundOf U (ExplainedAt found) = All (λ j. j.task < TASK_LIMIT) found.node.judged.items
 IsFoundOf U _ = Unit {0}
 
@@ -78,8 +78,8 @@ found_said owners U (Judged node) = judged_lines U node.judged.items node.number
 found_said owners U (Simulated answer) = simulation_said U answer
 found_said owners U (Reached answer) = reached_said U answer
 found_said owners U (Drawn drawing) = drawing_said U drawing
-found_said owners U (Observed tolerance shown) = observation_said tolerance U shown
-found_said owners U (Keeping keeping base) = keeping_lines U base keeping
+found_said owners U (Observed leeway shown) = observation_said leeway U shown
+found_said owners U (Keeping node base room) = keeping_lines U base room node
 found_said owners U (WorstAt found) = string_bytes found.text
 found_said owners U (LimitedAt found) = string_bytes found.text
 found_said owners U (ExplainedAt found) = explained_at_lines owners U found
@@ -92,8 +92,8 @@ found_status (Judged node) = judged_status node.judged.items
 found_status (Simulated answer) = simulation_status answer
 found_status (Reached answer) = simulation_status answer
 found_status (Drawn drawing) = simulation_status drawing.answer
-found_status (Observed tolerance shown) = observation_status tolerance shown
-found_status (Keeping keeping base) = keeping_status keeping
+found_status (Observed leeway shown) = observation_status leeway shown
+found_status (Keeping node base room) = keeping_status node.keeping
 found_status (WorstAt found) = judged_status found.node.judged.items
 found_status (LimitedAt found) = judged_status found.node.judged.items
 found_status (ExplainedAt found) = judged_status found.node.judged.items

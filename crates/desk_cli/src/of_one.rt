@@ -6,7 +6,7 @@ ghost use Rattle.answering.specs.Outcomes.{IsCarriedOut, IsSaidOn};
 
 use answering::{
     Audience, OrderPart, Status, asking_of, base_of, placing_status, placing_text, print_made,
-    refuse,
+    refuse, room_of,
 };
 use assignment::Placing;
 use command_line::{OfOne, Options};
@@ -51,6 +51,7 @@ fn say_placing<W: Write + Drop>(
         OfOne::Settings => {
             let part = OrderPart::Settings {
                 base: base_of(options),
+                room: room_of(options),
             };
             let text = placing_text(alloc, part, set, placing);
             print_made(text, status, output)

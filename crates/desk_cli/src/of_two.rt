@@ -7,13 +7,14 @@ ghost use Rattle.answering.specs.Outcomes.{IsCarriedOutOnBoth, IsSaidOn};
 
 use answering::{
     Audience, Both, CommandRefusal, Status, Which, asking_of, base_of, placing_status, print,
-    print_bytes, print_made, read_two, refuse, tell,
+    print_bytes, print_made, read_two, refuse, room_of, tell,
 };
 use cert_checker::Checked;
 use command_line::{OfTwo, Options};
 use judge::{JudgedNode, judged_text};
 use kept_order::Keeping;
 use observed::{Seen, Sight};
+use observed_lines::Leeway;
 use owners::Owner;
 use preferences::Asking;
 use std::alloc::Global;
@@ -21,10 +22,10 @@ use std::io::{Read, Write};
 use streams::Watched;
 use task_sheet::{Members, Name, Preference, TaskSet};
 use two_input_commands::{
-    Compared, Drawing, InOrder, Observation, Simulated, check_text, checked_line, compare_text,
+    Compared, Drawing, InOrder, KeptNode, Observation, Simulated, check_text, checked_line, compare_text,
     compared_text, draw_text, explain_at, explained_at_text, judge_text, judged_status, keep_text,
-    keeping_status, keeping_text, limits_at, observe_text, print_drawing, print_observation,
-    print_reached, print_simulated, simulate_text, tolerance_of, worst_at,
+    keeping_status, keeping_text, leeway_of, limits_at, observe_text, print_drawing,
+    print_observation, print_reached, print_simulated, simulate_text, worst_at,
 };
 
 /// What a command finds of a set and a text.
@@ -42,10 +43,14 @@ pub enum Found {
     Reached(Simulated),
     /// The same, to be shown as an SVG 1.1 document.
     Drawn(Drawing),
-    /// What a trace shows, by so many microseconds that a time may be past what is promised.
-    Observed(u64, Observation),
-    /// What becomes of a set that is to keep the order that settings give, and the priority of level 1.
-    Keeping { keeping: Keeping, base: u32 },
+    /// What a trace shows, and what of it is let pass.
+    Observed(Leeway, Observation),
+    /// What becomes of a set that is to keep the order and the numbers that settings give, from the base on, with room.
+    Keeping {
+        node: KeptNode,
+        base: u32,
+        room: u32,
+    },
     /// The worst case of a task in the order that settings give.
     WorstAt(InOrder),
     /// What explains the order that settings give, without the teams of its tasks.
@@ -87,11 +92,12 @@ fn find(
         OfTwo::Draw => Ok(Found::Drawn(draw_text(alloc, options, tasks, text)?)),
         OfTwo::Observe => {
             let shown = observe_text(alloc, tasks, text)?;
-            Ok(Found::Observed(tolerance_of(options), shown))
+            Ok(Found::Observed(leeway_of(options), shown))
         }
         OfTwo::Keep => Ok(Found::Keeping {
-            keeping: keep_text(alloc, tasks, text)?,
+            node: keep_text(alloc, tasks, text)?,
             base: base_of(options),
+            room: room_of(options),
         }),
         OfTwo::WorstAt => Ok(Found::WorstAt(worst_at(alloc, options.task, tasks, text)?)),
         OfTwo::LimitsAt => Ok(Found::LimitedAt(limits_at(alloc, options.task, tasks, text)?)),
@@ -125,12 +131,12 @@ fn print_found<W: Write + Drop>(
         Found::Simulated(answer) => print_simulated(alloc, tasks, answer, output),
         Found::Reached(answer) => print_reached(alloc, tasks, answer, output),
         Found::Drawn(drawing) => print_drawing(alloc, tasks, drawing, output),
-        Found::Observed(tolerance, shown) => {
-            print_observation(alloc, tasks, *tolerance, shown, output)
+        Found::Observed(leeway, shown) => {
+            print_observation(alloc, tasks, *leeway, shown, output)
         }
-        Found::Keeping { keeping, base } => print_made(
-            keeping_text(alloc, tasks, *base, keeping),
-            keeping_status(keeping),
+        Found::Keeping { node, base, room } => print_made(
+            keeping_text(alloc, tasks, *base, *room, node),
+            keeping_status(&node.keeping),
             output,
         ),
         Found::WorstAt(found) => print(
@@ -219,7 +225,7 @@ fn tell_found<P: Audience>(
         Found::Simulated(answer) | Found::Reached(answer) => tell_run(answer, tasks, people),
         Found::Drawn(drawing) => tell_run(&drawing.answer, tasks, people),
         Found::Observed(_, shown) => tell_seen(shown, tasks, people),
-        Found::Keeping { keeping, .. } => tell_kept(keeping, tasks, text, people),
+        Found::Keeping { node, .. } => tell_kept(&node.keeping, tasks, text, people),
         _ => {}
     }
 }

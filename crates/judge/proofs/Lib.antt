@@ -8,3 +8,4 @@ pub mod TextLaws
 pub mod OrderLaws
 pub mod SpelledLaws
 pub mod SettingsLaws
+pub mod NumberedLaws

@@ -1,5 +1,5 @@
 -- What the settings of an order print gives the order back.
-use Rattle.std.proofs.Common.{◌≡◌, ◌∙◌, ℕ, zero, suc, ◌+◌, ◌<◌, ◌≤◌, ◌==◌, not, inl, inr, Bool}
+use Rattle.std.proofs.Common.{◌≡◌, ◌∙◌, ℕ, zero, suc, ◌+◌, ◌-◌, ◌<◌, ◌≤◌, ◌==◌, not, inl, inr, Bool}
 use Rattle.std.proofs.Common.{true, false, cond, List, [], ◌∷◌, ◌++◌, map, length, get_or, Option}
 use Rattle.std.proofs.Common.{Some, None, Ok, unwrap_or, option_map, refl, sym, ap, subst}
 use Rattle.std.proofs.Common.{append_assoc, arith}
@@ -149,12 +149,20 @@ wrong_none : (U : List Task) (locks : List (List ℕ)) (threads mutexes : List S
 wrong_none U locks threads [] none = refl
 wrong_none U locks threads (m ∷ mutexes) none = none
 
-module _ (U : List Task) where
+-- the numbers of so many levels, the first of which counts from a start, as a mutex says them by the level: they rise
+pub record AreRising (f g : ℕ → ℕ) (start count : ℕ) : Type 0 where
+  pub some : (p : ℕ) → p < count → 1 ≤ f (start + p)
+  pub within : (p : ℕ) → p < count → f (start + p) ≤ NUMBER_LIMIT
+  pub rise : (p q : ℕ) → p < q → q < count → f (start + p) < f (start + q)
+  pub apart : (p q : ℕ) → p < count → p < q → f (start + p) ≡ f (start + q) → ⊥
+  pub level : (p : ℕ) → g (p + 1) ≡ f (start + p)
+
+module _ (U : List Task) (f : ℕ → ℕ) where
   -- ---- the threads of an order
   abbrev thread_of : (line level task : ℕ) → Setting
-  thread_of line level i = record { line = line; name = (task_at U i).name; number = level }
+  thread_of line level i = record { line = line; name = (task_at U i).name; number = f level }
 
-  -- the first stands in a line and runs at a level
+  -- the first stands in a line, and its number counts from a level
   abbrev threads_in : (line level : ℕ) → List ℕ → List Setting
   threads_in line level [] = []
   threads_in line level (i ∷ order) =
@@ -182,14 +190,15 @@ module _ (U : List Task) where
   number_there : (line level : ℕ) (order : List ℕ) (p : ℕ) → p < length order
       → AreDistinct same_setting_name (threads_in line level order)
       → setting_number (threads_in line level order) (task_at U (get_or order p 0)).name
-      ≡ level + p
+      ≡ f (level + p)
   number_there line level [] p lt apart = absurd (omega arith)
   number_there line level (i ∷ order) zero lt apart =
-      rw (same_own (task_at U i).name) (omega arith)
+      rw (same_own (task_at U i).name) (ap f (omega arith))
   number_there line level (i ∷ order) (suc p) lt apart =
       let other = name_there (λ name. same_bytes (task_at U i).name name ≡ false) (line + 1)
       (level + 1) order p (omega arith) apart.0 in
-      rw other (number_there (line + 1) (level + 1) order p (omega arith) apart.1 ∙ omega arith)
+      rw other (number_there (line + 1) (level + 1) order p (omega arith) apart.1
+      ∙ ap f (omega arith))
 
   set_thread : (line level : ℕ) (order : List ℕ) (k : ℕ) → among order k ≡ true
       → is_set (threads_in line level order) (task_at U k).name ≡ true
@@ -200,11 +209,11 @@ module _ (U : List Task) where
     | inr later ↦ or_right _ _ (set_thread (line + 1) (level + 1) order k later)
   ]
 
-  module _ (base : ℕ) (order : List ℕ) where
+  module _ (g : ℕ → ℕ) (order tail : List ℕ) where
     -- ---- the mutexes of some locks
-    -- the priority of a lock's ceiling
+    -- the number of a lock's ceiling
     abbrev ceiling_at : List ℕ → ℕ
-    ceiling_at lock = priority_of base (unwrap_or (ceiling_of U order lock) 0)
+    ceiling_at lock = g (unwrap_or (ceiling_of U order lock) 0)
 
     abbrev mutex_of : ℕ → List ℕ → Setting
     mutex_of line lock = record { line = line; name = lock; number = ceiling_at lock }
@@ -255,8 +264,29 @@ module _ (U : List Task) where
         let lock = get_or (locks_of U) k d in
         holds lock (list_any_at (same_bytes lock) (locks_of U) k d lt (same_own lock)))
 
-    module _ (kept : IsTaskSet U) (each : IsOrder U order) (some : 1 ≤ base)
-        (few : base + length order ≤ NUMBER_LIMIT + 1) where
+    -- ---- the text
+    -- the mutexes of some locks, and what stands behind them
+    abbrev pub mutexes_then : List (List ℕ) → List ℕ
+    mutexes_then [] = tail
+    mutexes_then (lock ∷ locks) =
+        mutex_line lock (option_map g (ceiling_of U order lock)) ++ mutexes_then locks
+
+    -- the threads of some tasks, and what stands behind them
+    abbrev pub threads_then : (level : ℕ) → List ℕ → List ℕ
+    threads_then level [] = mutexes_then (locks_of U)
+    threads_then level (i ∷ is) = thread_line U (f level) i ++ threads_then (level + 1) is
+
+    module _ (kept : IsTaskSet U) (each : IsOrder U order) (start : ℕ)
+        (are : AreRising f g start (length order))
+        (ends : (line : ℕ) → rows_from (kept_from line (lines_of tail)) ≡ Ok []) where
+      -- ---- numbers
+      later_differs : (level p m : ℕ) → level ≡ start + p → p < length order → level + 1 ≤ m
+          → f level ≡ f m → ⊥
+      later_differs level p m at lt past same =
+          let there : m ≡ start + (m - start) = omega (arith, at, past) in
+          are.apart p (m - start) lt (omega (arith, at, past, there))
+          (ap f (sym at) ∙ same ∙ ap f there)
+
       -- ---- tasks and places
       names_apart : (i j : ℕ) → i < length U → j < length U → (j ≡ i → ⊥)
           → same_bytes (task_at U i).name (task_at U j).name ≡ false
@@ -276,15 +306,17 @@ module _ (U : List Task) where
           (at.0, at.2, get_or_default order at.0 0 at.1 at.2 ∙ at.3 ∙ eqb-true at.1 k at.4)
 
       abbrev threads : List Setting
-      threads = threads_in 1 base order
+      threads = threads_in 1 start order
 
-      threads_apart : (L : Indexes) (line level : ℕ) (is : List ℕ) → IsPart L (all_of U)
+      threads_apart : (L : Indexes) (line level p : ℕ) (is : List ℕ) → level ≡ start + p
+          → p + length is ≤ length order → IsPart L (all_of U)
           → IsOrderOf L is → AreDistinct same_setting_name (threads_in line level is)
           × AreDistinct same_number (threads_in line level is)
-      threads_apart L line level [] part once = (tt, tt)
-      threads_apart L line level (i ∷ is) part once =
+      threads_apart L line level p [] at fits part once = (tt, tt)
+      threads_apart L line level p (i ∷ is) at fits part once =
           let rest = IsOrderOf-rest L i is once in
-          let later = threads_apart (without_index L i) (line + 1) (level + 1) is
+          let later = threads_apart (without_index L i) (line + 1) (level + 1) (p + 1) is
+          (omega (arith, at)) (omega (arith, fits))
           (without-part_of (length U) L i part) rest in
           let lt = λ (k : ℕ) (has : L k ≡ true). ltb-true k (length U) (part k has) in
           let other = λ (k : ℕ) (has : among is k ≡ true). without-parts L i k
@@ -296,28 +328,34 @@ module _ (U : List Task) where
               later.0,
             ),
             (
-              each_thread (λ s. (level == s.number) ≡ false) (line + 1) (level + 1) is
-                  (λ n m k from has. ne_eqb level m (λ e. omega (arith, e))),
+              each_thread (λ s. (f level == s.number) ≡ false) (line + 1) (level + 1) is
+                  (λ n m k from has. ne_eqb (f level) (f m)
+                  (later_differs level p m at (omega (arith, fits)) from)),
               later.1,
             ),
           )
 
       apart : AreDistinct same_setting_name threads × AreDistinct same_number threads
-      apart = threads_apart (all_of U) 1 base order (λ k h. h) each
+      apart = threads_apart (all_of U) 1 start 0 order (omega arith) (omega arith) (λ k h. h) each
 
       number_at : (p : ℕ) → p < length order
-          → thread_number U threads (get_or order p 0) ≡ base + p
-      number_at p lt = number_there 1 base order p lt apart.0
+          → thread_number U threads (get_or order p 0) ≡ f (start + p)
+      number_at p lt = number_there 1 start order p lt apart.0
 
       rising : IsOrderBy U threads order
       rising = record {
         each_once = each;
         rises = λ k lt.
-            let f : ℕ → ℕ = thread_number U threads in
-            let next : k + 1 < length order = omega (arith, lt, length-map order f) in
+            let number : ℕ → ℕ = thread_number U threads in
+            let next : k + 1 < length order = omega (arith, lt, length-map order number) in
             let here : k < length order = omega arith in
-            rw (get_or-map f order k 0 0 here, get_or-map f order (k + 1) 0 0 next)
-            (omega (arith, number_at k here, number_at (k + 1) next));
+            rw (get_or-map number order k 0 0 here, get_or-map number order (k + 1) 0 0 next)
+            (omega (
+              arith,
+              number_at k here,
+              number_at (k + 1) next,
+              are.rise k (k + 1) (omega arith) next,
+            ));
       }
 
       -- ---- locks and ceilings
@@ -332,78 +370,83 @@ module _ (U : List Task) where
           let high = (ceiling-highest U lock order has.0).0 has.1 in
           (high.0, high.2, has.1 ∙ ap (λ (n : ℕ). Some n) high.1)
 
+      up_to : (p q : ℕ) → p ≤ q → q < length order → f (start + p) ≤ f (start + q)
+      up_to p q le lt = elim (cases_lt p q) [
+        | inl less ↦ omega (arith, are.rise p q less lt)
+        | inr not ↦
+            let same : p ≡ q = omega (arith, le, not) in
+            rw same (omega arith)
+      ]
+
       -- the number of a lock's highest user is its ceiling
       top_is : (lock : List ℕ) → IsLock lock → top_number U threads lock ≡ ceiling_at lock
       top_is lock is =
           let number = thread_number U threads in
-          let f : ℕ → ℕ = λ k. cond (uses (task_at U k) lock) (number k) 0 in
+          let value_of : ℕ → ℕ = λ k. cond (uses (task_at U k) lock) (number k) 0 in
           let high = ceiling_is lock is in
           let i : ℕ = get_or order high.0 0 in
-          let level : ceiling_at lock ≡ base + high.0 =
-          ap (λ o. priority_of base (unwrap_or o 0)) high.2 ∙ omega arith in
-          let value : f i ≡ base + high.0 = ap (λ b. cond b (number i) 0) high.1.user
+          let top : ℕ = f (start + high.0) in
+          let level : ceiling_at lock ≡ top =
+          ap (λ o. g (unwrap_or o 0)) high.2 ∙ are.level high.0 in
+          let value : value_of i ≡ top = ap (λ b. cond b (number i) 0) high.1.user
           ∙ number_at high.0 high.1.in_order in
-          let below : greatest_below (length U) f ≤ base + high.0 =
-          greatest_below-le (length U) f (base + high.0)
+          let below : greatest_below (length U) value_of ≤ top =
+          greatest_below-le (length U) value_of top
           (λ k lt. elim (cases_Bool (uses (task_at U k) lock)) [
             | inl user ↦
                 let at = place_in k lt in
-                let here : f k ≡ base + at.0 = ap (λ b. cond b (number k) 0) user
+                let here : value_of k ≡ f (start + at.0) = ap (λ b. cond b (number k) 0) user
                 ∙ ap number (sym at.2) ∙ number_at at.0 at.1 in
                 elim (cases_lt high.0 at.0) [
                   | inl past ↦ absurd (both_ways (uses (task_at U k) lock) (subst (λ j. uses (task_at
                       U j) lock ≡ false) at.2 (high.1.none_above at.0 past at.1)) user)
-                  | inr le ↦ omega (arith, here, le)
+                  | inr le ↦ rw here (up_to at.0 high.0 le high.1.in_order)
                 ]
-            | inr none ↦ let here : f k ≡ 0 = ap (λ b. cond b (number k) 0) none in
+            | inr none ↦ let here : value_of k ≡ 0 = ap (λ b. cond b (number k) 0) none in
                 omega (arith, here)
           ]) in
-          let above = le-greatest_below (length U) f i
+          let above = le-greatest_below (length U) value_of i
           (inside i (place-among order high.0 high.1.in_order)) in
           omega (arith, above, below, value, level)
 
-      -- ---- the text
+      -- ---- what is read
       read_mutexes : (line : ℕ) (locks : List (List ℕ)) → AllByRecursion IsName locks
           → AllByRecursion IsLock locks
-          → rows_from (kept_from line (lines_of (mutex_lines_from U base order locks)))
+          → rows_from (kept_from line (lines_of (mutexes_then locks)))
           ≡ Ok (map Mutex (mutexes_in line locks))
-      read_mutexes line [] named are = refl
-      read_mutexes line (lock ∷ locks) named are =
-          let high = ceiling_is lock are.0 in
+      read_mutexes line [] named are_locks = ends line
+      read_mutexes line (lock ∷ locks) named are_locks =
+          let high = ceiling_is lock are_locks.0 in
+          let is = are.level high.0 in
           let entry : IsEntry
-          record { line = line; name = lock; number = priority_of base (high.0 + 1) } = record {
+          record { line = line; name = lock; number = g (high.0 + 1) } = record {
             named = named.0;
-            some = omega arith;
-            within = omega (arith, high.1.in_order);
+            some = rw is (are.some high.0 high.1.in_order);
+            within = rw is (are.within high.0 high.1.in_order);
           } in
           subst (λ (o : Option ℕ). rows_from (kept_from line (lines_of
-          (mutex_line lock (option_map (priority_of base) o) ++ mutex_lines_from U base order locks)))
-          ≡ Ok (Mutex record { line = line; name = lock; number = priority_of base (unwrap_or o 0) }
+          (mutex_line lock (option_map g o) ++ mutexes_then locks)))
+          ≡ Ok (Mutex record { line = line; name = lock; number = g (unwrap_or o 0) }
           ∷ map Mutex (mutexes_in (line + 1) locks))) (sym high.2)
-          (entry_read false _ entry (mutex_lines_from U base order locks) _
-          (read_mutexes (line + 1) locks named.1 are.1))
+          (entry_read false _ entry (mutexes_then locks) _
+          (read_mutexes (line + 1) locks named.1 are_locks.1))
 
-      read_threads : (line level : ℕ) (is : List ℕ) → AllByRecursion (λ i. i < length U) is
-          → 1 ≤ level → level + length is ≤ NUMBER_LIMIT + 1
-          → (n : ℕ) × (rows_from (kept_from line
-          (lines_of (thread_lines U level is ++ mutex_lines_from U base order (locks_of U))))
+      read_threads : (line level p : ℕ) (is : List ℕ) → AllByRecursion (λ i. i < length U) is
+          → level ≡ start + p → p + length is ≤ length order
+          → (n : ℕ) × (rows_from (kept_from line (lines_of (threads_then level is)))
           ≡ Ok (map Thread (threads_in line level is) ++ map Mutex (mutexes_in n (locks_of U))))
-      read_threads line level [] within low high =
+      read_threads line level p [] within at fits =
           (line, read_mutexes line (locks_of U) locks_once.0 (each_lock IsLock (λ lock is. is)))
-      read_threads line level (i ∷ is) within low high =
-          let later = read_threads (line + 1) (level + 1) is within.1 (omega arith) (omega arith) in
+      read_threads line level p (i ∷ is) within at fits =
+          let later = read_threads (line + 1) (level + 1) (p + 1) is within.1 (omega (arith, at))
+          (omega (arith, fits)) in
+          let here : p < length order = omega (arith, fits) in
           let entry : IsEntry (thread_of line level i) = record {
             named = (valid_at U i kept within.0).named;
-            some = low;
-            within = omega arith;
-          } in (
-            later.0,
-            ap (λ t. rows_from (kept_from line (lines_of t)))
-                (append_assoc (thread_line U level i) (thread_lines U (level + 1) is)
-                (mutex_lines_from U base order (locks_of U)))
-                ∙ entry_read true _ entry (thread_lines U (level + 1) is
-                ++ mutex_lines_from U base order (locks_of U)) _ later.1,
-          )
+            some = rw at (are.some p here);
+            within = rw at (are.within p here);
+          } in
+          (later.0, entry_read true _ entry (threads_then (level + 1) is) _ later.1)
 
       -- ---- no reason why it is none
       module _ (n : ℕ) where
@@ -413,7 +456,7 @@ module _ (U : List Task) where
         no_line : line_fault U threads mutexes ≡ None
         no_line =
             let tasks = find_none (is_no_task U) threads
-            (each_thread (λ s. is_no_task U s ≡ false) 1 base order (λ line level k from has.
+            (each_thread (λ s. is_no_task U s ≡ false) 1 start order (λ line level k from has.
             rw (
               place_of_name U kept.distinct k (inside k has),
               lt-ltb k (length U) (inside k has),
@@ -433,7 +476,7 @@ module _ (U : List Task) where
             let tasks = find_none (λ (t : Task). not (is_set threads t.name)) U
             (recursion_from_All (λ (t : Task). not (is_set threads t.name) ≡ false) U (λ k d lt.
             ap (λ (t : Task). not (is_set threads t.name)) (get_or_default U k d no_task lt)
-            ∙ ap not (set_thread 1 base order k (among_is k ∙ lt-ltb k (length U) lt)))) in
+            ∙ ap not (set_thread 1 start order k (among_is k ∙ lt-ltb k (length U) lt)))) in
             let held = mutexless_none (locks_of U) mutexes
             (find_none (λ lock. not (is_set mutexes lock)) (locks_of U)
             (each_lock (λ lock. not (is_set mutexes lock) ≡ false)
@@ -446,10 +489,10 @@ module _ (U : List Task) where
             (number_lock n (locks_of U) lock is ∙ sym (top_is lock is)))))) in
             rw (tasks, held, right) refl
 
-      pub comes_back : IsNodeOrder U (settings_from U base order) order
-      comes_back =
-          let read = read_threads 1 base order (order-below (length U) (all_of U) order each
-          (λ k h. h)) some few in
+      pub comes_back_by : IsNodeOrder U (threads_then start order) order
+      comes_back_by =
+          let read = read_threads 1 start 0 order (order-below (length U) (all_of U) order each
+          (λ k h. h)) (omega arith) (omega arith) in
           let mutexes = mutexes_in read.0 (locks_of U) in
           let lines = threads_sorted threads mutexes in
           record {
@@ -459,3 +502,34 @@ module _ (U : List Task) where
             read = read.1;
             by_numbers = rw lines rising;
           }
+
+-- ---- from a base on
+module _ (U : List Task) (base : ℕ) (order : List ℕ) where
+  mutexes_from : (locks : List (List ℕ)) → mutex_lines_from U base order locks
+      ≡ mutexes_then U (λ n. n) (priority_of base) order [] locks
+  mutexes_from [] = refl
+  mutexes_from (lock ∷ locks) =
+      ap (λ t. mutex_line lock (option_map (priority_of base) (ceiling_of U order lock)) ++ t)
+      (mutexes_from locks)
+
+  threads_from : (level : ℕ) (is : List ℕ)
+      → thread_lines U level is ++ mutex_lines_from U base order (locks_of U)
+      ≡ threads_then U (λ n. n) (priority_of base) order [] level is
+  threads_from level [] = mutexes_from (locks_of U)
+  threads_from level (i ∷ is) =
+      append_assoc (thread_line U level i) (thread_lines U (level + 1) is)
+      (mutex_lines_from U base order (locks_of U))
+      ∙ ap (λ t. thread_line U level i ++ t) (threads_from (level + 1) is)
+
+  pub comes_back : IsTaskSet U → IsOrder U order → 1 ≤ base
+      → base + length order ≤ NUMBER_LIMIT + 1 → IsNodeOrder U (settings_from U base order) order
+  comes_back kept each some few =
+      let are : AreRising (λ n. n) (priority_of base) base (length order) = record {
+        some = λ p lt. omega (arith, some);
+        within = λ p lt. omega (arith, few, lt);
+        rise = λ p q lt lt'. omega (arith, lt);
+        apart = λ p q here lt same. omega (arith, lt, same);
+        level = λ p. omega arith;
+      } in
+      rw (threads_from base order) (comes_back_by U (λ n. n) (priority_of base) order [] kept each base
+      are (λ line. refl))

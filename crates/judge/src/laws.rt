@@ -1,11 +1,11 @@
 //! Laws of orders that a node has. Each is the contract of a function that does nothing.
-ghost use Rattle.std.specs.Prelude.{◌≡◌, ◌↔◌, ◌+◌, ◌≤◌, ℕ, Bool, List, length, IsTrue};
+ghost use Rattle.std.specs.Prelude.{◌≡◌, ◌↔◌, ◌+◌, ◌≤◌, ℕ, All, Bool, List, length, IsTrue};
 ghost use Rattle.task_sheet.specs.Sheet.{Task, AllTasks};
 ghost use Rattle.task_sheet.specs.TaskSet.{IsTaskSet};
 ghost use Rattle.task_sheet.specs.Orders.{AllStand, IsOrder};
 ghost use Rattle.assignment.specs.Places.{PlaceData};
 ghost use Rattle.assignment.specs.Placings.{IsBestPlacing, tasks_of_places};
-ghost use Rattle.settings.specs.Settings.{settings_from};
+ghost use Rattle.settings.specs.Settings.{settings_anew, settings_from, settings_kept};
 ghost use Rattle.judge.specs.Judgements.{AllJudged, all_meet, judged_of, order_judged};
 ghost use Rattle.judge.specs.Node.{IsNodeOrder, IsNodeOrderBy};
 ghost use Rattle.judge.specs.declared.judging.JudgedTask.{JudgedTask};
@@ -44,6 +44,17 @@ pub fn settings_are_read()
     ensures { (U : List Task) (base : ℕ) (order : List ℕ) → IsTaskSet U → IsOrder U order
         → 1 ≤ base → base + length order ≤ NUMBER_LIMIT + 1
         → IsNodeOrder U (settings_from U base order) order }
+{}
+
+/// So does what they print with numbers that threads had, or with room: the comments that name those that moved are skipped.
+pub fn numbered_settings_are_read()
+    ensures kept { (U : List Task) (base room : ℕ) (old order : List ℕ) → IsTaskSet U → IsOrder U order
+        → length old ≡ length order → All (λ n. n ≤ NUMBER_LIMIT) old → 1 ≤ base
+        → base + length order ≤ NUMBER_LIMIT + 1
+        → IsNodeOrder U (settings_kept U base room old order) order }
+    ensures anew { (U : List Task) (base room : ℕ) (order : List ℕ) → IsTaskSet U → IsOrder U order
+        → 1 ≤ base → base + length order ≤ NUMBER_LIMIT + 1
+        → IsNodeOrder U (settings_anew U base room order) order }
 {}
 
 /// What the settings of the best order print is judged to meet all deadlines, with the responses that its placing has;

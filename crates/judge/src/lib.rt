@@ -22,7 +22,7 @@ pub use crate::explained::{Parted, explained_text, levels_text};
 pub use crate::fault::SettingsFault;
 pub use crate::front::{Front, read_front};
 pub use crate::judging::{JudgedTask, Judgement, all_meet, judge_order};
-pub use crate::kept::read_kept;
+pub use crate::kept::{read_kept, read_kept_numbers};
 pub use crate::node::{JudgedNode, judge_rows, judge_settings};
 pub use crate::places::places_of;
 pub use crate::reading::order_of_rows;

@@ -1,15 +1,16 @@
 -- Of jobs that keep to the demand nothing is said to be broken, and of no others.
-use Rattle.std.proofs.Common.{ℕ, suc, ◌+◌, ◌-◌, ◌≤◌, ◌≡◌, refl, sym, ap, ◌∙◌, arith, All, true, false, not}
+use Rattle.std.proofs.Common.{Bool, ℕ, suc, ◌+◌, ◌-◌, ◌≤◌, ◌≡◌, refl, sym, ap, ◌∙◌, arith, All, true, false, not}
 use Rattle.std.proofs.Common.{get_or}
-use Rattle.std.proofs.Common.{List, [], ◌∷◌, ◌++◌, Option, None, Some, IfSome}
+use Rattle.std.proofs.Common.{List, [], ◌∷◌, ◌++◌, Option, None, Some, IfSome, is_some}
 use Rattle.std.proofs.lemmas.Bool.{false_from_ne_true, le-ltb, ltb-false, or_parts, true≢false}
 use Rattle.std.proofs.lemmas.List.Folds.{list_all_at}
 use Rattle.std.specs.List.{list_all}
 use Rattle.observed.specs.declared.seen.Seen.{Seen}
 use Rattle.observed_lines.specs.Breaks.{breaks_any, breaks_blocking, breaks_bound, breaks_cost}
-use Rattle.observed_lines.specs.Breaks.{breaks_foreign, breaks_idle, breaks_jitter, breaks_period}
+use Rattle.observed_lines.specs.Breaks.{breaks_foreign, breaks_idle, breaks_jitter, breaks_period, breaks_priority}
 use Rattle.observed_lines.specs.Breaks.{is_kept, is_over, is_short, may_idle}
-use Rattle.observed_lines.specs.Broken.{broken_lines, broken_words}
+use Rattle.observed_lines.specs.Broken.{broken_lines, own_lines, own_words, wait_lines, wait_words}
+use Rattle.observed_lines.specs.Causes.{causes_in}
 use Rattle.kept_promises.specs.Kept.{Keeps, KeepsToDemand}
 
 -- a time that isn't short of a limit, is short of it by no tolerance
@@ -34,6 +35,7 @@ lesser (Some t) limit less le enough = omega (arith, le, enough)
 pub keeps-to_demand : (s : Seen) → s.promise.cost ≤ s.may_execute → s.closest ≤ s.promise.period
     → s.promise.blocking ≤ s.may_be_blocked → Keeps s → KeepsToDemand s
 keeps-to_demand s cost closest blocking keeps = record {
+  priority = keeps.priority;
   cost = omega (arith, cost, keeps.cost);
   period = lesser s.gap s.promise.period s.closest closest keeps.period;
   jitter = keeps.jitter;
@@ -43,6 +45,9 @@ keeps-to_demand s cost closest blocking keeps = record {
 }
 
 module _ (tolerance : ℕ) (s : Seen) (keeps : KeepsToDemand s) where
+  priority : breaks_priority s ≡ false
+  priority = ap (λ (o : Option ℕ). is_some o) keeps.priority
+
   cost : breaks_cost tolerance s ≡ false
   cost = le-ltb tolerance (s.executed - s.may_execute) (omega (arith, keeps.cost))
 
@@ -65,10 +70,15 @@ module _ (tolerance : ℕ) (s : Seen) (keeps : KeepsToDemand s) where
   idle = le-ltb tolerance (s.idle - may_idle s) (omega (arith, keeps.taken))
 
   any : breaks_any tolerance s ≡ false
-  any = rw (cost, period, jitter, bound, blocking, foreign, idle) refl
+  any = rw (priority, cost, period, jitter, bound, blocking, foreign, idle) refl
 
-  written : broken_words tolerance s ≡ []
-  written = rw (cost, period, jitter, bound, blocking, foreign, idle) refl
+  own : own_words tolerance s ≡ []
+  own = rw (priority, cost, period, jitter) refl
+
+  -- neither among what follows from something, nor among what doesn't
+  waits : (follows : Bool) (causes : List Seen) → wait_words follows causes tolerance s ≡ []
+  waits true causes = rw (bound, blocking, idle) refl
+  waits false causes = rw (bound, blocking, foreign, idle) refl
 
 -- behind the first, too
 rest_keeps : (s : Seen) (seen : List Seen) → All KeepsToDemand (s ∷ seen) → All KeepsToDemand seen
@@ -83,13 +93,31 @@ all_are_kept tolerance (s ∷ seen) all =
     all_are_kept tolerance seen (rest_keeps s seen all) in
     rw (here, rest) refl
 
+none_own : (tolerance : ℕ) (seen : List Seen) → All KeepsToDemand seen → own_lines tolerance seen ≡ []
+none_own tolerance [] all = refl
+none_own tolerance (s ∷ seen) all =
+    let here : own_words tolerance s ≡ [] = own tolerance s (all 0 s (omega arith)) in
+    ap (λ (words : List ℕ). words ++ own_lines tolerance seen) here
+    ∙ none_own tolerance seen (rest_keeps s seen all)
+
+none_waits : (tolerance : ℕ) (follows : Bool) (causes seen : List Seen) → All KeepsToDemand seen
+    → wait_lines follows causes tolerance seen ≡ []
+none_waits tolerance follows causes [] all = refl
+none_waits tolerance follows causes (s ∷ seen) all =
+    let here : wait_words follows causes tolerance s ≡ [] =
+    waits tolerance s (all 0 s (omega arith)) follows causes in
+    ap (λ (words : List ℕ). words ++ wait_lines follows causes tolerance seen) here
+    ∙ none_waits tolerance follows causes seen (rest_keeps s seen all)
+
 pub none_written : (tolerance : ℕ) (seen : List Seen) → All KeepsToDemand seen
     → broken_lines tolerance seen ≡ []
-none_written tolerance [] all = refl
-none_written tolerance (s ∷ seen) all =
-    let here : broken_words tolerance s ≡ [] = written tolerance s (all 0 s (omega arith)) in
-    ap (λ (words : List ℕ). words ++ broken_lines tolerance seen) here
-    ∙ none_written tolerance seen (rest_keeps s seen all)
+none_written tolerance seen all =
+    let causes : List Seen = causes_in tolerance seen in
+    let later : List ℕ = wait_lines true causes tolerance seen in
+    ap (λ (words : List ℕ). words ++ wait_lines false causes tolerance seen ++ later)
+    (none_own tolerance seen all)
+    ∙ ap (λ (words : List ℕ). words ++ later) (none_waits tolerance false causes seen all)
+    ∙ none_waits tolerance true causes seen all
 
 -- ---- of no others
 -- a time that isn't short
@@ -104,16 +132,23 @@ within : (time : Option ℕ) (limit : ℕ) → is_over 0 time limit ≡ false
 within None limit not_so = tt
 within (Some t) limit not_so = omega (arith, ltb-false 0 (t - limit) not_so)
 
+-- none that is said
+no_some : (o : Option ℕ) → is_some o ≡ false → o ≡ None
+no_some None none = refl
+no_some (Some n) none = absurd (true≢false none)
+
 -- who breaks nothing keeps to the demand
 kept_one : (s : Seen) → breaks_any 0 s ≡ false → KeepsToDemand s
 kept_one s none =
-    let a = or_parts (breaks_cost 0 s) _ none in
+    let p = or_parts (breaks_priority s) _ none in
+    let a = or_parts (breaks_cost 0 s) _ p.1 in
     let b = or_parts (breaks_period 0 s) _ a.1 in
     let j = or_parts (breaks_jitter 0 s) _ b.1 in
     let c = or_parts (breaks_bound 0 s) _ j.1 in
     let d = or_parts (breaks_blocking 0 s) _ c.1 in
     let e = or_parts (breaks_foreign 0 s) _ d.1 in
     record {
+      priority = no_some s.stray p.0;
       cost = omega (arith, ltb-false 0 (s.executed - s.may_execute) a.0);
       period = enough s.gap s.closest b.0;
       jitter = within s.delay s.promise.jitter j.0;

@@ -16,7 +16,7 @@ use Rattle.ceiling_kernel.specs.declared.trace.Release.{Release}
 use Rattle.ceiling_kernel.specs.declared.trace.Trace.{Trace}
 use Rattle.run_lines.specs.Responses.{AllDoneWithin, DoneWithin}
 use Rattle.observed.specs.Pieces.{level_of}
-use Rattle.observed.specs.Promises.{no_promise, promise_of, promises_of}
+use Rattle.observed.specs.Promises.{no_promise, number_at, promise_of, promises_from, promises_of}
 
 -- the first place that passes a test
 pub position_is : {X : Type 0} (p : X → Bool) (xs : List X) (i : ℕ) (d : X) → i < length xs
@@ -38,30 +38,34 @@ one_name U set i k is ks same =
     ∙ place_of_name U set.distinct k ks
 
 -- a task stands at a level, counted from 0, below those that stand after it
-pub record IsPlaced (U : List Task) (places : List PlaceData) (i level : ℕ) : Type 0 where
+pub record IsPlaced (U : List Task) (numbers : List ℕ) (low : ℕ) (places : List PlaceData)
+    (i level : ℕ) : Type 0 where
+  pub number : ℕ
   pub place : PlaceData
   pub above : List PlaceData
   pub task : place.task ≡ i
-  pub within : level < length (promises_of U places)
-  pub promise : slice_index_or (promises_of U places) level no_promise ≡ promise_of U place above
+  pub within : level < length (promises_from U numbers low places)
+  pub promise : slice_index_or (promises_from U numbers low places) level no_promise
+      ≡ promise_of U number place above
   pub others : (k : ℕ) → k < level → same_bytes
-      (slice_index_or (promises_of U places) k no_promise).name (task_at U i).name ≡ false
+      (slice_index_or (promises_from U numbers low places) k no_promise).name (task_at U i).name ≡ false
   pub after : after_of (tasks_of_places places) i ≡ tasks_of_places above
   pub level_is : (first : ℕ) → level_from first (tasks_of_places places) i ≡ first + level
   pub done : (rs : List Release) (until : ℕ) (trace : Trace) → AllDoneWithin U places rs until trace
       → DoneWithin U place rs until trace
 
 -- each task of an order does
-pub placed_in : (U : List Task) → IsTaskSet U → (places : List PlaceData) (i : ℕ) → i < length U
-    → All (λ (p : PlaceData). p.task < length U) places
-    → among (tasks_of_places places) i ≡ true → (level : ℕ) × IsPlaced U places i level
-placed_in U set [] i is small has = absurd (cc)
-placed_in U set (p ∷ places) i is small has =
+pub placed_in : (U : List Task) → IsTaskSet U → (numbers : List ℕ) (low : ℕ)
+    (places : List PlaceData) (i : ℕ) → i < length U → All (λ (p : PlaceData). p.task < length U) places
+    → among (tasks_of_places places) i ≡ true → (level : ℕ) × IsPlaced U numbers low places i level
+placed_in U set numbers low [] i is small has = absurd (cc)
+placed_in U set numbers low (p ∷ places) i is small has =
     elim (cases_eq p.task i) [
       | inl same ↦
           let t : eqb p.task i ≡ true = eq-eqb p.task i same in (
             0,
             record {
+              number = number_at numbers low;
               place = p;
               above = places;
               task = same;
@@ -78,8 +82,8 @@ placed_in U set (p ∷ places) i is small has =
           let rest : among (tasks_of_places places) i ≡ true = rw f at has in
           let small_rest : All (λ (q : PlaceData). q.task < length U) places =
           λ k d lt. small (suc k) d (omega (arith, lt)) in
-          let found = placed_in U set places i is small_rest rest in
-          let in_rest : IsPlaced U places i found.0 = found.1 in
+          let found = placed_in U set numbers (low + 1) places i is small_rest rest in
+          let in_rest : IsPlaced U numbers (low + 1) places i found.0 = found.1 in
           let own : same_bytes (task_at U p.task).name (task_at U i).name ≡ false =
           elim (cases_Bool (same_bytes (task_at U p.task).name (task_at U i).name)) [
             | inl same ↦ absurd (ne (one_name U set p.task i (small 0 p (omega arith)) is same))
@@ -87,12 +91,13 @@ placed_in U set (p ∷ places) i is small has =
           ] in (
             suc found.0,
             record {
+              number = in_rest.number;
               place = in_rest.place;
               above = in_rest.above;
               task = in_rest.task;
               within = omega (arith, in_rest.within);
               promise = in_rest.promise;
-              others = others_next U p places i found.0 own in_rest.others;
+              others = others_next U numbers low p places i found.0 own in_rest.others;
               after = rw f in_rest.after;
               level_is = λ first. rw f (in_rest.level_is (first + 1) ∙ omega arith);
               done = λ rs until trace all. in_rest.done rs until trace all.1;
@@ -100,24 +105,27 @@ placed_in U set (p ∷ places) i is small has =
           )
     ]
   where
-    others_next : (U : List Task) (p : PlaceData) (places : List PlaceData) (i level : ℕ)
+    others_next : (U : List Task) (numbers : List ℕ) (low : ℕ) (p : PlaceData) (places : List PlaceData)
+        (i level : ℕ)
         → same_bytes (task_at U p.task).name (task_at U i).name ≡ false
         → ((k : ℕ) → k < level → same_bytes
-        (slice_index_or (promises_of U places) k no_promise).name (task_at U i).name ≡ false)
+        (slice_index_or (promises_from U numbers (low + 1) places) k no_promise).name (task_at U i).name
+        ≡ false)
         → (k : ℕ) → k < suc level
-        → same_bytes (slice_index_or (promises_of U (p ∷ places)) k no_promise).name
+        → same_bytes (slice_index_or (promises_from U numbers low (p ∷ places)) k no_promise).name
         (task_at U i).name ≡ false
-    others_next U p places i level own rest zero lt = own
-    others_next U p places i level own rest (suc k) lt = rest k (omega arith)
+    others_next U numbers low p places i level own rest zero lt = own
+    others_next U numbers low p places i level own rest (suc k) lt = rest k (omega arith)
 
 -- that is the level at which its name is found
-pub placed_level : (U : List Task) (places : List PlaceData) (i level : ℕ)
-    → IsPlaced U places i level → level_of (promises_of U places) (task_at U i).name ≡ Some level
-placed_level U places i level is =
-    let own : same_bytes (slice_index_or (promises_of U places) level no_promise).name
+pub placed_level : (U : List Task) (numbers : List ℕ) (places : List PlaceData) (i level : ℕ)
+    → IsPlaced U numbers 0 places i level
+    → level_of (promises_of U numbers places) (task_at U i).name ≡ Some level
+placed_level U numbers places i level is =
+    let own : same_bytes (slice_index_or (promises_of U numbers places) level no_promise).name
     (task_at U i).name ≡ true =
     ap (λ (q : _). same_bytes q.name (task_at U i).name) is.promise
     ∙ ap (λ k. same_bytes (task_at U k).name (task_at U i).name) is.task
     ∙ same_own (task_at U i).name in
-    position_is (λ p. same_bytes p.name (task_at U i).name) (promises_of U places) level no_promise
-    is.within is.others own
+    position_is (λ p. same_bytes p.name (task_at U i).name) (promises_of U numbers places) level
+    no_promise is.within is.others own

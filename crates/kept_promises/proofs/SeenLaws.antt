@@ -58,6 +58,7 @@ use Rattle.trace_text.specs.declared.rows.TraceSlice.{TraceSlice}
 use Rattle.observed.specs.End.{end_of, last_of}
 use Rattle.observed.specs.Observed.{observed_fault, observed_in, seen_jobs}
 use Rattle.observed.specs.Seen.{gap_since, last_job, ready_by, seen_job, until_of}
+use Rattle.observed.specs.Ranks.{is_stray, is_wrong, stray_in}
 use Rattle.observed.specs.Shares.{is_at, is_below}
 use Rattle.observed.specs.declared.pieces.Piece.{Piece}
 use Rattle.observed.specs.declared.promises.Promise.{Promise}
@@ -132,7 +133,7 @@ next_levels a b = elim (cases_lt a b) [
 ]
 
 module _ {U : List Task} {places : List PlaceData} {lines : TraceLines}
-    (run : AreOfRun U places lines) where
+    (run : AreOfRun U places lines) (numbers : List ℕ) where
   abbrev pub rs : List Release
   rs = run.releases
 
@@ -214,20 +215,20 @@ module _ {U : List Task} {places : List PlaceData} {lines : TraceLines}
       ((bytes_eq-Decides (release_at rs i).name (release_at rs j).name).0 same)
 
   -- its level
-  pub placed : (i : ℕ) → i < length U → (level : ℕ) × IsPlaced U places i level
+  pub placed : (i : ℕ) → i < length U → (level : ℕ) × IsPlaced U numbers 0 places i level
   placed i is =
       let each : among (tasks_of_places places) ≡ all_of U =
       IsOrderOf-among (all_of U) (tasks_of_places places) run.order in
       let small : nat_lt i (length U) ≡ true = lt-ltb i (length U) is in
-      placed_in U run.set places i is (order-within U places run.order)
+      placed_in U run.set numbers 0 places i is (order-within U places run.order)
       (ap (λ (H : ℕ → Bool). H i) each ∙ small)
 
-  pub level_named : (j : ℕ) → (lt : j < length rs) → level_of (promises_of U places)
+  pub level_named : (j : ℕ) → (lt : j < length rs) → level_of (promises_of U numbers places)
       (release_at rs j).name ≡ Some (placed (task_of j) (task_in j lt)).0
   level_named j lt =
       let at = placed (task_of j) (task_in j lt) in
-      ap (level_of (promises_of U places)) (sym (name_is j lt))
-      ∙ placed_level U places (task_of j) at.0 at.1
+      ap (level_of (promises_of U numbers places)) (sym (name_is j lt))
+      ∙ placed_level U numbers places (task_of j) at.0 at.1
 
   -- ---- when it executes
   pub ready_in : (j : ℕ) → j < length rs → (job_at jobs j).ready < until
@@ -369,13 +370,13 @@ module _ {U : List Task} {places : List PlaceData} {lines : TraceLines}
         (ap (is_of (slice_row records number s)) (all_at s.job (shown 0) first.0) ∙ own)
 
     -- and its task has a level
-    pub own_level : level_of (promises_of U places) (slice_row records number s).name
+    pub own_level : level_of (promises_of U numbers places) (slice_row records number s).name
         ≡ Some (placed (task_of s.job) (task_in s.job first.0)).0
-    own_level = ap (level_of (promises_of U places)) slice_name ∙ level_named s.job first.0
+    own_level = ap (level_of (promises_of U numbers places)) slice_name ∙ level_named s.job first.0
 
   -- ==== what is seen of them
   abbrev pub promises : List Promise
-  promises = promises_of U places
+  promises = promises_of U numbers places
 
   abbrev slices : List Slice
   slices = slices_of node jobs until
@@ -510,6 +511,19 @@ module _ {U : List Task} {places : List PlaceData} {lines : TraceLines}
       → level_in_order node (task_of j) ≡ suc (level_at j lt)
   level_is j lt = (placed (task_of j) (task_in j lt)).1.level_is 1 ∙ omega arith
 
+  -- ---- at which priorities a job runs, a run doesn't say
+  none_stray : (promise : Promise) (place lo hi number : ℕ) (ss : List Slice)
+      → stray_in U promises promise place lo hi
+      (pieces_of promises all (slices_from records number ss)) ≡ None
+  none_stray promise place lo hi number [] = refl
+  none_stray promise place lo hi number (s ∷ ss) =
+      let part : Piece = piece turns until promises all records number s in
+      let own : is_stray U promises promise place lo hi part ≡ false =
+      and_right _ (is_wrong U promises promise part.priority) refl in
+      cond-false (is_stray U promises promise place lo hi part) part.priority (stray_in U promises
+      promise place lo hi (pieces_of promises all (slices_from records (number + 1) ss))) own
+      ∙ none_stray promise place lo hi (number + 1) ss
+
   -- ---- what is promised
   module _ (j : ℕ) (lt : j < length rs) where
     abbrev i : ℕ
@@ -518,7 +532,7 @@ module _ {U : List Task} {places : List PlaceData} {lines : TraceLines}
     abbrev stop : ℕ
     stop = until_of end (shown j)
 
-    at : IsPlaced U places i (level_at j lt)
+    at : IsPlaced U numbers 0 places i (level_at j lt)
     at = (placed i (task_in j lt)).1
 
     cost_is : (promise_at j lt).cost ≡ (task_at U i).cost
@@ -763,6 +777,8 @@ module _ {U : List Task} {places : List PlaceData} {lines : TraceLines}
     -- it keeps all that is promised of it
     pub keeps : Keeps (sight j lt)
     keeps = record {
+      priority = none_stray (promise_at j lt) (length (take j all)) (release_at rs j).time stop
+          run.first slices;
       cost = cost_kept;
       period = period_kept;
       jitter = tt;

@@ -9,7 +9,7 @@ ghost use Rattle.two_input_commands.specs.Draw.{SaysDrawn};
 ghost use Rattle.set_commands.specs.Explain.{SaysExplained};
 ghost use Rattle.set_commands.specs.Limits.{SaysLimits};
 ghost use Rattle.two_input_commands.specs.Judge.{SaysJudged};
-ghost use Rattle.two_input_commands.specs.Observe.{SaysObserved};
+ghost use Rattle.two_input_commands.specs.Observe.{SaysObserved, leeway_of};
 ghost use Rattle.script_commands.specs.Play.{SaysPlayed};
 ghost use Rattle.set_commands.specs.Releases.{SaysList};
 ghost use Rattle.two_input_commands.specs.Simulate.{SaysSimulated};
@@ -211,7 +211,7 @@ pub extern "C" fn desk_draw(
     answer(alloc, Asked::Two(OfTwo::Draw, set, releases), room, status)
 }
 
-/// What `desk observe` prints of a task set and a trace, with no tolerance.
+/// What `desk observe` prints of a task set and a trace, with no tolerance, and where each task is to have a job.
 #[unsafe(no_mangle)]
 pub extern "C" fn desk_observe(
     alloc: Global,
@@ -221,7 +221,7 @@ pub extern "C" fn desk_observe(
     status: &mut u8,
 ) -> usize
     ensures room { length room.new ≡ length room.old }
-    ensures answer { AnswersCall (SaysObserved 0 None (Some set.now)
+    ensures answer { AnswersCall (SaysObserved (leeway_of no_options) None (Some set.now)
         (Some trace.now)) room.old room.new result status.new }
 {
     answer(alloc, Asked::Two(OfTwo::Observe, set, trace), room, status)

@@ -110,7 +110,7 @@ const ANSWERS: [(Call, &[u8], u8); 18] = [
     ),
     (
         Call::Observe(SET, b"0 1001 x\njob x 0 1001\n"),
-        b"task x 1 1001 1000 - 1000 1001 1000\ncost x 0 1001 of 1000\nbound x 0 1001 of 1000\n",
+        b"task x 1 1001 1000 - 1000 1001 1000\ncost x 0 1001 of 1000\nbound x 0 1001 of 1000 after cost x 0\n",
         3,
     ),
 ];

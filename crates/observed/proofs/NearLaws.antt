@@ -1,5 +1,5 @@
 -- What is seen of a job is seen in the pieces near it.
-use Rattle.std.proofs.Common.{◌≡◌, ◌∙◌, ℕ, zero, suc, ◌+◌, ◌≤◌, nat_le, nat_lt, Bool, true, false, cond, List}
+use Rattle.std.proofs.Common.{◌≡◌, ◌∙◌, ℕ, zero, suc, ◌+◌, ◌≤◌, ◌&&◌, nat_le, nat_lt, Bool, true, false, cond, List}
 use Rattle.std.proofs.Common.{[], ◌∷◌, length, Option, Some, None, option_map, refl, sym, ap, arith}
 use Rattle.std.specs.List.{find}
 use Rattle.std.specs.Prelude.{if◌then◌else◌}
@@ -9,6 +9,7 @@ use Rattle.task_sheet.specs.Sheet.{Task}
 use Rattle.trace_text.specs.declared.rows.TraceJob.{TraceJob}
 use Rattle.observed.specs.Near.{ahead, behind, near, rise_from}
 use Rattle.observed.specs.Culprits.{longest_below, next_culprit}
+use Rattle.observed.specs.Ranks.{is_stray, is_wrong, stray_in}
 use Rattle.observed.specs.Seen.{first_blocker, ready_by, seen_job, until_of}
 use Rattle.observed.specs.Shares.{counts, first_name, overlap, share_of, time_in}
 use Rattle.observed.specs.declared.culprits.Culprit.{Culprit}
@@ -153,6 +154,65 @@ module _ (whom : Whom) (from to : ℕ) where
       let rest = behind-same time pieces le in (first.0 ∙ rest.0, first.1 ∙ rest.1)
   near-same false time pieces rises le = behind-same time pieces le
 
+-- the first priority at which a job may not run is seen in them, too
+module _ (U : List Task) (promises : List Promise) (promise : Promise) (place from to : ℕ) where
+  abbrev stray : List Piece → Option ℕ
+  stray pieces = stray_in U promises promise place from to pieces
+
+  abbrev own : Piece → ℕ
+  own p = share (Job place) from to p
+
+  -- a piece of which nothing lies between the times isn't it
+  passed_over : (p : Piece) (pieces : List Piece) → own p ≡ 0 → stray (p ∷ pieces) ≡ stray pieces
+  passed_over p pieces none = ap (λ n. cond (nat_lt 0 n && is_wrong U promises promise p.priority)
+      p.priority (stray pieces)) none
+
+  behind-stray : (time : ℕ) (pieces : List Piece) → time ≤ from
+      → stray (behind time pieces) ≡ stray pieces
+  behind-stray time [] le = refl
+  behind-stray time (p ∷ pieces) le = go (behind-stray time pieces le) (nat_le p.stop time) refl
+    where
+      go : stray (behind time pieces) ≡ stray pieces → (b : Bool) → nat_le p.stop time ≡ b
+          → stray (if b then behind time pieces else p ∷ pieces) ≡ stray (p ∷ pieces)
+      go more true ended =
+          let stop : p.stop ≤ time = leb-true p.stop time ended in
+          let none : own p ≡ 0 = before (Job place) from to p (omega (arith, stop, le)) in
+          more ∙ sym (passed_over p pieces none)
+      go more false goes = refl
+
+  no_stray : (least : ℕ) (pieces : List Piece) → to ≤ least → rise_from least pieces ≡ true
+      → stray pieces ≡ None
+  no_stray least [] le rises = refl
+  no_stray least (p ∷ pieces) le rises =
+      let each = and_parts (nat_le least p.start) (rise_from p.start pieces) rises in
+      let start : least ≤ p.start = leb-true least p.start each.0 in
+      let none = after (Job place) from to p (omega (arith, le, start)) in
+      passed_over p pieces none ∙ no_stray p.start pieces (omega (arith, le, start)) each.1
+
+  ahead-stray : (least : ℕ) (pieces : List Piece) → rise_from least pieces ≡ true
+      → stray (ahead to pieces) ≡ stray pieces
+  ahead-stray least [] rises = refl
+  ahead-stray least (p ∷ pieces) rises = go (ahead-stray p.start pieces (and_parts
+      (nat_le least p.start) (rise_from p.start pieces) rises).1) (nat_le to p.start) refl
+    where
+      each : (nat_le least p.start ≡ true) × (rise_from p.start pieces ≡ true)
+      each = and_parts (nat_le least p.start) (rise_from p.start pieces) rises
+
+      go : stray (ahead to pieces) ≡ stray pieces → (b : Bool) → nat_le to p.start ≡ b
+          → stray (if b then [] else p ∷ ahead to pieces) ≡ stray (p ∷ pieces)
+      go more true over =
+          let start : to ≤ p.start = leb-true to p.start over in
+          let none = after (Job place) from to p start in
+          sym (passed_over p pieces none ∙ no_stray p.start pieces start each.1)
+      go more false goes =
+          ap (λ (o : Option ℕ). cond (is_stray U promises promise place from to p) p.priority o) more
+
+  near-stray : (b : Bool) (time : ℕ) (pieces : List Piece) → rise_from 0 pieces ≡ b → time ≤ from
+      → stray (near b to (behind time pieces)) ≡ stray pieces
+  near-stray true time pieces rises le = ahead-stray 0 (behind time pieces)
+      (behind-rises time pieces rises) ∙ behind-stray time pieces le
+  near-stray false time pieces rises le = behind-stray time pieces le
+
 -- who executes longest below a level is seen in them, too
 longest_near : (promises : List Promise) (but : Option ℕ) (from to : ℕ) (b : Bool) (time : ℕ)
     (pieces : List Piece) → rise_from 0 pieces ≡ b → time ≤ from → (level : ℕ)
@@ -191,6 +251,7 @@ seen-near U promises promise level end pieces past job =
     let first = first_blocker U promises promise level end pieces job in
     rw (
       (near-same (Job (length past)) job.arrival to b job.arrival pieces refl at).0,
+      near-stray U promises promise (length past) job.arrival to b job.arrival pieces refl at,
       (near-same (Below level) ready to b job.arrival pieces refl soon).0,
       longest_near promises None ready to b job.arrival pieces refl soon level,
       next_near promises first ready to b job.arrival pieces refl soon level,

@@ -1,5 +1,5 @@
 -- The tasks of places.
-use Rattle.std.proofs.Common.{◌≡◌, ℕ, zero, suc, ◌<◌, List, [], ◌∷◌, length, get_or, All, sym, ◌∙◌}
+use Rattle.std.proofs.Common.{◌≡◌, ℕ, zero, suc, ◌+◌, ◌<◌, List, [], ◌∷◌, length, get_or, All, sym, ◌∙◌}
 use Rattle.std.proofs.Common.{ap₂, subst, arith}
 use Rattle.std.proofs.lemmas.List.{get_or_default}
 use Rattle.task_sheet.proofs.Common.{Task, no_task, task_at, all_of, IsOrder}
@@ -7,6 +7,8 @@ use Rattle.std.specs.List.{AllByRecursion}
 use Rattle.task_sheet.proofs.IndexLaws.{order-below}
 use Rattle.assignment.specs.Places.{PlaceData}
 use Rattle.assignment.specs.Placings.{IsBestPlacing, tasks_of_places}
+use Rattle.observed.specs.Promises.{promises_from}
+use Rattle.observed.specs.declared.promises.Promise.{Promise}
 
 -- within a number behind the first, too
 pub rest-within : (n : ℕ) (places above : List PlaceData) (p : PlaceData) → places ≡ p ∷ above
@@ -39,3 +41,13 @@ order-within U places each = places-below (length U) places
 pub best-within : (U : List Task) (places : List PlaceData) → IsBestPlacing U places
     → All (λ (p : PlaceData). p.task < length U) places
 best-within U places best = order-within U places best.best.passing.each_once
+
+-- and so are those of what is promised
+pub promised-within : (n : ℕ) (U : List Task) (numbers : List ℕ) (level : ℕ) (places : List PlaceData)
+    → All (λ (p : PlaceData). p.task < n) places
+    → All (λ (p : Promise). p.task < n) (promises_from U numbers level places)
+promised-within n U numbers level [] all k d lt = absurd (omega (arith, lt))
+promised-within n U numbers level (p ∷ places) all zero d lt = all 0 p (omega (arith))
+promised-within n U numbers level (p ∷ places) all (suc k) d lt =
+    promised-within n U numbers (level + 1) places (λ j e less. all (suc j) e (omega (arith, less))) k d
+    (omega (arith, lt))

@@ -10,7 +10,7 @@ use Rattle.trace_text.specs.declared.rows.TraceRow.{TraceRow}
 use Rattle.trace_text.specs.declared.reading.TraceLines.{TraceLines}
 use Rattle.observed.specs.Observed.{observed_fault}
 use Rattle.observed.specs.Pieces.{homeless_line, pieces_of}
-use Rattle.observed.specs.Promises.{promises_of}
+use Rattle.observed.specs.Promises.{promises_by_level}
 use Rattle.observed.specs.Sights.{AreInputs, IsSightFaultOf}
 
 -- a set refuses a trace for a slice in no job alone
@@ -21,12 +21,12 @@ no-other (Some l) e other is = other l cc
 
 abbrev homeless : List Task → List PlaceData → TraceLines → Option ℕ
 homeless U places trace =
-    homeless_line (pieces_of (promises_of U places) trace.jobs.items trace.slices.items)
+    homeless_line (pieces_of (promises_by_level U places) trace.jobs.items trace.slices.items)
 
 -- a refusal of the trace of a set, in its best order
 pub fault-shown : (U : List Task) (found : Result (List TraceRow) ℕ) (places : List PlaceData)
     (trace : TraceLines) (e : TraceFault) → AreInputs U found places trace
-    → IsTraceFault e (observed_fault (promises_of U places) trace) → IsSightFaultOf U found e
+    → IsTraceFault e (observed_fault (promises_by_level U places) trace) → IsSightFaultOf U found e
 fault-shown U found places trace fault.OutOfMemory inputs why = tt
 fault-shown U found places trace (fault.NoJob line) inputs why = (places, trace, inputs, why)
 fault-shown U found places trace (fault.BadLine line) inputs why =

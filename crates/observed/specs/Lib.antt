@@ -4,6 +4,7 @@ pub mod Sweeps
 pub mod End
 pub mod Near
 pub mod Shares
+pub mod Ranks
 pub mod Culprits
 pub mod Seen
 pub mod Observed

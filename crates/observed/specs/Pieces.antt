@@ -32,6 +32,7 @@ piece_of promises jobs slice =
       job = job_of jobs slice;
       start = slice.start;
       stop = slice.stop;
+      priority = slice.priority;
     }
 
 -- each slice of a trace

@@ -5,6 +5,7 @@ use Rattle.task_sheet.specs.Sheet.{Task, same_bytes}
 use Rattle.task_sheet.specs.Demand.{interrupts_within}
 use Rattle.trace_text.specs.declared.rows.TraceJob.{TraceJob}
 use Rattle.observed.specs.Culprits.{first_culprit, name_of, next_culprit, time_of}
+use Rattle.observed.specs.Ranks.{stray_in}
 use Rattle.observed.specs.Shares.{first_name, time_in}
 use Rattle.observed.specs.declared.promises.Promise.{Promise}
 use Rattle.observed.specs.declared.culprits.Culprit.{Culprit}
@@ -82,6 +83,7 @@ seen_job U promises promise level end pieces before job =
       is_finished = is_some job.finish;
       lasted = until_of end job - job.arrival;
       executed = time_in (Job (length before)) job.arrival (until_of end job) pieces;
+      stray = stray_in U promises promise (length before) job.arrival (until_of end job) pieces;
       may_execute = promise.cost + interrupts_within U (until_of end job - job.arrival);
       blocked = time_in (Below level) (ready_by promise job) (until_of end job) pieces;
       blocker = name_of (first_blocker U promises promise level end pieces job);

@@ -12,20 +12,20 @@ use Rattle.trace_text.specs.declared.fault.TraceFault.TheVariants as fault
 use Rattle.trace_text.specs.declared.reading.TraceLines.{TraceLines}
 use Rattle.trace_text.specs.declared.rows.TraceRow.{TraceRow}
 use Rattle.observed.specs.Observed.{observed_fault, observed_in}
-use Rattle.observed.specs.Promises.{promises_of}
+use Rattle.observed.specs.Promises.{promises_by_level, promises_of}
 use Rattle.observed.specs.declared.sight.Observed.{Observed}
 use Rattle.observed.specs.declared.sight.Sight.{Sight}
 use Rattle.observed.specs.declared.sight.Sight.TheVariants.{Infeasible, Seen}
 
--- ---- in an order with these places
+-- ---- in an order with these places, whose threads have these numbers
 -- the promises of the order, and what a trace shows of each job of its tasks
-pub record IsShownAt (U : List Task) (places : List PlaceData) (lines : TraceLines)
+pub record IsShownAt (U : List Task) (numbers : List ℕ) (places : List PlaceData) (lines : TraceLines)
     (observed : Observed) : Type 0 where
-  pub promises : observed.promises.items ≡ promises_of U places
-  pub housed : observed_fault (promises_of U places) lines ≡ None
-  pub seen : observed.seen.items ≡ observed_in U (promises_of U places) lines
+  pub promises : observed.promises.items ≡ promises_of U numbers places
+  pub housed : observed_fault (promises_of U numbers places) lines ≡ None
+  pub seen : observed.seen.items ≡ observed_in U (promises_of U numbers places) lines
 
--- ---- in the best order
+-- ---- in the best order, whose threads have the numbers of their levels
 -- what was read is a trace, and the places are those of the best order
 pub record AreInputs (U : List Task) (found : Result (List TraceRow) ℕ) (places : List PlaceData)
     (trace : TraceLines) : Type 0 where
@@ -37,9 +37,9 @@ pub record IsObserved (U : List Task) (found : Result (List TraceRow) ℕ) (obse
   pub places : List PlaceData
   pub lines : TraceLines
   pub inputs : AreInputs U found places lines
-  pub promises : observed.promises.items ≡ promises_of U places
-  pub housed : observed_fault (promises_of U places) lines ≡ None
-  pub seen : observed.seen.items ≡ observed_in U (promises_of U places) lines
+  pub promises : observed.promises.items ≡ promises_by_level U places
+  pub housed : observed_fault (promises_by_level U places) lines ≡ None
+  pub seen : observed.seen.items ≡ observed_in U (promises_by_level U places) lines
 
 -- what a reading shows of a set, or that no order of the set passes
 abbrev pub IsSightOf : List Task → Result (List TraceRow) ℕ → Sight → Type 0
@@ -52,7 +52,7 @@ abbrev pub IsSightFaultOf : List Task → Result (List TraceRow) ℕ → TraceFa
 IsSightFaultOf U found fault.OutOfMemory = Unit {0}
 IsSightFaultOf U found (fault.NoJob line) =
     (places : List PlaceData) × (trace : TraceLines) × AreInputs U found places trace
-    × (observed_fault (promises_of U places) trace ≡ Some (fault.NoJob line))
+    × (observed_fault (promises_by_level U places) trace ≡ Some (fault.NoJob line))
 IsSightFaultOf U found e = rows_fault found ≡ Some e
 
 -- the same of a text

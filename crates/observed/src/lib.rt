@@ -8,6 +8,7 @@ mod near;
 mod observing;
 mod pieces;
 mod promises;
+mod ranks;
 mod seen;
 mod shares;
 mod sight;
@@ -15,6 +16,6 @@ mod sweeps;
 
 pub use crate::observing::observe;
 pub use crate::pieces::Piece;
-pub use crate::promises::{Promise, promises_of};
+pub use crate::promises::{Promise, levels_of, promises_of};
 pub use crate::seen::Seen;
 pub use crate::sight::{Observed, Sight, observe_at, observe_places, observe_text};

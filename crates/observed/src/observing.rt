@@ -1,5 +1,5 @@
 //! What a trace shows of the jobs of a set's tasks.
-ghost use Rattle.std.specs.Prelude.{◌≡◌, None, MatchResult, IfOk};
+ghost use Rattle.std.specs.Prelude.{◌≡◌, ◌<◌, length, All, None, MatchResult, IfOk};
 ghost use Rattle.trace_text.specs.Faults.{IsTraceFault};
 ghost use Rattle.observed.specs.Observed.{observed_fault, observed_in, seen_jobs};
 
@@ -21,6 +21,7 @@ fn seen_jobs(
     pieces: &[Piece],
     jobs: &[TraceJob],
 ) -> Result<Vec<Seen>, AllocError>
+    requires { All (λ p. p.task < length set.now) promises.now }
     ensures { IfOk result (λ seen. seen.items ≡ seen_jobs set.now promises.now end pieces.now jobs.now) }
 {
     let sorted = rises(pieces);
@@ -48,6 +49,7 @@ pub fn observe(
     promises: &[Promise],
     trace: &TraceLines,
 ) -> Result<Vec<Seen>, TraceFault>
+    requires { All (λ p. p.task < length set.now) promises.now }
     ensures { MatchResult result
         (λ seen. (observed_fault promises.now trace.now ≡ None)
         × (seen.items ≡ observed_in set.now promises.now trace.now))

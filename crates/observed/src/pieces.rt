@@ -19,6 +19,8 @@ pub struct Piece {
     pub job: Option<usize>,
     pub start: u64,
     pub stop: u64,
+    /// At which the thread ran, where it is said.
+    pub priority: Option<u64>,
 }
 
 // The level of the task with a name; none for a thread of the node's own.
@@ -77,6 +79,7 @@ fn piece_of(
         job,
         start: slice.start,
         stop: slice.stop,
+        priority: slice.priority,
     }
 }
 

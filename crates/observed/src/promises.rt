@@ -1,6 +1,6 @@
 //! What a set promises of its tasks in an order.
 ghost use Rattle.std.specs.Prelude.{◌≡◌, ◌<◌, length, All, IfOk};
-ghost use Rattle.observed.specs.Promises.{promise_of, promised, promises_of};
+ghost use Rattle.observed.specs.Promises.{levels_from, number_at, promise_of, promised, promises_of};
 
 use assignment::{Place, members_at};
 use blocking::blocking;
@@ -13,6 +13,10 @@ use task_sheet::{Name, Sheet};
 #[derive(Clone, Copy)]
 pub struct Promise {
     pub name: Name,
+    /// Its index in the set.
+    pub task: usize,
+    /// The priority of its thread.
+    pub number: u64,
     pub cost: u64,
     pub period: u64,
     pub jitter: u64,
@@ -20,12 +24,14 @@ pub struct Promise {
     pub bound: u64,
 }
 
-// What is promised of the task of a sheet, with its blocking and its bound.
-fn promised(sheet: &Sheet, blocking: u64, bound: u64) -> Promise
-    ensures { result ≡ promised sheet.now blocking bound }
+// What is promised of the task of a sheet, with its index, the number of its thread, its blocking and its bound.
+fn promised(sheet: &Sheet, task: usize, number: u64, blocking: u64, bound: u64) -> Promise
+    ensures { result ≡ promised sheet.now task number blocking bound }
 {
     Promise {
         name: sheet.name(),
+        task,
+        number,
         cost: sheet.cost(),
         period: sheet.period(),
         jitter: sheet.jitter(),
@@ -35,31 +41,56 @@ fn promised(sheet: &Sheet, blocking: u64, bound: u64) -> Promise
 }
 
 // What is promised of the task of a place, below these places.
-fn promise_of(set: &Tabled<'_>, place: &Place, above: &[Place]) -> Promise
+fn promise_of(set: &Tabled<'_>, number: u64, place: &Place, above: &[Place]) -> Promise
     requires task { place.now.task < length set.now }
     requires others { All (λ p. p.task < length set.now) above.now }
-    ensures { result ≡ promise_of set.now place.now above.now }
+    ensures { result ≡ promise_of set.now number place.now above.now }
 {
     let sheet = &set.sheets()[place.task];
     let time = blocking(set, place.task, members_at(above));
-    promised(sheet, time, place.response)
+    promised(sheet, place.task, number, time, place.response)
 }
 
-/// What a set promises of the tasks of an order, the lowest level first. The error is out of
-/// memory.
+// The number of the thread at a level; past their end 0.
+fn number_at(numbers: &[u64], level: usize) -> u64
+    ensures { result ≡ number_at numbers.now level }
+{
+    match numbers.get(level) {
+        Some(number) => *number,
+        None => 0,
+    }
+}
+
+/// The numbers that `desk settings` gives the threads of an order, the lowest level first: those of their levels, from 1.
+/// The error is out of memory.
+pub fn levels_of(alloc: Global, places: &[Place]) -> Result<Vec<u64>, AllocError>
+    ensures { IfOk result (λ numbers. numbers.items ≡ levels_from 1 places.now) }
+{
+    let mut numbers = Vec::with_capacity(alloc, places.len())?;
+    for (below, _place) in places.iter().enumerate() {
+        numbers.push(below as u64 + 1)?;
+    }
+    Ok(numbers)
+}
+
+/// What a set promises of the tasks of an order, the lowest level first, whose threads have these numbers. The error is out
+/// of memory.
 pub fn promises_of(
     alloc: Global,
     set: &Tabled<'_>,
+    numbers: &[u64],
     places: &[Place],
 ) -> Result<Vec<Promise>, AllocError>
     requires { All (λ p. p.task < length set.now) places.now }
-    ensures { IfOk result (λ promises. promises.items ≡ promises_of set.now places.now) }
+    ensures { IfOk result (λ promises. promises.items ≡ promises_of set.now numbers.now places.now) }
 {
     let mut promises = Vec::with_capacity(alloc, places.len())?;
     let mut rest = places;
+    let mut level = 0;
     while let Some((place, above)) = rest.split_first() {
-        promises.push(promise_of(set, place, above))?;
+        promises.push(promise_of(set, number_at(numbers, level), place, above))?;
         rest = above;
+        level += 1;
     }
     Ok(promises)
 }

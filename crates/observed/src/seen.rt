@@ -1,5 +1,5 @@
 //! What a trace shows of a job.
-ghost use Rattle.std.specs.Prelude.{◌≡◌, ◌<◌, ◌≤◌, length, slice_index_or};
+ghost use Rattle.std.specs.Prelude.{◌≡◌, ◌<◌, ◌≤◌, length, slice_index_or, All};
 ghost use Rattle.observed.specs.Promises.{no_promise};
 ghost use Rattle.observed.specs.Seen.{closest_to, delay_of, gap_since, last_job, ready_by, seen_job, until_of, waited_of};
 
@@ -7,6 +7,7 @@ use crate::culprits::{first_culprit, name_of, next_culprit, time_of};
 use crate::interrupts::interrupts_within;
 use crate::pieces::Piece;
 use crate::promises::Promise;
+use crate::ranks::stray_in;
 use crate::shares::{Whom, first_name, time_in};
 use ceilings::Tabled;
 use task_sheet::Name;
@@ -32,7 +33,9 @@ pub struct Seen {
     pub lasted: u64,
     /// For how long it executed.
     pub executed: u128,
-    /// For how long it may: for its cost, and for what timers and interrupts may take in that time.
+    /// The first priority at which it ran that is neither its thread's nor the ceiling of a lock of its task's.
+    pub stray: Option<u64>,
+    /// For how long it may execute: for its cost, and for what timers and interrupts may take in that time.
     pub may_execute: u128,
     /// For how long tasks below executed while it waited.
     pub blocked: u128,
@@ -138,7 +141,8 @@ pub(crate) fn seen_job(
     before: &[TraceJob],
     job: &TraceJob,
 ) -> Seen
-    requires { level < length promises.now }
+    requires level { level < length promises.now }
+    requires tasks { All (λ p. p.task < length set.now) promises.now }
     ensures { result ≡ seen_job set.now promises.now (slice_index_or promises.now level no_promise) level end pieces.now before.now job.now }
 {
     let promise = &promises[level];
@@ -163,6 +167,15 @@ pub(crate) fn seen_job(
         is_finished: job.finish.is_some(),
         lasted,
         executed: time_in(Whom::Job(before.len()), u128::from(job.arrival), to, pieces),
+        stray: stray_in(
+            set,
+            promises,
+            promise,
+            before.len(),
+            u128::from(job.arrival),
+            to,
+            pieces,
+        ),
         may_execute: u128::from(promise.cost) + interrupts_within(set, lasted),
         blocked,
         may_be_blocked,

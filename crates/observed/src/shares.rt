@@ -63,7 +63,7 @@ fn overlap(from: u128, to: u128, piece: &Piece) -> u128
 }
 
 // The same, where the piece is counted; else 0.
-fn share_of(whom: Whom, from: u128, to: u128, piece: &Piece) -> u128
+pub(crate) fn share_of(whom: Whom, from: u128, to: u128, piece: &Piece) -> u128
     ensures is { result ≡ share_of whom from to piece.now }
     ensures small { result < 18446744073709551616 }
 {

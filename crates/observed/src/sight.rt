@@ -7,7 +7,7 @@ ghost use Rattle.observed.specs.Promises.{promises_of};
 ghost use Rattle.observed.specs.Sights.{IsShownAt, IsSight, IsSightFault, IsSightFaultOf, IsSightOf};
 
 use crate::observing::observe;
-use crate::promises::{Promise, promises_of};
+use crate::promises::{Promise, levels_of, promises_of};
 use crate::seen::Seen;
 use assignment::{Place, Placing, place_all};
 use ceilings::{LockTable, Tabled};
@@ -32,27 +32,28 @@ pub struct Observed {
     pub seen: Vec<Seen>,
 }
 
-/// What a trace shows of a set's tasks at the levels of an order with these places. Refused only as `NoJob` or
-/// `OutOfMemory`.
+/// What a trace shows of a set's tasks at the levels of an order with these places, whose threads have these numbers.
+/// Refused only as `NoJob` or `OutOfMemory`.
 pub fn observe_places(
     alloc: Global,
     set: &Tabled<'_>,
+    numbers: &[u64],
     places: &[Place],
     trace: &TraceLines,
 ) -> Result<Observed, TraceFault>
     requires { All (λ p. p.task < length set.now) places.now }
     ensures { MatchResult result
-        (λ observed. IsShownAt set.now places.now trace.now observed)
+        (λ observed. IsShownAt set.now numbers.now places.now trace.now observed)
         (λ fault. IsTraceFault fault
-        (observed_fault (promises_of set.now places.now) trace.now)) }
+        (observed_fault (promises_of set.now numbers.now places.now) trace.now)) }
 {
-    let promises = promises_of(alloc, set, places)?;
+    let promises = promises_of(alloc, set, numbers, places)?;
     let seen = observe(alloc, set, &promises, trace)?;
     Ok(Observed { promises, seen })
 }
 
-/// What a text shows from a place on, as a trace, of a set's tasks at the levels of their best order. It is refused in the
-/// order of `TraceFault`, before the set is placed but for `NoJob` and `OutOfMemory`.
+/// What a text shows from a place on, as a trace, of a set's tasks at the levels of their best order, whose threads have the
+/// numbers of their levels, from 1. It is refused in the order of `TraceFault`, before the set is placed but for `NoJob` and `OutOfMemory`.
 pub fn observe_at(alloc: Global, set: &TaskSet, at: TextPlace<'_>) -> Result<Sight, TraceFault>
     ensures { MatchResult result
         (λ sight. IsSightOf set.now (rows_at at.entry.line at.entry.rest.now) sight)
@@ -66,7 +67,8 @@ pub fn observe_at(alloc: Global, set: &TaskSet, at: TextPlace<'_>) -> Result<Sig
     match place_all(alloc, &tabled)? {
         Placing::Stuck(members) => Ok(Sight::Infeasible(members)),
         Placing::Best(places) => {
-            let observed = observe_places(alloc, &tabled, &places, &trace)?;
+            let numbers = levels_of(alloc, &places)?;
+            let observed = observe_places(alloc, &tabled, &numbers, &places, &trace)?;
             Ok(Sight::Seen(observed))
         }
     }

@@ -1,6 +1,7 @@
 -- Which promises of its set a job breaks, by more than a tolerance.
 use Rattle.std.specs.Prelude.{ℕ, ◌-◌, Bool, false, ◌||◌, not, nat_lt, List, Option, Some, None}
 use Rattle.std.specs.List.{list_all}
+use Rattle.std.specs.Option.{is_some}
 use Rattle.observed.specs.declared.seen.Seen.{Seen}
 
 -- a time is past a limit by more than the tolerance
@@ -20,6 +21,10 @@ may_idle s = s.may_be_taken - s.foreign
 abbrev pub is_over : ℕ → Option ℕ → ℕ → Bool
 is_over tolerance None limit = false
 is_over tolerance (Some time) limit = is_past tolerance time limit
+
+-- it ran at a priority that is neither its thread's nor a ceiling of its locks
+abbrev pub breaks_priority : Seen → Bool
+breaks_priority s = is_some s.stray
 
 -- it executed longer than it may
 abbrev pub breaks_cost : ℕ → Seen → Bool
@@ -52,11 +57,12 @@ breaks_idle tolerance s = is_past tolerance s.idle (may_idle s)
 -- a job breaks some promise
 abbrev pub breaks_any : ℕ → Seen → Bool
 breaks_any tolerance s =
-    breaks_cost tolerance s
+    breaks_priority s
+    || (breaks_cost tolerance s
     || (breaks_period tolerance s
     || (breaks_jitter tolerance s
     || (breaks_bound tolerance s
-    || (breaks_blocking tolerance s || (breaks_foreign tolerance s || breaks_idle tolerance s)))))
+    || (breaks_blocking tolerance s || (breaks_foreign tolerance s || breaks_idle tolerance s))))))
 
 -- no job does
 abbrev pub is_kept : ℕ → List Seen → Bool

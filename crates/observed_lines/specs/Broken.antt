@@ -1,8 +1,10 @@
--- The lines of the promises that jobs break, by their arrivals.
-use Rattle.std.specs.Prelude.{ℕ, nat_lt, List, [], ◌∷◌, ◌++◌, Option, Some, None, codes, if◌then◌else◌}
+-- The lines of the promises that jobs break, each kind by their arrivals: those that follow from others come last.
+use Rattle.std.specs.Prelude.{ℕ, Bool, true, false, ◌&&◌, nat_lt, List, [], ◌∷◌, ◌++◌, Option, Some, None, codes, if◌then◌else◌}
 use Rattle.std.specs.Fmt.{decimal}
 use Rattle.observed.specs.declared.seen.Seen.{Seen}
-use Rattle.observed_lines.specs.Breaks.{breaks_blocking, breaks_bound, breaks_cost, breaks_foreign, breaks_idle, breaks_jitter, breaks_period, may_idle}
+use Rattle.observed_lines.specs.Breaks.{breaks_blocking, breaks_bound, breaks_cost, breaks_foreign, breaks_idle, breaks_jitter, breaks_period, breaks_priority, may_idle}
+use Rattle.observed_lines.specs.Causes.{after_words, bound_cause, cause_of, causes_in, is_among}
+use Rattle.observed_lines.specs.declared.causes.Cause.{Cause}
 
 -- what is broken, by the task's name and its job's arrival
 abbrev pub at_words : List ℕ → Seen → List ℕ
@@ -32,6 +34,18 @@ abbrev pub short_words : Option ℕ → ℕ → List ℕ
 short_words None least = codes "\n"
 short_words (Some gap) least = of_words gap least ++ codes "\n"
 
+-- at which priority it ran, of its thread's, and the end of the line
+abbrev pub stray_words : Option ℕ → ℕ → List ℕ
+stray_words None number = codes "\n"
+stray_words (Some priority) number = of_words priority number ++ codes "\n"
+
+-- it ran at a priority that is neither its thread's nor a ceiling of its locks
+abbrev pub priority_words : Seen → List ℕ
+priority_words s =
+    if breaks_priority s
+    then at_words (codes "priority") s ++ stray_words s.stray s.promise.number
+    else []
+
 -- it executed longer than it may
 abbrev pub cost_words : ℕ → Seen → List ℕ
 cost_words tolerance s =
@@ -58,29 +72,35 @@ jitter_words tolerance s =
     then at_words (codes "late") s ++ delay_words s.delay s.promise.jitter
     else []
 
--- it is done, and how long it took; or it is open
-abbrev pub late_words : Seen → List ℕ
-late_words s =
+-- what a job breaks itself
+abbrev pub own_words : ℕ → Seen → List ℕ
+own_words tolerance s =
+    priority_words s ++ cost_words tolerance s ++ period_words tolerance s ++ jitter_words tolerance s
+
+-- it is done, and how long it took; or it is open; and from what this follows
+abbrev pub late_words : Option Cause → Seen → List ℕ
+late_words cause s =
     if s.is_finished
-    then at_words (codes "bound") s ++ of_words s.lasted s.promise.bound ++ codes "\n"
-    else at_words (codes "open") s ++ codes "\n"
+    then at_words (codes "bound") s ++ of_words s.lasted s.promise.bound ++ after_words cause
+    else at_words (codes "open") s ++ after_words cause
 
 -- it took longer than its bound, or isn't done and its bound is past
-abbrev pub bound_words : ℕ → Seen → List ℕ
-bound_words tolerance s = if breaks_bound tolerance s then late_words s else []
+abbrev pub bound_words : (follows : Bool) → Option Cause → ℕ → Seen → List ℕ
+bound_words follows cause tolerance s =
+    if breaks_bound tolerance s && is_among follows cause then late_words cause s else []
 
--- who executed longest, and who did so of the others, and the end of the line
+-- who executed longest, and who did so of the others
 abbrev pub culprits_words : Seen → List ℕ
 culprits_words s =
     culprit_words (codes " by ") s.blocker s.blocker_time
-    ++ culprit_words (codes ", ") s.next_blocker s.next_time ++ codes "\n"
+    ++ culprit_words (codes ", ") s.next_blocker s.next_time
 
 -- while it waited, tasks below it executed for longer than they may, of which these did so longest
-abbrev pub blocked_words : ℕ → Seen → List ℕ
-blocked_words tolerance s =
-    if breaks_blocking tolerance s
+abbrev pub blocked_words : (follows : Bool) → Option Cause → ℕ → Seen → List ℕ
+blocked_words follows cause tolerance s =
+    if breaks_blocking tolerance s && is_among follows cause
     then at_words (codes "blocked") s ++ of_words s.blocked s.may_be_blocked
-    ++ culprits_words s
+    ++ culprits_words s ++ after_words cause
     else []
 
 -- while it waited, threads executed that the set doesn't have, for longer than may be taken, of which this is the first
@@ -92,19 +112,39 @@ foreign_words tolerance s =
     else []
 
 -- while it waited, nobody executed for longer than is left of that
-abbrev pub idle_words : ℕ → Seen → List ℕ
-idle_words tolerance s =
-    if breaks_idle tolerance s
-    then at_words (codes "idle") s ++ limit_words s.idle (may_idle s) ++ codes "\n"
+abbrev pub idle_words : (follows : Bool) → Option Cause → ℕ → Seen → List ℕ
+idle_words follows cause tolerance s =
+    if breaks_idle tolerance s && is_among follows cause
+    then at_words (codes "idle") s ++ limit_words s.idle (may_idle s) ++ after_words cause
     else []
 
--- what a job breaks
-abbrev pub broken_words : ℕ → Seen → List ℕ
-broken_words tolerance s =
-    cost_words tolerance s ++ period_words tolerance s ++ jitter_words tolerance s ++ bound_words tolerance s
-    ++ blocked_words tolerance s ++ foreign_words tolerance s ++ idle_words tolerance s
+-- the same, among what follows from nothing
+abbrev pub strange_words : (follows : Bool) → ℕ → Seen → List ℕ
+strange_words follows tolerance s = if follows then [] else foreign_words tolerance s
 
--- what each job breaks
+-- what a job breaks while it waits, and its bound: what follows from nothing, or what follows from something
+abbrev pub wait_words : (follows : Bool) → (causes : List Seen) → ℕ → Seen → List ℕ
+wait_words follows causes tolerance s =
+    blocked_words follows (cause_of tolerance causes s) tolerance s
+    ++ strange_words follows tolerance s
+    ++ idle_words follows (cause_of tolerance causes s) tolerance s
+    ++ bound_words follows (bound_cause tolerance causes s) tolerance s
+
+-- what each job breaks itself
+abbrev pub own_lines : ℕ → List Seen → List ℕ
+own_lines tolerance [] = []
+own_lines tolerance (s ∷ seen) = own_words tolerance s ++ own_lines tolerance seen
+
+-- what each job breaks while it waits, and its bound
+abbrev pub wait_lines : (follows : Bool) → (causes : List Seen) → ℕ → List Seen → List ℕ
+wait_lines follows causes tolerance [] = []
+wait_lines follows causes tolerance (s ∷ seen) =
+    wait_words follows causes tolerance s ++ wait_lines follows causes tolerance seen
+
+-- what each job breaks: first what it breaks itself, then what follows from nothing that is known, then what follows from
+-- something
 abbrev pub broken_lines : ℕ → List Seen → List ℕ
-broken_lines tolerance [] = []
-broken_lines tolerance (s ∷ seen) = broken_words tolerance s ++ broken_lines tolerance seen
+broken_lines tolerance seen =
+    own_lines tolerance seen
+    ++ wait_lines false (causes_in tolerance seen) tolerance seen
+    ++ wait_lines true (causes_in tolerance seen) tolerance seen

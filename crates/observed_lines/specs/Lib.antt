@@ -1,4 +1,6 @@
 pub mod Breaks
+pub mod Causes
+pub mod Jobless
 pub mod Broken
 pub mod Reached
 pub mod Lines

@@ -5,7 +5,9 @@ use Rattle.task_sheet.specs.Demand.{greatest_of}
 use Rattle.observed.specs.declared.promises.Promise.{Promise}
 use Rattle.observed.specs.declared.seen.Seen.{Seen}
 use Rattle.observed_lines.specs.Broken.{broken_lines}
+use Rattle.observed_lines.specs.Jobless.{jobless_lines}
 use Rattle.observed_lines.specs.Reached.{done_of, least_gap, of_level}
+use Rattle.observed_lines.specs.declared.leeway.Leeway.{Leeway}
 
 -- a time, or `-` for none, and what is promised of it
 abbrev pub beside_words : Option ℕ → (promised : ℕ) → List ℕ
@@ -39,7 +41,12 @@ task_lines level [] seen = []
 task_lines level (promise ∷ promises) seen =
     task_line level promise seen ++ task_lines (level + 1) promises seen
 
--- the tasks, the lowest first, and then what is broken, by time
-abbrev pub observed_lines : ℕ → List Promise → List Seen → List ℕ
-observed_lines tolerance promises seen =
-    task_lines 0 promises seen ++ broken_lines tolerance seen
+-- those that have no job, unless they need not have one
+abbrev pub missing_lines : Leeway → List Promise → List Seen → List ℕ
+missing_lines leeway promises seen = if leeway.jobless then [] else jobless_lines 0 promises seen
+
+-- the tasks, the lowest first, those of them that have no job, and then what is broken
+abbrev pub observed_lines : Leeway → List Promise → List Seen → List ℕ
+observed_lines leeway promises seen =
+    task_lines 0 promises seen ++ missing_lines leeway promises seen
+    ++ broken_lines leeway.tolerance seen

@@ -1,6 +1,6 @@
 //! Which promises a job breaks. Each is broken where it is missed by more than the tolerance.
 ghost use Rattle.std.specs.Prelude.{◌≡◌};
-ghost use Rattle.observed_lines.specs.Breaks.{breaks_any, breaks_blocking, breaks_bound, breaks_cost, breaks_foreign, breaks_idle, breaks_jitter, breaks_period, is_kept, is_over, is_past, is_short, may_idle};
+ghost use Rattle.observed_lines.specs.Breaks.{breaks_any, breaks_blocking, breaks_bound, breaks_cost, breaks_foreign, breaks_idle, breaks_jitter, breaks_period, breaks_priority, is_kept, is_over, is_past, is_short, may_idle};
 
 use observed::Seen;
 
@@ -36,6 +36,13 @@ pub(crate) fn may_idle(seen: &Seen) -> u128
     ensures { result ≡ may_idle seen.now }
 {
     seen.may_be_taken.saturating_sub(seen.foreign)
+}
+
+// It ran at a priority that is neither its thread's nor a ceiling of its locks.
+pub(crate) fn breaks_priority(seen: &Seen) -> bool
+    ensures { result ≡ breaks_priority seen.now }
+{
+    seen.stray.is_some()
 }
 
 // It executed longer than it may.
@@ -95,7 +102,8 @@ pub(crate) fn breaks_idle(tolerance: u64, seen: &Seen) -> bool
 pub fn breaks_any(tolerance: u64, seen: &Seen) -> bool
     ensures { result ≡ breaks_any tolerance seen.now }
 {
-    breaks_cost(tolerance, seen)
+    breaks_priority(seen)
+        || breaks_cost(tolerance, seen)
         || breaks_period(tolerance, seen)
         || breaks_jitter(tolerance, seen)
         || breaks_bound(tolerance, seen)

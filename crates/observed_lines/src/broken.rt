@@ -1,13 +1,14 @@
 //! The lines of the promises that jobs break.
 ghost use Rattle.std.specs.Prelude.{◌≡◌, ◌++◌, OnOk, string_bytes};
-ghost use Rattle.observed_lines.specs.Broken.{at_words, blocked_words, bound_words, broken_lines, broken_words, by_words, cost_words, culprit_words, culprits_words, delay_words, foreign_words, idle_words, jitter_words, limit_words, period_words};
+ghost use Rattle.observed_lines.specs.Broken.{at_words, blocked_words, bound_words, broken_lines, by_words, cost_words, culprit_words, culprits_words, delay_words, foreign_words, idle_words, jitter_words, late_words, limit_words, own_lines, own_words, period_words, priority_words, strange_words, stray_words, wait_lines, wait_words};
 
 use crate::breaks::{
     breaks_blocking, breaks_bound, breaks_cost, breaks_foreign, breaks_idle, breaks_jitter,
-    breaks_period, may_idle,
+    breaks_period, breaks_priority, may_idle,
 };
+use crate::causes::{Cause, bound_cause, cause_of, causes_in, is_among, push_after};
 use observed::Seen;
-use std::alloc::AllocError;
+use std::alloc::{AllocError, Global};
 use task_sheet::Name;
 
 // What is broken, by the task's name and its job's arrival.
@@ -56,6 +57,27 @@ fn push_by(text: &mut String, by: Option<Name>) -> Result<(), AllocError>
         Some(name) => writeln!(text, " by {name}"),
         None => text.push_str("\n"),
     }
+}
+
+// At which priority it ran, of its thread's, and the end of the line.
+fn push_stray(text: &mut String, priority: Option<u64>, number: u64) -> Result<(), AllocError>
+    ensures { OnOk result (string_bytes text.new ≡ string_bytes text.old ++ stray_words priority number) }
+{
+    match priority {
+        Some(priority) => writeln!(text, " {priority} of {number}"),
+        None => text.push_str("\n"),
+    }
+}
+
+// It ran at a priority that is neither its thread's nor a ceiling of its locks.
+fn push_priority(text: &mut String, seen: &Seen) -> Result<(), AllocError>
+    ensures { OnOk result (string_bytes text.new ≡ string_bytes text.old ++ priority_words seen.now) }
+{
+    if !breaks_priority(seen) {
+        return Ok(());
+    }
+    push_at(text, "priority", seen)?;
+    push_stray(text, seen.stray, seen.promise.number)
 }
 
 // It executed longer than it may.
@@ -110,47 +132,80 @@ fn push_jitter(text: &mut String, tolerance: u64, seen: &Seen) -> Result<(), All
     push_delay(text, seen.delay, seen.promise.jitter)
 }
 
-// It took longer than its bound, or isn't done and its bound is past.
-fn push_bound(text: &mut String, tolerance: u64, seen: &Seen) -> Result<(), AllocError>
+// What a job breaks itself.
+fn push_own(text: &mut String, tolerance: u64, seen: &Seen) -> Result<(), AllocError>
     ensures { OnOk result (string_bytes text.new
-        ≡ string_bytes text.old ++ bound_words tolerance seen.now) }
+        ≡ string_bytes text.old ++ own_words tolerance seen.now) }
 {
-    if !breaks_bound(tolerance, seen) {
-        return Ok(());
-    }
+    push_priority(text, seen)?;
+    push_cost(text, tolerance, seen)?;
+    push_period(text, tolerance, seen)?;
+    push_jitter(text, tolerance, seen)
+}
+
+// It is done, and how long it took; or it is open; and from what this follows.
+fn push_late(text: &mut String, cause: Option<Cause>, seen: &Seen) -> Result<(), AllocError>
+    ensures { OnOk result (string_bytes text.new
+        ≡ string_bytes text.old ++ late_words cause seen.now) }
+{
     if !seen.is_finished {
         push_at(text, "open", seen)?;
-        return text.push_str("\n");
+        return push_after(text, cause);
     }
     let lasted = seen.lasted;
     let bound = seen.promise.bound;
     push_at(text, "bound", seen)?;
-    writeln!(text, " {lasted} of {bound}")
+    write!(text, " {lasted} of {bound}")?;
+    push_after(text, cause)
 }
 
-// Who executed longest, and who did so of the others, and the end of the line.
+// It took longer than its bound, or isn't done and its bound is past.
+fn push_bound(
+    text: &mut String,
+    follows: bool,
+    cause: Option<Cause>,
+    tolerance: u64,
+    seen: &Seen,
+) -> Result<(), AllocError>
+    ensures { OnOk result (string_bytes text.new
+        ≡ string_bytes text.old ++ bound_words follows cause tolerance seen.now) }
+{
+    if breaks_bound(tolerance, seen) && is_among(follows, &cause) {
+        push_late(text, cause, seen)
+    } else {
+        Ok(())
+    }
+}
+
+// Who executed longest, and who did so of the others.
 fn push_culprits(text: &mut String, seen: &Seen) -> Result<(), AllocError>
     ensures { OnOk result (string_bytes text.new
         ≡ string_bytes text.old ++ culprits_words seen.now) }
 {
     push_culprit(text, " by ", seen.blocker, seen.blocker_time)?;
-    push_culprit(text, ", ", seen.next_blocker, seen.next_time)?;
-    text.push_str("\n")
+    push_culprit(text, ", ", seen.next_blocker, seen.next_time)
 }
 
 // While it waited, tasks below it executed for longer than they may.
-fn push_blocked(text: &mut String, tolerance: u64, seen: &Seen) -> Result<(), AllocError>
+fn push_blocked(
+    text: &mut String,
+    follows: bool,
+    cause: Option<Cause>,
+    tolerance: u64,
+    seen: &Seen,
+) -> Result<(), AllocError>
     ensures { OnOk result (string_bytes text.new
-        ≡ string_bytes text.old ++ blocked_words tolerance seen.now) }
+        ≡ string_bytes text.old ++ blocked_words follows cause tolerance seen.now) }
 {
-    if !breaks_blocking(tolerance, seen) {
+    if !(breaks_blocking(tolerance, seen) && is_among(follows, &cause)) {
         return Ok(());
     }
     let time = seen.blocked;
     let most = seen.may_be_blocked;
     push_at(text, "blocked", seen)?;
     write!(text, " {time} of {most}")?;
-    push_culprits(text, seen)
+    push_culprits(text, seen)?;
+    push_after(text, cause)
 }
 
 // While it waited, threads executed that the set doesn't have, for longer than what may be taken.
@@ -167,34 +222,97 @@ fn push_foreign(text: &mut String, tolerance: u64, seen: &Seen) -> Result<(), Al
 }
 
 // While it waited, nobody executed for longer than what is left of that.
-fn push_idle(text: &mut String, tolerance: u64, seen: &Seen) -> Result<(), AllocError>
+fn push_idle(
+    text: &mut String,
+    follows: bool,
+    cause: Option<Cause>,
+    tolerance: u64,
+    seen: &Seen,
+) -> Result<(), AllocError>
     ensures { OnOk result (string_bytes text.new
-        ≡ string_bytes text.old ++ idle_words tolerance seen.now) }
+        ≡ string_bytes text.old ++ idle_words follows cause tolerance seen.now) }
 {
-    if !breaks_idle(tolerance, seen) {
+    if !(breaks_idle(tolerance, seen) && is_among(follows, &cause)) {
         return Ok(());
     }
     push_at(text, "idle", seen)?;
     push_limit(text, seen.idle, may_idle(seen))?;
-    text.push_str("\n")
+    push_after(text, cause)
 }
 
-// What a job breaks.
-fn push_broken(text: &mut String, tolerance: u64, seen: &Seen) -> Result<(), AllocError>
+// Whom it waited for that the set doesn't have, among what follows from nothing.
+fn push_strange(
+    text: &mut String,
+    follows: bool,
+    tolerance: u64,
+    seen: &Seen,
+) -> Result<(), AllocError>
     ensures { OnOk result (string_bytes text.new
-        ≡ string_bytes text.old ++ broken_words tolerance seen.now) }
+        ≡ string_bytes text.old ++ strange_words follows tolerance seen.now) }
 {
-    push_cost(text, tolerance, seen)?;
-    push_period(text, tolerance, seen)?;
-    push_jitter(text, tolerance, seen)?;
-    push_bound(text, tolerance, seen)?;
-    push_blocked(text, tolerance, seen)?;
-    push_foreign(text, tolerance, seen)?;
-    push_idle(text, tolerance, seen)
+    if follows {
+        Ok(())
+    } else {
+        push_foreign(text, tolerance, seen)
+    }
 }
 
-// What each job breaks.
+// What a job breaks while it waits, and its bound: what follows from nothing, or what follows from something.
+fn push_wait(
+    text: &mut String,
+    follows: bool,
+    causes: &[Seen],
+    tolerance: u64,
+    seen: &Seen,
+) -> Result<(), AllocError>
+    ensures { OnOk result (string_bytes text.new
+        ≡ string_bytes text.old ++ wait_words follows causes.now tolerance seen.now) }
+{
+    let blocked = cause_of(tolerance, causes, seen);
+    push_blocked(text, follows, blocked, tolerance, seen)?;
+    push_strange(text, follows, tolerance, seen)?;
+    let idle = cause_of(tolerance, causes, seen);
+    push_idle(text, follows, idle, tolerance, seen)?;
+    push_bound(
+        text,
+        follows,
+        bound_cause(tolerance, causes, seen),
+        tolerance,
+        seen,
+    )
+}
+
+// What each job breaks itself.
+fn push_all_own(text: &mut String, tolerance: u64, seen: &[Seen]) -> Result<(), AllocError>
+    ensures { OnOk result (string_bytes text.new
+        ≡ string_bytes text.old ++ own_lines tolerance seen.now) }
+{
+    for job in seen {
+        push_own(text, tolerance, job)?;
+    }
+    Ok(())
+}
+
+// What each job breaks while it waits, and its bound.
+fn push_waits(
+    text: &mut String,
+    follows: bool,
+    causes: &[Seen],
+    tolerance: u64,
+    seen: &[Seen],
+) -> Result<(), AllocError>
+    ensures { OnOk result (string_bytes text.new
+        ≡ string_bytes text.old ++ wait_lines follows causes.now tolerance seen.now) }
+{
+    for job in seen {
+        push_wait(text, follows, causes, tolerance, job)?;
+    }
+    Ok(())
+}
+
+// What each job breaks: first what it breaks itself, last what follows from something.
 pub(crate) fn push_all_broken(
+    alloc: Global,
     text: &mut String,
     tolerance: u64,
     seen: &[Seen],
@@ -202,8 +320,8 @@ pub(crate) fn push_all_broken(
     ensures { OnOk result (string_bytes text.new
         ≡ string_bytes text.old ++ broken_lines tolerance seen.now) }
 {
-    for job in seen {
-        push_broken(text, tolerance, job)?;
-    }
-    Ok(())
+    let causes = causes_in(alloc, tolerance, seen)?;
+    push_all_own(text, tolerance, seen)?;
+    push_waits(text, false, &causes, tolerance, seen)?;
+    push_waits(text, true, &causes, tolerance, seen)
 }

@@ -3,9 +3,14 @@
 
 mod breaks;
 mod broken;
+mod causes;
+mod jobless;
 pub mod laws;
+mod leeway;
 mod reached;
 mod text;
 
 pub use crate::breaks::{breaks_any, is_kept};
+pub use crate::jobless::is_clean;
+pub use crate::leeway::Leeway;
 pub use crate::text::observed_text;

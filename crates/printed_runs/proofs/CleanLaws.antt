@@ -16,7 +16,7 @@ use Rattle.trace_text.specs.declared.fault.TraceFault.{TraceFault}
 use Rattle.trace_text.specs.declared.fault.TraceFault.TheVariants as fault
 use Rattle.trace_text.specs.declared.reading.TraceLines.{TraceLines}
 use Rattle.observed.specs.Observed.{observed_in}
-use Rattle.observed.specs.Promises.{promises_of}
+use Rattle.observed.specs.Promises.{levels_from, promises_by_level}
 use Rattle.observed.specs.Sights.{IsSight, IsSightFault}
 use Rattle.observed.specs.declared.seen.Seen.{Seen as SeenData}
 use Rattle.observed.specs.declared.sight.Sight.{Sight}
@@ -59,11 +59,12 @@ module _ (U : List Task) (places : List PlaceData) (rs : List Release) (until : 
   clean tolerance (Seen shown) is =
       let run : AreOfRun U is.places is.lines =
       of_run is.places is.lines is.inputs.best is.inputs.read in
-      let kept = all_seen run KeepsToDemand (keeps_to_demand run) in (
+      let numbers : List ℕ = levels_from 1 is.places in
+      let kept = all_seen run numbers KeepsToDemand (keeps_to_demand run numbers) in (
         subst (λ (seen : List SeenData). is_kept tolerance seen ≡ true) (sym is.seen)
-            (all_are_kept tolerance (observed_in U (promises_of U is.places) is.lines) kept),
+            (all_are_kept tolerance (observed_in U (promises_by_level U is.places) is.lines) kept),
         subst (λ (seen : List SeenData). broken_lines tolerance seen ≡ []) (sym is.seen)
-            (none_written tolerance (observed_in U (promises_of U is.places) is.lines) kept),
+            (none_written tolerance (observed_in U (promises_by_level U is.places) is.lines) kept),
       )
 
   -- of faults of the text, there is only want of room
@@ -78,7 +79,8 @@ module _ (U : List Task) (places : List PlaceData) (rs : List Release) (until : 
   refused fault.OutOfMemory is = tt
   refused fault.TooManyLines is = tt
   refused (fault.NoJob line) is =
-      none-some (fault.NoJob line) (sym (housed (of_run is.0 is.1 is.2.best is.2.read)) ∙ is.3)
+      none-some (fault.NoJob line) (sym (housed (of_run is.0 is.1 is.2.best is.2.read)
+      (levels_from 1 is.0)) ∙ is.3)
   refused (fault.BadLine line) is = (let same = only_many (fault.BadLine line) is in cc)
   refused (fault.SliceOverlap line) is = (let same = only_many (fault.SliceOverlap line) is in cc)
   refused (fault.JobUnsorted line) is = (let same = only_many (fault.JobUnsorted line) is in cc)

@@ -1,7 +1,9 @@
 //! Why a set's text is no task set.
 
 use crate::choices::NAMES_DECIDE;
-use crate::node::{node_of, tell_budget, tell_node, tell_nodes_own, tell_stranger};
+use crate::node::{
+    node_of, tell_budget, tell_node, tell_nodes_own, tell_stranger, tell_unknown_lock,
+};
 use crate::padding::{task_of, tell_padding};
 use crate::sets::tell_set;
 use crate::texts::tell_unseen;
@@ -35,6 +37,20 @@ fn tell_gathered(told: &mut Told, alloc: Global, bytes: &[u8], fault: TeamsFault
             told.name(" is the name of a task of ", other);
         }
         TeamsFault::NodesOwn { team, key } => tell_nodes_own(told, team, key),
+        TeamsFault::UnknownLock {
+            team,
+            task,
+            section,
+            lock,
+        } => {
+            tell_owned(told, alloc, teams, team, task, section);
+            tell_unknown_lock(told, alloc, node, lock);
+        }
+        TeamsFault::Renamed { team, task, cause } => {
+            tell_owned(told, alloc, teams, team, task, 0);
+            told.words("by [locks] of node.toml, ");
+            told.show(cause);
+        }
         TeamsFault::OtherPreference { team, other } => {
             tell_two(told, team, ".toml: prefers otherwise than ", other);
         }
@@ -137,6 +153,8 @@ enum Sought {
     Node,
     // That of the task of a name.
     Task(Name),
+    // That of a team with a task of a name.
+    Own(Name, Name),
 }
 
 // Whether a team's document is sought.
@@ -146,10 +164,11 @@ fn is_sought(alloc: Global, team: Name, text: &[u8], sought: &Sought) -> bool {
             Sought::Faulty(_) => false,
             Sought::Node => document.node.is_some(),
             Sought::Task(name) => document.set.find(*name).is_some(),
+            Sought::Own(owner, name) => *owner == team && document.set.find(*name).is_some(),
         },
         Err(_) => match sought {
             Sought::Faulty(owner) => *owner == team,
-            Sought::Node | Sought::Task(_) => false,
+            Sought::Node | Sought::Task(_) | Sought::Own(..) => false,
         },
     }
 }
@@ -183,6 +202,26 @@ fn tell_document(told: &mut Told, alloc: Global, bytes: &[u8], team: Name, fault
             tell_set(told, alloc, part.text, fault);
         }
         None => told.give_up(),
+    }
+}
+
+// The place of a team's task, and of a section of it, unless that is 0.
+fn tell_owned(
+    told: &mut Told,
+    alloc: Global,
+    bytes: &[u8],
+    team: Name,
+    task: Name,
+    section: usize,
+) {
+    let Some(part) = first_sought(alloc, bytes, &Sought::Own(team, task)) else {
+        return told.give_up();
+    };
+    tell_file(told, team);
+    if let Ok(root) = toml::table_from_slice(alloc, part.text) {
+        if let Some(place) = place_of_name(&root, task.as_str()) {
+            tell_place(told, alloc, part.text, &root, place, section);
+        }
     }
 }
 

@@ -8,6 +8,7 @@ mod conflicts;
 mod density;
 mod gathered;
 mod lists;
+mod nearest;
 mod node;
 mod notes;
 mod overload;

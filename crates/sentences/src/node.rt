@@ -1,5 +1,6 @@
 //! Why a node's document is none, or why a team doesn't do as it says.
 
+use crate::nearest::nearest;
 use crate::sets::{tell_fault as tell_said, tell_syntax, tell_value};
 use crate::texts::is_line_end;
 use crate::told::Told;
@@ -33,12 +34,17 @@ fn tell_place(told: &mut Told, bytes: &[u8], team: Name) {
 
 // ---- the document
 
-// The table of all budgets.
-fn budgets_in<'a>(root: &'a Table) -> Option<&'a Table> {
-    match root.get("team") {
-        Some(Value::Table(budgets)) => Some(budgets),
+// The table at a key.
+fn table_at<'a>(root: &'a Table, key: &str) -> Option<&'a Table> {
+    match root.get(key) {
+        Some(Value::Table(table)) => Some(table),
         _ => None,
     }
+}
+
+// The table of all budgets.
+fn budgets_in<'a>(root: &'a Table) -> Option<&'a Table> {
+    table_at(root, "team")
 }
 
 // What stands at a team's name.
@@ -54,7 +60,7 @@ fn tell_found(told: &mut Told, value: Option<&Value>) {
 }
 
 // The keys of the document.
-const ROOT_WORDS: [&str; 4] = ["prefer", "node", "interrupt", "team"];
+const ROOT_WORDS: [&str; 5] = ["prefer", "node", "interrupt", "locks", "team"];
 
 // The keys of a team's table.
 const TEAM_WORDS: [&str; 3] = ["load", "section", "node"];
@@ -65,7 +71,7 @@ fn tell_unknown_root(told: &mut Told, root: &Table) {
     told.shown(
         "node.toml: unknown key ",
         key,
-        "; it may have prefer in front, [node], [[interrupt]], and for each team [team.NAME]",
+        "; it may have prefer in front, [node], [[interrupt]], [locks], and for each team [team.NAME]",
     );
     if key == "task" {
         told.words("; a task stands in its team's document");
@@ -111,6 +117,19 @@ fn tell_no_right(told: &mut Told, root: &Table, team: Name) {
     }
 }
 
+// What stands at a name of a lock.
+fn tell_lock(told: &mut Told, root: &Table, name: Name) {
+    told.name("node.toml: ", name);
+    told.name(
+        " in [locks] has to be true, or in quotes the name of a lock that is true there: ",
+        name,
+    );
+    told.words(" is a second name of that then");
+    if let Some(table) = table_at(root, "locks") {
+        tell_found(told, table.get(name.as_str()));
+    }
+}
+
 // What is wrong in a document.
 fn tell_fault(told: &mut Told, bytes: &[u8], root: &Table, fault: NodeFault) {
     match fault {
@@ -119,6 +138,19 @@ fn tell_fault(told: &mut Told, bytes: &[u8], root: &Table, fault: NodeFault) {
             told.words("node.toml: ");
             tell_said(told, root, fault);
         }
+        NodeFault::NoLocks => {
+            told.words("node.toml: locks has to be a table, headed by [locks]");
+            tell_found(told, root.get("locks"));
+        }
+        NodeFault::BadLockName => {
+            let name = match table_at(root, "locks") {
+                Some(table) => unknown_key(Known::Names, table),
+                None => None,
+            };
+            told.shown("node.toml: ", name.unwrap_or(""), " is no name of a lock");
+        }
+        NodeFault::BadLock { name } => tell_lock(told, root, name),
+        NodeFault::TooManyLocks => told.words("node.toml: more than 1024 names in [locks]"),
         NodeFault::NoTeams => {
             told.words("node.toml: team has to be a table of teams, each headed by [team.NAME]");
             tell_found(told, root.get("team"));
@@ -183,6 +215,21 @@ pub(crate) fn tell_nodes_own(told: &mut Told, team: Name, key: Key) {
     );
     told.name(" in [team.", team);
     told.words("]");
+}
+
+/// A lock that the node's document doesn't list, with the nearest that it does.
+pub(crate) fn tell_unknown_lock(told: &mut Told, alloc: Global, bytes: &[u8], lock: Name) {
+    told.name("", lock);
+    told.words(" is no lock in [locks] of node.toml");
+    if let Ok(root) = toml::table_from_slice(alloc, bytes) {
+        if let Some(table) = table_at(&root, "locks") {
+            if let Some(near) = nearest(lock, table) {
+                told.shown("; the nearest is ", near, "");
+            }
+        }
+    }
+    told.name(": write one that is, or have it added there, ", lock);
+    told.words(" = true");
 }
 
 /// The node that a node's document says.

@@ -1,1 +1,2 @@
 pub mod LockLaws
+pub mod NumberingLaws

@@ -14,7 +14,7 @@ use std::alloc::{AllocError, Global};
 use task_sheet::TaskSet;
 
 // The line of a task's thread.
-fn push_thread(
+pub(crate) fn push_thread(
     text: &mut String,
     set: &TaskSet,
     priority: u64,

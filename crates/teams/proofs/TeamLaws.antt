@@ -18,7 +18,9 @@ use Rattle.teams.specs.ReadsTeams.{AreRead, ReadsPart, UnitesAll}
 use Rattle.teams.specs.Budgets.{budgets_fault}
 use Rattle.teams.specs.NodeDocument.{NodeData}
 use Rattle.teams.specs.ReadsText.{AreCut, AreJudged, IsUnited, Joins, Judges, ReadsBounded}
+use Rattle.std.specs.Option.{option_or}
 use Rattle.teams.specs.Rights.{rights_fault}
+use Rattle.teams.specs.Naming.{locks_fault, named_by}
 use Rattle.teams.specs.declared.node.Budget.{Budget}
 use Rattle.task_sheet.specs.declared.read.Document.{Document}
 use Rattle.teams.specs.declared.reading.Part.{Part}
@@ -175,12 +177,14 @@ refused_budget own budgets sets OutOfMemory united why = tt
 refused_budget own budgets sets e united why = inr (united, why)
 
 pub refused_right : (n : NodeData) (sets : List TeamSetData) (e : TeamsFault)
-    → rights_fault n.budgets sets ≡ Some e → Judges n sets (Err e)
+    → option_or (rights_fault n.budgets sets) (locks_fault n.locks sets) ≡ Some e
+    → Judges n sets (Err e)
 refused_right n sets OutOfMemory why = tt
 refused_right n sets e why = inl why
 
 pub joins_so : (n : NodeData) (sets : List TeamSetData) (answer : Result Document TeamsFault)
-    → rights_fault n.budgets sets ≡ None → Joins n.own n.budgets sets answer → Judges n sets answer
-joins_so n sets (Ok d) right is = (right, is)
-joins_so n sets (Err OutOfMemory) right is = tt
-joins_so n sets (Err e) right is = inr (right, is)
+    → rights_fault n.budgets sets ≡ None → locks_fault n.locks sets ≡ None
+    → Joins n.own n.budgets (named_by n.locks sets) answer → Judges n sets answer
+joins_so n sets (Ok d) right locks is = (record { rights = right; locks = locks }, is)
+joins_so n sets (Err OutOfMemory) right locks is = tt
+joins_so n sets (Err e) right locks is = inr (record { rights = right; locks = locks }, is)

@@ -1,10 +1,10 @@
 -- What a text says as it is written, and with what its node takes: numbers and interrupts within the limits, and documents of the
 -- same set, preference, node and interrupts as one answer.
 use Rattle.std.proofs.Common.{◌≡◌, ◌∙◌, ℕ, inl, inr, Bool, true, false, List, [], ◌∷◌, length}
-use Rattle.std.proofs.Common.{Option, Some, None, IfSome, option_map, All, Ok, sym, ap}
+use Rattle.std.proofs.Common.{map, Option, Some, None, IfSome, option_map, All, Ok, sym, ap}
 use Rattle.std.proofs.Common.{arith, Result, Err, refl}
 use Rattle.std.proofs.lemmas.Bool.{cases_Bool}
-use Rattle.std.proofs.lemmas.List.Elements.{All-append, All-from_recursion, All-nil}
+use Rattle.std.proofs.lemmas.List.Elements.{All-append, All-from_recursion, All-head, All-nil, All-tail}
 use Rattle.std.specs.List.{AllByRecursion}
 use Rattle.std.specs.Option.{option_or}
 use Rattle.task_sheet.specs.Sheet.{Task, AreOverheads, IsInterrupt}
@@ -19,11 +19,13 @@ use Rattle.task_sheet.specs.declared.keys.Key.TheVariants as key
 use Rattle.task_sheet.specs.declared.read.SetFault.{SetFault}
 use Rattle.task_sheet.proofs.WithinLimits.{overheads_within, says_within, tables_within}
 use Rattle.teams.specs.NodeDocument.{NodeData, ReadsNodeDocument, node_fault, only_keys, own_fault}
-use Rattle.teams.specs.declared.node.NodeKey.TheVariants.{Said, Team}
+use Rattle.teams.specs.declared.node.NodeKey.TheVariants.{Locks, Said, Team}
 use Rattle.teams.specs.declared.node.NodeFault.{NodeFault}
 use Rattle.teams.specs.declared.node.NodeFault.TheVariants as node
 use Rattle.teams.specs.Agreeing.{first_saying, interrupts_by, node_by, said_by}
 use Rattle.teams.specs.Budgets.{AreSound}
+use Rattle.teams.specs.Naming.{named_by, named_set}
+use Rattle.teams.specs.declared.naming.Lock.{Lock}
 use Rattle.teams.specs.Owned.{TeamSetData}
 use Rattle.teams.specs.ReadsTeams.{AreRead, UnitesAll}
 use Rattle.teams.specs.ReadsText.{ReadsEither, ReadsWritten, is_gathered, Pads, ReadsText}
@@ -95,7 +97,7 @@ none_said (Some f) e = cc
 
 root_none : (tree : Members) → node_fault tree ≡ None → own_fault tree ≡ None
 root_none tree none = elim (cases_Bool (only_keys
-    (Said key.Prefer ∷ Said key.Node ∷ Said key.Interrupt ∷ Team ∷ []) tree)) [
+    (Said key.Prefer ∷ Said key.Node ∷ Said key.Interrupt ∷ Locks ∷ Team ∷ []) tree)) [
       | inl known ↦ none_said _ (no_node_fault _ _ (rw known at none))
       | inr other ↦
           let some : Some node.UnknownRoot ≡ None = (rw other at none) in
@@ -114,11 +116,37 @@ node_bounds document n (tree, is, none, says) =
       interrupts = tables_within (tables_at key.Interrupt tree) node.1;
     })
 
+-- and teams' documents with locks by their own names say as much as they are
+named_within : (o : Option (List Lock)) (sets : List TeamSetData)
+    → AllByRecursion (λ s. AreWithinLimits s.node s.interrupts) sets
+    → AllByRecursion (λ s. AreWithinLimits s.node s.interrupts) (named_by o sets)
+named_within None sets all = all
+named_within (Some locks) sets all = by sets all
+  where
+    by : (xs : List TeamSetData) → AllByRecursion (λ s. AreWithinLimits s.node s.interrupts) xs
+        → AllByRecursion (λ s. AreWithinLimits s.node s.interrupts) (map (named_set locks) xs)
+    by [] all = tt
+    by (x ∷ xs) all = (all.0, by xs all.1)
+
+pub sound_named : (locks : List Lock) (sets : List TeamSetData) → AreSound sets
+    → AreSound (map (named_set locks) sets)
+sound_named locks sets all =
+    All-from_recursion (λ s. All IsInterrupt s.interrupts) (map (named_set locks) sets) (by sets all)
+  where
+    by : (xs : List TeamSetData) → AreSound xs
+        → AllByRecursion (λ s. All IsInterrupt s.interrupts) (map (named_set locks) xs)
+    by [] all = tt
+    by (x ∷ xs) all = (
+      All-head (λ (s : TeamSetData). All IsInterrupt s.interrupts) x xs all,
+      by xs (All-tail (λ (s : TeamSetData). All IsInterrupt s.interrupts) x xs all),
+    )
+
 pub bounded_within : (n : NodeData) (sets : List TeamSetData) (d : Document)
     → AreWithinLimits n.own.node n.own.interrupts → (ps : List Part) → AreRead ps sets
-    → UnitesAll (n.own ∷ sets) (Ok d) → AreWithinLimits d.node d.interrupts.items
-bounded_within n sets d own ps read all =
-    all_within (n.own ∷ sets) d (own, each_within ps sets read) all
+    → UnitesAll (n.own ∷ named_by n.locks sets) (Ok d)
+    → AreWithinLimits d.node d.interrupts.items
+bounded_within n sets d own ps read all = all_within (n.own ∷ named_by n.locks sets) d
+    (own, named_within n.locks sets (each_within ps sets read)) all
 
 either_within : (b : Bool) (text : List ℕ) (d : Document) → ReadsEither b text (Ok d)
     → AreWithinLimits d.node d.interrupts.items

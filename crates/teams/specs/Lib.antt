@@ -7,4 +7,5 @@ pub mod Shares
 pub mod Digits
 pub mod Budgets
 pub mod Rights
+pub mod Naming
 pub mod ReadsText

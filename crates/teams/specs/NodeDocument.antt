@@ -1,8 +1,8 @@
 -- What the node's document says: for all teams, and what each of them may take and say.
-use Rattle.std.specs.Prelude.{◌≡◌, ℕ, List, [], ◌∷◌, Bool, true, false, ◌&&◌, Option, Some, None, option_map, unwrap_or, is_some, Result, Ok, Err, codes, if◌then◌else◌}
+use Rattle.std.specs.Prelude.{◌≡◌, ℕ, nat_le, length, List, [], ◌∷◌, Bool, true, false, ◌&&◌, Option, Some, None, option_map, unwrap_or, is_some, Result, Ok, Err, codes, if◌then◌else◌}
 use Rattle.std.specs.Option.{option_or}
 use Rattle.std.specs.List.{list_any}
-use Rattle.toml.specs.Data.{Data, Members, no_members, member, get_member, as_bool, as_table}
+use Rattle.toml.specs.Data.{Data, Members, no_members, member, get_member, as_bool, as_str, as_table}
 use Rattle.task_sheet.specs.Name.{is_name}
 use Rattle.task_sheet.specs.Sheet.{same_bytes}
 use Rattle.task_sheet.specs.Tree.{number_of, tables_at, tree_interrupts, tree_node, tree_prefers, value_at, word_of}
@@ -11,11 +11,13 @@ use Rattle.task_sheet.specs.declared.keys.Key.TheVariants as key
 use Rattle.task_sheet.specs.declared.read.SetFault.{SetFault}
 use Rattle.task_sheet.specs.ReadsSet.{IsDocument}
 use Rattle.teams.specs.Owned.{TeamSetData}
+use Rattle.teams.specs.declared.naming.Lock.{Lock}
+use Rattle.teams.specs.declared.node.TheConstants.{LOCKS_LIMIT}
 use Rattle.teams.specs.declared.node.Budget.{Budget}
 use Rattle.teams.specs.declared.node.Quantity.{Quantity}
 use Rattle.teams.specs.declared.node.Quantity.TheVariants.{Load, Section}
 use Rattle.teams.specs.declared.node.NodeKey.{NodeKey}
-use Rattle.teams.specs.declared.node.NodeKey.TheVariants.{Team, Limit, Said}
+use Rattle.teams.specs.declared.node.NodeKey.TheVariants.{Team, Locks, Limit, Said}
 use Rattle.teams.specs.declared.node.NodeFault.{NodeFault}
 use Rattle.teams.specs.declared.node.NodeFault.TheVariants as fault
 
@@ -27,6 +29,7 @@ quantity_word Section = codes "section"
 -- how a key of a node's document is written
 abbrev pub key_word : NodeKey → List ℕ
 key_word Team = codes "team"
+key_word Locks = codes "locks"
 key_word (Limit quantity) = quantity_word quantity
 key_word (Said key) = word_of key
 
@@ -117,6 +120,63 @@ budgets_at (Some d) = budgets_of (unwrap_or (as_table d) no_members)
 abbrev pub budgets_in : Members → List Budget
 budgets_in root = budgets_at (get_member (key_word Team) root)
 
+-- ---- locks
+-- a value is true
+abbrev pub is_true : Data → Bool
+is_true d = unwrap_or (as_bool d) false
+
+abbrev pub is_said_true : Option Data → Bool
+is_said_true None = false
+is_said_true (Some d) = is_true d
+
+-- the lock that a string names, which stands in the table as one
+abbrev pub lock_named : Members → Option (List ℕ) → Option (List ℕ)
+lock_named ms None = None
+lock_named ms (Some text) =
+    if is_said_true (get_member text ms) && is_name text then Some text else None
+
+-- the lock of which a name is, by what the table says at it: its own, or another one of the table
+abbrev pub lock_said : Members → List ℕ → Data → Option (List ℕ)
+lock_said ms name d = if is_true d then Some name else lock_named ms (as_str d)
+
+-- why what a table says at a key is no lock
+abbrev pub lock_fault : Members → List ℕ → Data → Option NodeFault
+lock_fault ms name d =
+    if is_name name then (if is_some (lock_said ms name d) then None else Some (fault.BadLock name))
+    else Some fault.BadLockName
+
+-- the name, and the lock that it is of
+abbrev pub lock_at : Members → List ℕ → Data → Lock
+lock_at ms name d = record { name = name; lock = unwrap_or (lock_said ms name d) [] }
+
+-- the first fault of some keys of a table
+abbrev pub names_fault : Members → Members → Option NodeFault
+names_fault ms no_members = None
+names_fault ms (member k d more) = option_or (lock_fault ms k d) (names_fault ms more)
+
+-- their locks
+abbrev pub names_of : Members → Members → List Lock
+names_of ms no_members = []
+names_of ms (member k d more) = lock_at ms k d ∷ names_of ms more
+
+-- the fault of the value at `locks`, which may be absent
+abbrev pub listed_fault : Option Members → Option NodeFault
+listed_fault None = Some fault.NoLocks
+listed_fault (Some ms) =
+    option_or (names_fault ms ms)
+    (if nat_le (length (names_of ms ms)) LOCKS_LIMIT then None else Some fault.TooManyLocks)
+
+abbrev pub locks_fault : Option Data → Option NodeFault
+locks_fault None = None
+locks_fault (Some d) = listed_fault (as_table d)
+
+-- the locks that are listed there
+abbrev pub listed : Data → List Lock
+listed d = names_of (unwrap_or (as_table d) no_members) (unwrap_or (as_table d) no_members)
+
+abbrev pub locks_in : Members → Option (List Lock)
+locks_in root = option_map listed (get_member (key_word Locks) root)
+
 -- ---- what is said for all teams
 -- how the node's document is called among those of teams
 abbrev pub node_word : List ℕ
@@ -143,17 +203,19 @@ own_fault root =
 -- what it says
 pub record NodeData : Type 0 where
   pub own : TeamSetData
+  pub locks : Option (List Lock)
   pub budgets : List Budget
 
 abbrev pub node_of : Members → NodeData
-node_of root = record { own = own_of root; budgets = budgets_in root }
+node_of root = record { own = own_of root; locks = locks_in root; budgets = budgets_in root }
 
--- the first fault of a node's document: its keys, what is said for all teams, and then the teams
+-- the first fault of a node's document: its keys, what is said for all teams, its locks, and then the teams
 abbrev pub node_fault : Members → Option NodeFault
 node_fault root =
-    if only_keys (Said key.Prefer ∷ Said key.Node ∷ Said key.Interrupt ∷ Team ∷ []) root
+    if only_keys (Said key.Prefer ∷ Said key.Node ∷ Said key.Interrupt ∷ Locks ∷ Team ∷ []) root
     then option_or (option_map fault.Says (own_fault root))
-    (teams_fault (get_member (key_word Team) root))
+    (option_or (locks_fault (get_member (key_word Locks) root))
+    (teams_fault (get_member (key_word Team) root)))
     else Some fault.UnknownRoot
 
 -- what the tree says, where it has no fault; Syntax: there is no tree; any other fault but out of memory: the tree's first

@@ -10,6 +10,8 @@ use Rattle.teams.specs.Gathering.{AreGathered, HasNoNode, IsNodePart, IsNoDocume
 use Rattle.teams.specs.NodeDocument.{NodeData, ReadsNodeDocument}
 use Rattle.teams.specs.Budgets.{budgets_fault}
 use Rattle.teams.specs.Rights.{rights_fault}
+use Rattle.teams.specs.Naming.{locks_fault, named_by}
+use Rattle.std.specs.Option.{option_or}
 use Rattle.teams.specs.declared.node.Budget.{Budget}
 use Rattle.teams.specs.declared.node.NodeFault.TheVariants as node
 use Rattle.teams.specs.declared.fault.TeamsFault.{TeamsFault}
@@ -41,7 +43,7 @@ ReadsNode text (Err (Node node.OutOfMemory)) = ⊥
 ReadsNode text (Err (Node e)) = ReadsNodeDocument text (Err e)
 ReadsNode text (Err _) = ⊥
 
--- the node's document says nothing for all teams
+-- the node's document says nothing for all teams, and lists no locks
 abbrev pub SaysNothing : List ℕ → Type 0
 SaysNothing document =
     (n : NodeData) → ReadsNodeDocument document (Ok n)
@@ -57,14 +59,19 @@ Joins own budgets sets (Err e) =
     UnitesAll (own ∷ sets) (Err e)
     ⊎ (IsUnited (own ∷ sets) × (budgets_fault sets budgets ≡ Some e))
 
--- the answer on what the node's document says and on the sets of teams: the same where no team says what is the node's
--- without the right to; else the first that does
+-- no team says what is the node's without the right to, or takes a lock that isn't listed
+pub record MayJoin (n : NodeData) (sets : List TeamSetData) : Type 0 where
+  pub rights : rights_fault n.budgets sets ≡ None
+  pub locks : locks_fault n.locks sets ≡ None
+
+-- the answer on what the node's document says and on the sets of teams: the same, with locks by their own names, where the
+-- teams may join; else the first that says what is the node's, or that takes another lock
 abbrev pub Judges : NodeData → List TeamSetData → Result Document TeamsFault → Type 0
-Judges n sets (Ok d) = (rights_fault n.budgets sets ≡ None) × Joins n.own n.budgets sets (Ok d)
+Judges n sets (Ok d) = MayJoin n sets × Joins n.own n.budgets (named_by n.locks sets) (Ok d)
 Judges n sets (Err OutOfMemory) = Unit {0}
 Judges n sets (Err e) =
-    (rights_fault n.budgets sets ≡ Some e)
-    ⊎ ((rights_fault n.budgets sets ≡ None) × Joins n.own n.budgets sets (Err e))
+    (option_or (rights_fault n.budgets sets) (locks_fault n.locks sets) ≡ Some e)
+    ⊎ (MayJoin n sets × Joins n.own n.budgets (named_by n.locks sets) (Err e))
 
 -- the node's document and those of teams are read, and this is the answer on what they say
 abbrev pub AreJudged : List ℕ → List ℕ → Result Document TeamsFault → Type 0

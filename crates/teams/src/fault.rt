@@ -5,7 +5,7 @@ ghost use Rattle.teams.specs.declared.fault.TeamsFault.TheVariants.{OutOfMemory}
 use crate::node::{NodeFault, Quantity};
 use overheads::PadFault;
 use std::alloc::AllocError;
-use task_sheet::{Key, Name, SetFault};
+use task_sheet::{Key, Name, SetFault, SheetCause};
 use thiserror::Error;
 
 /// Why a text is no set. Of documents of teams, the first reason: all are read before their tasks are put together.
@@ -39,6 +39,21 @@ pub enum TeamsFault {
     NodesOwn {
         team: Name,
         key: Key,
+    },
+    /// A section, by its place from 1, of a team's task takes a lock that the node's document doesn't list.
+    #[error("{team}: {task}, section {section}: no lock {lock}")]
+    UnknownLock {
+        team: Name,
+        task: Name,
+        section: usize,
+        lock: Name,
+    },
+    /// With the own names of its locks, in the place of second names, a team's task is no sheet.
+    #[error("{team}: {task}: {cause}")]
+    Renamed {
+        team: Name,
+        task: Name,
+        cause: SheetCause,
     },
     /// A team's document prefers otherwise than that of another, which stands before it.
     #[error("{team}: prefers otherwise than {other}")]

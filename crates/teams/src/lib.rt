@@ -6,6 +6,7 @@ mod fault;
 mod gathering;
 mod keeping;
 pub mod laws;
+mod naming;
 mod node;
 mod reading;
 mod rights;

@@ -3,10 +3,11 @@ ghost use Rattle.std.specs.Prelude.{◌≡◌, ◌≢◌, None, Some, IfOk, IfEr
 ghost use Rattle.toml.specs.Data.{get_member};
 ghost use Rattle.toml.specs.View.{view, table_view};
 ghost use Rattle.task_sheet.specs.Tree.{number_of};
-ghost use Rattle.teams.specs.NodeDocument.{budget_of, budgets_in, budgets_of, entries_fault, entry_budget, entry_fault, is_word_of, key_word, limit_of, node_fault, node_of, node_word, only_keys, own_fault, own_of, ReadsNodeDocument, right_of, table_fault, teams_fault, quantity_word};
+ghost use Rattle.teams.specs.NodeDocument.{budget_of, budgets_in, budgets_of, entries_fault, entry_budget, entry_fault, is_true, is_word_of, key_word, limit_of, lock_at, lock_fault, lock_said, locks_fault, locks_in, names_fault, names_of, node_fault, node_of, node_word, only_keys, own_fault, own_of, ReadsNodeDocument, right_of, table_fault, teams_fault, quantity_word};
 ghost use Rattle.teams.specs.ReadsText.{ReadsNode};
 
 use crate::fault::TeamsFault;
+use crate::naming::Lock;
 use crate::uniting::TeamSet;
 use std::alloc::{AllocError, Global};
 use std::marker::Model;
@@ -51,16 +52,26 @@ pub(crate) struct Budget {
 #[derive(Drop)]
 pub(crate) struct NodeDocument {
     pub own: TeamSet,
+    /// Under which names sections may take locks; none where all may.
+    pub locks: Option<Vec<Lock>>,
     pub budgets: Vec<Budget>,
 }
 
 impl Model for NodeDocument {
+    ghost use Rattle.std.specs.Prelude.{option_map};
     ghost use Rattle.teams.specs.NodeDocument.{NodeData};
 
     ghost Value = { NodeData };
 
-    ghost view = { λ n. record { own = n.own; budgets = n.budgets.items } };
+    ghost view = { λ n. record {
+      own = n.own;
+      locks = option_map (λ v. v.items) n.locks;
+      budgets = n.budgets.items;
+    } };
 }
+
+/// The most names of locks: as many as the sections of a set can say.
+pub const LOCKS_LIMIT: usize = 1024;
 
 /// Why bytes are no node's document.
 #[derive(Clone, Copy, Debug, PartialEq, Eq, Error)]
@@ -74,6 +85,18 @@ pub enum NodeFault {
     /// `prefer`, `node` or `interrupt` of the root is none.
     #[error("{fault}")]
     Says { fault: SetFault },
+    /// `locks` of the root is no table.
+    #[error("locks is no table")]
+    NoLocks,
+    /// A key of that table is no name.
+    #[error("no name of a lock")]
+    BadLockName,
+    /// What it has for a name is neither `true` nor, as a string, a name for which it has `true`.
+    #[error("{name}: no lock")]
+    BadLock { name: Name },
+    /// It has more than 1,024 names.
+    #[error("more than 1024 locks")]
+    TooManyLocks,
     /// `team` of the root is no table.
     #[error("team is no table")]
     NoTeams,
@@ -113,6 +136,7 @@ impl From<AllocError> for NodeFault {
 #[derive(Clone, Copy)]
 pub(crate) enum NodeKey {
     Team,
+    Locks,
     Limit(Quantity),
     // One that a set's document has, too.
     Said(Key),
@@ -125,6 +149,7 @@ impl NodeKey {
     {
         match self {
             NodeKey::Team => "team",
+            NodeKey::Locks => "locks",
             NodeKey::Limit(quantity) => quantity.word(),
             NodeKey::Said(key) => key.word(),
         }
@@ -165,6 +190,88 @@ fn number_of(value: &Value) -> Option<u64>
         Some(n) if n >= 0 => Some(n as u64),
         _ => None,
     }
+}
+
+// ---- locks
+
+// The lock of which a name is, as it is said beside: its own, or another of the table.
+fn lock_said(locks: &Table, name: Name, value: &Value) -> Option<Name>
+    ensures { result ≡ lock_said (table_view locks.now) name (view value.now) }
+{
+    if is_true(value) {
+        return Some(name);
+    }
+    let text = value.as_str()?;
+    if !is_true(value_at(text, locks)?) {
+        return None;
+    }
+    match Name::read(text.as_bytes()) {
+        Ok(lock) => Some(lock),
+        Err(_) => None,
+    }
+}
+
+// Whether a value is true.
+fn is_true(value: &Value) -> bool
+    ensures { result ≡ is_true (view value.now) }
+{
+    value.as_bool() == Some(true)
+}
+
+// A name, and the lock that it is of.
+fn read_lock(locks: &Table, name: &str, value: &Value) -> Result<Lock, NodeFault>
+    ensures ok { IfOk result (λ l. (lock_fault (table_view locks.now) name.now (view value.now) ≡ None)
+        × (l ≡ lock_at (table_view locks.now) name.now (view value.now))) }
+    ensures err { IfErr result (λ e.
+        lock_fault (table_view locks.now) name.now (view value.now) ≡ Some e) }
+    ensures tree { IfErr result (λ e. e ≢ NodeFault.Syntax) }
+{
+    let Ok(name) = Name::read(name.as_bytes()) else {
+        return Err(NodeFault::BadLockName);
+    };
+    match lock_said(locks, name, value) {
+        Some(lock) => Ok(Lock { name, lock }),
+        None => Err(NodeFault::BadLock { name }),
+    }
+}
+
+// The names of a table of locks.
+fn read_names(alloc: Global, locks: &Table) -> Result<Vec<Lock>, NodeFault>
+    ensures ok { IfOk result (λ v.
+        (names_fault (table_view locks.now) (table_view locks.now) ≡ None)
+        × (v.items ≡ names_of (table_view locks.now) (table_view locks.now))) }
+    ensures err { IfErr result (λ e. e ≢ NodeFault.OutOfMemory
+        → names_fault (table_view locks.now) (table_view locks.now) ≡ Some e) }
+    ensures tree { IfErr result (λ e. e ≢ NodeFault.Syntax) }
+{
+    let mut names = Vec::new(alloc);
+    for (name, value) in locks.iter() {
+        let lock = read_lock(locks, name.as_str(), value)?;
+        names.push(lock).map_err(AllocError::from)?;
+    }
+    Ok(names)
+}
+
+// The locks that are listed, where some are: none where `locks` is absent.
+fn read_locks(alloc: Global, root: &Table) -> Result<Option<Vec<Lock>>, NodeFault>
+    ensures ok { IfOk result (λ o.
+        (locks_fault (get_member (key_word NodeKey.Locks) (table_view root.now)) ≡ None)
+        × (option_map (λ v. v.items) o ≡ locks_in (table_view root.now))) }
+    ensures err { IfErr result (λ e. e ≢ NodeFault.OutOfMemory
+        → locks_fault (get_member (key_word NodeKey.Locks) (table_view root.now)) ≡ Some e) }
+    ensures tree { IfErr result (λ e. e ≢ NodeFault.Syntax) }
+{
+    let Some(value) = value_at(NodeKey::Locks.word(), root) else {
+        return Ok(None);
+    };
+    let Some(table) = value.as_table() else {
+        return Err(NodeFault::NoLocks);
+    };
+    let names = read_names(alloc, table)?;
+    if names.len() > LOCKS_LIMIT {
+        return Err(NodeFault::TooManyLocks);
+    }
+    Ok(Some(names))
 }
 
 // ---- a team's table
@@ -319,6 +426,7 @@ fn read_root(alloc: Global, root: &Table) -> Result<NodeDocument, NodeFault>
         NodeKey::Said(Key::Prefer),
         NodeKey::Said(Key::Node),
         NodeKey::Said(Key::Interrupt),
+        NodeKey::Locks,
         NodeKey::Team,
     ];
     if !only_keys(&keys, root) {
@@ -329,13 +437,18 @@ fn read_root(alloc: Global, root: &Table) -> Result<NodeDocument, NodeFault>
         Err(SetFault::OutOfMemory) => return Err(NodeFault::OutOfMemory),
         Err(fault) => return Err(NodeFault::Says { fault }),
     };
+    let locks = read_locks(alloc, root)?;
     let budgets = read_teams(alloc, root)?;
-    Ok(NodeDocument { own, budgets })
+    Ok(NodeDocument {
+        own,
+        locks,
+        budgets,
+    })
 }
 
-// What the node's document says, in TOML: `prefer`, `node` and `interrupt` as a set's document has them; and for a team a
+// What the node's document says, in TOML: `prefer`, `node` and `interrupt` as a set's document has them; a table `locks`; and for a team a
 // table `team.NAME`, with a number at `load` and `section`, and true or false at `node`. Refused in this order: `Syntax`;
-// `UnknownRoot`; `Says`; `NoTeams`; for each team by its name: `BadName`, `NoBudget`, `UnknownKey`, `NoNumber`, `NoRight`.
+// `UnknownRoot`; `Says`; `NoLocks`; for each name of a lock `BadLockName`, `BadLock`; `TooManyLocks`; `NoTeams`; for each team by its name: `BadName`, `NoBudget`, `UnknownKey`, `NoNumber`, `NoRight`.
 fn read_document(alloc: Global, text: &[u8]) -> Result<NodeDocument, NodeFault>
     ensures { ReadsNodeDocument text.now result }
 {

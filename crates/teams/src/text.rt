@@ -7,6 +7,7 @@ ghost use Rattle.teams.specs.ReadsText.{Joins, Judges, ReadsAlone, ReadsBounded,
 use crate::fault::TeamsFault;
 use crate::gathering::{node_part, read_documents, read_gathered};
 use crate::keeping::budgets_fault;
+use crate::naming::named_sets;
 use crate::node::{Budget, NodeDocument, read_node_document};
 use crate::rights::rights_fault;
 use crate::uniting::{TeamSet, owned_all, united};
@@ -60,9 +61,19 @@ fn judged(alloc: Global, node: NodeDocument, teams: Vec<TeamSet>) -> Result<Docu
     requires bare { node.own.set ≡ [] }
     ensures { Judges node teams.items result }
 {
-    let NodeDocument { own, budgets } = node;
-    match rights_fault(&budgets, &teams) {
-        Some(fault) => Err(fault),
+    let NodeDocument {
+        own,
+        locks,
+        budgets,
+    } = node;
+    if let Some(fault) = rights_fault(&budgets, &teams) {
+        return Err(fault);
+    }
+    match locks {
+        Some(locks) => {
+            let teams = named_sets(alloc, &locks, &teams)?;
+            joined(alloc, own, &budgets, teams)
+        }
         None => joined(alloc, own, &budgets, teams),
     }
 }
@@ -120,8 +131,9 @@ fn padded(alloc: Global, document: Document) -> Result<Document, TeamsFault>
 /// The set that a text says, and what it prefers: of documents of teams where it begins with `#% `, as `read_gathered`
 /// reads them; else of one document, as `task_sheet::read_document` does. In front of the teams' documents that of the
 /// node may stand, behind a line `#% COUNT`: what it says holds for all, as in a document of a team before theirs, and
-/// these may not say `prefer`, `node` or `interrupt` without the right to. What it refuses comes first; behind the parts
-/// the first document that does so; and behind all of the teams the first budget by the names of the teams whose team has
+/// these may not say `prefer`, `node` or `interrupt` without the right to, nor take locks that it doesn't list, where it
+/// does. What it refuses comes first; behind the parts the first document that does so; the first task with another lock, or
+/// that by the own names of its locks is no sheet; and behind all of the teams the first budget by the names of the teams whose team has
 /// no document, or takes more. To TOML the lines with `#% ` are comments. Where a document says a
 /// node or interrupts, the set has what these take, as `overheads::pad` puts it in; what that refuses comes last of all.
 pub fn read_text(alloc: Global, text: &[u8]) -> Result<Document, TeamsFault>

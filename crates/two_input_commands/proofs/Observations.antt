@@ -1,10 +1,10 @@
 -- What a trace shows in the order that settings give.
 use Rattle.std.proofs.Common.{◌≡◌, ◌<◌, ℕ, zero, suc, false, List, [], ◌∷◌, length, Result, Ok, All}
-use Rattle.std.proofs.Common.{subst, arith}
+use Rattle.std.proofs.Common.{subst, refl, arith}
 use Rattle.task_sheet.proofs.Common.{Task, IsOrder}
 use Rattle.assignment.specs.Places.{PlaceData}
 use Rattle.judge.specs.Judgements.{AllJudged, judged_of, order_judged}
-use Rattle.judge.specs.Node.{IsOrderOfRows}
+use Rattle.judge.specs.Node.{AreNumbersOf, IsOrderOfRows}
 use Rattle.judge.specs.declared.judging.JudgedTask.{JudgedTask}
 use Rattle.judge.specs.declared.rows.SettingRow.{SettingRow}
 use Rattle.trace_text.specs.Faults.{IsTraceOf}
@@ -38,12 +38,16 @@ judged_by U rows judged some is =
 
 -- where all tasks meet their deadlines
 pub given : (U : List Task) (rows : List SettingRow) (found : Result (List TraceRow) ℕ)
-    (trace : TraceLines) (judged : List JudgedTask) (places : List PlaceData) → 0 < length rows
-    → IsTraceOf found trace
+    (trace : TraceLines) (judged : List JudgedTask) (numbers : List ℕ) (places : List PlaceData)
+    → 0 < length rows → IsTraceOf found trace
     → IsOrderOfRows false U rows (order_judged judged) × AllJudged U judged
-    → judged ≡ judged_of places → AreGiven U (Ok rows) found places trace
-given U rows found trace judged places some read is same = record {
+    → AreNumbersOf U rows (order_judged judged) numbers
+    → judged ≡ judged_of places → AreGiven U (Ok rows) found numbers places trace
+given U rows found trace judged numbers places some read is by same = record {
   judged = subst (λ (js : List JudgedTask). AreJudgedBy U (Ok rows) js) same
       (judged_by U rows judged some is);
+  rows = rows;
+  said = refl;
+  by = subst (λ (js : List JudgedTask). AreNumbersOf U rows (order_judged js) numbers) same by;
   read = read;
 }

@@ -1,5 +1,5 @@
 -- What `desk settings SET --keep SETTINGS` answers and prints.
-use Rattle.std.specs.Prelude.{ℕ, List, ◌++◌, length, codes, Result, Ok, Err}
+use Rattle.std.specs.Prelude.{◌≡◌, ℕ, List, ◌++◌, length, codes, Result, Ok, Err}
 use Rattle.task_sheet.specs.Sheet.{Task}
 use Rattle.task_sheet.specs.Indexes.{indexes_of, listed_below}
 use Rattle.task_sheet.specs.Orders.{IsOrder}
@@ -8,19 +8,29 @@ use Rattle.assignment.specs.Placings.{tasks_of_places}
 use Rattle.kept_order.specs.Keeping.{IsKeepingOf}
 use Rattle.kept_order.specs.declared.Keeping.{Keeping}
 use Rattle.kept_order.specs.declared.Keeping.TheVariants.{Kept, Parted, Stuck}
-use Rattle.settings.specs.Settings.{settings_from}
+use Rattle.settings.specs.Settings.{settings_kept}
 use Rattle.judge.specs.Faults.{IsSettingsFault}
 use Rattle.judge.specs.Kept.{IsKeptOrder, kept_fault}
+use Rattle.judge.specs.Node.{AreNumbersIn}
 use Rattle.answering.specs.Lines.{infeasible_line}
 use Rattle.two_input_commands.specs.OnBoth.{OfTwoSays, SaysOnBoth}
+use Rattle.two_input_commands.specs.declared.keep_lines.KeptNode.{KeptNode}
 use Rattle.answering.specs.declared.refusal.CommandRefusal.{CommandRefusal}
 use Rattle.answering.specs.declared.refusal.CommandRefusal.TheVariants as refusal
 use Rattle.answering.specs.declared.status.Status.{Status}
 use Rattle.answering.specs.declared.status.Status.TheVariants as status
 
--- the answer on a set and the text of settings: what becomes of the set that is to keep the order that they give
-abbrev pub KeepsText : List Task → List ℕ → Result Keeping CommandRefusal → Type 0
-KeepsText U text (Ok keeping) = (kept : List ℕ) × IsKeptOrder U text kept × IsKeepingOf U kept keeping
+-- these are the numbers that the threads of a kept order have in the text of settings, and 0 where a task has none
+abbrev pub HasOld : List Task → List ℕ → Keeping → (old : List ℕ) → Type 0
+HasOld U text (Kept places) old = AreNumbersIn U text (tasks_of_places places.items) old
+HasOld U text _ old = Unit {0}
+
+-- the answer on a set and the text of settings: what becomes of the set that is to keep the order and the numbers that they
+-- give
+abbrev pub KeepsText : List Task → List ℕ → Result KeptNode CommandRefusal → Type 0
+KeepsText U text (Ok node) =
+    (kept : List ℕ) × IsKeptOrder U text kept × IsKeepingOf U kept node.keeping
+    × HasOld U text node.keeping node.old.items
 KeepsText U text (Err (refusal.Settings fault)) = IsSettingsFault fault (kept_fault text)
 KeepsText U text (Err refusal.OutOfMemory) = Unit {0}
 KeepsText U text _ = ⊥
@@ -30,12 +40,18 @@ abbrev pub parted_line : List Task → (low high : ℕ) → List ℕ
 parted_line U low high =
     codes "parted " ++ name_at U low ++ codes " " ++ name_at U high ++ codes "\n"
 
--- the settings of the order that keeps the other one, where level 1 has this priority; or the pair; or the tasks of the
--- obstruction
-abbrev pub keeping_lines : List Task → ℕ → Keeping → List ℕ
-keeping_lines U base (Kept places) = settings_from U base (tasks_of_places places.items)
-keeping_lines U base (Parted low high) = parted_line U low high
-keeping_lines U base (Stuck left) = infeasible_line U (listed_below (length U) (indexes_of left))
+-- the settings of the order that keeps the other one and as many numbers as can stay, from a base on, with room; or the pair;
+-- or the tasks of the obstruction
+abbrev pub kept_lines_of : List Task → (base room : ℕ) → (old : List ℕ) → Keeping → List ℕ
+kept_lines_of U base room old (Kept places) =
+    settings_kept U base room old (tasks_of_places places.items)
+kept_lines_of U base room old (Parted low high) = parted_line U low high
+kept_lines_of U base room old (Stuck left) =
+    infeasible_line U (listed_below (length U) (indexes_of left))
+
+-- the same of a node
+abbrev pub keeping_lines : List Task → (base room : ℕ) → KeptNode → List ℕ
+keeping_lines U base room node = kept_lines_of U base room node.old.items node.keeping
 
 -- the exit status of it
 abbrev pub keeping_status : Keeping → Status
@@ -48,7 +64,16 @@ abbrev pub IsKeptIn : List Task → Keeping → Type 0
 IsKeptIn U (Kept places) = IsOrder U (tasks_of_places places.items)
 IsKeptIn U _ = Unit {0}
 
+-- each place of what is kept has an old number, or 0
+abbrev pub HaveOld : Keeping → (old : List ℕ) → Type 0
+HaveOld (Kept places) old = length old ≡ length places.items
+HaveOld _ old = Unit {0}
+
+-- the same of a node
+abbrev pub IsOldOf : KeptNode → Type 0
+IsOldOf node = HaveOld node.keeping node.old.items
+
 -- the answer on what the readers had is printed after what the writer held, and the status is the answer's
-abbrev pub SaysKeeping : (base : ℕ) → OfTwoSays
-SaysKeeping base =
-    SaysOnBoth KeepsText (λ U keeping. keeping_lines U base keeping) keeping_status
+abbrev pub SaysKeeping : (base room : ℕ) → OfTwoSays
+SaysKeeping base room =
+    SaysOnBoth KeepsText (λ U node. keeping_lines U base room node) (λ node. keeping_status node.keeping)

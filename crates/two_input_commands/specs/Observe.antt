@@ -22,11 +22,12 @@ use Rattle.trace_text.specs.declared.rows.TraceRow.{TraceRow}
 use Rattle.observed.specs.Observed.{observed_fault}
 use Rattle.observed.specs.Promises.{promises_of}
 use Rattle.observed.specs.Sights.{IsShownAt, IsSightFaultOf, IsSightOf}
-use Rattle.observed.specs.declared.seen.Seen.{Seen as SeenData}
+use Rattle.observed.specs.declared.sight.Observed.{Observed}
 use Rattle.observed.specs.declared.sight.Sight.{Sight}
 use Rattle.observed.specs.declared.sight.Sight.TheVariants.{Infeasible, Seen}
-use Rattle.observed_lines.specs.Breaks.{is_kept}
+use Rattle.observed_lines.specs.Jobless.{is_clean}
 use Rattle.observed_lines.specs.Lines.{observed_lines}
+use Rattle.observed_lines.specs.declared.leeway.Leeway.{Leeway}
 use Rattle.two_input_commands.specs.Judge.{judged_status}
 use Rattle.answering.specs.Lines.{infeasible_line}
 use Rattle.two_input_commands.specs.OnBoth.{OfTwoSays, SaysOnBoth}
@@ -38,9 +39,10 @@ use Rattle.answering.specs.declared.refusal.CommandRefusal.TheVariants as refusa
 use Rattle.answering.specs.declared.status.Status.{Status}
 use Rattle.answering.specs.declared.status.Status.TheVariants as status
 
--- by how many microseconds a time may be past what is promised: none where the words don't say it
-abbrev pub tolerance_of : Options → ℕ
-tolerance_of options = unwrap_or options.tolerance 0
+-- what is let pass of a trace: no time past what is promised, and no task without a job, where the words don't say it
+abbrev pub leeway_of : Options → Leeway
+leeway_of options =
+    record { tolerance = unwrap_or options.tolerance 0; jobless = options.jobless }
 
 -- ---- the text
 -- what a text says behind its settings, or the number of its first faulty line there
@@ -61,10 +63,14 @@ pub record IsNodeOf (U : List Task) (settings : Result (List SettingRow) ℕ) (n
   pub read : settings ≡ Ok rows
   pub numbers : AreNumbersOf U rows (order_judged node.judged.items) node.numbers.items
 
--- what was read is a trace, and these are the places of the order that settings give, in which all tasks meet their deadlines
+-- what was read is a trace, and these are the places of the order that settings give, in which all tasks meet their deadlines,
+-- and the numbers that they have of its threads
 pub record AreGiven (U : List Task) (settings : Result (List SettingRow) ℕ) (found : Result (List TraceRow) ℕ)
-    (places : List PlaceData) (trace : TraceLines) : Type 0 where
+    (numbers : List ℕ) (places : List PlaceData) (trace : TraceLines) : Type 0 where
   pub judged : AreJudgedBy U settings (judged_of places)
+  pub rows : List SettingRow
+  pub said : settings ≡ Ok rows
+  pub by : AreNumbersOf U rows (order_judged (judged_of places)) numbers
   pub read : IsTraceOf found trace
 
 -- ---- the answer
@@ -74,8 +80,8 @@ abbrev pub IsObservation : List Task → Result (List SettingRow) ℕ → Result
     → Observation → Type 0
 IsObservation U settings found (Best sight) = (settings ≡ Ok []) × IsSightOf U found sight
 IsObservation U settings found (Ordered observed) =
-    (places : List PlaceData) × (trace : TraceLines) × AreGiven U settings found places trace
-    × IsShownAt U places trace observed
+    (numbers : List ℕ) × (places : List PlaceData) × (trace : TraceLines)
+    × AreGiven U settings found numbers places trace × IsShownAt U numbers places trace observed
 IsObservation U settings found (Missed node) =
     IsNodeOf U settings node × (all_meet node.judged.items ≡ false) × (trace_rows_fault found ≡ None)
 
@@ -86,8 +92,9 @@ abbrev pub IsUnseen : List Task → Result (List SettingRow) ℕ → Result (Lis
 IsUnseen U settings found fault =
     ((settings ≡ Ok []) × IsSightFaultOf U found fault)
     ⊎ ((rows : List SettingRow) × (settings ≡ Ok rows) × IsTraceFault fault (trace_rows_fault found))
-    ⊎ ((places : List PlaceData) × (trace : TraceLines) × AreGiven U settings found places trace
-    × IsTraceFault fault (observed_fault (promises_of U places) trace))
+    ⊎ ((numbers : List ℕ) × (places : List PlaceData) × (trace : TraceLines)
+    × AreGiven U settings found numbers places trace
+    × IsTraceFault fault (observed_fault (promises_of U numbers places) trace))
 
 -- the answer on a set, on settings and on what stands behind them: the lines of both come first, and then the order
 abbrev pub ObservesRead : List Task → Result (List SettingRow) ℕ → Result (List TraceRow) ℕ
@@ -111,36 +118,39 @@ IsObservationOf (Ordered observed) = Unit {0}
 IsObservationOf (Missed node) = All (λ j. j.task < TASK_LIMIT) node.judged.items
 
 -- what is printed of what a trace shows of a set in its best order
-abbrev pub sight_said : ℕ → List Task → Sight → List ℕ
-sight_said tolerance U (Infeasible members) =
+abbrev pub sight_said : Leeway → List Task → Sight → List ℕ
+sight_said leeway U (Infeasible members) =
     infeasible_line U (listed_below (length U) (indexes_of members))
-sight_said tolerance U (Seen shown) =
-    observed_lines tolerance shown.promises.items shown.seen.items
+sight_said leeway U (Seen shown) =
+    observed_lines leeway shown.promises.items shown.seen.items
 
 -- what is printed of what a trace shows of a set; of an order that promises nothing, what `desk judge` prints
-abbrev pub observation_said : ℕ → List Task → Observation → List ℕ
-observation_said tolerance U (Best sight) = sight_said tolerance U sight
-observation_said tolerance U (Ordered shown) =
-    observed_lines tolerance shown.promises.items shown.seen.items
-observation_said tolerance U (Missed node) = judged_lines U node.judged.items node.numbers.items
+abbrev pub observation_said : Leeway → List Task → Observation → List ℕ
+observation_said leeway U (Best sight) = sight_said leeway U sight
+observation_said leeway U (Ordered shown) =
+    observed_lines leeway shown.promises.items shown.seen.items
+observation_said leeway U (Missed node) = judged_lines U node.judged.items node.numbers.items
 
--- the exit status of jobs
-abbrev pub observed_status : ℕ → List SeenData → Status
-observed_status tolerance seen = if is_kept tolerance seen then status.Done else status.Infeasible
+-- the exit status of what is seen of jobs
+abbrev pub observed_status : Leeway → Observed → Status
+observed_status leeway shown =
+    if is_clean leeway shown.promises.items shown.seen.items
+    then status.Done
+    else status.Infeasible
 
 -- the exit status of what a trace shows in the best order
-abbrev pub sight_status : ℕ → Sight → Status
-sight_status tolerance (Infeasible members) = status.Infeasible
-sight_status tolerance (Seen shown) = observed_status tolerance shown.seen.items
+abbrev pub sight_status : Leeway → Sight → Status
+sight_status leeway (Infeasible members) = status.Infeasible
+sight_status leeway (Seen shown) = observed_status leeway shown
 
 -- the exit status of what a trace shows
-abbrev pub observation_status : ℕ → Observation → Status
-observation_status tolerance (Best sight) = sight_status tolerance sight
-observation_status tolerance (Ordered shown) = observed_status tolerance shown.seen.items
-observation_status tolerance (Missed node) = judged_status node.judged.items
+abbrev pub observation_status : Leeway → Observation → Status
+observation_status leeway (Best sight) = sight_status leeway sight
+observation_status leeway (Ordered shown) = observed_status leeway shown
+observation_status leeway (Missed node) = judged_status node.judged.items
 
 -- the answer on what the readers had is printed after what the writer held, and the status is the answer's
-abbrev pub SaysObserved : (tolerance : ℕ) → OfTwoSays
-SaysObserved tolerance =
-    SaysOnBoth ObservesText (λ U shown. observation_said tolerance U shown)
-    (λ shown. observation_status tolerance shown)
+abbrev pub SaysObserved : Leeway → OfTwoSays
+SaysObserved leeway =
+    SaysOnBoth ObservesText (λ U shown. observation_said leeway U shown)
+    (λ shown. observation_status leeway shown)

@@ -1,28 +1,81 @@
 //! `desk settings SET --keep SETTINGS`.
-ghost use Rattle.std.specs.Prelude.{◌≡◌, IfOk, string_bytes};
-ghost use Rattle.two_input_commands.specs.Keep.{IsKeptIn, KeepsText, keeping_lines, keeping_status, parted_line};
+ghost use Rattle.std.specs.Prelude.{◌≡◌, IfOk, MatchResult, string_bytes};
+ghost use Rattle.assignment.specs.Placings.{tasks_of_places};
+ghost use Rattle.judge.specs.Faults.{IsSettingsFault};
+ghost use Rattle.judge.specs.Kept.{kept_fault};
+ghost use Rattle.judge.specs.Node.{AreNumbersIn};
+ghost use Rattle.task_sheet.specs.Orders.{IsOrder};
+ghost use Rattle.two_input_commands.specs.Keep.{HasOld, IsKeptIn, IsOldOf, KeepsText, keeping_lines, keeping_status, parted_line};
 
 use answering::{CommandRefusal, Status, infeasible_text};
+use assignment::{Place, tasks_of_places};
 use ceilings::{LockTable, Tabled};
-use judge::read_kept;
+use judge::{SettingsFault, read_kept, read_kept_numbers};
 use kept_order::{Keeping, keep_order};
 use lines::push_name;
-use settings::settings_text;
+use settings::kept_text;
 use std::alloc::{AllocError, Global};
 use task_sheet::TaskSet;
 
-/// What becomes of a set that is to keep the order that the text of settings gives.
-pub fn keep_text(alloc: Global, tasks: &TaskSet, text: &[u8]) -> Result<Keeping, CommandRefusal>
+/// What becomes of a set that is to keep the order and the numbers of a node.
+#[derive(Drop)]
+pub struct KeptNode {
+    pub keeping: Keeping,
+    /// The numbers that the threads of the kept order have, one by one, and 0 of a task that has none.
+    pub old: Vec<u64>,
+}
+
+// The numbers that the threads of places have in the text of settings.
+fn old_of_places(
+    alloc: Global,
+    set: &Tabled<'_>,
+    text: &[u8],
+    places: &[Place],
+) -> Result<Vec<u64>, SettingsFault>
+    requires { IsOrder set.now (tasks_of_places places.now) }
+    ensures { MatchResult result
+        (λ old. AreNumbersIn set.now text.now (tasks_of_places places.now) old.items)
+        (λ fault. IsSettingsFault fault (kept_fault text.now)) }
+{
+    let order = tasks_of_places(alloc, places)?;
+    read_kept_numbers(alloc, set, text, &order)
+}
+
+// The numbers that the threads of what is kept have in the text of settings; of what isn't none.
+fn old_of(
+    alloc: Global,
+    set: &Tabled<'_>,
+    text: &[u8],
+    keeping: &Keeping,
+) -> Result<Vec<u64>, SettingsFault>
+    requires { IsKeptIn set.now keeping.now }
+    ensures { MatchResult result
+        (λ old. HasOld set.now text.now keeping.now old.items)
+        (λ fault. IsSettingsFault fault (kept_fault text.now)) }
+{
+    match keeping {
+        Keeping::Kept(places) => old_of_places(alloc, set, text, places),
+        Keeping::Parted { .. } | Keeping::Stuck(_) => Ok(Vec::new(alloc)),
+    }
+}
+
+/// What becomes of a set that is to keep the order that the text of settings gives, and the numbers that it has.
+pub fn keep_text(alloc: Global, tasks: &TaskSet, text: &[u8]) -> Result<KeptNode, CommandRefusal>
     ensures answer { KeepsText tasks.now text.now result }
-    ensures order { IfOk result (IsKeptIn tasks.now) }
+    ensures order { IfOk result (λ node. IsKeptIn tasks.now node.keeping) }
+    ensures old { IfOk result IsOldOf }
 {
     let kept = match read_kept(alloc, tasks, text) {
         Ok(kept) => kept,
         Err(fault) => return Err(CommandRefusal::Settings(fault)),
     };
     let table = LockTable::new(alloc, tasks)?;
-    let keeping = keep_order(alloc, &Tabled::of(tasks, &table), &kept)?;
-    Ok(keeping)
+    let set = Tabled::of(tasks, &table);
+    let keeping = keep_order(alloc, &set, &kept)?;
+    match old_of(alloc, &set, text, &keeping) {
+        Ok(old) => Ok(KeptNode { keeping, old }),
+        Err(fault) => Err(CommandRefusal::Settings(fault)),
+    }
 }
 
 // The line of a pair that has to change.
@@ -42,18 +95,22 @@ fn parted_text(
     Ok(text)
 }
 
-/// The lines of what becomes of a set that is to keep an order, where level 1 has this priority.
+/// The lines of what becomes of a set that is to keep an order and numbers, from the base on, with so much room beside those
+/// that are given anew.
 pub fn keeping_text(
     alloc: Global,
     tasks: &TaskSet,
     base: u32,
-    keeping: &Keeping,
+    room: u32,
+    node: &KeptNode,
 ) -> Result<String, AllocError>
-    requires { IsKeptIn tasks.now keeping.now }
-    ensures { IfOk result (λ text. string_bytes text ≡ keeping_lines tasks.now base keeping.now) }
+    requires kept { IsKeptIn tasks.now node.now.keeping }
+    requires old { IsOldOf node.now }
+    ensures { IfOk result (λ text. string_bytes text
+        ≡ keeping_lines tasks.now base room node.now) }
 {
-    match keeping {
-        Keeping::Kept(places) => settings_text(alloc, tasks, base, places),
+    match &node.keeping {
+        Keeping::Kept(places) => kept_text(alloc, tasks, base, room, &node.old, places),
         Keeping::Parted { low, high } => parted_text(alloc, tasks, *low, *high),
         Keeping::Stuck(members) => infeasible_text(alloc, tasks, *members),
     }

@@ -3,7 +3,7 @@ ghost use Rattle.std.specs.Prelude.{◌≡◌, ◌<◌, length, Ok, [], IfOk};
 ghost use Rattle.trace_text.specs.Rows.{rows_at};
 ghost use Rattle.answering.specs.Outcomes.{IsSaidOn};
 ghost use Rattle.answering.specs.Printed.{IsPrinted};
-ghost use Rattle.two_input_commands.specs.Observe.{IsObservationOf, ObservesRead, ObservesText, observation_said, observation_status, observed_status, tolerance_of};
+ghost use Rattle.two_input_commands.specs.Observe.{IsObservationOf, ObservesRead, ObservesText, leeway_of, observation_said, observation_status, observed_status};
 
 use crate::judge_lines::judged_status;
 use answering::{CommandRefusal, Status, print_made, print_stuck};
@@ -12,7 +12,7 @@ use command_line::Options;
 use judge::{JudgedNode, SettingRow, judge_rows, judged_text, places_of, read_front};
 use lines::TextPlace;
 use observed::{Observed, Sight, observe_at, observe_places};
-use observed_lines::{is_kept, observed_text};
+use observed_lines::{Leeway, is_clean, observed_text};
 use std::alloc::Global;
 use std::io::Write;
 use streams::Watched;
@@ -30,11 +30,14 @@ pub enum Observation {
     Missed(JudgedNode),
 }
 
-/// By how many microseconds a time may be past what is promised, as the words choose.
-pub fn tolerance_of(options: Options<'_>) -> u64
-    ensures { result ≡ tolerance_of options.entry }
+/// What is let pass of a trace, as the words choose.
+pub fn leeway_of(options: Options<'_>) -> Leeway
+    ensures { result ≡ leeway_of options.entry }
 {
-    options.tolerance.unwrap_or(0) as u64
+    Leeway {
+        tolerance: options.tolerance.unwrap_or(0) as u64,
+        jobless: options.jobless,
+    }
 }
 
 // What a trace shows of a set in the order that some settings give.
@@ -61,7 +64,7 @@ fn observe_order(
     let Some(places) = places_of(alloc, &node.judged)? else {
         return Ok(Observation::Missed(node));
     };
-    match observe_places(alloc, &tabled, &places, &trace) {
+    match observe_places(alloc, &tabled, &node.numbers, &places, &trace) {
         Ok(observed) => Ok(Observation::Ordered(observed)),
         Err(fault) => Err(CommandRefusal::Trace(fault)),
     }
@@ -115,10 +118,10 @@ pub fn observe_text(
 }
 
 // The exit status of what a trace shows of jobs.
-fn observed_status(tolerance: u64, shown: &Observed) -> Status
-    ensures { result ≡ observed_status tolerance shown.now.seen.items }
+fn observed_status(leeway: Leeway, shown: &Observed) -> Status
+    ensures { result ≡ observed_status leeway shown.now }
 {
-    if is_kept(tolerance, &shown.seen) {
+    if is_clean(leeway, &shown.promises, &shown.seen) {
         Status::Done
     } else {
         Status::Infeasible
@@ -126,12 +129,12 @@ fn observed_status(tolerance: u64, shown: &Observed) -> Status
 }
 
 // The exit status of what a trace shows.
-pub(crate) fn observation_status(tolerance: u64, observation: &Observation) -> Status
-    ensures { result ≡ observation_status tolerance observation.now }
+pub(crate) fn observation_status(leeway: Leeway, observation: &Observation) -> Status
+    ensures { result ≡ observation_status leeway observation.now }
 {
     match observation {
         Observation::Best(Sight::Seen(shown)) | Observation::Ordered(shown) => {
-            observed_status(tolerance, shown)
+            observed_status(leeway, shown)
         }
         Observation::Best(Sight::Infeasible(_members)) => Status::Infeasible,
         Observation::Missed(node) => judged_status(&node.judged),
@@ -142,22 +145,22 @@ pub(crate) fn observation_status(tolerance: u64, observation: &Observation) -> S
 pub fn print_observation<W: Write + Drop>(
     alloc: Global,
     tasks: &TaskSet,
-    tolerance: u64,
+    leeway: Leeway,
     shown: &Observation,
     output: &mut Watched<W>,
 ) -> Status
     requires { IsObservationOf shown.now }
     ensures { IsSaidOn (λ before after s. IsPrinted before after
-        (observation_said tolerance tasks.now shown.now)
-        (observation_status tolerance shown.now) s) W.contents output.old output.new result }
+        (observation_said leeway tasks.now shown.now)
+        (observation_status leeway shown.now) s) W.contents output.old output.new result }
 {
-    let status = observation_status(tolerance, shown);
+    let status = observation_status(leeway, shown);
     match shown {
         Observation::Best(Sight::Infeasible(members)) => print_stuck(
             alloc, tasks, *members, output,
         ),
         Observation::Best(Sight::Seen(seen)) | Observation::Ordered(seen) => print_made(
-            observed_text(alloc, tolerance, &seen.promises, &seen.seen),
+            observed_text(alloc, leeway, &seen.promises, &seen.seen),
             status,
             output,
         ),

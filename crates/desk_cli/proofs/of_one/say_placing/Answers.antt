@@ -3,7 +3,7 @@ use Rattle.task_sheet.specs.Sheet.{Task}
 use Rattle.preferences.specs.declared.asking.Asking.{Asking}
 use Rattle.assignment.specs.declared.placing.Placing.{Placing}
 use Rattle.set_commands.specs.Admit.{Places, SaysPlacing}
-use Rattle.answering.specs.Chosen.{base_of, asking_of}
+use Rattle.answering.specs.Chosen.{asking_of, base_of, room_of}
 use Rattle.answering.specs.OrderParts.{placing_said}
 use Rattle.answering.specs.Printed.{IsPrinted}
 use Rattle.answering.specs.Statuses.{placing_status}
@@ -38,9 +38,9 @@ returns-in-Settings g c =
     rw c.in-Settings.is (said_as (made_printed c.placing_text-text-in-Settings.result
     (λ t. string_bytes t) _ _ c.placing_text-text-in-Settings.ensures
     c.print_made-in-Settings.ensures) (λ told. λ known has.
-    printed_says (Settings (base_of c.args.options)) (asking_of c.args.options) known _ _
+    printed_says (Settings (base_of c.args.options) (room_of c.args.options)) (asking_of c.args.options) known _ _
     c.args.set.now c.args.placing.now _ ((has.0, has.1, has.2.set), c.requires.placing)
-    (rw (c.base_of.ensures, c.placing_status-status.ensures) at told)))
+    (rw (c.base_of.ensures, c.room_of.ensures, c.placing_status-status.ensures) at told)))
 
 pub returns-in-Explain : goal.returns-in-Explain
 returns-in-Explain g c = rw c.in-Explain.is

@@ -6,12 +6,12 @@ use Rattle.observed.specs.Promises.{promises_of}
 use Rattle.kept_promises.proofs.laws.nothing_is_broken.Goals as goal
 
 pub returns-clause-housed : goal.returns-clause-housed
-returns-clause-housed c = λ U places lines run. housed run
+returns-clause-housed c = λ U numbers places lines run. housed run numbers
 
 pub returns-clause-kept : goal.returns-clause-kept
-returns-clause-kept c = λ tolerance U places lines run. all_are_kept tolerance
-    (observed_in U (promises_of U places) lines) (all_seen run KeepsToDemand (keeps_to_demand run))
+returns-clause-kept c = λ tolerance U numbers places lines run. all_are_kept tolerance
+    (observed_in U (promises_of U numbers places) lines) (all_seen run numbers KeepsToDemand (keeps_to_demand run numbers))
 
 pub returns-clause-lines : goal.returns-clause-lines
-returns-clause-lines c = λ tolerance U places lines run. none_written tolerance
-    (observed_in U (promises_of U places) lines) (all_seen run KeepsToDemand (keeps_to_demand run))
+returns-clause-lines c = λ tolerance U numbers places lines run. none_written tolerance
+    (observed_in U (promises_of U numbers places) lines) (all_seen run numbers KeepsToDemand (keeps_to_demand run numbers))

@@ -3,4 +3,4 @@ use Rattle.kept_promises.proofs.SeenLaws.{all_seen, keeps}
 use Rattle.kept_promises.proofs.laws.promises_are_kept.Goals as goal
 
 pub returns : goal.returns
-returns c = λ U places lines run. all_seen run Keeps (keeps run)
+returns c = λ U numbers places lines run. all_seen run numbers Keeps (keeps run numbers)

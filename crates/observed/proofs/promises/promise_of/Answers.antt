@@ -24,5 +24,6 @@ returns c =
     (among (tasks_of_places c.args.above.now)) = c.blocking-time.ensures.is
     ∙ ap₂ (λ (n : ℕ) (X : Indexes). blocking_of U n X) task c.members_at.ensures in
     c.promised.ensures
-    ∙ ap (λ (t : Task). promised t c.blocking-time.result c.place.inside.response) sheet
-    ∙ ap₂ (λ (b n : ℕ). promised (task_at U own.task) b n) time response
+    ∙ ap₂ (λ (t : Task) (k : ℕ). promised t k c.args.number c.blocking-time.result c.place.inside.response)
+    sheet task
+    ∙ ap₂ (λ (b n : ℕ). promised (task_at U own.task) own.task c.args.number b n) time response

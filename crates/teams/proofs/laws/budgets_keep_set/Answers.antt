@@ -7,4 +7,4 @@ pub returns : goal.returns
 returns c = λ document text d nothing judged.
     let bare = nothing judged.0 judged.2 in
     let tasks = ap (λ (n : NodeData). n.own.set) judged.2.3 in
-    (judged.1, judged.3, without judged.0.own judged.1 d tasks bare.0 bare.1 bare.2 judged.4.1.0)
+    (judged.1, judged.3, without judged.0.own judged.1 d tasks bare.0 bare.1 bare.2 (rw bare.3 at judged.4.1.0))

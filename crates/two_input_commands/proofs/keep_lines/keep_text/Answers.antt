@@ -1,9 +1,12 @@
-use Rattle.std.proofs.Common.{ℕ, List}
+use Rattle.std.proofs.Common.{◌≡◌, ◌∙◌, ℕ, List, length, ap}
+use Rattle.std.proofs.lemmas.List.{length-map}
 use Rattle.task_sheet.specs.Sheet.{Task}
+use Rattle.assignment.specs.Placings.{tasks_of_places}
+use Rattle.judge.specs.Node.{AreNumbersIn}
 use Rattle.kept_order.specs.Keeping.{IsKeepingOf}
 use Rattle.kept_order.specs.declared.Keeping.{Keeping}
 use Rattle.kept_order.specs.declared.Keeping.TheVariants.{Kept}
-use Rattle.two_input_commands.specs.Keep.{IsKeptIn}
+use Rattle.two_input_commands.specs.Keep.{HasOld, HaveOld, IsKeptIn}
 use Rattle.two_input_commands.proofs.keep_lines.keep_text.Goals as goal
 
 -- what is kept is an order of the set
@@ -12,13 +15,10 @@ kept_in : (U : List Task) (kept : List ℕ) (keeping : Keeping) → IsKeepingOf 
 kept_in U kept (Kept places) is = is.best.passing.passing.each_once
 kept_in U kept _ is = tt
 
-pub returns-clause-answer : goal.returns-clause-answer
-returns-clause-answer c = (
-  c.in-Ok.kept.items,
-  c.in-Ok.ensures.kept,
-  rw (c.of.ensures, c.deref.ensures.value) at c.in_ok-keeping.ensures,
-)
+-- each of its tasks has an old number, or 0
+have_old : (U : List Task) (text : List ℕ) (keeping : Keeping) (old : List ℕ)
+    → HasOld U text keeping old → HaveOld keeping old
+have_old U text (Kept places) old has =
+    ap length has.each ∙ length-map (tasks_of_places places.items) _ ∙ length-map places.items _
+have_old U text _ old has = tt
 
-pub returns-clause-order : goal.returns-clause-order
-returns-clause-order c = kept_in c.args.tasks.now _ c.in_ok-keeping.keeping
-    (rw c.of.ensures at c.in_ok-keeping.ensures)
