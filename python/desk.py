@@ -246,10 +246,13 @@ class Factor:
 @dataclass(frozen=True)
 class Limits(_Answer):
     """How far each number may go. Of a refused set (`answer` is a no) those that mend it are here
-    alone, each with the least that does; `slack` is empty then."""
+    alone, each with the least that does; `slack` is empty then. `interrupts` are by `interrupt K`,
+    in a folder's behind their team."""
 
     answer: Infeasible | None
     tasks: Mapping[str, tuple[Limit, ...]]
+    interrupts: Mapping[str, tuple[Limit, ...]]
+    node: tuple[Limit, ...]
     slack: Mapping[str, int]
     factor: Factor | None
 
@@ -725,6 +728,15 @@ def _limit(words: Sequence[str]) -> Limit:
     return Limit(" ".join(number), int(value), _time(in_order), _time(most), along, held_by)
 
 
+def _interrupt(name: str, words: list[str]) -> str | None:
+    """The words of a line that say of which interrupt it is, if it is of one."""
+    if name == "interrupt" and words[0].isdigit():
+        return f"{name} {words[0]}"
+    if words[0] == "interrupt":
+        return " ".join([name, *words[:2]])
+    return None
+
+
 def limits(tasks: Sheets) -> Limits:
     """How far each number may go, or what mends the set.
 
@@ -733,19 +745,29 @@ def limits(tasks: Sheets) -> Limits:
     Limit(number='cost', value=6000, in_order=10000, most=10000, along=None, held_by='period')
     >>> found.slack["a"], found.factor
     (4000, Factor(in_order=1666, most=1666, task='a'))
+    >>> found = limits(toml([Task("a", 10_000, 10_000, 9000)], interrupts=[Interrupt(1000, 200)]))
+    >>> [(it.number, it.most) for it in found.interrupts["interrupt 1"]]
+    [('cost', 100), ('period', 2000)]
     """
     status, said = _ask("limits", tasks)
     _, *lines = said.splitlines()
     rows: dict[str, tuple[Limit, ...]] = {}
-    slack, factor = {}, None
+    interrupts: dict[str, tuple[Limit, ...]] = {}
+    node, slack, factor = (), {}, None
     for name, *words in (it.split() for it in lines):
         if name == "all" and len(words) == 3:
             factor = Factor(_time(words[0]), _time(words[1]), None if words[2] == "-" else words[2])
         elif len(words) == 2 and words[0] == "slack":
             slack[name] = int(words[1])
+        elif whose := _interrupt(name, words):
+            words = words[len(whose.split()) - 1 :]
+            interrupts[whose] = (*interrupts.get(whose, ()), _limit(words))
+        elif name == "node" and words[0] in ("job", "lock", "release", "late"):
+            node = (*node, _limit(words))
         elif len(words) >= 4:
             rows[name] = (*rows.get(name, ()), _limit(words))
-    return Limits(_no(said) if status else None, rows, slack, factor, text=said)
+    answer = _no(said) if status else None
+    return Limits(answer, rows, interrupts, node, slack, factor, text=said)
 
 
 def settings(tasks: Sheets) -> Settings | Infeasible:

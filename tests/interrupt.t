@@ -204,6 +204,7 @@ Interrupts alone refuse a set: 9990 and a tick of 17 are past 10000. In a run no
   infeasible x
   x cost 9990 - 9949
   x deadline 10000 - 10041 with period 10041
+  interrupt 1 cost 17 - 3
   all - 995 x
   [3]
   $ desk worst full.toml
@@ -217,10 +218,12 @@ Interrupts alone refuse a set: 9990 and a tick of 17 are past 10000. In a run no
   1 x 9999
 
 A number that leaves nothing of the task's own mends nothing: with its cost at most 20, all of it the node's, x would pass.
+Half of what the node takes mends it, too.
 
   $ printf 'node = { job = 20 }\n[[task]]\nname = "x"\nperiod = 1000\ndeadline = 20\ncost = 10\n' | desk limits -
   infeasible x
   x deadline 20 - 30
+  node job 20 - 10
   all - 666 x
   [3]
 

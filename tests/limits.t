@@ -255,6 +255,49 @@ in these 9000:
   hi section 1 len 200 1000 1000 by cost
   hi slack 3000
 
+Interrupts have lines, too, by the document and their place in it, and what the node takes of each job. One more of `job` is
+padded as the node's table would be: so a timer is at most all of it.
+
+  $ mkdir both
+  $ x='[[task]]\nname = "x"\nperiod = 10000\ndeadline = 10000\ncost = 4000\n'
+  $ y='[[task]]\nname = "y"\nperiod = 20000\ndeadline = 20000\ncost = 6000\n'
+  $ printf "interrupt = [{ period = 1000, cost = 100 }]\n$x" > both/one.toml
+  $ ticks='interrupt = [{ period = 500, cost = 60 }, { period = 4000, cost = 100 }]\n'
+  $ printf "$ticks[node]\njob = 50\nrelease = 20\nlate = 30\n$y" > both/two.toml
+  $ desk limits both 2> notes | grep -e interrupt -e node -e all
+  one interrupt 1 cost 100 146 146
+  one interrupt 1 period 1000 688 688
+  two interrupt 1 cost 60 83 83
+  two interrupt 1 period 500 363 363
+  two interrupt 2 cost 100 284 284
+  two interrupt 2 period 4000 1425 1425
+  node job 50 356 356
+  node release 20 50 50 by job
+  node late 30 1170 1170
+  all 1048 1048 y
+  $ desk settings both 2> notes | desk limits both --at - 2> notes | grep -e interrupt -e node | head -n 3
+  one interrupt 1 cost 100 146 146
+  one interrupt 1 period 1000 688 688
+  two interrupt 1 cost 60 83 83
+  $ desk limits both --task x 2> notes | grep -c -e interrupt -e node
+  0
+  [1]
+
+One that takes nine tenths of all time is the one change that mends the set; one that takes all of it, where x fills the rest:
+
+  $ sed -i 's/cost = 100 }/cost = 900 }/' both/one.toml
+  $ desk limits both 2> notes
+  infeasible x y
+  one interrupt 1 cost 900 - 146
+  one interrupt 1 period 1000 - 6584
+  all - 569 y
+  [3]
+  $ printf 'interrupt = [{ period = 100, cost = 100 }]\n[[task]]\nname = "x"\nperiod = 10000\ndeadline = 10000\ncost = 9990\n' | desk limits - 2> notes
+  infeasible x
+  interrupt 1 cost 100 - 0
+  all - 500 x
+  [3]
+
 An order that doesn't pass has no limits: it is judged, whichever task is asked about:
 
   $ printf 'thread b 10\nthread a 20\nthread c 30\n' > down

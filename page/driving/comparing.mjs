@@ -58,10 +58,12 @@ function compare_order(what, explain, conflict) {
   });
   expect(digits(conflict).endsWith(told.reverse().join('')), `${what}: ${conflict}`);
 }
-// Each change that mends a refused set has its button.
+// Each change of a task's number that mends a refused set has its button.
+const TASKS_OWN = /^(cost|period|deadline|jitter|section)$/;
 function compare_mends(what, limits, mends) {
   const lines = limits.split('\n').slice(1).map(it => it.split(' with '))
-    .map(([front, along]) => [front.split(' '), along]).filter(([words]) => words.length > 4);
+    .map(([front, along]) => [front.split(' '), along])
+    .filter(([words]) => words.length > 4 && TASKS_OWN.test(words[1]));
   const wanted = lines.map(([words, along]) => {
     const [name, key] = words, [value, , most] = words.slice(-3);
     const what = key === 'section' ? `length of section ${words[2]}` : key;

@@ -82,19 +82,27 @@ function read_limit(all) {
     in_order: words.length > end + 3 ? Number(words[end + 2]) : null };
   return { key, section, value, in_order, most, along, held };
 }
-// `limits`: for each task its numbers and how far each may go; and the factor on all execution. Of
-// a refused set these are the changes that mend it.
+// `limits`: for each task its numbers and how far each may go, for what is no task's in the words of
+// its line; and the factor on all execution. Of a refused set these are the changes that mend it.
 export function read_limits({ text, status }) {
   if (status !== 0 && status !== 3) return null;
-  const found = { tasks: new Map(), all: undefined, first: null, is_whole: status === 0 };
+  const found =
+    { tasks: new Map(), common: [], all: undefined, first: null, is_whole: status === 0 };
   for (const words of lines_of(text).slice(1).map(it => it.split(' '))) {
     const [name, word] = words;
     if (name === 'all' && (words.length === 4 || word === '-'))
       Object.assign(found, { all: number(words[2]), in_order: number(word), first: words[3] });
     else if (/^(cost|period|deadline|jitter|section)$/.test(word) && words.length > 4)
       found.tasks.set(name, [...found.tasks.get(name) ?? [], read_limit(words)]);
+    else if (words.length > 4) found.common.push(read_common(words));
   }
   return found;
+}
+// A line of a number that is no task's: what it is, its value, and the furthest with some order.
+function read_common(all) {
+  const hold = all.indexOf('by', 2), words = hold < 0 ? all : all.slice(0, hold);
+  const [value, , most] = words.slice(-3).map(number);
+  return { what: words.slice(0, -3).join(' '), value, most };
 }
 export const limit_of = (limits, name, key) =>
   limits?.tasks.get(name)?.find(it => it.key === key && it.section === null) ?? null;

@@ -38,9 +38,11 @@ function mend_told([name, limit], mend) {
 export function mends_told(limits, mend) {
   if (!limits || limits.is_whole) return [];
   const all = [...limits.tasks].flatMap(([name, rows]) => rows.map(it => [name, it]));
-  if (!all.length) return ['No single change of a number mends it.'];
+  const common = limits.common.map(({ what, value, most }) =>
+    element('li', `${what} ${grouped(value)} → ${grouped(most)}`));
+  if (!all.length && !common.length) return ['No single change of a number mends it.'];
   return ['Each of these changes alone mends it:',
-    element('ul', ...all.map(it => mend_told(it, mend)))];
+    element('ul', ...all.map(it => mend_told(it, mend)), ...common)];
 }
 // What becomes of each task in an order that passes wherever one does, and who blocks it where it
 // misses its deadline; the highest stands on top.

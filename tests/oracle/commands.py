@@ -223,6 +223,13 @@ def limits_in(tasks, order, task):
                 text.append(f"{sheet.name} {number.words()} {value} {in_this} {most}{along}{held}\n")
         if order is not None:
             text.append(f"{sheet.name} slack {sheet.deadline - bounds[i]}\n")
+    if tasks and task is None:
+        for number in limits.common_numbers(tasks):
+            most = limits.furthest_common(tasks, number, analysis.is_feasible)
+            if most is not None:
+                own = or_dash(limits.furthest_common(tasks, number, in_order))
+                held = number.held(most)
+                text.append(f"{number.words} {number.value} {own} {most}{'' if held is None else f' by {held}'}\n")
     if order is None and task is None and not text:
         text.append("no single change\n")
     if tasks and task is None:

@@ -1,9 +1,12 @@
 """How far each number may go, and all execution at once: DEFINITIONS.md, Costs, numbers, factors; FORMATS.md, limits."""
 
+import functools
 from typing import NamedTuple
 
 import analysis
 from analysis import is_feasible
+from refusals import Refused
+from sets import INTERRUPT_LEAST, OVERHEAD_MOST, padded, RELEASE_MOST
 
 PERIOD_LEAST, PERIOD_MOST = 1000, 10_000_000
 
@@ -96,6 +99,70 @@ def last_that(values, holds):
 def furthest(tasks, i, number, does_pass=is_feasible):
     """The furthest value of a number with which the set does pass; or None."""
     return last_that(number.easiest_first(tasks[i]), lambda value: does_pass(numbered(tasks, i, number, value)))
+
+
+# Numbers that are no task's own
+
+
+class Common(NamedTuple):
+    """A number of the interrupts or of the node, of a set that has tasks."""
+
+    words: str
+    value: int
+    easiest_first: range
+    put: object  # what the documents say with a value of it
+    held: object  # what holds it at a value past which they may have none; or None
+
+
+def common_numbers(tasks):
+    sheets, node, interrupts = tasks.written
+    numbers = []
+    for place, (interrupt, (team, own)) in enumerate(zip(interrupts, tasks.sources)):
+        words = f"{team} interrupt {own}" if team else f"interrupt {own}"
+
+        def put(key, value, place=place, interrupt=interrupt):
+            return sheets, node, (*interrupts[:place], interrupt._replace(**{key: value}), *interrupts[place + 1 :])
+
+        period, cost = interrupt
+        ends = "cost" if cost >= INTERRUPT_LEAST else str(INTERRUPT_LEAST)
+        for key, value, values, end in [
+            ("cost", cost, range(period + 1), "period"),
+            ("period", period, range(PERIOD_MOST, max(INTERRUPT_LEAST, cost) - 1, -1), ends),
+        ]:
+            held = lambda most, values=values, end=end: end if most == values[-1] else None
+            numbers.append(Common(f"{words} {key}", value, values, functools.partial(put, key), held))
+    for key in ("job", "lock", "release", "late") if node is not None else ():
+        if value := getattr(node, key):
+            put = lambda other, key=key: (sheets, node._replace(**{key: other}), interrupts)
+            values = range(node.release if key == "job" else 0, (RELEASE_MOST if key == "release" else OVERHEAD_MOST) + 1)
+            if key == "release":
+                values = values[: node.job + 1]
+            numbers.append(Common(f"node {key}", value, values, put, functools.partial(held_node, key, node, values, put)))
+    return numbers
+
+
+def held_node(key, node, values, put, most):
+    if most == values[-1]:
+        return "job" if key == "release" and most == node.job else str(most)
+    try:
+        padded(*put(most + 1))
+    except Refused as refusal:
+        fault, name = refusal.words
+        return f"{name} {'period' if fault == 'PaddedCost' else 'deadline'}"
+    return None
+
+
+def furthest_common(tasks, number, does_pass):
+    """The furthest value of such a number with which the tasks, each at its place, do pass; or None."""
+
+    def passes(value):
+        try:
+            padded_by_name = {sheet.name: sheet for sheet in padded(*number.put(value))}
+        except Refused:
+            return False
+        return does_pass(tuple(padded_by_name[task.name] for task in tasks))
+
+    return last_that(number.easiest_first, passes)
 
 
 # All execution at once

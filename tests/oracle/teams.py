@@ -21,9 +21,10 @@ ENDING = ".toml"
 
 
 class Ranked(tuple):
-    """The tasks of a set by rank, what its own text prefers, if it says so, and the team of each name that has one."""
+    """The tasks of a set by rank, what its own text prefers, if it says so, the team of each name that has one, what the
+    documents say without what the node takes, and the team, if any, and the place of each interrupt."""
 
-    own, owners = None, {}
+    own, owners, written, sources = None, {}, None, ()
 
     def beside(self, name):
         """The words that name the team of a task, behind the words of a line."""
@@ -32,16 +33,22 @@ class Ranked(tuple):
 
 def read_set(data, preference=None):
     """The set that a text says, by what the call prefers, else the text, else by weights; or the first refusal."""
-    own, node, interrupts, sheets, owners = read_teams(data) if data.startswith(MARK) else (*read_document(data), {})
-    sheets = padded(sheets, node, interrupts)
+    if data.startswith(MARK):
+        own, node, interrupts, sheets, owners, sources = read_teams(data)
+    else:
+        own, node, interrupts, sheets = read_document(data)
+        owners, sources = {}, [(None, place) for place, _ in enumerate(interrupts, 1)]
+    written = sheets, node, interrupts
+    sheets = padded(*written)
     tasks = Ranked(by_limits(sheets) if (preference or own) == "deadline" else by_rank(sheets))
     tasks.own, tasks.by, tasks.owners = own, preference or own or "weight", owners
+    tasks.written, tasks.sources = written, sources
     return tasks
 
 
 def read_teams(data):
-    """What the documents prefer, and their node, if one says so, the interrupts and sheets of all, document by document, and
-    the team of each sheet."""
+    """What the documents prefer, and their node, if one says so, the interrupts and sheets of all, document by document, the
+    team of each sheet, and the team and place of each interrupt."""
     document, data = node_document(data)
     own, locks, budgets = ((None, None, ()), None, {}) if document is None else read_node_document(document)
     teams, said_by, part = [], [], 0
@@ -80,7 +87,8 @@ def read_teams(data):
         raise Refused(4, "TooManyTasks")
     keep_budgets(budgets, teams)
     own, overheads = (said[0][1] if said else None for said in (preferring, overheads_of))
-    return own, overheads, interrupts, [sheet for _, sheets, _ in teams for sheet in sheets], owner
+    sources = [(team, place) for team, said in said_by for place, _ in enumerate(said[2], 1)]
+    return own, overheads, interrupts, [sheet for _, sheets, _ in teams for sheet in sheets], owner, sources
 
 
 def node_document(data):

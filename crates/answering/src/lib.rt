@@ -16,5 +16,7 @@ pub use output::{print, print_bytes, print_made, refuse, refuse_words};
 pub use refusal::CommandRefusal;
 pub use release_list::TextFault;
 pub use scripts::RushFault;
-pub use sets::{Both, asking_of, base_of, read_one, read_owned, read_told, read_two, room_of, tell};
+pub use sets::{
+    Both, asking_of, base_of, read_one, read_owned, read_told, read_two, room_of, tell,
+};
 pub use status::{Status, placing_status};

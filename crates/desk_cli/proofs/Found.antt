@@ -27,10 +27,10 @@ use Rattle.answering.specs.declared.status.Status.{Status}
 use Rattle.desk_cli.proofs.Refused.{two_refused}
 
 -- no text is refused as an input that was not read
-pub never_unread : (c : OfTwo) (options : Options) (by : Preference) (U : List Task) (text : List ℕ)
-    → FindsIn c options by U text (Err failed_read) → ⊥
-never_unread command.Check options by U text never = never
-never_unread _ options by U text never = never
+pub never_unread : (c : OfTwo) (options : Options) (by : Preference) (owners : List Owner)
+    (U : List Task) (text : List ℕ) → FindsIn c options by owners U text (Err failed_read) → ⊥
+never_unread command.Check options by owners U text never = never
+never_unread _ options by owners U text never = never
 
 module _ (options : Options) (by : Preference) (owners : List Owner) (U : List Task) (text : List ℕ)
     (before after : Option (List ℕ)) (s : Status) where
@@ -39,7 +39,7 @@ module _ (options : Options) (by : Preference) (owners : List Owner) (U : List T
   both asking set other has = ((has.0.0, has.0.1, has.0.2.set), has.1)
 
   -- a refusal was printed
-  pub refused_in : (c : OfTwo) (r : CommandRefusal) → FindsIn c options by U text (Err r)
+  pub refused_in : (c : OfTwo) (r : CommandRefusal) → FindsIn c options by owners U text (Err r)
       → Appends before after (refusal_line r) → s ≡ status_of r
       → SaysOfBoth c options by owners U text before after s
   refused_in command.Simulate r why wrote is =
@@ -57,7 +57,7 @@ module _ (options : Options) (by : Preference) (owners : List Owner) (U : List T
       λ set other has. (Err r, inr (U, text, both _ set other has, why), wrote, is)
 
   -- what was found was printed
-  said_in : (c : OfTwo) (found : Found) → FindsIn c options by U text (Ok found)
+  said_in : (c : OfTwo) (found : Found) → FindsIn c options by owners U text (Ok found)
       → Appends before after (found_said owners U found) → s ≡ found_status found
       → SaysOfBoth c options by owners U text before after s
   said_in command.Check (Shown kind) finds wrote is =
@@ -79,13 +79,13 @@ module _ (options : Options) (by : Preference) (owners : List Owner) (U : List T
   said_in command.WorstAt (WorstAt worst) finds wrote is =
       λ set other has. (Ok (U, worst), (text, both _ set other has, finds), wrote, is)
   said_in command.LimitsAt (LimitedAt found) finds wrote is =
-      λ set other has. (Ok (U, found), (text, both _ set other has, finds), wrote, is)
+      λ set other has. (Ok (U, owners, found), (by, text, has, finds), wrote, is)
   said_in command.ExplainAt (ExplainedAt found) finds wrote is =
       λ set other has. (Ok (U, owners, found), (by, text, has, finds), wrote, is)
   said_in _ _ finds wrote is = absurd finds
 
   -- the same; or that memory ran out for it, which is an answer of its own
-  pub printed_in : (c : OfTwo) (found : Found) → FindsIn c options by U text (Ok found)
+  pub printed_in : (c : OfTwo) (found : Found) → FindsIn c options by owners U text (Ok found)
       → IsPrinted before after (found_said owners U found) (found_status found) s
       → SaysOfBoth c options by owners U text before after s
   printed_in c found finds (inl wrote) = said_in c found finds wrote.0 wrote.1

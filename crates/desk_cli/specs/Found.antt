@@ -28,36 +28,37 @@ use Rattle.answering.specs.declared.refusal.CommandRefusal.{CommandRefusal}
 use Rattle.answering.specs.declared.status.Status.{Status}
 use Rattle.answering.specs.declared.status.Status.TheVariants.{Done}
 
--- the answer of a command on a set, which was taken by a preference, and a text
-abbrev pub FindsIn : OfTwo → Options → Preference → List Task → List ℕ → Result Found CommandRefusal → Type 0
-FindsIn command.Check options by U text (Ok (Shown kind)) = ChecksText U text (Ok kind)
-FindsIn command.Check options by U text (Err r) = ChecksText U text (Err r)
-FindsIn command.Diff options by U text (Ok (Compared c)) = ComparesText (asking_of options) by U text (Ok c)
-FindsIn command.Diff options by U text (Err r) = ComparesText (asking_of options) by U text (Err r)
-FindsIn command.Judge options by U text (Ok (Judged node)) =
+-- the answer of a command on a set, which was taken by a preference, whose tasks these have, and a text
+abbrev pub FindsIn : OfTwo → Options → Preference → List Owner → List Task → List ℕ
+    → Result Found CommandRefusal → Type 0
+FindsIn command.Check options by owners U text (Ok (Shown kind)) = ChecksText U text (Ok kind)
+FindsIn command.Check options by owners U text (Err r) = ChecksText U text (Err r)
+FindsIn command.Diff options by owners U text (Ok (Compared c)) = ComparesText (asking_of options) by U text (Ok c)
+FindsIn command.Diff options by owners U text (Err r) = ComparesText (asking_of options) by U text (Err r)
+FindsIn command.Judge options by owners U text (Ok (Judged node)) =
     JudgesText options.lower_is_higher U text (Ok node)
-FindsIn command.Judge options by U text (Err r) = JudgesText options.lower_is_higher U text (Err r)
-FindsIn command.Simulate options by U text (Ok (Simulated answer)) =
+FindsIn command.Judge options by owners U text (Err r) = JudgesText options.lower_is_higher U text (Err r)
+FindsIn command.Simulate options by owners U text (Ok (Simulated answer)) =
     (options.by_task ≡ false) × SimulatesText U text (Ok answer)
-FindsIn command.Simulate options by U text (Ok (Reached answer)) =
+FindsIn command.Simulate options by owners U text (Ok (Reached answer)) =
     (options.by_task ≡ true) × SimulatesText U text (Ok answer)
-FindsIn command.Simulate options by U text (Err r) = SimulatesText U text (Err r)
-FindsIn command.Draw options by U text (Ok (Drawn drawing)) = DrawsText options U text (Ok drawing)
-FindsIn command.Draw options by U text (Err r) = DrawsText options U text (Err r)
-FindsIn command.Observe options by U text (Ok (Observed leeway shown)) =
+FindsIn command.Simulate options by owners U text (Err r) = SimulatesText U text (Err r)
+FindsIn command.Draw options by owners U text (Ok (Drawn drawing)) = DrawsText options U text (Ok drawing)
+FindsIn command.Draw options by owners U text (Err r) = DrawsText options U text (Err r)
+FindsIn command.Observe options by owners U text (Ok (Observed leeway shown)) =
     (leeway ≡ leeway_of options) × ObservesText U text (Ok shown)
-FindsIn command.Observe options by U text (Err r) = ObservesText U text (Err r)
-FindsIn command.Keep options by U text (Ok (Keeping node base room)) =
+FindsIn command.Observe options by owners U text (Err r) = ObservesText U text (Err r)
+FindsIn command.Keep options by owners U text (Ok (Keeping node base room)) =
     (base ≡ base_of options) × (room ≡ room_of options) × KeepsText U text (Ok node)
-FindsIn command.Keep options by U text (Err r) = KeepsText U text (Err r)
-FindsIn command.WorstAt options by U text (Ok (WorstAt found)) = WorstsText (task_of options) U text (Ok found)
-FindsIn command.WorstAt options by U text (Err r) = WorstsText (task_of options) U text (Err r)
-FindsIn command.LimitsAt options by U text (Ok (LimitedAt found)) = LimitsText (task_of options) U text (Ok found)
-FindsIn command.LimitsAt options by U text (Err r) = LimitsText (task_of options) U text (Err r)
-FindsIn command.ExplainAt options by U text (Ok (ExplainedAt found)) =
+FindsIn command.Keep options by owners U text (Err r) = KeepsText U text (Err r)
+FindsIn command.WorstAt options by owners U text (Ok (WorstAt found)) = WorstsText (task_of options) U text (Ok found)
+FindsIn command.WorstAt options by owners U text (Err r) = WorstsText (task_of options) U text (Err r)
+FindsIn command.LimitsAt options by owners U text (Ok (LimitedAt found)) = LimitsText (task_of options) owners U text (Ok found)
+FindsIn command.LimitsAt options by owners U text (Err r) = LimitsText (task_of options) owners U text (Err r)
+FindsIn command.ExplainAt options by owners U text (Ok (ExplainedAt found)) =
     ExplainsText (task_of options) U text (Ok found)
-FindsIn command.ExplainAt options by U text (Err r) = ExplainsText (task_of options) U text (Err r)
-FindsIn _ options by U text _ = ⊥
+FindsIn command.ExplainAt options by owners U text (Err r) = ExplainsText (task_of options) U text (Err r)
+FindsIn _ options by owners U text _ = ⊥
 
 -- what was found speaks of tasks that a set may have, and of a run in an order of the set
 abbrev pub IsFoundOf : List Task → Found → Type 0

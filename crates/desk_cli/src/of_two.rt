@@ -22,10 +22,10 @@ use std::io::{Read, Write};
 use streams::Watched;
 use task_sheet::{Members, Name, Preference, TaskSet};
 use two_input_commands::{
-    Compared, Drawing, InOrder, KeptNode, Observation, Simulated, check_text, checked_line, compare_text,
-    compared_text, draw_text, explain_at, explained_at_text, judge_text, judged_status, keep_text,
-    keeping_status, keeping_text, leeway_of, limits_at, observe_text, print_drawing,
-    print_observation, print_reached, print_simulated, simulate_text, worst_at,
+    Compared, Drawing, InOrder, KeptNode, Observation, Simulated, check_text, checked_line,
+    compare_text, compared_text, draw_text, explain_at, explained_at_text, judge_text,
+    judged_status, keep_text, keeping_status, keeping_text, leeway_of, limits_at, observe_text,
+    print_drawing, print_observation, print_reached, print_simulated, simulate_text, worst_at,
 };
 
 /// What a command finds of a set and a text.
@@ -59,16 +59,17 @@ pub enum Found {
     LimitedAt(InOrder),
 }
 
-// What a command finds of a set, which was taken by a preference, and a text.
+// What a command finds of a set, which was taken by a preference, whose tasks these have, and a text.
 fn find(
     alloc: Global,
     command: OfTwo,
     options: Options<'_>,
     by: Preference,
+    owners: &[Owner],
     tasks: &TaskSet,
     text: &[u8],
 ) -> Result<Found, CommandRefusal>
-    ensures answer { FindsIn command options.entry by tasks.now text.now result }
+    ensures answer { FindsIn command options.entry by owners.now tasks.now text.now result }
     ensures found { IfOk result (IsFoundOf tasks.now) }
 {
     match command {
@@ -100,7 +101,13 @@ fn find(
             room: room_of(options),
         }),
         OfTwo::WorstAt => Ok(Found::WorstAt(worst_at(alloc, options.task, tasks, text)?)),
-        OfTwo::LimitsAt => Ok(Found::LimitedAt(limits_at(alloc, options.task, tasks, text)?)),
+        OfTwo::LimitsAt => Ok(Found::LimitedAt(limits_at(
+            alloc,
+            options.task,
+            owners,
+            tasks,
+            text,
+        )?)),
         OfTwo::ExplainAt => Ok(Found::ExplainedAt(explain_at(alloc, options.task, tasks, text)?)),
     }
 }
@@ -243,7 +250,15 @@ fn say_both<W: Write + Drop, P: Audience>(
         both.now.tasks both.now.text.items) W.contents output.old output.new result }
 {
     let tasks = &both.tasks;
-    let answer = find(alloc, command, options, both.by, tasks, &both.text);
+    let answer = find(
+        alloc,
+        command,
+        options,
+        both.by,
+        &both.owners,
+        tasks,
+        &both.text,
+    );
     tell(&answer, tasks, Which::Second, &both.text, people);
     tell_found(&answer, tasks, &both.text, people);
     match answer {

@@ -2,6 +2,7 @@
 use Rattle.std.specs.Prelude.{◌≡◌, ◌⊎◌, ℕ, zero, suc, ◌+◌, ◌-◌, ◌<◌, ◌==◌, Bool, true, nat_lt, nat_le, List, [], ◌∷◌, ◌++◌, length, codes, Option, Some, None, option_map, if◌then◌else◌}
 use Rattle.std.specs.Fmt.{decimal}
 use Rattle.task_sheet.specs.declared.sheet.TheConstants.{PERIOD_FROM}
+use Rattle.task_sheet.specs.declared.node.TheConstants.{INTERRUPT_FROM}
 use Rattle.task_sheet.specs.Sheet.{Task, task_at}
 use Rattle.task_sheet.specs.Overheads.{calls, overhead_of}
 use Rattle.task_sheet.specs.Orders.{IsPassingOrder}
@@ -10,10 +11,10 @@ use Rattle.assignment.specs.Places.{PlaceData}
 use Rattle.assignment.specs.Placings.{tasks_of_places}
 use Rattle.assignment.specs.declared.placing.Placing.{Placing}
 use Rattle.assignment.specs.declared.placing.Placing.TheVariants.{Best, Stuck}
-use Rattle.limits.specs.Numbers.{section_at, value_of, with_number, AnswersFurthest}
+use Rattle.limits.specs.Numbers.{interrupt_at, section_at, value_of, with_number, AnswersFurthest}
 use Rattle.limits.specs.InOrder.{IsFurthestIn}
 use Rattle.limits.specs.declared.number.Number.{Number}
-use Rattle.limits.specs.declared.number.Number.TheVariants.{Cost, Period, Deadline, Jitter, Len}
+use Rattle.limits.specs.declared.number.Number.TheVariants.{Cost, Period, Deadline, Jitter, Len, InterruptCost, InterruptPeriod}
 use Rattle.factor.specs.Factors.{IsFactorIn}
 use Rattle.factor.specs.Failing.{AnswersFactor}
 use Rattle.factor.specs.declared.Slowdown.{Slowdown}
@@ -49,6 +50,8 @@ label_of Period = codes " period "
 label_of Deadline = codes " deadline "
 label_of Jitter = codes " jitter "
 label_of (Len k) = codes " section " ++ decimal (k + 1) ++ codes " len "
+label_of (InterruptCost k) = codes " cost "
+label_of (InterruptPeriod k) = codes " period "
 
 -- a number, or `-` for none
 abbrev pub some_words : Option ℕ → List ℕ
@@ -70,6 +73,8 @@ node_part Period t = 0
 node_part Deadline t = 0
 node_part Jitter t = t.node.late
 node_part (Len k) t = calls t.node (section_at t.sections k)
+node_part (InterruptCost k) t = 0
+node_part (InterruptPeriod k) t = 0
 
 -- less this, where there is a number
 abbrev pub less_of : ℕ → Option ℕ → Option ℕ
@@ -83,6 +88,8 @@ leaves_own Period part value = true
 leaves_own Deadline part value = true
 leaves_own Jitter part value = nat_le part value
 leaves_own (Len k) part value = nat_lt part value
+leaves_own (InterruptCost k) part value = true
+leaves_own (InterruptPeriod k) part value = true
 
 -- a number and a space, and nothing for none
 abbrev pub before_words : Option ℕ → List ℕ
@@ -106,6 +113,8 @@ along_words Deadline t own most =
     (with_number Deadline t most).period
 along_words Jitter t own most = []
 along_words (Len k) t own most = []
+along_words (InterruptCost k) t own most = []
+along_words (InterruptPeriod k) t own most = []
 
 -- ---- what holds a number where its sheet may have none further
 -- the word, where it is so
@@ -124,7 +133,8 @@ end_words t k =
     else codes " by cost"
 
 -- what holds a number at this value: the period a cost; the cost, the jitter or the least period of all a period; the jitter
--- a deadline, the deadline a jitter; the next section or the cost a length. Nothing where its sheet may have one further
+-- a deadline, the deadline a jitter; the next section or the cost a length; of an interrupt alike. Nothing where its sheet
+-- may have one further
 abbrev pub held_words : Number → Task → ℕ → List ℕ
 held_words Cost t most = word_if (most == t.period) (codes " by period")
 held_words Period t most =
@@ -134,38 +144,42 @@ held_words Deadline t most = word_if (most == t.jitter + 1) (codes " by jitter")
 held_words Jitter t most = word_if (most == t.deadline - 1) (codes " by deadline")
 held_words (Len k) t most =
     if most == end_of t k - (section_at t.sections k).at then end_words t k else []
+held_words (InterruptCost k) t most =
+    word_if (most == (interrupt_at t.interrupts k).period) (codes " by period")
+held_words (InterruptPeriod k) t most =
+    if most == (interrupt_at t.interrupts k).cost then codes " by cost"
+    else word_if (most == INTERRUPT_FROM) (codes " by 100")
 
--- the name of task i, what the number is, its value, the furthest in the order, and the furthest in any
-abbrev pub values_words : List Task → ℕ → Number → ℕ → Option ℕ → ℕ → List ℕ
-values_words U i number value own most =
-    name_at U i ++ label_of number ++ decimal value ++ codes " " ++ some_words own ++ codes " "
-    ++ decimal most
+-- whose the number is and what it is, its value, the furthest in the order, and the furthest in any
+abbrev pub values_words : (whose label : List ℕ) → ℕ → Option ℕ → ℕ → List ℕ
+values_words whose label value own most =
+    whose ++ label ++ decimal value ++ codes " " ++ some_words own ++ codes " " ++ decimal most
 
--- a number of task i, each of its values less what is the node's, what goes along, and what holds the last; nothing where
+-- a number of a task, each of its values less what is the node's, what goes along, and what holds the last; nothing where
 -- no value helps, or none that leaves the task one of its own
-abbrev pub number_line : List Task → ℕ → Number → Option ℕ → Option ℕ → List ℕ
-number_line U i number own None = []
-number_line U i number own (Some most) =
-    let t = task_at U i in
+abbrev pub number_line : (whose : List ℕ) → Task → Number → Option ℕ → Option ℕ → List ℕ
+number_line whose t number own None = []
+number_line whose t number own (Some most) =
     let part = node_part number t in
     if leaves_own number part most then
-    values_words U i number (value_of number t - part) (less_of part own) (most - part)
+    values_words whose (label_of number) (value_of number t - part) (less_of part own) (most - part)
     ++ along_words number t own most ++ held_words number t most ++ codes "\n"
     else []
 
--- the line of a number of task i
-abbrev pub IsNumberLine : List Task → Option (List PlaceData) → ℕ → Number → List ℕ → Type 0
-IsNumberLine U places i number text =
+-- the line of a number of task i, which is said to be of this
+abbrev pub IsNumberLine : (whose : List ℕ) → List Task → Option (List PlaceData) → ℕ → Number
+    → List ℕ → Type 0
+IsNumberLine whose U places i number text =
     (own : Option ℕ) × (most : Option ℕ) × AnswersIn U places i number own
     × AnswersFurthest U i number most
-    × (text ≡ number_line U i number own most)
+    × (text ≡ number_line whose (task_at U i) number own most)
 
 -- the text is a line for each of the first numbers of task i
 abbrev pub AreNumberLines : List Task → Option (List PlaceData) → ℕ → ℕ → List ℕ → Type 0
 AreNumberLines U places i zero text = text ≡ []
 AreNumberLines U places i (suc k) text =
     (front : List ℕ) × (line : List ℕ) × AreNumberLines U places i k front
-    × IsNumberLine U places i (number_at k) line
+    × IsNumberLine (name_at U i) U places i (number_at k) line
     × (text ≡ front ++ line)
 
 -- ---- a task

@@ -1,7 +1,9 @@
-//! The lines that say how far the numbers of a set may go: of each task its numbers and its slack, and the factor on all
-//! execution.
+//! The lines that say how far the numbers of a set may go: of each task its numbers and its slack, of the interrupts and of
+//! what the node takes, and the factor on all execution.
 #![tactic(auto)]
 
+mod common;
 mod text;
 
+pub use crate::common::common_text;
 pub use crate::text::{last_text, task_text};

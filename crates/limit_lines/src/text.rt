@@ -1,8 +1,10 @@
 //! The lines of a task, and the last one.
-ghost use Rattle.std.specs.Prelude.{◌≡◌, ◌++◌, ◌<◌, ℕ, length, option_map, IfOk, IfSome, OnOk, string_bytes};
+ghost use Rattle.std.specs.Prelude.{◌≡◌, ◌++◌, ◌<◌, ◌==◌, ℕ, length, codes, option_map, IfOk, IfSome, OnOk, if◌then◌else◌, string_bytes};
+ghost use Rattle.task_sheet.specs.declared.node.TheConstants.{INTERRUPT_FROM};
 ghost use Rattle.task_sheet.specs.Sheet.{IsValidSheet, task_at};
 ghost use Rattle.task_sheet.specs.Orders.{IsFeasible};
 ghost use Rattle.task_sheet.specs.declared.sheet.TheConstants.{SECTION_LIMIT};
+ghost use Rattle.lines.specs.Naming.{name_at};
 ghost use Rattle.limits.specs.Numbers.{AnswersFurthest, HasNumber, MayHave, numbered, with_number};
 ghost use Rattle.limit_lines.specs.Lines.{AnswersFactorIn, AnswersIn, AreTaskLines, HasPassing, IsLast, IsNumberLine, along_words, before_words, end_of, end_words, factor_line, held_words, label_of, leaves_own, less_of, moved_words, node_part, number_at, number_line, order_in, places_in, slack_in, slack_line, slack_of, some_words, word_if};
 
@@ -12,7 +14,7 @@ use factor::{Slowdown, factor, factor_in_order};
 use limits::{Number, furthest, furthest_from, furthest_in_order, value_of};
 use lines::push_name;
 use std::alloc::{AllocError, Global};
-use task_sheet::{PERIOD_FROM, Sheet, TaskSet};
+use task_sheet::{INTERRUPT_FROM, PERIOD_FROM, Sheet, TaskSet};
 
 // The number of a task that stands at a place among its numbers, from 0.
 fn number_at(place: usize) -> Number
@@ -41,11 +43,13 @@ fn push_label(text: &mut String, number: Number) -> Result<(), AllocError>
             let count = place as u64 + 1;
             write!(text, " section {count} len ")
         }
+        Number::InterruptCost(_) => text.push_str(" cost "),
+        Number::InterruptPeriod(_) => text.push_str(" period "),
     }
 }
 
 // A number, or `-` for none.
-fn push_some(text: &mut String, number: Option<u64>) -> Result<(), AllocError>
+pub(crate) fn push_some(text: &mut String, number: Option<u64>) -> Result<(), AllocError>
     ensures { OnOk result (string_bytes text.new ≡ string_bytes text.old ++ some_words number) }
 {
     match number {
@@ -64,6 +68,7 @@ fn node_part(sheet: &Sheet, number: Number) -> u64
     match number {
         Number::Cost => sheet.overhead(),
         Number::Period | Number::Deadline => 0,
+        Number::InterruptCost(_) | Number::InterruptPeriod(_) => 0,
         Number::Jitter => node.late,
         Number::Len(place) => {
             let section = &sheet.sections()[place];
@@ -90,6 +95,7 @@ fn leaves_own(number: Number, part: u64, value: u64) -> bool
         Number::Cost | Number::Len(_) => part < value,
         Number::Period | Number::Deadline => true,
         Number::Jitter => part <= value,
+        Number::InterruptCost(_) | Number::InterruptPeriod(_) => true,
     }
 }
 
@@ -177,6 +183,7 @@ fn push_along(
             )
         }
         Number::Cost | Number::Jitter | Number::Len(_) => Ok(()),
+        Number::InterruptCost(_) | Number::InterruptPeriod(_) => Ok(()),
     }
 }
 
@@ -252,6 +259,18 @@ fn push_len_held(
     }
 }
 
+// What holds the period of an interrupt at this value, in microseconds.
+fn push_interrupt_held(text: &mut String, cost: u64, most: u64) -> Result<(), AllocError>
+    ensures { OnOk result (string_bytes text.new ≡ string_bytes text.old
+        ++ (if most == cost then codes " by cost"
+        else word_if (most == INTERRUPT_FROM) (codes " by 100"))) }
+{
+    if most == cost {
+        return text.push_str(" by cost");
+    }
+    push_if(text, most == INTERRUPT_FROM, " by 100")
+}
+
 // What holds a number at this value, where its sheet may have none further.
 fn push_held(text: &mut String, sheet: &Sheet, number: Number, most: u64) -> Result<(), AllocError>
     requires valid { IsValidSheet sheet.now }
@@ -265,12 +284,22 @@ fn push_held(text: &mut String, sheet: &Sheet, number: Number, most: u64) -> Res
         Number::Deadline => push_if(text, most == sheet.jitter() + 1, " by jitter"),
         Number::Jitter => push_if(text, most == sheet.deadline() - 1, " by deadline"),
         Number::Len(place) => push_len_held(text, sheet, place, most),
+        Number::InterruptCost(place) => {
+            let interrupt = sheet.interrupts()[place];
+            push_if(text, most == interrupt.period, " by period")
+        }
+        Number::InterruptPeriod(place) => {
+            let interrupt = sheet.interrupts()[place];
+            push_interrupt_held(text, interrupt.cost, most)
+        }
     }
 }
 
-// The line of a number of a task, with what goes along and what holds it; nothing where no value helps, or none that leaves the task one of its own.
+// The line of a number of a task, said to be of this, with what goes along and what holds it; nothing where no value helps,
+// or none that leaves the task one of its own.
 fn push_number(
     text: &mut String,
+    whose: &str,
     set: &TaskSet,
     task: usize,
     number: Number,
@@ -280,7 +309,7 @@ fn push_number(
     requires task { task < length set.now }
     requires has { HasNumber (task_at set.now task) number }
     ensures { OnOk result (string_bytes text.new ≡ string_bytes text.old
-        ++ number_line set.now task number own most) }
+        ++ number_line whose.now (task_at set.now task) number own most) }
 {
     let Some(most) = most else {
         return Ok(());
@@ -292,7 +321,7 @@ fn push_number(
     }
     let value = value_of(sheet, number).saturating_sub(part);
     let left = most.saturating_sub(part);
-    push_name(text, set, task)?;
+    text.push_str(whose)?;
     push_label(text, number)?;
     write!(text, "{value} ")?;
     push_some(text, less_of(part, own))?;
@@ -350,9 +379,10 @@ fn in_any(
     }
 }
 
-// The line of a number.
-fn number_text(
+// The line of a number, said to be of this.
+pub(crate) fn number_text(
     alloc: Global,
+    whose: &str,
     set: &Tabled<'_>,
     placing: &Placing,
     order: &[usize],
@@ -363,13 +393,13 @@ fn number_text(
     requires order { order.now ≡ order_in placing.now }
     requires task { task < length set.now }
     requires has { HasNumber (task_at set.now task) number }
-    ensures { IfOk result (λ text. IsNumberLine set.now (places_in placing.now) task number
-        (string_bytes text)) }
+    ensures { IfOk result (λ text. IsNumberLine whose.now set.now (places_in placing.now) task
+        number (string_bytes text)) }
 {
     let own = in_order(alloc, set, placing, order, task, number)?;
     let most = in_any(alloc, set, task, number, own)?;
     let mut text = String::new(alloc);
-    push_number(&mut text, set.tasks(), task, number, own, most)?;
+    push_number(&mut text, whose, set.tasks(), task, number, own, most)?;
     Ok(text)
 }
 
@@ -415,6 +445,15 @@ fn push_slack(
     }
 }
 
+// The name of a task.
+fn name_text(alloc: Global, set: &TaskSet, task: usize) -> Result<String, AllocError>
+    ensures { IfOk result (λ name. string_bytes name ≡ name_at set.now task) }
+{
+    let mut name = String::new(alloc);
+    push_name(&mut name, set, task)?;
+    Ok(name)
+}
+
 /// The lines of a task of a placed set: for each of its numbers that may help its value, the furthest with which the
 /// order passes, and the furthest with which some order does, each less what of it is the node's, what goes along, and what
 /// holds the last; and where there is an order, its slack. That is any one which passes, the best or another; `order` is the same, the lowest first. The error is
@@ -433,9 +472,11 @@ pub fn task_text(
         (string_bytes text)) }
 {
     let count = 4 + set.sheets()[task].sections().len();
+    let name = name_text(alloc, set.tasks(), task)?;
+    let whose = name.as_str();
     let mut text = String::new(alloc);
     for place in 0..count {
-        let line = number_text(alloc, set, placing, order, task, number_at(place))?;
+        let line = number_text(alloc, whose, set, placing, order, task, number_at(place))?;
         text.push_str(line.as_str())?;
     }
     let slack = slack_of(set.tasks(), placing, task);

@@ -18,7 +18,7 @@ use Rattle.limits.specs.Easier.{AreCheaper, AreEasier}
 use Rattle.limits.proofs.NearLaws.{AreNear, blocking-near, limit-near, is_bound-near}
 
 -- ---- jobs
-div_ceil-longer : (t p q : ℕ) → 0 < p → p ≤ q → div_ceil t q ≤ div_ceil t p
+pub div_ceil-longer : (t p q : ℕ) → 0 < p → p ≤ q → div_ceil t q ≤ div_ceil t p
 div_ceil-longer t p q pos le =
     let far : t ≤ div_ceil t p * p = grind (arith, common_steps) in
     let more : div_ceil t p * p ≤ div_ceil t p * q = mul-le-mul_left (div_ceil t p) le in
@@ -27,7 +27,8 @@ div_ceil-longer t p q pos le =
 -- ---- interrupts
 pub AreCheaper-refl : (xs : List Interrupt) → AreCheaper xs xs
 AreCheaper-refl [] = tt
-AreCheaper-refl (x ∷ xs) = (refl, omega arith, AreCheaper-refl xs)
+AreCheaper-refl (x ∷ xs) =
+    (record { rarer = λ time. omega arith; cost = omega arith }, AreCheaper-refl xs)
 
 cheaper-within : (t : ℕ) (xs ys : List Interrupt) → AreCheaper xs ys
     → sum_by (interrupt_within t) xs ≤ sum_by (interrupt_within t) ys
@@ -36,11 +37,11 @@ cheaper-within t [] (y ∷ ys) cheap = absurd cheap
 cheaper-within t (x ∷ xs) [] cheap = absurd cheap
 cheaper-within t (x ∷ xs) (y ∷ ys) cheap =
     let here : interrupt_within t x ≤ interrupt_within t y =
-    rw (cheap.0) (mul-le-mul_left (div_ceil (t + 0) y.period) cheap.1) in
+    mul-le-mul (cheap.0.rarer t) cheap.0.cost in
     omega (
       arith,
       here,
-      cheaper-within t xs ys cheap.2,
+      cheaper-within t xs ys cheap.1,
       sum_by-cons (interrupt_within t) x xs,
       sum_by-cons (interrupt_within t) y ys,
     )

@@ -1,8 +1,11 @@
 pub mod NearLaws
 pub mod EasierLaws
+pub mod InterruptLaws
 pub mod NumberLaws
 pub mod SpanLaws
 pub mod TableLaws
 pub mod Steps
 pub mod Answered
 pub mod NodeLaws
+pub mod SharedLaws
+pub mod WrittenLaws

@@ -9,11 +9,16 @@ use Rattle.task_sheet.proofs.TaskLaws.{valid_at}
 use Rattle.headroom.proofs.CostLaws.{placed-other, placed-same}
 use Rattle.limits.specs.declared.number.Number.{Number}
 use Rattle.limits.specs.declared.number.Number.TheVariants.{Cost, Period, Deadline, Jitter, Len}
+use Rattle.limits.specs.declared.number.Number.TheVariants.{InterruptCost, InterruptPeriod}
 use Rattle.limits.specs.Easier.{AreShorter, IsEasier, AreEasier}
+use Rattle.task_sheet.specs.declared.node.Interrupt.{Interrupt}
+use Rattle.limits.specs.Numbers.{no_interrupt}
 use Rattle.limits.specs.Numbers.{no_section, with_len, value_of, with_number, IsNoFurther, numbered}
 use Rattle.limits.specs.Numbers.{MayHave, IsFurthestFor, IsFurthest, IsSpan, at_distance, distance}
 use Rattle.limits.specs.InOrder.{IsFurthestIn}
 use Rattle.limits.proofs.EasierLaws.{AreCheaper-refl}
+use Rattle.limits.proofs.InterruptLaws.{cheaper-cost, cheaper-period, easier-interrupts}
+use Rattle.limits.proofs.InterruptLaws.{placed-read}
 use Rattle.limits.proofs.NearLaws.{AreShorter-refl}
 use Rattle.limits.proofs.SpanLaws.{far-known}
 use Rattle.headroom.proofs.PlacedLaws.{IsNamesake, AllTasks-placed}
@@ -24,6 +29,8 @@ namesake Period t value = record { name = refl; weight = refl }
 namesake Deadline t value = record { name = refl; weight = refl }
 namesake Jitter t value = record { name = refl; weight = refl }
 namesake (Len k) t value = record { name = refl; weight = refl }
+namesake (InterruptCost k) t value = record { name = refl; weight = refl }
+namesake (InterruptPeriod k) t value = record { name = refl; weight = refl }
 
 -- ---- a value that is no further asks no more
 shorter-len : (xs : List CriticalSection) (k low high : ℕ) → low ≤ high
@@ -56,30 +63,37 @@ easier-same x easy hard e f = rw (e, f)
     x.sections x.sections (omega arith) (omega arith) (omega arith) (omega arith)
     (AreShorter-refl x.sections))
 
-easier-number : (number : Number) (t : Task) (low high : ℕ) → IsNoFurther number low high
-    → IsEasier (with_number number t low) (with_number number t high)
-easier-number Cost t low high le =
+easier-number : (number : Number) (t : Task) (low high : ℕ)
+    → IsValidSheet (with_number number t high) → IsNoFurther number low high → IsEasier (with_number number t low) (with_number number t high)
+easier-number Cost t low high may le =
     easier-parts t low t.period t.deadline t.jitter high t.period t.deadline t.jitter t.sections
     t.sections le (omega arith) (omega arith) (omega arith) (AreShorter-refl t.sections)
-easier-number Period t low high le =
+easier-number Period t low high may le =
     easier-parts t t.cost low (min t.deadline low) t.jitter t.cost high (min t.deadline high)
     t.jitter t.sections t.sections (omega arith) le (omega (arith, le)) (omega arith)
     (AreShorter-refl t.sections)
-easier-number Deadline t low high le =
+easier-number Deadline t low high may le =
     easier-parts t t.cost (max t.period low) low t.jitter t.cost (max t.period high) high t.jitter
     t.sections t.sections (omega arith) (omega (arith, le)) le (omega arith)
     (AreShorter-refl t.sections)
-easier-number Jitter t low high le =
+easier-number Jitter t low high may le =
     easier-parts t t.cost t.period t.deadline low t.cost t.period t.deadline high t.sections
     t.sections (omega arith) (omega arith) (omega arith) le (AreShorter-refl t.sections)
-easier-number (Len k) t low high le =
+easier-number (Len k) t low high may le =
     easier-parts t t.cost t.period t.deadline t.jitter t.cost t.period t.deadline t.jitter
     (with_len t.sections k low) (with_len t.sections k high) (omega arith) (omega arith)
     (omega arith) (omega arith) (shorter-len t.sections k low high le)
+easier-number (InterruptCost k) t low high may le =
+    easier-interrupts t _ _ (cheaper-cost t.interrupts k low high le)
+easier-number (InterruptPeriod k) t low high may le =
+    easier-interrupts t _ _ (cheaper-period t.interrupts k low high
+    (λ lt. let is = placed-read t.interrupts k _ lt may.interrupts in
+    omega (arith, is.period_from)) le)
 
 pub AreEasier-numbered : (U : List Task) (i : ℕ) (number : Number) (low high : ℕ) → i < length U
-    → IsNoFurther number low high → AreEasier (numbered U i number low) (numbered U i number high)
-AreEasier-numbered U i number low high inside le =
+    → MayHave U i number high → IsNoFurther number low high
+    → AreEasier (numbered U i number low) (numbered U i number high)
+AreEasier-numbered U i number low high inside may le =
     let x = with_number number (task_at U i) low in
     let y = with_number number (task_at U i) high in
     record {
@@ -87,7 +101,7 @@ AreEasier-numbered U i number low high inside le =
       each = λ k. elim (cases_eq k i) [
         | inr ne ↦ easier-same (task_at U k) _ _ (placed-other U i x k ne) (placed-other U i y k ne)
         | inl e ↦ rw (e, placed-same U i x inside, placed-same U i y inside)
-            (easier-number number (task_at U i) low high le)
+            (easier-number number (task_at U i) low high may le)
       ];
     }
 
@@ -102,6 +116,10 @@ number-own Deadline t valid = let e : max t.period t.deadline ≡ t.period =
 number-own Jitter t valid = refl
 number-own (Len k) t valid = ap (λ (xs : List CriticalSection). record t { sections = xs })
     (set-get_or t.sections k no_section)
+number-own (InterruptCost k) t valid = ap (λ (xs : List Interrupt). record t { interrupts = xs })
+    (set-get_or t.interrupts k no_interrupt)
+number-own (InterruptPeriod k) t valid = ap (λ (xs : List Interrupt). record t { interrupts = xs })
+    (set-get_or t.interrupts k no_interrupt)
 
 pub numbered-own : (U : List Task) (i : ℕ) (number : Number) → IsTaskSet U → i < length U
     → numbered U i number (value_of number (task_at U i)) ≡ U
@@ -123,6 +141,8 @@ same-far Period first second le ge = omega (arith, le, ge)
 same-far Deadline first second le ge = omega (arith, le, ge)
 same-far Jitter first second le ge = omega (arith, le, ge)
 same-far (Len k) first second le ge = omega (arith, le, ge)
+same-far (InterruptCost k) first second le ge = omega (arith, le, ge)
+same-far (InterruptPeriod k) first second le ge = omega (arith, le, ge)
 
 pub furthest-one : (P : List Task → Type 0) (U : List Task) (i : ℕ) (number : Number)
     (first second : ℕ) → IsFurthestFor P U i number first → IsFurthestFor P U i number second
@@ -138,7 +158,7 @@ module _ (P : List Task → Type 0) (eased : (V U : List Task) → AreEasier V U
       → P (numbered U i number high) → P (numbered U i number low)
   nearer low high may le =
       eased (numbered U i number low) (numbered U i number high)
-      (AreEasier-numbered U i number low high inside le)
+      (AreEasier-numbered U i number low high inside may le)
       (AllTasks-placed U i (with_number number (task_at U i) high) set inside may)
 
   pub furthest-each : (most value : ℕ) → IsFurthestFor P U i number most → MayHave U i number value

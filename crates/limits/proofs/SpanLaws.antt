@@ -7,6 +7,7 @@ use Rattle.headroom.specs.Costs.{with_cost, last_end}
 use Rattle.headroom.proofs.CostLaws.{last_end-within, may_cost}
 use Rattle.limits.specs.declared.number.Number.{Number}
 use Rattle.limits.specs.declared.number.Number.TheVariants.{Cost, Period, Deadline, Jitter, Len}
+use Rattle.limits.specs.declared.number.Number.TheVariants.{InterruptCost, InterruptPeriod}
 use Rattle.limits.specs.Numbers.{no_section, section_at, with_len, with_number, IsSpan, at_distance}
 use Rattle.limits.specs.Numbers.{distance}
 use Rattle.limits.specs.Rooms.{room_end}
@@ -214,6 +215,8 @@ at-start Period easiest = omega arith
 at-start Deadline easiest = omega arith
 at-start Jitter easiest = omega arith
 at-start (Len k) easiest = omega arith
+at-start (InterruptCost k) easiest = omega arith
+at-start (InterruptPeriod k) easiest = omega arith
 
 -- a section that is read from a sheet's sections
 pub section_read : (xs ys : List CriticalSection) (k : ℕ) (x : CriticalSection) → ys ≡ xs
@@ -257,6 +260,8 @@ far-back Period easiest far = (omega arith, omega arith)
 far-back Deadline easiest far = (omega arith, omega arith)
 far-back Jitter easiest far = (omega arith, omega arith)
 far-back (Len k) easiest far = (omega arith, omega arith)
+far-back (InterruptCost k) easiest far = (omega arith, omega arith)
+far-back (InterruptPeriod k) easiest far = (omega arith, omega arith)
 
 -- a value that the sheet may have stands within the span, at its distance
 pub far-known : (t : Task) (number : Number) (easiest length value : ℕ)

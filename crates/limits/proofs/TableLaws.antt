@@ -11,6 +11,7 @@ use Rattle.ceilings.specs.IsTableOf.{AreUsersOf, IsTableOf, names_in, first_sigh
 use Rattle.headroom.proofs.CostLaws.{longest-same}
 use Rattle.limits.specs.declared.number.Number.{Number}
 use Rattle.limits.specs.declared.number.Number.TheVariants.{Cost, Period, Deadline, Jitter, Len}
+use Rattle.limits.specs.declared.number.Number.TheVariants.{InterruptCost, InterruptPeriod}
 use Rattle.limits.specs.Numbers.{numbered, KeepsSections}
 
 same-placed : {R : Type 0} (of : Task → R) (x : Task) (U : List Task) (i : ℕ)
@@ -75,3 +76,7 @@ IsTableOf-numbered U i Deadline value table keeps is =
 IsTableOf-numbered U i Jitter value table keeps is =
     IsTableOf-placed U i _ refl refl refl table is
 IsTableOf-numbered U i (Len k) value table keeps is = absurd keeps
+IsTableOf-numbered U i (InterruptCost k) value table keeps is =
+    IsTableOf-placed U i _ refl refl refl table is
+IsTableOf-numbered U i (InterruptPeriod k) value table keeps is =
+    IsTableOf-placed U i _ refl refl refl table is

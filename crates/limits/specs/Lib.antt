@@ -2,3 +2,5 @@ pub mod Numbers
 pub mod Easier
 pub mod Rooms
 pub mod InOrder
+pub mod Shared
+pub mod Written

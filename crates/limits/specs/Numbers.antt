@@ -2,9 +2,10 @@
 use Rattle.std.specs.Prelude.{◌≡◌, ℕ, ◌+◌, ◌-◌, ◌<◌, ◌≤◌, max, min, List, [], length, slice_set, slice_index_or, Option, Some, None}
 use Rattle.task_sheet.specs.Sheet.{CriticalSection, Task, with_jitter, IsValidSheet, task_at}
 use Rattle.task_sheet.specs.Orders.{IsFeasible}
+use Rattle.task_sheet.specs.declared.node.Interrupt.{Interrupt}
 use Rattle.headroom.specs.Costs.{with_cost}
 use Rattle.limits.specs.declared.number.Number.{Number}
-use Rattle.limits.specs.declared.number.Number.TheVariants.{Cost, Period, Deadline, Jitter, Len}
+use Rattle.limits.specs.declared.number.Number.TheVariants.{Cost, Period, Deadline, Jitter, Len, InterruptCost, InterruptPeriod}
 
 -- stands past the end of a task's sections
 abbrev pub no_section : CriticalSection
@@ -18,6 +19,22 @@ section_at sections k = slice_index_or sections k no_section
 abbrev pub with_len : List CriticalSection → ℕ → ℕ → List CriticalSection
 with_len sections k len = slice_set sections k (record (section_at sections k) { len = len })
 
+-- stands past the end of a task's interrupts
+abbrev pub no_interrupt : Interrupt
+no_interrupt = record { period = 0; cost = 0 }
+
+-- the interrupt at a place
+abbrev pub interrupt_at : List Interrupt → ℕ → Interrupt
+interrupt_at xs k = slice_index_or xs k no_interrupt
+
+-- the interrupts, with another cost of the one at a place
+abbrev pub with_interrupt_cost : List Interrupt → ℕ → ℕ → List Interrupt
+with_interrupt_cost xs k cost = slice_set xs k (record (interrupt_at xs k) { cost = cost })
+
+-- and with another period
+abbrev pub with_interrupt_period : List Interrupt → ℕ → ℕ → List Interrupt
+with_interrupt_period xs k period = slice_set xs k (record (interrupt_at xs k) { period = period })
+
 -- the task has such a number
 abbrev pub HasNumber : Task → Number → Type 0
 HasNumber t Cost = Unit {0}
@@ -25,6 +42,8 @@ HasNumber t Period = Unit {0}
 HasNumber t Deadline = Unit {0}
 HasNumber t Jitter = Unit {0}
 HasNumber t (Len k) = k < length t.sections
+HasNumber t (InterruptCost k) = k < length t.interrupts
+HasNumber t (InterruptPeriod k) = k < length t.interrupts
 
 -- that number
 abbrev pub value_of : Number → Task → ℕ
@@ -33,6 +52,8 @@ value_of Period t = t.period
 value_of Deadline t = t.deadline
 value_of Jitter t = t.jitter
 value_of (Len k) t = (section_at t.sections k).len
+value_of (InterruptCost k) t = (interrupt_at t.interrupts k).cost
+value_of (InterruptPeriod k) t = (interrupt_at t.interrupts k).period
 
 -- the task, with another value of it: a period that is shorter than the deadline takes it along, a deadline that is
 -- later than the period takes that along
@@ -42,6 +63,10 @@ with_number Period t value = record t { period = value; deadline = min t.deadlin
 with_number Deadline t value = record t { period = max t.period value; deadline = value }
 with_number Jitter t value = with_jitter t value
 with_number (Len k) t value = record t { sections = with_len t.sections k value }
+with_number (InterruptCost k) t value =
+    record t { interrupts = with_interrupt_cost t.interrupts k value }
+with_number (InterruptPeriod k) t value =
+    record t { interrupts = with_interrupt_period t.interrupts k value }
 
 -- a value that asks no more than the other: a cost, a jitter or a length that is no greater, a period or a deadline that
 -- is no less
@@ -51,6 +76,8 @@ IsNoFurther Period value other = other ≤ value
 IsNoFurther Deadline value other = other ≤ value
 IsNoFurther Jitter value other = value ≤ other
 IsNoFurther (Len k) value other = value ≤ other
+IsNoFurther (InterruptCost k) value other = value ≤ other
+IsNoFurther (InterruptPeriod k) value other = other ≤ value
 
 -- the set, with another value of a number of its task i
 abbrev pub numbered : List Task → ℕ → Number → ℕ → List Task
@@ -89,6 +116,8 @@ at_distance Period easiest far = easiest - far
 at_distance Deadline easiest far = easiest - far
 at_distance Jitter easiest far = easiest + far
 at_distance (Len k) easiest far = easiest + far
+at_distance (InterruptCost k) easiest far = easiest + far
+at_distance (InterruptPeriod k) easiest far = easiest - far
 
 -- how far a value is from the easiest one
 abbrev pub distance : Number → (easiest value : ℕ) → ℕ
@@ -97,6 +126,8 @@ distance Period easiest value = easiest - value
 distance Deadline easiest value = easiest - value
 distance Jitter easiest value = value - easiest
 distance (Len k) easiest value = value - easiest
+distance (InterruptCost k) easiest value = value - easiest
+distance (InterruptPeriod k) easiest value = easiest - value
 
 -- the values that a sheet may have are those from the easiest one on, up to this distance
 pub record IsSpan (t : Task) (number : Number) (easiest length : ℕ) : Type 0 where
@@ -113,3 +144,5 @@ KeepsSections Period = Unit {0}
 KeepsSections Deadline = Unit {0}
 KeepsSections Jitter = Unit {0}
 KeepsSections (Len k) = ⊥
+KeepsSections (InterruptCost k) = Unit {0}
+KeepsSections (InterruptPeriod k) = Unit {0}

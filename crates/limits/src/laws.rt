@@ -1,17 +1,21 @@
 //! Laws of numbers. Each is the clause of a function that does nothing, and its names are defined in `specs/`.
 
-ghost use Rattle.std.specs.Prelude.{◌≡◌, ◌≤◌, ◌<◌, ◌↔◌, ℕ, List, length, None, IsFalse};
+ghost use Rattle.std.specs.Prelude.{◌≡◌, ◌≤◌, ◌<◌, ◌↔◌, ℕ, List, ◌∷◌, length, Option, None, IsFalse};
 ghost use Rattle.task_sheet.specs.Sheet.{Task, AllTasks, task_at};
 ghost use Rattle.task_sheet.specs.TaskSet.{IsTaskSet};
 ghost use Rattle.task_sheet.specs.Indexes.{Indexes};
 ghost use Rattle.task_sheet.specs.Demand.{limit_of, blocking_of, demand_of, Passes};
 ghost use Rattle.task_sheet.specs.Orders.{IsPassingOrder, IsFeasible};
 ghost use Rattle.task_sheet.specs.declared.node.Node.{Node};
-ghost use Rattle.overheads.specs.Padding.{IsLighter, IsUnpadded, padded, padding_fault};
+ghost use Rattle.overheads.specs.Padding.{IsLighter, IsUnpadded, charged, padded, padding_fault};
+ghost use Rattle.task_sheet.specs.declared.node.Interrupt.{Interrupt};
 ghost use Rattle.limits.specs.Easier.{AreEasier};
 ghost use Rattle.limits.specs.declared.number.Number.{Number};
 ghost use Rattle.limits.specs.Numbers.{HasNumber, value_of, numbered, MayHave, IsNoFurther, IsFurthest, NoneHelps};
 ghost use Rattle.limits.specs.InOrder.{IsFurthestIn};
+ghost use Rattle.limits.specs.declared.shared.Shared.{Shared};
+ghost use Rattle.limits.specs.Shared.{IsFurthestShared, MayTake, PassesIn, with_shared};
+ghost use Rattle.limits.specs.Written.{node_of, written};
 
 /// To ask less takes no order away: with no cost, no jitter and no section longer, no timer or interrupt that takes
 /// more, no period shorter and no deadline earlier, no blocking and no demand is greater, no limit is less, and an order
@@ -81,4 +85,28 @@ pub fn furthest_in_order_decides()
     ensures within { (U : List Task) (order : List ℕ) (i : ℕ) (number : Number) (most any : ℕ)
         → IsFurthestIn U order i number most → IsFurthest U i number any
         → IsNoFurther number most any }
+{}
+
+/// The same of a number of the node: the order passes exactly with the values that a document may say and there is room for,
+/// up to the furthest.
+pub fn furthest_shared_decides()
+    ensures each { (W : List Task) (node : Node) (number : Shared) (order : Option (List ℕ)) (most value : ℕ)
+        → IsTaskSet W → IsFurthestShared W node number order most
+        → MayTake W (with_shared number node value)
+        → PassesIn order (padded (with_shared number node value) W) ↔ (value ≤ most) }
+    ensures one { (W : List Task) (node : Node) (number : Shared) (order : Option (List ℕ)) (first second : ℕ)
+        → IsFurthestShared W node number order first
+        → IsFurthestShared W node number order second
+        → first ≡ second }
+{}
+
+/// What documents say is what is left of it once it is padded: their tasks, with the interrupts, and their node; and with
+/// another node they are padded alike.
+pub fn written_is_said()
+    ensures set { (U : List Task) (node : Node) (xs : List Interrupt) → IsUnpadded U
+        → written (charged xs (padded node U)) ≡ charged xs U }
+    ensures node { (t : Task) (ts : List Task) (node : Node) (xs : List Interrupt)
+        → node_of (charged xs (padded node (t ∷ ts))) ≡ node }
+    ensures again { (U : List Task) (node other : Node) (xs : List Interrupt) → IsUnpadded U
+        → padded other (written (charged xs (padded node U))) ≡ charged xs (padded other U) }
 {}

@@ -12,13 +12,17 @@ mod in_order;
 pub mod laws;
 mod number;
 mod numbered;
+mod shared;
 mod spans;
+mod unpadded;
 
 pub use crate::in_order::{furthest_in_order, order_passes};
 pub use crate::number::Number;
 use crate::numbered::{keeps_sections, numbered};
+pub use crate::shared::{Shared, furthest_shared, most_shared, room_fault, shared_of, with_shared};
 pub use crate::spans::value_of;
 use crate::spans::{Span, at_distance, distance, span_in};
+pub use crate::unpadded::{node_of, written};
 use assignment::is_feasible;
 use ceilings::{LockTable, Tabled};
 use std::alloc::{AllocError, Global};

@@ -13,4 +13,8 @@ pub enum Number {
     Jitter,
     /// The length of the section at a place, from 0.
     Len(usize),
+    /// What the interrupt on its account at a place, from 0, takes each time.
+    InterruptCost(usize),
+    /// The least time between two of these interrupts.
+    InterruptPeriod(usize),
 }

@@ -1,13 +1,14 @@
 //! Sets with another value of one number of a task.
 ghost use Rattle.std.specs.Prelude.{◌≡◌, ◌↔◌, ◌<◌, length, IfOk, IsTrue};
-ghost use Rattle.task_sheet.specs.Sheet.{IsValidSheet, task_at};
-ghost use Rattle.limits.specs.Numbers.{KeepsSections, HasNumber, with_len, with_number, numbered, MayHave};
+ghost use Rattle.task_sheet.specs.Sheet.{AreInterrupts, IsValidSheet, interrupted, task_at};
+ghost use Rattle.headroom.specs.Remade.{remade};
+ghost use Rattle.limits.specs.Numbers.{KeepsSections, HasNumber, with_interrupt_cost, with_interrupt_period, with_len, with_number, numbered, MayHave};
 
 use crate::number::Number;
 use ceilings::Tabled;
-use headroom::{copy_sections, remade, times_of};
+use headroom::{Times, copy_sections, remade, times_of};
 use std::alloc::{AllocError, Global};
-use task_sheet::{Section, SetCause, Sheet, TaskSet, copy_sheets};
+use task_sheet::{Interrupt, Section, SetCause, Sheet, TaskSet, copy_sheets};
 
 // The sections, with another length of the one at a place.
 fn with_len(
@@ -24,6 +25,76 @@ fn with_len(
     Ok(others)
 }
 
+// The interrupts, with another cost of the one at a place.
+fn with_interrupt_cost(
+    alloc: Global,
+    interrupts: &[Interrupt],
+    place: usize,
+    cost: u64,
+) -> Result<Vec<Interrupt>, AllocError>
+    requires { place < length interrupts.now }
+    ensures { IfOk result (λ others. others.items ≡ with_interrupt_cost interrupts.now place cost) }
+{
+    let mut others = Vec::from_slice(alloc, interrupts)?;
+    others[place].cost = cost;
+    Ok(others)
+}
+
+// And with another period.
+fn with_interrupt_period(
+    alloc: Global,
+    interrupts: &[Interrupt],
+    place: usize,
+    period: u64,
+) -> Result<Vec<Interrupt>, AllocError>
+    requires { place < length interrupts.now }
+    ensures { IfOk result (λ others. others.items
+        ≡ with_interrupt_period interrupts.now place period) }
+{
+    let mut others = Vec::from_slice(alloc, interrupts)?;
+    others[place].period = period;
+    Ok(others)
+}
+
+// The sheet with these times and sections.
+fn with_parts(
+    alloc: Global,
+    sheet: &Sheet,
+    times: Times,
+    sections: Vec<Section>,
+) -> Result<Sheet, AllocError>
+    requires { IsValidSheet (remade sheet.now times.period times.deadline times.cost times.jitter sections.items sheet.now.interrupts) }
+    ensures { IfOk result (λ other. other
+        ≡ remade sheet.now times.period times.deadline times.cost times.jitter sections.items sheet.now.interrupts) }
+{
+    let outranks = sheet.outranks().copy(alloc)?;
+    let interrupts = Vec::from_slice(alloc, sheet.interrupts())?;
+    Ok(remade(sheet, times, sections, outranks, interrupts))
+}
+
+// The sheet with these times.
+fn with_times(alloc: Global, sheet: &Sheet, times: Times) -> Result<Sheet, AllocError>
+    requires { IsValidSheet (remade sheet.now times.period times.deadline times.cost times.jitter sheet.now.sections sheet.now.interrupts) }
+    ensures { IfOk result (λ other. other
+        ≡ remade sheet.now times.period times.deadline times.cost times.jitter sheet.now.sections sheet.now.interrupts) }
+{
+    let sections = copy_sections(alloc, sheet.sections())?;
+    with_parts(alloc, sheet, times, sections)
+}
+
+// The sheet with these interrupts on its account.
+fn with_interrupts(
+    alloc: Global,
+    sheet: &Sheet,
+    interrupts: Vec<Interrupt>,
+) -> Result<Sheet, AllocError>
+    requires { AreInterrupts interrupts.items }
+    ensures { IfOk result (λ other. other ≡ interrupted sheet.now interrupts.items) }
+{
+    let other = sheet.copy(alloc)?;
+    Ok(other.interrupted(interrupts))
+}
+
 // The sheet with another value of a number.
 fn with_number(
     alloc: Global,
@@ -36,10 +107,6 @@ fn with_number(
     ensures { IfOk result (λ other. other ≡ with_number number sheet.now value) }
 {
     let mut times = times_of(sheet);
-    let sections = match number {
-        Number::Len(place) => with_len(alloc, sheet.sections(), place, value)?,
-        _ => copy_sections(alloc, sheet.sections())?,
-    };
     match number {
         Number::Cost => times.cost = value,
         Number::Period => {
@@ -51,11 +118,20 @@ fn with_number(
             times.deadline = value;
         }
         Number::Jitter => times.jitter = value,
-        Number::Len(_) => {}
+        Number::Len(place) => {
+            let sections = with_len(alloc, sheet.sections(), place, value)?;
+            return with_parts(alloc, sheet, times, sections);
+        }
+        Number::InterruptCost(place) => {
+            let interrupts = with_interrupt_cost(alloc, sheet.interrupts(), place, value)?;
+            return with_interrupts(alloc, sheet, interrupts);
+        }
+        Number::InterruptPeriod(place) => {
+            let interrupts = with_interrupt_period(alloc, sheet.interrupts(), place, value)?;
+            return with_interrupts(alloc, sheet, interrupts);
+        }
     }
-    let outranks = sheet.outranks().copy(alloc)?;
-    let interrupts = Vec::from_slice(alloc, sheet.interrupts())?;
-    Ok(remade(sheet, times, sections, outranks, interrupts))
+    with_times(alloc, sheet, times)
 }
 
 /// The set with another value of a number of one task. The error is out of memory.
@@ -92,5 +168,7 @@ pub(crate) fn keeps_sections(number: Number) -> bool
         Number::Deadline => true,
         Number::Jitter => true,
         Number::Len(_) => false,
+        Number::InterruptCost(_) => true,
+        Number::InterruptPeriod(_) => true,
     }
 }

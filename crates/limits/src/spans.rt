@@ -8,7 +8,7 @@ ghost use Rattle.limits.specs.Rooms.{room_end};
 use crate::number::Number;
 use ceilings::Tabled;
 use headroom::last_end;
-use task_sheet::{PERIOD_FROM, PERIOD_TO, Section, Sheet};
+use task_sheet::{INTERRUPT_FROM, PERIOD_FROM, PERIOD_TO, Section, Sheet};
 
 /// The values from the easiest on.
 #[derive(Clone, Copy)]
@@ -25,8 +25,10 @@ pub(crate) fn at_distance(number: Number, easiest: u64, far: u64) -> u64
     ensures { result ≡ at_distance number easiest far }
 {
     match number {
-        Number::Cost | Number::Jitter | Number::Len(_) => easiest + far,
-        Number::Period | Number::Deadline => easiest.saturating_sub(far),
+        Number::Cost | Number::Jitter | Number::Len(_) | Number::InterruptCost(_) => easiest + far,
+        Number::Period | Number::Deadline | Number::InterruptPeriod(_) => {
+            easiest.saturating_sub(far)
+        }
     }
 }
 
@@ -35,8 +37,12 @@ pub(crate) fn distance(number: Number, easiest: u64, value: u64) -> u64
     ensures { result ≡ distance number easiest value }
 {
     match number {
-        Number::Cost | Number::Jitter | Number::Len(_) => value.saturating_sub(easiest),
-        Number::Period | Number::Deadline => easiest.saturating_sub(value),
+        Number::Cost | Number::Jitter | Number::Len(_) | Number::InterruptCost(_) => {
+            value.saturating_sub(easiest)
+        }
+        Number::Period | Number::Deadline | Number::InterruptPeriod(_) => {
+            easiest.saturating_sub(value)
+        }
     }
 }
 
@@ -53,6 +59,14 @@ pub fn value_of(sheet: &Sheet, number: Number) -> u64
         Number::Len(place) => {
             let section = &sheet.sections()[place];
             section.len
+        }
+        Number::InterruptCost(place) => {
+            let interrupt = sheet.interrupts()[place];
+            interrupt.cost
+        }
+        Number::InterruptPeriod(place) => {
+            let interrupt = sheet.interrupts()[place];
+            interrupt.period
         }
     }
 }
@@ -105,6 +119,20 @@ fn span_of(sheet: &Sheet, number: Number) -> Span
             Span {
                 easiest: 1,
                 length: room_end(sheet.cost(), sheet.sections(), place) - section.at - 1,
+            }
+        }
+        Number::InterruptCost(place) => {
+            let interrupt = sheet.interrupts()[place];
+            Span {
+                easiest: 0,
+                length: interrupt.period,
+            }
+        }
+        Number::InterruptPeriod(place) => {
+            let interrupt = sheet.interrupts()[place];
+            Span {
+                easiest: PERIOD_TO,
+                length: PERIOD_TO - interrupt.cost.max(INTERRUPT_FROM),
             }
         }
     }

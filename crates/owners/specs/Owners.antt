@@ -1,6 +1,8 @@
--- Whose the tasks of a set are: those of the teams whose documents are gathered in its text.
-use Rattle.std.specs.Prelude.{◌≡◌, ◌⊎◌, ℕ, Bool, true, false, List, [], ◌∷◌, ◌++◌, map, Option, None, Some, Err, if◌then◌else◌}
+-- Whose the tasks and interrupts of a set are: those of the teams whose documents are gathered in its text.
+use Rattle.std.specs.Prelude.{◌≡◌, ◌⊎◌, ℕ, ◌+◌, ◌-◌, ◌==◌, Bool, true, false, List, [], ◌∷◌, ◌++◌, map, codes, Option, None, Some, Err, if◌then◌else◌}
+use Rattle.std.specs.Fmt.{decimal}
 use Rattle.task_sheet.specs.Sheet.{Task, same_bytes}
+use Rattle.task_sheet.specs.declared.node.Interrupt.{Interrupt}
 use Rattle.task_sheet.specs.ReadsSet.{SaysDocument}
 use Rattle.task_sheet.specs.declared.read.Document.{Document}
 use Rattle.task_sheet.specs.declared.read.SetFault.{SetFault}
@@ -10,12 +12,41 @@ use Rattle.teams.specs.ReadsTeams.{ReadsPart}
 use Rattle.teams.specs.ReadsText.{is_gathered}
 use Rattle.teams.specs.declared.fault.TeamsFault.TheVariants.{Of}
 use Rattle.teams.specs.declared.reading.Part.{Part}
+use Rattle.owners.specs.declared.owner.Owned.{Owned}
+use Rattle.owners.specs.declared.owner.Owned.TheVariants.{Task as OwnedTask, Interrupt as OwnedInterrupt}
 use Rattle.owners.specs.declared.owner.Owner.{Owner}
+
+-- it is the task of this name
+abbrev pub is_task : Owned → List ℕ → Bool
+is_task (OwnedTask task) name = same_bytes task name
+is_task (OwnedInterrupt place) name = false
 
 -- the team of the first task with a name, where there is one
 abbrev pub team_of : List Owner → List ℕ → Option (List ℕ)
 team_of [] name = None
-team_of (o ∷ owners) name = if same_bytes o.task name then Some o.team else team_of owners name
+team_of (o ∷ owners) name = if is_task o.owned name then Some o.team else team_of owners name
+
+-- the first is this one, or else what the others have of it: where the first is a task, and where it is one before it
+abbrev pub unless_before : Owned → (team : List ℕ) → (place : ℕ) → (same less : Option (List ℕ × ℕ))
+    → Option (List ℕ × ℕ)
+unless_before (OwnedTask task) team place same less = same
+unless_before (OwnedInterrupt own) team place same less =
+    if place == 0 then Some (team, own) else less
+
+-- the words of an interrupt at a place among all, from 0, by the team and the place in its document, where there is one
+abbrev pub words_at : ℕ → Option (List ℕ × ℕ) → List ℕ
+words_at place None = codes "interrupt " ++ decimal (place + 1)
+words_at place (Some own) = own.0 ++ codes " interrupt " ++ decimal own.1
+
+-- the team and the place of the interrupt at a place among all, from 0
+abbrev pub interrupt_of : List Owner → ℕ → Option (List ℕ × ℕ)
+interrupt_of [] place = None
+interrupt_of (o ∷ owners) place =
+    unless_before o.owned o.team place (interrupt_of owners place) (interrupt_of owners (place - 1))
+
+-- what a line calls it: by its team and its place in that document, where a team's document has it
+abbrev pub interrupt_words : List Owner → ℕ → List ℕ
+interrupt_words owners place = words_at place (interrupt_of owners place)
 
 -- a team's document is a set
 abbrev pub IsDocumentOf : Part → Document → Type 0
@@ -27,12 +58,19 @@ IsNoDocument p = (fault : SetFault) × ReadsPart p (Err (Of p.team fault))
 
 -- the tasks of a team's set
 abbrev pub owned_by : List ℕ → List Task → List Owner
-owned_by team U = map (λ t. record { task = t.name; team = team }) U
+owned_by team U = map (λ t. record { owned = OwnedTask t.name; team = team }) U
 
--- those of each team's, in their order
+-- the interrupts of a team's document, of which the first stands at a place
+abbrev pub interrupts_from : List ℕ → (place : ℕ) → List Interrupt → List Owner
+interrupts_from team place [] = []
+interrupts_from team place (x ∷ xs) =
+    record { owned = OwnedInterrupt place; team = team } ∷ interrupts_from team (place + 1) xs
+
+-- those of each team's document, in their order
 abbrev pub owners_of : List TeamSetData → List Owner
 owners_of [] = []
-owners_of (s ∷ sets) = owned_by s.team s.set ++ owners_of sets
+owners_of (s ∷ sets) =
+    owned_by s.team s.set ++ interrupts_from s.team 1 s.interrupts ++ owners_of sets
 
 -- a text begins with no document that is a set
 abbrev pub HasNoSet : List ℕ → Type 0
@@ -40,7 +78,8 @@ HasNoSet text =
     HasNoHead text
     ⊎ ((p : Part) × (after : List ℕ) × IsFirstPart text p.team p.text.now after × IsNoDocument p)
 
--- these have the tasks of the documents that a text begins with, up to the first that is no set: in a set's text, of all
+-- these have the tasks and interrupts of the documents that a text begins with, up to the first that is no set: in a set's
+-- text, of all
 abbrev pub AreOwnersIn : List ℕ → List Owner → Type 0
 AreOwnersIn text owners =
     (sets : List TeamSetData) × (rest : List ℕ) × AreGathered text rest sets × HasNoSet rest
@@ -57,6 +96,6 @@ abbrev pub AreOwnersIf : Bool → List ℕ → List Owner → Type 0
 AreOwnersIf true text owners = AreOwnersBehind text owners
 AreOwnersIf false text owners = owners ≡ []
 
--- these have the tasks of a set's text; none does where the text is one document
+-- these have the tasks and interrupts of a set's text; none does where the text is one document
 abbrev pub AreOwners : List ℕ → List Owner → Type 0
 AreOwners text owners = AreOwnersIf (is_gathered text) text owners

@@ -1,4 +1,4 @@
-//! Whose each task of a set is, and lines that name the team beside a task.
+//! Whose each task and interrupt of a set is, and lines that name the team beside a task.
 #![tactic(auto)]
 
 mod naming;
@@ -6,5 +6,5 @@ mod owner;
 mod words;
 
 pub use crate::naming::named_text;
-pub use crate::owner::{Owner, read_owners};
+pub use crate::owner::{Owned, Owner, push_interrupt, read_owners};
 pub use crate::words::Naming;

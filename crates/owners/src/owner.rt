@@ -1,16 +1,36 @@
-//! Whose each task of a set's text is.
-ghost use Rattle.std.specs.Prelude.{◌≡◌, ◌++◌, IfOk, OnOk, MatchOption};
-ghost use Rattle.owners.specs.Owners.{AreOwners, AreOwnersIn, IsDocumentOf, IsNoDocument, owned_by, team_of};
+//! Whose each task and interrupt of a set's text is.
+ghost use Rattle.std.specs.Prelude.{◌≡◌, ◌<◌, ◌++◌, IfOk, OnOk, MatchOption, string_bytes};
+ghost use Rattle.task_sheet.specs.declared.node.TheConstants.{INTERRUPT_LIMIT};
+ghost use Rattle.owners.specs.Owners.{AreOwners, AreOwnersIn, IsDocumentOf, IsNoDocument, interrupt_of, interrupt_words, interrupts_from, is_task, owned_by, team_of};
 
 use std::alloc::{AllocError, Global};
-use task_sheet::{Document, Name, SetFault, TaskSet, read_document};
+use task_sheet::{Document, Interrupt, Name, SetFault, TaskSet, read_document};
 use teams::{Part, first_part, is_gathered, node_part};
 
-/// A task, and the team whose document has it.
+/// What a team's document has.
+#[derive(Clone, Copy, Debug)]
+pub enum Owned {
+    /// The task of a name.
+    Task(Name),
+    /// The interrupt at a place, from 1.
+    Interrupt(usize),
+}
+
+/// A task or an interrupt, and the team whose document has it.
 #[derive(Clone, Copy, Debug)]
 pub struct Owner {
-    pub task: Name,
+    pub owned: Owned,
     pub team: Name,
+}
+
+// Whether it is the task of this name.
+fn is_task(owned: Owned, name: &[u8]) -> bool
+    ensures { result ≡ is_task owned name.now }
+{
+    match owned {
+        Owned::Task(task) => task.bytes() == name,
+        Owned::Interrupt(_) => false,
+    }
 }
 
 // The team of the first task with this name.
@@ -18,11 +38,43 @@ pub(crate) fn team_of(owners: &[Owner], name: &[u8]) -> Option<Name>
     ensures { result ≡ team_of owners.now name.now }
 {
     for owner in owners {
-        if owner.task.bytes() == name {
+        if is_task(owner.owned, name) {
             return Some(owner.team);
         }
     }
     None
+}
+
+// The team and the place, from 1, of the interrupt at a place among all, from 0.
+fn interrupt_of(owners: &[Owner], place: usize) -> Option<(Name, usize)>
+    ensures { result ≡ interrupt_of owners.now place }
+{
+    let mut left = place;
+    for owner in owners {
+        if let Owned::Interrupt(own) = owner.owned {
+            if left == 0 {
+                return Some((owner.team, own));
+            }
+            left -= 1;
+        }
+    }
+    None
+}
+
+/// What a line calls the interrupt at a place among all, from 0: by the team and its place in that document, from 1, where a
+/// team's document has it.
+pub fn push_interrupt(text: &mut String, owners: &[Owner], place: usize) -> Result<(), AllocError>
+    requires { place < INTERRUPT_LIMIT }
+    ensures { OnOk result (string_bytes text.new
+        ≡ string_bytes text.old ++ interrupt_words owners.now place) }
+{
+    match interrupt_of(owners, place) {
+        Some((team, own)) => write!(text, "{team} interrupt {own}"),
+        None => {
+            let count = place as u64 + 1;
+            write!(text, "interrupt {count}")
+        }
+    }
 }
 
 // What a team's document says; none where it is no set. The error is out of memory.
@@ -42,13 +94,29 @@ fn push_owned(owners: &mut Vec<Owner>, team: Name, set: &TaskSet) -> Result<(), 
 {
     let sheets = set.sheets();
     for sheet in sheets {
-        let task = sheet.name();
-        owners.push(Owner { task, team })?;
+        let owned = Owned::Task(sheet.name());
+        owners.push(Owner { owned, team })?;
     }
     Ok(())
 }
 
-// The tasks of the documents that a text begins with, up to the first that is no set.
+// Adds as many interrupts of a team's document.
+fn push_interrupts(
+    owners: &mut Vec<Owner>,
+    team: Name,
+    interrupts: &[Interrupt],
+) -> Result<(), AllocError>
+    ensures { OnOk result (owners.new.items
+        ≡ owners.old.items ++ interrupts_from team 1 interrupts.now) }
+{
+    for (place, _) in interrupts.iter().enumerate() {
+        let owned = Owned::Interrupt(place + 1);
+        owners.push(Owner { owned, team })?;
+    }
+    Ok(())
+}
+
+// The tasks and interrupts of the documents that a text begins with, up to the first that is no set.
 fn owners_in(alloc: Global, text: &[u8]) -> Result<Vec<Owner>, AllocError>
     ensures { IfOk result (λ owners. AreOwnersIn text.now owners.items) }
 {
@@ -59,13 +127,14 @@ fn owners_in(alloc: Global, text: &[u8]) -> Result<Vec<Owner>, AllocError>
             return Ok(owners);
         };
         push_owned(&mut owners, part.team, &document.set)?;
+        push_interrupts(&mut owners, part.team, &document.interrupts)?;
         rest = after;
     }
     Ok(owners)
 }
 
-/// Whose the tasks are that a set's text says, in the order of the teams' documents. A text of one document says of no
-/// task whose it is. The error is out of memory.
+/// Whose the tasks and interrupts are that a set's text says, in the order of the teams' documents. A text of one document
+/// says of none whose it is. The error is out of memory.
 pub fn read_owners(alloc: Global, text: &[u8]) -> Result<Vec<Owner>, AllocError>
     ensures { IfOk result (λ owners. AreOwners text.now owners.items) }
 {

@@ -1,5 +1,5 @@
 -- What `desk limits` answers and prints.
-use Rattle.std.specs.Prelude.{◌≡◌, ◌⊎◌, ℕ, ◌≤◌, ◌==◌, Bool, true, false, List, [], ◌++◌, length, codes, Option, Result, Ok, Err}
+use Rattle.std.specs.Prelude.{◌≡◌, ◌⊎◌, ℕ, ◌≤◌, ◌==◌, Bool, ◌&&◌, true, false, List, [], ◌++◌, length, codes, Option, Result, Ok, Err}
 use Rattle.std.specs.Io.KnownBytes.{Appends}
 use Rattle.preferences.specs.declared.asking.Asking.{Asking}
 use Rattle.task_sheet.specs.Sheet.{Task}
@@ -7,6 +7,9 @@ use Rattle.assignment.specs.Placings.{IsPlacingOf}
 use Rattle.assignment.specs.declared.placing.Placing.{Placing}
 use Rattle.assignment.specs.declared.placing.Placing.TheVariants.{Best, Stuck}
 use Rattle.limit_lines.specs.Lines.{IsLast, order_in, places_in}
+use Rattle.limit_lines.specs.Common.{AreCommonLines}
+use Rattle.owners.specs.declared.owner.Owner.{Owner}
+use Rattle.answering.specs.Owning.{HasOwned}
 use Rattle.set_commands.specs.Admit.{OfOneSays, Places}
 use Rattle.answering.specs.OrderParts.{placing_first}
 use Rattle.answering.specs.Printed.{Prints}
@@ -19,18 +22,26 @@ use Rattle.answering.specs.declared.status.Status.{Status}
 use Rattle.answering.specs.declared.status.Status.TheVariants as status
 use Rattle.answering.specs.LimitLines.{AreLines}
 
--- the line that no single change mends a set that no order passes, of which no task has a line
+-- the line that no single change mends a set that no order passes, of which nothing has a line
 abbrev pub alone_line : (is_silent : Bool) → Placing → List ℕ
 alone_line false placing = []
 alone_line true (Best places) = []
 alone_line true (Stuck left) = codes "no single change\n"
 
--- the lines of each task of a placed set, that one, and that of the factors
-abbrev pub ListsAll : List Task → Placing → List ℕ → Type 0
-ListsAll U placing text =
-    (lines : List ℕ) × (last : List ℕ) × AreLines U (places_in placing) (length U) lines
+-- the lines behind those of the tasks of a placed set, by whether these are none: of the interrupts and the node, that one,
+-- and that of the factors
+abbrev pub AreEndLines : List Owner → List Task → Placing → (is_silent : Bool) → List ℕ → Type 0
+AreEndLines owners U placing is_silent text =
+    (common : List ℕ) × (last : List ℕ) × AreCommonLines owners U (places_in placing) common
     × IsLast U (places_in placing) last
-    × (text ≡ lines ++ alone_line (length lines == 0) placing ++ last)
+    × (text ≡ common ++ (alone_line (is_silent && (length common == 0)) placing ++ last))
+
+-- the lines of each task of a placed set, and those
+abbrev pub ListsAll : List Owner → List Task → Placing → List ℕ → Type 0
+ListsAll owners U placing text =
+    (lines : List ℕ) × (end : List ℕ) × AreLines U (places_in placing) (length U) lines
+    × AreEndLines owners U placing (length lines == 0) end
+    × (text ≡ lines ++ end)
 
 -- the lines of each of the first tasks
 abbrev pub ListsSome : List Task → Placing → List ℕ → Type 0
@@ -38,9 +49,9 @@ ListsSome U placing text =
     (count : ℕ) × (count ≤ length U) × AreLines U (places_in placing) count text
 
 -- the lines of a placed set, with the status of its placing; or some, and then that memory ran out for the next
-abbrev pub Lists : List Task → Placing → List ℕ → Status → Type 0
-Lists U placing text s =
-    (ListsAll U placing text × (s ≡ placing_status placing))
+abbrev pub Lists : List Owner → List Task → Placing → List ℕ → Status → Type 0
+Lists owners U placing text s =
+    (ListsAll owners U placing text × (s ≡ placing_status placing))
     ⊎ ((front : List ℕ) × ListsSome U placing front
     × (text ≡ front ++ refusal_line refusal.OutOfMemory)
     × (s ≡ status.OutOfMemory))
@@ -52,15 +63,17 @@ pub record IsListing (listing : Listing) : Type 0 where
 
 -- the first line of a placing and the lines of its set are printed after what the writer held, with their status; or
 -- that there was no memory for the first
-abbrev pub SaysLimitsOf : List Task → Placing → (before after : Option (List ℕ)) → Status → Type 0
-SaysLimitsOf U placing before after s =
-    ((lines : List ℕ) × Lists U placing lines s
+abbrev pub SaysLimitsOf : List Owner → List Task → Placing → (before after : Option (List ℕ))
+    → Status → Type 0
+SaysLimitsOf owners U placing before after s =
+    ((lines : List ℕ) × Lists owners U placing lines s
     × Appends before after (placing_first U placing ++ lines))
     ⊎ (Appends before after (refusal_line refusal.OutOfMemory) × (s ≡ status.OutOfMemory))
 
--- a set, its placing, the lines behind the first, and their status
+-- a set, whose its tasks are, its placing, the lines behind the first, and their status
 pub record LimitsData : Type 0 where
   pub set : List Task
+  pub owners : List Owner
   pub placing : Placing
   pub lines : List ℕ
   pub status : Status
@@ -68,8 +81,9 @@ pub record LimitsData : Type 0 where
 -- the answer on what a reader has: that of `desk admit`, and the lines of how far the numbers of its set may go
 abbrev pub AnswersLimits : Asking → Option (List ℕ) → Result LimitsData CommandRefusal
     → Type 0
-AnswersLimits asking known (Ok l) =
-    Places asking known (Ok (l.set, l.placing)) × Lists l.set l.placing l.lines l.status
+AnswersLimits preference known (Ok l) =
+    HasOwned asking known l.set l.owners × IsPlacingOf l.set l.placing
+    × Lists l.owners l.set l.placing l.lines l.status
 AnswersLimits asking known (Err r) = Places asking known (Err r)
 
 -- the answer on what the reader had is printed after what the writer held, and the status is the answer's

@@ -3,7 +3,7 @@ ghost use Rattle.std.specs.Prelude.{◌≡◌, ◌≢◌, ℕ, ◌<◌, ◌==◌
 ghost use Rattle.std.specs.Io.KnownBytes.{Appends};
 ghost use Rattle.assignment.specs.Placings.{IsPlacingOf};
 ghost use Rattle.limit_lines.specs.Lines.{AreTaskLines, IsLast, order_in, places_in};
-ghost use Rattle.set_commands.specs.Limits.{IsListing, ListsAll, ListsSome, SaysLimitsOf, alone_line};
+ghost use Rattle.set_commands.specs.Limits.{AreEndLines, IsListing, ListsAll, ListsSome, SaysLimitsOf, alone_line};
 ghost use Rattle.answering.specs.OrderParts.{placing_first};
 ghost use Rattle.streams.specs.Sending.{Sends};
 ghost use Rattle.answering.specs.Outcomes.{IsSaidOn};
@@ -11,7 +11,8 @@ ghost use Rattle.answering.specs.Outcomes.{IsSaidOn};
 use answering::{CommandRefusal, OrderPart, Status, placing_status, placing_text, refuse};
 use assignment::{Placing, tasks_of_places};
 use ceilings::{LockTable, Tabled};
-use limit_lines::{last_text, task_text};
+use limit_lines::{common_text, last_text, task_text};
+use owners::Owner;
 use std::alloc::{AllocError, Global};
 use std::io::Write;
 use streams::{Held, Watched};
@@ -26,6 +27,8 @@ struct Listing<'a> {
     order: Vec<usize>,
     // The first line.
     first: String,
+    // Whose the tasks and interrupts are.
+    owners: &'a [Owner],
 }
 
 /// Why lines were not all printed.
@@ -64,8 +67,8 @@ fn is_still_silent(is_silent: bool, text: &str) -> bool
     is_silent && text.is_empty()
 }
 
-// The line of the factors, behind that which says that no single change mends the set where no task has a line.
-fn end_text(alloc: Global, listing: &Listing<'_>, is_silent: bool) -> Result<String, AllocError>
+// The line of the factors, behind that which says that no single change mends the set where nothing has a line.
+fn last_lines(alloc: Global, listing: &Listing<'_>, is_silent: bool) -> Result<String, AllocError>
     requires { IsListing listing.now }
     ensures { let placing = listing.now.placing.now in
         IfOk result (λ text. (last : List ℕ) × IsLast listing.now.set (places_in placing) last
@@ -86,6 +89,25 @@ fn end_text(alloc: Global, listing: &Listing<'_>, is_silent: bool) -> Result<Str
     }
 }
 
+// The lines behind those of the tasks.
+fn end_text(alloc: Global, listing: &Listing<'_>, is_silent: bool) -> Result<String, AllocError>
+    requires { IsListing listing.now }
+    ensures { IfOk result (λ text. AreEndLines listing.now.owners.now listing.now.set
+        listing.now.placing.now is_silent (string_bytes text)) }
+{
+    let mut text = common_text(
+        alloc,
+        listing.owners,
+        &listing.set,
+        listing.placing,
+        &listing.order,
+    )?;
+    let is_silent = is_still_silent(is_silent, text.as_str());
+    let last = last_lines(alloc, listing, is_silent)?;
+    text.push_str(last.as_str())?;
+    Ok(text)
+}
+
 // Puts the first line, the lines of each task as they are found, and the last ones.
 fn put_lines<W: Write + Drop>(
     alloc: Global,
@@ -95,7 +117,7 @@ fn put_lines<W: Write + Drop>(
 ) -> Result<(), ListFault>
     requires { IsListing listing.now }
     ensures all { OnOk result ((text : List ℕ)
-        × ListsAll listing.now.set listing.now.placing.now text
+        × ListsAll listing.now.owners.now listing.now.set listing.now.placing.now text
         × Sends (W.contents output.old.inner) held.old (W.contents output.new.inner) held.new
         (string_bytes listing.now.first ++ text)) }
     ensures some { result ≡ Err ListFault.OutOfMemory
@@ -137,7 +159,7 @@ fn print_lines<W: Write + Drop>(
 ) -> Result<(), ListFault>
     requires { IsListing listing.now }
     ensures all { OnOk result ((text : List ℕ)
-        × ListsAll listing.now.set listing.now.placing.now text
+        × ListsAll listing.now.owners.now listing.now.set listing.now.placing.now text
         × Appends (W.contents output.old.inner) (W.contents output.new.inner)
         (string_bytes listing.now.first ++ text)) }
     ensures some { result ≡ Err ListFault.OutOfMemory
@@ -162,10 +184,12 @@ fn print_lines<W: Write + Drop>(
 // What the lines of a placed set are made of.
 fn make_ready<'a>(
     alloc: Global,
+    owners: &'a [Owner],
     set: Tabled<'a>,
     placing: &'a Placing,
 ) -> Result<Listing<'a>, AllocError>
     requires { IsPlacingOf set placing.now }
+    ensures owners { IfOk result (λ listing. listing.owners.now ≡ owners.now) }
     ensures set { IfOk result (λ listing. listing.set ≡ set.entry) }
     ensures placing { IfOk result (λ listing. listing.placing.now ≡ placing.now) }
     ensures order { IfOk result (λ listing. listing.order.items ≡ order_in placing.now) }
@@ -179,24 +203,26 @@ fn make_ready<'a>(
         placing,
         order,
         first,
+        owners,
     })
 }
 
 // Prints the lines of a placing, or that memory ran out before the first.
 pub(crate) fn print_placing<W: Write + Drop>(
     alloc: Global,
+    owners: &[Owner],
     set: &TaskSet,
     placing: &Placing,
     output: &mut Watched<W>,
 ) -> Status
     requires { IsPlacingOf set.now placing.now }
-    ensures { IsSaidOn (SaysLimitsOf set.now placing.now)
+    ensures { IsSaidOn (SaysLimitsOf owners.now set.now placing.now)
         W.contents output.old output.new result }
 {
     let Ok(table) = LockTable::new(alloc, set) else {
         return refuse(CommandRefusal::OutOfMemory, output);
     };
-    let Ok(listing) = make_ready(alloc, Tabled::of(set, &table), placing) else {
+    let Ok(listing) = make_ready(alloc, owners, Tabled::of(set, &table), placing) else {
         return refuse(CommandRefusal::OutOfMemory, output);
     };
     match print_lines(alloc, &listing, output) {

@@ -170,7 +170,7 @@ fn say_all<W: Write + Drop>(
 {
     let status = placing_status(placing);
     match part {
-        TaskPart::Limits => print_placing(alloc, set, placing, output),
+        TaskPart::Limits => print_placing(alloc, owners, set, placing, output),
         TaskPart::Reasons => {
             print_bytes(explained_text(alloc, owners, set, placing), status, output)
         }

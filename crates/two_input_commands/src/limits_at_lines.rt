@@ -14,7 +14,8 @@ use answering::CommandRefusal;
 use assignment::{Place, Placing, tasks_of_places};
 use ceilings::{LockTable, Tabled};
 use judge::{JudgedNode, first_text, judged_text, places_of};
-use limit_lines::{last_text, task_text};
+use limit_lines::{common_text, last_text, task_text};
+use owners::Owner;
 use std::alloc::{AllocError, Global};
 use task_sheet::TaskSet;
 
@@ -38,20 +39,23 @@ fn each_text(
     Ok(text)
 }
 
-// How far the numbers of each task may go, and all execution at once.
+// How far the numbers of each task may go, of the interrupts and the node, and all execution at once.
 fn whole_text(
     alloc: Global,
+    owners: &[Owner],
     set: &Tabled<'_>,
     placing: &Placing,
     order: &[usize],
 ) -> Result<String, AllocError>
     requires placing { HasPassing set.now placing.now }
     requires order { order.now ≡ order_in placing.now }
-    ensures { IfOk result (λ text. AreLimitsOf set.now (places_in placing.now) None
+    ensures { IfOk result (λ text. AreLimitsOf owners.now set.now (places_in placing.now) None
         (string_bytes text)) }
 {
     let mut text = each_text(alloc, set, placing, order)?;
+    let common = common_text(alloc, owners, set, placing, order)?;
     let last = last_text(alloc, set, placing, order)?;
+    text.push_str(common.as_str())?;
     text.push_str(last.as_str())?;
     Ok(text)
 }
@@ -59,6 +63,7 @@ fn whole_text(
 // How far the numbers of the task that is asked about may go; else those of each.
 fn asked_text(
     alloc: Global,
+    owners: &[Owner],
     set: &TaskSet,
     placing: &Placing,
     order: &[usize],
@@ -67,37 +72,39 @@ fn asked_text(
     requires placing { HasPassing set.now placing.now }
     requires order { order.now ≡ order_in placing.now }
     requires asked { IfSome asked (λ task. task < length set.now) }
-    ensures { IfOk result (λ text. AreLimitsOf set.now (places_in placing.now) asked
+    ensures { IfOk result (λ text. AreLimitsOf owners.now set.now (places_in placing.now) asked
         (string_bytes text)) }
 {
     let table = LockTable::new(alloc, set)?;
     let tabled = Tabled::of(set, &table);
     match asked {
         Some(task) => task_text(alloc, &tabled, placing, order, task),
-        None => whole_text(alloc, &tabled, placing, order),
+        None => whole_text(alloc, owners, &tabled, placing, order),
     }
 }
 
 // The same in an order that passes, with these places.
 fn limits_in(
     alloc: Global,
+    owners: &[Owner],
     set: &TaskSet,
     places: Vec<Place>,
     asked: Option<usize>,
 ) -> Result<String, AllocError>
     requires passing { IsPassingOrder set.now (tasks_of_places places.items) }
     requires asked { IfSome asked (λ task. task < length set.now) }
-    ensures { IfOk result (λ text. AreLimitsIn set.now places.items asked (string_bytes text)) }
+    ensures { IfOk result (λ text. AreLimitsIn owners.now set.now places.items asked (string_bytes text)) }
 {
     let order = tasks_of_places(alloc, &places)?;
     // The order that is given stands in the place of the best one.
     let placing = Placing::Best(places);
-    asked_text(alloc, set, &placing, &order, asked)
+    asked_text(alloc, owners, set, &placing, &order, asked)
 }
 
 // That all tasks of an order with these places meet their deadlines, and how far its numbers may go.
 fn passing_text(
     alloc: Global,
+    owners: &[Owner],
     set: &TaskSet,
     node: &JudgedNode,
     places: Vec<Place>,
@@ -108,9 +115,9 @@ fn passing_text(
     requires judged { AllJudged set.now node.now.judged.items }
     requires same { node.now.judged.items ≡ judged_of places.items }
     requires asked { IfSome asked (λ task. task < length set.now) }
-    ensures { IfOk result (λ text. IsLimitsText set.now node.now asked (string_bytes text)) }
+    ensures { IfOk result (λ text. IsLimitsText owners.now set.now node.now asked (string_bytes text)) }
 {
-    let lines = limits_in(alloc, set, places, asked)?;
+    let lines = limits_in(alloc, owners, set, places, asked)?;
     let mut text = first_text(alloc, set, &node.judged)?;
     text.push_str(lines.as_str())?;
     Ok(text)
@@ -128,6 +135,7 @@ fn missed_text(alloc: Global, set: &TaskSet, node: &JudgedNode) -> Result<String
 // The one or the other.
 fn node_text(
     alloc: Global,
+    owners: &[Owner],
     set: &TaskSet,
     node: &JudgedNode,
     asked: Option<usize>,
@@ -136,11 +144,11 @@ fn node_text(
     requires order { IsOrder set.now (order_judged node.now.judged.items) }
     requires judged { AllJudged set.now node.now.judged.items }
     requires asked { IfSome asked (λ task. task < length set.now) }
-    ensures { IfOk result (λ text. IsLimitsText set.now node.now asked (string_bytes text)) }
+    ensures { IfOk result (λ text. IsLimitsText owners.now set.now node.now asked (string_bytes text)) }
 {
     let found = places_of(alloc, &node.judged)?;
     match found {
-        Some(places) => passing_text(alloc, set, node, places, asked),
+        Some(places) => passing_text(alloc, owners, set, node, places, asked),
         None => missed_text(alloc, set, node),
     }
 }
@@ -150,12 +158,13 @@ fn node_text(
 pub fn limits_at(
     alloc: Global,
     word: Option<&str>,
+    owners: &[Owner],
     tasks: &TaskSet,
     text: &[u8],
 ) -> Result<InOrder, CommandRefusal>
-    ensures { LimitsText (option_map (λ w. w.now) word.entry) tasks.now text.now result }
+    ensures { LimitsText (option_map (λ w. w.now) word.entry) owners.now tasks.now text.now result }
 {
     let (node, asked) = judge_asked(alloc, word, tasks, text)?;
-    let text = node_text(alloc, tasks, &node, asked)?;
+    let text = node_text(alloc, owners, tasks, &node, asked)?;
     Ok(InOrder { node, text })
 }

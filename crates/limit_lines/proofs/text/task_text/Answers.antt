@@ -8,6 +8,7 @@ loop-place-preserved c =
       front,
       string_bytes c.in_ok-line.line,
       c.loop-place.invariant,
-      rw c.number_at.ensures at c.in_ok-line.ensures,
+      rw (c.number_at.ensures, c.as_str-whose.ensures.value, c.in_ok-name.ensures, c.tasks.ensures) at
+          c.in_ok-line.ensures,
       c.in_ok-push_str.ensures.bytes ∙ ap (λ (t : List ℕ). front ++ t) c.as_str.ensures.value,
     )

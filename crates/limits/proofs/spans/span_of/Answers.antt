@@ -1,9 +1,11 @@
-use Rattle.std.proofs.Common.{◌+◌, ◌-◌, sym, ap, subst, arith}
+use Rattle.std.proofs.Common.{◌+◌, ◌-◌, ◌<◌, List, length, sym, ap, subst, arith}
+use Rattle.task_sheet.specs.declared.node.Interrupt.{Interrupt}
 use Rattle.task_sheet.specs.Sheet.{CriticalSection}
 use Rattle.task_sheet.proofs.Below.{ord_max-is}
-use Rattle.limits.specs.Numbers.{HasNumber, IsSpan}
+use Rattle.limits.specs.Numbers.{HasNumber, IsSpan, interrupt_at}
 use Rattle.limits.proofs.SpanLaws.{IsSpan-cost, IsSpan-period, IsSpan-deadline, IsSpan-jitter}
 use Rattle.limits.proofs.SpanLaws.{IsSpan-len, IsRoom, room_read}
+use Rattle.limits.proofs.InterruptLaws.{IsSpan-interrupt_cost, IsSpan-interrupt_period}
 use Rattle.limits.proofs.spans.span_of.Goals as goal
 
 pub returns-in-Cost-clause-span : goal.returns-in-Cost-clause-span
@@ -69,3 +71,29 @@ returns-in-Len-clause-span c =
 pub returns-in-Len-clause-short : goal.returns-in-Len-clause-short
 returns-in-Len-clause-short c = (let r = room c in
     omega (arith, r.within, c.requires.valid.cost_to, c.requires.valid.period_to))
+
+pub returns-in-InterruptCost-clause-span : goal.returns-in-InterruptCost-clause-span
+returns-in-InterruptCost-clause-span c =
+    let t = c.args.sheet.now in
+    let k = c.in-InterruptCost.place in
+    let inside : k < length t.interrupts =
+    subst (λ n. HasNumber t n) c.in-InterruptCost.is c.requires.has in
+    subst (λ n. IsSpan t n 0 (interrupt_at c.interrupts.result.now k).period)
+    (sym c.in-InterruptCost.is) (IsSpan-interrupt_cost t k _ c.requires.valid inside
+    (ap (λ (xs : List Interrupt). (interrupt_at xs k).period) c.interrupts.ensures.same))
+
+pub returns-in-InterruptPeriod-clause-span : goal.returns-in-InterruptPeriod-clause-span
+returns-in-InterruptPeriod-clause-span c =
+    let t = c.args.sheet.now in
+    let k = c.in-InterruptPeriod.place in
+    let inside : k < length t.interrupts =
+    subst (λ n. HasNumber t n) c.in-InterruptPeriod.is c.requires.has in
+    subst (λ n. IsSpan t n 10000000 (10000000 - c.max-in-InterruptPeriod.result))
+    (sym c.in-InterruptPeriod.is)
+    (IsSpan-interrupt_period t k c.max-in-InterruptPeriod.result _ c.requires.valid inside (omega (
+      arith,
+      c.max-in-InterruptPeriod.ensures,
+      ord_max-is,
+      ap (λ (xs : List Interrupt). (interrupt_at xs k).cost)
+          c.interrupts-in-InterruptPeriod.ensures.same,
+    )) (omega arith))

@@ -6,6 +6,6 @@ pub loop-part-preserved : goal.loop-part-preserved
 loop-part-preserved c = search (
   rules,
   gathers_more c.args.text.now c.loop-part.rest.now
-      c.in-Some.after.now c.loop-part.owners.items c.push_owned.new.owners.items c.in-Some.part
+      c.in-Some.after.now c.loop-part.owners.items c.push_interrupts.new.owners.items c.in-Some.part
       c.in-Some-2.document c.loop-part.invariant c.in-Some.ensures.part,
 )

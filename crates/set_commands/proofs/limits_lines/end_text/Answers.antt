@@ -1,6 +1,26 @@
+use Rattle.std.proofs.Common.{◌≡◌, ◌∙◌, ◌++◌, ◌==◌, ◌&&◌, ℕ, Bool, List, length, sym, ap, subst}
+use Rattle.std.proofs.Common.{string_bytes}
 use Rattle.limit_lines.proofs.LineLaws.{best_passes}
+use Rattle.set_commands.specs.Limits.{alone_line}
 use Rattle.set_commands.proofs.limits_lines.end_text.Goals as goal
 
-pub last_text-requires-clause-placing : goal.last_text-requires-clause-placing
-last_text-requires-clause-placing c =
+pub common_text-requires-clause-placing : goal.common_text-requires-clause-placing
+common_text-requires-clause-placing c =
     best_passes c.args.listing.now.set c.args.listing.now.placing.now c.requires.placing
+
+pub returns : goal.returns
+returns c =
+    let common : List ℕ = string_bytes c.in_ok-text.text in
+    let end = c.in_ok-last.ensures in
+    let silent : c.is_still_silent-is_silent.result ≡ (c.args.is_silent && (length common == 0)) =
+    subst (λ (bs : List ℕ). c.is_still_silent-is_silent.result
+    ≡ (c.args.is_silent && (length bs == 0))) c.as_str.ensures.value
+    c.is_still_silent-is_silent.ensures in (
+      common,
+      end.0,
+      c.in_ok-text.ensures,
+      end.1,
+      c.in_ok-push_str.ensures.bytes
+          ∙ ap (λ (t : List ℕ). common ++ t) (c.as_str-2.ensures.value ∙ end.2
+          ∙ ap (λ (b : Bool). alone_line b c.args.listing.now.placing.now ++ end.0) silent),
+    )

@@ -33,7 +33,7 @@ returns-in-Ok-print_lines g c =
     said_sound (c.in-Ok-print_lines.ensures.ok never_err)
     (λ is. placing_ends c.args.placing.now (sym c.placing_status.ensures ∙ is)) (inl (
       said.0,
-      inl (rw (made.set, c.of.ensures, made.placing) at said.1, c.placing_status.ensures),
+      inl (rw (made.owners, made.set, c.of.ensures, made.placing) at said.1, c.placing_status.ensures),
       rw (made.first, c.of.ensures) at said.2,
     ))
 

@@ -4,7 +4,7 @@ use Rattle.std.specs.Io.KnownBytes.{Appends, append_known}
 use Rattle.std.proofs.KnownBytes.{Appends-trans}
 use Rattle.limit_lines.specs.Lines.{places_in}
 use Rattle.answering.specs.LimitLines.{AreLines}
-use Rattle.set_commands.specs.Limits.{alone_line}
+use Rattle.set_commands.specs.Limits.{AreEndLines}
 use Rattle.set_commands.proofs.ListedLimits.{silent_more, where_sound}
 use Rattle.set_commands.proofs.limits_lines.put_lines.Goals as goal
 
@@ -77,11 +77,10 @@ returns-in-Ok-put-clause-all g c =
       said.0 ++ ends,
       (
         said.0,
-        end.0,
+        ends,
         subst (λ n. AreLines U (places_in placing) n said.0) count said.2,
-        end.1,
-        ap (λ (bs : List ℕ). said.0 ++ bs) (end.2 ∙ ap (λ (b : Bool). alone_line b placing ++ end.0)
-            said.1) ∙ sym (append_assoc said.0 (alone_line (length said.0 == 0) placing) end.0),
+        subst (λ (b : Bool). AreEndLines c.args.listing.now.owners.now U placing b ends) said.1 end,
+        refl,
       ),
       subst (λ bs. Appends before after bs)
           (append_assoc (string_bytes c.args.listing.now.first) said.0 ends) (Appends-trans before

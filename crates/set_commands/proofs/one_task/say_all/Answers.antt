@@ -9,11 +9,12 @@ returns-in-Limits g c =
       | inl listed ↦ (
         Ok (record {
           set = c.args.set.now;
+          owners = c.args.owners.now;
           placing = c.args.placing.now;
           lines = listed.0;
           status = c.print_placing.result;
         }),
-        (((has.0, has.1, has.2.set), c.requires), listed.1),
+        (has, c.requires, listed.1),
         listed.2,
         refl,
       )

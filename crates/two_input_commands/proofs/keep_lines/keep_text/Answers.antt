@@ -21,4 +21,3 @@ have_old : (U : List Task) (text : List ℕ) (keeping : Keeping) (old : List ℕ
 have_old U text (Kept places) old has =
     ap length has.each ∙ length-map (tasks_of_places places.items) _ ∙ length-map places.items _
 have_old U text _ old has = tt
-
