@@ -58,7 +58,7 @@ size_t desk_limits(const uint8_t *set, size_t set_length, uint8_t *room, size_t 
 /* The level of each thread and the ceiling of each mutex. */
 size_t desk_settings(const uint8_t *set, size_t set_length, uint8_t *room, size_t room_length, uint8_t *status);
 
-/* Of what each response is made, or why each task cannot stand lowest. */
+/* Of what each response is made, or why each task of a conflict cannot stand lowest, of however many (as with --all). */
 size_t desk_explain(const uint8_t *set, size_t set_length, uint8_t *room, size_t room_length, uint8_t *status);
 
 /* Which tasks miss their deadlines at the levels and ceilings that settings give. */

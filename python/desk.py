@@ -340,7 +340,7 @@ class Worst(_Answer):
     """The worst case of a task in the best order, or, of a refused set, in one that decides, whose
     `settings` are here and in the text of `releases`; then it is false. `kind` is `comes`, and the
     task's job takes `response` of its bound, the `limit`; `misses`, and it misses its deadline, the
-    `limit`; or says why there are no `releases`, with the `other` task where it names one."""
+    `limit`; or says why the `releases` show neither, with the `other` task where it names one."""
 
     admitted: bool
     task: str | None

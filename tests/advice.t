@@ -589,11 +589,11 @@ Timers and interrupts ask for time, too, though no cost has theirs; a run doesn'
   >   printf '[[task]]\nname="a"\nperiod=1000\ndeadline=1000\ncost=%d\n' $3; }
   $ asked 100 200 700 | said admit -
   $ asked 100 200 701 | said admit -
-  note: the costs over the periods come to more than 1: no order can pass
+  note: costs, timers and interrupts over the periods come to more than 1: no order can pass
   note: a alone can't be met: desk explain says why
   [3]
   $ asked 100 201 700 | said limits -
-  note: the costs over the periods come to more than 1: no order can pass
+  note: costs, timers and interrupts over the periods come to more than 1: no order can pass
   [3]
   $ asked 0 200 600 > timed.toml
   $ printf 'until 1000\n0 a\n' | desk simulate timed.toml - --tasks

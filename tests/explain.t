@@ -93,6 +93,42 @@ One of two tasks that must stand above each other can't be left out; a third is 
   3 b 100 of 10000
   [3]
 
+Of a conflict of more than three tasks the order that decides comes first, and the conflict in a line. What each of its tasks
+needs stands there with `--all`, as of fewer:
+
+  $ four() { for name in a b c d; do printf '[[task]]\nname = "%s"\nperiod = 10000\ndeadline = 10000\ncost = %s\n' $name $1; done; }
+  $ four 3000 > four.toml
+  $ desk explain four.toml 2> notes
+  infeasible a b c d
+  1 a misses 10000 needs 12000
+  2 b 9000 of 10000
+  3 c 6000 of 10000
+  4 d 3000 of 10000
+  conflict a b c d
+  load 1200000
+  [3]
+  $ desk explain four.toml --all 2> notes | head -n 7
+  infeasible a b c d
+  conflict a b c d
+  a 12000 of 10000
+    cost 3000
+    above d 1 jobs 3000
+    above c 1 jobs 3000
+    above b 1 jobs 3000
+  $ desk explain --all four.toml 2> notes | tail -n 9
+  load 1200000
+  1 a misses 10000 needs 12000
+    cost 3000
+    above d 1 jobs 3000
+    above c 1 jobs 3000
+    above b 1 jobs 3000
+  2 b 9000 of 10000
+  3 c 6000 of 10000
+  4 d 3000 of 10000
+  $ desk explain four.toml --task a 2> notes | sed -n 3p
+  a 12000 of 10000
+  $ four 4000 | head -n 15 > three.toml; desk explain three.toml --all > all 2> notes; desk explain three.toml 2> notes | cmp - all
+
 The jitter of a task is a part of its own response; that of a task above brings a job more:
 
   $ desk admit examples/jitter.toml
@@ -110,6 +146,7 @@ With `--at` the same of an order that settings give, passing or not. With c on t
 past its 7000, and b after all of both, with a second job of a:
 
   $ printf 'thread b 10\nthread a 20\nthread c 30\n' > down
+  $ desk explain examples/three-tasks.toml --at down --all > all; desk explain examples/three-tasks.toml --at down | cmp - all
   $ desk explain examples/three-tasks.toml --at down
   misses a b
   1 b misses 12000 needs 14000

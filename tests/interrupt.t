@@ -209,7 +209,12 @@ Interrupts alone refuse a set: 9990 and a tick of 17 are past 10000. In a run no
   [3]
   $ desk worst full.toml
   # x within-interrupts
+  thread x 1
+  until 10000
+  0 x
   [3]
+  $ desk worst full.toml | desk draw full.toml - 2> told | grep -o 'until.*alone'
+  until 10 ms, timers and interrupts in the bounds alone
   $ sed 's/= 17/= 10/' full.toml | desk admit -
   infeasible x
   [3]

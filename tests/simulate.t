@@ -285,11 +285,13 @@ Of a set that is admitted the best order may be given, or another one: lo above 
   job lo 0 20000
   job hi 100 21000
 
-A job may overrun the one before it:
+Where a job overruns the one before it, the run ends there, with the jobs that are ready before:
 
   $ run examples/shared-lock.toml 'thread hi 1\nthread mid 2\nthread lo 3\nuntil 30000\n0 lo\n100 hi\n10100 hi\n'
-  refused: Overrun hi 10100
-  [4]
+  0 10100 lo
+  job lo 0 -
+  job hi 100 -
+  (on standard error) note: the run ends where a job of hi is ready and the one before it isn't done
 
 Settings and their faults are those of `judge`, lines counted in the whole. Faulty lines come first, then the settings, then
 the refusals of the releases:

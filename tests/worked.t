@@ -529,6 +529,12 @@ Above lo, whose section holds it up for 4000, hi needs 5000, a tick more than it
   $ { task hi 10000 4999 1000 "$(with_m 0 200)"; task lo 100000 100000 20000 "$(with_m 100 4000)"; } > tick.toml
   $ printf 'thread lo 1\nthread hi 2\n' | desk worst tick.toml --at - --task hi
   # hi within-a-tick
+  thread lo 1
+  thread hi 2
+  mutex m 2
+  until 5100
+  0 lo
+  101 hi
   [3]
   $ printf 'thread lo 1\nthread hi 2\n' | desk worst tick.toml --at - --task lo | head -n 1
   # lo 23000 of 23000
@@ -540,6 +546,13 @@ and hi's second job comes after it. With a tick behind the section that job come
   $ inside 3000 > inside.toml
   $ printf 'thread lo 1\nthread hi 2\n' | desk worst inside.toml --at - --task lo
   # lo ends-inside-a-section
+  thread lo 1
+  thread hi 2
+  mutex m 2
+  until 5000
+  0 lo
+  0 hi
+  4000 hi
   [3]
   $ inside 3001 > behind.toml
   $ printf 'thread lo 1\nthread hi 2\n' | desk worst behind.toml --at - --task lo | sed 1,4d
@@ -553,6 +566,9 @@ Below 10,000 jobs of hi lo lacks a tick:
   $ { task hi 1000 1000 1; task lo 10000000 10000000 9990001; } > long.toml
   $ printf 'thread lo 1\nthread hi 2\n' | desk worst long.toml --at - --task lo
   # lo too-many-releases
+  thread lo 1
+  thread hi 2
+  until 0
   [3]
 
 Runs
@@ -560,16 +576,22 @@ Runs
 
   $ ran() { document $1 > set; printf "$2" | desk simulate set - 2> told; }
   $ ran overrun 'thread x 1\nthread y 2\nuntil 2000\n0 x\n0 y\n1000 x\n1000 y\n'
-  refused: Overrun x 1000
-  [4]
+  0 600 y
+  600 1000 x
+  job x 0 -
+  job y 0 600
   $ ran overrun 'thread x 1\nthread y 2\nuntil 1000\n0 x\n0 y\n'
   0 600 y
   600 1000 x
   job x 0 -
   job y 0 600
   $ ran late-overrun 'thread x 1\nthread y 2\nuntil 2000\n0 x 300\n0 y\n1000 x 200\n1000 y 100\n'
-  refused: Overrun x 1200
-  [4]
+  0 600 y
+  600 1100 x
+  1100 1200 y
+  job x 0 -
+  job y 0 600
+  job y 1000 -
   $ ran late-overrun 'thread x 1\nthread y 2\nuntil 300\n0 x 300\n200 y\n'
   refused: PastHorizon
   [4]

@@ -115,7 +115,7 @@ That first tick may make more than a tick: with it hi, which comes again after 3
   6001 hi
 
 A job of lo ends inside the section, where hi has to wait: it is done within 9000, and the bound, 10000, is not reached. Where
-the deadline is between the two, there is no list in which it is missed, and none is said:
+the deadline is between the two, there is no list in which it is missed; the worst there is follows all the same:
 
   $ cat > inside.toml <<END
   > task = [
@@ -132,7 +132,18 @@ the deadline is between the two, there is no list in which it is missed, and non
   8000 hi
   $ sed 's/deadline = 10000/deadline = 9500/' inside.toml | desk worst -
   # lo ends-inside-a-section
+  thread lo 1
+  thread hi 2
+  mutex m 2
+  until 9500
+  0 lo
+  0 hi
+  4000 hi
+  8000 hi
   [3]
+  $ sed 's/deadline = 10000/deadline = 9500/' inside.toml > between.toml; desk worst between.toml | desk simulate between.toml - --tasks
+  task lo 1 9000 -
+  task hi 2 1000 4000
 
 hi can't wait for 2500 and execute for 2000 within 4400, and is above lo, by the deadlines. lo keeps its own:
 
@@ -168,6 +179,12 @@ One tick less than 4500 is what it needs in any list, but not in the analysis:
 
   $ sed 's/4400/4499/' examples/blocked-out.toml | desk worst -
   # hi within-a-tick
+  thread lo 1
+  thread hi 2
+  mutex m 2
+  until 5500
+  0 lo
+  1001 hi
   [3]
 
 Two that must stand above each other, of which each passes; the one of least rank is put lower:
@@ -175,9 +192,19 @@ Two that must stand above each other, of which each passes; the one of least ran
   $ printf 'task=[{name="a",period=9000,deadline=9000,cost=1,outranks=["b"]},{name="b",period=9000,deadline=9000,cost=1,outranks=["a"]}]' > each.toml
   $ desk worst each.toml
   # a must-outrank b
+  thread a 1
+  thread b 2
+  until 9000
+  0 a
+  0 b
   [3]
   $ desk worst each.toml --task b
   # b must-outrank a
+  thread b 1
+  thread a 2
+  until 9000
+  0 b
+  0 a
   [3]
 
 Of two with equal limits the one of least rank is lower:
@@ -191,11 +218,13 @@ Of two with equal limits the one of least rank is lower:
   0 a
   [3]
 
-10,000 jobs of hi come within ten seconds, and with lo it is one too many:
+10,000 jobs of hi come within ten seconds, and with lo it is one too many; a list of none stands there:
 
   $ printf 'task=[{name="hi",weight=1,period=1000,deadline=1000,cost=1},{name="lo",period=10000000,deadline=10000000,cost=1}]' > many.toml
   $ desk worst many.toml --task lo
   # lo too-many-releases
+  until 0
+  $ desk worst many.toml --task lo | desk simulate many.toml -
   $ desk worst many.toml
   # hi 1 of 1
   until 1000
@@ -204,7 +233,7 @@ Of two with equal limits the one of least rank is lower:
   10002
 
 hi waits for 2000 and misses its deadline, so that its next job comes before the first is done: below it mid, which would
-meet its own, has no run; nor has a mid that doesn't. lo, the lowest, waits for nobody:
+meet its own, has no run to its end; nor has a mid that doesn't. That far it is shown. lo, the lowest, waits for nobody:
 
   $ cat > above.toml <<END
   > task = [
@@ -215,9 +244,37 @@ meet its own, has no run; nor has a mid that doesn't. lo, the lowest, waits for 
   > END
   $ desk worst above.toml --task mid
   # mid below-a-miss
+  thread lo 1
+  thread mid 2
+  thread hi 3
+  mutex m 3
+  until 7001
+  0 lo
+  1 mid
+  1 hi
+  2001 hi
+  4001 hi
+  6001 hi
   [3]
+  $ desk worst above.toml --task mid | desk simulate above.toml -
+  0 2000 lo
+  2000 2001 hi
+  job lo 0 2000
+  job mid 1 -
+  job hi 1 -
+  (on standard error) note: the run ends where a job of hi is ready and the one before it isn't done
   $ sed 's/7000/5999/' above.toml | desk worst - --task mid
   # mid below hi
+  thread lo 1
+  thread mid 2
+  thread hi 3
+  mutex m 3
+  until 6000
+  0 lo
+  1 mid
+  1 hi
+  2001 hi
+  4001 hi
   [3]
   $ desk worst above.toml
   # hi misses 2000

@@ -92,7 +92,8 @@ function compare_told(what, admit, { verdict, strip, notes, conflict }) {
 export function compare_set(what, set, seen) {
   const { answers, shown, slices, bars } = seen;
   const wanted = Object.fromEntries(
-    ['admit', 'explain', 'settings', 'certify', 'limits'].map(it => [it, native(it, [set])]));
+    ['admit', 'settings', 'certify', 'limits'].map(it => [it, native(it, [set])]));
+  wanted.explain = native('explain', [set], ['--all']);
   if (wanted.certify.status !== 4) wanted.check = native('check', [set, wanted.certify.text]);
   if (wanted.admit.status === 0) {
     wanted.releases = native('releases', [set], [answers.releases.text.split(/\s/)[1]]);
@@ -134,7 +135,7 @@ export function compare_set(what, set, seen) {
   compare_told(what, wanted.admit, seen);
   const list = (wanted.releases ?? wanted.worst)?.text;
   if (wanted.worst) compare_worst(what, wanted.worst, shown.worst);
-  if (!/^until /m.test(list ?? '')) return equal(slices.length, 0, `${what}: a picture of no run`);
+  if (!/^until [1-9]/m.test(list ?? '')) return equal(slices.length, 0, `${what}: a picture of no run`);
   compare_run(what, set, list, slices);
 }
 // The slices of a picture are those of the run.

@@ -188,10 +188,10 @@ export function read_observe({ text, status, told }) {
     breaks: lines.filter(it => !['task', 'jobless'].includes(it[0])).map(read_break) };
 }
 
-// `worst`: whose worst case it is, and what the job comes to, or why no list shows it.
+// `worst`: whose worst case it is, and what the job comes to, or why its list shows neither.
 export function read_worst({ text, status }) {
   if (status !== 0 && status !== 3) return null;
-  const lines = lines_of(text), has_list = lines.some(it => it.startsWith('until '));
+  const lines = lines_of(text), has_list = lines.some(it => /^until [1-9]/.test(it));
   const [, name = null, ...words] = lines.find(it => it.startsWith('# '))?.split(' ') ?? [];
   const found = { name, has_list }, [first, second, third] = words;
   if (second === 'of')

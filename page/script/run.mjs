@@ -19,9 +19,9 @@ const COMES_TO = {
   'too-many-releases': ({ name }) =>
     `The worst case of ${name} has more than 10\u202f000 jobs: too many for a run.`,
   'below-a-miss': ({ name }) => `${name} meets its deadline in this order, but a job above it ` +
-    'misses its own first: its worst case is no run.',
+    'misses its own first: the run ends there.',
   below: ({ name, other }) =>
-    `${other}, above ${name} in this order, doesn't pass: ${name} has no worst case to run.`,
+    `${other}, above ${name} in this order, doesn't pass: the run shows no miss of ${name}.`,
   'ends-inside-a-section': ({ name }) => `${name} doesn't pass, but its job ends inside a ` +
     'section that a task above waits for, and is done in time: no run shows a miss.',
   'within-a-tick': ({ name }) => `${name} doesn't pass, by no more than the first µs of the ` +

@@ -81,13 +81,13 @@ export function lines_told(file, { admit, releases, worst }, has_settings, task)
   const set = /^[\w.+][\w.+-]*$/.test(file) ? file : `'./${file.replaceAll("'", "'\\''")}'`;
   const lines = [`desk admit ${set}`];
   if (!admit || admit.status === 4) return lines;
-  lines.push(`desk explain ${set}`, `desk limits ${set}`);
+  lines.push(`desk explain ${set} --all`, `desk limits ${set}`);
   if (admit.status === 0) lines.push(`desk settings ${set} > settings`);
   lines.push(`desk certify ${set} > desk.cert`, `desk check ${set} desk.cert`);
   if (releases?.status === 0)
     lines.push(
       `desk releases ${set} ${releases.text.split(/\s/)[1]} | desk draw ${set} - > desk.svg`);
-  if (/^until /m.test(worst?.text))
+  if (/^until [1-9]/m.test(worst?.text))
     lines.push(`desk worst ${set}${task === null ? '' : ` --task ${task}`} | ` +
       `desk draw ${set} - > worst.svg`);
   if (has_settings) lines.push(`desk judge ${set} node-settings`);

@@ -116,7 +116,7 @@ const SAY = {
   },
   worst({ set, task }, ask) {
     const list = ask('worst', { set, task });
-    if (list.bytes && /^until /m.test(list.text)) ask('draw', { set, releases: list.bytes });
+    if (list.bytes && /^until [1-9]/m.test(list.text)) ask('draw', { set, releases: list.bytes });
   },
   baseline({ set }, ask) {
     ask('admit', { set });

@@ -93,15 +93,31 @@ def at_settings(command):
     return on_rows
 
 
-@of_task
-def explain(tasks, task):
+def explain(tasks, task=None, tell_all=False):
+    return of_task(explain_all if tell_all else explain_short)(tasks, task=task)
+
+
+def explain_short(tasks, task):
+    """Of a conflict of more than three tasks the order that decides comes first, and what the conflict's tasks need isn't said."""
+    order = analysis.best_order(tasks)
+    if task is not None or order is not None:
+        return explain_all(tasks, task)
+    conflict = analysis.least_conflict(tasks, analysis.greatest_obstruction(tasks, range(len(tasks))))
+    if len(conflict) <= 3:
+        return explain_all(tasks, task)
+    levels = [level_line(tasks, *it) for it in settings.judged_levels(tasks, worst.order_for(tasks, None))]
+    said = [admitted(tasks, order), *levels, conflict_line(tasks, conflict), f"load {analysis.load(tasks)}\n"]
+    return "".join(said), INFEASIBLE
+
+
+def explain_all(tasks, task):
     order = analysis.best_order(tasks)
     text = [admitted(tasks, order)]
     if order is not None:
         text += accounts(tasks, order, task)
     else:
         conflict = analysis.least_conflict(tasks, analysis.greatest_obstruction(tasks, range(len(tasks))))
-        text.append(" ".join(["conflict", *(tasks[i].name for i in sorted(conflict))]) + "\n")
+        text.append(conflict_line(tasks, conflict))
         for i in sorted(conflict):
             if task in (None, i):
                 text += needs(tasks, i, conflict - {i})
@@ -112,7 +128,16 @@ def explain(tasks, task):
     return "".join(text), 0 if order is not None else INFEASIBLE
 
 
-def explain_at(tasks, order, rows, task):
+def conflict_line(tasks, conflict):
+    return " ".join(["conflict", *(tasks[i].name for i in sorted(conflict))]) + "\n"
+
+
+def explain_at(tasks, rows, task=None, tell_all=False):
+    """The same of an order that is given, of which all is told."""
+    return at_settings(explain_in)(tasks, rows, task=task)
+
+
+def explain_in(tasks, order, rows, task):
     """The same of an order that is given, passing or not."""
     first, status = settings.first_judged(tasks, order)
     load = [f"load {analysis.load(tasks)}\n"] if task is None else []
@@ -312,8 +337,9 @@ def simulate_best(tasks, order, until, releases, of_tasks):
 def simulate_in(tasks, order, until, releases, of_tasks):
     """What is printed of a run in an order, passing or not."""
     kernel.check_releases(tasks, until, releases)
-    slices, jobs = kernel.run(tasks, order, analysis.ceilings(tasks, order), until, releases)
-    kernel.check_overruns(jobs)
+    ceilings = analysis.ceilings(tasks, order)
+    until, releases, _ = kernel.cut(tasks, order, ceilings, until, releases)
+    slices, jobs = kernel.run(tasks, order, ceilings, until, releases)
     if not of_tasks:
         return kernel.simulated(slices, jobs)
     return "".join(kernel.came_to(tasks[i], bound, jobs) for i, bound in settings.bounds_in(tasks, order).items())
@@ -354,7 +380,7 @@ def draw(tasks, said, **options):
             raise no_such_task(word)
     if status != 0:
         return text, status
-    start, stop = view.window(said[1])
+    start, stop = view.window(picture.cut(tasks, *said)[0])
     if start >= stop:
         raise Refused(4, "EmptyWindow")
     return DRAWN, 0
@@ -377,10 +403,11 @@ def on_set(run, *readers, number=(), options=PREFERS, by_file=()):
 
 
 KEEP = on_set(keep, settings.read_settings)
-WORST_AT, EXPLAIN_AT, LIMITS_AT = [
-    on_set(at_settings(command), settings.read_settings, options=OF_TASK)
-    for command in (worst.worst_at, explain_at, limits_at)
+WORST_AT, LIMITS_AT = [
+    on_set(at_settings(command), settings.read_settings, options=OF_TASK) for command in (worst.worst_at, limits_at)
 ]
+OF_ALL = {**OF_TASK, "all": calls.FLAG}
+EXPLAIN_AT = on_set(explain_at, settings.read_settings, options=OF_ALL)
 AT = {**OF_TASK, "at": calls.any_word}
 TIME = calls.number_within(0, kernel.HORIZON)
 VIEW = {"from": TIME, "to": TIME, "width": calls.number_within(960, 16_000), "title": calls.any_word, "tasks": calls.any_word}
@@ -392,7 +419,7 @@ COMMANDS = {
     "admit": on_set(admit),
     "certify": on_set(certify),
     "check": on_set(check, certificate.read),
-    "explain": on_set(explain, options=AT, by_file=("at", EXPLAIN_AT)),
+    "explain": on_set(explain, options={**AT, **OF_ALL}, by_file=("at", EXPLAIN_AT)),
     "limits": on_set(limits_of, options=AT, by_file=("at", LIMITS_AT)),
     "settings": on_set(settings_of, options={**PREFERS, "keep": calls.any_word, "base": calls.number_within(1, settings.BASE_MOST), "room": calls.number_within(0, settings.ROOM_MOST)}, by_file=("keep", KEEP)),
     "judge": on_set(judge, settings.read_settings, options={**PREFERS, "lower-is-higher": calls.FLAG}),
@@ -406,7 +433,7 @@ COMMANDS = {
     "play": calls.Command(play, (scripts.read_script,)),
     "rush": calls.Command(rush, (scripts.read_script,), (1, scripts.TEAMS)),
 }
-KEYWORDS = {"tasks": "of_tasks", "lower-is-higher": "lower_is_higher", "from": "start", "to": "stop", "jobless": "is_jobless"}  # options by another name
+KEYWORDS = {"all": "tell_all", "tasks": "of_tasks", "lower-is-higher": "lower_is_higher", "from": "start", "to": "stop", "jobless": "is_jobless"}  # options by another name
 OF_THE_ORDER = ("admit", "explain", "limits", "settings", "worst")  # commands whose answer speaks of the order alone
 OF_A_PREFERENCE = (teams.read_set, read_change)  # readers that are told it
 HELP = {(word,) for word in ("help", "-h", "--help", "-V", "--version")}
@@ -490,7 +517,7 @@ def notes_of(call, tasks, others, text, status):
     if command in ("simulate", "draw"):
         if status == INFEASIBLE:
             return ["no order passes, so there is no run: desk explain says why"]
-        return ([] if others[0][0] else names_decide(call, tasks)) + left_out(tasks)
+        return ([] if others[0][0] else names_decide(call, tasks)) + left_out(tasks) + overran(picture.cut(tasks, *others[0])[2])
     if command == "observe":
         seen = {line.split()[1]: int(line.split()[2]) for line in text.splitlines() if line.startswith("task ")}
         unseen = [task.name for task in tasks if seen.get(task.name) == 0]
@@ -522,13 +549,20 @@ def notes(tasks):
                 lines.append(f"{task.name} outranks {name}, which is no task of the set: that binds nothing")
     asked = [(task.period, task.cost + task.node.release) for task in tasks] + analysis.interrupts_of(tasks)
     if sum(Fraction(cost, period) for period, cost in asked) > 1:
-        lines.append("the costs over the periods come to more than 1: no order can pass")
+        more = "come to more than 1: no order can pass"
+        asking = "costs, timers and interrupts over the periods" if analysis.has_interrupts(tasks) else "the costs over the periods"
+        lines.append(f"{asking} {more}")
     return lines
 
 
 def left_out(tasks):
     """What a run doesn't have."""
     return ["what timers and interrupts take is in the bounds, and not in the run"] * analysis.has_interrupts(tasks)
+
+
+def overran(name):
+    """Where a run ends at a job that is ready too soon."""
+    return [] if name is None else [f"the run ends where a job of {name} is ready and the one before it isn't done"]
 
 
 def strange_threads(tasks, rows):

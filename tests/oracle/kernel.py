@@ -138,12 +138,15 @@ def overruns(jobs):
     return over
 
 
-def check_overruns(jobs):
-    """The first of them: the earliest, then by place."""
+def cut(tasks, order, ceilings, until, releases):
+    """How much of a list is shown: its end and its releases; or, where some become ready so, when the first of them does, and
+    what is ready before. The first's name stands behind."""
+    _, jobs = run(tasks, order, ceilings, until, releases)
     over = overruns(jobs)
-    if over:
-        first = min(over, key=lambda release: release.ready)
-        raise Refused(4, "Overrun", first.name, first.ready)
+    if not over:
+        return until, releases, None
+    first = min(over, key=lambda release: release.ready)
+    return first.ready, [release for release in releases if release.ready < first.ready], first.name
 
 
 def simulated(slices, jobs):

@@ -59,25 +59,30 @@ def worst_case(tasks, order, i):
 
 
 def run(tasks, order, i):
-    """What is said of the task's worst case, with its end and releases, or None where there is no list to show."""
+    """What is said of the task's worst case, and its end and releases; none up to 0 where there are too many."""
+    listed = worst_case(tasks, order, i)
+    too_many = len(listed[1]) > kernel.RELEASES_MOST
+    return what_of(tasks, order, i, *listed, too_many), (0, []) if too_many else listed
+
+
+def what_of(tasks, order, i, until, releases, too_many):
     task, above = tasks[i], set(order[order.index(i) + 1 :])
     passes, bound_by = analysis.passes(tasks, i, above), analysis.bound_by(tasks, i, above)
     if passes and bound_by:
-        return f"must-outrank {tasks[bound_by[0]].name}", None
-    until, releases = worst_case(tasks, order, i)
-    if len(releases) > kernel.RELEASES_MOST:
-        return "too-many-releases", None
+        return f"must-outrank {tasks[bound_by[0]].name}"
+    if too_many:
+        return "too-many-releases"
     _, jobs = kernel.run(tasks, order, analysis.ceilings(tasks, order), until, releases)
     own = next(job for job in jobs if job.task.name == task.name)
     stopped = kernel.overruns(jobs)
     if passes:
         if stopped:
-            return "below-a-miss", None
+            return "below-a-miss"
         response = "-" if own.finish is None else own.finish - own.release.arrival
-        return f"{response} of {analysis.response_of(tasks, i, above)}", (until, releases)
+        return f"{response} of {analysis.response_of(tasks, i, above)}"
     if own.finish is None and not stopped:
-        return f"misses {task.deadline}", (until, releases)
-    return why_not(tasks, order, i), None
+        return f"misses {task.deadline}"
+    return why_not(tasks, order, i)
 
 
 def why_not(tasks, order, i):
@@ -114,5 +119,4 @@ def worst_in(tasks, order, i, front):
         return kernel.release_list(0, [])
     i = whose(tasks, order) if i is None else i
     words, listed = run(tasks, order, i)
-    text = f"# {tasks[i].name} {words}\n"
-    return text if listed is None else text + front(tasks, order) + kernel.release_list(*listed)
+    return f"# {tasks[i].name} {words}\n" + front(tasks, order) + kernel.release_list(*listed)

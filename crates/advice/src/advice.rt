@@ -11,13 +11,13 @@ use explain::least_conflict;
 use preferences::Choice;
 use sentences::{
     greatest_until, of_task, of_tasks, push_clean, put_conflict, put_empty, put_left_out,
-    put_names_decide, put_notes, put_overload, put_override, put_parted, put_past_priorities,
-    put_strange_threads, put_strangers, put_unrun, put_unseen,
+    put_names_decide, put_notes, put_overload, put_overran, put_override, put_parted,
+    put_past_priorities, put_strange_threads, put_strangers, put_unrun, put_unseen,
 };
 use std::alloc::{AllocError, Global};
 use std::io::Write;
 use streams::{Watched, WriteFailed};
-use task_sheet::{Members, TaskSet};
+use task_sheet::{Members, Name, TaskSet};
 
 /// Tells a person what is wrong with an input, and what is odd in a set. A sentence for which memory runs out, or that
 /// can't be written, is dropped: no answer and no status rests on it.
@@ -256,6 +256,10 @@ impl<'a, W: Write + Drop> Audience for Advice<'a, W> {
 
     fn ran(&mut self, set: &TaskSet) {
         let _ = put_left_out(set, &mut self.errors);
+    }
+
+    fn overran(&mut self, name: Name) {
+        let _ = put_overran(name, &mut self.errors);
     }
 
     fn seen(&mut self, set: &TaskSet, tasks: Members) {

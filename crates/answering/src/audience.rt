@@ -4,7 +4,7 @@ ghost use Rattle.assignment.specs.Placings.{IsPlacingOf};
 use crate::refusal::CommandRefusal;
 use assignment::Placing;
 use preferences::Choice;
-use task_sheet::{Members, TaskSet};
+use task_sheet::{Members, Name, TaskSet};
 
 /// Which input of a call.
 #[derive(Clone, Copy, Debug, PartialEq, Eq)]
@@ -28,6 +28,9 @@ pub trait Audience {
 
     /// The answer that follows is a run of a set's tasks.
     fn ran(&mut self, set: &TaskSet);
+
+    /// That run ends where a job of the task with a name becomes ready, and the one before it isn't finished.
+    fn overran(&mut self, name: Name);
 
     /// A trace shows jobs of some tasks of a set, by their indexes, and of no other.
     fn seen(&mut self, set: &TaskSet, tasks: Members);
@@ -60,6 +63,8 @@ impl Audience for Nobody {
     fn in_best_order(&mut self, _set: &TaskSet) {}
 
     fn ran(&mut self, _set: &TaskSet) {}
+
+    fn overran(&mut self, _name: Name) {}
 
     fn seen(&mut self, _set: &TaskSet, _tasks: Members) {}
 

@@ -6,7 +6,7 @@ use Rattle.command_line.specs.App.{desk_app}
 use Rattle.command_line.specs.Commands.{choice_id, input_of, least_of, most_of, number_choices, number_name, second_of, takes_of, verb_of, by_file}
 use Rattle.command_line.specs.declared.calls.TheConstants.{MOST_PRIORITY, MOST_ROOM, MOST_SEED, MOST_TOLERANCE, LATEST_END, LEAST_WIDTH, MOST_WIDTH}
 use Rattle.command_line.specs.declared.calls.Choice.{Choice}
-use Rattle.command_line.specs.declared.calls.Choice.TheVariants.{Strict, Base, Room, LowerIsHigher, Seed, Tasks, Tolerance, Jobless, From, To, Width}
+use Rattle.command_line.specs.declared.calls.Choice.TheVariants.{All, Strict, Base, Room, LowerIsHigher, Seed, Tasks, Tolerance, Jobless, From, To, Width}
 use Rattle.command_line.specs.declared.calls.Takes.{Takes}
 use Rattle.command_line.specs.declared.calls.Takes.TheVariants as takes
 use Rattle.command_line.specs.declared.calls.Preferred.{Preferred}
@@ -122,6 +122,7 @@ pub record AreOptions (given : List Row) (options : OptionsData) : Type 0 where
   pub prefer : Prefers given options.prefer
   pub is_strict : Flags Strict given options.is_strict
   pub task : option_map (λ s. s.now) options.task ≡ first_of (codes "task") given
+  pub all : Flags All given options.all
   pub base : IsNumberOf Base given options.base
   pub room : IsNumberOf Room given options.room
   pub lower_is_higher : Flags LowerIsHigher given options.lower_is_higher
@@ -142,6 +143,7 @@ no_options =
       prefer = None;
       is_strict = false;
       task = None;
+      all = false;
       base = None;
       room = None;
       lower_is_higher = false;

@@ -13,7 +13,7 @@ use Rattle.command_line.specs.declared.calls.OfNumber.TheVariants.{Releases, Scr
 use Rattle.command_line.specs.declared.calls.Verb.{Verb}
 use Rattle.command_line.specs.declared.calls.Verb.TheVariants.{One, Two, Number}
 use Rattle.command_line.specs.declared.calls.Choice.{Choice}
-use Rattle.command_line.specs.declared.calls.Choice.TheVariants.{Prefer, Strict, Task, Base, Room, LowerIsHigher, Seed, Tasks, Tolerance, Jobless, Keep, At, From, To, Width, Title, Rows}
+use Rattle.command_line.specs.declared.calls.Choice.TheVariants.{Prefer, Strict, Task, Base, Room, LowerIsHigher, Seed, Tasks, Tolerance, Jobless, Keep, At, All, From, To, Width, Title, Rows}
 use Rattle.command_line.specs.declared.calls.Takes.{Takes}
 use Rattle.command_line.specs.declared.calls.Takes.TheVariants as takes
 use Rattle.command_line.specs.declared.calls.TheConstants.{MOST_WORKERS, MOST_TEAM, MOST_PRIORITY, MOST_ROOM, MOST_SEED, MOST_TOLERANCE, LEAST_WIDTH, MOST_WIDTH, LATEST_END}
@@ -23,7 +23,7 @@ use Rattle.command_line.specs.declared.calls.TheConstants.{MOST_WORKERS, MOST_TE
 abbrev pub commands : List (Text × Verb × List Choice)
 commands =
     (codes "admit", One Admit, Prefer ∷ Strict ∷ [])
-    ∷ (codes "explain", One Explain, Prefer ∷ Strict ∷ Task ∷ At ∷ [])
+    ∷ (codes "explain", One Explain, Prefer ∷ Strict ∷ Task ∷ At ∷ All ∷ [])
     ∷ (codes "limits", One Limits, Prefer ∷ Strict ∷ Task ∷ At ∷ [])
     ∷ (codes "settings", One Settings, Prefer ∷ Strict ∷ Base ∷ Room ∷ Keep ∷ [])
     ∷ (codes "judge", Two Judge, Prefer ∷ Strict ∷ LowerIsHigher ∷ [])
@@ -102,6 +102,7 @@ choice_name Tolerance = codes "tolerance"
 choice_name Jobless = codes "jobless"
 choice_name Keep = codes "keep"
 choice_name At = codes "at"
+choice_name All = codes "all"
 choice_name From = codes "from"
 choice_name To = codes "to"
 choice_name Width = codes "width"
@@ -127,6 +128,7 @@ takes_of Tolerance = takes.Number 0 MOST_TOLERANCE
 takes_of Jobless = takes.Flag
 takes_of Keep = takes.Word
 takes_of At = takes.Word
+takes_of All = takes.Flag
 takes_of From = takes.Number 0 LATEST_END
 takes_of To = takes.Number 0 LATEST_END
 takes_of Width = takes.Number LEAST_WIDTH MOST_WIDTH

@@ -139,6 +139,8 @@ pub(crate) enum Choice {
     Keep,
     // `--at SETTINGS`
     At,
+    // `--all`
+    All,
     // `--from T`
     From,
     // `--to T`
@@ -178,6 +180,8 @@ pub struct Options<'a> {
     pub is_strict: bool,
     /// `--task NAME`: the task that is asked about.
     pub task: Option<&'a str>,
+    /// `--all`: what each task of a conflict needs, however many there are.
+    pub all: bool,
     /// `--base N`: the priority of level 1.
     pub base: Option<usize>,
     /// `--room N`: how many numbers are to stay free beside one that is given anew.
@@ -198,7 +202,7 @@ pub struct Options<'a> {
     pub to: Option<usize>,
     /// `--width N`: how wide it is, in pixels.
     pub width: Option<usize>,
-    /// `--title TEXT`: what stands before its verdict.
+    /// `--title TEXT`: what stands behind its verdict.
     pub title: Option<&'a str>,
     /// `--tasks NAMES`: the tasks that have rows in it, a comma between two.
     pub rows: Option<&'a str>,
@@ -313,6 +317,7 @@ impl Choice {
             Choice::Jobless => "jobless",
             Choice::Keep => "keep",
             Choice::At => "at",
+            Choice::All => "all",
             Choice::From => "from",
             Choice::To => "to",
             Choice::Width => "width",
@@ -366,7 +371,11 @@ impl Choice {
                 least: LEAST_WIDTH as u32,
                 most: MOST_WIDTH as u32,
             },
-            Choice::Strict | Choice::LowerIsHigher | Choice::Tasks | Choice::Jobless => Takes::Flag,
+            Choice::Strict
+            | Choice::LowerIsHigher
+            | Choice::Tasks
+            | Choice::All
+            | Choice::Jobless => Takes::Flag,
         }
     }
 
@@ -385,6 +394,7 @@ impl Choice {
             | Choice::Strict
             | Choice::LowerIsHigher
             | Choice::Tasks
+            | Choice::All
             | Choice::Tolerance
             | Choice::Jobless
             | Choice::Width => "N",
@@ -408,10 +418,11 @@ impl Choice {
             Choice::Jobless => "It is meant that some task has no job",
             Choice::Keep => "Settings of a node whose order stays, and numbers as far as can be",
             Choice::At => "Settings that give the order, in place of the best one",
+            Choice::All => "What each task of a conflict needs, also of more than three",
             Choice::From => "Where the picture begins, in microseconds",
             Choice::To => "Where the picture ends, in microseconds, if not with the run",
             Choice::Width => "How wide the picture is, in pixels, from 960 to 16000",
-            Choice::Title => "What stands before its verdict",
+            Choice::Title => "What stands behind its verdict",
             Choice::Rows => "The tasks that have rows, a comma between two; else all",
         }
     }
@@ -426,6 +437,7 @@ impl<'a> Options<'a> {
             prefer: None,
             is_strict: false,
             task: None,
+            all: false,
             base: None,
             room: None,
             lower_is_higher: false,

@@ -55,7 +55,13 @@ const COMMANDS: [Listed; 16] = [
     Listed {
         verb: Verb::One(OfOne::Explain),
         word: "explain",
-        options: &[Choice::Prefer, Choice::Strict, Choice::Task, Choice::At],
+        options: &[
+            Choice::Prefer,
+            Choice::Strict,
+            Choice::Task,
+            Choice::At,
+            Choice::All,
+        ],
         about: "Prints what each response is made of, or a minimal set of tasks that collide and how one order fails",
         example: example!(
             "explain examples/shared-lock.toml",

@@ -88,6 +88,7 @@ fn options_at<'a>(matches: &ArgMatches<'a>) -> Option<Options<'a>>
         is_strict: flag_chosen(matches, Choice::Strict),
         task: matches.get_str("task"),
         base: number_chosen(matches, Choice::Base),
+        all: flag_chosen(matches, Choice::All),
         lower_is_higher: flag_chosen(matches, Choice::LowerIsHigher),
         seed: number_chosen(matches, Choice::Seed),
         by_task: flag_chosen(matches, Choice::Tasks),

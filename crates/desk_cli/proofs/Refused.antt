@@ -42,7 +42,7 @@ module _ (before after : Option (List ℕ)) (s : Status) (r : CommandRefusal)
   one_refused Limits options known why =
       part_refused part.Limits (task_of options) (asking_of options) known why
   one_refused Explain options known why =
-      part_refused part.Reasons (task_of options) (asking_of options) known why
+      part_refused (part.Reasons options.all) (task_of options) (asking_of options) known why
   one_refused Worst options known why =
       part_refused part.Worst (task_of options) (asking_of options) known why
   one_refused Play options known why = (refusal_line r, wrote, inl (r, why, refl, is))

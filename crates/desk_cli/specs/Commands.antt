@@ -35,7 +35,7 @@ OneSays Certify options = SaysCertified (asking_of options)
 OneSays Limits options = SaysPart part.Limits (task_of options) (asking_of options)
 OneSays Settings options =
     SaysPlacing (order.Settings (base_of options) (room_of options)) (asking_of options)
-OneSays Explain options = SaysPart part.Reasons (task_of options) (asking_of options)
+OneSays Explain options = SaysPart (part.Reasons options.all) (task_of options) (asking_of options)
 OneSays Worst options = SaysPart part.Worst (task_of options) (asking_of options)
 OneSays Play options = SaysPlayed
 

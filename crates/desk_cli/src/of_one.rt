@@ -58,7 +58,7 @@ fn say_placing<W: Write + Drop>(
         }
         OfOne::Explain => say_part(
             alloc,
-            TaskPart::Reasons,
+            TaskPart::Reasons { all: options.all },
             options.task,
             owners,
             set,

@@ -185,6 +185,13 @@ fn tasks_seen(tasks: &TaskSet, jobs: &[Seen]) -> Members {
     seen
 }
 
+// Tells the audience that a run ends at an overrun, if it does.
+fn tell_overrun<P: Audience>(overrun: Option<Name>, people: &mut P) {
+    if let Some(name) = overrun {
+        people.overran(name);
+    }
+}
+
 // Tells the audience of a run, if there is one.
 fn tell_run<P: Audience>(answer: &Simulated, tasks: &TaskSet, people: &mut P) {
     match answer {
@@ -193,7 +200,10 @@ fn tell_run<P: Audience>(answer: &Simulated, tasks: &TaskSet, people: &mut P) {
             people.in_best_order(tasks);
             people.ran(tasks);
         }
-        Simulated::Ordered(_) => people.ran(tasks),
+        Simulated::Ordered(run) => {
+            people.ran(tasks);
+            tell_overrun(run.overrun, people);
+        }
     }
 }
 

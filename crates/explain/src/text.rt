@@ -290,12 +290,8 @@ fn push_needs(text: &mut String, set: &TaskSet, needs: &[Need]) -> Result<(), Al
     Ok(())
 }
 
-// The line of a conflict.
-pub(crate) fn push_conflict(
-    text: &mut String,
-    set: &TaskSet,
-    left: Members,
-) -> Result<(), AllocError>
+/// Adds the line of a conflict. The error is out of memory.
+pub fn push_conflict(text: &mut String, set: &TaskSet, left: Members) -> Result<(), AllocError>
     ensures { OnOk result (string_bytes text.new
         ≡ string_bytes text.old ++ conflict_line set.now
         (listed_below (length set.now) (indexes_of left))) }

@@ -9,7 +9,7 @@ use Rattle.judge.specs.Judgements.{order_judged}
 use Rattle.judge.specs.Lines.{judged_words}
 use Rattle.judge.specs.Missed.{IsMissedBelow, missed_lines}
 use Rattle.judge.specs.declared.explained.Parted.{Parted}
-use Rattle.judge.specs.declared.explained.Parted.TheVariants.{Each, Missed}
+use Rattle.judge.specs.declared.explained.Parted.TheVariants.{Each, Bare}
 use Rattle.judge.specs.declared.judging.JudgedTask.{JudgedTask}
 use Rattle.judge.specs.declared.judging.Judgement.{Judgement}
 use Rattle.judge.specs.declared.judging.Judgement.TheVariants.{Meets, Misses, Below}
@@ -26,17 +26,29 @@ abbrev pub AreMetLines :
 AreMetLines Each U above number task response text =
     (a : Account) × IsResponseAccount U above (record { task = task; response = response }) a
     × (text ≡ level_account_lines U number a)
-AreMetLines Missed U above number task response text =
+AreMetLines _ U above number task response text =
     text ≡ judged_line U number (record { task = task; judgement = Meets response })
 
--- the text is the lines of a task below these: where it meets its deadline, those; where it misses it, what it needs at
--- least, with the parts; or that it stands below one that it must outrank
+-- the text is what a task needs at least below these, with the parts
+abbrev pub IsAccounted : List Task → (above : List ℕ) → (number task : ℕ) → List ℕ → Type 0
+IsAccounted U above number task text =
+    (a : Account) × IsMissedBelow U above task a × (text ≡ missed_lines U number a)
+
+-- the text is the lines of a task below these that misses it: that, or the need alone
+abbrev pub AreMissingLines :
+    Parted → List Task → (above : List ℕ) → (number task needs : ℕ) → List ℕ → Type 0
+AreMissingLines Bare U above number task needs text =
+    text ≡ judged_line U number (record { task = task; judgement = Misses needs })
+AreMissingLines _ U above number task needs text = IsAccounted U above number task text
+
+-- the text is the lines of a task below these: where it meets its deadline or misses it, those; or that it stands below one
+-- that it must outrank
 abbrev pub AreLevelLines :
     Parted → List Task → (above : List ℕ) → (number task : ℕ) → Judgement → List ℕ → Type 0
 AreLevelLines parted U above number task (Meets response) text =
     AreMetLines parted U above number task response text
 AreLevelLines parted U above number task (Misses needs) text =
-    (a : Account) × IsMissedBelow U above task a × (text ≡ missed_lines U number a)
+    AreMissingLines parted U above number task needs text
 AreLevelLines parted U above number task (Below other) text =
     text ≡ judged_line U number (record { task = task; judgement = Below other })
 

@@ -2,11 +2,11 @@
 ghost use Rattle.std.specs.Prelude.{◌≡◌, ◌++◌, ◌<◌, ◌≤◌, length, All, IfOk, OnOk, string_bytes};
 ghost use Rattle.task_sheet.specs.Sheet.{task_at};
 ghost use Rattle.task_sheet.specs.Indexes.{among};
-ghost use Rattle.task_sheet.specs.Demand.{IsResponseOf};
+ghost use Rattle.task_sheet.specs.Demand.{IsResponseOf, Passes};
 ghost use Rattle.task_sheet.specs.Orders.{IsOrder};
 ghost use Rattle.explain.specs.Accounts.{IsResponseAccount};
 ghost use Rattle.explain.specs.Lines.{level_account_lines};
-ghost use Rattle.judge.specs.Explained.{AreAskedLines, AreExplained, AreLevelLines, AreLevels, AreMetLines, is_asked, judged_line, load_asked};
+ghost use Rattle.judge.specs.Explained.{AreAskedLines, AreExplained, AreLevelLines, AreLevels, AreMetLines, AreMissingLines, IsAccounted, is_asked, judged_line, load_asked};
 ghost use Rattle.judge.specs.Judgements.{AllJudged, IsJudgementOf, order_judged};
 
 use crate::judging::{JudgedTask, Judgement};
@@ -24,6 +24,8 @@ pub enum Parted {
     Each,
     /// Of those alone whose task misses its deadline.
     Missed,
+    /// Of none: each level is a line.
+    Bare,
 }
 
 // The tasks of an order that was judged, the lowest first.
@@ -111,6 +113,54 @@ fn met_text(
             let judgement = Judgement::Meets { response };
             line_text(alloc, set.tasks(), number, JudgedTask { task, judgement })
         }
+        Parted::Bare => {
+            let judgement = Judgement::Meets { response };
+            line_text(alloc, set.tasks(), number, JudgedTask { task, judgement })
+        }
+    }
+}
+
+// The lines of a level, which has a number, with the parts of what its task needs.
+fn accounted_text(
+    alloc: Global,
+    set: &Tabled<'_>,
+    number: usize,
+    task: usize,
+    above: &[JudgedTask],
+) -> Result<String, AllocError>
+    requires task { task < length set.now }
+    requires above { All (λ j. j.task < length set.now) above.now }
+    requires misses { ¬ Passes set.now task (among (order_judged above.now)) }
+    ensures { IfOk result (λ text. IsAccounted set.now (order_judged above.now) number task
+        (string_bytes text)) }
+{
+    let account = missed_account(alloc, set, task, above)?;
+    missed_text(alloc, set.tasks(), number, &account)
+}
+
+// The lines of a level, which has a number, where its task misses its deadline.
+fn missing_text(
+    alloc: Global,
+    set: &Tabled<'_>,
+    parted: Parted,
+    number: usize,
+    task: usize,
+    needs: u64,
+    above: &[JudgedTask],
+) -> Result<String, AllocError>
+    requires task { task < length set.now }
+    requires above { All (λ j. j.task < length set.now) above.now }
+    requires misses { ¬ Passes set.now task (among (order_judged above.now)) }
+    ensures { IfOk result (λ text. AreMissingLines parted set.now (order_judged above.now) number
+        task needs (string_bytes text)) }
+{
+    match parted {
+        Parted::Each => accounted_text(alloc, set, number, task, above),
+        Parted::Missed => accounted_text(alloc, set, number, task, above),
+        Parted::Bare => {
+            let judgement = Judgement::Misses { needs };
+            line_text(alloc, set.tasks(), number, JudgedTask { task, judgement })
+        }
     }
 }
 
@@ -134,9 +184,8 @@ fn level_text(
         Judgement::Meets { response } => {
             met_text(alloc, set, parted, number, entry.task, response, above)
         }
-        Judgement::Misses { .. } => {
-            let account = missed_account(alloc, set, entry.task, above)?;
-            missed_text(alloc, set.tasks(), number, &account)
+        Judgement::Misses { needs } => {
+            missing_text(alloc, set, parted, number, entry.task, needs, above)
         }
         Judgement::Below { .. } => line_text(alloc, set.tasks(), number, entry),
     }

@@ -1,6 +1,7 @@
 -- What a command says of what it is given.
-use Rattle.std.specs.Prelude.{◌≡◌, ◌⊎◌, ℕ, List, [], ◌∷◌, Option, Some, None, IsUtf8}
+use Rattle.std.specs.Prelude.{◌≡◌, ◌⊎◌, ℕ, true, List, [], ◌∷◌, Option, Some, None, IsUtf8}
 use Rattle.command_line.specs.Calls.{no_options}
+use Rattle.command_line.specs.declared.calls.Options.{Options}
 use Rattle.desk_cli.specs.Commands.{OneSays, TwoSay}
 use Rattle.answering.specs.Chosen.{asking_of}
 use Rattle.set_commands.specs.OneTask.{SaysPart}
@@ -21,10 +22,14 @@ abbrev pub SaysWorstAsked : (set name : List ℕ) → (before after : Option (Li
 SaysWorstAsked set name before after s =
     (word : Option (List ℕ)) × AsksAbout name word × SaysPart part.Worst word None (Some set) before after s
 
+-- nothing is chosen but that all is told
+abbrev pub all_options : Options
+all_options = record no_options { all = true }
+
 -- what a writer held, what it holds then, and the status, are those of the command's answer
 abbrev pub AskedSays : Asked → (before after : Option (List ℕ)) → Status → Type 0
 AskedSays (One command input) before after s =
-    OneSays command no_options (Some input.now) before after s
+    OneSays command all_options (Some input.now) before after s
 AskedSays (Two command first second) before after s =
     TwoSay command no_options (Some first.now) (Some second.now) before after s
 AskedSays (Releases set until) before after s =

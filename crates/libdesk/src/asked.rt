@@ -1,7 +1,7 @@
 //! A command with what it is given, and what it answers.
 ghost use Rattle.std.specs.Prelude.{◌≡◌, length, option_map, Some, true, false};
 ghost use Rattle.libdesk.specs.Answers.{AnswersCall};
-ghost use Rattle.libdesk.specs.Asked.{AskedSays, AsksAbout};
+ghost use Rattle.libdesk.specs.Asked.{AskedSays, AsksAbout, all_options};
 
 use crate::hand_out::hand_out;
 use command_line::{OfOne, OfTwo, Options};
@@ -9,7 +9,7 @@ use desk_cli::{Audience, Nobody, Status, carry_out, carry_out_on_both, run_relea
 use std::alloc::Global;
 use streams::Watched;
 
-/// A command with its inputs, where nothing is chosen beside them.
+/// A command with its inputs, where nothing is chosen beside them but that all is told.
 #[derive(Clone, Copy)]
 pub enum Asked<'a> {
     One(OfOne, &'a [u8]),
@@ -18,6 +18,16 @@ pub enum Asked<'a> {
     Releases(&'a [u8], u64),
     /// The worst case of the task of a set that has this name; without one that of the task that its verdict is about.
     Worst(&'a [u8], &'a [u8]),
+}
+
+// Nothing is chosen but that all is told.
+fn all_options<'a>() -> Options<'a>
+    ensures { result ≡ all_options }
+{
+    Options {
+        all: true,
+        ..Options::none()
+    }
 }
 
 // The word that asks about the task with a name; bytes that are no text are nobody's.
@@ -49,6 +59,7 @@ pub(crate) fn run<'a, P: Audience>(
     match asked {
         Asked::One(command, input) => {
             let mut input = Watched::new(input);
+            let options = all_options();
             carry_out(alloc, command, options, &mut input, output, people)
         }
         Asked::Two(command, first, second) => {

@@ -1,5 +1,5 @@
 //! The functions that a program in C calls: a command each, and what a person is told.
-ghost use Rattle.std.specs.Prelude.{◌≡◌, length, IfSome, None, Some, false};
+ghost use Rattle.std.specs.Prelude.{◌≡◌, length, IfSome, None, Some, false, true};
 ghost use Rattle.set_commands.specs.Admit.{SaysPlacing};
 ghost use Rattle.set_commands.specs.Certify.{SaysCertified};
 ghost use Rattle.two_input_commands.specs.Check.{SaysChecked};
@@ -70,11 +70,11 @@ pub extern "C" fn desk_settings(
     answer(alloc, Asked::One(OfOne::Settings, set), room, status)
 }
 
-/// What `desk explain` prints of a task set.
+/// What `desk explain` prints of a task set with `--all`.
 #[unsafe(no_mangle)]
 pub extern "C" fn desk_explain(alloc: Global, set: &[u8], room: &mut [u8], status: &mut u8) -> usize
     ensures room { length room.new ≡ length room.old }
-    ensures answer { AnswersCall (SaysExplained None
+    ensures answer { AnswersCall (SaysExplained true None
         (Some set.now)) room.old room.new result status.new }
 {
     answer(alloc, Asked::One(OfOne::Explain, set), room, status)

@@ -1,6 +1,6 @@
 -- What is shown of a task at its place in an order: its worst case, as a run in which it misses its deadline, or why it is
 -- none.
-use Rattle.std.specs.Prelude.{◌≡◌, ℕ, ◌+◌, ◌-◌, ◌<◌, ◌≤◌, ◌⊎◌, true, Bool, ◌&&◌, List, length}
+use Rattle.std.specs.Prelude.{◌≡◌, ℕ, ◌+◌, ◌-◌, ◌<◌, ◌≤◌, ◌⊎◌, true, Bool, ◌&&◌, List, length, Option, Some, None}
 use Rattle.std.specs.List.{list_any}
 use Rattle.task_sheet.specs.Sheet.{Task, task_at}
 use Rattle.task_sheet.specs.Indexes.{Indexes}
@@ -20,6 +20,7 @@ use Rattle.miss.specs.declared.shown.Shown.{Shown}
 use Rattle.miss.specs.declared.shown.Shown.TheVariants as shown
 use Rattle.miss.specs.declared.shown.NoRun.{NoRun}
 use Rattle.miss.specs.declared.shown.NoRun.TheVariants as why
+use Rattle.miss.specs.declared.worst.Run.{Run}
 use Rattle.miss.specs.Exact.{EndsLow}
 use Rattle.miss.specs.Misses.{IsRunOf, IsMissOf, IsWorstCase, MustMiss}
 
@@ -44,6 +45,13 @@ pub record IsTooLong (U : List Task) (i : ℕ) (above : List ℕ) : Type 0 where
   pub until : ℕ
   pub case : IsWorstCase U i above releases until
   pub many : RELEASE_LIMIT < length releases
+
+-- what there is of the worst case of task i: a run's list, or more releases than a run takes
+abbrev pub IsCaseOf : Node → ℕ → Option Run → Type 0
+IsCaseOf node i (Some run) =
+    IsWorstCase node.tasks i (after_of node.order i) run.releases.items run.until
+    × (length run.releases.items ≤ RELEASE_LIMIT)
+IsCaseOf node i None = IsTooLong node.tasks i (after_of node.order i)
 
 -- task h is the lowest of those above task i that don't pass
 pub record IsLowestFailing (node : Node) (i h : ℕ) : Type 0 where

@@ -10,6 +10,6 @@ mod shown;
 mod worst;
 
 pub use crate::find::show_miss;
-pub use crate::reaching::{Reached, WorstRun, reach};
+pub use crate::reaching::{Reached, WorstRun, case_of, reach};
 pub use crate::shown::{Miss, NoRun, Shown};
 pub use crate::worst::{Run, worst_case};

@@ -5,9 +5,10 @@ ghost use Rattle.ceiling_kernel.specs.Tick.{node_in};
 ghost use Rattle.ceiling_kernel.specs.Releases.{task_number, release_at};
 ghost use Rattle.task_sheet.specs.Orders.{IsOrder};
 ghost use Rattle.miss.specs.Reached.{IsReachedOf};
+ghost use Rattle.miss.specs.Shown.{IsCaseOf};
 
 use crate::orders::{above, kernel_of};
-use crate::worst::worst_case;
+use crate::worst::{Run, worst_case};
 use ceiling_kernel::{Kernel, Release, RunFault};
 use ceilings::{LockTable, Tabled};
 use std::alloc::{AllocError, Global};
@@ -112,4 +113,37 @@ pub fn reach(
     let kernel = kernel_of(alloc, set, order)?;
     let table = LockTable::new(alloc, set)?;
     reach_in(alloc, &kernel, &Tabled::of(set, &table), order, task)
+}
+
+// The worst case of a task in an order, whatever comes of it.
+fn case_in(
+    alloc: Global,
+    set: &Tabled<'_>,
+    order: &[usize],
+    task: usize,
+) -> Result<Option<Run>, AllocError>
+    requires order { IsOrder set.now order.now }
+    requires task { task < length set.now }
+    ensures { IfOk result (IsCaseOf (node_in set.now order.now) task) }
+{
+    // The set is valid: the proof has it from its sheets.
+    let _ = set.sheets();
+    let case = worst_case(alloc, set, task, above(order, task))?;
+    Ok(case)
+}
+
+/// The worst case of a task of the set in an order, lowest first, whatever comes of it; none where it has more than 10,000
+/// releases. The error is out of memory.
+pub fn case_of(
+    alloc: Global,
+    set: &TaskSet,
+    order: &[usize],
+    task: usize,
+) -> Result<Option<Run>, AllocError>
+    requires task { task < length set.now }
+    requires order { IsOrder set.now order.now }
+    ensures { IfOk result (IsCaseOf (node_in set.now order.now) task) }
+{
+    let table = LockTable::new(alloc, set)?;
+    case_in(alloc, &Tabled::of(set, &table), order, task)
 }

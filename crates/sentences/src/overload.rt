@@ -84,16 +84,18 @@ fn is_overloaded(sheets: &[Sheet]) -> bool {
     asked.costs.is_above(asked.periods)
 }
 
-/// Writes a note where the costs of a set, with what timers and interrupts take, over their periods come to more than 1. It
+/// Writes a note where the costs of a set, with what timers and interrupts take, over the periods come to more than 1. It
 /// takes no memory.
 pub fn put_overload<W: Write + Drop>(
     set: &TaskSet,
     out: &mut Watched<W>,
 ) -> Result<(), WriteFailed> {
-    let note: &[u8] = if is_overloaded(set.sheets()) {
-        b"note: the costs over the periods come to more than 1: no order can pass\n"
-    } else {
+    let note: &[u8] = if !is_overloaded(set.sheets()) {
         b""
+    } else if set.sheets().iter().any(|sheet| sheet.interrupts_some()) {
+        b"note: costs, timers and interrupts over the periods come to more than 1: no order can pass\n"
+    } else {
+        b"note: the costs over the periods come to more than 1: no order can pass\n"
     };
     out.write(note)
 }

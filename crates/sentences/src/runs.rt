@@ -1,9 +1,9 @@
 //! What a person is told of a run and of a trace.
 
-use crate::pieces::put_pieces;
+use crate::pieces::{put_pieces, write_note};
 use std::io::Write;
 use streams::{Held, Watched, WriteFailed};
-use task_sheet::{Members, TaskSet};
+use task_sheet::{Members, Name, TaskSet};
 
 /// Writes a note that nothing was run, since no order of the set passes. It takes no memory.
 pub fn put_unrun<W: Write + Drop>(out: &mut Watched<W>) -> Result<(), WriteFailed> {
@@ -23,6 +23,16 @@ pub fn put_left_out<W: Write + Drop>(
         }
     }
     Ok(())
+}
+
+/// Writes a note that a run ends where a job of a task is ready and the one before it isn't finished. It takes no memory.
+pub fn put_overran<W: Write + Drop>(name: Name, out: &mut Watched<W>) -> Result<(), WriteFailed> {
+    let pieces = [
+        "note: the run ends where a job of ",
+        name.as_str(),
+        " is ready and the one before it isn't done\n",
+    ];
+    write_note(&pieces, out)
 }
 
 // What stands in front of the first name, and of a further one.

@@ -1,17 +1,19 @@
 -- What `desk explain` answers and prints.
-use Rattle.std.specs.Prelude.{◌≡◌, ℕ, List, [], ◌++◌, Option, Some, None, Result, Ok, Err}
+use Rattle.std.specs.Prelude.{◌≡◌, ℕ, nat_lt, Bool, true, false, not, ◌&&◌, List, [], ◌++◌, length, Option, None, Result, Ok, Err}
 use Rattle.preferences.specs.declared.asking.Asking.{Asking}
+use Rattle.task_sheet.specs.Indexes.{indexes_of, listed_below}
 use Rattle.task_sheet.specs.Sheet.{Task}
 use Rattle.assignment.specs.Placings.{IsPlacingOf}
 use Rattle.assignment.specs.declared.placing.Placing.{Placing}
 use Rattle.assignment.specs.declared.placing.Placing.TheVariants.{Best, Stuck}
 use Rattle.explain.specs.Explanations.{Explains}
-use Rattle.explain.specs.Lines.{explanation_lines}
-use Rattle.explain.specs.TaskLines.{task_lines}
+use Rattle.explain.specs.Lines.{conflict_line, explanation_lines, load_line}
 use Rattle.explain.specs.declared.explanation.Explanation.{Explanation}
+use Rattle.explain.specs.declared.explanation.Explanation.TheVariants.{Responses, Conflict}
 use Rattle.judge.specs.Explained.{AreLevels}
 use Rattle.judge.specs.Judgements.{AllJudged, order_judged}
-use Rattle.judge.specs.declared.explained.Parted.TheVariants.{Missed}
+use Rattle.judge.specs.declared.explained.Parted.{Parted}
+use Rattle.judge.specs.declared.explained.Parted.TheVariants.{Missed, Bare}
 use Rattle.judge.specs.declared.judging.JudgedTask.{JudgedTask}
 use Rattle.owners.specs.NamedLines.{named_lines}
 use Rattle.owners.specs.declared.owner.Owner.{Owner}
@@ -24,13 +26,24 @@ use Rattle.answering.specs.Printed.{Prints}
 use Rattle.answering.specs.Owning.{HasOwned}
 use Rattle.answering.specs.declared.refusal.CommandRefusal.{CommandRefusal}
 
--- where no order passes, the text is the lines of each task in an order that decides, or of the one that is asked about: of
--- one that misses its deadline what it needs there, with the parts; else it is nothing
-abbrev pub AreDecided : List Task → Option ℕ → Placing → List ℕ → Type 0
-AreDecided U asked (Best places) text = text ≡ []
-AreDecided U asked (Stuck left) text =
+-- a conflict of more than three tasks is told in short, unless all is asked for
+abbrev pub is_short : (all : Bool) → Explanation → Bool
+is_short all (Responses accounts) = false
+is_short all (Conflict left needs) = not all && nat_lt 3 (length needs.items)
+
+-- of which levels of an order that decides the parts are printed: of none where it is told in short; else of those whose task
+-- misses its deadline
+abbrev pub parted_of : Bool → Parted
+parted_of true = Bare
+parted_of false = Missed
+
+-- where no order passes, the text is the lines of each task in an order that decides, or of the one that is asked about; else
+-- it is nothing
+abbrev pub AreDecided : Parted → List Task → Option ℕ → Placing → List ℕ → Type 0
+AreDecided parted U asked (Best places) text = text ≡ []
+AreDecided parted U asked (Stuck left) text =
     (judged : List JudgedTask) × IsDeciding U (order_judged judged) × AllJudged U judged
-    × AreLevels Missed U asked 1 judged text
+    × AreLevels parted U asked 1 judged text
 
 -- a set, whose its tasks are, its placing, what explains the placing, and the lines of an order that decides
 pub record ExplainedData : Type 0 where
@@ -41,30 +54,46 @@ pub record ExplainedData : Type 0 where
   pub decided : List ℕ
 
 -- the answer on what a reader has: that of `desk admit`, explained
-abbrev pub AnswersExplained : Asking → Option (List ℕ) → Result ExplainedData CommandRefusal
-    → Type 0
-AnswersExplained asking known (Ok e) =
+abbrev pub AnswersExplained : (all : Bool) → Asking → Option (List ℕ)
+    → Result ExplainedData CommandRefusal → Type 0
+AnswersExplained all asking known (Ok e) =
     HasOwned asking known e.set e.owners × IsPlacingOf e.set e.placing
-    × Explains e.set e.placing e.explanation × AreDecided e.set None e.placing e.decided
-AnswersExplained asking known (Err r) = Places asking known (Err r)
+    × Explains e.set e.placing e.explanation
+    × AreDecided (parted_of (is_short all e.explanation)) e.set None e.placing e.decided
+AnswersExplained all asking known (Err r) = Places asking known (Err r)
 
--- what explains a placing, or the lines of the task that is asked about in that
-abbrev pub asked_lines : List Task → Option ℕ → Explanation → List ℕ
-asked_lines U None e = explanation_lines U e
-asked_lines U (Some task) e = task_lines U task e
+-- the line of a conflict
+abbrev pub conflict_said : List Task → Explanation → List ℕ
+conflict_said U (Responses accounts) = []
+conflict_said U (Conflict left needs) =
+    conflict_line U (listed_below (length U) (indexes_of left))
 
--- that, and the lines of an order that decides, each task with its team
-abbrev pub reasons_said : List Owner → List Task → Option ℕ → Explanation → (decided : List ℕ) → List ℕ
-reasons_said owners U asked e decided =
-    named_lines Reasons owners (asked_lines U asked e ++ decided)
+-- what explains a placing, and the lines of an order that decides; in short these first, then the conflict by its tasks
+abbrev pub whole_lines : (short : Bool) → List Task → Explanation → (decided : List ℕ) → List ℕ
+whole_lines true U e decided = decided ++ conflict_said U e ++ load_line U
+whole_lines false U e decided = explanation_lines U e ++ decided
+
+-- that, each task with its team
+abbrev pub reasons_said :
+    List Owner → List Task → (all : Bool) → Explanation → (decided : List ℕ) → List ℕ
+reasons_said owners U all e decided =
+    named_lines Reasons owners (whole_lines (is_short all e) U e decided)
 
 -- what is printed of an explained placing: its first line, and then that
-abbrev pub explained_output : ExplainedData → List ℕ
-explained_output e =
-    placing_first e.set e.placing ++ reasons_said e.owners e.set None e.explanation e.decided
+abbrev pub explained_output : (all : Bool) → ExplainedData → List ℕ
+explained_output all e =
+    placing_first e.set e.placing ++ reasons_said e.owners e.set all e.explanation e.decided
 
 -- the answer on what the reader had is printed after what the writer held, and the status is the answer's
-abbrev pub SaysExplained : OfOneSays
-SaysExplained asking known before after s =
-    Prints (AnswersExplained asking known) explained_output (λ e. placing_status e.placing)
-    before after s
+abbrev pub SaysExplained : (all : Bool) → OfOneSays
+SaysExplained all asking known before after s =
+    Prints (AnswersExplained all asking known) (explained_output all)
+    (λ e. placing_status e.placing) before after s
+
+-- WITH ALL nothing is told in short: the lines are those of the explanation with what each task of a conflict needs, and
+-- those of an order that decides, with the parts of what misses
+abbrev pub AllIsWhole : Type 0
+AllIsWhole =
+    (U : List Task) (e : Explanation) (decided : List ℕ)
+    → (whole_lines (is_short true e) U e decided ≡ explanation_lines U e ++ decided)
+    × (parted_of (is_short true e) ≡ Missed)

@@ -6,13 +6,17 @@ use Rattle.lines.specs.Words.{name_in}
 use Rattle.assignment.specs.Placings.{IsPlacingOf}
 use Rattle.assignment.specs.declared.placing.Placing.{Placing}
 use Rattle.explain.specs.Explanations.{Explains}
+use Rattle.explain.specs.TaskLines.{task_lines}
 use Rattle.explain.specs.declared.explanation.Explanation.{Explanation}
+use Rattle.judge.specs.declared.explained.Parted.TheVariants.{Missed}
 use Rattle.limit_lines.specs.Lines.{AreTaskLines, places_in}
 use Rattle.worst_lines.specs.Lines.{AreWorstLines}
+use Rattle.owners.specs.NamedLines.{named_lines}
 use Rattle.owners.specs.declared.owner.Owner.{Owner}
+use Rattle.owners.specs.declared.words.Naming.TheVariants as naming
 use Rattle.set_commands.specs.Admit.{OfOneSays, Places}
 use Rattle.answering.specs.Statuses.{placing_status}
-use Rattle.set_commands.specs.Explain.{AreDecided, SaysExplained, reasons_said}
+use Rattle.set_commands.specs.Explain.{AreDecided, SaysExplained}
 use Rattle.set_commands.specs.Limits.{SaysLimits}
 use Rattle.answering.specs.OrderParts.{placing_first}
 use Rattle.answering.specs.Printed.{Prints}
@@ -29,10 +33,10 @@ use Rattle.answering.specs.Asked.{asked_task}
 -- none, or its worst case
 abbrev pub AreLinesOf : TaskPart → List Owner → List Task → Placing → ℕ → List ℕ → Type 0
 AreLinesOf Limits owners U placing task text = AreTaskLines U (places_in placing) task text
-AreLinesOf Reasons owners U placing task text =
+AreLinesOf (Reasons all) owners U placing task text =
     (explanation : Explanation) × (decided : List ℕ) × Explains U placing explanation
-    × AreDecided U (Some task) placing decided
-    × (text ≡ reasons_said owners U (Some task) explanation decided)
+    × AreDecided Missed U (Some task) placing decided
+    × (text ≡ named_lines naming.Reasons owners (task_lines U task explanation ++ decided))
 AreLinesOf Worst owners U placing task text = AreWorstLines U placing (Some task) text
 
 -- a set, whose its tasks are, its placing, and what is said of a task
@@ -73,7 +77,7 @@ SaysTask part word asking known before after s =
 -- set's verdict is about
 abbrev pub SaysAll : TaskPart → OfOneSays
 SaysAll Limits = SaysLimits
-SaysAll Reasons = SaysExplained
+SaysAll (Reasons all) = SaysExplained all
 SaysAll Worst = SaysWorst
 
 -- that, or what is said of the task that the words ask about

@@ -1,71 +1,165 @@
 //! `desk explain`.
-ghost use Rattle.std.specs.Prelude.{◌≡◌, ◌++◌, ℕ, List, None, IfOk, string_bytes};
+ghost use Rattle.std.specs.Prelude.{◌≡◌, ◌++◌, ℕ, List, Some, None, IfOk, OnOk, false, string_bytes};
 ghost use Rattle.assignment.specs.Placings.{IsPlacingOf};
 ghost use Rattle.explain.specs.Explanations.{Explains};
-ghost use Rattle.set_commands.specs.Explain.{AreDecided, asked_lines, reasons_said};
+ghost use Rattle.explain.specs.Lines.{load_line};
+ghost use Rattle.explain.specs.TaskLines.{task_lines};
+ghost use Rattle.judge.specs.declared.explained.Parted.TheVariants.{Missed};
+ghost use Rattle.owners.specs.NamedLines.{named_lines};
+ghost use Rattle.owners.specs.declared.words.Naming.TheVariants.{Reasons};
+ghost use Rattle.set_commands.specs.Explain.{AreDecided, conflict_said, is_short, parted_of, reasons_said, whole_lines};
 ghost use Rattle.answering.specs.OrderParts.{placing_first};
 
 use answering::{OrderPart, joined, placing_text};
 use assignment::Placing;
 use ceilings::{LockTable, Tabled};
-use explain::{Explanation, explain, explanation_text, task_text};
+use explain::{Explanation, explain, explanation_text, push_conflict, push_load, task_text};
 use judge::{Parted, levels_text};
 use owners::{Naming, Owner, named_text};
 use std::alloc::{AllocError, Global};
 use task_sheet::TaskSet;
 use worst_lines::judge_deciding;
 
+// A conflict of more than three tasks, of which not all is asked for.
+fn is_short(all: bool, explanation: &Explanation) -> bool
+    ensures { result ≡ is_short all explanation.now }
+{
+    match explanation {
+        Explanation::Responses(_) => false,
+        Explanation::Conflict { needs, .. } => !all && needs.len() > 3,
+    }
+}
+
+// Of which levels the parts are then printed.
+fn parted_of(short: bool) -> Parted
+    ensures { result ≡ parted_of short }
+{
+    if short { Parted::Bare } else { Parted::Missed }
+}
+
 // The lines of an order that decides, or those of one task in it, where no order passes; else nothing.
 fn decided_text(
     alloc: Global,
     set: &Tabled<'_>,
     placing: &Placing,
+    parted: Parted,
     asked: Option<usize>,
 ) -> Result<String, AllocError>
-    ensures { IfOk result (λ text. AreDecided set.now asked placing.now (string_bytes text)) }
+    ensures { IfOk result (λ text. AreDecided parted set.now asked placing.now (string_bytes text)) }
 {
     match placing {
         Placing::Best(_) => Ok(String::new(alloc)),
         Placing::Stuck(_) => {
             let judged = judge_deciding(alloc, set)?;
-            levels_text(alloc, set, Parted::Missed, asked, &judged)
+            levels_text(alloc, set, parted, asked, &judged)
         }
     }
 }
 
-// The lines of what explains a placing, or those of the task that is asked about.
-fn asked_text(
-    alloc: Global,
-    set: &TaskSet,
-    explanation: &Explanation,
-    asked: Option<usize>,
-) -> Result<String, AllocError>
-    ensures { IfOk result (λ text. string_bytes text ≡ asked_lines set.now asked explanation.now) }
+// The line of a conflict, if there is one.
+fn push_said(text: &mut String, set: &TaskSet, explanation: &Explanation) -> Result<(), AllocError>
+    ensures { OnOk result (string_bytes text.new ≡ string_bytes text.old
+        ++ conflict_said set.now explanation.now) }
 {
-    match asked {
-        Some(task) => task_text(alloc, set, explanation, task),
-        None => explanation_text(alloc, set, explanation),
+    match explanation {
+        Explanation::Responses(_) => Ok(()),
+        Explanation::Conflict { left, .. } => push_conflict(text, set, *left),
     }
 }
 
-// These, and then those of an order that decides, each task with its team.
+// What explains a placing: the lines of an order that decides, then those of a conflict and of the load.
+fn short_text(
+    alloc: Global,
+    set: &TaskSet,
+    explanation: &Explanation,
+    decided: &str,
+) -> Result<String, AllocError>
+    ensures { IfOk result (λ text. string_bytes text
+        ≡ decided.now ++ conflict_said set.now explanation.now ++ load_line set.now) }
+{
+    let mut text = String::from_str(alloc, decided)?;
+    push_said(&mut text, set, explanation)?;
+    push_load(&mut text, set)?;
+    Ok(text)
+}
+
+// What explains it at length: the lines of an order that decides stand last.
+fn long_text(
+    alloc: Global,
+    set: &TaskSet,
+    explanation: &Explanation,
+    decided: &str,
+) -> Result<String, AllocError>
+    ensures { IfOk result (λ text. string_bytes text
+        ≡ whole_lines false set.now explanation.now decided.now) }
+{
+    let mut text = explanation_text(alloc, set, explanation)?;
+    text.push_str(decided)?;
+    Ok(text)
+}
+
+// The one or the other.
+fn whole_text(
+    alloc: Global,
+    set: &TaskSet,
+    short: bool,
+    explanation: &Explanation,
+    decided: &str,
+) -> Result<String, AllocError>
+    ensures { IfOk result (λ text. string_bytes text
+        ≡ whole_lines short set.now explanation.now decided.now) }
+{
+    if short {
+        short_text(alloc, set, explanation, decided)
+    } else {
+        long_text(alloc, set, explanation, decided)
+    }
+}
+
+// What explains a placing and its order that decides, each task with its team.
+fn all_reasons_text(
+    alloc: Global,
+    all: bool,
+    owners: &[Owner],
+    set: &TaskSet,
+    placing: &Placing,
+) -> Result<Vec<u8>, AllocError>
+    requires { IsPlacingOf set.now placing.now }
+    ensures { IfOk result (λ text. (explanation : Explanation) × (decided : List ℕ)
+        × Explains set.now placing.now explanation
+        × AreDecided (parted_of (is_short all explanation)) set.now None placing.now decided
+        × (text.items ≡ reasons_said owners.now set.now all explanation decided)) }
+{
+    let table = LockTable::new(alloc, set)?;
+    let tabled = Tabled::of(set, &table);
+    let explanation = explain(alloc, &tabled, placing)?;
+    let short = is_short(all, &explanation);
+    let decided = decided_text(alloc, &tabled, placing, parted_of(short), None)?;
+    let text = whole_text(alloc, set, short, &explanation, decided.as_str())?;
+    let named = named_text(alloc, Naming::Reasons, owners, text.as_bytes())?;
+    Ok(named)
+}
+
+// The same of the task that is asked about, with the parts of what it needs.
 pub(crate) fn reasons_text(
     alloc: Global,
     owners: &[Owner],
     set: &TaskSet,
     placing: &Placing,
-    asked: Option<usize>,
+    task: usize,
 ) -> Result<Vec<u8>, AllocError>
     requires { IsPlacingOf set.now placing.now }
     ensures { IfOk result (λ text. (explanation : Explanation) × (decided : List ℕ)
-        × Explains set.now placing.now explanation × AreDecided set.now asked placing.now decided
-        × (text.items ≡ reasons_said owners.now set.now asked explanation decided)) }
+        × Explains set.now placing.now explanation
+        × AreDecided Missed set.now (Some task) placing.now decided
+        × (text.items ≡ named_lines Reasons owners.now
+        (task_lines set.now task explanation ++ decided))) }
 {
     let table = LockTable::new(alloc, set)?;
     let tabled = Tabled::of(set, &table);
     let explanation = explain(alloc, &tabled, placing)?;
-    let decided = decided_text(alloc, &tabled, placing, asked)?;
-    let mut text = asked_text(alloc, set, &explanation, asked)?;
+    let decided = decided_text(alloc, &tabled, placing, Parted::Missed, Some(task))?;
+    let mut text = task_text(alloc, set, &explanation, task)?;
     text.push_str(decided.as_str())?;
     let named = named_text(alloc, Naming::Reasons, owners, text.as_bytes())?;
     Ok(named)
@@ -74,17 +168,19 @@ pub(crate) fn reasons_text(
 // The first line of a placing, and then the lines of what explains it.
 pub(crate) fn explained_text(
     alloc: Global,
+    all: bool,
     owners: &[Owner],
     set: &TaskSet,
     placing: &Placing,
 ) -> Result<Vec<u8>, AllocError>
     requires { IsPlacingOf set.now placing.now }
     ensures { IfOk result (λ text. (explanation : Explanation) × (decided : List ℕ)
-        × Explains set.now placing.now explanation × AreDecided set.now None placing.now decided
+        × Explains set.now placing.now explanation
+        × AreDecided (parted_of (is_short all explanation)) set.now None placing.now decided
         × (text.items ≡ placing_first set.now placing.now
-        ++ reasons_said owners.now set.now None explanation decided)) }
+        ++ reasons_said owners.now set.now all explanation decided)) }
 {
-    let lines = reasons_text(alloc, owners, set, placing, None)?;
+    let lines = all_reasons_text(alloc, all, owners, set, placing)?;
     let first = placing_text(alloc, OrderPart::Count, set, placing)?;
     let text = joined(alloc, first.as_bytes(), &lines)?;
     Ok(text)

@@ -4,6 +4,7 @@
 mod admit;
 mod certify;
 mod explain_lines;
+pub mod laws;
 mod limits_lines;
 mod one_task;
 mod releases;

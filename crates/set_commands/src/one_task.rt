@@ -27,8 +27,8 @@ pub enum TaskPart {
     /// How far its numbers may go.
     Limits,
     /// What its response is made of; or why it may not stand below the others of a conflict, and what becomes of it in an
-    /// order that decides.
-    Reasons,
+    /// order that decides. Of all tasks a conflict of more than three is told in short, unless all is asked for.
+    Reasons { all: bool },
     /// Its worst case.
     Worst,
 }
@@ -85,7 +85,7 @@ fn part_text(
 {
     match part {
         TaskPart::Limits => limits_text(alloc, set, placing, task),
-        TaskPart::Reasons => reasons_text(alloc, owners, set, placing, Some(task)),
+        TaskPart::Reasons { .. } => reasons_text(alloc, owners, set, placing, task),
         TaskPart::Worst => case_text(alloc, set, placing, task),
     }
 }
@@ -101,7 +101,7 @@ fn first_text(
     ensures { IfOk result (λ text. string_bytes text ≡ first_said part set.now placing.now) }
 {
     match part {
-        TaskPart::Limits | TaskPart::Reasons => {
+        TaskPart::Limits | TaskPart::Reasons { .. } => {
             placing_text(alloc, OrderPart::Count, set, placing)
         }
         TaskPart::Worst => Ok(String::new(alloc)),
@@ -171,9 +171,11 @@ fn say_all<W: Write + Drop>(
     let status = placing_status(placing);
     match part {
         TaskPart::Limits => print_placing(alloc, owners, set, placing, output),
-        TaskPart::Reasons => {
-            print_bytes(explained_text(alloc, owners, set, placing), status, output)
-        }
+        TaskPart::Reasons { all } => print_bytes(
+            explained_text(alloc, all, owners, set, placing),
+            status,
+            output,
+        ),
         TaskPart::Worst => print_made(worst_text(alloc, set, placing, None), status, output),
     }
 }

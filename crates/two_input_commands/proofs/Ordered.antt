@@ -1,9 +1,10 @@
 -- Runs in an order that a release list gives.
 use Rattle.std.specs.Prelude.{IfOk}
 use Rattle.std.proofs.Common.{◌≡◌, ◌∙◌, ◌<◌, ℕ, false, List, [], ◌∷◌, length, Result, Ok, Err, inr}
-use Rattle.std.proofs.Common.{refl, sym, ap, ap₂, subst, arith}
+use Rattle.std.proofs.Common.{refl, sym, ap, subst, arith}
 use Rattle.task_sheet.proofs.Common.{Task, IsTaskSet, among, IsOrder}
 use Rattle.ceiling_kernel.proofs.Common.{Runs, node_in}
+use Rattle.ceiling_kernel.specs.Runs.{MeetsTighterBounds}
 use Rattle.ceiling_kernel.specs.declared.trace.Release.{Release}
 use Rattle.ceiling_kernel.specs.declared.trace.Trace.{Trace}
 use Rattle.judge.specs.Faults.{IsSettingsFault, rows_fault}
@@ -15,7 +16,7 @@ use Rattle.judge.specs.declared.judging.Judgement.TheVariants.{Meets, Misses, Be
 use Rattle.judge.specs.declared.rows.SettingRow.{SettingRow}
 use Rattle.run_lines.specs.TaskBounds.{AreBounds, IsBoundBelow, tasks_of_bounds}
 use Rattle.run_lines.proofs.ResponseLaws.{all_kept}
-use Rattle.two_input_commands.specs.Simulate.{IsInOrder, IsListedOrder, IsOrderedRun, RunsOrder}
+use Rattle.two_input_commands.specs.Simulate.{IsInOrder, IsListedOrder, IsOrderedRun}
 use Rattle.two_input_commands.specs.Simulate.{SimulatesIn, SimulatesRead, bound_judged}
 use Rattle.two_input_commands.specs.Simulate.{bounds_judged, order_fault}
 use Rattle.answering.specs.declared.refusal.CommandRefusal.{CommandRefusal}
@@ -47,15 +48,16 @@ are_bounds U (j ∷ above) all = (
 pub ordered_run : (U : List Task) (judged : List JudgedTask) (order : List ℕ) (rs : List Release)
     (until : ℕ) (trace : Trace) → IsTaskSet U → IsOrder U order → order_judged judged ≡ order
     → AllJudged U judged
-    → RunsOrder U order rs until (Ok trace) → IsOrderedRun U judged rs until trace
-ordered_run U judged order rs until trace set each same all runs =
+    → Runs (node_in U order) rs until (Ok trace)
+    → MeetsTighterBounds (node_in U order) rs until trace → IsOrderedRun U judged rs until trace
+ordered_run U judged order rs until trace set each same all runs tight =
     let bounds : tasks_of_bounds (bounds_judged judged) ≡ order = tasks_same judged ∙ same in
     record {
-      ran = subst (λ (o : List ℕ). Runs (node_in U o) rs until (Ok trace)) (sym same) runs.0;
+      ran = subst (λ (o : List ℕ). Runs (node_in U o) rs until (Ok trace)) (sym same) runs;
       kept = all_kept U (bounds_judged judged) rs until trace set
           (subst (λ (o : List ℕ). IsOrder U o) (sym bounds) each) (are_bounds U judged all)
-          (subst (λ (o : List ℕ). Runs (node_in U o) rs until (Ok trace)) (sym bounds) runs.0);
-      tighter = (subst (λ (o : List ℕ). RunsOrder U o rs until (Ok trace)) (sym same) runs).1;
+          (subst (λ (o : List ℕ). Runs (node_in U o) rs until (Ok trace)) (sym bounds) runs);
+      tighter = subst (λ (o : List ℕ). MeetsTighterBounds (node_in U o) rs until trace) (sym same) tight;
     }
 
 -- ---- the order that settings give
@@ -79,8 +81,8 @@ in_order U order rows until rs (Ok (Ordered run)) some gives said = (
   subst (λ (o : List ℕ). IsListedOrder U (Ok rows) o) (sym said.0)
       (listed U rows order some gives),
   said.1,
-  ap₂ (λ (n : ℕ) (releases : List Release). Ok (n, releases)) (sym said.2) (sym said.3),
-  said.4,
+  (until, rs, refl, said.2),
+  said.3,
 )
 in_order U order rows until rs (Err (refusal.Run fault)) some gives said =
     inr (order, until, rs, listed U rows order some gives, refl, said)

@@ -11,6 +11,8 @@ use Rattle.ceiling_kernel.specs.Runs.{IsNoOverrun, MeetsTighterBounds, Runs}
 use Rattle.ceiling_kernel.specs.declared.trace.Release.{Release}
 use Rattle.ceiling_kernel.specs.declared.trace.RunFault.{RunFault}
 use Rattle.ceiling_kernel.specs.declared.trace.Trace.{Trace}
+use Rattle.cut_runs.specs.Cut.{IsShownOf, IsTight, RunsCut}
+use Rattle.cut_runs.specs.declared.cut.CutRun.{CutRun}
 use Rattle.lines.specs.Lines.{kept_lines, lines_of}
 use Rattle.release_list.specs.Reading.{IsTextFault, list_from}
 use Rattle.judge.specs.Faults.{IsRowsFault, IsSettingsFault, rows_fault}
@@ -31,6 +33,7 @@ use Rattle.answering.specs.Lines.{infeasible_line}
 use Rattle.two_input_commands.specs.OnBoth.{OfTwoSays, SaysOnBoth}
 use Rattle.answering.specs.declared.refusal.CommandRefusal.{CommandRefusal}
 use Rattle.answering.specs.declared.refusal.CommandRefusal.TheVariants as refusal
+use Rattle.two_input_commands.specs.declared.simulate.OrderedRun.{OrderedRun}
 use Rattle.two_input_commands.specs.declared.simulate.Simulated.{Simulated}
 use Rattle.two_input_commands.specs.declared.simulate.Simulated.TheVariants.{Infeasible, Ordered, Ran}
 use Rattle.answering.specs.declared.status.Status.{Status}
@@ -51,6 +54,15 @@ RunsOrder U order rs until (Err (refusal.Run fault)) =
     Runs (node_in U order) rs until (Err fault) × (IsPassingOrder U order → IsNoOverrun fault)
 RunsOrder U order rs until (Err refusal.OutOfMemory) = Unit {0}
 RunsOrder U order rs until _ = ⊥
+
+-- the same of a run that may be cut: up to the first overrun, so that it is refused for none
+abbrev pub RunsOrderCut : List Task → List ℕ → List Release → ℕ → Result CutRun CommandRefusal → Type 0
+RunsOrderCut U order rs until (Ok run) =
+    RunsCut (node_in U order) rs until (Ok run) × IsTight (node_in U order) run
+RunsOrderCut U order rs until (Err (refusal.Run fault)) =
+    RunsCut (node_in U order) rs until (Err fault)
+RunsOrderCut U order rs until (Err refusal.OutOfMemory) = Unit {0}
+RunsOrderCut U order rs until _ = ⊥
 
 -- what happens in a run of an order, and what its responses promise of it: each job whose bound lies in the run is done by
 -- then, and a tick of the section that blocks it sooner; and none is done later
@@ -89,6 +101,11 @@ pub record IsOrderedRun (U : List Task) (judged : List JudgedTask) (rs : List Re
   pub kept : AllKeptWithin U (bounds_judged judged) rs until trace
   pub tighter : MeetsTighterBounds (node_in U (order_judged judged)) rs until trace
 
+-- of a list an order's run shows all, or what comes before the first overrun
+abbrev pub IsListShown : List Task → List ℕ → ℕ → List Release → OrderedRun → Type 0
+IsListShown U order until rs run =
+    IsShownOf (node_in U order) rs until run.overrun run.releases.items run.until
+
 -- ---- the answer
 -- what comes of a set, of settings and of a list: a run in the order that they give, or else in the set's best order, or
 -- that there is no such order
@@ -103,17 +120,18 @@ IsSimulated U settings list (Infeasible left) =
     × ((until : ℕ) × (rs : List Release) × (list ≡ Ok (until, rs)))
 IsSimulated U settings list (Ordered run) =
     IsListedOrder U settings (order_judged run.judged.items) × AllJudged U run.judged.items
-    × (list ≡ Ok (run.until, run.releases.items))
+    × ((until : ℕ) × (rs : List Release) × (list ≡ Ok (until, rs))
+    × IsListShown U (order_judged run.judged.items) until rs run)
     × IsOrderedRun U run.judged.items run.releases.items run.until run.trace
 
 -- the answer on a set and a list in an order of the set
 abbrev pub SimulatesIn : List Task → List ℕ → ℕ → List Release → Result Simulated CommandRefusal → Type 0
 SimulatesIn U order until rs (Ok (Ordered run)) =
     (order_judged run.judged.items ≡ order) × AllJudged U run.judged.items
-    × (run.until ≡ until) × (run.releases.items ≡ rs)
+    × IsListShown U (order_judged run.judged.items) until rs run
     × IsOrderedRun U run.judged.items run.releases.items run.until run.trace
 SimulatesIn U order until rs (Ok _) = ⊥
-SimulatesIn U order until rs (Err r) = RunsOrder U order rs until (Err r)
+SimulatesIn U order until rs (Err r) = RunsOrderCut U order rs until (Err r)
 
 -- why a list isn't run in a set's best order, in which no job overruns the one before it
 abbrev pub IsStopped : List Task → Result (List SettingRow) ℕ → Result (ℕ × List Release) ℕ
@@ -124,12 +142,12 @@ IsStopped U settings list fault =
     × (list ≡ Ok (until, rs)) × Runs (node_in U (tasks_of_places places)) rs until
     (Err fault) × IsNoOverrun fault)
 
--- why one isn't run in an order that settings give, in which a job may, unless the order passes
+-- why one isn't run in an order that settings give: no job of what is run of it does
 abbrev pub IsStoppedInOrder : List Task → Result (List SettingRow) ℕ → Result (ℕ × List Release) ℕ
     → RunFault → Type 0
 IsStoppedInOrder U settings list fault =
     (order : List ℕ) × (until : ℕ) × (rs : List Release) × IsListedOrder U settings order
-    × (list ≡ Ok (until, rs)) × RunsOrder U order rs until (Err (refusal.Run fault))
+    × (list ≡ Ok (until, rs)) × RunsOrderCut U order rs until (Err (refusal.Run fault))
 
 -- the answer on a set, on settings and on a list: the lines of both come first, and then the order
 abbrev pub SimulatesRead : List Task → Result (List SettingRow) ℕ → Result (ℕ × List Release) ℕ

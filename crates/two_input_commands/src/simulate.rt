@@ -2,18 +2,20 @@
 ghost use Rattle.std.specs.Prelude.{◌≡◌, ◌<◌, length, Ok, [], IfOk, string_bytes};
 ghost use Rattle.task_sheet.specs.Orders.{IsBest, IsOrder};
 ghost use Rattle.assignment.specs.Placings.{tasks_of_places};
+ghost use Rattle.ceiling_kernel.specs.Tick.{node_in};
 ghost use Rattle.release_list.specs.Reading.{list_at};
 ghost use Rattle.judge.specs.Judgements.{order_judged};
 ghost use Rattle.run_lines.specs.Lines.{task_lines};
 ghost use Rattle.run_lines.specs.TaskBounds.{bounds_of, tasks_of_bounds};
 ghost use Rattle.answering.specs.Outcomes.{IsSaidOn};
 ghost use Rattle.answering.specs.Printed.{IsPrinted};
-ghost use Rattle.two_input_commands.specs.Simulate.{IsInOrder, RunsOrder, SimulatesIn, SimulatesRead, SimulatesText, bound_judged, bounds_judged, reached_said, simulation_said, simulation_status};
+ghost use Rattle.two_input_commands.specs.Simulate.{IsInOrder, RunsOrder, RunsOrderCut, SimulatesIn, SimulatesRead, SimulatesText, bound_judged, bounds_judged, reached_said, simulation_said, simulation_status};
 
 use answering::{CommandRefusal, Status, print_made, print_stuck};
 use assignment::{Place, Placing, place_all, tasks_of_places};
 use ceiling_kernel::{Kernel, KernelFault, Release, Trace};
 use ceilings::{LockTable, Tabled};
+use cut_runs::{CutRun, run_cut};
 use judge::{Front, JudgedTask, Judgement, SettingRow, judge_order, order_of_rows, read_front};
 use lines::TextPlace;
 use printed_runs::trace_text;
@@ -22,7 +24,7 @@ use run_lines::{TaskBound, bounds_of, tasks_text};
 use std::alloc::{AllocError, Global};
 use std::io::Write;
 use streams::Watched;
-use task_sheet::{Members, TaskSet};
+use task_sheet::{Members, Name, TaskSet};
 
 /// A run of a set's tasks at the levels of their best order.
 #[derive(Drop)]
@@ -36,11 +38,13 @@ pub struct Run {
     pub trace: Trace,
 }
 
-/// A run of a set's tasks in the order that a release list gives.
+/// A run of a set's tasks in the order that a release list gives, up to its end or to the first overrun.
 #[derive(Drop)]
 pub struct OrderedRun {
     /// The lowest level first, each with what becomes of it there.
     pub judged: Vec<JudgedTask>,
+    /// The task whose job becomes ready at the end, while the one before it isn't finished, if there is one.
+    pub overrun: Option<Name>,
     /// In microseconds.
     pub until: u64,
     pub releases: Vec<Release>,
@@ -58,6 +62,18 @@ pub enum Simulated {
     Ordered(OrderedRun),
 }
 
+// The kernel of a set's tasks at the levels of an order.
+fn kernel_of<'a>(alloc: Global, set: &'a TaskSet, order: &[usize]) -> Result<Kernel<'a>, AllocError>
+    requires { IsOrder set.now order.now }
+    ensures { IfOk result (λ kernel. kernel ≡ node_in set.now order.now) }
+{
+    match Kernel::new(alloc, set, order) {
+        Ok(kernel) => Ok(kernel),
+        Err(KernelFault::OutOfMemory) => Err(AllocError),
+        Err(KernelFault::WrongOrder) => unreachable!(),
+    }
+}
+
 // Runs the tasks at the levels of an order.
 fn run_order(
     alloc: Global,
@@ -69,13 +85,27 @@ fn run_order(
     requires { IsOrder set.now order.now }
     ensures { RunsOrder set.now order.now releases.now until result }
 {
-    let kernel = match Kernel::new(alloc, set, order) {
-        Ok(kernel) => kernel,
-        Err(KernelFault::OutOfMemory) => return Err(CommandRefusal::OutOfMemory),
-        Err(KernelFault::WrongOrder) => unreachable!(),
-    };
+    let kernel = kernel_of(alloc, set, order)?;
     match kernel.run(alloc, releases, until) {
         Ok(trace) => Ok(trace),
+        Err(fault) => Err(CommandRefusal::Run(fault)),
+    }
+}
+
+// The same up to the first overrun.
+fn run_order_cut(
+    alloc: Global,
+    set: &TaskSet,
+    order: &[usize],
+    until: u64,
+    releases: Vec<Release>,
+) -> Result<CutRun, CommandRefusal>
+    requires { IsOrder set.now order.now }
+    ensures { RunsOrderCut set.now order.now releases.items until result }
+{
+    let kernel = kernel_of(alloc, set, order)?;
+    match run_cut(alloc, &kernel, releases, until) {
+        Ok(cut) => Ok(cut),
         Err(fault) => Err(CommandRefusal::Run(fault)),
     }
 }
@@ -121,7 +151,7 @@ fn simulate_best(
     }
 }
 
-// What a set and a release list come to in an order of the set.
+// What a set and a release list come to in an order of the set, up to the first overrun.
 fn simulate_in(
     alloc: Global,
     set: &Tabled<'_>,
@@ -135,12 +165,13 @@ fn simulate_in(
     // The set is valid: the proof has it from its sheets.
     let _ = set.sheets();
     let judged = judge_order(alloc, set, order)?;
-    let trace = run_order(alloc, set.tasks(), order, until, &releases)?;
+    let cut = run_order_cut(alloc, set.tasks(), order, until, releases)?;
     Ok(Simulated::Ordered(OrderedRun {
         judged,
-        until,
-        releases,
-        trace,
+        overrun: cut.overrun,
+        until: cut.until,
+        releases: cut.releases,
+        trace: cut.trace,
     }))
 }
 

@@ -7,8 +7,11 @@ use Rattle.lines.specs.Naming.{name_at}
 use Rattle.assignment.specs.declared.placing.Placing.{Placing}
 use Rattle.assignment.specs.declared.placing.Placing.TheVariants.{Best, Stuck}
 use Rattle.ceiling_kernel.specs.Releases.{release_at}
+use Rattle.ceiling_kernel.specs.Tick.{node_in}
 use Rattle.judge.specs.Judgements.{AllJudged, order_judged}
 use Rattle.judge.specs.declared.judging.JudgedTask.{JudgedTask}
+use Rattle.miss.specs.Shown.{IsCaseOf}
+use Rattle.miss.specs.declared.worst.Run.{Run}
 use Rattle.miss.specs.declared.reaching.Reached.{Reached}
 use Rattle.miss.specs.declared.reaching.Reached.TheVariants as reached
 use Rattle.miss.specs.declared.reaching.WorstRun.{WorstRun}
@@ -51,32 +54,46 @@ front_of U (Stuck left) order = settings_from U 1 order
 abbrev pub comment : List Task → ℕ → List ℕ → List ℕ
 comment U task words = codes "# " ++ name_at U task ++ codes " " ++ words ++ codes "\n"
 
--- what is printed of how the worst case of a task went
-abbrev pub reached_lines : List Task → List ℕ → JudgedTask → ℕ → Reached → List ℕ
-reached_lines U front j bound (reached.Ran run) =
+-- the list of a worst case; of one that is too long that of no releases
+abbrev pub case_lines : Option Run → List ℕ
+case_lines (Some run) = list_lines run.until run.releases.items
+case_lines None = list_lines 0 []
+
+-- what is printed of how the worst case of a task went; where it wasn't run to its end, why, and its list all the same
+abbrev pub reached_lines : List Task → (front listed : List ℕ) → JudgedTask → ℕ → Reached → List ℕ
+reached_lines U front listed j bound (reached.Ran run) =
     comment U j.task (comes_words bound run) ++ front ++ list_lines run.until run.releases.items
-reached_lines U front j bound reached.TooMany = comment U j.task (codes "too-many-releases")
-reached_lines U front j bound reached.Stopped = comment U j.task (codes "below-a-miss")
+reached_lines U front listed j bound reached.TooMany =
+    comment U j.task (codes "too-many-releases") ++ front ++ listed
+reached_lines U front listed j bound reached.Stopped =
+    comment U j.task (codes "below-a-miss") ++ front ++ listed
 
 -- what is printed of a task that may not stand in its place; a task that stands isn't such a one
-abbrev pub shown_lines : List Task → List ℕ → JudgedTask → Shown → List ℕ
-shown_lines U front j (shown.Misses m) =
+abbrev pub shown_lines : List Task → (front listed : List ℕ) → JudgedTask → Shown → List ℕ
+shown_lines U front listed j (shown.Misses m) =
     comment U j.task (codes "misses " ++ decimal (task_at U j.task).deadline) ++ front
     ++ list_lines m.until m.releases.items
-shown_lines U front j (shown.NoRun reason) = comment U j.task (reason_words U reason)
-shown_lines U front j shown.Stands = []
+shown_lines U front listed j (shown.NoRun reason) =
+    comment U j.task (reason_words U reason) ++ front ++ listed
+shown_lines U front listed j shown.Stands = []
 
 -- what is printed of a worst case
-abbrev pub worst_lines : List Task → List ℕ → JudgedTask → Worst → List ℕ
-worst_lines U front j (Comes bound reached) = reached_lines U front j bound reached
-worst_lines U front j (Fails shown) = shown_lines U front j shown
+abbrev pub worst_lines : List Task → (front listed : List ℕ) → JudgedTask → Worst → List ℕ
+worst_lines U front listed j (Comes bound reached) = reached_lines U front listed j bound reached
+worst_lines U front listed j (Fails shown) = shown_lines U front listed j shown
+
+-- the text is what is printed of a task of an order, with this in front of the list
+abbrev pub IsSaidOf : List Task → (front order : List ℕ) → JudgedTask → List ℕ → Type 0
+IsSaidOf U front order j text =
+    (worst : Worst) × (case : Option Run) × IsWorstOf U order j worst
+    × IsCaseOf (node_in U order) j.task case
+    × (text ≡ worst_lines U front (case_lines case) j worst)
 
 -- a text is what is printed of the worst case of a task that was chosen, with this in front of the list; of a set without
 -- tasks the list of no releases
 abbrev pub AreLinesOf : List Task → (front order : List ℕ) → Option JudgedTask → List ℕ → Type 0
 AreLinesOf U front order None text = text ≡ list_lines 0 []
-AreLinesOf U front order (Some j) text =
-    (worst : Worst) × IsWorstOf U order j worst × (text ≡ worst_lines U front j worst)
+AreLinesOf U front order (Some j) text = IsSaidOf U front order j text
 
 -- the same of the one that is asked about, in the order in which a set is looked at
 pub record AreWorstLines (U : List Task) (placing : Placing) (asked : Option ℕ) (text : List ℕ)

@@ -11,7 +11,7 @@ ghost use Rattle.settings.specs.Settings.{settings_from};
 ghost use Rattle.explain.specs.Conflict.{IsLeastConflict};
 ghost use Rattle.judge.specs.Judgements.{order_judged};
 ghost use Rattle.worst_lines.specs.Worst.{IsLookedAtIn, IsOrderFor};
-ghost use Rattle.worst_lines.specs.Lines.{AreLinesOf, AreWorstLines, AreWorstLinesIn, comes_words, comment, front_of, reached_lines, reason_words, response_words, shown_lines, worst_lines};
+ghost use Rattle.worst_lines.specs.Lines.{AreLinesOf, AreWorstLines, AreWorstLinesIn, IsSaidOf, case_lines, comes_words, comment, front_of, reached_lines, reason_words, response_words, shown_lines, worst_lines};
 
 use crate::asked::{chosen, chosen_in};
 use crate::below::order_below;
@@ -23,7 +23,7 @@ use ceilings::{LockTable, Tabled};
 use explain::least_conflict;
 use judge::{JudgedTask, judge_order};
 use lines::push_name;
-use miss::{NoRun, Reached, Shown, WorstRun};
+use miss::{NoRun, Reached, Run, Shown, WorstRun, case_of};
 use release_list::list_text;
 use settings::settings_text;
 use std::alloc::{AllocError, Global};
@@ -122,17 +122,46 @@ fn commented_list(
     Ok(text)
 }
 
+// The list of a worst case; of one that is too long that of no releases.
+fn case_text(alloc: Global, case: &Option<Run>) -> Result<String, AllocError>
+    ensures { IfOk result (λ text. string_bytes text ≡ case_lines case.now) }
+{
+    match case {
+        Some(run) => list_text(alloc, run.until, &run.releases),
+        None => list_text(alloc, 0, &[]),
+    }
+}
+
+// A line of comment that says why the worst case of a task shows neither, and behind what stands in front of it the list.
+fn reasoned_list(
+    alloc: Global,
+    set: &TaskSet,
+    task: usize,
+    words: &str,
+    front: &str,
+    listed: &str,
+) -> Result<String, AllocError>
+    ensures { IfOk result (λ text. string_bytes text
+        ≡ comment set.now task words.now ++ front.now ++ listed.now) }
+{
+    let mut text = comment_text(alloc, set, task, words)?;
+    text.push_str(front)?;
+    text.push_str(listed)?;
+    Ok(text)
+}
+
 // What is printed of how the worst case of a task went.
 fn reached_text(
     alloc: Global,
     set: &TaskSet,
     front: &str,
+    listed: &str,
     entry: JudgedTask,
     bound: u64,
     reached: &Reached,
 ) -> Result<String, AllocError>
     ensures { IfOk result (λ text. string_bytes text
-        ≡ reached_lines set.now front.now entry bound reached.now) }
+        ≡ reached_lines set.now front.now listed.now entry bound reached.now) }
 {
     match reached {
         Reached::Ran(run) => {
@@ -148,8 +177,10 @@ fn reached_text(
                 &run.releases,
             )
         }
-        Reached::TooMany => comment_text(alloc, set, entry.task, "too-many-releases"),
-        Reached::Stopped => comment_text(alloc, set, entry.task, "below-a-miss"),
+        Reached::TooMany => {
+            reasoned_list(alloc, set, entry.task, "too-many-releases", front, listed)
+        }
+        Reached::Stopped => reasoned_list(alloc, set, entry.task, "below-a-miss", front, listed),
     }
 }
 
@@ -168,12 +199,13 @@ fn shown_text(
     alloc: Global,
     set: &TaskSet,
     front: &str,
+    listed: &str,
     entry: JudgedTask,
     shown: &Shown,
 ) -> Result<String, AllocError>
     requires { entry.task < length set.now }
     ensures { IfOk result (λ text. string_bytes text
-        ≡ shown_lines set.now front.now entry shown.now) }
+        ≡ shown_lines set.now front.now listed.now entry shown.now) }
 {
     match shown {
         Shown::Misses(miss) => {
@@ -191,7 +223,7 @@ fn shown_text(
         }
         Shown::NoRun(reason) => {
             let words = reason_text(alloc, set, *reason)?;
-            comment_text(alloc, set, entry.task, words.as_str())
+            reasoned_list(alloc, set, entry.task, words.as_str(), front, listed)
         }
         Shown::Stands => Ok(String::new(alloc)),
     }
@@ -202,18 +234,19 @@ fn lines_text(
     alloc: Global,
     set: &TaskSet,
     front: &str,
+    listed: &str,
     entry: JudgedTask,
     worst: &Worst,
 ) -> Result<String, AllocError>
     requires { entry.task < length set.now }
     ensures { IfOk result (λ text. string_bytes text
-        ≡ worst_lines set.now front.now entry worst.now) }
+        ≡ worst_lines set.now front.now listed.now entry worst.now) }
 {
     match worst {
         Worst::Comes { bound, reached } => {
-            reached_text(alloc, set, front, entry, *bound, reached)
+            reached_text(alloc, set, front, listed, entry, *bound, reached)
         }
-        Worst::Fails(shown) => shown_text(alloc, set, front, entry, shown),
+        Worst::Fails(shown) => shown_text(alloc, set, front, listed, entry, shown),
     }
 }
 
@@ -299,6 +332,24 @@ fn order_of(
     }
 }
 
+// What is printed of a task of an order.
+fn entry_text(
+    alloc: Global,
+    set: &TaskSet,
+    front: &str,
+    order: &[usize],
+    entry: JudgedTask,
+) -> Result<String, AllocError>
+    requires order { IsOrder set.now order.now }
+    requires task { entry.task < length set.now }
+    ensures { IfOk result (λ text. IsSaidOf set.now front.now order.now entry (string_bytes text)) }
+{
+    let worst = worst_of(alloc, set, order, entry)?;
+    let case = case_of(alloc, set, order, entry.task)?;
+    let listed = case_text(alloc, &case)?;
+    lines_text(alloc, set, front, listed.as_str(), entry, &worst)
+}
+
 // What is printed of the task of an order that was chosen.
 fn chosen_text(
     alloc: Global,
@@ -313,10 +364,7 @@ fn chosen_text(
         (string_bytes text)) }
 {
     match chosen {
-        Some(entry) => {
-            let worst = worst_of(alloc, set, order, entry)?;
-            lines_text(alloc, set, front, entry, &worst)
-        }
+        Some(entry) => entry_text(alloc, set, front, order, entry),
         None => list_text(alloc, 0, &[]),
     }
 }

@@ -1,0 +1,14 @@
+pub mod Walks
+pub mod TickLaws
+pub mod BelowLaws
+pub mod CalmLaws
+pub mod AboveLaws
+pub mod HandoverLaws
+pub mod OrderLaws
+pub mod AgeLaws
+pub mod NewestLaws
+pub mod ReactionLaws
+pub mod BackLaws
+pub mod GreatestLaws
+pub mod CountLaws
+pub mod PartLaws

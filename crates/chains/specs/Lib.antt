@@ -1,0 +1,9 @@
+pub mod Starts
+pub mod Handovers
+pub mod Orders
+pub mod Paths
+pub mod Gaps
+pub mod Bounds
+pub mod Ages
+pub mod Reactions
+pub mod Parts

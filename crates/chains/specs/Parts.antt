@@ -1,0 +1,62 @@
+-- The parts of a chain's bound in an order whose levels have responses.
+use Rattle.std.specs.Prelude.{◌≡◌, ℕ, ◌-◌, ◌==◌, nat_lt, Bool, is_some, unwrap_or, List, [], ◌∷◌, map, sum_by, Option, Some, None, if◌then◌else◌}
+use Rattle.std.specs.List.{list_all}
+use Rattle.task_sheet.specs.Sheet.{Task, task_at}
+use Rattle.ceiling_kernel.specs.Tick.{Node, level_in_order, node_in}
+use Rattle.ceiling_kernel.specs.Waits.{lateness_of}
+use Rattle.chains.specs.Gaps.{gap_of}
+use Rattle.chains.specs.Bounds.{bound_of}
+use Rattle.chains.specs.declared.bounds.Level.{Level}
+use Rattle.chains.specs.declared.bounds.BoundPart.{BoundPart}
+use Rattle.chains.specs.declared.bounds.PartKind.TheVariants.{Wait, Jitter, Handover, Response}
+
+-- ---- levels
+-- the order of levels, the lowest first
+abbrev pub order_of : List Level → List ℕ
+order_of levels = map (λ l. l.task) levels
+
+-- the response of a task, where it has one
+abbrev pub response_in : List Level → ℕ → Option ℕ
+response_in [] i = None
+response_in (l ∷ levels) i = if l.task == i then l.response else response_in levels i
+
+abbrev pub has_response : List Level → ℕ → Bool
+has_response levels i = is_some (response_in levels i)
+
+abbrev pub time_in : List Level → ℕ → ℕ
+time_in levels i = unwrap_or (response_in levels i) 0
+
+-- ---- parts
+-- the wait for a task's next job
+abbrev pub wait_of : List Task → ℕ → BoundPart
+wait_of U i = record { kind = Wait; task = i; time = gap_of (task_at U i) }
+
+-- the handover from a task, of this response, to the next: its jitter, or its response less the next one's cost
+abbrev pub handed_of : Node → (i c r : ℕ) → BoundPart
+handed_of node i c r =
+    if nat_lt (level_in_order node c) (level_in_order node i)
+    then record { kind = Jitter; task = i; time = lateness_of (task_at node.tasks i) }
+    else record { kind = Handover c; task = i; time = r - (task_at node.tasks c).cost }
+
+-- the part of a task behind its wait: the handover to the first of the others, or its response
+abbrev pub after_of : Node → (response : ℕ → ℕ) → ℕ → List ℕ → BoundPart
+after_of node response i [] = record { kind = Response; task = i; time = response i }
+after_of node response i (c ∷ others) = handed_of node i c (response i)
+
+-- the parts of a chain's bound
+abbrev pub parts_of : Node → (response : ℕ → ℕ) → List ℕ → List BoundPart
+parts_of node response [] = []
+parts_of node response (i ∷ others) =
+    wait_of node.tasks i ∷ after_of node response i others ∷ parts_of node response others
+
+-- the bound of a chain in an order whose levels have responses: what its parts come to, where each of its tasks has one
+abbrev pub bound_in : List Task → List Level → List ℕ → Option ℕ
+bound_in U levels tasks =
+    if list_all (has_response levels) tasks
+    then Some (sum_by (λ p. p.time) (parts_of (node_in U (order_of levels)) (time_in levels) tasks))
+    else None
+
+-- the parts come to the bound
+abbrev pub PartsComeTo : Node → (response : ℕ → ℕ) → (first : ℕ) → (others : List ℕ) → Type 0
+PartsComeTo node response first others =
+    sum_by (λ p. p.time) (parts_of node response (first ∷ others)) ≡ bound_of node response first others
