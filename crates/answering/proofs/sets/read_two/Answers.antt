@@ -1,4 +1,4 @@
-use Rattle.std.proofs.Common.{ℕ, List, Option, Result, MatchResult, rules, subst}
+use Rattle.std.proofs.Common.{ℕ, List, Result, MatchResult, rules, subst}
 use Rattle.streams.specs.Inputs.{IsReadFrom}
 use Rattle.preferences.specs.declared.asking.Asking.{Asking}
 use Rattle.answering.specs.Owning.{IsTakenBy, SaysOwned}
