@@ -283,6 +283,25 @@ padded as the node's table would be: so a timer is at most all of it.
   0
   [1]
 
+Those of the node's document come first, as its own:
+
+  $ mkdir three
+  $ printf '[team.one]\nnode = true\n[team.two]\nnode = true\n' > three/node.toml
+  $ interrupt() { printf '[[interrupt]]\nperiod = 10000\ncost = %d\n' $1; }
+  $ { interrupt 100; interrupt 400; } >> three/node.toml
+  $ task='[[task]]\nname = "%s"\nperiod = 10000\ndeadline = 10000\ncost = %d\n'
+  $ { interrupt 200; printf "$task" x 1000; } > three/one.toml
+  $ { interrupt 300; printf "$task" y 2000; } > three/two.toml
+  $ desk limits three 2> notes | grep interrupt
+  node interrupt 1 cost 100 6100 6100
+  node interrupt 1 period 10000 164 164
+  node interrupt 2 cost 400 6400 6400
+  node interrupt 2 period 10000 625 625
+  one interrupt 1 cost 200 6200 6200
+  one interrupt 1 period 10000 323 323
+  two interrupt 1 cost 300 6300 6300
+  two interrupt 1 period 10000 477 477
+
 One that takes nine tenths of all time is the one change that mends the set; one that takes all of it, where x fills the rest:
 
   $ sed -i 's/cost = 100 }/cost = 900 }/' both/one.toml

@@ -156,7 +156,7 @@ processor, and a nine-millionth more, of an interrupt or a task, is more than th
   1 pan 1000
 
   $ mkdir exact
-  $ budget() { printf '[team.cam]\nload = %s\n' $1 > exact/node.toml; }
+  $ budget() { printf '[team.cam]\nnode = true\nload = %s\n' $1 > exact/node.toml; }
   $ thirds() { for name in p q r; do task $name 3000 1000; done; }
   $ tick() { printf '[[interrupt]]\nperiod = %s\ncost = %s\n' $1 $2; }
   $ budget 1000

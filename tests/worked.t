@@ -238,6 +238,7 @@ y has 920 + 3 * (420 + 10) + 10 + 5 * 50 = 2470 at 5000, which is 2.024 times th
   y cost 900 1440 3430
   y period 5000 1460 1460 with deadline 1460 1460
   y jitter 0 3540 3540
+  interrupt 1 cost 50 320 556
   all 1369 2024 y
 
 Explain

@@ -1,12 +1,17 @@
--- Whose the tasks and interrupts of a set are: those of the teams whose documents are gathered in its text.
-use Rattle.std.specs.Prelude.{◌≡◌, ◌⊎◌, ℕ, ◌+◌, ◌-◌, ◌==◌, Bool, true, false, List, [], ◌∷◌, ◌++◌, map, codes, Option, None, Some, Err, if◌then◌else◌}
+-- Whose the tasks and interrupts of a set are: the node's, and those of the teams whose documents are gathered in its text.
+use Rattle.std.specs.Prelude.{◌≡◌, ◌⊎◌, ℕ, ◌+◌, ◌-◌, ◌==◌, Bool, true, false, List, [], ◌∷◌, ◌++◌, map, codes, Option, None, Some, is_some, Err, if◌then◌else◌}
 use Rattle.std.specs.Fmt.{decimal}
+use Rattle.toml.specs.Data.{Members}
+use Rattle.task_sheet.specs.Tree.{tables_at}
+use Rattle.task_sheet.specs.TreeFault.{interrupts_fault}
+use Rattle.task_sheet.specs.declared.keys.Key.TheVariants as key
 use Rattle.task_sheet.specs.Sheet.{Task, same_bytes}
 use Rattle.task_sheet.specs.declared.node.Interrupt.{Interrupt}
-use Rattle.task_sheet.specs.ReadsSet.{SaysDocument}
+use Rattle.task_sheet.specs.ReadsSet.{IsDocument, SaysDocument}
 use Rattle.task_sheet.specs.declared.read.Document.{Document}
 use Rattle.task_sheet.specs.declared.read.SetFault.{SetFault}
 use Rattle.teams.specs.Owned.{TeamSetData}
+use Rattle.teams.specs.NodeDocument.{own_of}
 use Rattle.teams.specs.Gathering.{AreGathered, HasNoHead, HasNoNode, IsFirstPart, IsNodePart}
 use Rattle.teams.specs.ReadsTeams.{ReadsPart}
 use Rattle.teams.specs.ReadsText.{is_gathered}
@@ -44,7 +49,7 @@ interrupt_of [] place = None
 interrupt_of (o ∷ owners) place =
     unless_before o.owned o.team place (interrupt_of owners place) (interrupt_of owners (place - 1))
 
--- what a line calls it: by its team and its place in that document, where a team's document has it
+-- what a line calls it: by its team and its place in that document, where one of several has it
 abbrev pub interrupt_words : List Owner → ℕ → List ℕ
 interrupt_words owners place = words_at place (interrupt_of owners place)
 
@@ -60,7 +65,7 @@ IsNoDocument p = (fault : SetFault) × ReadsPart p (Err (Of p.team fault))
 abbrev pub owned_by : List ℕ → List Task → List Owner
 owned_by team U = map (λ t. record { owned = OwnedTask t.name; team = team }) U
 
--- the interrupts of a team's document, of which the first stands at a place
+-- the interrupts of a document, of which the first stands at a place
 abbrev pub interrupts_from : List ℕ → (place : ℕ) → List Interrupt → List Owner
 interrupts_from team place [] = []
 interrupts_from team place (x ∷ xs) =
@@ -85,11 +90,33 @@ AreOwnersIn text owners =
     (sets : List TeamSetData) × (rest : List ℕ) × AreGathered text rest sets × HasNoSet rest
     × (owners ≡ owners_of sets)
 
+-- ---- the node's document
+-- whose the interrupts of a document are
+abbrev pub owners_by : TeamSetData → List Owner
+owners_by own = interrupts_from own.team 1 own.interrupts
+
+-- those of the node's, by the name that it has among those of teams; none where they have a fault
+abbrev pub node_owners : Members → List Owner
+node_owners tree =
+    if is_some (interrupts_fault (tables_at key.Interrupt tree)) then [] else owners_by (own_of tree)
+
+-- these are its own; none where it is no document
+abbrev pub AreNodeOwners : List ℕ → List Owner → Type 0
+AreNodeOwners document owners =
+    ((tree : Members) × IsDocument document tree × (owners ≡ node_owners tree))
+    ⊎ (((tree : Members) → IsDocument document tree → ⊥) × (owners ≡ []))
+
+-- its own, and those of the teams' documents behind them, as the set of all has its interrupts
+abbrev pub AreBoth : (document text : List ℕ) → List Owner → Type 0
+AreBoth document text owners =
+    (own : List Owner) × (teams : List Owner) × AreNodeOwners document own × AreOwnersIn text teams
+    × (owners ≡ own ++ teams)
+
 -- the same of documents that the node's may stand before
 abbrev pub AreOwnersBehind : List ℕ → List Owner → Type 0
 AreOwnersBehind text owners =
     ((document : List ℕ) × (after : List ℕ) × IsNodePart text document after
-    × AreOwnersIn after owners)
+    × AreBoth document after owners)
     ⊎ (HasNoNode text × AreOwnersIn text owners)
 
 abbrev pub AreOwnersIf : Bool → List ℕ → List Owner → Type 0

@@ -1,13 +1,16 @@
 //! Whose each task and interrupt of a set's text is.
 ghost use Rattle.std.specs.Prelude.{◌≡◌, ◌<◌, ◌++◌, IfOk, OnOk, MatchOption, string_bytes};
+ghost use Rattle.toml.specs.View.{table_view};
 ghost use Rattle.task_sheet.specs.declared.node.TheConstants.{INTERRUPT_LIMIT};
-ghost use Rattle.owners.specs.Owners.{AreOwners, AreOwnersIn, IsDocumentOf, IsNoDocument, interrupt_of, interrupt_words, interrupts_from, is_task, owned_by, team_of};
+ghost use Rattle.teams.specs.NodeDocument.{node_word};
+ghost use Rattle.owners.specs.Owners.{AreBoth, AreNodeOwners, AreOwners, AreOwnersIn, IsDocumentOf, IsNoDocument, interrupt_of, interrupt_words, interrupts_from, is_task, node_owners, owned_by, team_of};
 
 use std::alloc::{AllocError, Global};
-use task_sheet::{Document, Interrupt, Name, SetFault, TaskSet, read_document};
+use task_sheet::{Document, Interrupt, Name, SetFault, TaskSet, read_document, read_interrupts};
 use teams::{Part, first_part, is_gathered, node_part};
+use toml::Table;
 
-/// What a team's document has.
+/// What a document has.
 #[derive(Clone, Copy, Debug)]
 pub enum Owned {
     /// The task of a name.
@@ -16,7 +19,7 @@ pub enum Owned {
     Interrupt(usize),
 }
 
-/// A task or an interrupt, and the team whose document has it.
+/// A task or an interrupt, and the team whose document has it: `node` for the node's.
 #[derive(Clone, Copy, Debug)]
 pub struct Owner {
     pub owned: Owned,
@@ -61,8 +64,8 @@ fn interrupt_of(owners: &[Owner], place: usize) -> Option<(Name, usize)>
     None
 }
 
-/// What a line calls the interrupt at a place among all, from 0: by the team and its place in that document, from 1, where a
-/// team's document has it.
+/// What a line calls the interrupt at a place among all, from 0: by the team and its place in that document, from 1, where one
+/// of several has it.
 pub fn push_interrupt(text: &mut String, owners: &[Owner], place: usize) -> Result<(), AllocError>
     requires { place < INTERRUPT_LIMIT }
     ensures { OnOk result (string_bytes text.new
@@ -100,7 +103,7 @@ fn push_owned(owners: &mut Vec<Owner>, team: Name, set: &TaskSet) -> Result<(), 
     Ok(())
 }
 
-// Adds as many interrupts of a team's document.
+// Adds as many interrupts of a document.
 fn push_interrupts(
     owners: &mut Vec<Owner>,
     team: Name,
@@ -133,8 +136,53 @@ fn owners_in(alloc: Global, text: &[u8]) -> Result<Vec<Owner>, AllocError>
     Ok(owners)
 }
 
-/// Whose the tasks and interrupts are that a set's text says, in the order of the teams' documents. A text of one document
-/// says of none whose it is. The error is out of memory.
+// How the node's document is called among those of teams.
+fn node_name() -> Name
+    ensures { result ≡ node_word }
+{
+    match Name::read(b"node") {
+        Ok(name) => name,
+        Err(_) => unreachable!(),
+    }
+}
+
+// The interrupts that the node's document says; none where they have a fault.
+fn tree_owners(alloc: Global, root: &Table) -> Result<Vec<Owner>, AllocError>
+    ensures { IfOk result (λ owners. owners.items ≡ node_owners (table_view root.now)) }
+{
+    let mut owners = Vec::new(alloc);
+    match read_interrupts(alloc, root) {
+        Ok(interrupts) => push_interrupts(&mut owners, node_name(), &interrupts)?,
+        Err(SetFault::OutOfMemory) => return Err(AllocError),
+        Err(_) => {}
+    }
+    Ok(owners)
+}
+
+// The same of its bytes; none where they are no document.
+fn node_owners(alloc: Global, text: &[u8]) -> Result<Vec<Owner>, AllocError>
+    ensures { IfOk result (λ owners. AreNodeOwners text.now owners.items) }
+{
+    match toml::table_from_slice(alloc, text) {
+        Ok(root) => tree_owners(alloc, &root),
+        Err(error) if error.is_memory() => Err(AllocError),
+        Err(_) => Ok(Vec::new(alloc)),
+    }
+}
+
+// The node's, and those of the teams behind them.
+fn owners_of_both(alloc: Global, node: &[u8], text: &[u8]) -> Result<Vec<Owner>, AllocError>
+    ensures { IfOk result (λ owners. AreBoth node.now text.now owners.items) }
+{
+    let mut owners = node_owners(alloc, node)?;
+    let teams = owners_in(alloc, text)?;
+    owners.extend_from_slice(&teams)?;
+    Ok(owners)
+}
+
+/// Whose the tasks and interrupts are that a set's text says: those of the node's document, where one is there, and then of
+/// the teams', in their order, as the set has its interrupts. A text of one document says of none whose it is. The error is
+/// out of memory.
 pub fn read_owners(alloc: Global, text: &[u8]) -> Result<Vec<Owner>, AllocError>
     ensures { IfOk result (λ owners. AreOwners text.now owners.items) }
 {
@@ -142,7 +190,7 @@ pub fn read_owners(alloc: Global, text: &[u8]) -> Result<Vec<Owner>, AllocError>
         return Ok(Vec::new(alloc));
     }
     match node_part(text) {
-        Some((_node, rest)) => owners_in(alloc, rest),
+        Some((node, rest)) => owners_of_both(alloc, node, rest),
         None => owners_in(alloc, text),
     }
 }

@@ -47,7 +47,7 @@ ReadsNode text (Err _) = ⊥
 abbrev pub SaysNothing : List ℕ → Type 0
 SaysNothing document =
     (n : NodeData) → ReadsNodeDocument document (Ok n)
-    → (n.own.prefers ≡ None) × (n.own.node ≡ None) × (n.own.interrupts ≡ [])
+    → (n.own.prefers ≡ None) × (n.own.node ≡ None) × (n.own.interrupts ≡ []) × (n.locks ≡ None)
 
 -- the answer on what is said for all and on the sets of teams: all that is said together, where each team keeps to its
 -- budget; else why all are no set, or the first budget to which its team doesn't keep

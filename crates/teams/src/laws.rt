@@ -14,8 +14,8 @@ pub fn kept_is_within()
         → budget_fault sets b ≡ None ↔ IsWithin sets b }
 {}
 
-/// A set that is read behind a node's document which says nothing for all teams is the one that the teams' documents are
-/// without it.
+/// A set that is read behind a node's document which says nothing for all teams and lists no locks is the one that the
+/// teams' documents are without it.
 pub fn budgets_keep_set()
     ensures { (document text : List ℕ) (d : Document) → SaysNothing document
         → ReadsBounded document text (Ok d) → ReadsGathered text (Ok d) }
