@@ -250,6 +250,35 @@ fn write_padding_fault<W: fmt::Write>(fault: PadFault, f: &mut fmt::Formatter<W>
     }
 }
 
+// Which section of which task takes a lock that isn't listed.
+fn write_unknown_lock<W: fmt::Write>(
+    team: Name,
+    task: Name,
+    section: usize,
+    lock: Name,
+    f: &mut fmt::Formatter<W>,
+) -> fmt::Result
+    ensures { DisplaysOnOk W.write_str_gives f.old result
+        (Some (teams_words (TeamsFault.UnknownLock team task section lock))) f.new }
+{
+    write!(f, "UnknownLock {team} {task} ")?;
+    write!(f, "{section} {lock}")
+}
+
+// The fault of a task's sheet, behind its team and its name.
+fn write_renamed<W: fmt::Write>(
+    team: Name,
+    task: Name,
+    cause: SheetCause,
+    f: &mut fmt::Formatter<W>,
+) -> fmt::Result
+    ensures { DisplaysOnOk W.write_str_gives f.old result
+        (Some (teams_words (TeamsFault.Renamed team task cause))) f.new }
+{
+    write!(f, "team {team} task {task} ")?;
+    write_lone_cause(cause, f)
+}
+
 // The name of the fault of a set's text, with its fields: that of a team's document stands behind the team.
 fn write_teams_fault<W: fmt::Write>(fault: TeamsFault, f: &mut fmt::Formatter<W>) -> fmt::Result
     ensures { DisplaysOnOk W.write_str_gives f.old result (Some (teams_words fault)) f.new }
@@ -271,11 +300,8 @@ fn write_teams_fault<W: fmt::Write>(fault: TeamsFault, f: &mut fmt::Formatter<W>
             task,
             section,
             lock,
-        } => write!(f, "UnknownLock {team} {task} {section} {lock}"),
-        TeamsFault::Renamed { team, task, cause } => {
-            write!(f, "team {team} task {task} ")?;
-            write_lone_cause(cause, f)
-        }
+        } => write_unknown_lock(team, task, section, lock, f),
+        TeamsFault::Renamed { team, task, cause } => write_renamed(team, task, cause, f),
         TeamsFault::OtherPreference { team, other } => write!(f, "OtherPreference {team} {other}"),
         TeamsFault::OtherNode { team, other } => write!(f, "OtherNode {team} {other}"),
         TeamsFault::TooManyInterrupts => f.write_str("TooManyInterrupts"),
