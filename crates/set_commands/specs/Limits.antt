@@ -81,7 +81,7 @@ pub record LimitsData : Type 0 where
 -- the answer on what a reader has: that of `desk admit`, and the lines of how far the numbers of its set may go
 abbrev pub AnswersLimits : Asking → Option (List ℕ) → Result LimitsData CommandRefusal
     → Type 0
-AnswersLimits preference known (Ok l) =
+AnswersLimits asking known (Ok l) =
     HasOwned asking known l.set l.owners × IsPlacingOf l.set l.placing
     × Lists l.owners l.set l.placing l.lines l.status
 AnswersLimits asking known (Err r) = Places asking known (Err r)
