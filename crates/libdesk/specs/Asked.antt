@@ -20,7 +20,8 @@ AsksAbout (byte ∷ bytes) word =
 -- the worst case of the task with a name, or that of the one that the set's verdict is about
 abbrev pub SaysWorstAsked : (set name : List ℕ) → (before after : Option (List ℕ)) → Status → Type 0
 SaysWorstAsked set name before after s =
-    (word : Option (List ℕ)) × AsksAbout name word × SaysPart part.Worst word None (Some set) before after s
+    (word : Option (List ℕ)) × AsksAbout name word × SaysPart part.Worst word (asking_of no_options)
+    (Some set) before after s
 
 -- nothing is chosen but that all is told
 abbrev pub all_options : Options

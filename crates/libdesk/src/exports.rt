@@ -13,6 +13,7 @@ ghost use Rattle.two_input_commands.specs.Observe.{SaysObserved, leeway_of};
 ghost use Rattle.script_commands.specs.Play.{SaysPlayed};
 ghost use Rattle.set_commands.specs.Releases.{SaysList};
 ghost use Rattle.two_input_commands.specs.Simulate.{SaysSimulated};
+ghost use Rattle.answering.specs.Chosen.{asking_of};
 ghost use Rattle.answering.specs.Statuses.{code_of};
 ghost use Rattle.answering.specs.declared.answer.OrderPart.TheVariants.{Levels, Settings};
 ghost use Rattle.libdesk.specs.Answers.{AnswersCall, TellsCall};
@@ -29,7 +30,7 @@ use std::alloc::Global;
 #[unsafe(no_mangle)]
 pub extern "C" fn desk_admit(alloc: Global, set: &[u8], room: &mut [u8], status: &mut u8) -> usize
     ensures room { length room.new ≡ length room.old }
-    ensures answer { AnswersCall (SaysPlacing Levels None
+    ensures answer { AnswersCall (SaysPlacing Levels (asking_of no_options)
         (Some set.now)) room.old room.new result status.new }
 {
     answer(alloc, Asked::One(OfOne::Admit, set), room, status)
@@ -39,7 +40,7 @@ pub extern "C" fn desk_admit(alloc: Global, set: &[u8], room: &mut [u8], status:
 #[unsafe(no_mangle)]
 pub extern "C" fn desk_certify(alloc: Global, set: &[u8], room: &mut [u8], status: &mut u8) -> usize
     ensures room { length room.new ≡ length room.old }
-    ensures answer { AnswersCall (SaysCertified None
+    ensures answer { AnswersCall (SaysCertified (asking_of no_options)
         (Some set.now)) room.old room.new result status.new }
 {
     answer(alloc, Asked::One(OfOne::Certify, set), room, status)
@@ -49,7 +50,7 @@ pub extern "C" fn desk_certify(alloc: Global, set: &[u8], room: &mut [u8], statu
 #[unsafe(no_mangle)]
 pub extern "C" fn desk_limits(alloc: Global, set: &[u8], room: &mut [u8], status: &mut u8) -> usize
     ensures room { length room.new ≡ length room.old }
-    ensures answer { AnswersCall (SaysLimits None
+    ensures answer { AnswersCall (SaysLimits (asking_of no_options)
         (Some set.now)) room.old room.new result status.new }
 {
     answer(alloc, Asked::One(OfOne::Limits, set), room, status)
@@ -64,7 +65,7 @@ pub extern "C" fn desk_settings(
     status: &mut u8,
 ) -> usize
     ensures room { length room.new ≡ length room.old }
-    ensures answer { AnswersCall (SaysPlacing (Settings 1) None
+    ensures answer { AnswersCall (SaysPlacing (Settings 1 0) (asking_of no_options)
         (Some set.now)) room.old room.new result status.new }
 {
     answer(alloc, Asked::One(OfOne::Settings, set), room, status)
@@ -74,7 +75,7 @@ pub extern "C" fn desk_settings(
 #[unsafe(no_mangle)]
 pub extern "C" fn desk_explain(alloc: Global, set: &[u8], room: &mut [u8], status: &mut u8) -> usize
     ensures room { length room.new ≡ length room.old }
-    ensures answer { AnswersCall (SaysExplained true None
+    ensures answer { AnswersCall (SaysExplained true (asking_of no_options)
         (Some set.now)) room.old room.new result status.new }
 {
     answer(alloc, Asked::One(OfOne::Explain, set), room, status)
@@ -99,7 +100,7 @@ pub extern "C" fn desk_releases(
     status: &mut u8,
 ) -> usize
     ensures room { length room.new ≡ length room.old }
-    ensures answer { AnswersCall (SaysList None None until
+    ensures answer { AnswersCall (SaysList (asking_of no_options) None until
         (Some set.now)) room.old room.new result status.new }
 {
     answer(alloc, Asked::Releases(set, until), room, status)
@@ -131,7 +132,7 @@ pub extern "C" fn desk_check(
     status: &mut u8,
 ) -> usize
     ensures room { length room.new ≡ length room.old }
-    ensures answer { AnswersCall (SaysChecked None (Some set.now)
+    ensures answer { AnswersCall (SaysChecked (asking_of no_options) (Some set.now)
         (Some certificate.now)) room.old room.new result status.new }
 {
     answer(
@@ -152,7 +153,7 @@ pub extern "C" fn desk_judge(
     status: &mut u8,
 ) -> usize
     ensures room { length room.new ≡ length room.old }
-    ensures answer { AnswersCall (SaysJudged false None (Some set.now)
+    ensures answer { AnswersCall (SaysJudged false (asking_of no_options) (Some set.now)
         (Some settings.now)) room.old room.new result status.new }
 {
     answer(alloc, Asked::Two(OfTwo::Judge, set, settings), room, status)
@@ -168,7 +169,7 @@ pub extern "C" fn desk_diff(
     status: &mut u8,
 ) -> usize
     ensures room { length room.new ≡ length room.old }
-    ensures answer { AnswersCall (SaysCompared None (Some set.now)
+    ensures answer { AnswersCall (SaysCompared (asking_of no_options) (Some set.now)
         (Some changed.now)) room.old room.new result status.new }
 {
     answer(alloc, Asked::Two(OfTwo::Diff, set, changed), room, status)
@@ -184,7 +185,7 @@ pub extern "C" fn desk_simulate(
     status: &mut u8,
 ) -> usize
     ensures room { length room.new ≡ length room.old }
-    ensures answer { AnswersCall (SaysSimulated None (Some set.now)
+    ensures answer { AnswersCall (SaysSimulated (asking_of no_options) (Some set.now)
         (Some releases.now)) room.old room.new result status.new }
 {
     answer(
@@ -205,7 +206,7 @@ pub extern "C" fn desk_draw(
     status: &mut u8,
 ) -> usize
     ensures room { length room.new ≡ length room.old }
-    ensures answer { AnswersCall (SaysDrawn no_options None (Some set.now)
+    ensures answer { AnswersCall (SaysDrawn no_options (asking_of no_options) (Some set.now)
         (Some releases.now)) room.old room.new result status.new }
 {
     answer(alloc, Asked::Two(OfTwo::Draw, set, releases), room, status)
@@ -221,7 +222,7 @@ pub extern "C" fn desk_observe(
     status: &mut u8,
 ) -> usize
     ensures room { length room.new ≡ length room.old }
-    ensures answer { AnswersCall (SaysObserved (leeway_of no_options) None (Some set.now)
+    ensures answer { AnswersCall (SaysObserved (leeway_of no_options) (asking_of no_options) (Some set.now)
         (Some trace.now)) room.old room.new result status.new }
 {
     answer(alloc, Asked::Two(OfTwo::Observe, set, trace), room, status)
