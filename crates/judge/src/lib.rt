@@ -18,7 +18,7 @@ mod rows;
 mod settings_fault;
 mod text;
 
-pub use crate::explained::{Parted, explained_text, levels_text};
+pub use crate::explained::{Parted, explained_text, levels_text, order_of};
 pub use crate::fault::SettingsFault;
 pub use crate::front::{Front, read_front};
 pub use crate::judging::{JudgedTask, Judgement, all_meet, judge_order};
