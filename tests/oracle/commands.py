@@ -323,7 +323,8 @@ def judge(tasks, rows, lower_is_higher=False):
     heights = rows
     if lower_is_higher:
         heights = [(line, kind, name, -number) for line, kind, name, number in rows]
-    return settings.judge(tasks, settings.node_order(tasks, heights), rows)
+    order = settings.node_order(tasks, heights, may_raise=True)
+    return settings.judge(tasks, order, rows, settings.blocked_by(heights))
 
 
 def simulate(tasks, said, of_tasks=False):
