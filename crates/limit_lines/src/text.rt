@@ -361,25 +361,33 @@ fn in_order(
 }
 
 // Whether this furthest value leaves the task a number of its own.
-fn helps_own(sheet: &Sheet, number: Number, own: Option<u64>) -> bool
-    requires valid { IsValidSheet sheet.now }
-    requires has { HasNumber sheet.now number }
-    ensures { result ≡ helps_own number sheet.now own }
+fn helps_own(set: &TaskSet, task: usize, number: Number, own: Option<u64>) -> bool
+    requires task { task < length set.now }
+    requires has { HasNumber (task_at set.now task) number }
+    ensures { result ≡ helps_own number (task_at set.now task) own }
 {
+    let sheet = &set.sheets()[task];
+    let part = node_part(sheet, number);
     match own {
-        Some(value) => leaves_own(number, node_part(sheet, number), value),
+        Some(value) => leaves_own(number, part, value),
         None => false,
     }
 }
 
 // Whether a number has a line.
-fn is_told(sheet: &Sheet, number: Number, order: Option<&[usize]>, own: Option<u64>) -> bool
-    requires valid { IsValidSheet sheet.now }
-    requires has { HasNumber sheet.now number }
-    ensures { result ≡ is_told number sheet.now (option_map (λ o. o.now) order.entry) own }
+fn is_told(
+    set: &TaskSet,
+    task: usize,
+    number: Number,
+    order: Option<&[usize]>,
+    own: Option<u64>,
+) -> bool
+    requires task { task < length set.now }
+    requires has { HasNumber (task_at set.now task) number }
+    ensures { result ≡ is_told number (task_at set.now task) (option_map (λ o. o.now) order.entry) own }
 {
     match order {
-        Some(_) => helps_own(sheet, number, own),
+        Some(_) => helps_own(set, task, number, own),
         None => true,
     }
 }
@@ -425,7 +433,7 @@ pub(crate) fn number_text(
 {
     let own = in_order(alloc, set, order, task, number)?;
     let mut text = String::new(alloc);
-    if !is_told(&set.sheets()[task], number, order, own) {
+    if !is_told(set.tasks(), task, number, order, own) {
         return Ok(text);
     }
     let most = in_any(alloc, set, task, number, own)?;
