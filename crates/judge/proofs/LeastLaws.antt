@@ -17,7 +17,7 @@ use Rattle.judge.proofs.RaisedLaws.{blocking-same}
 -- ---- a task
 module _ (U : List Task) (i : ℕ) (H : Indexes) where
   same-demand : demand_blocked (blocking_of U i H) U i H ≡ demand_of U i H
-  unfolding demand_of, demand_blocked
+  unfolding demand_of demand_blocked
   same-demand = refl
 
   to-least : (j : Judgement) → IsJudgementWith (blocking_of U i H) U i H j → IsJudgementOf U i H j

@@ -35,7 +35,7 @@ module _ (U : List Task) (i : ℕ) (H : Indexes) (more : ℕ) where
   longer = demand_blocked (blocking_of U i H + more) U i H
 
   pub longer-is : (t : ℕ) → longer t ≡ demand_of U i H t + more
-  unfolding demand_of, demand_blocked
+  unfolding demand_of demand_blocked
   longer-is t = omega arith
 
   pub longer-steady : AllTasks U → i < length U → DoesNotFall longer
@@ -113,7 +113,7 @@ module _ (U : List Task) (threads mutexes : List Setting) where
         raised-user number k s lt (above k parts.0) parts.1
 
     pub blocking-least : blocking_of U i H ≤ blocking_at ceiling number U i H
-    unfolding blocking_of, blocking_at
+    unfolding blocking_of blocking_at
     blocking-least = greatest_below-mono (length U) _ _ (λ k. elim (cases_Bool (with_index H i k)) [
       | inl inside ↦ rw inside (omega arith)
       | inr outside ↦ rw outside (greatest_of-mono _ _ (task_at U k).sections
@@ -218,7 +218,7 @@ module _ (U : List Task) (threads mutexes : List Setting) where
 
     pub blocking-same : blocking_at ceiling (thread_number U threads here) U here
         (among (drop (place + 1) order)) ≡ blocking_of U here (among (drop (place + 1) order))
-    unfolding blocking_of, blocking_at
+    unfolding blocking_of blocking_at
     blocking-same =
         let more = blocking-least (thread_number U threads here) here
         (among (drop (place + 1) order)) (order-above order place by within) in

@@ -15,9 +15,10 @@ loop-section-preserved c =
     (c.max-longest.ensures ∙ ord_max-is _ _ ∙ omega (arith, c.length_at.ensures))
 
 pub returns : goal.returns
-returns c = rw (
-  take_all c.loop-section.section-index c.sections-section-items.result.now
-      c.loop-section-test.false,
-  c.sections-section-items.ensures,
-)
-at c.loop-section.invariant
+returns c =
+    rw (
+      take_all c.loop-section.section-index c.sections-section-items.result.now
+          c.loop-section-test.false,
+      c.sections-section-items.ensures,
+    )
+    at c.loop-section.invariant
