@@ -8,6 +8,7 @@ use Rattle.std.specs.Prelude.{Contains}
 use Rattle.std.proofs.lemmas.List.{drop_more}
 use Rattle.task_sheet.proofs.Common.{Task, CriticalSection, AllTasks, IsTask, IsTaskSet, task_at, Indexes, among, uses}
 use Rattle.task_sheet.proofs.Common.{with_index, reaches, longest_reached, blocking_of, demand_of, greatest_below, greatest_of}
+use Rattle.std.proofs.lemmas.List.Elements.{recursion_from_All}
 use Rattle.task_sheet.specs.Locks.{names_lock, shares_lock}
 use Rattle.task_sheet.specs.Orders.{all_of}
 use Rattle.task_sheet.specs.Sheet.{same_bytes}
@@ -100,8 +101,8 @@ module _ (U : List Task) (threads mutexes : List Setting) where
       → number ≤ thread_number U threads k → shares_lock (task_at U k) s ≡ true
       → raises_to ceiling number s ≡ true
   raised-user number k s lt le shares = any_more _ _ s.locks
-      (λ lock used. le-leb number (ceiling lock)
-      (omega (arith, le, ceiling-user lock k lt used))) shares
+      (λ lock used. let there = ceiling-user lock k lt used in
+      le-leb number (ceiling lock) (omega (arith, le, there))) shares
 
   module _ (number i : ℕ) (H : Indexes)
       (above : (k : ℕ) → with_index H i k ≡ true → number ≤ thread_number U threads k) where

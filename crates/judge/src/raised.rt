@@ -84,10 +84,11 @@ fn longest_below(
         (ceiling_in set.now settings.now.threads.items settings.now.mutexes.items)
         number (task_at set.now index)) }
 {
+    let sheet = &set.sheets()[index];
     if others.has(index) {
         return 0;
     }
-    longest_raised(set, settings, number, &set.sheets()[index])
+    longest_raised(set, settings, number, sheet)
 }
 
 /// The blocking of a task with these above it, in microseconds: the longest section of a task below at the number of the

@@ -1,14 +1,16 @@
 use Rattle.std.proofs.Common.{◌≡◌, ◌∙◌, ◌+◌, ◌-◌, ◌≤◌, ◌<◌, ◌++◌, ◌∷◌, [], ℕ, sym, subst, arith}
-use Rattle.task_sheet.proofs.Common.{task_at, indexes_of}
+use Rattle.task_sheet.proofs.Common.{task_at, indexes_of, limit_of}
+use Rattle.task_sheet.proofs.DemandFits.{demand-fits}
 use Rattle.task_sheet.specs.Responses.{IsResponse}
 use Rattle.task_sheet.proofs.TaskLaws.{AllTasks-from_set}
 use Rattle.task_sheet.proofs.Trails.{walk_start, walk_next, next_is_no_less, walk_fails}
-use Rattle.judge.proofs.RaisedLaws.{longer, longer-steady, walk_ends}
+use Rattle.judge.proofs.RaisedLaws.{longer, longer-is, longer-steady, walk_ends}
 use Rattle.judge.proofs.by_ceilings.judge_longer.Goals as goal
 
 pub loop-time-init : goal.loop-time-init
 loop-time-init c = record {
   positive = omega arith;
+  fits = omega arith;
   walk = ([], walk_start _ _);
   first = λ s pos covers. pos;
 }
@@ -75,6 +77,14 @@ loop-time-preserved c =
     ) in
     record {
       positive = omega (arith, rises, inv.positive);
+      fits = omega (
+        arith,
+        demand-fits U c.limit_of-limit.ensures.kept i H t c.requires.task
+            (omega (arith, c.limit_of-limit.ensures.short, c.loop-time-test.true)),
+        longer-is U i H c.args.more t,
+        c.longer_demand-next.ensures,
+        c.requires.more,
+      );
       walk = (
         inv.walk.0 ++ t ∷ [],
         walk_next _ _ inv.walk.0 t inv.walk.1 c.longer_demand-next.result
@@ -89,6 +99,10 @@ loop-time-preserved c =
       );
     }
 
+pub overflow_add-result-2 : goal.overflow_add-result-2
+overflow_add-result-2 c =
+    omega (arith, c.loop-time.invariant.fits, c.jitter_of-jitter.ensures.short)
+
 pub returns : goal.returns
 returns c =
     let U = c.args.set.now in
@@ -97,7 +111,7 @@ returns c =
     let inv = c.loop-time.invariant in
     let t = c.loop-time.time in
     let limit = c.limit_of-limit.ensures in
-    let past = omega (arith, limit.is, c.loop-time-test.false) in
+    let past : limit_of (task_at U i) < t = omega (arith, limit.is, c.loop-time-test.false) in
     let steady = longer-steady U i H c.args.more (AllTasks-from_set U limit.kept) c.requires.task in
     let fails = walk_fails _ _ inv.walk.0 t inv.walk.1 steady past in
     let ends = walk_ends _ _ inv.walk.0 t inv.walk.1 (omega (arith, limit.is, limit.some)) past in (

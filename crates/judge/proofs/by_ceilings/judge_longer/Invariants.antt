@@ -8,6 +8,7 @@ use Rattle.judge.proofs.by_ceilings.judge_longer.Given as goal
 abbrev pub invariant-loop-time : goal.invariant-loop-time
 invariant-loop-time l = record {
   positive : 1 ≤ l.time;
+  fits : l.time ≤ 7070000000;
   walk : (numbers : List ℕ)
       × IsWalk (longer l.set l.task (indexes_of l.above) l.more) (limit_of (task_at l.set l.task))
       numbers l.time;

@@ -1,4 +1,4 @@
-use Rattle.std.proofs.Common.{◌≡◌, ◌∙◌, cond, max, arith}
+use Rattle.std.proofs.Common.{◌≡◌, ◌∙◌, cond, max, ap}
 use Rattle.std.proofs.lemmas.List.{take_all}
 use Rattle.task_sheet.proofs.Below.{ord_max-is}
 use Rattle.ceilings.proofs.HoldLaws.{greatest-next}
@@ -8,11 +8,15 @@ use Rattle.judge.proofs.raised.longest_raised.Goals as goal
 pub loop-section-preserved : goal.loop-section-preserved
 loop-section-preserved c =
     let s = c.args.settings.now in
+    let longest = c.loop-section.longest in
+    let step : c.max-longest.result ≡ max longest (cond (raises_to
+    (ceiling_in c.args.set.now s.threads.items s.mutexes.items) c.args.number c.section-item.result)
+    c.section-item.result.len 0) = c.max-longest.ensures ∙ ord_max-is longest c.length_at.result
+    ∙ ap (λ n. max longest n) c.length_at.ensures in
     greatest-next (λ x. cond (raises_to
     (ceiling_in c.args.set.now s.threads.items s.mutexes.items) c.args.number x) x.len 0)
     c.sections-section-items.result.now c.loop-section.section-index c.section-item.result _ _
-    c.loop-section-test.true c.section-item.is c.loop-section.invariant
-    (c.max-longest.ensures ∙ ord_max-is _ _ ∙ omega (arith, c.length_at.ensures))
+    c.loop-section-test.true c.section-item.is c.loop-section.invariant step
 
 pub returns : goal.returns
 returns c =
