@@ -1,10 +1,10 @@
 -- Where no mutex is above the highest user of its lock, orders are judged as by the least ceilings.
-use Rattle.std.proofs.Common.{◌≡◌, ◌∙◌, ◌↔◌, ℕ, ◌+◌, ◌<◌, ◌≤◌, List, [], ◌∷◌, ◌++◌, length, get_or, drop}
-use Rattle.std.proofs.Common.{refl, sym, ap, subst, arith, append_assoc}
+use Rattle.std.proofs.Common.{◌≡◌, ◌↔◌, ℕ, suc, ◌+◌, ◌<◌, ◌≤◌, List, [], ◌∷◌, ◌++◌, length, get_or, drop}
+use Rattle.std.proofs.Common.{refl, sym, subst, arith, append_assoc}
 use Rattle.task_sheet.proofs.Common.{Task, Indexes, task_at, among, blocking_of, demand_of, limit_of}
 use Rattle.task_sheet.specs.Demand.{past_jitter}
 use Rattle.task_sheet.specs.Responses.{Covers, IsFullChain, IsResponse}
-use Rattle.judge.specs.Ceilings.{AllJudgedBy, IsJudgementBy, IsJudgementWith, blocking_at, ceiling_in, demand_blocked}
+use Rattle.judge.specs.Ceilings.{AllJudgedBy, IsJudgementWith, blocking_at, ceiling_in, demand_blocked}
 use Rattle.judge.specs.Faults.{setting_number, thread_number, top_number}
 use Rattle.judge.specs.Judgements.{AllJudged, IsJudgementOf, order_judged}
 use Rattle.judge.specs.Node.{IsOrderBy}
@@ -69,7 +69,9 @@ at-front : (front rest : List JudgedTask) (j : JudgedTask)
     × (drop (length front + 1) (order_judged (front ++ j ∷ rest)) ≡ order_judged rest)
 at-front [] rest j = (omega arith, refl, refl)
 at-front (x ∷ front) rest j =
-    let next = at-front front rest j in (omega (arith, next.0), next.1, next.2)
+    let next = at-front front rest j in
+    let one : suc (length front) + 1 ≡ suc (length front + 1) = omega arith in
+    (omega (arith, next.0), next.1, rw one next.2)
 
 module _ (U : List Task) (threads mutexes : List Setting)
     (least : (lock : List ℕ) → setting_number mutexes lock ≤ top_number U threads lock) where

@@ -1,13 +1,12 @@
 -- Blocking and demand by the ceilings that mutexes are given.
-use Rattle.std.proofs.Common.{◌≡◌, ◌∙◌, ℕ, zero, suc, ◌+◌, ◌-◌, ◌<◌, ◌≤◌, inl, inr, Bool, true, false, ◌&&◌, cond, max}
-use Rattle.std.proofs.Common.{List, [], ◌∷◌, ◌++◌, length, get_or, take, drop, None, refl, sym, ap, subst, arith, add-one}
+use Rattle.std.proofs.Common.{◌≡◌, ◌∙◌, ℕ, ◌+◌, ◌<◌, ◌≤◌, inl, inr, Bool, true, false, ◌&&◌, cond}
+use Rattle.std.proofs.Common.{List, [], ◌∷◌, ◌++◌, length, get_or, drop, refl, sym, ap, arith}
 use Rattle.std.specs.List.{list_any}
 use Rattle.std.proofs.lemmas.Bool.{and_from, and_parts, cases_Bool, cases_eq, le-leb, leb-true, lt-ltb, ne_eqb}
 use Rattle.std.proofs.lemmas.List.Folds.{Any-from_list_any, list_any_at}
 use Rattle.std.specs.Prelude.{Contains}
-use Rattle.std.proofs.lemmas.List.{drop_more}
 use Rattle.task_sheet.proofs.Common.{Task, CriticalSection, AllTasks, IsTask, IsTaskSet, task_at, Indexes, among, uses}
-use Rattle.task_sheet.proofs.Common.{with_index, reaches, longest_reached, blocking_of, demand_of, greatest_below, greatest_of}
+use Rattle.task_sheet.proofs.Common.{with_index, reaches, longest_reached, blocking_of, demand_of, greatest_below}
 use Rattle.std.proofs.lemmas.List.Elements.{recursion_from_All}
 use Rattle.task_sheet.specs.Locks.{names_lock, shares_lock}
 use Rattle.task_sheet.specs.Orders.{all_of}
@@ -235,6 +234,7 @@ module _ (U : List Task) (threads mutexes : List Setting) where
           | inr out ↦ rw out (omega (arith, short k lt out, rw out at there))
         ]) in
         omega (arith, more, less)
+
 -- ---- how long it may be
 longest-fits : (ceiling : List ℕ → ℕ) (number : ℕ) (t : Task) → IsTask t
     → longest_raised ceiling number t ≤ t.cost

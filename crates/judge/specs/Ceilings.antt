@@ -1,6 +1,6 @@
 -- What becomes of the tasks of an order by the ceilings that mutexes are given, the least or higher ones (Sha, Rajkumar,
 -- Lehoczky 1990; POSIX.1-2017, PTHREAD_PRIO_PROTECT).
-use Rattle.std.specs.Prelude.{◌≡◌, ◌<◌, ℕ, ◌+◌, ◌≤◌, Bool, nat_le, max, List, [], ◌∷◌, length, None, Ok, IsFalse, if◌then◌else◌}
+use Rattle.std.specs.Prelude.{◌≡◌, ℕ, ◌+◌, ◌≤◌, Bool, nat_le, max, List, [], ◌∷◌, length, None, Ok, IsFalse, if◌then◌else◌}
 use Rattle.std.specs.List.{list_any}
 use Rattle.task_sheet.specs.Sheet.{CriticalSection, Task, task_at}
 use Rattle.task_sheet.specs.Indexes.{Indexes, among, greatest_below, with_index}

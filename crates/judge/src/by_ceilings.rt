@@ -81,12 +81,7 @@ fn judge_longer(set: &Tabled<'_>, task: usize, above: Members, more: u64) -> Jud
 }
 
 // What becomes of a task with these above it, where its blocking is at least that by the least ceilings.
-fn judge_raised(
-    set: &Tabled<'_>,
-    settings: &NodeSettings,
-    task: usize,
-    above: Members,
-) -> Judgement
+fn judge_raised(set: &Tabled<'_>, settings: &NodeSettings, task: usize, above: Members) -> Judgement
     requires task { task < length set.now }
     requires least { blocking_of set.now task (indexes_of above) ≤ blocking_at
         (ceiling_in set.now settings.now.threads.items settings.now.mutexes.items)
@@ -107,12 +102,7 @@ fn judge_raised(
 }
 
 // What becomes of the task at a place of an order.
-fn judge_at(
-    set: &Tabled<'_>,
-    settings: &NodeSettings,
-    order: &[usize],
-    place: usize,
-) -> JudgedTask
+fn judge_at(set: &Tabled<'_>, settings: &NodeSettings, order: &[usize], place: usize) -> JudgedTask
     requires order { IsOrderBy set.now settings.now.threads.items order.now }
     requires within { All (λ index. index < length set.now) order.now }
     requires place { place < length order.now }

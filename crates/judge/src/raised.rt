@@ -18,12 +18,7 @@ fn ceiling_in(set: &Tabled<'_>, settings: &NodeSettings, lock: Name) -> u64
 }
 
 // Whether whoever executes a section does so at this number or above.
-fn raises_to(
-    set: &Tabled<'_>,
-    settings: &NodeSettings,
-    number: u64,
-    section: &Section,
-) -> bool
+fn raises_to(set: &Tabled<'_>, settings: &NodeSettings, number: u64, section: &Section) -> bool
     ensures { result ≡ raises_to
         (ceiling_in set.now settings.now.threads.items settings.now.mutexes.items)
         number section.now }
@@ -35,12 +30,7 @@ fn raises_to(
 }
 
 // The length of such a section; 0 of another.
-fn length_at(
-    set: &Tabled<'_>,
-    settings: &NodeSettings,
-    number: u64,
-    section: &Section,
-) -> u64
+fn length_at(set: &Tabled<'_>, settings: &NodeSettings, number: u64, section: &Section) -> u64
     ensures { result ≡ (if raises_to
         (ceiling_in set.now settings.now.threads.items settings.now.mutexes.items)
         number section.now then section.now.len else 0) }
@@ -53,12 +43,7 @@ fn length_at(
 }
 
 // The longest such section of a task.
-fn longest_raised(
-    set: &Tabled<'_>,
-    settings: &NodeSettings,
-    number: u64,
-    sheet: &Sheet,
-) -> u64
+fn longest_raised(set: &Tabled<'_>, settings: &NodeSettings, number: u64, sheet: &Sheet) -> u64
     requires { IsValidSheet sheet.now }
     ensures { result ≡ longest_raised
         (ceiling_in set.now settings.now.threads.items settings.now.mutexes.items)

@@ -287,11 +287,7 @@ fn node_lines(
 }
 
 // Those of a set with what its node takes.
-fn node_text(
-    alloc: Global,
-    set: &TaskSet,
-    order: Option<&[usize]>,
-) -> Result<String, AllocError>
+fn node_text(alloc: Global, set: &TaskSet, order: Option<&[usize]>) -> Result<String, AllocError>
     requires order { IfSome (option_map (λ o. o.now) order) (IsOrder set.now) }
     ensures { IfOk result (λ text. AreNodeLinesOf set.now (option_map (λ o. o.now) order.entry)
         (string_bytes text)) }

@@ -1,4 +1,4 @@
-use Rattle.std.proofs.Common.{◌≡◌, ◌∙◌, ◌+◌, ◌-◌, ◌≤◌, ◌<◌, ◌++◌, ◌∷◌, [], ℕ, sym, subst, arith}
+use Rattle.std.proofs.Common.{◌≡◌, ◌∙◌, ◌+◌, ◌-◌, ◌<◌, ◌++◌, ◌∷◌, [], sym, subst, arith}
 use Rattle.task_sheet.proofs.Common.{task_at, indexes_of, limit_of}
 use Rattle.task_sheet.proofs.DemandFits.{demand-fits}
 use Rattle.task_sheet.specs.Responses.{IsResponse}

@@ -1,4 +1,4 @@
-use Rattle.std.proofs.Common.{◌≡◌, ◌+◌, ◌-◌, ◌≤◌, ℕ, subst, arith}
+use Rattle.std.proofs.Common.{◌≡◌, ◌+◌, ◌-◌, ℕ, subst, arith}
 use Rattle.task_sheet.proofs.Common.{indexes_of, blocking_of}
 use Rattle.judge.specs.Ceilings.{IsJudgementWith, blocking_at}
 use Rattle.judge.specs.Faults.{thread_number}

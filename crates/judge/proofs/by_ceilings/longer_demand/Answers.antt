@@ -1,4 +1,4 @@
-use Rattle.std.proofs.Common.{◌+◌, arith}
+use Rattle.std.proofs.Common.{arith}
 use Rattle.task_sheet.proofs.Common.{indexes_of}
 use Rattle.task_sheet.proofs.DemandFits.{demand-fits}
 use Rattle.judge.proofs.RaisedLaws.{longer-is}
