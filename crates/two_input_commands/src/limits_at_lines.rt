@@ -1,5 +1,5 @@
 //! `desk limits SET --at SETTINGS`.
-ghost use Rattle.std.specs.Prelude.{◌≡◌, ◌==◌, ◌<◌, ◌++◌, length, All, IfOk, IfSome, OnOk, option_map, string_bytes};
+ghost use Rattle.std.specs.Prelude.{◌≡◌, ◌==◌, ◌<◌, ◌++◌, length, All, IfOk, IfSome, None, OnOk, option_map, string_bytes};
 ghost use Rattle.task_sheet.specs.declared.set.TheConstants.{TASK_LIMIT};
 ghost use Rattle.task_sheet.specs.Orders.{IsOrder};
 ghost use Rattle.judge.specs.Judgements.{order_judged};
@@ -35,15 +35,27 @@ fn each_text(
     Ok(text)
 }
 
-// That no single change mends an order that fails, where nothing has a line.
+// That no single change mends an order, where nothing has a line.
+fn push_silent(text: &mut String) -> Result<(), AllocError>
+    ensures { OnOk result (string_bytes text.new ≡ string_bytes text.old
+        ++ alone_words (length (string_bytes text.old) == 0) None) }
+{
+    if text.is_empty() {
+        text.push_str("no single change\n")
+    } else {
+        Ok(())
+    }
+}
+
+// The same of one that fails.
 fn push_alone(text: &mut String, places: Option<&[Place]>) -> Result<(), AllocError>
     ensures { OnOk result (string_bytes text.new ≡ string_bytes text.old
         ++ alone_words (length (string_bytes text.old) == 0) (option_map (λ p. p.now) places.entry)) }
 {
-    if places.is_some() || !text.is_empty() {
-        return Ok(());
+    match places {
+        Some(_) => Ok(()),
+        None => push_silent(text),
     }
-    text.push_str("no single change\n")
 }
 
 // How far the numbers of each task may go in an order, of the interrupts and the node, and all execution at once.
