@@ -125,8 +125,8 @@ class Seen:
             yield f"open {at}" if self.job.finish is None else f"bound {at} {self.lasted} of {self.bound}"
 
     def culprits(self):
-        """The two tasks below that executed longest while it waited."""
-        return longest(self.below, self.levels)[:2]
+        """The tasks below that executed while it waited, and for how long, the longest first."""
+        return longest(self.below, self.levels)
 
     def delays(self, other, tolerance):
         """Whether it may have delayed another job, or itself."""

@@ -8,11 +8,10 @@ use Rattle.std.proofs.lemmas.Bool.{and_parts, le-leb, leb-true}
 use Rattle.task_sheet.specs.Sheet.{Task}
 use Rattle.trace_text.specs.declared.rows.TraceJob.{TraceJob}
 use Rattle.observed.specs.Near.{ahead, behind, near, rise_from}
-use Rattle.observed.specs.Culprits.{longest_below, next_culprit}
+use Rattle.observed.specs.Culprits.{culprits_below}
 use Rattle.observed.specs.Ranks.{is_stray, is_wrong, stray_in}
-use Rattle.observed.specs.Seen.{first_blocker, ready_by, seen_job, until_of}
+use Rattle.observed.specs.Seen.{culprits_of, is_blocked_past, ready_by, seen_job, until_of}
 use Rattle.observed.specs.Shares.{counts, first_name, overlap, share_of, time_in}
-use Rattle.observed.specs.declared.culprits.Culprit.{Culprit}
 use Rattle.observed.specs.declared.pieces.Piece.{Piece}
 use Rattle.observed.specs.declared.promises.Promise.{Promise}
 use Rattle.observed.specs.declared.shares.Whom.{Whom}
@@ -213,27 +212,18 @@ module _ (U : List Task) (promises : List Promise) (promise : Promise) (place fr
       (behind-rises time pieces rises) ∙ behind-stray time pieces le
   near-stray false time pieces rises le = behind-stray time pieces le
 
--- who executes longest below a level is seen in them, too
-longest_near : (promises : List Promise) (but : Option ℕ) (from to : ℕ) (b : Bool) (time : ℕ)
+-- who executes below a level is seen in them, too
+culprits_near : (promises : List Promise) (from to : ℕ) (b : Bool) (time : ℕ)
     (pieces : List Piece) → rise_from 0 pieces ≡ b → time ≤ from → (level : ℕ)
-    → longest_below promises but from to (near b to (behind time pieces)) level
-    ≡ longest_below promises but from to pieces level
-longest_near promises but from to b time pieces rises le zero = refl
-longest_near promises but from to b time pieces rises le (suc level) =
+    → culprits_below promises from to (near b to (behind time pieces)) level
+    ≡ culprits_below promises from to pieces level
+culprits_near promises from to b time pieces rises le zero = refl
+culprits_near promises from to b time pieces rises le (suc level) =
     rw (
-      longest_near promises but from to b time pieces rises le level,
+      culprits_near promises from to b time pieces rises le level,
       (near-same (Level level) from to b time pieces rises le).0,
     )
     refl
-
--- and of those who execute longest, the next
-next_near : (promises : List Promise) (first : Option Culprit) (from to : ℕ) (b : Bool) (time : ℕ)
-    (pieces : List Piece) → rise_from 0 pieces ≡ b → time ≤ from → (level : ℕ)
-    → next_culprit first promises from to (near b to (behind time pieces)) level
-    ≡ next_culprit first promises from to pieces level
-next_near promises None from to b time pieces rises le level = refl
-next_near promises (Some first) from to b time pieces rises le level =
-    longest_near promises (Some first.level) from to b time pieces rises le level
 
 -- what is seen of a job is seen in the pieces near it
 pub seen-near : (U : List Task) (promises : List Promise) (promise : Promise) (level end : ℕ)
@@ -248,13 +238,11 @@ seen-near U promises promise level end pieces past job =
     let at : job.arrival ≤ job.arrival = omega (arith) in
     let soon : job.arrival ≤ ready = omega (arith) in
     let foreign = near-same Foreign ready to b job.arrival pieces refl soon in
-    let first = first_blocker U promises promise level end pieces job in
     rw (
       (near-same (Job (length past)) job.arrival to b job.arrival pieces refl at).0,
       near-stray U promises promise (length past) job.arrival to b job.arrival pieces refl at,
       (near-same (Below level) ready to b job.arrival pieces refl soon).0,
-      longest_near promises None ready to b job.arrival pieces refl soon level,
-      next_near promises first ready to b job.arrival pieces refl soon level,
+      culprits_near promises ready to b job.arrival pieces refl soon level,
       foreign.0,
       foreign.1,
       (near-same Anyone ready to b job.arrival pieces refl soon).0,

@@ -14,6 +14,7 @@ mod shares;
 mod sight;
 mod sweeps;
 
+pub use crate::culprits::Culprit;
 pub use crate::observing::observe;
 pub use crate::pieces::Piece;
 pub use crate::promises::{Promise, levels_of, promises_of};
