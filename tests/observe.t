@@ -334,7 +334,7 @@ sched script` of a run of examples/posix/measure.c, with a thread `foreign` abov
   task mid 1 2048 2000 - 20000 18280 7000
   task hi 1 1015 1000 - 10000 10228 5000
   cost lo 0 20245 of 20000
-  foreign lo 0 36051 by desk-unproved
+  foreign lo 0 36051 by foreign
   foreign hi 997 6009 by foreign
   foreign mid 999 12015 by foreign
   bound lo 0 59359 of 27000 after cost lo 0

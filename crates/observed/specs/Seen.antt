@@ -7,7 +7,8 @@ use Rattle.trace_text.specs.declared.rows.TraceJob.{TraceJob}
 use Rattle.observed.specs.Culprits.{culprits_below}
 use Rattle.observed.specs.Ranks.{stray_in}
 use Rattle.observed.specs.SeenJob.{SeenData}
-use Rattle.observed.specs.Shares.{first_name, time_in}
+use Rattle.observed.specs.Shares.{time_in}
+use Rattle.observed.specs.Strangers.{longest_stranger}
 use Rattle.observed.specs.declared.promises.Promise.{Promise}
 use Rattle.observed.specs.declared.culprits.Culprit.{Culprit}
 use Rattle.observed.specs.declared.pieces.Piece.{Piece}
@@ -64,6 +65,17 @@ culprits_of is_past promises promise level end pieces job =
     then culprits_below promises (ready_by promise job) (until_of end job) pieces level
     else []
 
+-- threads that the set doesn't have execute for longer, while it waits, than timers and interrupts may take
+abbrev pub is_taken_past : List Task → Promise → ℕ → List Piece → TraceJob → Bool
+is_taken_past U promise end pieces job =
+    nat_lt (interrupts_within U (waited_of promise end job))
+    (time_in Foreign (ready_by promise job) (until_of end job) pieces)
+
+-- who of them does so longest, where they do
+abbrev pub stranger_of : Bool → Promise → ℕ → List Piece → TraceJob → Option (List ℕ)
+stranger_of is_past promise end pieces job =
+    if is_past then longest_stranger (ready_by promise job) (until_of end job) pieces else None
+
 -- what is seen of a job of a set behind these, whose task has this level. What timers and interrupts may take of its whole
 -- time it may execute beside its cost; what they may take while it waits, it may be blocked for beside its blocking, and
 -- others may take, or nobody
@@ -86,7 +98,7 @@ seen_job U promises promise level end pieces before job =
           job;
       may_be_blocked = promise.blocking + interrupts_within U (waited_of promise end job);
       foreign = time_in Foreign (ready_by promise job) (until_of end job) pieces;
-      stranger = first_name Foreign (ready_by promise job) (until_of end job) pieces;
+      stranger = stranger_of (is_taken_past U promise end pieces job) promise end pieces job;
       idle = until_of end job - ready_by promise job
           - time_in Anyone (ready_by promise job) (until_of end job) pieces;
       may_be_taken = interrupts_within U (waited_of promise end job);

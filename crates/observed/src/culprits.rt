@@ -22,10 +22,11 @@ fn culprit_at(promises: &[Promise], from: u128, to: u128, pieces: &[Piece], leve
     requires { level < length promises.now }
     ensures { result ≡ culprit_at promises.now from to pieces.now level }
 {
+    let own = Whom::Level(level);
     Culprit {
         level,
         name: promises[level].name,
-        time: time_in(Whom::Level(level), from, to, pieces),
+        time: time_in(&own, from, to, pieces),
     }
 }
 

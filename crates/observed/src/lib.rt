@@ -4,6 +4,7 @@
 mod culprits;
 mod end;
 mod interrupts;
+pub mod laws;
 mod near;
 mod observing;
 mod pieces;
@@ -12,6 +13,7 @@ mod ranks;
 mod seen;
 mod shares;
 mod sight;
+mod strangers;
 mod sweeps;
 
 pub use crate::culprits::Culprit;

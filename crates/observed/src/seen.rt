@@ -1,14 +1,15 @@
 //! What a trace shows of a job.
 ghost use Rattle.std.specs.Prelude.{◌≡◌, ◌<◌, ◌≤◌, length, slice_index_or, All, IfOk};
 ghost use Rattle.observed.specs.Promises.{no_promise};
-ghost use Rattle.observed.specs.Seen.{closest_to, culprits_of, delay_of, gap_since, last_job, ready_by, seen_job, until_of, waited_of};
+ghost use Rattle.observed.specs.Seen.{closest_to, culprits_of, delay_of, gap_since, last_job, ready_by, seen_job, stranger_of, until_of, waited_of};
 
 use crate::culprits::{Culprit, culprits_below};
 use crate::interrupts::interrupts_within;
 use crate::pieces::Piece;
 use crate::promises::Promise;
 use crate::ranks::stray_in;
-use crate::shares::{Whom, first_name, time_in};
+use crate::shares::{Whom, time_in};
+use crate::strangers::longest_stranger;
 use ceilings::Tabled;
 use std::alloc::{AllocError, Global};
 use std::marker::Model;
@@ -47,7 +48,7 @@ pub struct Seen {
     pub may_be_blocked: u128,
     /// For how long threads executed, while it waited, that the set doesn't have.
     pub foreign: u128,
-    /// The first of them.
+    /// Where that is longer than they may: who of them did so longest, of equals the first.
     pub stranger: Option<Name>,
     /// For how long nobody executed while it waited.
     pub idle: u128,
@@ -180,6 +181,25 @@ fn culprits_of(
     }
 }
 
+// Where threads that the set doesn't have execute for longer than they may, who does so longest.
+fn stranger_of(
+    alloc: Global,
+    is_past: bool,
+    promise: &Promise,
+    end: u64,
+    pieces: &[Piece],
+    job: &TraceJob,
+) -> Result<Option<Name>, AllocError>
+    ensures { IfOk result (λ name. name ≡ stranger_of is_past promise.now end pieces.now job.now) }
+{
+    if is_past {
+        let to = u128::from(until_of(end, job));
+        longest_stranger(alloc, ready_by(promise, job), to, pieces)
+    } else {
+        Ok(None)
+    }
+}
+
 // What is seen of the job of a set at a place, whose task has this level, with the jobs before it.
 pub(crate) fn seen_job(
     alloc: Global,
@@ -204,10 +224,16 @@ pub(crate) fn seen_job(
     let taken = interrupts_within(set, waited_of(promise, end, job));
     let last = last_job(before, job.name);
     let closest = closest_to(promise, &last);
-    let blocked = time_in(Whom::Below(level), ready, to, pieces);
+    let below = Whom::Below(level);
+    let blocked = time_in(&below, ready, to, pieces);
     let may_be_blocked = u128::from(promise.blocking) + taken;
     let is_past = may_be_blocked < blocked;
     let culprits = culprits_of(alloc, is_past, promises, promise, level, end, pieces, job)?;
+    let strange = Whom::Foreign;
+    let foreign = time_in(&strange, ready, to, pieces);
+    let stranger = stranger_of(alloc, taken < foreign, promise, end, pieces, job)?;
+    let own = Whom::Job(before.len());
+    let anyone = Whom::Anyone;
     Ok(Seen {
         level,
         promise: promises[level],
@@ -217,7 +243,7 @@ pub(crate) fn seen_job(
         delay: delay_of(job),
         is_finished: job.finish.is_some(),
         lasted,
-        executed: time_in(Whom::Job(before.len()), u128::from(job.arrival), to, pieces),
+        executed: time_in(&own, u128::from(job.arrival), to, pieces),
         stray: stray_in(
             set,
             promises,
@@ -231,11 +257,11 @@ pub(crate) fn seen_job(
         blocked,
         may_be_blocked,
         culprits,
-        foreign: time_in(Whom::Foreign, ready, to, pieces),
-        stranger: first_name(Whom::Foreign, ready, to, pieces),
+        foreign,
+        stranger,
         idle: to
             .saturating_sub(ready)
-            .saturating_sub(time_in(Whom::Anyone, ready, to, pieces)),
+            .saturating_sub(time_in(&anyone, ready, to, pieces)),
         may_be_taken: taken,
     })
 }

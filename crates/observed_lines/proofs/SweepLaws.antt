@@ -1,6 +1,6 @@
 -- Who delays a job is found among the causes that are there.
 use Rattle.std.proofs.Common.{◌≡◌, ◌∙◌, ℕ, ◌+◌, ◌≤◌, ◌<◌, ◌&&◌, nat_le, nat_lt, Bool, true, false, cond, List}
-use Rattle.std.proofs.Common.{[], ◌∷◌, ◌++◌, Option, Some, None, refl, sym, ap, arith}
+use Rattle.std.proofs.Common.{[], ◌∷◌, ◌++◌, Option, Some, None, refl, sym, ap, arith, append_assoc}
 use Rattle.std.specs.List.{filter, find}
 use Rattle.std.specs.Option.{option_or}
 use Rattle.std.proofs.lemmas.Bool.{and_left, and_parts, and_right, leb-true, le-leb, le-ltb, ltb-false}
@@ -78,3 +78,22 @@ none_ahead s least (c ∷ cs) le comes =
 pub kept_agree : (time : ℕ) (xs ys : List Source) → Agree time (filter (is_there time) xs ++ ys) (xs ++ ys)
 kept_agree time xs ys s le =
     find_kept (λ c. delays c s) (is_there time) xs ys (λ c over. gone time c s over le)
+
+-- one that is over is left out
+pub skip_agree : (time : ℕ) (xs : List Source) (c : Source) (ys : List Source) → is_there time c ≡ false
+    → Agree time (xs ++ ys) (xs ++ c ∷ ys)
+skip_agree time xs c ys over s le =
+    sym (find_skip (λ d. delays d s) xs c ys (gone time c s over le))
+
+-- one that isn't is moved
+pub push_agree : (time : ℕ) (xs : List Source) (c : Source) (ys : List Source)
+    → Agree time ((xs ++ c ∷ []) ++ ys) (xs ++ c ∷ ys)
+push_agree time xs c ys s le = ap (λ (cs : List Source). find (λ d. delays d s) cs) (append_assoc xs (c ∷ []) ys)
+
+pub trans_agree : (time : ℕ) (xs ys zs : List Source) → Agree time xs ys → Agree time ys zs
+    → Agree time xs zs
+trans_agree time xs ys zs a b s le = a s le ∙ b s le
+
+-- of those that arrive later, too
+pub later_agree : (a b : ℕ) (xs ys : List Source) → a ≤ b → Agree a xs ys → Agree b xs ys
+later_agree a b xs ys le same s at = same s (omega (arith, le, at))

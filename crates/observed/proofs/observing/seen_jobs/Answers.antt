@@ -14,7 +14,7 @@ use Rattle.observed.specs.declared.promises.Promise.{Promise}
 use Rattle.observed.specs.SeenJob.{SeenData}
 use Rattle.observed.proofs.NearLaws.{seen-near}
 use Rattle.observed.proofs.observing.seen_jobs.Goals as goal
-use Rattle.observed.proofs.observing.seen_jobs.Goals.{in-Some+in_ok-push, in_default}
+use Rattle.observed.proofs.observing.seen_jobs.Goals.{in-Some+in_ok-seen_job+in_ok-push, in_default}
 
 pub loop-place-preserved : goal.loop-place-preserved
 loop-place-preserved c =
@@ -36,10 +36,10 @@ loop-place-preserved c =
     record {
       near = c.behind_next-rest.ensures;
       whole = elim c.match-level_of.branch [
-        | in-Some+in_ok-push w ↦
+        | in-Some+in_ok-seen_job+in_ok-push w ↦
             let level : ℕ = w.in-Some.level in
             let p : Promise = slice_index_or promises level no_promise in
-            let r : SeenData = w.seen_job.result in
+            let r : SeenData = w.in_ok-seen_job.field-0 in
             let close : w.near-near.result.now
             ≡ near (rise_from 0 pieces) (until_of end job) (behind job.arrival pieces) =
             w.near-near.ensures ∙ (ap (λ (b : Bool). near b w.until_of.result
@@ -47,7 +47,7 @@ loop-place-preserved c =
             ∙ ap₂ (λ (u : ℕ) (ps : List Piece). near (rise_from 0 pieces) u ps) w.until_of.ensures
             c.behind_next-rest.ensures) in
             let same : r ≡ seen_job U promises p level end pieces (take k jobs) job =
-            w.seen_job.ensures
+            w.in_ok-seen_job.ensures
             ∙ (ap (λ (ps : List Piece). seen_job U promises p level end ps (take k jobs) job) close
             ∙ seen-near U promises p level end pieces (take k jobs) job) in
             let step : seen_from U promises end pieces jobs k (drop k jobs) ≡ r ∷ later =
