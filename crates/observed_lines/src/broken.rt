@@ -144,9 +144,9 @@ fn push_own(text: &mut String, tolerance: u64, seen: &Seen) -> Result<(), AllocE
 }
 
 // It is done, and how long it took; or it is open; and from what this follows.
-fn push_late(text: &mut String, cause: Option<Cause>, seen: &Seen) -> Result<(), AllocError>
+fn push_late(text: &mut String, cause: &Option<Cause>, seen: &Seen) -> Result<(), AllocError>
     ensures { OnOk result (string_bytes text.new
-        ≡ string_bytes text.old ++ late_words cause seen.now) }
+        ≡ string_bytes text.old ++ late_words cause.now seen.now) }
 {
     if !seen.is_finished {
         push_at(text, "open", seen)?;
@@ -163,14 +163,14 @@ fn push_late(text: &mut String, cause: Option<Cause>, seen: &Seen) -> Result<(),
 fn push_bound(
     text: &mut String,
     follows: bool,
-    cause: Option<Cause>,
+    cause: &Option<Cause>,
     tolerance: u64,
     seen: &Seen,
 ) -> Result<(), AllocError>
     ensures { OnOk result (string_bytes text.new
-        ≡ string_bytes text.old ++ bound_words follows cause tolerance seen.now) }
+        ≡ string_bytes text.old ++ bound_words follows cause.now tolerance seen.now) }
 {
-    if breaks_bound(tolerance, seen) && is_among(follows, &cause) {
+    if breaks_bound(tolerance, seen) && is_among(follows, cause) {
         push_late(text, cause, seen)
     } else {
         Ok(())
@@ -181,14 +181,14 @@ fn push_bound(
 fn push_blocked(
     text: &mut String,
     follows: bool,
-    cause: Option<Cause>,
+    cause: &Option<Cause>,
     tolerance: u64,
     seen: &Seen,
 ) -> Result<(), AllocError>
     ensures { OnOk result (string_bytes text.new
-        ≡ string_bytes text.old ++ blocked_words follows cause tolerance seen.now) }
+        ≡ string_bytes text.old ++ blocked_words follows cause.now tolerance seen.now) }
 {
-    if !(breaks_blocking(tolerance, seen) && is_among(follows, &cause)) {
+    if !(breaks_blocking(tolerance, seen) && is_among(follows, cause)) {
         return Ok(());
     }
     let time = seen.blocked;
@@ -216,14 +216,14 @@ fn push_foreign(text: &mut String, tolerance: u64, seen: &Seen) -> Result<(), Al
 fn push_idle(
     text: &mut String,
     follows: bool,
-    cause: Option<Cause>,
+    cause: &Option<Cause>,
     tolerance: u64,
     seen: &Seen,
 ) -> Result<(), AllocError>
     ensures { OnOk result (string_bytes text.new
-        ≡ string_bytes text.old ++ idle_words follows cause tolerance seen.now) }
+        ≡ string_bytes text.old ++ idle_words follows cause.now tolerance seen.now) }
 {
-    if !(breaks_idle(tolerance, seen) && is_among(follows, &cause)) {
+    if !(breaks_idle(tolerance, seen) && is_among(follows, cause)) {
         return Ok(());
     }
     push_at(text, "idle", seen)?;
@@ -252,18 +252,18 @@ fn push_strange(
 fn push_wait(
     text: &mut String,
     follows: bool,
-    cause: Option<Cause>,
+    cause: &Option<Cause>,
     tolerance: u64,
     seen: &Seen,
 ) -> Result<(), AllocError>
     ensures { OnOk result (string_bytes text.new
-        ≡ string_bytes text.old ++ wait_words follows cause tolerance seen.now) }
+        ≡ string_bytes text.old ++ wait_words follows cause.now tolerance seen.now) }
 {
     push_blocked(text, follows, cause, tolerance, seen)?;
     push_strange(text, follows, tolerance, seen)?;
     push_idle(text, follows, cause, tolerance, seen)?;
     let cause = bound_cause(tolerance, cause, seen);
-    push_bound(text, follows, cause, tolerance, seen)
+    push_bound(text, follows, &cause, tolerance, seen)
 }
 
 // What each job breaks itself.
@@ -297,7 +297,7 @@ fn push_waits(
         rest = move_on(causes, &mut live, rest, in_order, reached, job.arrival)?;
         reached = job.arrival;
         let cause = cause_of(&live, rest, in_order, job);
-        push_wait(text, follows, cause, tolerance, job)?;
+        push_wait(text, follows, &cause, tolerance, job)?;
     }
     Ok(())
 }

@@ -151,11 +151,11 @@ fn wait_of(tolerance: u64, seen: &Seen) -> Option<Cause>
 }
 
 // From what follows that it took longer than its bound.
-pub(crate) fn bound_cause(tolerance: u64, cause: Option<Cause>, seen: &Seen) -> Option<Cause>
-    ensures { result ≡ bound_cause tolerance cause seen.now }
+pub(crate) fn bound_cause(tolerance: u64, cause: &Option<Cause>, seen: &Seen) -> Option<Cause>
+    ensures { result ≡ bound_cause tolerance cause.now seen.now }
 {
     match cause {
-        Some(cause) => Some(cause),
+        Some(cause) => Some(*cause),
         None => wait_of(tolerance, seen),
     }
 }
@@ -176,8 +176,8 @@ fn word_of<'a>(what: Broken) -> &'a str
 }
 
 // The cause, if there is one, and the end of the line.
-pub(crate) fn push_after(text: &mut String, cause: Option<Cause>) -> Result<(), AllocError>
-    ensures { OnOk result (string_bytes text.new ≡ string_bytes text.old ++ after_words cause) }
+pub(crate) fn push_after(text: &mut String, cause: &Option<Cause>) -> Result<(), AllocError>
+    ensures { OnOk result (string_bytes text.new ≡ string_bytes text.old ++ after_words cause.now) }
 {
     match cause {
         Some(cause) => {
