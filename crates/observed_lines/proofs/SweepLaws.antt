@@ -1,11 +1,11 @@
 -- Who delays a job is found among the causes that are there.
 use Rattle.std.proofs.Common.{◌≡◌, ◌∙◌, ℕ, ◌+◌, ◌≤◌, ◌<◌, ◌&&◌, nat_le, nat_lt, Bool, true, false, cond, List}
-use Rattle.std.proofs.Common.{[], ◌∷◌, ◌++◌, Option, Some, None, refl, sym, ap, arith, append_assoc}
+use Rattle.std.proofs.Common.{[], ◌∷◌, ◌++◌, Option, Some, None, option_map, refl, sym, ap, arith, append_assoc}
 use Rattle.std.specs.List.{filter, find}
 use Rattle.std.specs.Option.{option_or}
 use Rattle.std.proofs.lemmas.Bool.{and_left, and_parts, and_right, leb-true, le-leb, le-ltb, ltb-false}
 use Rattle.observed.specs.SeenJob.{SeenData}
-use Rattle.observed_lines.specs.Causes.{delays, is_there, may_delay}
+use Rattle.observed_lines.specs.Causes.{cause_of, delays, is_there, may_delay}
 use Rattle.observed_lines.specs.Sweeps.{Agree, come_from}
 use Rattle.observed_lines.specs.declared.causes.Source.{Source}
 
@@ -39,24 +39,25 @@ find_skip p (x ∷ xs) c ys fails =
 pub find_kept : (p q : Source → Bool) (xs ys : List Source) → ((c : Source) → q c ≡ false → p c ≡ false)
     → find p (filter q xs ++ ys) ≡ find p (xs ++ ys)
 find_kept p q [] ys out = refl
-find_kept p q (x ∷ xs) ys out = go (q x) refl
+find_kept p q (x ∷ xs) ys out = go (find_kept p q xs ys out) (q x) refl
   where
-    go : (b : Bool) → q x ≡ b
+    go : find p (filter q xs ++ ys) ≡ find p (xs ++ ys) → (b : Bool) → q x ≡ b
         → find p (cond b (x ∷ filter q xs) (filter q xs) ++ ys) ≡ find p (x ∷ xs ++ ys)
-    go true keeps = ap (λ (o : Option Source). cond (p x) (Some x) o) (find_kept p q xs ys out)
-    go false goes = find_kept p q xs ys out
-    ∙ sym (ap (λ b. cond b (Some x) (find p (xs ++ ys))) (out x goes))
+    go more true keeps = ap (λ (o : Option Source). cond (p x) (Some x) o) more
+    go more false goes =
+        more ∙ sym (ap (λ b. cond b (Some x) (find p (xs ++ ys))) (out x goes))
 
 -- the first of both
 pub find_append : (p : Source → Bool) (xs ys : List Source)
     → find p (xs ++ ys) ≡ option_or (find p xs) (find p ys)
 find_append p [] ys = refl
-find_append p (x ∷ xs) ys = go (p x)
+find_append p (x ∷ xs) ys = go (find_append p xs ys) (p x)
   where
-    go : (b : Bool) → cond b (Some x) (find p (xs ++ ys))
+    go : find p (xs ++ ys) ≡ option_or (find p xs) (find p ys) → (b : Bool)
+        → cond b (Some x) (find p (xs ++ ys))
         ≡ option_or (cond b (Some x) (find p xs)) (find p ys)
-    go true = refl
-    go false = find_append p xs ys
+    go more true = refl
+    go more false = more
 
 -- those that come no sooner than a time
 pub lower : (least : ℕ) (cs : List Source) → come_from least cs ≡ true → come_from 0 cs ≡ true
@@ -97,3 +98,12 @@ trans_agree time xs ys zs a b s le = a s le ∙ b s le
 -- of those that arrive later, too
 pub later_agree : (a b : ℕ) (xs ys : List Source) → a ≤ b → Agree a xs ys → Agree b xs ys
 later_agree a b xs ys le same s at = same s (omega (arith, le, at))
+
+-- the cause that those give that are as good as all
+pub cause_same : (time : ℕ) (live rest causes : List Source) (s : SeenData) → Agree time (live ++ rest) causes
+    → time ≤ s.arrival
+    → option_map (λ (c : Source). c.cause)
+    (option_or (find (λ c. delays c s) live) (find (λ c. delays c s) rest)) ≡ cause_of causes s
+cause_same time live rest causes s same le =
+    ap (λ (o : Option Source). option_map (λ (c : Source). c.cause) o)
+    (sym (find_append (λ c. delays c s) live rest) ∙ same s le)

@@ -21,11 +21,15 @@ abbrev pub limit_words : ℕ → ℕ → List ℕ
 limit_words time limit =
     if nat_lt 0 limit then of_words time limit else codes " " ++ decimal time
 
--- who executed, the first behind these words, and for how long
-abbrev pub culprits_words : (before : List ℕ) → List Culprit → List ℕ
-culprits_words before [] = []
-culprits_words before (c ∷ cs) =
-    before ++ c.name ++ codes " " ++ decimal c.time ++ culprits_words (codes ", ") cs
+-- who else executed, and for how long
+abbrev pub others_words : List Culprit → List ℕ
+others_words [] = []
+others_words (c ∷ cs) = codes ", " ++ c.name ++ codes " " ++ decimal c.time ++ others_words cs
+
+-- who executed, and for how long
+abbrev pub culprits_words : List Culprit → List ℕ
+culprits_words [] = []
+culprits_words (c ∷ cs) = codes " by " ++ c.name ++ codes " " ++ decimal c.time ++ others_words cs
 
 -- behind whom it waited, and the end of the line
 abbrev pub by_words : Option (List ℕ) → List ℕ
@@ -97,7 +101,7 @@ abbrev pub blocked_words : (follows : Bool) → Option Cause → ℕ → SeenDat
 blocked_words follows cause tolerance s =
     if breaks_blocking tolerance s && is_among follows cause
     then at_words (codes "blocked") s ++ of_words s.blocked s.may_be_blocked
-    ++ culprits_words (codes " by ") s.culprits ++ after_words cause
+    ++ culprits_words s.culprits ++ after_words cause
     else []
 
 -- while it waited, threads executed that the set doesn't have, for longer than may be taken, of which this is the first

@@ -1,6 +1,6 @@
 //! The lines of the promises that jobs break.
-ghost use Rattle.std.specs.Prelude.{◌≡◌, ◌++◌, OnOk, codes, string_bytes};
-ghost use Rattle.observed_lines.specs.Broken.{at_words, blocked_words, bound_words, broken_lines, by_words, cost_words, culprits_words, delay_words, foreign_words, idle_words, jitter_words, late_words, limit_words, own_lines, own_words, period_words, priority_words, strange_words, stray_words, wait_lines, wait_words};
+ghost use Rattle.std.specs.Prelude.{◌≡◌, ◌++◌, OnOk, string_bytes};
+ghost use Rattle.observed_lines.specs.Broken.{at_words, blocked_words, bound_words, broken_lines, by_words, cost_words, culprits_words, delay_words, foreign_words, idle_words, jitter_words, late_words, limit_words, others_words, own_lines, own_words, period_words, priority_words, strange_words, stray_words, wait_lines, wait_words};
 
 use crate::breaks::{
     breaks_blocking, breaks_bound, breaks_cost, breaks_foreign, breaks_idle, breaks_jitter,
@@ -34,19 +34,31 @@ fn push_limit(text: &mut String, time: u128, limit: u128) -> Result<(), AllocErr
     }
 }
 
-// Who executed, and for how long.
-fn push_culprits(text: &mut String, culprits: &[Culprit]) -> Result<(), AllocError>
-    ensures { OnOk result (string_bytes text.new
-        ≡ string_bytes text.old ++ culprits_words (codes " by ") culprits.now) }
+// Who else executed, and for how long.
+fn push_others(text: &mut String, culprits: &[Culprit]) -> Result<(), AllocError>
+    ensures { OnOk result (string_bytes text.new ≡ string_bytes text.old ++ others_words culprits.now) }
 {
-    let mut before = " by ";
     for culprit in culprits {
         let name = culprit.name;
         let time = culprit.time;
-        write!(text, "{before}{name} {time}")?;
-        before = ", ";
+        write!(text, ", {name} {time}")?;
     }
     Ok(())
+}
+
+// Who executed, and for how long.
+fn push_culprits(text: &mut String, culprits: &[Culprit]) -> Result<(), AllocError>
+    ensures { OnOk result (string_bytes text.new ≡ string_bytes text.old ++ culprits_words culprits.now) }
+{
+    match culprits.split_first() {
+        Some((first, others)) => {
+            let name = first.name;
+            let time = first.time;
+            write!(text, " by {name} {time}")?;
+            push_others(text, others)
+        }
+        None => Ok(()),
+    }
 }
 
 // Behind whom it waited, and the end of the line.

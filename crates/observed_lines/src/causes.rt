@@ -1,12 +1,13 @@
 //! From what a broken promise of a job follows.
-ghost use Rattle.std.specs.Prelude.{◌≡◌, ◌++◌, IfOk, OnOk, string_bytes};
+ghost use Rattle.std.specs.Prelude.{◌≡◌, ◌++◌, ◌==◌, IfOk, OnOk, string_bytes};
+ghost use Rattle.std.specs.List.{list_any};
 ghost use Rattle.observed_lines.specs.Causes.{after_words, as_cause, bound_cause, breaks_own, delays, is_among, is_there, may_delay, overlap, own_of, source_of, sources_in, wait_of, word_of};
 
 use crate::breaks::{
     breaks_blocking, breaks_cost, breaks_foreign, breaks_idle, breaks_jitter, breaks_period,
     breaks_priority,
 };
-use observed::Seen;
+use observed::{Culprit, Seen};
 use std::alloc::{AllocError, Global};
 use task_sheet::Name;
 
@@ -117,15 +118,18 @@ fn overlap(source: &Source, seen: &Seen) -> bool
         && is_there(seen.arrival, source)
 }
 
+// The task of a level is among these.
+fn has_level(culprits: &[Culprit], level: usize) -> bool
+    ensures { result ≡ list_any (λ d. d.level == level) culprits.now }
+{
+    culprits.iter().any(|culprit| culprit.level == level)
+}
+
 // Its task stands no lower than the other's, or is one of those that are named to have blocked it.
 fn may_delay(source: &Source, seen: &Seen) -> bool
     ensures { result ≡ may_delay source.now seen.now }
 {
-    seen.level <= source.level
-        || seen
-            .culprits
-            .iter()
-            .any(|culprit| culprit.level == source.level)
+    seen.level <= source.level || has_level(&seen.culprits, source.level)
 }
 
 // A job delays another, or itself.

@@ -1,7 +1,8 @@
 //! Who delays a job, found in a sweep over jobs by their arrivals.
-ghost use Rattle.std.specs.Prelude.{◌≡◌, ◌++◌, ◌≤◌, true, IfOk};
+ghost use Rattle.std.specs.Prelude.{◌≡◌, ◌++◌, ◌+◌, ◌≤◌, nat_le, option_map, true, IfOk};
 ghost use Rattle.std.specs.List.{filter, find};
-ghost use Rattle.observed_lines.specs.Causes.{cause_of, delays, is_there};
+ghost use Rattle.std.specs.Option.{option_or};
+ghost use Rattle.observed_lines.specs.Causes.{delays, is_there};
 ghost use Rattle.observed_lines.specs.Sweeps.{Agree, come_from};
 
 use crate::causes::{Cause, Source, delays, is_there};
@@ -53,13 +54,20 @@ fn take_in<'a>(
     Ok(left)
 }
 
+// It comes behind the end of a job.
+fn is_behind(source: &Source, seen: &Seen) -> bool
+    ensures { result ≡ nat_le (seen.now.arrival + seen.now.lasted) source.now.cause.arrival }
+{
+    u128::from(seen.arrival) + u128::from(seen.lasted) <= u128::from(source.cause.arrival)
+}
+
 // The first of some that delays a job; none that comes behind its end does.
 fn first_ahead(causes: &[Source], in_order: bool, seen: &Seen) -> Option<Source>
     requires { in_order ≡ true → come_from 0 causes.now ≡ true }
     ensures { result ≡ find (λ c. delays c seen.now) causes.now }
 {
     for source in causes {
-        if in_order && u128::from(seen.arrival) + u128::from(seen.lasted) <= u128::from(source.cause.arrival) {
+        if in_order && is_behind(source, seen) {
             return None;
         }
         if delays(source, seen) {
@@ -72,10 +80,11 @@ fn first_ahead(causes: &[Source], in_order: bool, seen: &Seen) -> Option<Source>
 // The same of causes that were there before, and of those that are to come.
 fn first_of(live: &[Source], rest: &[Source], in_order: bool, seen: &Seen) -> Option<Source>
     requires { in_order ≡ true → come_from 0 rest.now ≡ true }
-    ensures { result ≡ find (λ c. delays c seen.now) (live.now ++ rest.now) }
+    ensures { result ≡ option_or (find (λ c. delays c seen.now) live.now)
+        (find (λ c. delays c seen.now) rest.now) }
 {
-    match live.iter().find(|source| delays(source, seen)) {
-        Some(source) => Some(*source),
+    match first_ahead(live, false, seen) {
+        Some(source) => Some(source),
         None => first_ahead(rest, in_order, seen),
     }
 }
@@ -88,7 +97,8 @@ pub(crate) fn cause_of(
     seen: &Seen,
 ) -> Option<Cause>
     requires { in_order ≡ true → come_from 0 rest.now ≡ true }
-    ensures { result ≡ cause_of (live.now ++ rest.now) seen.now }
+    ensures { result ≡ option_map (λ c. c.cause) (option_or (find (λ c. delays c seen.now) live.now)
+        (find (λ c. delays c seen.now) rest.now)) }
 {
     let first = first_of(live, rest, in_order, seen)?;
     Some(first.cause)
@@ -115,5 +125,6 @@ pub(crate) fn move_on<'a>(
         return take_in(live, causes, in_order, time);
     }
     keep(live, time);
-    take_in(live, rest, in_order, time)
+    let left = take_in(live, rest, in_order, time)?;
+    Ok(left)
 }
