@@ -3,3 +3,4 @@ pub mod ShareLaws
 pub mod BudgetLaws
 pub mod WrittenLaws
 pub mod OwnLaws
+pub mod StrictLaws

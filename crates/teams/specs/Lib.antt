@@ -9,3 +9,4 @@ pub mod Budgets
 pub mod Rights
 pub mod Naming
 pub mod ReadsText
+pub mod Strictness

@@ -10,7 +10,9 @@ returns-in-None c =
       read.2,
       read.3,
       read.4,
-      told_as c.args.asking.is_strict _ _ _ _ c.in-Ok.read.set _ read.2 read.3
+      c.is_told.is_told,
+      c.is_told.ensures,
+      told_as c.is_told.is_told _ _ _ _ c.in-Ok.read.set _ read.2 read.3
           (sym c.in-None.is ∙ c.doubt_told.ensures),
     )
 
@@ -21,6 +23,8 @@ returns-in-Some c =
       c.in-Ok.read.set,
       read.1,
       read.4,
-      told_as c.args.asking.is_strict _ _ _ _ c.in-Ok.read.set _ read.2 read.3
+      c.is_told.is_told,
+      c.is_told.ensures,
+      told_as c.is_told.is_told _ _ _ _ c.in-Ok.read.set _ read.2 read.3
           (sym c.in-Some.is ∙ c.doubt_told.ensures),
     )
