@@ -122,6 +122,19 @@ What only the node's document may say:
   $ fresh nora && git -C nora revert --no-edit HEAD > said && push nora | grep '^all'
   all 1000 -> 1000
 
+A node that takes no set with what may be a mistake:
+
+  $ fresh nora && sed -i '1i strict = true' nora/teams/node.toml && save nora strict && push nora
+  refused
+  $ fresh nora && printf 'strict = true\nprefer = "deadline"\n' > nora/teams/node.toml && save nora strict && push nora | grep '^all'
+  all 1000 -> 1000
+  $ fresh cy && locked pan 30000 100 zoom 100 > cy/teams/cam.toml && save cy 'a lock' && push cy
+  refused
+  $ fresh cy && printf 'outranks = ["rol"]\n' >> cy/teams/cam.toml && save cy 'above the base' && push cy
+  refused
+  $ fresh nora && git -C nora revert --no-edit HEAD > said && push nora | grep '^all'
+  all 1000 -> 1000
+
 What is no document:
 
   $ fresh cy && chmod +x cy/teams/cam.toml && save cy 'run it' && push cy
