@@ -36,13 +36,14 @@ abbrev pub least_period : ℕ → List TaskRow → ℕ
 least_period least [] = least
 least_period least (row ∷ rows) = least_period (min least row.sheet.period) rows
 
--- how many digits so many microseconds below ten seconds have before the point, in milliseconds
+-- how many digits so many microseconds, ten seconds at most, have before the point, in milliseconds
 abbrev pub whole_digits : ℕ → ℕ
 whole_digits time =
     if nat_lt time 10000 then 1
     else if nat_lt time 100000 then 2
     else if nat_lt time 1000000 then 3
-    else 4
+    else if nat_lt time 10000000 then 4
+    else 5
 
 -- how many letters they have with what stands behind it
 abbrev pub millis_letters : ℕ → ℕ
@@ -52,7 +53,7 @@ millis_letters time =
     else if time % 10 == 0 then whole_digits time + 3
     else whole_digits time + 4
 
--- how many letters the line below a row's name has, where no deadline is missed
+-- how many letters the line below a row's name has
 abbrev pub letters_of : (deadline : ℕ) → (bound : Option ℕ) → ℕ
 letters_of deadline (Some bound) = 13 + millis_letters bound + millis_letters deadline
 letters_of deadline None = 12 + millis_letters deadline

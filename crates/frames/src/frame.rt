@@ -69,10 +69,10 @@ fn least_period(rows: &[TaskRow]) -> u64
     least
 }
 
-// How many digits so many microseconds below ten seconds have before the point, in milliseconds.
+// How many digits so many microseconds, ten seconds at most, have before the point, in milliseconds.
 fn whole_digits(time: u64) -> u64
     ensures value { result ≡ whole_digits time }
-    ensures few { result ≤ 4 }
+    ensures few { result ≤ 5 }
 {
     if time < 10_000 {
         1
@@ -80,15 +80,17 @@ fn whole_digits(time: u64) -> u64
         2
     } else if time < 1_000_000 {
         3
-    } else {
+    } else if time < 10_000_000 {
         4
+    } else {
+        5
     }
 }
 
 // How many letters they have with what stands behind it.
 fn millis_letters(time: u64) -> u64
     ensures value { result ≡ millis_letters time }
-    ensures few { result ≤ 8 }
+    ensures few { result ≤ 9 }
 {
     let whole = whole_digits(time);
     if time % 1000 == 0 {
@@ -102,7 +104,7 @@ fn millis_letters(time: u64) -> u64
     }
 }
 
-// How many letters the line below a row's name has, where no deadline is missed.
+// How many letters the line below a row's name has.
 fn limits_letters(row: &TaskRow) -> u64
     ensures value { result ≡ limits_letters row.now }
     ensures few { result ≤ 40 }

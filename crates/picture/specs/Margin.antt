@@ -49,11 +49,11 @@ limits_text k row None =
     ∷ millis_text row.sheet.deadline
     ∷ codes " ms</text>\n" ∷ [])
 
--- how many deadlines are missed, or those two
-abbrev pub second_line : (missed : ℕ) → ℕ → TaskRow → List ℕ
-second_line missed k row =
-    if missed == 0 then limits_text k row row.bound
-    else concat (codes "<text class=\"q\" x=\"500\" y=\"" ∷ decimal (top_of k + 355)
+-- below them how many deadlines are missed, where some are
+abbrev pub missed_line : (missed : ℕ) → ℕ → List ℕ
+missed_line missed k =
+    if missed == 0 then []
+    else concat (codes "<text class=\"q\" x=\"500\" y=\"" ∷ decimal (top_of k + 460)
     ∷ codes "\">deadlines missed: " ∷ decimal missed
     ∷ codes "</text>\n" ∷ [])
 
@@ -61,4 +61,4 @@ second_line missed k row =
 abbrev pub margin_text : Frame → List JobRecord → Spot → TaskRow → List ℕ
 margin_text f jobs spot row =
     level_text f spot ++ name_text (missed_in f row jobs) jobs spot.k row
-    ++ second_line (missed_in f row jobs) spot.k row
+    ++ limits_text spot.k row row.bound ++ missed_line (missed_in f row jobs) spot.k

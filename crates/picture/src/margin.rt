@@ -2,7 +2,7 @@
 ghost use Rattle.std.specs.Prelude.{◌≡◌, ◌++◌, codes};
 ghost use Rattle.frames.specs.Page.{Adds};
 ghost use Rattle.picture.specs.Document.{margin_group, margins_text};
-ghost use Rattle.picture.specs.Margin.{level_text, limits_text, margin_text, name_class, name_text, second_line};
+ghost use Rattle.picture.specs.Margin.{level_text, limits_text, margin_text, missed_line, name_class, name_text};
 
 use ceiling_kernel::JobRecord;
 use drawn_jobs::{missed_in, put_greatest, put_lane_head};
@@ -69,16 +69,16 @@ fn put_limits(lane: &Lane<'_>, page: &mut Page)
     }
 }
 
-// How many deadlines are missed, or those two.
-fn put_second_line(missed: usize, lane: &Lane<'_>, page: &mut Page)
-    ensures { Adds page.old page.new (second_line missed lane.now.spot.k lane.now.row.now) }
+// Below them how many deadlines are missed, where some are.
+fn put_missed_line(missed: usize, lane: &Lane<'_>, page: &mut Page)
+    ensures { Adds page.old page.new (missed_line missed lane.now.spot.k) }
 {
     if missed == 0 {
-        return put_limits(lane, page);
+        return;
     }
     page.number(
         b"<text class=\"q\" x=\"500\" y=\"",
-        top_of(lane.spot.k) + 355,
+        top_of(lane.spot.k) + 460,
     );
     page.number(b"\">deadlines missed: ", missed as u64);
     page.put(b"</text>\n")
@@ -92,7 +92,8 @@ fn put_margin(lane: &Lane<'_>, jobs: &[JobRecord], page: &mut Page)
     let missed = missed_in(lane.frame, lane.row, jobs);
     put_level(lane, page);
     put_row_name(missed, lane, jobs, page);
-    put_second_line(missed, lane, page)
+    put_limits(lane, page);
+    put_missed_line(missed, lane, page)
 }
 
 // The rows' parts.
