@@ -6,4 +6,4 @@ pub returns : goal.returns
 returns c = rw (
   le-ltb c.args.wide 1860 c.if-wide-lt1860.false,
   ne_eqb c.args.outcome.done 0 c.if-outcome-eq0.false,
-) (adds_both c.put_millis.ensures c.put-2.ensures)
+) (adds_both c.put_time.ensures c.put_unit.ensures)

@@ -13,7 +13,8 @@ returns-then-frame c = rw (
 
 pub returns : goal.returns
 returns c =
-    let puts = adds_3 c.put_millis.ensures c.put_millis-2.ensures c.put.ensures in
+    let puts = rw c.in_millis-millis.ensures
+    at (adds_3 c.put_time.ensures c.put_time-2.ensures c.put_unit.ensures) in
     elim c.else-frame-eq0.branch [
       | else-frame-eq0-via-then-frame-eq0+else-frame w ↦ rw (
         ← c.frame.view_is,
