@@ -64,12 +64,25 @@ of the run, but the heading names the window, for which the processor is busy. I
   3 m-20 0l-60
   2 m20 0l60
   $ sed -nE 's/.* y="1200">(.*)<.text>/\1/p' run.svg | xargs
-  1 2 3 4 5 6 time in ms
-  $ grep -oE '(tasks: .* ms|busy .* %)<' run.svg
-  tasks: 3, jobs: 3, until 100 ms, shown: 1 to 6 ms<
-  busy 100.0 %<
+  1000 2000 3000 4000 5000 6000 time in us
+  $ grep -oE '(tasks: .* us|busy .* %)<.text' run.svg
+  tasks: 3, jobs: 3, until 100000 us, shown: 1000 to 6000 us</text
+  busy 100.0 %</text
   $ wide --from 22000 --to 24000 | grep -o 'busy .* %'
   busy 50.0 %
+
+All of it has one unit: milliseconds where the window has ten of them, else microseconds, also between two of the scale's
+whole milliseconds:
+
+  $ units() { sed -nE 's/<title>[^<]*<.title>//g; s/.*>([^<]*(time in|deadline [0-9]|bound|until) [^<]*)<.text>.*/\1/p' | paste -sd '|'; }
+  $ wide --to 10000 | units
+  tasks: 3, jobs: 3, until 100 ms, shown: 0 to 10 ms|time in ms|bound 5 of 10 ms|bound 7 of 20 ms|bound 27 of 100 ms
+  $ wide --to 9999 | units
+  tasks: 3, jobs: 3, until 100000 us, shown: 0 to 9999 us|time in us|bound 5000 of 10000 us|bound 7000 of 20000 us|bound 27000 of 100000 us
+  $ wide --to 10000 --width 16000 | sed -nE 's/.* y="1200">(.*)<.text>/\1/p' | sed -n '2p;21p;$p'
+  0.1
+  2
+  time in ms
 
 The whole window is the picture without one:
 
@@ -258,8 +271,8 @@ What the bounds count, and the run lacks, its second line says:
   > period = 5000
   > cost = 10
   > END
-  $ printf 'until 3000\n0 lo\n' | desk draw timed.toml - --to 2000 2> note | grep -o 'tasks: .*ms<'
-  tasks: 3, jobs: 1, until 3 ms, timers and interrupts in the bounds alone, shown: 0 to 2 ms<
+  $ printf 'until 3000\n0 lo\n' | desk draw timed.toml - --to 2000 2> note | grep -o 'tasks: .*shown.*<'
+  tasks: 3, jobs: 1, until 3000 us, timers and interrupts in the bounds alone, shown: 0 to 2000 us<
   $ cat note
   note: what timers and interrupts take is in the bounds, and not in the run
 
@@ -281,7 +294,7 @@ A stripe isn't wider than its lock is held, and the last number of the scale sta
   <path class="h" d="M1960 1855H1961v180H1960z"
   <path class="k0" d="M1960 1855H1961v180H1960z"
   $ printf 'until 60000000\n0 hi\n' | desk draw examples/shared-lock.toml - --from 59000000 --to 59003000 | sed -nE 's/.*x="([0-9]*)" y="1200">(.*)<.text>/\1 \2/p' | tail -n 3
-  8160 59002500
+  8174 59002500
   9310 59003000
   500 time in us
 

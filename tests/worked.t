@@ -653,7 +653,7 @@ second job isn't done at the end:
   <svg xmlns="http://www.w3.org/2000/svg" version="1.1" width="960" height="312" viewBox="0 0 9600 3120">
   <title>tasks: 2, jobs: 3, until 1300 us</title>
   <text class="t" x="100" y="200">no deadline missed</text>
-  <text x="100" y="390">tasks: 2, jobs: 3, until 1.3 ms</text>
+  <text x="100" y="390">tasks: 2, jobs: 3, until 1300 us</text>
   <path class="g" d="M1960 1230V2650"/><text class="s" x="1960" y="1200">0</text>
   <path class="g" d="M3104 1230V2650"/><text class="s" x="3104" y="1200">200</text>
   <path class="g" d="M4249 1230V2650"/><text class="s" x="4249" y="1200">400</text>
@@ -669,10 +669,10 @@ second job isn't done at the end:
   <text class="n" x="500" y="1460">processor</text><text x="500" y="1580">busy 88.4 %</text>
   <text class="v" x="300" y="1920">2</text><rect class="f0" x="350" y="1820" width="100" height="100" rx="20"/>
   <text class="n" x="500" y="1920"><title>done: 1, greatest response: 450, bound: 550 us</title>a</text>
-  <text x="500" y="2045">bound 0.55 of 0.9 ms</text>
+  <text x="500" y="2045">bound 550 of 900 us</text>
   <text class="v" x="300" y="2400">1</text><rect class="f1" x="350" y="2300" width="100" height="100" rx="20"/>
   <text class="n" x="500" y="2400"><title>done: 1, greatest response: 900, bound: 900 us</title>b</text>
-  <text x="500" y="2525">bound 0.9 of 2 ms</text>
+  <text x="500" y="2525">bound 900 of 2000 us</text>
   </g>
   <g id="k">
   <text x="100" y="2898">holds a lock:</text>
@@ -734,7 +734,7 @@ a below b misses its deadline:
   <title>tasks: 2, jobs: 3, until 1250 us</title>
   <path class="x" d="M190 150h1"/><path class="y" d="M190 150m-38-38l76 76m0-76l-76 76"/>
   <text class="t q" x="320" y="200">deadlines missed: 1</text>
-  <text x="100" y="390">tasks: 2, jobs: 3, until 1.25 ms</text>
+  <text x="100" y="390">tasks: 2, jobs: 3, until 1250 us</text>
   <path class="g" d="M1960 1230V2650"/><text class="s" x="1960" y="1200">0</text>
   <path class="g" d="M3150 1230V2650"/><text class="s" x="3150" y="1200">200</text>
   <path class="g" d="M4340 1230V2650"/><text class="s" x="4340" y="1200">400</text>
@@ -750,10 +750,10 @@ a below b misses its deadline:
   <text class="n" x="500" y="1460">processor</text><text x="500" y="1580">busy 92.0 %</text>
   <text class="v" x="300" y="1920">2</text><rect class="f0" x="350" y="1820" width="100" height="100" rx="20"/>
   <text class="n" x="500" y="1920"><title>done: 1, greatest response: 600, bound: 600 us</title>b</text>
-  <text x="500" y="2045">bound 0.6 of 2 ms</text>
+  <text x="500" y="2045">bound 600 of 2000 us</text>
   <text class="v" x="300" y="2400">1</text><rect class="f1" x="350" y="2300" width="100" height="100" rx="20"/>
   <text class="n q" x="500" y="2400"><title>done: 1, greatest response: 900, bound: - us</title>a</text>
-  <text x="500" y="2525">deadline 0.5 ms</text>
+  <text x="500" y="2525">deadline 500 us</text>
   <text class="q" x="500" y="2630">deadlines missed: 1</text>
   </g>
   <g id="k">
@@ -797,7 +797,7 @@ No task, and no time:
   <svg xmlns="http://www.w3.org/2000/svg" version="1.1" width="960" height="181" viewBox="0 0 9600 1810">
   <title>tasks: 0, jobs: 0, until 0 us</title>
   <text class="t" x="100" y="200">no deadline missed</text>
-  <text x="100" y="390">tasks: 0, jobs: 0, until 0 ms</text>
+  <text x="100" y="390">tasks: 0, jobs: 0, until 0 us</text>
   <path class="g" d="M1960 1230V1690"/><text class="s" x="1960" y="1200">0</text>
   <path class="g" d="M9400 1230V1690"/><text class="s" x="9400" y="1200">1</text>
   <path class="l" d="M1960 1570H9400"/>
