@@ -3,6 +3,8 @@
 `tasks` is a set by rank, a task is its index, `above` a set of indexes, an order a list of indexes, lowest first.
 """
 
+import math
+from fractions import Fraction
 from typing import NamedTuple
 
 
@@ -209,17 +211,12 @@ def first_blocker(tasks, i, above):
     return None
 
 
-def share(cost, period):
-    """In millionths, rounded up."""
-    return -(-cost * 1_000_000 // period)
-
-
 def share_of_tasks(tasks):
-    """What the tasks take, without timers and interrupts."""
-    return sum(share(task.cost, task.period) for task in tasks)
+    """What the tasks take of the processor, without timers and interrupts."""
+    return sum(Fraction(task.cost, task.period) for task in tasks)
 
 
 def load(tasks):
-    """What the tasks take, each task's timer, and each interrupt."""
-    timers = sum(share(task.node.release, task.period) for task in tasks)
-    return share_of_tasks(tasks) + timers + sum(share(cost, period) for period, cost in interrupts_of(tasks))
+    """What the tasks take, each task's timer, and each interrupt, in millionths, rounded up once."""
+    timed = sum(Fraction(task.node.release, task.period) for task in tasks)
+    return math.ceil(1_000_000 * (share_of_tasks(tasks) + timed + sum(Fraction(cost, period) for period, cost in interrupts_of(tasks))))

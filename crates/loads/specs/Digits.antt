@@ -1,6 +1,6 @@
 -- A fraction by the digits of its numerator and denominator to the base 2^32, the least first.
 use Rattle.std.specs.Prelude.{ℕ, ◌+◌, ◌*◌, ◌<◌, List, [], ◌∷◌, All}
-use Rattle.teams.specs.declared.shares.Digit.{Digit}
+use Rattle.loads.specs.declared.shares.Digit.{Digit}
 
 -- the numerator
 abbrev pub top_of : List Digit → ℕ

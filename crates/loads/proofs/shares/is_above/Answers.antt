@@ -1,8 +1,8 @@
 use Rattle.std.proofs.Common.{arith, sym}
 use Rattle.std.proofs.lemmas.Bool.{lt-ltb, le-ltb}
-use Rattle.teams.specs.declared.shares.Digit.{Digit}
-use Rattle.teams.proofs.ShareLaws.{digit_above, digit_below, digit_next}
-use Rattle.teams.proofs.shares.is_above.Goals as goal
+use Rattle.loads.specs.declared.shares.Digit.{Digit}
+use Rattle.loads.proofs.ShareLaws.{digit_above, digit_below, digit_next}
+use Rattle.loads.proofs.shares.is_above.Goals as goal
 
 none : Digit
 none = record { top = 0; bottom = 0 }

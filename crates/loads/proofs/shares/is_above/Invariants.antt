@@ -1,6 +1,6 @@
 use Rattle.std.proofs.Common.{◌≡◌, ◌+◌, ◌*◌, ◌≤◌, drop}
-use Rattle.teams.specs.Digits.{bottom_of, top_of}
-use Rattle.teams.proofs.shares.is_above.Given as goal
+use Rattle.loads.specs.Digits.{bottom_of, top_of}
+use Rattle.loads.proofs.shares.is_above.Given as goal
 
 abbrev pub invariant-loop-i : goal.invariant-loop-i
 invariant-loop-i l = record {

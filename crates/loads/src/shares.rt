@@ -1,14 +1,14 @@
 //! What costs come to, each over its period: a sum of fractions, which no rounding touches.
 ghost use Rattle.std.specs.Prelude.{◌≡◌, ◌+◌, ◌*◌, ◌<◌, ◌≤◌, nat_lt, length, All, IfOk};
 ghost use Rattle.std.specs.Int.{div_ceil};
-ghost use Rattle.teams.specs.Digits.{AreDigits, bottom_of, top_of};
-ghost use Rattle.teams.specs.Shares.{IsShare, costs_of, periods_of};
+ghost use Rattle.loads.specs.Digits.{AreDigits, bottom_of, top_of};
+ghost use Rattle.loads.specs.Shares.{IsShare, load_in};
 
 use std::alloc::{AllocError, Global};
 
-// A cost in each period, in microseconds.
+/// What is taken in each period; times in microseconds, up to 10,000,000.
 #[derive(Clone, Copy)]
-pub(crate) struct Share {
+pub struct Share {
     pub cost: u64,
     pub period: u64,
 }
@@ -75,7 +75,7 @@ fn is_above(fraction: &[Digit], number: u64) -> bool
 fn rounded_up(fraction: &[Digit]) -> u64
     requires digits { AreDigits fraction.now }
     requires some { 0 < bottom_of fraction.now }
-    requires short { top_of fraction.now ≤ 64 * bottom_of fraction.now }
+    requires short { top_of fraction.now ≤ 1000 * bottom_of fraction.now }
     ensures { result ≡ div_ceil (top_of fraction.now) (bottom_of fraction.now) }
 {
     let mut number = 0;
@@ -85,23 +85,25 @@ fn rounded_up(fraction: &[Digit]) -> u64
     number
 }
 
-// What shares come to together in thousandths, exactly, and then rounded up.
-pub(crate) fn thousandths(alloc: Global, shares: &[Share]) -> Result<u64, AllocError>
+/// What shares come to together, in so many parts of the processor: exactly, and then rounded up once (Liu and Layland
+/// 1973). The error is out of memory.
+pub fn load_in(alloc: Global, parts: u64, shares: &[Share]) -> Result<u64, AllocError>
+    requires short { parts ≤ 1000000 }
     requires valid { All IsShare shares.now }
-    requires few { length shares.now ≤ 64 }
-    ensures { IfOk result (λ n. n ≡ div_ceil (costs_of shares.now * 1000) (periods_of shares.now)) }
+    requires few { length shares.now ≤ 1000 }
+    ensures { IfOk result (λ n. n ≡ load_in parts shares.now) }
 {
     let mut whole = 0;
     let mut rest = Vec::new(alloc);
     rest.push(Digit { top: 0, bottom: 1 })?;
     for share in shares {
-        let thousandths = share.cost * 1000;
+        let times = share.cost * parts;
         let left = Share {
-            cost: thousandths % share.period,
+            cost: times % share.period,
             period: share.period,
         };
         rest = plus(alloc, &rest, left)?;
-        whole += thousandths / share.period;
+        whole += times / share.period;
     }
     Ok(whole + rounded_up(&rest))
 }

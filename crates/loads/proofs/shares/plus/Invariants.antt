@@ -1,7 +1,7 @@
 use Rattle.std.proofs.Common.{◌≡◌, ◌+◌, ◌*◌, ◌≤◌, drop}
-use Rattle.teams.specs.Digits.{AreDigits, bottom_of, top_of}
-use Rattle.teams.proofs.ShareLaws.{bottom_before, top_before}
-use Rattle.teams.proofs.shares.plus.Given as goal
+use Rattle.loads.specs.Digits.{AreDigits, bottom_of, top_of}
+use Rattle.loads.proofs.ShareLaws.{bottom_before, top_before}
+use Rattle.loads.proofs.shares.plus.Given as goal
 
 abbrev pub invariant-loop-digit : goal.invariant-loop-digit
 invariant-loop-digit l =

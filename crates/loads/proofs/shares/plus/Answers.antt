@@ -1,9 +1,9 @@
 use Rattle.std.proofs.Common.{◌∙◌, get_or, arith, refl}
 use Rattle.std.proofs.lemmas.List.{drop_more, drop_all}
-use Rattle.teams.specs.declared.shares.Digit.{Digit}
-use Rattle.teams.proofs.ShareLaws.{bottom_carried, bottom_end, bottom_step, digits_push, low_digit}
-use Rattle.teams.proofs.ShareLaws.{top_carried, top_end, top_step}
-use Rattle.teams.proofs.shares.plus.Goals as goal
+use Rattle.loads.specs.declared.shares.Digit.{Digit}
+use Rattle.loads.proofs.ShareLaws.{bottom_carried, bottom_end, bottom_step, digits_push, low_digit}
+use Rattle.loads.proofs.ShareLaws.{top_carried, top_end, top_step}
+use Rattle.loads.proofs.shares.plus.Goals as goal
 
 none : Digit
 none = record { top = 0; bottom = 0 }

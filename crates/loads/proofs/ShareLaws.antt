@@ -1,15 +1,15 @@
 -- Sums and comparisons of fractions by digits.
 use Rattle.std.proofs.Common.{◌≡◌, ◌∙◌, ◌+◌, ◌-◌, ◌*◌, ◌/◌, ◌%◌, ◌<◌, ◌≤◌, ℕ, zero, suc, inl, inr, List, [], ◌∷◌}
 use Rattle.std.proofs.Common.{◌++◌, length, drop, get_or, ap, refl, sym, subst, arith}
-use Rattle.std.proofs.Math.Nat.{le_of_mul-le-mul_right, mul-le-mul_left, mul-le-mul_right}
+use Rattle.std.proofs.Math.Nat.{mul-le-mul_left, mul-le-mul_right}
 use Rattle.std.proofs.lemmas.Nat.{div-add-mod'}
 use Rattle.std.proofs.lemmas.Bool.{cases_order}
 use Rattle.std.proofs.lemmas.List.{drop_more}
 use Rattle.std.proofs.lemmas.List.Elements.{All-append, All-cons, All-head, All-nil, All-tail}
 use Rattle.std.specs.Int.{div_ceil}
 use Rattle.std.proofs.lemmas.Grind.{div_ceil_times}
-use Rattle.teams.specs.Digits.{AreDigits, IsDigit, bottom_of, top_of}
-use Rattle.teams.specs.declared.shares.Digit.{Digit}
+use Rattle.loads.specs.Digits.{AreDigits, IsDigit, bottom_of, top_of}
+use Rattle.loads.specs.declared.shares.Digit.{Digit}
 
 -- ---- digits in front of a number
 -- the number whose lowest digits these are, and which has this above them
@@ -163,9 +163,9 @@ least_is t b n some over least =
           absurd (omega (arith, more))
     ]
 
-pub whole_and_rest : (whole t b costs periods : ℕ) → 0 < b → b * 1 ≡ periods
-    → (whole * b + t) * 1 + b * 0 ≡ costs → whole + div_ceil t b ≡ div_ceil costs periods
-whole_and_rest whole t b costs periods some bottom top =
+pub whole_and_rest : (whole t b parts costs periods : ℕ) → 0 < b → b * 1 ≡ periods
+    → (whole * b + t) * 1 + b * (0 * parts) ≡ costs → whole + div_ceil t b ≡ div_ceil costs periods
+whole_and_rest whole t b parts costs periods some bottom top =
     let bounds = div_ceil_times t b some in
     let is : b ≡ periods = omega arith in
     let sum : whole * b + t ≡ costs = omega arith in
@@ -174,14 +174,14 @@ whole_and_rest whole t b costs periods some bottom top =
     (omega (arith, bounds.1, sum)))
 
 -- ---- a share more
-pub share_step : (whole t b p cost rest costs all periods : ℕ) → 1 ≤ p
+pub share_step : (whole t b p cost rest parts costs all periods : ℕ) → 1 ≤ p
     → b * (p * rest) ≡ periods
-    → (whole * b + t) * (p * rest) + b * ((cost * rest + p * costs) * 1000) ≡ all
-    → ((whole + cost * 1000 / p) * (b * p) + (t * p + b * (cost * 1000 % p))) * rest
-    + (b * p) * (costs * 1000) ≡ all
-share_step whole t b p cost rest costs all periods some bottom top =
-    let split : cost * 1000 / p * p + cost * 1000 % p ≡ cost * 1000 = div-add-mod' (cost * 1000) p in
-    let times : (cost * 1000 / p * p + cost * 1000 % p) * (b * rest) ≡ cost * 1000 * (b * rest) = ap (λ z. z * (b * rest)) split in
+    → (whole * b + t) * (p * rest) + b * ((cost * rest + p * costs) * parts) ≡ all
+    → ((whole + cost * parts / p) * (b * p) + (t * p + b * (cost * parts % p))) * rest
+    + (b * p) * (costs * parts) ≡ all
+share_step whole t b p cost rest parts costs all periods some bottom top =
+    let split : cost * parts / p * p + cost * parts % p ≡ cost * parts = div-add-mod' (cost * parts) p in
+    let times : (cost * parts / p * p + cost * parts % p) * (b * rest) ≡ cost * parts * (b * rest) = ap (λ z. z * (b * rest)) split in
     omega (arith, times)
 
 pub share_short : (i t b p r : ℕ) → t ≤ i * b → r < p → t * p + b * r ≤ (i + 1) * (b * p)
@@ -195,10 +195,13 @@ share_some b p some one =
     let more : b * 1 ≤ b * p = mul-le-mul_left b one in
     omega (arith, more)
 
-pub share_small : (p cost : ℕ) → 1 ≤ p → cost ≤ p → cost * 1000 / p ≤ 1000
-share_small p cost some less =
-    let split : cost * 1000 / p * p + cost * 1000 % p ≡ cost * 1000 = div-add-mod' (cost * 1000) p in
-    le_of_mul-le-mul_right {m = cost * 1000 / p} {n = 1000} {k = p} (omega (arith, split)) some
+pub share_small : (p cost parts : ℕ) → 1 ≤ p → cost ≤ 10000000 → parts ≤ 1000000
+    → cost * parts / p ≤ 10000000000000
+share_small p cost parts some short few =
+    let split : cost * parts / p * p + cost * parts % p ≡ cost * parts = div-add-mod' (cost * parts) p in
+    let more : cost * parts / p * 1 ≤ cost * parts / p * p = mul-le-mul_left (cost * parts / p) some in
+    let one : cost * parts ≤ cost * 1000000 = mul-le-mul_left cost few in
+    omega (arith, split, more, one, short)
 
 pub bottom_more : (b p rest periods : ℕ) → b * (p * rest) ≡ periods → b * p * rest ≡ periods
 bottom_more b p rest periods is = omega arith
