@@ -82,12 +82,11 @@ verdict_text title missed =
     verdict_head missed ++ title_tail title ++ codes "</text>\n"
 
 -- what part of it is drawn, where that isn't all
-abbrev pub window_words : Frame → List ℕ
-window_words f =
+abbrev pub window_words : (millis : Bool) → Frame → List ℕ
+window_words millis f =
     if (f.from == 0) && (f.to == f.until) then []
-    else concat (codes ", shown: " ∷ time_text (in_millis f) f.from ∷ codes " to "
-    ∷ time_text (in_millis f) f.to
-    ∷ unit_text (in_millis f) ∷ [])
+    else concat (codes ", shown: " ∷ time_text millis f.from ∷ codes " to " ∷ time_text millis f.to
+    ∷ unit_text millis ∷ [])
 
 -- some task has a timer that takes time, or an interrupt on its account
 abbrev pub are_interrupted : List TaskRow → Bool
@@ -104,7 +103,7 @@ what_text f rows jobs until =
     concat (codes "<text x=\"100\" y=\"390\">tasks: " ∷ decimal (length rows) ∷ codes ", jobs: "
     ∷ decimal jobs ∷ codes ", until " ∷ time_text (in_millis f) until
     ∷ unit_text (in_millis f) ∷ [])
-    ++ unrun_words rows ++ window_words f ++ codes "</text>\n"
+    ++ unrun_words rows ++ window_words (in_millis f) f ++ codes "</text>\n"
 
 -- what stands still: how the elements look, whether a deadline is missed, what is drawn, what the signs mean, the scale, the
 -- lines of the lane and of the rows, the margin, and the locks

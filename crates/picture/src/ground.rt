@@ -126,13 +126,12 @@ fn put_verdict(title: &[u8], missed: usize, page: &mut Page)
 }
 
 // What part of it is drawn, where that isn't all.
-fn put_window(frame: Frame, page: &mut Page)
-    ensures { Adds page.old page.new (window_words frame) }
+fn put_window(millis: bool, frame: Frame, page: &mut Page)
+    ensures { Adds page.old page.new (window_words millis frame) }
 {
     if frame.from == 0 && frame.to == frame.until {
         return;
     }
-    let millis = in_millis(frame);
     put_time(b", shown: ", millis, frame.from, page);
     put_time(b" to ", millis, frame.to, page);
     put_unit(millis, page)
@@ -169,7 +168,7 @@ fn put_what(frame: Frame, rows: &[TaskRow], jobs: usize, until: u64, page: &mut 
     put_time(b", until ", millis, until, page);
     put_unit(millis, page);
     put_unrun(rows, page);
-    put_window(frame, page);
+    put_window(millis, frame, page);
     page.put(b"</text>\n")
 }
 

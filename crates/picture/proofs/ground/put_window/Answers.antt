@@ -13,8 +13,8 @@ returns-then-frame c = rw (
 
 pub returns : goal.returns
 returns c =
-    let puts = rw c.in_millis-millis.ensures
-    at (adds_4 c.put_time.ensures c.put_time-2.ensures c.put_unit.ensures (adds_nothing _)) in
+    let puts =
+    adds_4 c.put_time.ensures c.put_time-2.ensures c.put_unit.ensures (adds_nothing _) in
     elim c.else-frame-eq0.branch [
       | else-frame-eq0-via-then-frame-eq0+else-frame w ↦ rw (
         ← c.frame.view_is,

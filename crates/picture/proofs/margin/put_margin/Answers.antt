@@ -1,5 +1,5 @@
 use Rattle.std.proofs.Common.{ℕ}
-use Rattle.frames.proofs.Adds.{adds_4, adds_same}
+use Rattle.frames.proofs.Adds.{adds_both, adds_same}
 use Rattle.picture.specs.Margin.{missed_line, name_text}
 use Rattle.picture.proofs.margin.put_margin.Goals as goal
 
@@ -11,4 +11,4 @@ returns c =
     c.put_row_name.ensures in
     let line = adds_same (λ (n : ℕ). missed_line n k) c.missed_in-missed.ensures
     c.put_missed_line.ensures in
-    adds_4 c.put_level.ensures name c.put_limits.ensures line
+    adds_both (adds_both (adds_both c.put_level.ensures name) c.put_limits.ensures) line
