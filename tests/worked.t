@@ -435,8 +435,10 @@ Each refusal, and which comes first; of two locks either both mutexes stand or n
   refused: MissingTask mid
   refused: MissingTask hi
   refused: WrongCeiling m
-  refused: WrongCeiling m
-  [4]
+  meets 3
+  1 lo 27000 of 100000 at 1
+  2 mid 7000 of 20000 at 2
+  3 hi 5000 of 10000 at 3
   $ { task x 10000 10000 1000 'section = [{ locks = ["m", "n"], at = 0, len = 100 }]'; task y 20000 20000 2000 'section = [{ locks = ["n"], at = 0, len = 200 }]'; } > two-locks.toml
   $ for mutexes in '' 'mutex n 2\nmutex m 1\n' 'mutex n 2\n' 'mutex m 2\n' 'mutex m 2\nmutex n 1\n' 'mutex n 1\nmutex m 1\n'; do printf "thread x 1\nthread y 2\n$mutexes" | desk judge two-locks.toml - 2> told; done
   meets 2
@@ -447,7 +449,7 @@ Each refusal, and which comes first; of two locks either both mutexes stand or n
   2 y 2100 of 20000 at 2
   refused: MissingLock m
   refused: MissingLock n
-  refused: WrongCeiling m
+  refused: WrongCeiling n
   refused: WrongCeiling n
   [4]
 

@@ -1,7 +1,7 @@
 use Rattle.std.proofs.Common.{ℕ, ◌+◌, ◌-◌, ◌<◌, ◌≤◌}
 use Rattle.task_sheet.specs.Orders.{IsPassingOrder}
 use Rattle.limits.specs.Numbers.{at_distance, numbered}
-use Rattle.limits.proofs.in_order.furthest_in_order.Given as goal
+use Rattle.limits.proofs.in_order.furthest_past.Given as goal
 
 abbrev pub invariant-loop-failing : goal.invariant-loop-failing
 invariant-loop-failing l = record {
