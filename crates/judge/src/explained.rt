@@ -28,8 +28,8 @@ pub enum Parted {
     Bare,
 }
 
-// The tasks of an order that was judged, the lowest first.
-pub(crate) fn order_of(alloc: Global, judged: &[JudgedTask]) -> Result<Vec<usize>, AllocError>
+/// The tasks of an order that was judged, the lowest first. The error is out of memory.
+pub fn order_of(alloc: Global, judged: &[JudgedTask]) -> Result<Vec<usize>, AllocError>
     ensures { IfOk result (λ order. order.items ≡ order_judged judged.now) }
 {
     let mut order = Vec::with_capacity(alloc, judged.len())?;
