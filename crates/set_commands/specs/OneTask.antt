@@ -32,7 +32,7 @@ use Rattle.answering.specs.Asked.{asked_task}
 -- a text is what is said of a task of a placed set: how far its numbers may go, what explains its response, or that it has
 -- none, or its worst case
 abbrev pub AreLinesOf : TaskPart → List Owner → List Task → Placing → ℕ → List ℕ → Type 0
-AreLinesOf Limits owners U placing task text = AreTaskLines U (places_in placing) task text
+AreLinesOf Limits owners U placing task text = AreTaskLines owners U (places_in placing) task text
 AreLinesOf (Reasons all) owners U placing task text =
     (explanation : Explanation) × (decided : List ℕ) × Explains U placing explanation
     × AreDecided Missed U (Some task) placing decided

@@ -36,18 +36,20 @@ pub enum TaskPart {
 // How far the numbers of a task may go.
 fn limits_text(
     alloc: Global,
+    owners: &[Owner],
     set: &TaskSet,
     placing: &Placing,
     task: usize,
 ) -> Result<Vec<u8>, AllocError>
     requires placing { IsPlacingOf set.now placing.now }
     requires task { task < length set.now }
-    ensures { IfOk result (λ text. AreTaskLines set.now (places_in placing.now) task
+    ensures { IfOk result (λ text. AreTaskLines owners.now set.now (places_in placing.now) task
         text.items) }
 {
     let table = LockTable::new(alloc, set)?;
     let order = order_of(alloc, placing)?;
-    let text = limit_lines::task_text(alloc, &Tabled::of(set, &table), placing, &order, task)?;
+    let tabled = Tabled::of(set, &table);
+    let text = limit_lines::task_text(alloc, owners, &tabled, placing, &order, task)?;
     let mut lines = Vec::new(alloc);
     lines.extend_from_slice(text.as_bytes())?;
     Ok(lines)
@@ -84,7 +86,7 @@ fn part_text(
     ensures { IfOk result (λ text. AreLinesOf part owners.now set.now placing.now task text.items) }
 {
     match part {
-        TaskPart::Limits => limits_text(alloc, set, placing, task),
+        TaskPart::Limits => limits_text(alloc, owners, set, placing, task),
         TaskPart::Reasons { .. } => reasons_text(alloc, owners, set, placing, task),
         TaskPart::Worst => case_text(alloc, set, placing, task),
     }

@@ -24,9 +24,9 @@ use Rattle.answering.specs.declared.refusal.CommandRefusal.{CommandRefusal}
 -- and that of the factors
 abbrev pub AreLimitsOf : List Owner → List Task → Option (List PlaceData) → (asked : Option ℕ) → List ℕ
     → Type 0
-AreLimitsOf owners U places (Some task) text = AreTaskLines U places task text
+AreLimitsOf owners U places (Some task) text = AreTaskLines owners U places task text
 AreLimitsOf owners U places None text =
-    (lines : List ℕ) × (common : List ℕ) × (last : List ℕ) × AreLines U places (length U) lines
+    (lines : List ℕ) × (common : List ℕ) × (last : List ℕ) × AreLines owners U places (length U) lines
     × AreCommonLines owners U places common × IsLast U places last
     × (text ≡ lines ++ common ++ last)
 

@@ -22,18 +22,19 @@ use task_sheet::TaskSet;
 // The lines of each task of a set, by rank.
 fn each_text(
     alloc: Global,
+    owners: &[Owner],
     set: &Tabled<'_>,
     placing: &Placing,
     order: &[usize],
 ) -> Result<String, AllocError>
     requires placing { HasPassing set.now placing.now }
     requires order { order.now ≡ order_in placing.now }
-    ensures { IfOk result (λ text. AreLines set.now (places_in placing.now) (length set.now)
+    ensures { IfOk result (λ text. AreLines owners.now set.now (places_in placing.now) (length set.now)
         (string_bytes text)) }
 {
     let mut text = String::new(alloc);
     for task in 0..set.len() {
-        let lines = task_text(alloc, set, placing, order, task)?;
+        let lines = task_text(alloc, owners, set, placing, order, task)?;
         text.push_str(lines.as_str())?;
     }
     Ok(text)
@@ -52,7 +53,7 @@ fn whole_text(
     ensures { IfOk result (λ text. AreLimitsOf owners.now set.now (places_in placing.now) None
         (string_bytes text)) }
 {
-    let mut text = each_text(alloc, set, placing, order)?;
+    let mut text = each_text(alloc, owners, set, placing, order)?;
     let common = common_text(alloc, owners, set, placing, order)?;
     let last = last_text(alloc, set, placing, order)?;
     text.push_str(common.as_str())?;
@@ -78,7 +79,7 @@ fn asked_text(
     let table = LockTable::new(alloc, set)?;
     let tabled = Tabled::of(set, &table);
     match asked {
-        Some(task) => task_text(alloc, &tabled, placing, order, task),
+        Some(task) => task_text(alloc, owners, &tabled, placing, order, task),
         None => whole_text(alloc, owners, &tabled, placing, order),
     }
 }

@@ -1,0 +1,1 @@
+use Rattle.limits.proofs.numbered.push_moved.Goals as goal

@@ -1,0 +1,1 @@
+use Rattle.limits.proofs.numbered.with_len.Goals as goal
