@@ -112,7 +112,7 @@ ends-rise y from cost (x ∷ xs) zero le h =
     (omega arith, h.1.0.apart, omega (arith, h.1.0.within))
 ends-rise y from cost (x ∷ xs) (suc along) le h =
     let more = ends-rise x (y.at + y.len) cost xs along (omega (arith, le)) h.1 in
-    (omega (arith, more.0, h.1.0.apart), more.1.0, more.1.1)
+    (omega (arith, more.0, h.1.0.apart), more.1, more.2)
 
 -- so many sections behind one that ends as much later stand with the others, where the last of them has room
 moved-stand : (y : CriticalSection) (cost : ℕ) (xs : List CriticalSection) (along more less : ℕ)
@@ -144,7 +144,7 @@ moved-stand y cost (x ∷ xs) (suc along) more less few h short fits =
         distinct = h.0.distinct;
         runs = h.0.runs;
         apart = omega (arith, h.0.apart);
-        within = omega (arith, fits, rise.0, rise.1.1, h.0.apart, short);
+        within = omega (arith, fits, rise.0, rise.2, h.0.apart, short);
       },
       subst (λ from. AreSections from cost (moved along more less xs)) here
           (moved-stand x cost xs along more less (omega (arith, few)) h.1
@@ -183,11 +183,11 @@ sections-len from cost (x ∷ xs) zero along len lt h some fits =
         distinct = h.0.distinct;
         runs = some;
         apart = h.0.apart;
-        within = omega (arith, fits, rise.0, rise.1.0, rise.1.1);
+        within = omega (arith, fits, rise.0, rise.1, rise.2);
       },
       subst (λ from. AreSections from cost (moved along len x.len xs)) here
           (moved-stand x cost xs along len x.len (omega (arith, lt)) h.1 (omega arith)
-          (omega (arith, fits, rise.1.0))),
+          (omega (arith, fits, rise.1))),
     )
 sections-len from cost (x ∷ xs) (suc k) along len lt h some fits =
     (h.0, sections-len (x.at + x.len) cost xs k along len (omega (arith, lt)) h.1 some fits)
@@ -215,7 +215,7 @@ pub most_len-own : (from cost : ℕ) (xs : List CriticalSection) (k along : ℕ)
 most_len-own from cost [] k along lt h = absurd (omega (arith, lt))
 most_len-own from cost (x ∷ xs) zero along lt h =
     let rise = ends-rise x from cost xs along (omega (arith, lt)) h in
-    (omega arith, h.0.runs, omega (arith, rise.0, rise.1.0, rise.1.1))
+    (omega arith, h.0.runs, omega (arith, rise.0, rise.1, rise.2))
 most_len-own from cost (x ∷ xs) (suc k) along lt h =
     most_len-own (x.at + x.len) cost xs k along (omega (arith, lt)) h.1
 
@@ -237,7 +237,7 @@ pub end-room : (from cost : ℕ) (xs : List CriticalSection) (k : ℕ) → k < l
     → AreSections from cost xs → (end_of xs k ≤ room_end cost xs k) × (room_end cost xs k ≤ cost)
 end-room from cost [] k lt h = absurd (omega (arith, lt))
 end-room from cost (x ∷ xs) zero lt h =
-    let rise = ends-rise x from cost xs 0 (omega arith) h in (rise.1.0, rise.1.1)
+    let rise = ends-rise x from cost xs 0 (omega arith) h in (rise.1, rise.2)
 end-room from cost (x ∷ xs) (suc k) lt h =
     end-room (x.at + x.len) cost xs k (omega (arith, lt)) h.1
 
@@ -270,7 +270,7 @@ IsSpan-len t k along long valid inside to =
         cost_to = valid.cost_to;
         few = omega (arith, valid.few, length-len t.sections k along (1 + far));
         sections = sections-len 0 t.cost t.sections k along (1 + far) inside valid.sections
-            (omega arith) (omega (arith, le, to, own.0, own.1.0));
+            (omega arith) (omega (arith, le, to, own.0, own.1));
         jitter = valid.jitter;
         outranked = valid.outranked;
         overheads = valid.overheads;

@@ -1,8 +1,8 @@
 //! Sets with another value of one number of a task.
-ghost use Rattle.std.specs.Prelude.{◌≡◌, ◌↔◌, ◌+◌, ◌-◌, ◌<◌, ◌≤◌, ◌++◌, drop, length, IfOk, IsTrue, OnOk};
+ghost use Rattle.std.specs.Prelude.{◌≡◌, ◌↔◌, ◌+◌, ◌-◌, ◌<◌, ◌≤◌, ◌++◌, drop, length, slice_set, IfOk, IsTrue, OnOk};
 ghost use Rattle.task_sheet.specs.Sheet.{AreInterrupts, IsValidSheet, interrupted, task_at};
 ghost use Rattle.headroom.specs.Remade.{remade};
-ghost use Rattle.limits.specs.Numbers.{KeepsSections, HasNumber, with_interrupt_cost, with_interrupt_period, moved, with_len, with_number, numbered, MayHave};
+ghost use Rattle.limits.specs.Numbers.{KeepsSections, HasNumber, with_interrupt_cost, with_interrupt_period, moved, section_at, with_len, with_number, numbered, MayHave};
 
 use crate::number::Number;
 use ceilings::Tabled;
@@ -51,6 +51,22 @@ fn push_moved(
     Ok(())
 }
 
+// The sections, with another length of the one at a place; none moves.
+fn with_len_of(
+    alloc: Global,
+    sections: &[Section],
+    place: usize,
+    len: u64,
+) -> Result<Vec<Section>, AllocError>
+    requires { place < length sections.now }
+    ensures { IfOk result (λ others. others.items
+        ≡ slice_set sections.now place (record (section_at sections.now place) { len = len })) }
+{
+    let mut others = copy_sections(alloc, sections)?;
+    others[place].len = len;
+    Ok(others)
+}
+
 // A task's sections, with another length of the one at a place, with which so many of those behind it move along.
 fn with_len(
     alloc: Global,
@@ -68,8 +84,7 @@ fn with_len(
     let sections = sheet.sections();
     let section = &sections[place];
     let less = section.len;
-    let mut others = copy_sections(alloc, &sections[..place + 1])?;
-    others[place].len = len;
+    let mut others = with_len_of(alloc, &sections[..place + 1], place, len)?;
     push_moved(alloc, &mut others, sheet, place + 1, along, len, less)?;
     Ok(others)
 }

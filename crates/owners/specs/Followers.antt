@@ -1,8 +1,8 @@
 -- The sections that begin where the one before them ends, for their documents don't say where.
-use Rattle.std.specs.Prelude.{◌≡◌, ◌⊎◌, ℕ, zero, suc, ◌+◌, ◌==◌, Bool, true, false, ◌&&◌, List, [], ◌∷◌, ◌++◌, codes, Option, None, Some, option_and_then, if◌then◌else◌}
+use Rattle.std.specs.Prelude.{◌≡◌, ◌⊎◌, ℕ, zero, suc, ◌+◌, ◌==◌, Bool, true, false, ◌&&◌, List, [], ◌∷◌, ◌++◌, codes, Option, None, Some, option_and_then, option_map, unwrap_or, if◌then◌else◌}
 use Rattle.std.specs.List.{list_any}
 use Rattle.std.specs.Option.{is_none}
-use Rattle.toml.specs.Data.{Data, array, table, Items, no_items, item, Members, get_member, as_str}
+use Rattle.toml.specs.Data.{Data, Items, no_items, item, Members, get_member, as_array, as_str, as_table}
 use Rattle.task_sheet.specs.Sheet.{same_bytes}
 use Rattle.task_sheet.specs.ReadsSet.{IsDocument}
 use Rattle.lines.specs.Words.{name_in}
@@ -12,19 +12,21 @@ use Rattle.owners.specs.declared.owner.Owner.{Owner}
 use Rattle.owners.specs.declared.owner.Owner.TheVariants.{Task as OwnedTask, Interrupt as OwnedInterrupt, Follower}
 
 -- ---- in a document's tree
--- the items of an array; none where there is no array
-abbrev pub items_in : Option Data → Items
-items_in (Some (array ds)) = ds
-items_in _ = no_items
+-- the items of an array; none of another value
+abbrev pub items_in : Data → Items
+items_in d = unwrap_or (as_array d) no_items
 
--- the items of the array at a key
+-- the items of the array at a key; none where there is no array
 abbrev pub items_at : List ℕ → Members → Items
-items_at word ms = items_in (get_member word ms)
+items_at word ms = unwrap_or (option_map items_in (get_member word ms)) no_items
+
+-- the text at a key
+abbrev pub text_at : List ℕ → Members → Option (List ℕ)
+text_at word ms = option_and_then as_str (get_member word ms)
 
 -- it is the table of a section that has no key `at`
 abbrev pub says_no_begin : Data → Bool
-says_no_begin (table ms) = is_none (get_member (codes "at") ms)
-says_no_begin _ = false
+says_no_begin d = unwrap_or (option_map (λ ms. is_none (get_member (codes "at") ms)) (as_table d)) false
 
 -- the section of a task at a place, where it follows
 abbrev pub follower_if : Bool → List ℕ → ℕ → List Owner
@@ -39,16 +41,19 @@ followers_from task place (item d ds) =
 
 -- the name of a task's table, where it has one
 abbrev pub task_word : Members → Option (List ℕ)
-task_word ms = option_and_then name_in (option_and_then as_str (get_member (codes "name") ms))
+task_word ms = option_and_then name_in (text_at (codes "name") ms)
 
 abbrev pub followers_named : Option (List ℕ) → Members → List Owner
 followers_named None ms = []
 followers_named (Some task) ms = followers_from task 0 (items_at (codes "section") ms)
 
 -- those of a task's table
+abbrev pub followers_in : Members → List Owner
+followers_in ms = followers_named (task_word ms) ms
+
+-- the same of a value; none where it is no table
 abbrev pub followers_by : Data → List Owner
-followers_by (table ms) = followers_named (task_word ms) ms
-followers_by _ = []
+followers_by d = unwrap_or (option_map followers_in (as_table d)) []
 
 -- those of each
 abbrev pub followers_of : Items → List Owner

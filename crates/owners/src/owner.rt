@@ -5,7 +5,7 @@ ghost use Rattle.task_sheet.specs.declared.node.TheConstants.{INTERRUPT_LIMIT};
 ghost use Rattle.teams.specs.NodeDocument.{node_word};
 ghost use Rattle.owners.specs.Owners.{AreBoth, AreNodeOwners, AreOwners, AreOwnersIn, AreWhose, IsDocumentOf, IsNoDocument, interrupt_of, interrupt_words, interrupts_from, node_owners, owned_by, team_by, team_of};
 
-use crate::followers::push_followers;
+use crate::followers::read_followers;
 use std::alloc::{AllocError, Global};
 use task_sheet::{Document, Interrupt, Name, SetFault, TaskSet, read_document, read_interrupts};
 use teams::{Part, first_part, is_gathered, node_part};
@@ -203,6 +203,7 @@ pub fn read_owners(alloc: Global, text: &[u8]) -> Result<Vec<Owner>, AllocError>
     ensures { IfOk result (λ owners. AreOwners text.now owners.items) }
 {
     let mut owners = read_whose(alloc, text)?;
-    push_followers(alloc, &mut owners, text)?;
+    let followers = read_followers(alloc, text)?;
+    owners.extend_from_slice(&followers)?;
     Ok(owners)
 }

@@ -1,6 +1,5 @@
 use Rattle.std.proofs.Common.{◌+◌, ◌-◌, ◌<◌, List, length, sym, ap, subst, arith}
 use Rattle.task_sheet.specs.declared.node.Interrupt.{Interrupt}
-use Rattle.task_sheet.specs.Sheet.{CriticalSection}
 use Rattle.task_sheet.proofs.Below.{ord_max-is}
 use Rattle.limits.specs.Numbers.{HasNumber, IsSpan, interrupt_at}
 use Rattle.limits.proofs.SpanLaws.{IsSpan-cost, IsSpan-period, IsSpan-deadline, IsSpan-jitter}
