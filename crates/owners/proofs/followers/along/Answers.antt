@@ -1,5 +1,4 @@
-use Rattle.std.proofs.Common.{◌+◌, ◌-◌, ◌≡◌, sym, ◌∙◌, ap, arith}
-use Rattle.owners.specs.Followers.{along}
+use Rattle.std.proofs.Common.{sym, ◌∙◌, arith}
 use Rattle.owners.proofs.FollowerLaws.{along-start, along-more, along-last, along-end}
 use Rattle.owners.proofs.followers.along.Goals as goal
 
