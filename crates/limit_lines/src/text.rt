@@ -1,5 +1,5 @@
 //! The lines of a task, and the last one.
-ghost use Rattle.std.specs.Prelude.{◌≡◌, ◌++◌, ◌<◌, ◌==◌, ℕ, length, codes, option_map, IfOk, IfSome, OnOk, if◌then◌else◌, string_bytes};
+ghost use Rattle.std.specs.Prelude.{◌≡◌, ◌+◌, ◌++◌, ◌<◌, ◌==◌, ℕ, length, codes, option_map, IfOk, IfSome, OnOk, if◌then◌else◌, string_bytes};
 ghost use Rattle.task_sheet.specs.declared.node.TheConstants.{INTERRUPT_FROM};
 ghost use Rattle.task_sheet.specs.Sheet.{IsValidSheet, task_at};
 ghost use Rattle.task_sheet.specs.Orders.{IsFeasible};
