@@ -261,7 +261,7 @@ Who has the right may not say otherwise, nor more than the node has room for:
   $ for n in 1 2 3 4 5 6 7 8; do tick 100000 $n; done > exact/cam.toml
   $ desk admit exact
   refused: TooManyInterrupts
-  (on standard error) exact: the teams and node.toml have more than 8 interrupts together
+  (on standard error) exact: the documents have more than 8 interrupts together
   [4]
   $ task p 3000 2990 > exact/cam.toml
   $ desk admit exact
@@ -287,7 +287,7 @@ What is no such document, in the order of its refusals:
   refused: node Syntax
   [4]
   $ told '[[task]]\nname = "a"\n[team]\ncam = 1\n'
-  kept: node.toml: unknown key task; it may have prefer in front, [node], [[interrupt]], [locks], and for each team [team.NAME]; a task stands in its team's document
+  kept: node.toml: unknown key task; it may have prefer and strict in front, [node], [[interrupt]], [locks], and for each team [team.NAME]; a task stands in its team's document
   refused: node UnknownKey
   [4]
   $ told '[[team]]\nload = 1\n'
@@ -305,6 +305,14 @@ What is no such document, in the order of its refusals:
   $ told 'node = 3\n'
   kept: node.toml: node has to be a table, headed by [node]; it is 3
   refused: node WrongKind 0 0 node
+  [4]
+  $ told 'strict = "yes"\nlocks = 1\n'
+  kept: node.toml: strict has to be true, where a set is refused for what may be a mistake, or false; it is the string "yes"
+  refused: node WrongKind 0 0 strict
+  [4]
+  $ told 'strict = 1\nprefer = 1\n'
+  kept: node.toml: prefer has to be "deadline" or "weight"; it is 1
+  refused: node WrongKind 0 0 prefer
   [4]
   $ told 'locks = ["a"]\n'
   kept: node.toml: locks has to be a table, headed by [locks]; it is an array

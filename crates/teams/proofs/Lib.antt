@@ -1,5 +1,5 @@
 pub mod TeamLaws
-pub mod ShareLaws
 pub mod BudgetLaws
 pub mod WrittenLaws
 pub mod OwnLaws
+pub mod StrictLaws
