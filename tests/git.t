@@ -122,6 +122,33 @@ What only the node's document may say:
   $ fresh nora && git -C nora revert --no-edit HEAD > said && push nora | grep '^all'
   all 1000 -> 1000
 
+A node that takes no set with what may be a mistake:
+
+  $ strict() { fresh nora && sed -i "1i $1" nora/teams/node.toml && save nora strict && push nora; }
+  $ strict 'strict = true'
+  cam.toml: line 1, task 1 (pan): lock eye has one user, pan
+  refused: LoneLock pan eye
+  the node takes no such set, since teams/node.toml says strict = true: team cam (cy or root) has to take eye out of pan, or another task has to take eye, too, in the same commit; nora or root may change teams/node.toml
+  refused: COMMIT "strict"
+  $ fresh cy && task pan 30000 100 > cy/teams/cam.toml && save cy 'no lock' && push cy | grep '^all'
+  all 1000 -> 1000
+  $ strict 'strict = true'
+  names decide the order; prefer = "deadline" in front of the tasks has shorter ones higher
+  refused: NamesDecide arm pan
+  the node takes no such set, since teams/node.toml says strict = true: teams/node.toml has to say prefer = "deadline" or "weight", or a task to have a weight, as arm of team arm (ann or root) or pan of team cam (cy or root); nora or root may change teams/node.toml
+  refused: COMMIT "strict"
+  $ strict 'strict = true\nprefer = "deadline"' | grep '^all'
+  all 1000 -> 1000
+  $ fresh cy && printf 'outranks = ["rol"]\n' >> cy/teams/cam.toml && save cy 'above the base' && push cy
+  cam.toml: line 1, task 1 (pan): pan outranks rol, which is no task of the set: that binds nothing
+  refused: NoSuchName pan rol
+  the node takes no such set, since teams/node.toml says strict = true: team cam (yours) has to take rol out of what pan outranks, or to write a task's name; nora or root may change teams/node.toml
+  refused: COMMIT "above the base"
+  $ fresh nora && sed -i 1,2d nora/teams/node.toml && save nora 'as before' && push nora | grep '^all'
+  all 1000 -> 1000
+  $ fresh cy && locked pan 30000 100 eye 100 > cy/teams/cam.toml && save cy 'a lock' && push cy | grep '^all'
+  all 1000 -> 1000
+
 What is no document:
 
   $ fresh cy && chmod +x cy/teams/cam.toml && save cy 'run it' && push cy

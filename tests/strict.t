@@ -148,6 +148,74 @@ Of several teams' documents all are judged together, the last one, too; the sent
   node: arm.toml: line 1, task 1 (b): lock k has one user, b
   [4]
 
+By `strict = true` in `node.toml` each call on the folder is strict, of whatever teams:
+
+  $ mv node/main.toml node/node.toml
+  $ desk admit node 2> said | head -1
+  admitted 2
+  $ sed -i '1i strict = true' node/node.toml
+  $ desk admit node
+  refused: LoneLock b k
+  (on standard error) node: arm.toml: line 1, task 1 (b): lock k has one user, b
+  [4]
+  $ for command in admit explain limits settings certify worst; do desk $command node 2> said; done
+  refused: LoneLock b k
+  refused: LoneLock b k
+  refused: LoneLock b k
+  refused: LoneLock b k
+  refused: LoneLock b k
+  refused: LoneLock b k
+  [4]
+  $ for command in judge check simulate draw observe; do desk $command node given 2> said; done
+  refused: LoneLock b k
+  refused: LoneLock b k
+  refused: LoneLock b k
+  refused: LoneLock b k
+  refused: LoneLock b k
+  [4]
+  $ for command in explain limits worst; do desk $command node --at given 2> said; done
+  refused: LoneLock b k
+  refused: LoneLock b k
+  refused: LoneLock b k
+  [4]
+  $ desk settings node --keep given 2> said; desk releases node 2000 2> said; desk script node 1 2> said
+  refused: LoneLock b k
+  refused: LoneLock b k
+  refused: LoneLock b k
+  [4]
+  $ desk diff set.toml node 2> said
+  refused: new LoneLock b k
+  [4]
+  $ desk diff node set.toml 2> said | head -2
+  admitted 2
+  was admitted 2
+  $ sed -i 's/"k"/"m"/' node/arm.toml
+  $ desk admit node | head -1
+  admitted 2
+  $ sed -i 's/^prefer/# prefer/' node/node.toml
+  $ desk admit node 2> said
+  refused: NamesDecide a b
+  [4]
+  $ desk admit node --prefer weight | head -1
+  admitted 2
+  $ sed -i 's/true/false/' node/node.toml
+  $ desk admit node 2> said | head -1
+  admitted 2
+  $ desk admit --strict node 2> said
+  refused: NamesDecide a b
+  [4]
+
+In any other document `strict` is no key, nor is it by itself:
+
+  $ echo 'strict = true' > node/cam.toml
+  $ desk admit node 2> said
+  refused: team cam UnknownKey 0 0
+  [4]
+  $ desk admit node/cam.toml
+  refused: UnknownKey 0 0
+  (on standard error) node/cam.toml: unknown key strict; a set has tasks, each headed by [[task]], and may have prefer in front of them, [node] and [[interrupt]]
+  [4]
+
 `play` and `rush` read no set; the option is a flag:
 
   $ desk play --strict examples/two-teams-fit.script 2> /dev/null

@@ -287,7 +287,7 @@ What is no such document, in the order of its refusals:
   refused: node Syntax
   [4]
   $ told '[[task]]\nname = "a"\n[team]\ncam = 1\n'
-  kept: node.toml: unknown key task; it may have prefer in front, [node], [[interrupt]], [locks], and for each team [team.NAME]; a task stands in its team's document
+  kept: node.toml: unknown key task; it may have prefer and strict in front, [node], [[interrupt]], [locks], and for each team [team.NAME]; a task stands in its team's document
   refused: node UnknownKey
   [4]
   $ told '[[team]]\nload = 1\n'
@@ -305,6 +305,14 @@ What is no such document, in the order of its refusals:
   $ told 'node = 3\n'
   kept: node.toml: node has to be a table, headed by [node]; it is 3
   refused: node WrongKind 0 0 node
+  [4]
+  $ told 'strict = "yes"\nlocks = 1\n'
+  kept: node.toml: strict has to be true, where a set is refused for what may be a mistake, or false; it is the string "yes"
+  refused: node WrongKind 0 0 strict
+  [4]
+  $ told 'strict = 1\nprefer = 1\n'
+  kept: node.toml: prefer has to be "deadline" or "weight"; it is 1
+  refused: node WrongKind 0 0 prefer
   [4]
   $ told 'locks = ["a"]\n'
   kept: node.toml: locks has to be a table, headed by [locks]; it is an array

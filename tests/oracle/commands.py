@@ -503,9 +503,11 @@ def doubts(call, tasks):
 
 
 def strictly(call, reader, tasks):
-    """The set; or the refusal of its first doubt, where the call asks for none, but for the old set of `diff`."""
+    """The set; or the refusal of its first doubt, where the call or the node's document asks for none, but for the old set
+    of `diff`."""
     is_old = call.command is COMMANDS["diff"] and reader is teams.read_set
-    for doubt in doubts(call, tasks) if "strict" in call.options and not is_old else ():
+    is_strict = "strict" in call.options or tasks.is_strict
+    for doubt in doubts(call, tasks) if is_strict and not is_old else ():
         raise Refused(4, *["new"] * (reader is read_change), *doubt)
     return tasks
 

@@ -251,6 +251,8 @@ def node_of(rng, parts, sheets, said=b""):
         out = rng.choice(["x = 1\n", "team = 1\n", "team = []\n", "[team]\ncam = 1\n", '[team."1"]\n', "[team.nobody]\n", "[[task]]\n"]) + out
     if rng.random() < 0.3:
         out = locks_of(rng, sheets) + out
+    if rng.random() < 0.25:
+        said = f"strict = {rng.choice(['true'] * 12 + ['false'] * 3 + ['1', '[]'])}\n".encode() + said
     return said + out.encode()
 
 

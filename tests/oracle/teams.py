@@ -21,10 +21,11 @@ ENDING = ".toml"
 
 
 class Ranked(tuple):
-    """The tasks of a set by rank, what its own text prefers, if it says so, the team of each name that has one, what the
-    documents say without what the node takes, and the team, if any, and the place of each interrupt."""
+    """The tasks of a set by rank, what its own text prefers, if it says so, whether that asks for a set without doubts, the
+    team of each name that has one, what the documents say without what the node takes, and the team, if any, and the place
+    of each interrupt."""
 
-    own, owners, written, sources = None, {}, None, ()
+    own, is_strict, owners, written, sources = None, False, {}, None, ()
 
     def beside(self, name):
         """The words that name the team of a task, behind the words of a line."""
@@ -34,23 +35,23 @@ class Ranked(tuple):
 def read_set(data, preference=None):
     """The set that a text says, by what the call prefers, else the text, else by weights; or the first refusal."""
     if data.startswith(MARK):
-        own, node, interrupts, sheets, owners, sources = read_teams(data)
+        own, is_strict, node, interrupts, sheets, owners, sources = read_teams(data)
     else:
         own, node, interrupts, sheets = read_document(data)
-        owners, sources = {}, [(None, place) for place, _ in enumerate(interrupts, 1)]
+        is_strict, owners, sources = False, {}, [(None, place) for place, _ in enumerate(interrupts, 1)]
     written = sheets, node, interrupts
     sheets = padded(*written)
     tasks = Ranked(by_limits(sheets) if (preference or own) == "deadline" else by_rank(sheets))
-    tasks.own, tasks.by, tasks.owners = own, preference or own or "weight", owners
+    tasks.own, tasks.by, tasks.is_strict, tasks.owners = own, preference or own or "weight", is_strict, owners
     tasks.written, tasks.sources = written, sources
     return tasks
 
 
 def read_teams(data):
-    """What the documents prefer, and their node, if one says so, the interrupts and sheets of all, document by document, the
-    team of each sheet, and the team and place of each interrupt."""
+    """What the documents prefer, whether the node's asks for a set without doubts, their node, if one says so, the
+    interrupts and sheets of all, document by document, the team of each sheet, and the team and place of each interrupt."""
     document, data = node_document(data)
-    own, locks, budgets = ((None, None, ()), None, {}) if document is None else read_node_document(document)
+    own, is_strict, locks, budgets = ((None, None, ()), False, None, {}) if document is None else read_node_document(document)
     teams, said_by, part = [], [], 0
     while data:
         part += 1
@@ -88,7 +89,7 @@ def read_teams(data):
     keep_budgets(budgets, teams)
     own, overheads = (said[0][1] if said else None for said in (preferring, overheads_of))
     sources = [(team, place) for team, said in said_by for place, _ in enumerate(said[2], 1)]
-    return own, overheads, interrupts, [sheet for _, sheets, _ in teams for sheet in sheets], owner, sources
+    return own, is_strict, overheads, interrupts, [sheet for _, sheets, _ in teams for sheet in sheets], owner, sources
 
 
 def node_document(data):
@@ -102,17 +103,20 @@ def node_document(data):
 
 
 def read_node_document(data):
-    """What the node's document says for all, and what each team may take and say, by its name."""
+    """What the node's document says for all, whether the set may have doubts, and what each team may take and say, by its
+    name."""
     try:
         root = tree_of(data)
-        if set(root) - {"team", "locks", *OWN}:
+        if set(root) - {"team", "strict", "locks", *OWN}:
             raise Refused(4, "UnknownKey")
         own = read_whole(root)
+        if type(root.get("strict", False)) is not bool:
+            raise Refused(4, "WrongKind", 0, 0, "strict")
         locks = read_locks(root["locks"]) if "locks" in root else None
         read_teams_of(root.get("team", {}))
     except Refused as refusal:
         raise refusal.behind("node") from None
-    return own, locks, root.get("team", {})
+    return own, root.get("strict", False), locks, root.get("team", {})
 
 
 def read_locks(table):

@@ -1,8 +1,10 @@
 -- What the words of a call choose.
-use Rattle.std.specs.Prelude.{Option, Some, None, ℕ, min, List, option_map}
+use Rattle.std.specs.Prelude.{Bool, true, false, Option, Some, None, ℕ, min, List, option_map, if◌then◌else◌}
 use Rattle.task_sheet.specs.declared.prefer.Preference.{Preference}
 use Rattle.task_sheet.specs.declared.prefer.Preference.TheVariants as preference
 use Rattle.preferences.specs.declared.asking.Asking.{Asking}
+use Rattle.preferences.specs.declared.asking.Strictness.{Strictness}
+use Rattle.preferences.specs.declared.asking.Strictness.TheVariants.{AsSaid, Strict}
 use Rattle.command_line.specs.declared.calls.Preferred.{Preferred}
 use Rattle.command_line.specs.declared.calls.Preferred.TheVariants as preferred
 use Rattle.command_line.specs.declared.calls.Options.{Options}
@@ -14,9 +16,12 @@ preferred_by (Some preferred.Deadline) = Some preference.Deadline
 preferred_by (Some preferred.Weight) = Some preference.Weights
 preferred_by None = None
 
--- what a call asks of the sets that it reads
+-- what a call asks of the sets that it reads: without `--strict` a set's text may ask that it have no doubt
 abbrev pub asking_of : Options → Asking
-asking_of options = record { prefer = preferred_by options.prefer; is_strict = options.is_strict }
+asking_of options = record {
+  prefer = preferred_by options.prefer;
+  strictness = if options.is_strict then Strict else AsSaid;
+}
 
 -- a priority that words choose for level 1, else 1; they choose none above the greatest
 abbrev pub base_chosen : Option ℕ → ℕ

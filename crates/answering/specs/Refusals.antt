@@ -120,6 +120,7 @@ abbrev pub node_words : NodeFault → List ℕ
 node_words node.Syntax = codes "Syntax"
 node_words node.UnknownRoot = codes "UnknownKey"
 node_words (node.Says fault) = fault_words fault
+node_words node.BadStrict = codes "WrongKind 0 0 strict"
 node_words node.NoLocks = codes "WrongKind 0 0 locks"
 node_words node.BadLockName = codes "BadLock"
 node_words (node.BadLock name) = codes "BadLock " ++ name

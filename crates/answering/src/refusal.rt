@@ -222,6 +222,7 @@ fn write_node_fault<W: fmt::Write>(fault: NodeFault, f: &mut fmt::Formatter<W>) 
         NodeFault::Syntax => f.write_str("Syntax"),
         NodeFault::UnknownRoot => f.write_str("UnknownKey"),
         NodeFault::Says { fault } => write_fault(fault, f),
+        NodeFault::BadStrict => f.write_str("WrongKind 0 0 strict"),
         NodeFault::NoLocks => f.write_str("WrongKind 0 0 locks"),
         NodeFault::BadLockName => f.write_str("BadLock"),
         NodeFault::BadLock { name } => write!(f, "BadLock {name}"),

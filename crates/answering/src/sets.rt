@@ -11,7 +11,7 @@ use crate::audience::{Audience, Which};
 use crate::refusal::CommandRefusal;
 use command_line::{MOST_PRIORITY, MOST_ROOM, Options, Preferred};
 use owners::{Owner, read_owners};
-use preferences::{AskedFault, Asking, Preference, read_asked};
+use preferences::{AskedFault, Asking, Preference, Strictness, read_asked};
 use std::alloc::Global;
 use std::io::Read;
 use streams::{InputFault, Watched, read_input};
@@ -61,8 +61,12 @@ pub fn asking_of(options: Options<'_>) -> Asking
         Some(Preferred::Weight) => Some(Preference::Weights),
         None => None,
     };
-    let is_strict = options.is_strict;
-    Asking { prefer, is_strict }
+    let strictness = if options.is_strict {
+        Strictness::Strict
+    } else {
+        Strictness::AsSaid
+    };
+    Asking { prefer, strictness }
 }
 
 // Why bytes say no set as it is asked for.

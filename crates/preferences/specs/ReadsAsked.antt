@@ -1,41 +1,61 @@
 -- What reading a task set as a call asks for it answers.
-use Rattle.std.specs.Prelude.{◌≡◌, ℕ, Bool, false, List, Option, Some, None, is_none, Result, Ok, Err, if◌then◌else◌}
+use Rattle.std.specs.Prelude.{◌≡◌, ℕ, Bool, true, false, List, Option, Some, None, is_none, Result, Ok, Err, if◌then◌else◌}
 use Rattle.std.specs.Option.{option_or}
 use Rattle.task_sheet.specs.Sheet.{Task}
 use Rattle.task_sheet.specs.declared.prefer.Preference.{Preference}
 use Rattle.task_sheet.specs.declared.read.Document.{Document}
 use Rattle.teams.specs.ReadsText.{ReadsText}
+use Rattle.teams.specs.Strictness.{SaysStrict}
 use Rattle.doubts.specs.Doubts.{doubts_of, first_of}
 use Rattle.doubts.specs.declared.doubt.Doubt.{Doubt as DoubtData}
 use Rattle.preferences.specs.Preferences.{IsPreferred}
 use Rattle.preferences.specs.ReadsPreferred.{chosen}
 use Rattle.preferences.specs.declared.asking.Asking.{Asking}
+use Rattle.preferences.specs.declared.asking.Strictness.{Strictness}
+use Rattle.preferences.specs.declared.asking.Strictness.TheVariants.{Lenient, AsSaid, Strict}
 use Rattle.preferences.specs.declared.asking.AskedFault.{AskedFault}
 use Rattle.preferences.specs.declared.asking.AskedFault.TheVariants.{Text, Doubt}
 use Rattle.preferences.specs.declared.preferred.Preferred.{Preferred}
 
--- the same, though the set may have doubts
+-- the same, and so strict
+abbrev pub asking_so : Strictness → Asking → Asking
+asking_so strictness asking = record asking { strictness = strictness }
+
+-- the same, though the set may have doubts, whatever its text asks
 abbrev pub lenient : Asking → Asking
-lenient asking = record asking { is_strict = false }
+lenient asking = asking_so Lenient asking
 
--- the first doubt of a set, where none is asked for; names decide only where neither the call nor the set prefers anything
+-- whether the first doubt of the set that a text says is told: as the call asks, or lets the text ask
+abbrev pub IsTold : Strictness → List ℕ → (told : Bool) → Type 0
+IsTold Lenient text told = told ≡ false
+IsTold AsSaid text told = SaysStrict text told
+IsTold Strict text told = told ≡ true
+
+-- the first doubt of a set, where it is told; names decide only where neither the call nor the set prefers anything
 abbrev pub doubt_told :
-    (is_strict : Bool) → (call own : Option Preference) → List Task → Option DoubtData
-doubt_told is_strict call own U =
-    if is_strict then first_of (doubts_of (is_none (option_or call own)) U) else None
+    (told : Bool) → (call own : Option Preference) → List Task → Option DoubtData
+doubt_told told call own U =
+    if told then first_of (doubts_of (is_none (option_or call own)) U) else None
 
--- the text says this set by what the call and the set prefer, and it has no doubt, where none is asked for
+-- this is the first doubt of the set that a text says, where it is told
+abbrev pub TellsDoubt :
+    Asking → (text : List ℕ) → (own : Option Preference) → List Task → Option DoubtData → Type 0
+TellsDoubt asking text own U doubt =
+    (told : Bool) × IsTold asking.strictness text told
+    × (doubt_told told asking.prefer own U ≡ doubt)
+
+-- the text says this set by what the call and the set prefer, and it has no doubt, where one is told
 abbrev pub SaysAsked : Asking → List ℕ → List Task → Type 0
 SaysAsked asking text U =
     (d : Document) × ReadsText text (Ok d) × IsPreferred (chosen asking.prefer d.prefers) d.set U
-    × (doubt_told asking.is_strict asking.prefer d.prefers U ≡ None)
+    × TellsDoubt asking text d.prefers U None
 
--- the set that the text says so has a doubt, where none is asked for: this first
+-- the set that the text says so has a doubt that is told: this first
 abbrev pub IsDoubted : Asking → List ℕ → DoubtData → Type 0
 IsDoubted asking text doubt =
     (d : Document) × (U : List Task) × ReadsText text (Ok d)
     × IsPreferred (chosen asking.prefer d.prefers) d.set U
-    × (doubt_told asking.is_strict asking.prefer d.prefers U ≡ Some doubt)
+    × TellsDoubt asking text d.prefers U (Some doubt)
 
 -- the set that the text says, as it is asked for; refused are a text that is none, and then a set with a doubt
 abbrev pub ReadsAsked : Asking → List ℕ → Result Preferred AskedFault → Type 0
@@ -45,6 +65,6 @@ ReadsAsked asking text (Ok p) =
     × (p.choice.call ≡ asking.prefer)
     × (p.choice.own ≡ d.prefers)
     × IsPreferred (chosen asking.prefer d.prefers) d.set p.set
-    × (doubt_told asking.is_strict asking.prefer d.prefers p.set ≡ None)
+    × TellsDoubt asking text d.prefers p.set None
 ReadsAsked asking text (Err (Text fault)) = ReadsText text (Err fault)
 ReadsAsked asking text (Err (Doubt doubt)) = IsDoubted asking text doubt

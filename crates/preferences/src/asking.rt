@@ -1,29 +1,40 @@
 //! What a call asks of the sets that it reads.
-ghost use Rattle.std.specs.Prelude.{◌≡◌};
-ghost use Rattle.preferences.specs.ReadsAsked.{ReadsAsked, doubt_told, lenient};
+ghost use Rattle.std.specs.Prelude.{◌≡◌, IfOk};
+ghost use Rattle.preferences.specs.ReadsAsked.{IsTold, ReadsAsked, doubt_told, lenient};
 
 use crate::preferred::{Preferred, read_preferred};
 use doubts::{Doubt, first_doubt};
-use std::alloc::Global;
+use std::alloc::{AllocError, Global};
 use task_sheet::Preference;
-use teams::TeamsFault;
+use teams::{TeamsFault, is_strict};
+
+/// Which sets are refused for a doubt.
+#[derive(Clone, Copy, Debug, PartialEq, Eq)]
+pub enum Strictness {
+    /// None.
+    Lenient,
+    /// A set whose text asks for it: the node's document does.
+    AsSaid,
+    /// Each.
+    Strict,
+}
 
 /// What a call asks of the sets that it reads.
 #[derive(Clone, Copy, Debug, PartialEq, Eq)]
 pub struct Asking {
     /// By what they are preferred, where the call says so.
     pub prefer: Option<Preference>,
-    /// That they have no doubt.
-    pub is_strict: bool,
+    /// Which are refused for a doubt.
+    pub strictness: Strictness,
 }
 
 impl Asking {
-    /// The same, though a set may have doubts.
+    /// The same, though a set may have doubts, whatever its text asks.
     pub fn lenient(self) -> Asking
         ensures { result ≡ lenient self }
     {
-        let is_strict = false;
-        Asking { is_strict, ..self }
+        let strictness = Strictness::Lenient;
+        Asking { strictness, ..self }
     }
 }
 
@@ -36,11 +47,22 @@ pub enum AskedFault {
     Doubt(Doubt),
 }
 
-// The first doubt of a set, where none is asked for.
-fn doubt_told(is_strict: bool, read: &Preferred) -> Option<Doubt>
-    ensures { result ≡ doubt_told is_strict read.now.choice.call read.now.choice.own read.now.set }
+// Whether the set that a text says is refused for a doubt.
+fn is_told(alloc: Global, strictness: Strictness, text: &[u8]) -> Result<bool, AllocError>
+    ensures { IfOk result (λ told. IsTold strictness text.now told) }
 {
-    if is_strict {
+    match strictness {
+        Strictness::Lenient => Ok(false),
+        Strictness::AsSaid => is_strict(alloc, text),
+        Strictness::Strict => Ok(true),
+    }
+}
+
+// The first doubt of a set, where it is told.
+fn doubt_told(is_told: bool, read: &Preferred) -> Option<Doubt>
+    ensures { result ≡ doubt_told is_told read.now.choice.call read.now.choice.own read.now.set }
+{
+    if is_told {
         let choice = read.choice;
         first_doubt(&read.set, choice.call.or(choice.own).is_none())
     } else {
@@ -49,7 +71,7 @@ fn doubt_told(is_strict: bool, read: &Preferred) -> Option<Doubt>
 }
 
 /// Reads a task set from a text as `read_preferred` does. Refused behind all that `read_preferred` refuses: where the call
-/// is strict, the set's first doubt.
+/// is strict, or as it lets the text say the text is, the set's first doubt.
 pub fn read_asked(alloc: Global, text: &[u8], asking: Asking) -> Result<Preferred, AskedFault>
     ensures { ReadsAsked asking text.now result }
 {
@@ -57,7 +79,11 @@ pub fn read_asked(alloc: Global, text: &[u8], asking: Asking) -> Result<Preferre
         Ok(read) => read,
         Err(fault) => return Err(AskedFault::Text(fault)),
     };
-    match doubt_told(asking.is_strict, &read) {
+    let is_told = match is_told(alloc, asking.strictness, text) {
+        Ok(is_told) => is_told,
+        Err(_) => return Err(AskedFault::Text(TeamsFault::OutOfMemory)),
+    };
+    match doubt_told(is_told, &read) {
         None => Ok(read),
         Some(doubt) => Err(AskedFault::Doubt(doubt)),
     }

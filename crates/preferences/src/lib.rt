@@ -7,7 +7,7 @@ mod choice;
 pub mod laws;
 mod preferred;
 
-pub use asking::{AskedFault, Asking, read_asked};
+pub use asking::{AskedFault, Asking, Strictness, read_asked};
 pub use choice::Choice;
 pub use doubts::Doubt;
 pub use preferred::{Preferred, prefer, read_preferred};

@@ -60,7 +60,7 @@ fn tell_found(told: &mut Told, value: Option<&Value>) {
 }
 
 // The keys of the document.
-const ROOT_WORDS: [&str; 5] = ["prefer", "node", "interrupt", "locks", "team"];
+const ROOT_WORDS: [&str; 6] = ["prefer", "strict", "node", "interrupt", "locks", "team"];
 
 // The keys of a team's table.
 const TEAM_WORDS: [&str; 3] = ["load", "section", "node"];
@@ -71,7 +71,7 @@ fn tell_unknown_root(told: &mut Told, root: &Table) {
     told.shown(
         "node.toml: unknown key ",
         key,
-        "; it may have prefer in front, [node], [[interrupt]], [locks], and for each team [team.NAME]",
+        "; it may have prefer and strict in front, [node], [[interrupt]], [locks], and for each team [team.NAME]",
     );
     if key == "task" {
         told.words("; a task stands in its team's document");
@@ -137,6 +137,12 @@ fn tell_fault(told: &mut Told, bytes: &[u8], root: &Table, fault: NodeFault) {
         NodeFault::Says { fault } => {
             told.words("node.toml: ");
             tell_said(told, root, fault);
+        }
+        NodeFault::BadStrict => {
+            told.words(
+                "node.toml: strict has to be true, where a set is refused for what may be a mistake, or false",
+            );
+            tell_found(told, root.get("strict"));
         }
         NodeFault::NoLocks => {
             told.words("node.toml: locks has to be a table, headed by [locks]");

@@ -19,7 +19,7 @@ use Rattle.task_sheet.specs.declared.keys.Key.TheVariants as key
 use Rattle.task_sheet.specs.declared.read.SetFault.{SetFault}
 use Rattle.task_sheet.proofs.WithinLimits.{overheads_within, says_within, tables_within}
 use Rattle.teams.specs.NodeDocument.{NodeData, ReadsNodeDocument, node_fault, only_keys, own_fault}
-use Rattle.teams.specs.declared.node.NodeKey.TheVariants.{Locks, Said, Team}
+use Rattle.teams.specs.declared.node.NodeKey.TheVariants.{Locks, Said, Strict, Team}
 use Rattle.teams.specs.declared.node.NodeFault.{NodeFault}
 use Rattle.teams.specs.declared.node.NodeFault.TheVariants as node
 use Rattle.teams.specs.Agreeing.{first_saying, interrupts_by, node_by, said_by}
@@ -97,7 +97,7 @@ none_said (Some f) e = cc
 
 root_none : (tree : Members) → node_fault tree ≡ None → own_fault tree ≡ None
 root_none tree none = elim (cases_Bool (only_keys
-    (Said key.Prefer ∷ Said key.Node ∷ Said key.Interrupt ∷ Locks ∷ Team ∷ []) tree)) [
+    (Said key.Prefer ∷ Said key.Node ∷ Said key.Interrupt ∷ Strict ∷ Locks ∷ Team ∷ []) tree)) [
       | inl known ↦ none_said _ (no_node_fault _ _ (rw known at none))
       | inr other ↦
           let some : Some node.UnknownRoot ≡ None = (rw other at none) in

@@ -7,3 +7,4 @@ pub mod Budgets
 pub mod Rights
 pub mod Naming
 pub mod ReadsText
+pub mod Strictness

@@ -17,7 +17,7 @@ use Rattle.teams.specs.declared.node.Budget.{Budget}
 use Rattle.teams.specs.declared.node.Quantity.{Quantity}
 use Rattle.teams.specs.declared.node.Quantity.TheVariants.{Load, Section}
 use Rattle.teams.specs.declared.node.NodeKey.{NodeKey}
-use Rattle.teams.specs.declared.node.NodeKey.TheVariants.{Team, Locks, Limit, Said}
+use Rattle.teams.specs.declared.node.NodeKey.TheVariants.{Team, Strict, Locks, Limit, Said}
 use Rattle.teams.specs.declared.node.NodeFault.{NodeFault}
 use Rattle.teams.specs.declared.node.NodeFault.TheVariants as fault
 
@@ -29,6 +29,7 @@ quantity_word Section = codes "section"
 -- how a key of a node's document is written
 abbrev pub key_word : NodeKey → List ℕ
 key_word Team = codes "team"
+key_word Strict = codes "strict"
 key_word Locks = codes "locks"
 key_word (Limit quantity) = quantity_word quantity
 key_word (Said key) = word_of key
@@ -53,15 +54,15 @@ limit_fault team quantity ms =
     if is_some (limit_of (get_member (quantity_word quantity) ms)) then None
     else Some (fault.NoNumber team quantity)
 
--- whether a team has the right to say what is the node's; none where that is neither true nor false
-abbrev pub right_of : Option Data → Option Bool
-right_of None = Some false
-right_of (Some d) = as_bool d
+-- what a value says that may be absent, and says false then; none where it is neither true nor false
+abbrev pub flag_of : Option Data → Option Bool
+flag_of None = Some false
+flag_of (Some d) = as_bool d
 
--- the value at the right's key is neither
+-- the value at the key of the right to say what is the node's is neither
 abbrev pub right_fault : List ℕ → Members → Option NodeFault
 right_fault team ms =
-    if is_some (right_of (get_member (key_word (Said key.Node)) ms)) then None
+    if is_some (flag_of (get_member (key_word (Said key.Node)) ms)) then None
     else Some (fault.NoRight team)
 
 -- why a team's table says no budget: its keys, its numbers, and then its right
@@ -78,7 +79,7 @@ budget_of team ms = record {
   team = team;
   load = unwrap_or (limit_of (get_member (quantity_word Load) ms)) None;
   section = unwrap_or (limit_of (get_member (quantity_word Section) ms)) None;
-  right = unwrap_or (right_of (get_member (key_word (Said key.Node)) ms)) false;
+  right = unwrap_or (flag_of (get_member (key_word (Said key.Node)) ms)) false;
 }
 
 -- why what stands at a name says no budget
@@ -199,23 +200,40 @@ own_fault root =
     (option_or (overheads_fault (value_at key.Node root))
     (interrupts_fault (tables_at key.Interrupt root)))
 
+-- ---- doubts
+-- the value at `strict` is neither true nor false
+abbrev pub strict_fault : Members → Option NodeFault
+strict_fault root =
+    if is_some (flag_of (get_member (key_word Strict) root)) then None else Some fault.BadStrict
+
+-- the set is refused for its first doubt
+abbrev pub strict_in : Members → Bool
+strict_in root = unwrap_or (flag_of (get_member (key_word Strict) root)) false
+
 -- ---- the document
 -- what it says
 pub record NodeData : Type 0 where
   pub own : TeamSetData
+  pub is_strict : Bool
   pub locks : Option (List Lock)
   pub budgets : List Budget
 
 abbrev pub node_of : Members → NodeData
-node_of root = record { own = own_of root; locks = locks_in root; budgets = budgets_in root }
+node_of root = record {
+  own = own_of root;
+  is_strict = strict_in root;
+  locks = locks_in root;
+  budgets = budgets_in root;
+}
 
--- the first fault of a node's document: its keys, what is said for all teams, its locks, and then the teams
+-- the first fault of a node's document: its keys, what is said for all teams, `strict`, its locks, and then the teams
 abbrev pub node_fault : Members → Option NodeFault
 node_fault root =
-    if only_keys (Said key.Prefer ∷ Said key.Node ∷ Said key.Interrupt ∷ Locks ∷ Team ∷ []) root
+    if only_keys (Said key.Prefer ∷ Said key.Node ∷ Said key.Interrupt ∷ Strict ∷ Locks ∷ Team ∷ []) root
     then option_or (option_map fault.Says (own_fault root))
+    (option_or (strict_fault root)
     (option_or (locks_fault (get_member (key_word Locks) root))
-    (teams_fault (get_member (key_word Team) root)))
+    (teams_fault (get_member (key_word Team) root))))
     else Some fault.UnknownRoot
 
 -- what the tree says, where it has no fault; Syntax: there is no tree; any other fault but out of memory: the tree's first

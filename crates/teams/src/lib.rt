@@ -10,6 +10,7 @@ mod naming;
 mod node;
 mod reading;
 mod rights;
+mod strictness;
 mod text;
 mod uniting;
 
@@ -17,4 +18,5 @@ pub use crate::fault::TeamsFault;
 pub use crate::gathering::{first_part, node_part, read_gathered};
 pub use crate::node::{NodeFault, Quantity};
 pub use crate::reading::Part;
+pub use crate::strictness::is_strict;
 pub use crate::text::{is_gathered, read_text};

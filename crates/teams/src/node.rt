@@ -3,7 +3,7 @@ ghost use Rattle.std.specs.Prelude.{◌≡◌, ◌≢◌, None, Some, IfOk, IfEr
 ghost use Rattle.toml.specs.Data.{get_member};
 ghost use Rattle.toml.specs.View.{view, table_view};
 ghost use Rattle.task_sheet.specs.Tree.{number_of};
-ghost use Rattle.teams.specs.NodeDocument.{budget_of, budgets_in, budgets_of, entries_fault, entry_budget, entry_fault, is_true, is_word_of, key_word, limit_of, lock_at, lock_fault, lock_said, locks_fault, locks_in, names_fault, names_of, node_fault, node_of, node_word, only_keys, own_fault, own_of, ReadsNodeDocument, right_of, table_fault, teams_fault, quantity_word};
+ghost use Rattle.teams.specs.NodeDocument.{budget_of, budgets_in, budgets_of, entries_fault, entry_budget, entry_fault, flag_of, is_true, is_word_of, key_word, limit_of, lock_at, lock_fault, lock_said, locks_fault, locks_in, names_fault, names_of, node_fault, node_of, node_word, only_keys, own_fault, own_of, ReadsNodeDocument, strict_fault, strict_in, table_fault, teams_fault, quantity_word};
 ghost use Rattle.teams.specs.ReadsText.{ReadsNode};
 
 use crate::fault::TeamsFault;
@@ -52,6 +52,8 @@ pub(crate) struct Budget {
 #[derive(Drop)]
 pub(crate) struct NodeDocument {
     pub own: TeamSet,
+    /// The set is refused for its first doubt.
+    pub is_strict: bool,
     /// Under which names sections may take locks; none where all may.
     pub locks: Option<Vec<Lock>>,
     pub budgets: Vec<Budget>,
@@ -65,6 +67,7 @@ impl Model for NodeDocument {
 
     ghost view = { λ n. record {
       own = n.own;
+      is_strict = n.is_strict;
       locks = option_map (λ v. v.items) n.locks;
       budgets = n.budgets.items;
     } };
@@ -85,6 +88,9 @@ pub enum NodeFault {
     /// `prefer`, `node` or `interrupt` of the root is none.
     #[error("{fault}")]
     Says { fault: SetFault },
+    /// `strict` of the root is neither true nor false.
+    #[error("neither true nor false at strict")]
+    BadStrict,
     /// `locks` of the root is no table.
     #[error("locks is no table")]
     NoLocks,
@@ -136,6 +142,7 @@ impl From<AllocError> for NodeFault {
 #[derive(Clone, Copy)]
 pub(crate) enum NodeKey {
     Team,
+    Strict,
     Locks,
     Limit(Quantity),
     // One that a set's document has, too.
@@ -149,6 +156,7 @@ impl NodeKey {
     {
         match self {
             NodeKey::Team => "team",
+            NodeKey::Strict => "strict",
             NodeKey::Locks => "locks",
             NodeKey::Limit(quantity) => quantity.word(),
             NodeKey::Said(key) => key.word(),
@@ -189,6 +197,16 @@ fn number_of(value: &Value) -> Option<u64>
     match value.as_integer() {
         Some(n) if n >= 0 => Some(n as u64),
         _ => None,
+    }
+}
+
+// What is said at a key, false where nothing is; none where that is neither true nor false.
+fn flag_at(word: &str, table: &Table) -> Option<bool>
+    ensures { result ≡ flag_of (get_member word.now (table_view table.now)) }
+{
+    match value_at(word, table) {
+        Some(value) => value.as_bool(),
+        None => Some(false),
     }
 }
 
@@ -289,16 +307,6 @@ fn limit_at(quantity: Quantity, table: &Table) -> Option<Option<u64>>
     }
 }
 
-// Whether a team has the right, as it is said; none where that is neither true nor false.
-fn right_at(table: &Table) -> Option<bool>
-    ensures { result ≡ right_of (get_member (key_word (NodeKey.Said Key.Node)) (table_view table.now)) }
-{
-    match value_at(Key::Node.word(), table) {
-        Some(value) => value.as_bool(),
-        None => Some(false),
-    }
-}
-
 // The budget that a team's table says.
 fn read_table(team: Name, table: &Table) -> Result<Budget, NodeFault>
     ensures ok { IfOk result (λ b. (table_fault team (table_view table.now) ≡ None)
@@ -322,7 +330,7 @@ fn read_table(team: Name, table: &Table) -> Result<Budget, NodeFault>
     let Some(section) = limit_at(quantity, table) else {
         return Err(NodeFault::NoNumber { team, quantity });
     };
-    let Some(right) = right_at(table) else {
+    let Some(right) = flag_at(Key::Node.word(), table) else {
         return Err(NodeFault::NoRight { team });
     };
     Ok(Budget {
@@ -414,6 +422,19 @@ fn read_own(alloc: Global, root: &Table) -> Result<TeamSet, SetFault>
     })
 }
 
+// Whether a set is refused for its first doubt.
+fn read_strict(root: &Table) -> Result<bool, NodeFault>
+    ensures ok { IfOk result (λ s. (strict_fault (table_view root.now) ≡ None)
+        × (s ≡ strict_in (table_view root.now))) }
+    ensures err { IfErr result (λ e. strict_fault (table_view root.now) ≡ Some e) }
+    ensures tree { IfErr result (λ e. e ≢ NodeFault.Syntax) }
+{
+    match flag_at(NodeKey::Strict.word(), root) {
+        Some(is_strict) => Ok(is_strict),
+        None => Err(NodeFault::BadStrict),
+    }
+}
+
 // What a document's tree says.
 fn read_root(alloc: Global, root: &Table) -> Result<NodeDocument, NodeFault>
     ensures ok { IfOk result (λ n. (node_fault (table_view root.now) ≡ None)
@@ -426,6 +447,7 @@ fn read_root(alloc: Global, root: &Table) -> Result<NodeDocument, NodeFault>
         NodeKey::Said(Key::Prefer),
         NodeKey::Said(Key::Node),
         NodeKey::Said(Key::Interrupt),
+        NodeKey::Strict,
         NodeKey::Locks,
         NodeKey::Team,
     ];
@@ -437,19 +459,21 @@ fn read_root(alloc: Global, root: &Table) -> Result<NodeDocument, NodeFault>
         Err(SetFault::OutOfMemory) => return Err(NodeFault::OutOfMemory),
         Err(fault) => return Err(NodeFault::Says { fault }),
     };
+    let is_strict = read_strict(root)?;
     let locks = read_locks(alloc, root)?;
     let budgets = read_teams(alloc, root)?;
     Ok(NodeDocument {
         own,
+        is_strict,
         locks,
         budgets,
     })
 }
 
-// What the node's document says, in TOML: `prefer`, `node` and `interrupt` as a set's document has them; a table `locks`; and for a team a
-// table `team.NAME`, with a number at `load` and `section`, and true or false at `node`. Refused in this order: `Syntax`;
-// `UnknownRoot`; `Says`; `NoLocks`; for each name of a lock `BadLockName`, `BadLock`; `TooManyLocks`; `NoTeams`; for each team by its name: `BadName`, `NoBudget`, `UnknownKey`, `NoNumber`, `NoRight`.
-fn read_document(alloc: Global, text: &[u8]) -> Result<NodeDocument, NodeFault>
+// What the node's document says, in TOML: `prefer`, `node` and `interrupt` as a set's document has them; true or false at `strict`;
+// a table `locks`; and for a team a table `team.NAME`, with a number at `load` and `section`, and true or false at
+// `node`. Refused in this order: `Syntax`; `UnknownRoot`; `Says`; `BadStrict`; `NoLocks`; for each name of a lock `BadLockName`, `BadLock`; `TooManyLocks`; `NoTeams`; for each team by its name: `BadName`, `NoBudget`, `UnknownKey`, `NoNumber`, `NoRight`.
+pub(crate) fn read_document(alloc: Global, text: &[u8]) -> Result<NodeDocument, NodeFault>
     ensures { ReadsNodeDocument text.now result }
 {
     match toml::table_from_slice(alloc, text) {

@@ -65,6 +65,7 @@ fn judged(alloc: Global, node: NodeDocument, teams: Vec<TeamSet>) -> Result<Docu
         own,
         locks,
         budgets,
+        ..
     } = node;
     if let Some(fault) = rights_fault(&budgets, &teams) {
         return Err(fault);

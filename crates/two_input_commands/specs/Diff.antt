@@ -5,7 +5,7 @@ use Rattle.preferences.specs.declared.asking.Asking.{Asking}
 use Rattle.task_sheet.specs.declared.read.Document.{Document}
 use Rattle.preferences.specs.Preferences.{IsPreferred}
 use Rattle.preferences.specs.ReadsPreferred.{chosen}
-use Rattle.preferences.specs.ReadsAsked.{IsDoubted, doubt_told, lenient}
+use Rattle.preferences.specs.ReadsAsked.{IsDoubted, TellsDoubt, lenient}
 use Rattle.preferences.specs.declared.asking.AskedFault.{AskedFault}
 use Rattle.preferences.specs.declared.asking.AskedFault.TheVariants as asked
 use Rattle.task_sheet.specs.Sheet.{Task}
@@ -30,7 +30,7 @@ abbrev pub IsNew : Asking → List ℕ → List Task → Preference → Type 0
 IsNew asking text V by =
     (d : Document) × ReadsText text (Ok d) × IsPreferred (chosen asking.prefer d.prefers) d.set V
     × (by ≡ chosen asking.prefer d.prefers)
-    × (doubt_told asking.is_strict asking.prefer d.prefers V ≡ None)
+    × TellsDoubt asking text d.prefers V None
 
 -- why a text says no new set as it is asked for, as a refusal
 abbrev pub new_refusal : AskedFault → CommandRefusal
