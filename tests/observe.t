@@ -312,10 +312,7 @@ Each refusal, with its line:
   $ observed '0 10 hi\njob hi 0 9\n'
   refused: NoJob 1
   [4]
-  $ seq 0 10000 | sed 's/.*/job x & -/' | desk observe examples/shared-lock.toml -
-  refused: TooManyLines
-  [4]
-  $ seq 0 9999 | sed 's/.*/job x & -/' | desk observe examples/shared-lock.toml - --jobless | grep -c .
+  $ seq 0 99999 | sed 's/.*/job x & -/' | desk observe examples/shared-lock.toml - --jobless | grep -c .
   3
   $ desk observe examples/cost-past-deadline.toml - < examples/shared-lock.toml
   refused: BadLine 5

@@ -7,7 +7,7 @@ import settings
 from lines import Faulty, kept_lines, name_in, number_in, read_lines
 from refusals import Refused
 
-SLICES_MOST, JOBS_MOST = 100_000, 10_000
+SLICES_MOST, JOBS_MOST = 2**32, 2**32
 TOLERANCE_MOST = 60_000_000
 
 

@@ -11,8 +11,6 @@ use Rattle.observed_lines.specs.Breaks.{breaks_foreign, breaks_idle, breaks_jitt
 use Rattle.observed_lines.specs.Breaks.{is_kept, is_over, is_short, may_idle}
 use Rattle.observed_lines.specs.Broken.{broken_lines, own_lines, own_words, wait_lines, wait_words}
 use Rattle.observed_lines.specs.Causes.{cause_of, sources_in}
-use Rattle.observed_lines.specs.declared.causes.Cause.{Cause}
-use Rattle.observed_lines.specs.declared.causes.Source.{Source}
 use Rattle.kept_promises.specs.Kept.{Keeps, KeepsToDemand}
 
 -- a time that isn't short of a limit, is short of it by no tolerance
@@ -78,9 +76,10 @@ module _ (tolerance : ℕ) (s : SeenData) (keeps : KeepsToDemand s) where
   own = rw (priority, cost, period, jitter) refl
 
   -- neither among what follows from something, nor among what doesn't
-  waits : (follows : Bool) (cause : Option Cause) → wait_words follows cause tolerance s ≡ []
-  waits true cause = rw (bound, blocking, idle) refl
-  waits false cause = rw (bound, blocking, foreign, idle) refl
+  waits : (follows : Bool) (all : List SeenData)
+      → wait_words follows (cause_of (sources_in tolerance all) s) tolerance s ≡ []
+  waits true all = rw (bound, blocking, idle) refl
+  waits false all = rw (bound, blocking, foreign, idle) refl
 
 -- behind the first, too
 rest_keeps : (s : SeenData) (seen : List SeenData) → All KeepsToDemand (s ∷ seen) → All KeepsToDemand seen
@@ -102,24 +101,23 @@ none_own tolerance (s ∷ seen) all =
     ap (λ (words : List ℕ). words ++ own_lines tolerance seen) here
     ∙ none_own tolerance seen (rest_keeps s seen all)
 
-none_waits : (tolerance : ℕ) (follows : Bool) (causes : List Source) (seen : List SeenData) → All KeepsToDemand seen
-    → wait_lines follows causes tolerance seen ≡ []
-none_waits tolerance follows causes [] all = refl
-none_waits tolerance follows causes (s ∷ seen) all =
-    let here : wait_words follows (cause_of causes s) tolerance s ≡ [] =
-    waits tolerance s (all 0 s (omega arith)) follows (cause_of causes s) in
-    ap (λ (words : List ℕ). words ++ wait_lines follows causes tolerance seen) here
-    ∙ none_waits tolerance follows causes seen (rest_keeps s seen all)
+none_waits : (tolerance : ℕ) (follows : Bool) (every seen : List SeenData) → All KeepsToDemand seen
+    → wait_lines follows (sources_in tolerance every) tolerance seen ≡ []
+none_waits tolerance follows every [] all = refl
+none_waits tolerance follows every (s ∷ seen) all =
+    let here : wait_words follows (cause_of (sources_in tolerance every) s) tolerance s ≡ [] =
+    waits tolerance s (all 0 s (omega arith)) follows every in
+    ap (λ (words : List ℕ). words ++ wait_lines follows (sources_in tolerance every) tolerance seen) here
+    ∙ none_waits tolerance follows every seen (rest_keeps s seen all)
 
 pub none_written : (tolerance : ℕ) (seen : List SeenData) → All KeepsToDemand seen
     → broken_lines tolerance seen ≡ []
 none_written tolerance seen all =
-    let causes : List Source = sources_in tolerance seen in
-    let later : List ℕ = wait_lines true causes tolerance seen in
-    ap (λ (words : List ℕ). words ++ wait_lines false causes tolerance seen ++ later)
-    (none_own tolerance seen all)
-    ∙ ap (λ (words : List ℕ). words ++ later) (none_waits tolerance false causes seen all)
-    ∙ none_waits tolerance true causes seen all
+    let later : List ℕ = wait_lines true (sources_in tolerance seen) tolerance seen in
+    ap (λ (words : List ℕ). words ++ wait_lines false (sources_in tolerance seen) tolerance seen
+    ++ later) (none_own tolerance seen all)
+    ∙ ap (λ (words : List ℕ). words ++ later) (none_waits tolerance false seen seen all)
+    ∙ none_waits tolerance true seen seen all
 
 -- ---- of no others
 -- a time that isn't short

@@ -9,10 +9,10 @@ use lines::TextPlace;
 use std::alloc::Global;
 
 /// The most slices of a trace.
-pub const SLICE_LIMIT: usize = 100_000;
+pub const SLICE_LIMIT: usize = 4_294_967_296;
 
 /// The most jobs of a trace.
-pub const JOB_LIMIT: usize = 10_000;
+pub const JOB_LIMIT: usize = 4_294_967_296;
 
 /// What a trace says: slices by time, none of which overlaps another, and jobs by their arrivals.
 #[derive(Drop)]
