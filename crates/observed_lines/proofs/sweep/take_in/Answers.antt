@@ -1,6 +1,5 @@
 use Rattle.std.proofs.Common.{◌≡◌, ◌∙◌, ◌++◌, ◌∷◌, [], List, ap, sym, rules, true, nat_le}
 use Rattle.std.proofs.lemmas.Bool.{and_parts}
-
 use Rattle.std.specs.List.{find}
 use Rattle.observed_lines.specs.Causes.{delays}
 use Rattle.observed_lines.specs.Sweeps.{Agree, come_from}
