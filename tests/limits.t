@@ -200,6 +200,48 @@ much again.
   > END
   all 1500 1500 hi
 
+A section that doesn't say where it begins moves along with a longer one before it: the first may take what the second leaves
+up to the third, which says where it begins.
+
+  $ cat > along.toml << END
+  > [[task]]
+  > name = "arm"
+  > period = 1000
+  > deadline = 1000
+  > cost = 100
+  > section = [{ locks = ["m"], len = 5 }, { locks = ["n"], len = 7 }, { locks = ["m"], at = 30, len = 5 }]
+  > [[task]]
+  > name = "log"
+  > period = 2000
+  > deadline = 2000
+  > cost = 100
+  > section = [{ locks = ["m", "n"], len = 7 }]
+  > END
+  $ desk limits along.toml | grep section
+  arm section 1 len 5 23 23 by section 3
+  arm section 2 len 7 25 25 by section 3
+  arm section 3 len 5 70 70 by cost
+  log section 1 len 7 100 100 by cost
+  $ desk limits along.toml --task arm | grep 'section 1'
+  arm section 1 len 5 23 23 by section 3
+  $ desk settings along.toml > today
+  $ desk limits along.toml --at today | grep 'arm section 1'
+  arm section 1 len 5 23 23 by section 3
+  $ mkdir node && cp along.toml node/arm.toml && desk limits node | grep 'arm section 1'
+  arm section 1 len 5 23 23 by section 3
+
+That, typed in, is admitted, and one more isn't a set; where the second says that it begins at 5, it holds the first.
+
+  $ sed 's/m"], len = 5/m"], len = 23/' along.toml | desk admit - | head -n 1
+  admitted 2
+  $ sed 's/m"], len = 5/m"], len = 24/' along.toml | desk admit -
+  refused: Overlap 1 3
+  [4]
+  $ sed 's/n"], len = 7 },/n"], at = 5, len = 7 },/' along.toml | desk limits - | grep 'arm section'
+  arm section 1 len 5 5 5 by section 2
+  arm section 2 len 7 25 25 by section 3
+  arm section 3 len 5 70 70 by cost
+
 A refused set prints as in `admit`:
 
   $ echo x = 1 | desk limits -

@@ -44,7 +44,8 @@ class Number(NamedTuple):
         if self.kind == "period":
             return "cost" if value == task.cost else "jitter" if value == task.jitter + 1 else PERIOD_LEAST
         if self.kind == "len":
-            return f"section {self.section + 2}" if task.sections[self.section + 1 :] else "cost"
+            behind = self.last_along(task) + 1
+            return f"section {behind + 1}" if task.sections[behind:] else "cost"
         return {"cost": "period", "deadline": "jitter", "jitter": "deadline"}[self.kind]
 
     def easiest_first(self, task):
@@ -57,9 +58,17 @@ class Number(NamedTuple):
             return range(PERIOD_MOST, task.jitter, -1)
         if self.kind == "jitter":
             return range(task.deadline)
-        sections = task.sections
-        end = sections[self.section + 1].at if sections[self.section + 1 :] else task.cost
-        return range(1, end - sections[self.section].at + 1)
+        last = self.last_along(task)
+        end = task.sections[last + 1].at if task.sections[last + 1 :] else task.cost
+        return range(1, self.value(task) + end - task.sections[last].end + 1)
+
+    def last_along(self, task):
+        """The place of the last section that moves along with a length: those behind it that don't say where they begin do,
+        up to the first that says so."""
+        last = self.section
+        while last + 1 in task.following:
+            last += 1
+        return last
 
     def with_value(self, task, value):
         """A period shorter than the deadline takes it along, and a deadline later than the period that."""
@@ -69,7 +78,10 @@ class Number(NamedTuple):
             return task._replace(deadline=value, period=max(task.period, value))
         if self.kind == "len":
             sections = list(task.sections)
+            more = value - self.value(task)
             sections[self.section] = sections[self.section]._replace(len=value)
+            for place in range(self.section + 1, self.last_along(task) + 1):
+                sections[place] = sections[place]._replace(at=sections[place].at + more)
             return task._replace(sections=tuple(sections))
         return task._replace(**{self.kind: value})
 

@@ -59,6 +59,7 @@ class Sheet(NamedTuple):
     outranks: tuple = ()  # of names, or ALL
     node: Node = NO_NODE  # what of its numbers is the node's, and what its timer takes
     interrupts: tuple = ()  # those on its account
+    following: frozenset = frozenset()  # the places of sections that don't say where they begin
 
     @property
     def rank(self):
@@ -297,6 +298,7 @@ def read_task(table, task):
         sections,
         table.get("jitter", 0),
         ALL if table.get("outranks") == ALL else tuple(table.get("outranks", ())),
+        following=frozenset(place for place, part in enumerate(tables) if "at" not in part),
     )
     if not is_name(sheet.name):
         raise Refused(4, "BadName", task, 0)

@@ -12,6 +12,9 @@ use Rattle.assignment.specs.declared.placing.Placing.{Placing}
 use Rattle.assignment.specs.declared.placing.Placing.TheVariants.{Best, Stuck}
 use Rattle.limits.specs.Numbers.{interrupt_at, section_at, value_of, with_number, AnswersFurthest}
 use Rattle.limits.specs.InOrder.{AnswersFurthestIn}
+use Rattle.limits.specs.Rooms.{most_len}
+use Rattle.owners.specs.Followers.{along}
+use Rattle.owners.specs.declared.owner.Owner.{Owner}
 use Rattle.limits.specs.declared.number.Number.{Number}
 use Rattle.limits.specs.declared.number.Number.TheVariants.{Cost, Period, Deadline, Jitter, Len, InterruptCost, InterruptPeriod}
 use Rattle.factor.specs.Factors.{AnswersFactorOf}
@@ -34,13 +37,17 @@ order_given (Best places) = Some (tasks_of_places places.items)
 order_given (Stuck members) = None
 
 -- ---- a number
+-- the length of the section at a place of a task, with those behind it that move along
+abbrev pub len_at : List Owner → Task → ℕ → Number
+len_at owners t k = Len k (along owners t.name k (length t.sections - (k + 1)))
+
 -- the numbers of a task, one after the other: cost, period, deadline, jitter, and the lengths of its sections
-abbrev pub number_at : ℕ → Number
-number_at zero = Cost
-number_at (suc zero) = Period
-number_at (suc (suc zero)) = Deadline
-number_at (suc (suc (suc zero))) = Jitter
-number_at (suc (suc (suc (suc k)))) = Len k
+abbrev pub number_at : List Owner → Task → ℕ → Number
+number_at owners t zero = Cost
+number_at owners t (suc zero) = Period
+number_at owners t (suc (suc zero)) = Deadline
+number_at owners t (suc (suc (suc zero))) = Jitter
+number_at owners t (suc (suc (suc (suc k)))) = len_at owners t k
 
 -- what a line calls a number; sections count from 1
 abbrev pub label_of : Number → List ℕ
@@ -48,7 +55,7 @@ label_of Cost = codes " cost "
 label_of Period = codes " period "
 label_of Deadline = codes " deadline "
 label_of Jitter = codes " jitter "
-label_of (Len k) = codes " section " ++ decimal (k + 1) ++ codes " len "
+label_of (Len k along) = codes " section " ++ decimal (k + 1) ++ codes " len "
 label_of (InterruptCost k) = codes " cost "
 label_of (InterruptPeriod k) = codes " period "
 
@@ -69,7 +76,7 @@ node_part Cost t = overhead_of t
 node_part Period t = 0
 node_part Deadline t = 0
 node_part Jitter t = t.node.late
-node_part (Len k) t = calls t.node (section_at t.sections k)
+node_part (Len k along) t = calls t.node (section_at t.sections k)
 node_part (InterruptCost k) t = 0
 node_part (InterruptPeriod k) t = 0
 
@@ -84,7 +91,7 @@ leaves_own Cost part value = nat_lt part value
 leaves_own Period part value = true
 leaves_own Deadline part value = true
 leaves_own Jitter part value = nat_le part value
-leaves_own (Len k) part value = nat_lt part value
+leaves_own (Len k along) part value = nat_lt part value
 leaves_own (InterruptCost k) part value = true
 leaves_own (InterruptPeriod k) part value = true
 
@@ -115,7 +122,7 @@ along_words Deadline t own most =
     moved_words Period t.period (option_map (λ value. (with_number Deadline t value).period) own)
     (with_number Deadline t most).period
 along_words Jitter t own most = []
-along_words (Len k) t own most = []
+along_words (Len k along) t own most = []
 along_words (InterruptCost k) t own most = []
 along_words (InterruptPeriod k) t own most = []
 
@@ -124,19 +131,14 @@ along_words (InterruptPeriod k) t own most = []
 abbrev pub word_if : Bool → List ℕ → List ℕ
 word_if holds word = if holds then word else []
 
--- up to where the section at a place may reach: the next one, or the end of the task
-abbrev pub end_of : Task → ℕ → ℕ
-end_of t k =
-    if nat_lt (k + 1) (length t.sections) then (section_at t.sections (k + 1)).at else t.cost
-
--- what stands there
+-- what stands behind the section at a place: the next one, or the end of the task
 abbrev pub end_words : Task → ℕ → List ℕ
 end_words t k =
     if nat_lt (k + 1) (length t.sections) then codes " by section " ++ decimal (k + 2)
     else codes " by cost"
 
 -- what holds a number at this value: the period a cost; the cost, the jitter or the least period of all a period; the jitter
--- a deadline, the deadline a jitter; the next section or the cost a length; of an interrupt alike. Nothing where its sheet
+-- a deadline, the deadline a jitter; the next section that doesn't move along or the cost a length; of an interrupt alike. Nothing where its sheet
 -- may have one further
 abbrev pub held_words : Number → Task → ℕ → List ℕ
 held_words Cost t most = word_if (most == t.period) (codes " by period")
@@ -145,8 +147,8 @@ held_words Period t most =
     else word_if (most == PERIOD_FROM) (codes " by 1000")
 held_words Deadline t most = word_if (most == t.jitter + 1) (codes " by jitter")
 held_words Jitter t most = word_if (most == t.deadline - 1) (codes " by deadline")
-held_words (Len k) t most =
-    if most == end_of t k - (section_at t.sections k).at then end_words t k else []
+held_words (Len k along) t most =
+    if most == most_len t.cost t.sections k along then end_words t (k + along) else []
 held_words (InterruptCost k) t most =
     word_if (most == (interrupt_at t.interrupts k).period) (codes " by period")
 held_words (InterruptPeriod k) t most =
@@ -192,11 +194,11 @@ IsNumberLine whose U order i number text =
     × IsLineIf (is_told number (task_at U i) order own) whose U i number own text
 
 -- the text is a line for each of the first numbers of task i
-abbrev pub AreNumberLines : List Task → Option (List ℕ) → ℕ → ℕ → List ℕ → Type 0
-AreNumberLines U order i zero text = text ≡ []
-AreNumberLines U order i (suc k) text =
-    (front : List ℕ) × (line : List ℕ) × AreNumberLines U order i k front
-    × IsNumberLine (name_at U i) U order i (number_at k) line
+abbrev pub AreNumberLines : List Owner → List Task → Option (List ℕ) → ℕ → ℕ → List ℕ → Type 0
+AreNumberLines owners U order i zero text = text ≡ []
+AreNumberLines owners U order i (suc k) text =
+    (front : List ℕ) × (line : List ℕ) × AreNumberLines owners U order i k front
+    × IsNumberLine (name_at U i) U order i (number_at owners (task_at U i) k) line
     × (text ≡ front ++ line)
 
 -- ---- a task
@@ -217,9 +219,10 @@ slack_line U i None = []
 slack_line U i (Some slack) = name_at U i ++ codes " slack " ++ decimal slack ++ codes "\n"
 
 -- the lines of task i: its numbers, and its slack in places
-abbrev pub AreTaskLines : List Task → Option (List ℕ) → Option (List PlaceData) → ℕ → List ℕ → Type 0
-AreTaskLines U order places i text =
-    (numbers : List ℕ) × AreNumberLines U order i (4 + length (task_at U i).sections) numbers
+abbrev pub AreTaskLines : List Owner → List Task → Option (List ℕ) → Option (List PlaceData) → ℕ → List ℕ
+    → Type 0
+AreTaskLines owners U order places i text =
+    (numbers : List ℕ) × AreNumberLines owners U order i (4 + length (task_at U i).sections) numbers
     × (text ≡ numbers ++ slack_line U i (slack_of U places i))
 
 -- ---- all at once

@@ -1,37 +1,53 @@
 //! The lines of a task, and the last one.
-ghost use Rattle.std.specs.Prelude.{◌≡◌, ◌++◌, ◌<◌, ◌==◌, ℕ, length, codes, option_map, IfOk, IfSome, OnOk, if◌then◌else◌, string_bytes};
+ghost use Rattle.std.specs.Prelude.{◌≡◌, ◌+◌, ◌++◌, ◌<◌, ◌==◌, ℕ, length, codes, option_map, IfOk, IfSome, OnOk, if◌then◌else◌, string_bytes};
 ghost use Rattle.task_sheet.specs.declared.node.TheConstants.{INTERRUPT_FROM};
 ghost use Rattle.task_sheet.specs.Sheet.{IsValidSheet, task_at};
 ghost use Rattle.task_sheet.specs.Orders.{IsFeasible, IsOrder};
 ghost use Rattle.task_sheet.specs.declared.sheet.TheConstants.{SECTION_LIMIT};
 ghost use Rattle.lines.specs.Naming.{name_at};
 ghost use Rattle.limits.specs.Numbers.{AnswersFurthest, HasNumber, MayHave, numbered, with_number};
-ghost use Rattle.limit_lines.specs.Lines.{AnswersFactorIn, AnswersIn, AreTaskLines, IsLast, IsNumberLine, along_words, before_words, end_of, end_words, factor_line, held_words, helps_own, is_told, label_of, leaves_own, less_of, moved_words, node_part, number_at, number_line, slack_in, slack_line, slack_of, some_words, stays, word_if};
+ghost use Rattle.limit_lines.specs.Lines.{AnswersFactorIn, AnswersIn, AreTaskLines, IsLast, IsNumberLine, along_words, before_words, end_words, factor_line, held_words, helps_own, is_told, label_of, leaves_own, len_at, less_of, moved_words, node_part, number_at, number_line, slack_in, slack_line, slack_of, some_words, stays, word_if};
 
 use assignment::Place;
 use ceilings::Tabled;
 use factor::{Slowdown, factor, factor_in_order};
-use limits::{Number, furthest, furthest_from, furthest_in_order, value_of};
+use limits::{Number, furthest, furthest_from, furthest_in_order, most_len, value_of};
 use lines::push_name;
+use owners::{Owner, along};
 use std::alloc::{AllocError, Global};
 use task_sheet::{INTERRUPT_FROM, PERIOD_FROM, Sheet, TaskSet};
 
+// The length of the section at a place of a task, with those behind it that move along.
+fn len_at(owners: &[Owner], sheet: &Sheet, place: usize) -> Number
+    requires valid { IsValidSheet sheet.now }
+    requires place { place < length sheet.now.sections }
+    ensures same { result ≡ len_at owners.now sheet.now place }
+    ensures has { HasNumber sheet.now result }
+{
+    let behind = sheet.sections().len() - (place + 1);
+    let along = along(owners, sheet.name().bytes(), place, behind);
+    Number::Len { place, along }
+}
+
 // The number of a task that stands at a place among its numbers, from 0.
-fn number_at(place: usize) -> Number
-    ensures { result ≡ number_at place }
+fn number_at(owners: &[Owner], sheet: &Sheet, place: usize) -> Number
+    requires valid { IsValidSheet sheet.now }
+    requires place { place < 4 + length sheet.now.sections }
+    ensures same { result ≡ number_at owners.now sheet.now place }
+    ensures has { HasNumber sheet.now result }
 {
     match place {
         0 => Number::Cost,
         1 => Number::Period,
         2 => Number::Deadline,
         3 => Number::Jitter,
-        _ => Number::Len(place - 4),
+        _ => len_at(owners, sheet, place - 4),
     }
 }
 
 // What a line calls a number.
 fn push_label(text: &mut String, number: Number) -> Result<(), AllocError>
-    requires { (place : ℕ) → number ≡ Number.Len place → place < SECTION_LIMIT }
+    requires { (place along : ℕ) → number ≡ Number.Len place along → place < SECTION_LIMIT }
     ensures { OnOk result (string_bytes text.new ≡ string_bytes text.old ++ label_of number) }
 {
     match number {
@@ -39,7 +55,7 @@ fn push_label(text: &mut String, number: Number) -> Result<(), AllocError>
         Number::Period => text.push_str(" period "),
         Number::Deadline => text.push_str(" deadline "),
         Number::Jitter => text.push_str(" jitter "),
-        Number::Len(place) => {
+        Number::Len { place, .. } => {
             let count = place as u64 + 1;
             write!(text, " section {count} len ")
         }
@@ -70,7 +86,7 @@ fn node_part(sheet: &Sheet, number: Number) -> u64
         Number::Period | Number::Deadline => 0,
         Number::InterruptCost(_) | Number::InterruptPeriod(_) => 0,
         Number::Jitter => node.late,
-        Number::Len(place) => {
+        Number::Len { place, .. } => {
             let section = &sheet.sections()[place];
             node.lock * section.locks.len() as u64
         }
@@ -92,7 +108,7 @@ fn leaves_own(number: Number, part: u64, value: u64) -> bool
     ensures { result ≡ leaves_own number part value }
 {
     match number {
-        Number::Cost | Number::Len(_) => part < value,
+        Number::Cost | Number::Len { .. } => part < value,
         Number::Period | Number::Deadline => true,
         Number::Jitter => part <= value,
         Number::InterruptCost(_) | Number::InterruptPeriod(_) => true,
@@ -127,7 +143,7 @@ fn push_moved(
     own: Option<u64>,
     most: u64,
 ) -> Result<(), AllocError>
-    requires { (place : ℕ) → other ≡ Number.Len place → place < SECTION_LIMIT }
+    requires { (place along : ℕ) → other ≡ Number.Len place along → place < SECTION_LIMIT }
     ensures { OnOk result (string_bytes text.new ≡ string_bytes text.old
         ++ moved_words other was own most) }
 {
@@ -192,7 +208,7 @@ fn push_along(
                 was.max(most),
             )
         }
-        Number::Cost | Number::Jitter | Number::Len(_) => Ok(()),
+        Number::Cost | Number::Jitter | Number::Len { .. } => Ok(()),
         Number::InterruptCost(_) | Number::InterruptPeriod(_) => Ok(()),
     }
 }
@@ -220,21 +236,7 @@ fn push_period_held(text: &mut String, sheet: &Sheet, most: u64) -> Result<(), A
     push_if(text, most == PERIOD_FROM, " by 1000")
 }
 
-// Up to where a section may reach: the next one, or the end of the task.
-fn end_of(sheet: &Sheet, place: usize) -> u64
-    requires { place < length sheet.now.sections }
-    ensures { result ≡ end_of sheet.now place }
-{
-    let sections = sheet.sections();
-    if place + 1 < sections.len() {
-        let next = &sections[place + 1];
-        next.at
-    } else {
-        sheet.cost()
-    }
-}
-
-// What stands there.
+// What stands behind a section: the next one, or the end of the task.
 fn push_end(text: &mut String, sheet: &Sheet, place: usize) -> Result<(), AllocError>
     requires valid { IsValidSheet sheet.now }
     requires place { place < length sheet.now.sections }
@@ -254,16 +256,16 @@ fn push_len_held(
     text: &mut String,
     sheet: &Sheet,
     place: usize,
+    along: usize,
     most: u64,
 ) -> Result<(), AllocError>
     requires valid { IsValidSheet sheet.now }
-    requires place { place < length sheet.now.sections }
+    requires place { place + along < length sheet.now.sections }
     ensures { OnOk result (string_bytes text.new ≡ string_bytes text.old
-        ++ held_words (Number.Len place) sheet.now most) }
+        ++ held_words (Number.Len place along) sheet.now most) }
 {
-    let section = &sheet.sections()[place];
-    if most == end_of(sheet, place).saturating_sub(section.at) {
-        push_end(text, sheet, place)
+    if most == most_len(sheet, place, along) {
+        push_end(text, sheet, place + along)
     } else {
         Ok(())
     }
@@ -293,7 +295,7 @@ fn push_held(text: &mut String, sheet: &Sheet, number: Number, most: u64) -> Res
         Number::Period => push_period_held(text, sheet, most),
         Number::Deadline => push_if(text, most == sheet.jitter() + 1, " by jitter"),
         Number::Jitter => push_if(text, most == sheet.deadline() - 1, " by deadline"),
-        Number::Len(place) => push_len_held(text, sheet, place, most),
+        Number::Len { place, along } => push_len_held(text, sheet, place, along, most),
         Number::InterruptCost(place) => {
             let interrupt = sheet.interrupts()[place];
             push_if(text, most == interrupt.period, " by period")
@@ -495,9 +497,11 @@ fn name_text(alloc: Global, set: &TaskSet, task: usize) -> Result<String, AllocE
 /// The lines of a task: for each of its numbers that may help its value, the furthest with which an order passes that is
 /// given, the lowest first, and the furthest with which some order does, each less what of it is the node's, what goes
 /// along, and what holds the last; and its slack in places, where it has them. In an order only what helps that has a line:
-/// each number where it passes. The error is out of memory.
+/// each number where it passes. With a section those behind it move along that don't say where they begin. The error is out
+/// of memory.
 pub fn task_text(
     alloc: Global,
+    owners: &[Owner],
     set: &Tabled<'_>,
     order: Option<&[usize]>,
     places: Option<&[Place]>,
@@ -505,15 +509,17 @@ pub fn task_text(
 ) -> Result<String, AllocError>
     requires order { IfSome (option_map (λ o. o.now) order) (IsOrder set.now) }
     requires task { task < length set.now }
-    ensures { IfOk result (λ text. AreTaskLines set.now (option_map (λ o. o.now) order.entry)
+    ensures { IfOk result (λ text. AreTaskLines owners.now set.now (option_map (λ o. o.now) order.entry)
         (option_map (λ p. p.now) places.entry) task (string_bytes text)) }
 {
-    let count = 4 + set.sheets()[task].sections().len();
+    let sheet = &set.sheets()[task];
+    let count = 4 + sheet.sections().len();
     let name = name_text(alloc, set.tasks(), task)?;
     let whose = name.as_str();
     let mut text = String::new(alloc);
     for place in 0..count {
-        let line = number_text(alloc, whose, set, order, task, number_at(place))?;
+        let number = number_at(owners, sheet, place);
+        let line = number_text(alloc, whose, set, order, task, number)?;
         text.push_str(line.as_str())?;
     }
     let slack = slack_of(set.tasks(), places, task);

@@ -3,6 +3,7 @@ pub mod EasierLaws
 pub mod InterruptLaws
 pub mod NumberLaws
 pub mod SpanLaws
+pub mod MovedLaws
 pub mod TableLaws
 pub mod Steps
 pub mod Answered

@@ -1,5 +1,5 @@
 -- What another value of a number does to a set.
-use Rattle.std.proofs.Common.{◌≡◌, ◌↔◌, ℕ, zero, suc, ◌<◌, ◌≤◌, inl, inr, min, max, List, [], ◌∷◌}
+use Rattle.std.proofs.Common.{◌≡◌, ◌↔◌, ℕ, zero, suc, ◌+◌, ◌-◌, ◌<◌, ◌≤◌, inl, inr, min, max, List, [], ◌∷◌}
 use Rattle.std.proofs.Common.{length, slice_set, refl, sym, ◌∙◌, ap, arith}
 use Rattle.std.proofs.lemmas.Bool.{cases_eq, cases_lt}
 use Rattle.std.proofs.lemmas.List.{length-set, set-get_or}
@@ -13,7 +13,8 @@ use Rattle.limits.specs.declared.number.Number.TheVariants.{InterruptCost, Inter
 use Rattle.limits.specs.Easier.{AreShorter, IsEasier, AreEasier}
 use Rattle.task_sheet.specs.declared.node.Interrupt.{Interrupt}
 use Rattle.limits.specs.Numbers.{no_interrupt}
-use Rattle.limits.specs.Numbers.{no_section, with_len, value_of, with_number, IsNoFurther, numbered}
+use Rattle.limits.specs.Numbers.{section_at, moved, with_len, value_of, with_number, IsNoFurther}
+use Rattle.limits.specs.Numbers.{numbered}
 use Rattle.limits.specs.Numbers.{MayHave, IsFurthestFor, IsFurthest, IsSpan, at_distance, distance}
 use Rattle.limits.specs.InOrder.{IsFurthestIn}
 use Rattle.limits.proofs.EasierLaws.{AreCheaper-refl}
@@ -28,16 +29,25 @@ namesake Cost t value = record { name = refl; weight = refl }
 namesake Period t value = record { name = refl; weight = refl }
 namesake Deadline t value = record { name = refl; weight = refl }
 namesake Jitter t value = record { name = refl; weight = refl }
-namesake (Len k) t value = record { name = refl; weight = refl }
+namesake (Len k along) t value = record { name = refl; weight = refl }
 namesake (InterruptCost k) t value = record { name = refl; weight = refl }
 namesake (InterruptPeriod k) t value = record { name = refl; weight = refl }
 
 -- ---- a value that is no further asks no more
-shorter-len : (xs : List CriticalSection) (k low high : ℕ) → low ≤ high
-    → AreShorter (with_len xs k low) (with_len xs k high)
-shorter-len [] k low high le = tt
-shorter-len (x ∷ xs) zero low high le = (refl, le, AreShorter-refl xs)
-shorter-len (x ∷ xs) (suc k) low high le = (refl, omega arith, shorter-len xs k low high le)
+shorter-moved : (xs : List CriticalSection) (along low high less : ℕ)
+    → AreShorter (moved along low less xs) (moved along high less xs)
+shorter-moved xs zero low high less = AreShorter-refl xs
+shorter-moved [] (suc along) low high less = tt
+shorter-moved (x ∷ xs) (suc along) low high less =
+    (refl, omega arith, shorter-moved xs along low high less)
+
+shorter-len : (xs : List CriticalSection) (k along low high : ℕ) → low ≤ high
+    → AreShorter (with_len xs k along low) (with_len xs k along high)
+shorter-len [] k along low high le = tt
+shorter-len (x ∷ xs) zero along low high le =
+    (refl, le, shorter-moved xs along low high x.len)
+shorter-len (x ∷ xs) (suc k) along low high le =
+    (refl, omega arith, shorter-len xs k along low high le)
 
 -- a task asks no more than one with longer times and sections, a shorter period and an earlier deadline
 easier-parts : (t : Task) (c p d j c' p' d' j' : ℕ) (ss ss' : List CriticalSection) → c ≤ c'
@@ -79,10 +89,10 @@ easier-number Deadline t low high may le =
 easier-number Jitter t low high may le =
     easier-parts t t.cost t.period t.deadline low t.cost t.period t.deadline high t.sections
     t.sections (omega arith) (omega arith) (omega arith) le (AreShorter-refl t.sections)
-easier-number (Len k) t low high may le =
+easier-number (Len k along) t low high may le =
     easier-parts t t.cost t.period t.deadline t.jitter t.cost t.period t.deadline t.jitter
-    (with_len t.sections k low) (with_len t.sections k high) (omega arith) (omega arith)
-    (omega arith) (omega arith) (shorter-len t.sections k low high le)
+    (with_len t.sections k along low) (with_len t.sections k along high) (omega arith) (omega arith)
+    (omega arith) (omega arith) (shorter-len t.sections k along low high le)
 easier-number (InterruptCost k) t low high may le =
     easier-interrupts t _ _ (cheaper-cost t.interrupts k low high le)
 easier-number (InterruptPeriod k) t low high may le =
@@ -106,6 +116,21 @@ AreEasier-numbered U i number low high inside may le =
     }
 
 -- ---- with its own value a task is as it was
+moved-own : (xs : List CriticalSection) (along len : ℕ) → moved along len len xs ≡ xs
+moved-own xs zero len = refl
+moved-own [] (suc along) len = refl
+moved-own (x ∷ xs) (suc along) len =
+    let here : x.at + len - len ≡ x.at = omega arith in
+    λ i. record x { at = here i } ∷ moved-own xs along len i
+
+len-own : (xs : List CriticalSection) (k along : ℕ)
+    → with_len xs k along (section_at xs k).len ≡ xs
+len-own [] k along = refl
+len-own (x ∷ xs) zero along =
+    ap (λ (ys : List CriticalSection). x ∷ ys) (moved-own xs along x.len)
+len-own (x ∷ xs) (suc k) along =
+    ap (λ (ys : List CriticalSection). x ∷ ys) (len-own xs k along)
+
 number-own : (number : Number) (t : Task) → IsValidSheet t
     → with_number number t (value_of number t) ≡ t
 number-own Cost t valid = refl
@@ -114,8 +139,8 @@ number-own Period t valid = let e : min t.deadline t.period ≡ t.deadline =
 number-own Deadline t valid = let e : max t.period t.deadline ≡ t.period =
     omega (arith, valid.deadline_to) in ap (λ p. record t { period = p }) e
 number-own Jitter t valid = refl
-number-own (Len k) t valid = ap (λ (xs : List CriticalSection). record t { sections = xs })
-    (set-get_or t.sections k no_section)
+number-own (Len k along) t valid = ap (λ (xs : List CriticalSection). record t { sections = xs })
+    (len-own t.sections k along)
 number-own (InterruptCost k) t valid = ap (λ (xs : List Interrupt). record t { interrupts = xs })
     (set-get_or t.interrupts k no_interrupt)
 number-own (InterruptPeriod k) t valid = ap (λ (xs : List Interrupt). record t { interrupts = xs })
@@ -140,7 +165,7 @@ same-far Cost first second le ge = omega (arith, le, ge)
 same-far Period first second le ge = omega (arith, le, ge)
 same-far Deadline first second le ge = omega (arith, le, ge)
 same-far Jitter first second le ge = omega (arith, le, ge)
-same-far (Len k) first second le ge = omega (arith, le, ge)
+same-far (Len k along) first second le ge = omega (arith, le, ge)
 same-far (InterruptCost k) first second le ge = omega (arith, le, ge)
 same-far (InterruptPeriod k) first second le ge = omega (arith, le, ge)
 

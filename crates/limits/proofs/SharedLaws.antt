@@ -1,5 +1,5 @@
 -- A node that takes less of one thing takes no order away.
-use Rattle.std.proofs.Common.{◌≡◌, ◌↔◌, ℕ, ◌+◌, ◌<◌, ◌≤◌, inl, inr, List, Option, Some, None, arith}
+use Rattle.std.proofs.Common.{◌≡◌, ◌↔◌, ℕ, ◌<◌, ◌≤◌, inl, inr, List, Option, Some, None, arith}
 use Rattle.std.proofs.lemmas.Bool.{cases_lt}
 use Rattle.task_sheet.specs.declared.node.Node.{Node}
 use Rattle.task_sheet.proofs.Common.{Task, AreOverheads, IsTaskSet}

@@ -1,16 +1,17 @@
 -- Which values a number of a valid sheet may have.
 use Rattle.std.proofs.Common.{◌≡◌, ℕ, zero, suc, ◌+◌, ◌-◌, ◌<◌, ◌≤◌, max, min, List, [], ◌∷◌}
-use Rattle.std.proofs.Common.{length, get_or, refl, ◌∙◌, ap, arith}
-use Rattle.std.proofs.lemmas.List.{length-set, get_or_read}
+use Rattle.std.proofs.Common.{length, get_or, refl, ◌∙◌, ap, subst, arith}
+use Rattle.std.proofs.lemmas.List.{get_or_read}
 use Rattle.task_sheet.specs.Sheet.{CriticalSection, Task, AreSections, IsValidSheet}
 use Rattle.headroom.specs.Costs.{with_cost, last_end}
 use Rattle.headroom.proofs.CostLaws.{last_end-within, may_cost}
 use Rattle.limits.specs.declared.number.Number.{Number}
 use Rattle.limits.specs.declared.number.Number.TheVariants.{Cost, Period, Deadline, Jitter, Len}
 use Rattle.limits.specs.declared.number.Number.TheVariants.{InterruptCost, InterruptPeriod}
-use Rattle.limits.specs.Numbers.{no_section, section_at, with_len, with_number, IsSpan, at_distance}
+use Rattle.limits.specs.Numbers.{no_section, section_at, moved, with_len, with_number, IsSpan}
+use Rattle.limits.specs.Numbers.{at_distance}
 use Rattle.limits.specs.Numbers.{distance}
-use Rattle.limits.specs.Rooms.{room_end}
+use Rattle.limits.specs.Rooms.{room_end, end_of, most_len}
 
 pub IsSpan-cost : (t : Task) (easiest length : ℕ) → IsValidSheet t → easiest ≡ max (last_end t) 1
     → length ≡ t.period - easiest → IsSpan t Cost easiest length
@@ -99,72 +100,164 @@ IsSpan-jitter t length valid to = record {
 }
 
 -- ---- sections
--- a section of some length above 0 that ends where it may stands with the others
-sections-len : (from cost : ℕ) (xs : List CriticalSection) (k len : ℕ) → k < length xs
-    → AreSections from cost xs → 0 < len → (section_at xs k).at + len ≤ room_end cost xs k
-    → AreSections from cost (with_len xs k len)
-sections-len from cost [] k len lt h some fits = absurd (omega (arith, lt))
-sections-len from cost (x ∷ []) zero len lt h some fits = (
+-- behind a section so many others have their ends one after the other, within the cost
+ends-rise : (y : CriticalSection) (from cost : ℕ) (xs : List CriticalSection) (along : ℕ)
+    → along ≤ length xs → AreSections from cost (y ∷ xs)
+    → (y.at + y.len ≤ end_of (y ∷ xs) along)
+    × (end_of (y ∷ xs) along ≤ room_end cost (y ∷ xs) along)
+    × (room_end cost (y ∷ xs) along ≤ cost)
+ends-rise y from cost [] zero le h = (omega arith, h.0.within, omega arith)
+ends-rise y from cost [] (suc along) le h = absurd (omega (arith, le))
+ends-rise y from cost (x ∷ xs) zero le h =
+    (omega arith, h.1.0.apart, omega (arith, h.1.0.within))
+ends-rise y from cost (x ∷ xs) (suc along) le h =
+    let more = ends-rise x (y.at + y.len) cost xs along (omega (arith, le)) h.1 in
+    (omega (arith, more.0, h.1.0.apart), more.1, more.2)
+
+-- so many sections behind one that ends as much later stand with the others, where the last of them has room
+moved-stand : (y : CriticalSection) (cost : ℕ) (xs : List CriticalSection) (along more less : ℕ)
+    → along ≤ length xs → AreSections (y.at + y.len) cost xs → less ≤ y.at + y.len
+    → end_of (y ∷ xs) along + more ≤ room_end cost (y ∷ xs) along + less
+    → AreSections (y.at + y.len + more - less) cost (moved along more less xs)
+moved-stand y cost [] zero more less few h short fits = tt
+moved-stand y cost [] (suc along) more less few h short fits = tt
+moved-stand y cost (x ∷ xs) zero more less few h short fits = (
   record {
     named = h.0.named;
     some = h.0.some;
     few = h.0.few;
     distinct = h.0.distinct;
-    runs = some;
-    apart = h.0.apart;
-    within = fits;
+    runs = h.0.runs;
+    apart = omega (arith, fits, short);
+    within = h.0.within;
   },
-  tt,
+  h.1,
 )
-sections-len from cost (x ∷ (y ∷ ys)) zero len lt h some fits = (
-  record {
-    named = h.0.named;
-    some = h.0.some;
-    few = h.0.few;
-    distinct = h.0.distinct;
-    runs = some;
-    apart = h.0.apart;
-    within = omega (arith, fits, h.1.0.within);
-  },
-  (
-    record {
-      named = h.1.0.named;
-      some = h.1.0.some;
-      few = h.1.0.few;
-      distinct = h.1.0.distinct;
-      runs = h.1.0.runs;
-      apart = fits;
-      within = h.1.0.within;
-    },
-    h.1.1,
-  ),
-)
-sections-len from cost (x ∷ xs) (suc k) len lt h some fits =
-    (h.0, sections-len (x.at + x.len) cost xs k len (omega (arith, lt)) h.1 some fits)
+moved-stand y cost (x ∷ xs) (suc along) more less few h short fits =
+    let rise = ends-rise x (y.at + y.len) cost xs along (omega (arith, few)) h in
+    let here : x.at + x.len + more - less ≡ x.at + more - less + x.len =
+    omega (arith, h.0.apart, short) in (
+      record {
+        named = h.0.named;
+        some = h.0.some;
+        few = h.0.few;
+        distinct = h.0.distinct;
+        runs = h.0.runs;
+        apart = omega (arith, h.0.apart);
+        within = omega (arith, fits, rise.0, rise.2, h.0.apart, short);
+      },
+      subst (λ from. AreSections from cost (moved along more less xs)) here
+          (moved-stand x cost xs along more less (omega (arith, few)) h.1
+          (omega (arith, h.0.apart, short)) fits),
+    )
+
+-- and no others
+moved-room : (y : CriticalSection) (cost : ℕ) (xs : List CriticalSection) (along more less : ℕ)
+    → along ≤ length xs → AreSections (y.at + y.len) cost xs → less ≤ y.at + y.len
+    → y.at + y.len + more ≤ cost + less
+    → AreSections (y.at + y.len + more - less) cost (moved along more less xs)
+    → end_of (y ∷ xs) along + more ≤ room_end cost (y ∷ xs) along + less
+moved-room y cost [] zero more less few h short within stand = within
+moved-room y cost [] (suc along) more less few h short within stand = absurd (omega (arith, few))
+moved-room y cost (x ∷ xs) zero more less few h short within stand =
+    omega (arith, stand.0.apart)
+moved-room y cost (x ∷ xs) (suc along) more less few h short within stand =
+    let here : x.at + more - less + x.len ≡ x.at + x.len + more - less =
+    omega (arith, h.0.apart, short) in
+    moved-room x cost xs along more less (omega (arith, few)) h.1 (omega (arith, h.0.apart, short))
+    (omega (arith, stand.0.within, h.0.apart, short))
+    (subst (λ from. AreSections from cost (moved along more less xs)) here stand.1)
+
+-- a section of a length above 0 up to its greatest stands with the others
+sections-len : (from cost : ℕ) (xs : List CriticalSection) (k along len : ℕ) → k + along < length xs
+    → AreSections from cost xs → 0 < len → len ≤ most_len cost xs k along
+    → AreSections from cost (with_len xs k along len)
+sections-len from cost [] k along len lt h some fits = absurd (omega (arith, lt))
+sections-len from cost (x ∷ xs) zero along len lt h some fits =
+    let rise = ends-rise x from cost xs along (omega (arith, lt)) h in
+    let here : x.at + x.len + len - x.len ≡ x.at + len = omega arith in (
+      record {
+        named = h.0.named;
+        some = h.0.some;
+        few = h.0.few;
+        distinct = h.0.distinct;
+        runs = some;
+        apart = h.0.apart;
+        within = omega (arith, fits, rise.0, rise.1, rise.2);
+      },
+      subst (λ from. AreSections from cost (moved along len x.len xs)) here
+          (moved-stand x cost xs along len x.len (omega (arith, lt)) h.1 (omega arith)
+          (omega (arith, fits, rise.1))),
+    )
+sections-len from cost (x ∷ xs) (suc k) along len lt h some fits =
+    (h.0, sections-len (x.at + x.len) cost xs k along len (omega (arith, lt)) h.1 some fits)
 
 -- and no other
-sections-room : (from cost : ℕ) (xs : List CriticalSection) (k len : ℕ) → k < length xs
-    → AreSections from cost (with_len xs k len) → (0 < len)
-    × ((section_at xs k).at + len ≤ room_end cost xs k)
-sections-room from cost [] k len lt h = absurd (omega (arith, lt))
-sections-room from cost (x ∷ []) zero len lt h = (h.0.runs, h.0.within)
-sections-room from cost (x ∷ (y ∷ ys)) zero len lt h = (h.0.runs, h.1.0.apart)
-sections-room from cost (x ∷ xs) (suc k) len lt h =
-    sections-room (x.at + x.len) cost xs k len (omega (arith, lt)) h.1
+pub sections-room : (from cost : ℕ) (xs : List CriticalSection) (k along len : ℕ)
+    → k + along < length xs → AreSections from cost xs
+    → AreSections from cost (with_len xs k along len)
+    → (0 < len) × (len ≤ most_len cost xs k along)
+sections-room from cost [] k along len lt h stand = absurd (omega (arith, lt))
+sections-room from cost (x ∷ xs) zero along len lt h stand =
+    let here : x.at + len ≡ x.at + x.len + len - x.len = omega arith in
+    let room = moved-room x cost xs along len x.len (omega (arith, lt)) h.1 (omega arith)
+    (omega (arith, stand.0.within))
+    (subst (λ from. AreSections from cost (moved along len x.len xs)) here stand.1) in
+    (stand.0.runs, omega (arith, room))
+sections-room from cost (x ∷ xs) (suc k) along len lt h stand =
+    sections-room (x.at + x.len) cost xs k along len (omega (arith, lt)) h.1 stand.1
 
--- a section of a valid sheet has room, within the cost
-pub room-own : (from cost : ℕ) (xs : List CriticalSection) (k : ℕ) → k < length xs → AreSections
-    from cost xs → ((section_at xs k).at + 1 ≤ room_end cost xs k) × (room_end cost xs k ≤ cost)
-room-own from cost [] k lt h = absurd (omega (arith, lt))
-room-own from cost (x ∷ []) zero lt h = (omega (arith, h.0.runs, h.0.within), omega arith)
-room-own from cost (x ∷ (y ∷ ys)) zero lt h =
-    (omega (arith, h.0.runs, h.1.0.apart), omega (arith, h.1.0.within))
-room-own from cost (x ∷ xs) (suc k) lt h = room-own (x.at + x.len) cost xs k (omega (arith, lt)) h.1
+-- the greatest length is its own or more, and what there is more of it is within the cost
+pub most_len-own : (from cost : ℕ) (xs : List CriticalSection) (k along : ℕ) → k + along < length xs
+    → AreSections from cost xs
+    → ((section_at xs k).len ≤ most_len cost xs k along) × (0 < (section_at xs k).len)
+    × (most_len cost xs k along ≤ cost)
+most_len-own from cost [] k along lt h = absurd (omega (arith, lt))
+most_len-own from cost (x ∷ xs) zero along lt h =
+    let rise = ends-rise x from cost xs along (omega (arith, lt)) h in
+    (omega arith, h.0.runs, omega (arith, rise.0, rise.1, rise.2))
+most_len-own from cost (x ∷ xs) (suc k) along lt h =
+    most_len-own (x.at + x.len) cost xs k along (omega (arith, lt)) h.1
 
-pub IsSpan-len : (t : Task) (k long : ℕ) → IsValidSheet t → k < length t.sections → long
-    ≡ room_end t.cost t.sections k - (section_at t.sections k).at - 1 → IsSpan t (Len k) 1 long
-IsSpan-len t k long valid inside to =
-    let room = room-own 0 t.cost t.sections k inside valid.sections in
+-- it is made of the section, the last that moves along, and where that may reach
+pub most_len-is : (cost : ℕ) (xs : List CriticalSection) (k along : ℕ) → k + along < length xs
+    → most_len cost xs k along
+    ≡ (section_at xs k).len + (room_end cost xs (k + along) - end_of xs (k + along))
+most_len-is cost [] k along lt = absurd (omega (arith, lt))
+most_len-is cost (x ∷ xs) zero along lt =
+    let here : along ≡ 0 + along = omega arith in
+    ap (λ m. x.len + (room_end cost (x ∷ xs) m - end_of (x ∷ xs) m)) here
+most_len-is cost (x ∷ xs) (suc k) along lt =
+    let here : suc (k + along) ≡ suc k + along = omega arith in
+    most_len-is cost xs k along (omega (arith, lt))
+    ∙ ap (λ m. (section_at xs k).len + (room_end cost (x ∷ xs) m - end_of (x ∷ xs) m)) here
+
+-- a section ends where it may
+pub end-room : (from cost : ℕ) (xs : List CriticalSection) (k : ℕ) → k < length xs
+    → AreSections from cost xs → (end_of xs k ≤ room_end cost xs k) × (room_end cost xs k ≤ cost)
+end-room from cost [] k lt h = absurd (omega (arith, lt))
+end-room from cost (x ∷ xs) zero lt h =
+    let rise = ends-rise x from cost xs 0 (omega arith) h in (rise.1, rise.2)
+end-room from cost (x ∷ xs) (suc k) lt h =
+    end-room (x.at + x.len) cost xs k (omega (arith, lt)) h.1
+
+length-moved : (along more less : ℕ) (xs : List CriticalSection)
+    → length (moved along more less xs) ≡ length xs
+length-moved zero more less xs = refl
+length-moved (suc along) more less [] = refl
+length-moved (suc along) more less (x ∷ xs) =
+    omega (arith, length-moved along more less xs)
+
+length-len : (xs : List CriticalSection) (k along len : ℕ)
+    → length (with_len xs k along len) ≡ length xs
+length-len [] k along len = refl
+length-len (x ∷ xs) zero along len = omega (arith, length-moved along len x.len xs)
+length-len (x ∷ xs) (suc k) along len = omega (arith, length-len xs k along len)
+
+pub IsSpan-len : (t : Task) (k along long : ℕ) → IsValidSheet t → k + along < length t.sections
+    → long ≡ most_len t.cost t.sections k along - 1 → IsSpan t (Len k along) 1 long
+IsSpan-len t k along long valid inside to =
+    let own = most_len-own 0 t.cost t.sections k along inside valid.sections in
     record {
       may = λ far le. record {
         named = valid.named;
@@ -175,21 +268,17 @@ IsSpan-len t k long valid inside to =
         deadline_to = valid.deadline_to;
         cost_from = valid.cost_from;
         cost_to = valid.cost_to;
-        few = omega (
-          arith,
-          valid.few,
-          length-set t.sections k
-              (record (section_at t.sections k) { len = 1 + far }),
-        );
-        sections = sections-len 0 t.cost t.sections k (1 + far) inside valid.sections (omega arith)
-            (omega (arith, le, to, room.0));
+        few = omega (arith, valid.few, length-len t.sections k along (1 + far));
+        sections = sections-len 0 t.cost t.sections k along (1 + far) inside valid.sections
+            (omega arith) (omega (arith, le, to, own.0, own.1));
         jitter = valid.jitter;
         outranked = valid.outranked;
         overheads = valid.overheads;
         interrupts = valid.interrupts;
       };
-      all = λ value may. let own = sections-room 0 t.cost t.sections k value inside may.sections in
-          (value - 1, omega (arith, to, own.0, own.1), omega (arith, own.0));
+      all = λ value may.
+          let room = sections-room 0 t.cost t.sections k along value inside valid.sections may.sections in
+          (value - 1, omega (arith, to, room.0, room.1), omega (arith, room.0));
       rises = λ near far le. omega (arith, le);
     }
 
@@ -214,7 +303,7 @@ at-start Cost easiest = omega arith
 at-start Period easiest = omega arith
 at-start Deadline easiest = omega arith
 at-start Jitter easiest = omega arith
-at-start (Len k) easiest = omega arith
+at-start (Len k along) easiest = omega arith
 at-start (InterruptCost k) easiest = omega arith
 at-start (InterruptPeriod k) easiest = omega arith
 
@@ -224,33 +313,6 @@ pub section_read : (xs ys : List CriticalSection) (k : ℕ) (x : CriticalSection
 section_read xs ys k x same lt is =
     get_or_read xs k x lt (is ∙ ap (λ zs. get_or zs k x) same) no_section
 
--- what a section that is read from a valid sheet's, and the end of its room, are
-pub record IsRoom (t : Task) (k at end : ℕ) : Type 0 where
-  pub inside : k < length t.sections
-  pub at_is : at ≡ (section_at t.sections k).at
-  pub end_is : end ≡ room_end t.cost t.sections k
-  pub some : at + 1 ≤ end
-  pub within : end ≤ t.cost
-
-pub room_read : (t : Task) (k : ℕ) (xs ys : List CriticalSection) (x : CriticalSection)
-    (at cost end : ℕ) → IsValidSheet t → k < length t.sections
-    → xs ≡ t.sections → x ≡ get_or xs k x → at ≡ x.at → ys ≡ t.sections → cost ≡ t.cost
-    → end ≡ room_end cost ys k → IsRoom t k at end
-room_read t k xs ys x at cost end valid inside same is at_is same' cost_is end_is =
-    let own = room-own 0 t.cost t.sections k inside valid.sections in
-    let here : at ≡ (section_at t.sections k).at = at_is
-    ∙ ap (λ (s : CriticalSection). s.at) (section_read t.sections xs k x same inside is) in
-    let there : end ≡ room_end t.cost t.sections k = end_is ∙ ap (λ m. room_end m ys k) cost_is
-    ∙ ap (λ (zs : List CriticalSection). room_end t.cost zs k) same' in
-    record {
-      inside = inside;
-      at_is = here;
-      end_is = there;
-      some =
-          omega (arith, here, there, own.0);
-      within = omega (arith, there, own.1);
-    }
-
 -- ---- distances
 far-back : (number : Number) (easiest far : ℕ)
     → (distance number easiest (at_distance number easiest far) ≤ far) × (at_distance number easiest
@@ -259,7 +321,7 @@ far-back Cost easiest far = (omega arith, omega arith)
 far-back Period easiest far = (omega arith, omega arith)
 far-back Deadline easiest far = (omega arith, omega arith)
 far-back Jitter easiest far = (omega arith, omega arith)
-far-back (Len k) easiest far = (omega arith, omega arith)
+far-back (Len k along) easiest far = (omega arith, omega arith)
 far-back (InterruptCost k) easiest far = (omega arith, omega arith)
 far-back (InterruptPeriod k) easiest far = (omega arith, omega arith)
 

@@ -75,7 +75,7 @@ IsTableOf-numbered U i Deadline value table keeps is =
     IsTableOf-placed U i _ refl refl refl table is
 IsTableOf-numbered U i Jitter value table keeps is =
     IsTableOf-placed U i _ refl refl refl table is
-IsTableOf-numbered U i (Len k) value table keeps is = absurd keeps
+IsTableOf-numbered U i (Len k along) value table keeps is = absurd keeps
 IsTableOf-numbered U i (InterruptCost k) value table keeps is =
     IsTableOf-placed U i _ refl refl refl table is
 IsTableOf-numbered U i (InterruptPeriod k) value table keeps is =

@@ -1,5 +1,5 @@
 -- The numbers of a task, and for each the furthest value with which some order of its set passes.
-use Rattle.std.specs.Prelude.{◌≡◌, ℕ, ◌+◌, ◌-◌, ◌<◌, ◌≤◌, max, min, List, [], length, slice_set, slice_index_or, Option, Some, None}
+use Rattle.std.specs.Prelude.{◌≡◌, ℕ, zero, suc, ◌+◌, ◌-◌, ◌<◌, ◌≤◌, max, min, List, [], ◌∷◌, length, slice_set, slice_index_or, Option, Some, None}
 use Rattle.task_sheet.specs.Sheet.{CriticalSection, Task, with_jitter, IsValidSheet, task_at}
 use Rattle.task_sheet.specs.Orders.{IsFeasible}
 use Rattle.task_sheet.specs.declared.node.Interrupt.{Interrupt}
@@ -15,9 +15,18 @@ no_section = record { locks = []; at = 0; len = 0 }
 abbrev pub section_at : List CriticalSection → ℕ → CriticalSection
 section_at sections k = slice_index_or sections k no_section
 
--- the sections, with another length of the one at a place
-abbrev pub with_len : List CriticalSection → ℕ → ℕ → List CriticalSection
-with_len sections k len = slice_set sections k (record (section_at sections k) { len = len })
+-- the sections, the first so many of them with so much more and so much less before them
+abbrev pub moved : ℕ → (more less : ℕ) → List CriticalSection → List CriticalSection
+moved zero more less xs = xs
+moved (suc along) more less [] = []
+moved (suc along) more less (x ∷ xs) =
+    record x { at = x.at + more - less } ∷ moved along more less xs
+
+-- the sections, with another length of the one at place k, with which so many behind it move along
+abbrev pub with_len : List CriticalSection → (k along len : ℕ) → List CriticalSection
+with_len [] k along len = []
+with_len (x ∷ xs) zero along len = record x { len = len } ∷ moved along len x.len xs
+with_len (x ∷ xs) (suc k) along len = x ∷ with_len xs k along len
 
 -- stands past the end of a task's interrupts
 abbrev pub no_interrupt : Interrupt
@@ -41,7 +50,7 @@ HasNumber t Cost = Unit {0}
 HasNumber t Period = Unit {0}
 HasNumber t Deadline = Unit {0}
 HasNumber t Jitter = Unit {0}
-HasNumber t (Len k) = k < length t.sections
+HasNumber t (Len k along) = k + along < length t.sections
 HasNumber t (InterruptCost k) = k < length t.interrupts
 HasNumber t (InterruptPeriod k) = k < length t.interrupts
 
@@ -51,7 +60,7 @@ value_of Cost t = t.cost
 value_of Period t = t.period
 value_of Deadline t = t.deadline
 value_of Jitter t = t.jitter
-value_of (Len k) t = (section_at t.sections k).len
+value_of (Len k along) t = (section_at t.sections k).len
 value_of (InterruptCost k) t = (interrupt_at t.interrupts k).cost
 value_of (InterruptPeriod k) t = (interrupt_at t.interrupts k).period
 
@@ -62,7 +71,7 @@ with_number Cost t value = with_cost t value
 with_number Period t value = record t { period = value; deadline = min t.deadline value }
 with_number Deadline t value = record t { period = max t.period value; deadline = value }
 with_number Jitter t value = with_jitter t value
-with_number (Len k) t value = record t { sections = with_len t.sections k value }
+with_number (Len k along) t value = record t { sections = with_len t.sections k along value }
 with_number (InterruptCost k) t value =
     record t { interrupts = with_interrupt_cost t.interrupts k value }
 with_number (InterruptPeriod k) t value =
@@ -75,7 +84,7 @@ IsNoFurther Cost value other = value ≤ other
 IsNoFurther Period value other = other ≤ value
 IsNoFurther Deadline value other = other ≤ value
 IsNoFurther Jitter value other = value ≤ other
-IsNoFurther (Len k) value other = value ≤ other
+IsNoFurther (Len k along) value other = value ≤ other
 IsNoFurther (InterruptCost k) value other = value ≤ other
 IsNoFurther (InterruptPeriod k) value other = other ≤ value
 
@@ -115,7 +124,7 @@ at_distance Cost easiest far = easiest + far
 at_distance Period easiest far = easiest - far
 at_distance Deadline easiest far = easiest - far
 at_distance Jitter easiest far = easiest + far
-at_distance (Len k) easiest far = easiest + far
+at_distance (Len k along) easiest far = easiest + far
 at_distance (InterruptCost k) easiest far = easiest + far
 at_distance (InterruptPeriod k) easiest far = easiest - far
 
@@ -125,7 +134,7 @@ distance Cost easiest value = value - easiest
 distance Period easiest value = easiest - value
 distance Deadline easiest value = easiest - value
 distance Jitter easiest value = value - easiest
-distance (Len k) easiest value = value - easiest
+distance (Len k along) easiest value = value - easiest
 distance (InterruptCost k) easiest value = value - easiest
 distance (InterruptPeriod k) easiest value = easiest - value
 
@@ -143,6 +152,6 @@ KeepsSections Cost = Unit {0}
 KeepsSections Period = Unit {0}
 KeepsSections Deadline = Unit {0}
 KeepsSections Jitter = Unit {0}
-KeepsSections (Len k) = ⊥
+KeepsSections (Len k along) = ⊥
 KeepsSections (InterruptCost k) = Unit {0}
 KeepsSections (InterruptPeriod k) = Unit {0}

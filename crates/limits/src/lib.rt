@@ -20,7 +20,7 @@ pub use crate::in_order::{furthest_in_order, order_passes};
 pub use crate::number::Number;
 use crate::numbered::{keeps_sections, numbered};
 pub use crate::shared::{Shared, furthest_shared, most_shared, room_fault, shared_of, with_shared};
-pub use crate::spans::value_of;
+pub use crate::spans::{most_len, value_of};
 use crate::spans::{Span, at_distance, distance, span_in};
 pub use crate::unpadded::{node_of, written};
 use assignment::is_feasible;

@@ -11,8 +11,9 @@ pub enum Number {
     Deadline,
     /// The jitter.
     Jitter,
-    /// The length of the section at a place, from 0.
-    Len(usize),
+    /// The length of the section at a place, from 0, with which so many of those behind it move along: they begin where the
+    /// one before them ends.
+    Len { place: usize, along: usize },
     /// What the interrupt on its account at a place, from 0, takes each time.
     InterruptCost(usize),
     /// The least time between two of these interrupts.

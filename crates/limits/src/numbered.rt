@@ -1,8 +1,8 @@
 //! Sets with another value of one number of a task.
-ghost use Rattle.std.specs.Prelude.{◌≡◌, ◌↔◌, ◌<◌, length, IfOk, IsTrue};
+ghost use Rattle.std.specs.Prelude.{◌≡◌, ◌↔◌, ◌+◌, ◌-◌, ◌<◌, ◌≤◌, ◌++◌, drop, length, slice_set, IfOk, IsTrue, OnOk};
 ghost use Rattle.task_sheet.specs.Sheet.{AreInterrupts, IsValidSheet, interrupted, task_at};
 ghost use Rattle.headroom.specs.Remade.{remade};
-ghost use Rattle.limits.specs.Numbers.{KeepsSections, HasNumber, with_interrupt_cost, with_interrupt_period, with_len, with_number, numbered, MayHave};
+ghost use Rattle.limits.specs.Numbers.{KeepsSections, HasNumber, with_interrupt_cost, with_interrupt_period, moved, section_at, with_len, with_number, numbered, MayHave};
 
 use crate::number::Number;
 use ceilings::Tabled;
@@ -10,18 +10,82 @@ use headroom::{Times, copy_sections, remade, times_of};
 use std::alloc::{AllocError, Global};
 use task_sheet::{Interrupt, Section, SetCause, Sheet, TaskSet, copy_sheets};
 
-// The sections, with another length of the one at a place.
-fn with_len(
+// Where a section begins that is among the first so many, with so much more and so much less before it.
+fn moved_at(along: usize, more: u64, less: u64, at: u64) -> u64
+    requires { at + more < 18446744073709551616 }
+    ensures none { along ≡ 0 → result ≡ at }
+    ensures some { 0 < along → result ≡ at + more - less }
+{
+    if along == 0 {
+        at
+    } else {
+        (at + more).saturating_sub(less)
+    }
+}
+
+// Adds a task's sections from a place on, the first so many of them so.
+fn push_moved(
+    alloc: Global,
+    others: &mut Vec<Section>,
+    sheet: &Sheet,
+    from: usize,
+    along: usize,
+    more: u64,
+    less: u64,
+) -> Result<(), AllocError>
+    requires valid { IsValidSheet sheet.now }
+    requires short { more ≤ 10000000 }
+    ensures { OnOk result (others.new.items
+        ≡ others.old.items ++ moved along more less (drop from sheet.now.sections)) }
+{
+    let sections = sheet.sections();
+    let mut left = along;
+    for index in from..sections.len() {
+        let section = &sections[index];
+        let locks = Vec::from_slice(alloc, &section.locks)?;
+        let at = moved_at(left, more, less, section.at);
+        let len = section.len;
+        others.push(Section { locks, at, len })?;
+        left = left.saturating_sub(1);
+    }
+    Ok(())
+}
+
+// The sections, with another length of the one at a place; none moves.
+fn with_len_of(
     alloc: Global,
     sections: &[Section],
     place: usize,
     len: u64,
 ) -> Result<Vec<Section>, AllocError>
     requires { place < length sections.now }
-    ensures { IfOk result (λ others. others.items ≡ with_len sections.now place len) }
+    ensures { IfOk result (λ others. others.items
+        ≡ slice_set sections.now place (record (section_at sections.now place) { len = len })) }
 {
     let mut others = copy_sections(alloc, sections)?;
     others[place].len = len;
+    Ok(others)
+}
+
+// A task's sections, with another length of the one at a place, with which so many of those behind it move along.
+fn with_len(
+    alloc: Global,
+    sheet: &Sheet,
+    place: usize,
+    along: usize,
+    len: u64,
+) -> Result<Vec<Section>, AllocError>
+    requires valid { IsValidSheet sheet.now }
+    requires place { place < length sheet.now.sections }
+    requires short { len ≤ 10000000 }
+    ensures { IfOk result (λ others. others.items
+        ≡ with_len sheet.now.sections place along len) }
+{
+    let sections = sheet.sections();
+    let section = &sections[place];
+    let less = section.len;
+    let mut others = with_len_of(alloc, &sections[..place + 1], place, len)?;
+    push_moved(alloc, &mut others, sheet, place + 1, along, len, less)?;
     Ok(others)
 }
 
@@ -102,6 +166,7 @@ fn with_number(
     number: Number,
     value: u64,
 ) -> Result<Sheet, AllocError>
+    requires valid { IsValidSheet sheet.now }
     requires has { HasNumber sheet.now number }
     requires may { IsValidSheet (with_number number sheet.now value) }
     ensures { IfOk result (λ other. other ≡ with_number number sheet.now value) }
@@ -118,8 +183,8 @@ fn with_number(
             times.deadline = value;
         }
         Number::Jitter => times.jitter = value,
-        Number::Len(place) => {
-            let sections = with_len(alloc, sheet.sections(), place, value)?;
+        Number::Len { place, along } => {
+            let sections = with_len(alloc, sheet, place, along, value)?;
             return with_parts(alloc, sheet, times, sections);
         }
         Number::InterruptCost(place) => {
@@ -167,7 +232,7 @@ pub(crate) fn keeps_sections(number: Number) -> bool
         Number::Period => true,
         Number::Deadline => true,
         Number::Jitter => true,
-        Number::Len(_) => false,
+        Number::Len { .. } => false,
         Number::InterruptCost(_) => true,
         Number::InterruptPeriod(_) => true,
     }

@@ -3,7 +3,7 @@ ghost use Rattle.std.specs.Prelude.{◌≡◌, ◌+◌, ◌-◌, ◌<◌, ◌≤
 ghost use Rattle.task_sheet.specs.Sheet.{IsValidSheet, task_at};
 ghost use Rattle.task_sheet.specs.TaskSet.{IsTaskSet};
 ghost use Rattle.limits.specs.Numbers.{HasNumber, IsSpan, at_distance, distance, value_of};
-ghost use Rattle.limits.specs.Rooms.{room_end};
+ghost use Rattle.limits.specs.Rooms.{most_len, room_end};
 
 use crate::number::Number;
 use ceilings::Tabled;
@@ -25,7 +25,7 @@ pub(crate) fn at_distance(number: Number, easiest: u64, far: u64) -> u64
     ensures { result ≡ at_distance number easiest far }
 {
     match number {
-        Number::Cost | Number::Jitter | Number::Len(_) | Number::InterruptCost(_) => easiest + far,
+        Number::Cost | Number::Jitter | Number::Len { .. } | Number::InterruptCost(_) => easiest + far,
         Number::Period | Number::Deadline | Number::InterruptPeriod(_) => {
             easiest.saturating_sub(far)
         }
@@ -37,7 +37,7 @@ pub(crate) fn distance(number: Number, easiest: u64, value: u64) -> u64
     ensures { result ≡ distance number easiest value }
 {
     match number {
-        Number::Cost | Number::Jitter | Number::Len(_) | Number::InterruptCost(_) => {
+        Number::Cost | Number::Jitter | Number::Len { .. } | Number::InterruptCost(_) => {
             value.saturating_sub(easiest)
         }
         Number::Period | Number::Deadline | Number::InterruptPeriod(_) => {
@@ -56,7 +56,7 @@ pub fn value_of(sheet: &Sheet, number: Number) -> u64
         Number::Period => sheet.period(),
         Number::Deadline => sheet.deadline(),
         Number::Jitter => sheet.jitter(),
-        Number::Len(place) => {
+        Number::Len { place, .. } => {
             let section = &sheet.sections()[place];
             section.len
         }
@@ -82,6 +82,21 @@ fn room_end(cost: u64, sections: &[Section], place: usize) -> u64
     } else {
         cost
     }
+}
+
+/// The greatest length of the section at a place with which so many of those behind it move along, in microseconds: up to
+/// where the last of these may reach.
+pub fn most_len(sheet: &Sheet, place: usize, along: usize) -> u64
+    requires valid { IsValidSheet sheet.now }
+    requires place { place + along < length sheet.now.sections }
+    ensures is { result ≡ most_len sheet.now.cost sheet.now.sections place along }
+    ensures some { 1 ≤ result }
+    ensures short { result ≤ 20000000 }
+{
+    let sections = sheet.sections();
+    let section = &sections[place];
+    let last = &sections[place + along];
+    section.len + (room_end(sheet.cost(), sections, place + along) - (last.at + last.len))
 }
 
 // Which values a number of a sheet may have.
@@ -114,13 +129,10 @@ fn span_of(sheet: &Sheet, number: Number) -> Span
             easiest: 0,
             length: sheet.deadline() - 1,
         },
-        Number::Len(place) => {
-            let section = &sheet.sections()[place];
-            Span {
-                easiest: 1,
-                length: room_end(sheet.cost(), sheet.sections(), place) - section.at - 1,
-            }
-        }
+        Number::Len { place, along } => Span {
+            easiest: 1,
+            length: most_len(sheet, place, along) - 1,
+        },
         Number::InterruptCost(place) => {
             let interrupt = sheet.interrupts()[place];
             Span {

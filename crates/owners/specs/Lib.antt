@@ -1,2 +1,3 @@
+pub mod Followers
 pub mod Owners
 pub mod NamedLines

@@ -1,6 +1,7 @@
 -- Whose the tasks and interrupts of a set are: the node's, and those of the teams whose documents are gathered in its text.
 use Rattle.std.specs.Prelude.{◌≡◌, ◌⊎◌, ℕ, ◌+◌, ◌-◌, ◌==◌, Bool, true, false, List, [], ◌∷◌, ◌++◌, map, codes, Option, None, Some, is_some, Err, if◌then◌else◌}
 use Rattle.std.specs.Fmt.{decimal}
+use Rattle.std.specs.Option.{option_or}
 use Rattle.toml.specs.Data.{Members}
 use Rattle.task_sheet.specs.Tree.{tables_at}
 use Rattle.task_sheet.specs.TreeFault.{interrupts_fault}
@@ -17,26 +18,28 @@ use Rattle.teams.specs.ReadsTeams.{ReadsPart}
 use Rattle.teams.specs.ReadsText.{is_gathered}
 use Rattle.teams.specs.declared.fault.TeamsFault.TheVariants.{Of}
 use Rattle.teams.specs.declared.reading.Part.{Part}
-use Rattle.owners.specs.declared.owner.Owned.{Owned}
-use Rattle.owners.specs.declared.owner.Owned.TheVariants.{Task as OwnedTask, Interrupt as OwnedInterrupt}
+use Rattle.owners.specs.Followers.{AreFollowersIf}
 use Rattle.owners.specs.declared.owner.Owner.{Owner}
+use Rattle.owners.specs.declared.owner.Owner.TheVariants.{Task as OwnedTask, Interrupt as OwnedInterrupt, Follower}
 
--- it is the task of this name
-abbrev pub is_task : Owned → List ℕ → Bool
-is_task (OwnedTask task) name = same_bytes task name
-is_task (OwnedInterrupt place) name = false
+-- the team, where this says whose the task of a name is
+abbrev pub team_by : Owner → List ℕ → Option (List ℕ)
+team_by (OwnedTask task team) name = if same_bytes task name then Some team else None
+team_by (OwnedInterrupt place team) name = None
+team_by (Follower task place) name = None
 
 -- the team of the first task with a name, where there is one
 abbrev pub team_of : List Owner → List ℕ → Option (List ℕ)
 team_of [] name = None
-team_of (o ∷ owners) name = if is_task o.owned name then Some o.team else team_of owners name
+team_of (o ∷ owners) name = option_or (team_by o name) (team_of owners name)
 
--- the first is this one, or else what the others have of it: where the first is a task, and where it is one before it
-abbrev pub unless_before : Owned → (team : List ℕ) → (place : ℕ) → (same less : Option (List ℕ × ℕ))
+-- the first is this one, or else what the others have of it: where the first is no interrupt, and where it is one before it
+abbrev pub unless_before : Owner → (place : ℕ) → (same less : Option (List ℕ × ℕ))
     → Option (List ℕ × ℕ)
-unless_before (OwnedTask task) team place same less = same
-unless_before (OwnedInterrupt own) team place same less =
+unless_before (OwnedTask task team) place same less = same
+unless_before (OwnedInterrupt own team) place same less =
     if place == 0 then Some (team, own) else less
+unless_before (Follower task own) place same less = same
 
 -- the words of an interrupt at a place among all, from 0, by the team and the place in its document, where there is one
 abbrev pub words_at : ℕ → Option (List ℕ × ℕ) → List ℕ
@@ -47,7 +50,7 @@ words_at place (Some own) = own.0 ++ codes " interrupt " ++ decimal own.1
 abbrev pub interrupt_of : List Owner → ℕ → Option (List ℕ × ℕ)
 interrupt_of [] place = None
 interrupt_of (o ∷ owners) place =
-    unless_before o.owned o.team place (interrupt_of owners place) (interrupt_of owners (place - 1))
+    unless_before o place (interrupt_of owners place) (interrupt_of owners (place - 1))
 
 -- what a line calls it: by its team and its place in that document, where one of several has it
 abbrev pub interrupt_words : List Owner → ℕ → List ℕ
@@ -63,13 +66,13 @@ IsNoDocument p = (fault : SetFault) × ReadsPart p (Err (Of p.team fault))
 
 -- the tasks of a team's set
 abbrev pub owned_by : List ℕ → List Task → List Owner
-owned_by team U = map (λ t. record { owned = OwnedTask t.name; team = team }) U
+owned_by team U = map (λ t. OwnedTask t.name team) U
 
 -- the interrupts of a document, of which the first stands at a place
 abbrev pub interrupts_from : List ℕ → (place : ℕ) → List Interrupt → List Owner
 interrupts_from team place [] = []
 interrupts_from team place (x ∷ xs) =
-    record { owned = OwnedInterrupt place; team = team } ∷ interrupts_from team (place + 1) xs
+    OwnedInterrupt place team ∷ interrupts_from team (place + 1) xs
 
 -- those of each team's document, in their order
 abbrev pub owners_of : List TeamSetData → List Owner
@@ -124,5 +127,12 @@ AreOwnersIf true text owners = AreOwnersBehind text owners
 AreOwnersIf false text owners = owners ≡ []
 
 -- these have the tasks and interrupts of a set's text; none does where the text is one document
+abbrev pub AreWhose : List ℕ → List Owner → Type 0
+AreWhose text owners = AreOwnersIf (is_gathered text) text owners
+
+-- this is what a set's text says beside the set: whose each task and interrupt is, and the sections that follow
 abbrev pub AreOwners : List ℕ → List Owner → Type 0
-AreOwners text owners = AreOwnersIf (is_gathered text) text owners
+AreOwners text owners =
+    (whose : List Owner) × (followers : List Owner) × AreWhose text whose
+    × AreFollowersIf (is_gathered text) text followers
+    × (owners ≡ whose ++ followers)

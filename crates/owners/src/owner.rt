@@ -3,36 +3,38 @@ ghost use Rattle.std.specs.Prelude.{◌≡◌, ◌<◌, ◌++◌, IfOk, OnOk, Ma
 ghost use Rattle.toml.specs.View.{table_view};
 ghost use Rattle.task_sheet.specs.declared.node.TheConstants.{INTERRUPT_LIMIT};
 ghost use Rattle.teams.specs.NodeDocument.{node_word};
-ghost use Rattle.owners.specs.Owners.{AreBoth, AreNodeOwners, AreOwners, AreOwnersIn, IsDocumentOf, IsNoDocument, interrupt_of, interrupt_words, interrupts_from, is_task, node_owners, owned_by, team_of};
+ghost use Rattle.owners.specs.Owners.{AreBoth, AreNodeOwners, AreOwners, AreOwnersIn, AreWhose, IsDocumentOf, IsNoDocument, interrupt_of, interrupt_words, interrupts_from, node_owners, owned_by, team_by, team_of};
 
+use crate::followers::read_followers;
 use std::alloc::{AllocError, Global};
 use task_sheet::{Document, Interrupt, Name, SetFault, TaskSet, read_document, read_interrupts};
 use teams::{Part, first_part, is_gathered, node_part};
 use toml::Table;
 
-/// What a document has.
+/// What a set's text says beside the set. A team is the one whose document has it: `node` for the node's.
 #[derive(Clone, Copy, Debug)]
-pub enum Owned {
-    /// The task of a name.
-    Task(Name),
-    /// The interrupt at a place, from 1.
-    Interrupt(usize),
+pub enum Owner {
+    /// Whose a task is.
+    Task { name: Name, team: Name },
+    /// Whose an interrupt is, and its place in the document, from 1.
+    Interrupt { place: usize, team: Name },
+    /// The section of a task at a place, from 0, doesn't say where it begins: where the one before it ends.
+    Follower { task: Name, place: usize },
 }
 
-/// A task or an interrupt, and the team whose document has it: `node` for the node's.
-#[derive(Clone, Copy, Debug)]
-pub struct Owner {
-    pub owned: Owned,
-    pub team: Name,
-}
-
-// Whether it is the task of this name.
-fn is_task(owned: Owned, name: &[u8]) -> bool
-    ensures { result ≡ is_task owned name.now }
+// The team, where it is the one of the task of this name.
+fn team_by(owner: Owner, name: &[u8]) -> Option<Name>
+    ensures { result ≡ team_by owner name.now }
 {
-    match owned {
-        Owned::Task(task) => task.bytes() == name,
-        Owned::Interrupt(_) => false,
+    match owner {
+        Owner::Task { name: task, team } => {
+            if task.bytes() == name {
+                Some(team)
+            } else {
+                None
+            }
+        }
+        Owner::Interrupt { .. } | Owner::Follower { .. } => None,
     }
 }
 
@@ -41,8 +43,9 @@ pub(crate) fn team_of(owners: &[Owner], name: &[u8]) -> Option<Name>
     ensures { result ≡ team_of owners.now name.now }
 {
     for owner in owners {
-        if is_task(owner.owned, name) {
-            return Some(owner.team);
+        let team = team_by(*owner, name);
+        if team.is_some() {
+            return team;
         }
     }
     None
@@ -54,9 +57,9 @@ fn interrupt_of(owners: &[Owner], place: usize) -> Option<(Name, usize)>
 {
     let mut left = place;
     for owner in owners {
-        if let Owned::Interrupt(own) = owner.owned {
+        if let Owner::Interrupt { place: own, team } = *owner {
             if left == 0 {
-                return Some((owner.team, own));
+                return Some((team, own));
             }
             left -= 1;
         }
@@ -97,8 +100,8 @@ fn push_owned(owners: &mut Vec<Owner>, team: Name, set: &TaskSet) -> Result<(), 
 {
     let sheets = set.sheets();
     for sheet in sheets {
-        let owned = Owned::Task(sheet.name());
-        owners.push(Owner { owned, team })?;
+        let name = sheet.name();
+        owners.push(Owner::Task { name, team })?;
     }
     Ok(())
 }
@@ -113,8 +116,8 @@ fn push_interrupts(
         ≡ owners.old.items ++ interrupts_from team 1 interrupts.now) }
 {
     for (place, _) in interrupts.iter().enumerate() {
-        let owned = Owned::Interrupt(place + 1);
-        owners.push(Owner { owned, team })?;
+        let place = place + 1;
+        owners.push(Owner::Interrupt { place, team })?;
     }
     Ok(())
 }
@@ -180,11 +183,9 @@ fn owners_of_both(alloc: Global, node: &[u8], text: &[u8]) -> Result<Vec<Owner>,
     Ok(owners)
 }
 
-/// Whose the tasks and interrupts are that a set's text says: those of the node's document, where one is there, and then of
-/// the teams', in their order, as the set has its interrupts. A text of one document says of none whose it is. The error is
-/// out of memory.
-pub fn read_owners(alloc: Global, text: &[u8]) -> Result<Vec<Owner>, AllocError>
-    ensures { IfOk result (λ owners. AreOwners text.now owners.items) }
+// Whose the tasks and interrupts are that a set's text says.
+fn read_whose(alloc: Global, text: &[u8]) -> Result<Vec<Owner>, AllocError>
+    ensures { IfOk result (λ owners. AreWhose text.now owners.items) }
 {
     if !is_gathered(text) {
         return Ok(Vec::new(alloc));
@@ -193,4 +194,16 @@ pub fn read_owners(alloc: Global, text: &[u8]) -> Result<Vec<Owner>, AllocError>
         Some((node, rest)) => owners_of_both(alloc, node, rest),
         None => owners_in(alloc, text),
     }
+}
+
+/// What a set's text says beside the set: whose the tasks and interrupts are, those of the node's document, where one is there,
+/// and then of the teams', in their order, as the set has its interrupts; and which sections don't say where they begin. A
+/// text of one document says of no task and no interrupt whose it is. The error is out of memory.
+pub fn read_owners(alloc: Global, text: &[u8]) -> Result<Vec<Owner>, AllocError>
+    ensures { IfOk result (λ owners. AreOwners text.now owners.items) }
+{
+    let mut owners = read_whose(alloc, text)?;
+    let followers = read_followers(alloc, text)?;
+    owners.extend_from_slice(&followers)?;
+    Ok(owners)
 }

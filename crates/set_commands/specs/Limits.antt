@@ -40,21 +40,21 @@ AreEndLines owners U placing is_silent text =
 abbrev pub ListsAll : List Owner → List Task → Placing → List ℕ → Type 0
 ListsAll owners U placing text =
     (lines : List ℕ) × (end : List ℕ)
-    × AreLines U (order_given placing) (places_in placing) (length U) lines
+    × AreLines owners U (order_given placing) (places_in placing) (length U) lines
     × AreEndLines owners U placing (length lines == 0) end
     × (text ≡ lines ++ end)
 
 -- the lines of each of the first tasks
-abbrev pub ListsSome : List Task → Placing → List ℕ → Type 0
-ListsSome U placing text =
+abbrev pub ListsSome : List Owner → List Task → Placing → List ℕ → Type 0
+ListsSome owners U placing text =
     (count : ℕ) × (count ≤ length U)
-    × AreLines U (order_given placing) (places_in placing) count text
+    × AreLines owners U (order_given placing) (places_in placing) count text
 
 -- the lines of a placed set, with the status of its placing; or some, and then that memory ran out for the next
 abbrev pub Lists : List Owner → List Task → Placing → List ℕ → Status → Type 0
 Lists owners U placing text s =
     (ListsAll owners U placing text × (s ≡ placing_status placing))
-    ⊎ ((front : List ℕ) × ListsSome U placing front
+    ⊎ ((front : List ℕ) × ListsSome owners U placing front
     × (text ≡ front ++ refusal_line refusal.OutOfMemory)
     × (s ≡ status.OutOfMemory))
 

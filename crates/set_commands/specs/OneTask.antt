@@ -33,7 +33,7 @@ use Rattle.answering.specs.Asked.{asked_task}
 -- none, or its worst case
 abbrev pub AreLinesOf : TaskPart → List Owner → List Task → Placing → ℕ → List ℕ → Type 0
 AreLinesOf Limits owners U placing task text =
-    AreTaskLines U (order_given placing) (places_in placing) task text
+    AreTaskLines owners U (order_given placing) (places_in placing) task text
 AreLinesOf (Reasons all) owners U placing task text =
     (explanation : Explanation) × (decided : List ℕ) × Explains U placing explanation
     × AreDecided Missed U (Some task) placing decided

@@ -54,12 +54,12 @@ pub(crate) fn order_of(alloc: Global, placing: &Placing) -> Result<Vec<usize>, A
 fn lines_of_task(alloc: Global, listing: &Listing<'_>, task: usize) -> Result<String, AllocError>
     requires listing { IsListing listing.now }
     requires task { task < length listing.now.set }
-    ensures { IfOk result (λ text. AreTaskLines listing.now.set (order_given listing.now.placing.now)
-        (places_in listing.now.placing.now) task (string_bytes text)) }
+    ensures { IfOk result (λ text. AreTaskLines listing.now.owners.now listing.now.set
+        (order_given listing.now.placing.now) (places_in listing.now.placing.now) task (string_bytes text)) }
 {
     let order = order_given(listing.placing, &listing.order);
     let places = places_given(listing.placing);
-    task_text(alloc, &listing.set, order, places, task)
+    task_text(alloc, listing.owners, &listing.set, order, places, task)
 }
 
 // Whether no task had a line, with one more text.
@@ -119,7 +119,7 @@ fn put_lines<W: Write + Drop>(
         × Sends (W.contents output.old.inner) held.old (W.contents output.new.inner) held.new
         (string_bytes listing.now.first ++ text)) }
     ensures some { result ≡ Err ListFault.OutOfMemory
-        → (text : List ℕ) × ListsSome listing.now.set listing.now.placing.now text
+        → (text : List ℕ) × ListsSome listing.now.owners.now listing.now.set listing.now.placing.now text
         × Sends (W.contents output.old.inner) held.old (W.contents output.new.inner) held.new
         (string_bytes listing.now.first ++ text) }
     ensures ok { result ≢ Err ListFault.WriteFailed
@@ -161,7 +161,7 @@ fn print_lines<W: Write + Drop>(
         × Appends (W.contents output.old.inner) (W.contents output.new.inner)
         (string_bytes listing.now.first ++ text)) }
     ensures some { result ≡ Err ListFault.OutOfMemory
-        → (text : List ℕ) × ListsSome listing.now.set listing.now.placing.now text
+        → (text : List ℕ) × ListsSome listing.now.owners.now listing.now.set listing.now.placing.now text
         × Appends (W.contents output.old.inner) (W.contents output.new.inner)
         (string_bytes listing.now.first ++ text) }
     ensures ok { result ≢ Err ListFault.WriteFailed

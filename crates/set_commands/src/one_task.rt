@@ -37,20 +37,22 @@ pub enum TaskPart {
 // How far the numbers of a task may go.
 fn limits_text(
     alloc: Global,
+    owners: &[Owner],
     set: &TaskSet,
     placing: &Placing,
     task: usize,
 ) -> Result<Vec<u8>, AllocError>
     requires placing { IsPlacingOf set.now placing.now }
     requires task { task < length set.now }
-    ensures { IfOk result (λ text. AreTaskLines set.now (order_given placing.now)
+    ensures { IfOk result (λ text. AreTaskLines owners.now set.now (order_given placing.now)
         (places_in placing.now) task text.items) }
 {
     let table = LockTable::new(alloc, set)?;
     let order = order_of(alloc, placing)?;
     let order = order_given(placing, &order);
     let places = places_given(placing);
-    let text = limit_lines::task_text(alloc, &Tabled::of(set, &table), order, places, task)?;
+    let tabled = Tabled::of(set, &table);
+    let text = limit_lines::task_text(alloc, owners, &tabled, order, places, task)?;
     let mut lines = Vec::new(alloc);
     lines.extend_from_slice(text.as_bytes())?;
     Ok(lines)
@@ -87,7 +89,7 @@ fn part_text(
     ensures { IfOk result (λ text. AreLinesOf part owners.now set.now placing.now task text.items) }
 {
     match part {
-        TaskPart::Limits => limits_text(alloc, set, placing, task),
+        TaskPart::Limits => limits_text(alloc, owners, set, placing, task),
         TaskPart::Reasons { .. } => reasons_text(alloc, owners, set, placing, task),
         TaskPart::Worst => case_text(alloc, set, placing, task),
     }

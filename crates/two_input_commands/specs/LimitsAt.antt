@@ -36,10 +36,11 @@ alone_words true None = codes "no single change\n"
 -- the interrupts and the node, that line, and that of the factors
 abbrev pub AreLimitsIn : List Owner → List Task → (order : List ℕ) → Option (List PlaceData)
     → (asked : Option ℕ) → List ℕ → Type 0
-AreLimitsIn owners U order places (Some task) text = AreTaskLines U (Some order) places task text
+AreLimitsIn owners U order places (Some task) text =
+    AreTaskLines owners U (Some order) places task text
 AreLimitsIn owners U order places None text =
     (lines : List ℕ) × (common : List ℕ) × (last : List ℕ)
-    × AreLines U (Some order) places (length U) lines
+    × AreLines owners U (Some order) places (length U) lines
     × AreCommonLines owners U (Some order) common × IsLast U (Some order) last
     × (text ≡ ((lines ++ common) ++ alone_words (length (lines ++ common) == 0) places) ++ last)
 

@@ -19,17 +19,18 @@ use task_sheet::TaskSet;
 // The lines of each task of a set in an order, by rank.
 fn each_text(
     alloc: Global,
+    owners: &[Owner],
     set: &Tabled<'_>,
     order: Option<&[usize]>,
     places: Option<&[Place]>,
 ) -> Result<String, AllocError>
     requires { IfSome (option_map (λ o. o.now) order) (IsOrder set.now) }
-    ensures { IfOk result (λ text. AreLines set.now (option_map (λ o. o.now) order.entry)
+    ensures { IfOk result (λ text. AreLines owners.now set.now (option_map (λ o. o.now) order.entry)
         (option_map (λ p. p.now) places.entry) (length set.now) (string_bytes text)) }
 {
     let mut text = String::new(alloc);
     for task in 0..set.len() {
-        let lines = task_text(alloc, set, order, places, task)?;
+        let lines = task_text(alloc, owners, set, order, places, task)?;
         text.push_str(lines.as_str())?;
     }
     Ok(text)
@@ -58,7 +59,7 @@ fn whole_text(
     ensures { IfOk result (λ text. AreLimitsIn owners.now set.now order.now
         (option_map (λ p. p.now) places.entry) None (string_bytes text)) }
 {
-    let mut text = each_text(alloc, set, Some(order), places)?;
+    let mut text = each_text(alloc, owners, set, Some(order), places)?;
     let common = common_text(alloc, owners, set, Some(order))?;
     let last = last_text(alloc, set, Some(order))?;
     text.push_str(common.as_str())?;
@@ -84,7 +85,7 @@ fn asked_text(
     let table = LockTable::new(alloc, set)?;
     let tabled = Tabled::of(set, &table);
     match asked {
-        Some(task) => task_text(alloc, &tabled, Some(order), places, task),
+        Some(task) => task_text(alloc, owners, &tabled, Some(order), places, task),
         None => whole_text(alloc, owners, &tabled, order, places),
     }
 }

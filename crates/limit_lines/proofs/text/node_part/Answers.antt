@@ -12,7 +12,8 @@ overflow_mul-result c =
     let node = c.node-node.result in
     let items = c.sections.result.now in
     let same = c.sections.ensures in
-    let inside : k < length t.sections = subst (λ n. HasNumber t n) c.in-Len.is c.requires.has in
+    let has = subst (λ n. HasNumber t n) c.in-Len.is c.requires.has in
+    let inside : k < length t.sections = omega (arith, has) in
     let within : k < length items =
     omega (arith, inside, ap (λ (xs : List CriticalSection). length xs) same) in
     let are : AreSections 0 t.cost items =

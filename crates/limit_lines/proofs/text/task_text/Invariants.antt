@@ -4,4 +4,4 @@ use Rattle.limit_lines.proofs.text.task_text.Given as goal
 
 abbrev pub invariant-loop-place : goal.invariant-loop-place
 invariant-loop-place l =
-    AreNumberLines l.set (option_map (λ o. o.now) l.order) l.task l.place (string_bytes l.text)
+    AreNumberLines l.owners l.set (option_map (λ o. o.now) l.order) l.task l.place (string_bytes l.text)

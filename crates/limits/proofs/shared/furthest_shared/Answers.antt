@@ -1,8 +1,5 @@
-use Rattle.std.proofs.Common.{◌≡◌, ℕ, ◌+◌, ◌-◌, ◌/◌, ◌<◌, ◌≤◌, List, Option, option_map, sym, subst, arith}
+use Rattle.std.proofs.Common.{ℕ, ◌+◌, ◌-◌, ◌/◌, List, Option, option_map, arith}
 use Rattle.std.proofs.lemmas.Bool.{both_ways}
-use Rattle.task_sheet.specs.declared.node.Node.{Node}
-use Rattle.overheads.specs.Padding.{padded}
-use Rattle.limits.specs.Shared.{MayTake, PassesIn, least_shared, most_shared, with_shared}
 use Rattle.limits.proofs.SharedLaws.{Admits, admits-less, last-admits, none-admits, said-within}
 use Rattle.limits.proofs.shared.furthest_shared.Goals as goal
 

@@ -1,10 +1,9 @@
 use Rattle.std.proofs.Common.{◌+◌, ◌-◌, ◌<◌, List, length, sym, ap, subst, arith}
 use Rattle.task_sheet.specs.declared.node.Interrupt.{Interrupt}
-use Rattle.task_sheet.specs.Sheet.{CriticalSection}
 use Rattle.task_sheet.proofs.Below.{ord_max-is}
 use Rattle.limits.specs.Numbers.{HasNumber, IsSpan, interrupt_at}
 use Rattle.limits.proofs.SpanLaws.{IsSpan-cost, IsSpan-period, IsSpan-deadline, IsSpan-jitter}
-use Rattle.limits.proofs.SpanLaws.{IsSpan-len, IsRoom, room_read}
+use Rattle.limits.proofs.SpanLaws.{IsSpan-len}
 use Rattle.limits.proofs.InterruptLaws.{IsSpan-interrupt_cost, IsSpan-interrupt_period}
 use Rattle.limits.proofs.spans.span_of.Goals as goal
 
@@ -46,31 +45,16 @@ returns-in-Jitter-clause-span c =
     subst (λ n. IsSpan t n 0 (c.deadline.result - 1)) (sym c.in-Jitter.is)
     (IsSpan-jitter t _ c.requires.valid (omega (arith, c.deadline.ensures)))
 
-module _ (c : goal.After-section) where
-  room : IsRoom c.args.sheet.now c.in-Len.place c.section.inside.at c.room_end.result
-  room = room_read c.args.sheet.now c.in-Len.place c.sections.result.now
-      c.sections-in-Len.result.now c.index-sections-place.result c.section.inside.at
-      c.cost-in-Len.result c.room_end.result c.requires.valid
-      (subst (λ n. HasNumber c.args.sheet.now n) c.in-Len.is c.requires.has)
-      c.sections.ensures c.index-sections-place.is (ap (λ (s : CriticalSection). s.at)
-      c.section.view_is) c.sections-in-Len.ensures c.cost-in-Len.ensures c.room_end.ensures
-
-pub overflow_sub-result-in-Len : goal.overflow_sub-result-in-Len
-overflow_sub-result-in-Len c = (let r = room c in omega (arith, r.some))
-
-pub overflow_sub-result-in-Len-2 : goal.overflow_sub-result-in-Len-2
-overflow_sub-result-in-Len-2 c = (let r = room c in omega (arith, r.some))
+pub most_len-requires-clause-place : goal.most_len-requires-clause-place
+most_len-requires-clause-place c = subst (λ n. HasNumber c.args.sheet.now n) c.in-Len.is c.requires.has
 
 pub returns-in-Len-clause-span : goal.returns-in-Len-clause-span
 returns-in-Len-clause-span c =
-    let r = room c in
-    subst (λ n. IsSpan c.args.sheet.now n 1 (c.room_end.result - c.section.inside.at - 1))
-    (sym c.in-Len.is) (IsSpan-len c.args.sheet.now c.in-Len.place _ c.requires.valid r.inside
-    (omega (arith, r.at_is, r.end_is)))
-
-pub returns-in-Len-clause-short : goal.returns-in-Len-clause-short
-returns-in-Len-clause-short c = (let r = room c in
-    omega (arith, r.within, c.requires.valid.cost_to, c.requires.valid.period_to))
+    let t = c.args.sheet.now in
+    let inside = subst (λ n. HasNumber t n) c.in-Len.is c.requires.has in
+    subst (λ n. IsSpan t n 1 (c.most_len.result - 1)) (sym c.in-Len.is)
+    (IsSpan-len t c.in-Len.place c.in-Len.along _ c.requires.valid inside
+    (omega (arith, c.most_len.ensures.is)))
 
 pub returns-in-InterruptCost-clause-span : goal.returns-in-InterruptCost-clause-span
 returns-in-InterruptCost-clause-span c =

@@ -1,4 +1,4 @@
-use Rattle.std.proofs.Common.{◌≡◌, ◌<◌, List, length, sym, ◌∙◌, ap, subst}
+use Rattle.std.proofs.Common.{◌≡◌, ◌+◌, ◌<◌, List, length, sym, ◌∙◌, ap, subst, arith}
 use Rattle.task_sheet.specs.declared.node.Interrupt.{Interrupt}
 use Rattle.task_sheet.specs.Sheet.{CriticalSection}
 use Rattle.limits.specs.Numbers.{HasNumber, interrupt_at, value_of}
@@ -9,7 +9,8 @@ pub returns-in-Len : goal.returns-in-Len
 returns-in-Len c =
     let t = c.args.sheet.now in
     let k = c.in-Len.place in
-    let inside : k < length t.sections = subst (λ n. HasNumber t n) c.in-Len.is c.requires in
+    let has : k + c.in-Len.along < length t.sections = subst (λ n. HasNumber t n) c.in-Len.is c.requires in
+    let inside : k < length t.sections = omega (arith, has) in
     let read = section_read t.sections c.sections.result.now k c.index-sections-place.result
     c.sections.ensures inside c.index-sections-place.is in
     subst (λ n. c.section.inside.len ≡ value_of n t) (sym c.in-Len.is)

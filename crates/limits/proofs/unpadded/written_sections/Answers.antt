@@ -1,4 +1,4 @@
-use Rattle.std.proofs.Common.{rules, ◌≡◌, ◌+◌, ◌-◌, ◌*◌, ◌++◌, ◌∷◌, ◌≤◌, [], List, length, ap}
+use Rattle.std.proofs.Common.{rules, ◌≡◌, ◌-◌, ◌++◌, ◌∷◌, [], List, length, ap}
 use Rattle.std.proofs.Common.{arith}
 use Rattle.task_sheet.proofs.Common.{CriticalSection, calls}
 use Rattle.task_sheet.proofs.OverheadLaws.{calls-more}

@@ -1,4 +1,4 @@
-use Rattle.std.proofs.Common.{rules, ◌≡◌, ◌∙◌, ◌+◌, ◌++◌, ◌∷◌, [], List, take, map, sym, ap}
+use Rattle.std.proofs.Common.{rules, ◌≡◌, ◌∙◌, ◌++◌, ◌∷◌, [], List, take, map, sym, ap}
 use Rattle.std.proofs.lemmas.List.{map_more}
 use Rattle.task_sheet.proofs.Common.{Task}
 use Rattle.limits.specs.Written.{written_task}

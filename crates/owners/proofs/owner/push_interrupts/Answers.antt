@@ -2,8 +2,8 @@ use Rattle.std.proofs.Common.{rules, ◌≡◌, ◌∙◌, ◌+◌, ◌++◌, �
 use Rattle.std.proofs.lemmas.List.{drop_more}
 use Rattle.task_sheet.specs.declared.node.Interrupt.{Interrupt}
 use Rattle.owners.specs.Owners.{interrupts_from}
-use Rattle.owners.specs.declared.owner.Owned.TheVariants as owned
 use Rattle.owners.specs.declared.owner.Owner.{Owner}
+use Rattle.owners.specs.declared.owner.Owner.TheVariants as owner
 use Rattle.owners.proofs.owner.push_interrupts.Goals as goal
 
 pub loop-place-preserved : goal.loop-place-preserved
@@ -12,7 +12,7 @@ loop-place-preserved c =
     let team = c.args.team in
     let xs = c.args.interrupts.now in
     let none : Interrupt = record { period = 0; cost = 0 } in
-    let o : Owner = record { owned = owned.Interrupt (k + 1); team = team } in
+    let o : Owner = owner.Interrupt (k + 1) team in
     let rest = interrupts_from team (k + 1 + 1) (drop (k + 1) xs) in
     let held = c.loop-place.owners.items in
     let pushed : c.push.new.self.items ≡ held ++ o ∷ [] = search rules in

@@ -78,7 +78,8 @@ returns-in-Ok-put-clause-all g c =
       (
         said.0,
         ends,
-        subst (λ n. AreLines U (order_given placing) (places_in placing) n said.0) count said.2,
+        subst (λ n. AreLines c.args.listing.now.owners.now U (order_given placing) (places_in placing) n
+            said.0) count said.2,
         subst (λ (b : Bool). AreEndLines c.args.listing.now.owners.now U placing b ends) said.1 end,
         refl,
       ),
