@@ -1,5 +1,5 @@
 -- Of jobs that keep to the demand nothing is said to be broken, and of no others.
-use Rattle.std.proofs.Common.{Bool, ℕ, suc, ◌+◌, ◌-◌, ◌≤◌, ◌≡◌, refl, sym, ap, ◌∙◌, arith, All, true, false, not}
+use Rattle.std.proofs.Common.{Bool, ℕ, suc, ◌-◌, ◌≤◌, ◌≡◌, refl, sym, ap, ◌∙◌, arith, All, true, false, not}
 use Rattle.std.proofs.Common.{get_or}
 use Rattle.std.proofs.Common.{List, [], ◌∷◌, ◌++◌, Option, None, Some, IfSome, is_some}
 use Rattle.std.proofs.lemmas.Bool.{false_from_ne_true, le-ltb, ltb-false, or_parts, true≢false}

@@ -115,8 +115,7 @@ fn is_stray(
     ensures { result ≡ is_stray set.now promises.now promise.now place from to piece.now }
 {
     let own = Whom::Job(place);
-    0 < share_of(&own, from, to, piece)
-        && is_wrong(set, promises, promise, piece.priority)
+    0 < share_of(&own, from, to, piece) && is_wrong(set, promises, promise, piece.priority)
 }
 
 // The first such priority.

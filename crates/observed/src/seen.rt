@@ -62,24 +62,24 @@ impl Model for Seen {
     ghost Value = { SeenData };
 
     ghost view = { λ s. record {
-        level = s.level;
-        promise = s.promise;
-        arrival = s.arrival;
-        gap = s.gap;
-        closest = s.closest;
-        delay = s.delay;
-        is_finished = s.is_finished;
-        lasted = s.lasted;
-        executed = s.executed;
-        stray = s.stray;
-        may_execute = s.may_execute;
-        blocked = s.blocked;
-        culprits = s.culprits.items;
-        may_be_blocked = s.may_be_blocked;
-        foreign = s.foreign;
-        stranger = s.stranger;
-        idle = s.idle;
-        may_be_taken = s.may_be_taken;
+      level = s.level;
+      promise = s.promise;
+      arrival = s.arrival;
+      gap = s.gap;
+      closest = s.closest;
+      delay = s.delay;
+      is_finished = s.is_finished;
+      lasted = s.lasted;
+      executed = s.executed;
+      stray = s.stray;
+      may_execute = s.may_execute;
+      blocked = s.blocked;
+      culprits = s.culprits.items;
+      may_be_blocked = s.may_be_blocked;
+      foreign = s.foreign;
+      stranger = s.stranger;
+      idle = s.idle;
+      may_be_taken = s.may_be_taken;
     } };
 }
 

@@ -34,12 +34,7 @@ fn add_name(names: &mut Vec<Name>, name: Name) -> Result<(), AllocError>
 }
 
 // The names of those that execute between two times, each once, by when it first does.
-fn names_in(
-    alloc: Global,
-    from: u128,
-    to: u128,
-    pieces: &[Piece],
-) -> Result<Vec<Name>, AllocError>
+fn names_in(alloc: Global, from: u128, to: u128, pieces: &[Piece]) -> Result<Vec<Name>, AllocError>
     ensures { IfOk result (λ names. names.items ≡ names_from from to [] pieces.now) }
 {
     let mut names = Vec::new(alloc);

@@ -1,4 +1,4 @@
-use Rattle.std.proofs.Common.{◌≡◌, ap, arith}
+use Rattle.std.proofs.Common.{ap, arith}
 use Rattle.observed.specs.declared.promises.Promise.{Promise}
 use Rattle.observed.proofs.ranks.ceiling_in.Goals as goal
 

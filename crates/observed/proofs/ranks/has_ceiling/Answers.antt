@@ -1,7 +1,7 @@
 use Rattle.std.proofs.Common.{◌∙◌, List, ap, refl}
 use Rattle.std.specs.List.{list_any}
 use Rattle.task_sheet.specs.Sheet.{CriticalSection}
-use Rattle.task_sheet.proofs.Common.{Task, task_at}
+use Rattle.task_sheet.proofs.Common.{Task}
 use Rattle.observed.specs.Ranks.{is_ceiling_in}
 use Rattle.observed.proofs.PlaceLaws.{sheet-at}
 use Rattle.observed.proofs.ranks.has_ceiling.Goals as goal

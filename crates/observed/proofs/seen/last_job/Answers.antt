@@ -1,4 +1,4 @@
-use Rattle.std.proofs.Common.{◌≡◌, ◌∙◌, ◌<◌, ◌+◌, ◌-◌, ℕ, List, Option, Some, Bool, true, false, length, get_or, sym, ap, arith, take}
+use Rattle.std.proofs.Common.{◌≡◌, ◌∙◌, ◌<◌, ◌+◌, ◌-◌, ℕ, List, Some, Bool, true, false, length, get_or, sym, ap, arith, take}
 use Rattle.std.specs.Prelude.{if◌then◌else◌}
 use Rattle.task_sheet.specs.Sheet.{same_bytes}
 use Rattle.trace_text.specs.declared.rows.TraceJob.{TraceJob}

@@ -1,9 +1,8 @@
-use Rattle.std.proofs.Common.{◌≡◌, ◌∙◌, ◌++◌, ◌∷◌, [], List, ap, sym, rules, true, nat_le}
+use Rattle.std.proofs.Common.{◌≡◌, ◌∙◌, ◌++◌, ◌∷◌, [], List, ap, sym, rules, nat_le}
 use Rattle.std.proofs.lemmas.Bool.{and_parts}
-
 use Rattle.std.specs.List.{find}
 use Rattle.observed_lines.specs.Causes.{delays}
-use Rattle.observed_lines.specs.Sweeps.{Agree, come_from}
+use Rattle.observed_lines.specs.Sweeps.{come_from}
 use Rattle.observed_lines.specs.declared.causes.Source.{Source}
 use Rattle.observed_lines.proofs.SweepLaws.{lower, push_agree, skip_agree}
 use Rattle.observed_lines.proofs.sweep.take_in.Goals as goal
