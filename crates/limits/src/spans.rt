@@ -25,7 +25,8 @@ pub(crate) fn at_distance(number: Number, easiest: u64, far: u64) -> u64
     ensures { result ≡ at_distance number easiest far }
 {
     match number {
-        Number::Cost | Number::Jitter | Number::Len { .. } | Number::InterruptCost(_) => easiest + far,
+        Number::Cost | Number::Jitter | Number::Len { .. } | Number::InterruptCost(_) => easiest
+            + far,
         Number::Period | Number::Deadline | Number::InterruptPeriod(_) => {
             easiest.saturating_sub(far)
         }
