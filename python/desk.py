@@ -400,8 +400,8 @@ class Seen:
 class Broken:
     """A promise that a job breaks, by its arrival: `kind` is priority, cost, period, late, blocked,
     foreign, idle, bound or open; `time`, or the priority, beside its `limit`, and `by` whom, where
-    there is one. Of tasks below that blocked it, `by` did so longest, for `by_time`; then `next_by`,
-    for `next_time`. It follows from `after`: the kind, task and arrival of another."""
+    there is one. `below` has each task below that blocked it, with its time, the longest first. It
+    follows from `after`: the kind, task and arrival of another."""
 
     kind: str
     task: str
@@ -409,9 +409,7 @@ class Broken:
     time: int | None = None
     limit: int | None = None
     by: str | None = None
-    by_time: int | None = None
-    next_by: str | None = None
-    next_time: int | None = None
+    below: tuple[tuple[str, int], ...] = ()
     after: tuple[str, str, int] | None = None
 
 
@@ -937,9 +935,8 @@ def _broken(kind: str, name: str, words: list[str]) -> Broken:
     if cause:
         it = replace(it, after=(cause[0], cause[1], int(cause[2])))
     if kind == "blocked":
-        longest, *others = (part.split() for part in " ".join(words[5:]).split(", "))
-        it = replace(it, by_time=int(longest[1]))
-        it = replace(it, next_by=others[0][0], next_time=int(others[0][1])) if others else it
+        parts = (part.split() for part in " ".join(words[5:]).split(", "))
+        it = replace(it, below=tuple((name, int(time)) for name, time in parts))
     return it
 
 
