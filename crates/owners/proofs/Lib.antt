@@ -1,1 +1,2 @@
 pub mod OwnerLaws
+pub mod PartLaws

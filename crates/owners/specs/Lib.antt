@@ -1,2 +1,3 @@
 pub mod Owners
 pub mod NamedLines
+pub mod Parts
