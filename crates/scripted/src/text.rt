@@ -210,8 +210,10 @@ pub fn teams_text(alloc: Global, parts: &[Vec<Sheet>]) -> Result<String, AllocEr
         ≡ script_of_teams (map (λ part. part.items) parts.now)) }
 {
     let mut text = String::new(alloc);
-    for (place, part) in parts.iter().enumerate() {
-        push_team(&mut text, place + 1, part)?;
+    let mut number = 1;
+    for part in parts {
+        push_team(&mut text, number, part)?;
+        number += 1;
     }
     Ok(text)
 }
