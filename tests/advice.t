@@ -577,7 +577,7 @@ A name in `outranks` that no task has, a set without a task, and more costs than
   >   set -- $task; printf '[[task]]\nname="%s"\nperiod=9999999\ndeadline=9999999\ncost=%d\n' $1 $2; done; }
   $ thirds 3333333 | desk explain - --prefer deadline | grep -e admitted -e load
   admitted 3
-  load 1000002
+  load 1000000
   $ thirds 3333333 | said admit - --prefer deadline
   $ thirds 3333334 | said explain - --prefer deadline
   note: the costs over the periods come to more than 1: no order can pass

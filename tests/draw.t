@@ -32,7 +32,7 @@ Why a job waits, for a task above or for one below that blocks it by a lock:
 
 Both waits for one section end at one instant, from which a link goes down to the bar of the task that held it:
 
-  $ desk draw examples/shared-lock.toml examples/shared-lock.releases | grep 'class="wj d0" d="M2265 .*V2815"' | wc -l
+  $ desk draw examples/shared-lock.toml examples/shared-lock.releases | grep -c 'class="wj d0"'
   2
 
 The pictures of README.md and docs/FORMATS.md are those of the commands beside them:
@@ -64,12 +64,25 @@ of the run, but the heading names the window, for which the processor is busy. I
   3 m-20 0l-60
   2 m20 0l60
   $ sed -nE 's/.* y="1200">(.*)<.text>/\1/p' run.svg | xargs
-  1 2 3 4 5 6 time in ms
-  $ grep -oE '(tasks: .* ms|busy .* %)<' run.svg
-  tasks: 3, jobs: 3, until 100 ms, shown: 1 to 6 ms<
-  busy 100.0 %<
+  1000 2000 3000 4000 5000 6000 time in us
+  $ grep -oE '(tasks: .* us|busy .* %)<.text' run.svg
+  tasks: 3, jobs: 3, until 100000 us, shown: 1000 to 6000 us</text
+  busy 100.0 %</text
   $ wide --from 22000 --to 24000 | grep -o 'busy .* %'
   busy 50.0 %
+
+All of it has one unit: milliseconds where the window has ten of them, else microseconds, also between two of the scale's
+whole milliseconds:
+
+  $ units() { sed -nE 's/<title>[^<]*<.title>//g; s/.*>([^<]*(time in|deadline [0-9]|bound|until) [^<]*)<.text>.*/\1/p' | paste -sd '|'; }
+  $ wide --to 10000 | units
+  tasks: 3, jobs: 3, until 100 ms, shown: 0 to 10 ms|time in ms|bound 5 of 10 ms|bound 7 of 20 ms|bound 27 of 100 ms
+  $ wide --to 9999 | units
+  tasks: 3, jobs: 3, until 100000 us, shown: 0 to 9999 us|time in us|bound 5000 of 10000 us|bound 7000 of 20000 us|bound 27000 of 100000 us
+  $ wide --to 10000 --width 16000 | sed -nE 's/.* y="1200">(.*)<.text>/\1/p' | sed -n '2p;21p;$p'
+  0.1
+  2
+  time in ms
 
 The whole window is the picture without one:
 
@@ -141,163 +154,15 @@ What the title of a row's name says is what `desk simulate --tasks` prints:
   task b 2 3000 3000
   task c 1 20000 20000
 
-Two small documents, whole, as a program apart from this one makes them:
+What stands in a picture to be read, in its order: the verdict, the legend, the scale, the lane, the rows and the locks:
 
-  $ printf 'until 3000\n0 lo\n' | desk draw examples/shared-lock.toml -
-  <?xml version="1.0" encoding="UTF-8"?>
-  <svg xmlns="http://www.w3.org/2000/svg" version="1.1" width="960" height="360" viewBox="0 0 9600 3600">
-  <title>tasks: 3, jobs: 1, until 3000 us</title>
-  <style type="text/css">text{font:105px sans-serif;fill:#4a4a4a}.t{font:bold 150px sans-serif;fill:#111}.n{font:bold 130px monospace;fill:#111}.v{font-size:110px;text-anchor:end}.s{text-anchor:middle}.u{font:110px monospace;fill:#111;text-anchor:middle;pointer-events:none}.k{font:110px monospace;fill:#fff;text-anchor:middle;pointer-events:none;paint-order:stroke;stroke:#222;stroke-width:28px;stroke-linejoin:round}.p{fill:#fff}.g{stroke:#e3e3e3;stroke-width:8;fill:none}.l{stroke:#9a9a9a;stroke-width:8;fill:none}.w{fill:#eef1f5}.a{stroke:#333;stroke-width:12;fill:none}.r{stroke:#777;stroke-width:12;fill:none;stroke-dasharray:30 20}.d{stroke:#111;stroke-width:12;fill:#111}.b{stroke:#a34700;stroke-width:14;fill:none}.o{stroke:#fff;stroke-width:6}.h{fill:#173766}.x{stroke:#c40000;stroke-width:160;stroke-linecap:round}.y{stroke:#fff;stroke-width:26;fill:none}.z{fill:url(#m);stroke:#c40000;stroke-width:14}.i{stroke:#c40000;stroke-width:22;fill:none}.q{fill:#c40000;font-weight:bold}.f0{fill:#7fb2e5}.f1{fill:#f3dd7c}.f2{fill:#e98b6b}.f3{fill:#a5e0f2}.f4{fill:#57b894}.f5{fill:#f7b3c4}.f6{fill:#b3b04a}.f7{fill:#c9c2ea}.f8{fill:#b98fd0}.f9{fill:#d3dd8c}.c0{fill:#173766}.c1{fill:#8a2d05}.c2{fill:#00564b}.c3{fill:#651a66}.c4{fill:#4f4200}.c5{fill:#363636}.k0{fill:#173766}.k1{fill:url(#p1)}.k2{fill:url(#p2)}.k3{fill:url(#p3)}.k4{fill:url(#p4)}.k5{fill:url(#p5)}.k0,.k1,.k2,.k3,.k4,.k5{pointer-events:none}.c{font:110px monospace}.j{stroke:#fff;stroke-opacity:.55;stroke-width:14;fill:none}.wa{stroke-width:24;fill:none}.wb{stroke-width:32;stroke-linecap:round;stroke-dasharray:0 55;fill:none}.wj{stroke-width:10;stroke-dasharray:10 22;fill:none;pointer-events:none}.wl{font:110px monospace;fill:#111;text-anchor:middle;pointer-events:none;paint-order:stroke;stroke:#fff;stroke-width:30px;stroke-linejoin:round}.i0{stroke:#2f6fae}.i1{stroke:#96780a}.i2{stroke:#b04f2c}.i3{stroke:#1f7f9c}.i4{stroke:#1e7a58}.i5{stroke:#b34a68}.i6{stroke:#6d6b13}.i7{stroke:#6a5cae}.i8{stroke:#7d4a9b}.i9{stroke:#4f8f1f}.in{stroke:#6b6b6b;shape-rendering:crispEdges}.d0{stroke:#173766}.d1{stroke:#8a2d05}.d2{stroke:#00564b}.d3{stroke:#651a66}.d4{stroke:#4f4200}.d5{stroke:#363636}@media(prefers-color-scheme:dark){text{fill:#b9bec6}.t,.n{fill:#f2f4f7}.u{fill:#fff}.k{fill:#101418;stroke:#eee}.p{fill:#14181d}.g{stroke:#2c333c}.l{stroke:#6d7682}.w{fill:#20272f}.a{stroke:#d5dae0}.r{stroke:#98a1ac}.d{stroke:#f2f4f7;fill:#f2f4f7}.b{stroke:#ffb066}.o{stroke:#14181d}.h{fill:#dbe9ff}.x{stroke:#ff5c5c}.y{stroke:#14181d}.z{stroke:#ff5c5c}.i{stroke:#ff5c5c}.q{fill:#ff7b7b}.f0{fill:#3b6ea3}.f1{fill:#8f7a1e}.f2{fill:#a3512f}.f3{fill:#2f7f98}.f4{fill:#2a7a5a}.f5{fill:#a3546c}.f6{fill:#6b4a33}.f7{fill:#6f63a8}.f8{fill:#7b4f94}.f9{fill:#4a8a35}.c0{fill:#dbe9ff}.c1{fill:#ffc9a8}.c2{fill:#a8f0e2}.c3{fill:#f2c4f5}.c4{fill:#efe3a0}.c5{fill:#e6e6e6}.k0{fill:#dbe9ff}.j{stroke:#14181d}.wl{fill:#fff;stroke:#14181d}.i0{stroke:#8fbff0}.i1{stroke:#e6cf6a}.i2{stroke:#f2a083}.i3{stroke:#9bdcf0}.i4{stroke:#7bd3b1}.i5{stroke:#f5a8bd}.i6{stroke:#c9a688}.i7{stroke:#c3bbef}.i8{stroke:#d7aeee}.i9{stroke:#a9e07c}.in{stroke:#a3abb5}.d0{stroke:#dbe9ff}.d1{stroke:#ffc9a8}.d2{stroke:#a8f0e2}.d3{stroke:#f2c4f5}.d4{stroke:#efe3a0}.d5{stroke:#e6e6e6}}</style>
-  <defs><pattern id="p1" width="60" height="60" patternUnits="userSpaceOnUse"><rect class="c1" width="60" height="60"/><path class="j" d="M-15 15L15-15M0 60L60 0M45 75L75 45"/></pattern><pattern id="p2" width="60" height="60" patternUnits="userSpaceOnUse"><rect class="c2" width="60" height="60"/><path class="j" d="M25 0V60M55 0V60"/></pattern><pattern id="p3" width="60" height="60" patternUnits="userSpaceOnUse"><rect class="c3" width="60" height="60"/><path class="j" d="M-15 45L15 75M0 0L60 60M45-15L75 15"/></pattern><pattern id="p4" width="60" height="60" patternUnits="userSpaceOnUse"><rect class="c4" width="60" height="60"/><path class="j" d="M0 30H60"/></pattern><pattern id="p5" width="60" height="60" patternUnits="userSpaceOnUse"><rect class="c5" width="60" height="60"/><path class="j" d="M30 0V60M0 30H60"/></pattern><pattern id="m" width="70" height="70" patternUnits="userSpaceOnUse"><path class="i" d="M-15 15L15-15M0 70L70 0M55 85L85 55"/></pattern></defs>
-  <rect class="p" width="100%" height="100%"/>
-  <text class="t" x="100" y="200">no deadline missed</text>
-  <text x="100" y="390">tasks: 3, jobs: 1, until 3 ms</text>
-  <path class="f0" d="M100 540h260v180h-260z"/><text x="420" y="668">executes</text>
-  <path class="wa i0" d="M1100 630h260"/><text x="1420" y="668">waits for a task above, in its colour</text>
-  <path class="wb d0" d="M3716 630h240"/><text x="4020" y="668">is blocked by a task below, in the lock's tone</text>
-  <path class="wa in" d="M6900 630h260"/><text x="7220" y="668">waits for several above</text>
-  <path class="a" d="M8760 570l60 60-60 60m60-120l60 60-60 60"/><text x="8960" y="668">goes on</text>
-  <path class="w" d="M100 790h260v180h-260z"/><path class="b" d="M360 780h-35m35 0v40m0 120v40h-35"/><text x="420" y="918">arrival to bound</text>
-  <path class="a" d="M1560 940v-110m-35 50l35-50 35 50"/><text x="1650" y="918">arrival</text>
-  <path class="r" d="M2260 880h200"/><text x="2520" y="918">not ready yet</text>
-  <path class="d" d="M3460 820v110m0 0l-35-50h70z"/><text x="3550" y="918">deadline</text>
-  <path class="x" d="M4330 880h1"/><path class="y" d="M4330 880m-38-38l76 76m0-76l-76 76"/><text x="4450" y="918">missed</text>
-  <path class="g" d="M1960 1230V3130"/><text class="s" x="1960" y="1200">0</text>
-  <path class="g" d="M3200 1230V3130"/><text class="s" x="3200" y="1200">500</text>
-  <path class="g" d="M4440 1230V3130"/><text class="s" x="4440" y="1200">1000</text>
-  <path class="g" d="M5680 1230V3130"/><text class="s" x="5680" y="1200">1500</text>
-  <path class="g" d="M6920 1230V3130"/><text class="s" x="6920" y="1200">2000</text>
-  <path class="g" d="M8160 1230V3130"/><text class="s" x="8160" y="1200">2500</text>
-  <path class="g" d="M9400 1230V3130"/><text class="s" x="9400" y="1200">3000</text>
-  <path class="l" d="M1960 1570H9400"/>
-  <path class="g" d="M100 1690H9400"/><path class="l" d="M1960 2035H9400"/>
-  <path class="g" d="M100 2170H9400"/><path class="l" d="M1960 2515H9400"/>
-  <path class="g" d="M100 2650H9400"/><path class="l" d="M1960 2995H9400"/>
-  <g id="n">
-  <text x="500" y="1200">time in us</text>
-  <text class="n" x="500" y="1460">processor</text><text x="500" y="1580">busy 100.0 %</text>
-  <text class="v" x="300" y="1920">3</text><rect class="f0" x="350" y="1820" width="100" height="100" rx="20"/>
-  <text class="n" x="500" y="1920"><title>done: 0, greatest response: -, bound: 5000 us</title>hi</text>
-  <text x="500" y="2045">bound 5 of 10 ms</text>
-  <text class="v" x="300" y="2400">2</text><rect class="f1" x="350" y="2300" width="100" height="100" rx="20"/>
-  <text class="n" x="500" y="2400"><title>done: 0, greatest response: -, bound: 7000 us</title>mid</text>
-  <text x="500" y="2525">bound 7 of 20 ms</text>
-  <text class="v" x="300" y="2880">1</text><rect class="f2" x="350" y="2780" width="100" height="100" rx="20"/>
-  <text class="n" x="500" y="2880"><title>done: 0, greatest response: -, bound: 27000 us</title>lo</text>
-  <text x="500" y="3005">bound 27 of 100 ms</text>
-  </g>
-  <g id="k">
-  <text x="100" y="3378">holds a lock:</text>
-  <path class="k0" d="M900 3250H1100v180H900z"/><text class="c" x="1150" y="3378">m</text>
-  </g>
-  <path class="f2 o" d="M1960 1350H9400v220H1960z"><title>lo executes 0 to 3000 us</title></path>
-  <text class="u" x="5680" y="1498">lo</text>
-  <path class="w" d="M1960 2815H9400v180H1960z"><title>lo: arrival 0, not done, bound 27000, deadline 100000 us</title></path>
-  <path class="a" d="M9400 2845m20 0l60 60-60 60m60-120l60 60-60 60"/>
-  <path class="r" d="
-  "/>
-  <path class="a" d="
-  M1960 3100v-100m-35 50l35-50 35 50
-  "/>
-  <path class="b" d="
-  "/>
-  <path class="d" d="
-  "/>
-  <path class="e f2" d="M1960 2815H9400v180H1960z"><title>lo 0 to 3000 us</title></path>
-  <path class="h" d="M2208 2815H9400v180H2208z"><title>lo holds m 100 to 3000 us</title></path>
-  <path class="k0" d="M2208 2815H9400v180H2208z"/>
-  <text class="k" x="5804" y="2943"> m</text>
-  </svg>
-  $ printf 'until 12000\n0 a 1000\n1000 b\n1000 c\n7000 a\n' | desk draw examples/jitter.toml -
-  <?xml version="1.0" encoding="UTF-8"?>
-  <svg xmlns="http://www.w3.org/2000/svg" version="1.1" width="960" height="325" viewBox="0 0 9600 3250">
-  <title>tasks: 3, jobs: 4, until 12000 us</title>
-  <style type="text/css">text{font:105px sans-serif;fill:#4a4a4a}.t{font:bold 150px sans-serif;fill:#111}.n{font:bold 130px monospace;fill:#111}.v{font-size:110px;text-anchor:end}.s{text-anchor:middle}.u{font:110px monospace;fill:#111;text-anchor:middle;pointer-events:none}.k{font:110px monospace;fill:#fff;text-anchor:middle;pointer-events:none;paint-order:stroke;stroke:#222;stroke-width:28px;stroke-linejoin:round}.p{fill:#fff}.g{stroke:#e3e3e3;stroke-width:8;fill:none}.l{stroke:#9a9a9a;stroke-width:8;fill:none}.w{fill:#eef1f5}.a{stroke:#333;stroke-width:12;fill:none}.r{stroke:#777;stroke-width:12;fill:none;stroke-dasharray:30 20}.d{stroke:#111;stroke-width:12;fill:#111}.b{stroke:#a34700;stroke-width:14;fill:none}.o{stroke:#fff;stroke-width:6}.h{fill:#173766}.x{stroke:#c40000;stroke-width:160;stroke-linecap:round}.y{stroke:#fff;stroke-width:26;fill:none}.z{fill:url(#m);stroke:#c40000;stroke-width:14}.i{stroke:#c40000;stroke-width:22;fill:none}.q{fill:#c40000;font-weight:bold}.f0{fill:#7fb2e5}.f1{fill:#f3dd7c}.f2{fill:#e98b6b}.f3{fill:#a5e0f2}.f4{fill:#57b894}.f5{fill:#f7b3c4}.f6{fill:#b3b04a}.f7{fill:#c9c2ea}.f8{fill:#b98fd0}.f9{fill:#d3dd8c}.c0{fill:#173766}.c1{fill:#8a2d05}.c2{fill:#00564b}.c3{fill:#651a66}.c4{fill:#4f4200}.c5{fill:#363636}.k0{fill:#173766}.k1{fill:url(#p1)}.k2{fill:url(#p2)}.k3{fill:url(#p3)}.k4{fill:url(#p4)}.k5{fill:url(#p5)}.k0,.k1,.k2,.k3,.k4,.k5{pointer-events:none}.c{font:110px monospace}.j{stroke:#fff;stroke-opacity:.55;stroke-width:14;fill:none}.wa{stroke-width:24;fill:none}.wb{stroke-width:32;stroke-linecap:round;stroke-dasharray:0 55;fill:none}.wj{stroke-width:10;stroke-dasharray:10 22;fill:none;pointer-events:none}.wl{font:110px monospace;fill:#111;text-anchor:middle;pointer-events:none;paint-order:stroke;stroke:#fff;stroke-width:30px;stroke-linejoin:round}.i0{stroke:#2f6fae}.i1{stroke:#96780a}.i2{stroke:#b04f2c}.i3{stroke:#1f7f9c}.i4{stroke:#1e7a58}.i5{stroke:#b34a68}.i6{stroke:#6d6b13}.i7{stroke:#6a5cae}.i8{stroke:#7d4a9b}.i9{stroke:#4f8f1f}.in{stroke:#6b6b6b;shape-rendering:crispEdges}.d0{stroke:#173766}.d1{stroke:#8a2d05}.d2{stroke:#00564b}.d3{stroke:#651a66}.d4{stroke:#4f4200}.d5{stroke:#363636}@media(prefers-color-scheme:dark){text{fill:#b9bec6}.t,.n{fill:#f2f4f7}.u{fill:#fff}.k{fill:#101418;stroke:#eee}.p{fill:#14181d}.g{stroke:#2c333c}.l{stroke:#6d7682}.w{fill:#20272f}.a{stroke:#d5dae0}.r{stroke:#98a1ac}.d{stroke:#f2f4f7;fill:#f2f4f7}.b{stroke:#ffb066}.o{stroke:#14181d}.h{fill:#dbe9ff}.x{stroke:#ff5c5c}.y{stroke:#14181d}.z{stroke:#ff5c5c}.i{stroke:#ff5c5c}.q{fill:#ff7b7b}.f0{fill:#3b6ea3}.f1{fill:#8f7a1e}.f2{fill:#a3512f}.f3{fill:#2f7f98}.f4{fill:#2a7a5a}.f5{fill:#a3546c}.f6{fill:#6b4a33}.f7{fill:#6f63a8}.f8{fill:#7b4f94}.f9{fill:#4a8a35}.c0{fill:#dbe9ff}.c1{fill:#ffc9a8}.c2{fill:#a8f0e2}.c3{fill:#f2c4f5}.c4{fill:#efe3a0}.c5{fill:#e6e6e6}.k0{fill:#dbe9ff}.j{stroke:#14181d}.wl{fill:#fff;stroke:#14181d}.i0{stroke:#8fbff0}.i1{stroke:#e6cf6a}.i2{stroke:#f2a083}.i3{stroke:#9bdcf0}.i4{stroke:#7bd3b1}.i5{stroke:#f5a8bd}.i6{stroke:#c9a688}.i7{stroke:#c3bbef}.i8{stroke:#d7aeee}.i9{stroke:#a9e07c}.in{stroke:#a3abb5}.d0{stroke:#dbe9ff}.d1{stroke:#ffc9a8}.d2{stroke:#a8f0e2}.d3{stroke:#f2c4f5}.d4{stroke:#efe3a0}.d5{stroke:#e6e6e6}}</style>
-  <defs><pattern id="p1" width="60" height="60" patternUnits="userSpaceOnUse"><rect class="c1" width="60" height="60"/><path class="j" d="M-15 15L15-15M0 60L60 0M45 75L75 45"/></pattern><pattern id="p2" width="60" height="60" patternUnits="userSpaceOnUse"><rect class="c2" width="60" height="60"/><path class="j" d="M25 0V60M55 0V60"/></pattern><pattern id="p3" width="60" height="60" patternUnits="userSpaceOnUse"><rect class="c3" width="60" height="60"/><path class="j" d="M-15 45L15 75M0 0L60 60M45-15L75 15"/></pattern><pattern id="p4" width="60" height="60" patternUnits="userSpaceOnUse"><rect class="c4" width="60" height="60"/><path class="j" d="M0 30H60"/></pattern><pattern id="p5" width="60" height="60" patternUnits="userSpaceOnUse"><rect class="c5" width="60" height="60"/><path class="j" d="M30 0V60M0 30H60"/></pattern><pattern id="m" width="70" height="70" patternUnits="userSpaceOnUse"><path class="i" d="M-15 15L15-15M0 70L70 0M55 85L85 55"/></pattern></defs>
-  <rect class="p" width="100%" height="100%"/>
-  <text class="t" x="100" y="200">no deadline missed</text>
-  <text x="100" y="390">tasks: 3, jobs: 4, until 12 ms</text>
-  <path class="f0" d="M100 540h260v180h-260z"/><text x="420" y="668">executes</text>
-  <path class="wa i0" d="M1100 630h260"/><text x="1420" y="668">waits for a task above, in its colour</text>
-  <path class="wb d0" d="M3716 630h240"/><text x="4020" y="668">is blocked by a task below, in the lock's tone</text>
-  <path class="wa in" d="M6900 630h260"/><text x="7220" y="668">waits for several above</text>
-  <path class="a" d="M8760 570l60 60-60 60m60-120l60 60-60 60"/><text x="8960" y="668">goes on</text>
-  <path class="w" d="M100 790h260v180h-260z"/><path class="b" d="M360 780h-35m35 0v40m0 120v40h-35"/><text x="420" y="918">arrival to bound</text>
-  <path class="a" d="M1560 940v-110m-35 50l35-50 35 50"/><text x="1650" y="918">arrival</text>
-  <path class="r" d="M2260 880h200"/><text x="2520" y="918">not ready yet</text>
-  <path class="d" d="M3460 820v110m0 0l-35-50h70z"/><text x="3550" y="918">deadline</text>
-  <path class="x" d="M4330 880h1"/><path class="y" d="M4330 880m-38-38l76 76m0-76l-76 76"/><text x="4450" y="918">missed</text>
-  <path class="g" d="M1960 1230V3130"/><text class="s" x="1960" y="1200">0</text>
-  <path class="g" d="M3200 1230V3130"/><text class="s" x="3200" y="1200">2</text>
-  <path class="g" d="M4440 1230V3130"/><text class="s" x="4440" y="1200">4</text>
-  <path class="g" d="M5680 1230V3130"/><text class="s" x="5680" y="1200">6</text>
-  <path class="g" d="M6920 1230V3130"/><text class="s" x="6920" y="1200">8</text>
-  <path class="g" d="M8160 1230V3130"/><text class="s" x="8160" y="1200">10</text>
-  <path class="g" d="M9400 1230V3130"/><text class="s" x="9400" y="1200">12</text>
-  <path class="l" d="M1960 1570H9400"/>
-  <path class="g" d="M100 1690H9400"/><path class="l" d="M1960 2035H9400"/>
-  <path class="g" d="M100 2170H9400"/><path class="l" d="M1960 2515H9400"/>
-  <path class="g" d="M100 2650H9400"/><path class="l" d="M1960 2995H9400"/>
-  <g id="n">
-  <text x="500" y="1200">time in ms</text>
-  <text class="n" x="500" y="1460">processor</text><text x="500" y="1580">busy 91.6 %</text>
-  <text class="v" x="300" y="1920">3</text><rect class="f0" x="350" y="1820" width="100" height="100" rx="20"/>
-  <text class="n" x="500" y="1920"><title>done: 1, greatest response: 3000, bound: 3000 us</title>b</text>
-  <text x="500" y="2045">bound 3 of 12 ms</text>
-  <text class="v" x="300" y="2400">2</text><rect class="f1" x="350" y="2300" width="100" height="100" rx="20"/>
-  <text class="n" x="500" y="2400"><title>done: 2, greatest response: 7000, bound: 7000 us</title>a</text>
-  <text x="500" y="2525">bound 7 of 7 ms</text>
-  <text class="v" x="300" y="2880">1</text><rect class="f2" x="350" y="2780" width="100" height="100" rx="20"/>
-  <text class="n" x="500" y="2880"><title>done: 0, greatest response: -, bound: 20000 us</title>c</text>
-  <text x="500" y="3005">bound 20 of 20 ms</text>
-  </g>
-  <g id="k">
-  </g>
-  <path class="f0 o" d="M2580 1350H4440v220H2580z"><title>b executes 1000 to 4000 us</title></path>
-  <text class="u" x="3510" y="1498">b</text>
-  <path class="f1 o" d="M4440 1350H6300v220H4440z"><title>a executes 4000 to 7000 us</title></path>
-  <text class="u" x="5370" y="1498">a</text>
-  <path class="f1 o" d="M6300 1350H8160v220H6300z"><title>a executes 7000 to 10000 us</title></path>
-  <text class="u" x="7230" y="1498">a</text>
-  <path class="f2 o" d="M8160 1350H9400v220H8160z"><title>c executes 10000 to 12000 us</title></path>
-  <text class="u" x="8780" y="1498">c</text>
-  <path class="w" d="M1960 2335H6300v180H1960z"><title>a: arrival 0, done 7000, response 7000, bound 7000, deadline 7000 us</title></path>
-  <path class="w" d="M2580 1855H4440v180H2580z"><title>b: arrival 1000, done 4000, response 3000, bound 3000, deadline 12000 us</title></path>
-  <path class="w" d="M2580 2815H9400v180H2580z"><title>c: arrival 1000, not done, bound 20000, deadline 20000 us</title></path>
-  <path class="a" d="M9400 2845m20 0l60 60-60 60m60-120l60 60-60 60"/>
-  <path class="w" d="M6300 2335H9400v180H6300z"><title>a: arrival 7000, done 10000, response 3000, bound 7000, deadline 7000 us</title></path>
-  <path class="r" d="
-  M1960 2425H2580
-  "/>
-  <path class="a" d="
-  M1960 2620v-100m-35 50l35-50 35 50
-  M2580 2140v-100m-35 50l35-50 35 50
-  M2580 3100v-100m-35 50l35-50 35 50
-  M6300 2620v-100m-35 50l35-50 35 50
-  "/>
-  <path class="b" d="
-  M6300 2325h-35m35 0v40m0 120v40h-35
-  M4440 1845h-35m35 0v40m0 120v40h-35
-  "/>
-  <path class="d" d="
-  M6300 2230v100m0 0l-35-50h70z
-  "/>
-  <path class="wa i0" d="M2580 2425H4440"><title>a waits for b 1000 to 4000 us</title></path>
-  <text class="wl" x="3510" y="2395">b</text>
-  <path class="wa i0" d="M2580 2905H4440"><title>c waits for b 1000 to 4000 us</title></path>
-  <text class="wl" x="3510" y="2875">b</text>
-  <path class="wa i1" d="M4440 2905H6300"><title>c waits for a 4000 to 7000 us</title></path>
-  <text class="wl" x="5370" y="2875">a</text>
-  <path class="wa i1" d="M6300 2905H8160"><title>c waits for a 7000 to 10000 us</title></path>
-  <text class="wl" x="7230" y="2875">a</text>
-  <path class="e f0" d="M2580 1855H4440v180H2580z"><title>b 1000 to 4000 us</title></path>
-  <path class="e f1" d="M4440 2335H6300v180H4440z"><title>a 4000 to 7000 us</title></path>
-  <path class="e f1" d="M6300 2335H8160v180H6300z"><title>a 7000 to 10000 us</title></path>
-  <path class="e f2" d="M8160 2815H9400v180H8160z"><title>c 10000 to 12000 us</title></path>
-  </svg>
+  $ read_all() { sed -nE 's/<title>[^<]*<.title>//g; s/<.text>/&\n/gp' "$1" | sed -nE 's/.*<text[^>]*>(.*)<.text>/\1/p' | paste -sd '|' | sed 's/|/ | /g'; }
+  $ printf 'until 12000\n0 a 1000\n1000 b\n1000 c\n7000 a\n' | desk draw examples/jitter.toml - > run.svg
+  $ read_all run.svg
+  no deadline missed | tasks: 3, jobs: 4, until 12 ms | executes | waits for a task above, in its colour | is blocked by a task below, in the lock's tone | waits for several above | goes on | arrival to bound | arrival | not ready yet | deadline | missed | 0 | 2 | 4 | 6 | 8 | 10 | 12 | time in ms | processor | busy 91.6 % | 3 | b | bound 3 of 12 ms | 2 | a | bound 7 of 7 ms | 1 | c | bound 20 of 20 ms | b | a | a | c | b | b | a | a
 
 A list's own order, in which hi has no bound and misses its deadline: what is hatched behind the deadline says so, a badge
-stands on it, and above how many they are. Where none is missed, that stands above:
+stands on it, and above and in its row how many they are, below its deadline. Where none is missed, that stands above:
 
   $ printf 'thread lo 1\nthread hi 2\nuntil 12000\n0 lo\n1001 hi\n' | desk draw examples/blocked-out.toml - > missed.svg
   $ grep -o '<title>hi: arrival .*</title>' missed.svg
@@ -306,9 +171,12 @@ stands on it, and above how many they are. Where none is missed, that stands abo
   $ grep -o '<title>done: 1, .*' missed.svg
   <title>done: 1, greatest response: 4499, bound: - us</title>hi</text>
   <title>done: 1, greatest response: 12000, bound: 14000 us</title>lo</text>
-  $ grep -o 'deadlines missed: .*' missed.svg
-  deadlines missed: 1</text>
-  deadlines missed: 1</text>
+  $ grep -A 2 '<.title>hi<' missed.svg | sed -E 's/<title>.*<.title>//; s/<[^>]*>//g'
+  hi
+  deadline 4.4 ms
+  deadlines missed: 1
+  $ grep -c 'class="t q".*deadlines missed: 1<' missed.svg
+  1
   $ grep -o 'no deadline missed' run.svg
   no deadline missed
 
@@ -403,10 +271,21 @@ What the bounds count, and the run lacks, its second line says:
   > period = 5000
   > cost = 10
   > END
-  $ printf 'until 3000\n0 lo\n' | desk draw timed.toml - --to 2000 2> note | grep -o 'tasks: .*ms<'
-  tasks: 3, jobs: 1, until 3 ms, timers and interrupts in the bounds alone, shown: 0 to 2 ms<
+  $ printf 'until 3000\n0 lo\n' | desk draw timed.toml - --to 2000 2> note | grep -o 'tasks: .*shown.*<'
+  tasks: 3, jobs: 1, until 3000 us, timers and interrupts in the bounds alone, shown: 0 to 2000 us<
   $ cat note
   note: what timers and interrupts take is in the bounds, and not in the run
+
+The names of several locks stand below the bar, and one name on its stripe; waits are 6 pixels high:
+
+  $ printf "task = [\n{ name = 'a', period = 9000, deadline = 9000, cost = 6000, section = [{ locks = ['m', 'n'], at = 1000, len = 2000 }, { locks = ['n'], at = 4000, len = 1000 }] },\n{ name = 'b', period = 9000, deadline = 9000, cost = 1000, section = [{ locks = ['m'], at = 0, len = 1 }] },\n]\n" > nested.toml
+  $ printf 'until 9000\n0 a\n0 b\n' | desk draw nested.toml - > nested.svg 2> note
+  $ sed -nE 's/^<text class="([km])" .*>(.*)<.text>/\1\2/p' nested.svg
+  m m n
+  k n
+  $ grep -oE '[.]w[ab][{]stroke-width:[0-9]+' nested.svg
+  .wa{stroke-width:60
+  .wb{stroke-width:60
 
 A stripe isn't wider than its lock is held, and the last number of the scale stays in the picture:
 
@@ -415,7 +294,7 @@ A stripe isn't wider than its lock is held, and the last number of the scale sta
   <path class="h" d="M1960 1855H1961v180H1960z"
   <path class="k0" d="M1960 1855H1961v180H1960z"
   $ printf 'until 60000000\n0 hi\n' | desk draw examples/shared-lock.toml - --from 59000000 --to 59003000 | sed -nE 's/.*x="([0-9]*)" y="1200">(.*)<.text>/\1 \2/p' | tail -n 3
-  8160 59002500
+  8174 59002500
   9310 59003000
   500 time in us
 

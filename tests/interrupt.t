@@ -268,7 +268,7 @@ no line.
   refused: TooManyInterrupts
   [4]
   $ cat said
-  teams: the teams and node.toml have more than 8 interrupts together
+  teams: the documents have more than 8 interrupts together
   $ printf '[[interrupt]]\ncost = 101\nperiod = 100\n' >> teams/three.toml
   $ desk admit teams 2> said
   refused: team three BadInterrupt 7

@@ -75,6 +75,57 @@ Refused, each over the whole text before the next:
   refused: MissingLock n
   [4]
 
+A mutex may stand above the highest user of its lock. Its sections then hold up each thread up to that number, also at it:
+lo's 4000 hold up hi, which uses no lock, and at 2 only mid.
+
+  $ cat > raised.toml << END
+  > [[task]]
+  > name = "hi"
+  > weight = 3
+  > period = 10000
+  > deadline = 4900
+  > cost = 1000
+  > [[task]]
+  > name = "mid"
+  > weight = 2
+  > period = 20000
+  > deadline = 20000
+  > cost = 2000
+  > section = [{ locks = ["m"], at = 0, len = 500 }]
+  > [[task]]
+  > name = "lo"
+  > weight = 1
+  > period = 100000
+  > deadline = 100000
+  > cost = 20000
+  > section = [{ locks = ["m"], at = 100, len = 4000 }]
+  > END
+  $ raised() { printf "thread lo 10\nthread mid 20\nthread hi 30\nmutex m $1\n"; }
+  $ raised 29 | desk judge raised.toml -
+  meets 3
+  1 lo 27000 of 100000 at 10
+  2 mid 7000 of 20000 at 20
+  3 hi 1000 of 4900 at 30
+  $ for number in 30 99 1000000; do raised $number | desk judge raised.toml -; done | sort | uniq -c | sed 's/^ *//'
+  3 1 lo 27000 of 100000 at 10
+  3 2 mid 7000 of 20000 at 20
+  3 3 hi misses 4900 needs 5000 at 30
+  3 misses hi
+  $ raised 19 | desk judge raised.toml -
+  refused: WrongCeiling m
+  [4]
+  $ printf 'thread hi 1\nthread mid 2\nthread lo 3\nmutex m 1\n' | desk judge raised.toml - --lower-is-higher | tail -n 1
+  3 hi misses 4900 needs 5000 at 1
+
+All else counts by the least ceilings, and so takes no others:
+
+  $ raised 99 > raised
+  $ for command in explain limits worst; do desk $command raised.toml --at raised; done
+  refused: WrongCeiling m
+  refused: WrongCeiling m
+  refused: WrongCeiling m
+  [4]
+
 Where a smaller number is a higher priority, the highest user of a lock has the smallest number:
 
   $ printf 'thread hi 1\nthread mid 5\nthread lo 9\nmutex m 1\n' > rtems

@@ -317,18 +317,48 @@ One that takes nine tenths of all time is the one change that mends the set; one
   all - 500 x
   [3]
 
-An order that doesn't pass has no limits: it is judged, whichever task is asked about:
+Of an order that fails each single change that mends it has a line, also where another order passes. With c on top a needs
+8000, and b, lowest, two jobs of a and one of c beside its own 3000: 14000. Each job of a gives 1000 of its 3000, or c 2000
+of its 5000; or a comes every 11000 and has as long: b is then done as a's second job comes.
 
   $ printf 'thread b 10\nthread a 20\nthread c 30\n' > down
   $ desk limits examples/three-tasks.toml --at down --task c
   misses a b
-  1 b misses 12000 needs 14000 at 10
-  2 a misses 7000 needs 8000 at 20
-  3 c 5000 of 20000 at 30
+  c cost 5000 3000 5000
   [3]
-  $ desk judge examples/three-tasks.toml down > judged
+  $ desk limits examples/three-tasks.toml --at down
+  misses a b
+  a cost 3000 2000 3000
+  a deadline 7000 11000 3000 with period 11000 7000
+  c cost 5000 3000 5000
+  all 857 1000 c
   [3]
-  $ desk limits examples/three-tasks.toml --at down | cmp - judged
+
+With a lowest it needs 11000. Its deadline takes the period along in that order, and not in the best one:
+
+  $ printf 'thread a 1\nthread b 2\nthread c 3\n' > up
+  $ desk limits examples/three-tasks.toml --at up
+  misses a
+  a deadline 7000 11000 3000 with period 11000 7000
+  c cost 5000 1000 5000
+  all 636 1000 c
+  [3]
+  $ sed 's/cost = 5000/cost = 1000/' examples/three-tasks.toml | desk judge - up | head -n 1
+  meets 3
+  $ sed 's/cost = 5000/cost = 1001/' examples/three-tasks.toml | desk judge - up | head -n 1
+  misses a
+
+Where a task stands below one that it must outrank, no number mends the order, and no factor:
+
+  $ printf '[[task]]\nname = "a"\nperiod = 1000\ndeadline = 1000\ncost = 900\noutranks = ["b"]\n[[task]]\nname = "b"\nperiod = 9000\ndeadline = 9000\ncost = 90\n' > pair.toml
+  $ printf 'thread a 1\nthread b 2\n' | desk limits pair.toml --at -
+  misses a
+  no single change
+  all - 1098 b
+  [3]
+  $ printf 'thread a 1\nthread b 2\n' | desk limits pair.toml --at - --task a
+  misses a
+  [3]
 
 In the best order the numbers are as without settings; the empty set has none:
 

@@ -55,6 +55,27 @@ A section longer than its sheet says, for which hi waits too long:
   bound hi 100 5001 of 5000 after blocked hi 100
   [3]
 
+Each that executed below it is named, the longest first, of equals the lowest; not who did so before it waited, nor a task above:
+
+  $ cat > below.toml <<'END'
+  > task = [
+  >   { name = "top", period = 9000, deadline = 9000, cost = 500, weight = 4 },
+  >   { name = "hi", period = 10000, deadline = 10000, cost = 1000, weight = 3 },
+  >   { name = "mid", period = 20000, deadline = 20000, cost = 500, weight = 2 },
+  >   { name = "low", period = 50000, deadline = 50000, cost = 500, weight = 1 },
+  >   { name = "bg", period = 100000, deadline = 100000, cost = 7000, weight = 0 },
+  > ]
+  > END
+  $ below() { printf "$1job hi 100 9000\njob mid 100 9000\njob low 100 9000\njob top 100 9000\n" | desk observe below.toml - --jobless $2 $3 | grep ^blocked; }
+  $ below 'job bg 0 -\n0 1100 bg\n1100 1200 low\n1200 1500 top\n1500 1600 mid\n1600 1700 bg\n1700 1850 low\n1850 2850 hi\n2850 2950 mid\n'
+  blocked hi 100 1550 of 0 by bg 1100, low 250, mid 200
+  blocked mid 100 1350 of 0 by bg 1100, low 250
+  blocked low 100 1100 of 0 by bg 1100
+  blocked top 100 2550 of 0 by bg 1100, hi 1000, low 250, mid 200
+  $ below '100 300 mid\n300 500 low\n' --tolerance 399
+  blocked hi 100 400 of 0 by low 200, mid 200
+  blocked top 100 400 of 0 by low 200, mid 200
+
 A job that isn't done when the trace ends, its bound past; until then it may be open:
 
   $ observed '0 500 hi\njob hi 0 -\njob irq 5000 -\n' --tolerance 4500
@@ -313,7 +334,7 @@ sched script` of a run of examples/posix/measure.c, with a thread `foreign` abov
   task mid 1 2048 2000 - 20000 18280 7000
   task hi 1 1015 1000 - 10000 10228 5000
   cost lo 0 20245 of 20000
-  foreign lo 0 36051 by desk-unproved
+  foreign lo 0 36051 by foreign
   foreign hi 997 6009 by foreign
   foreign mid 999 12015 by foreign
   bound lo 0 59359 of 27000 after cost lo 0

@@ -261,7 +261,7 @@ Who has the right may not say otherwise, nor more than the node has room for:
   $ for n in 1 2 3 4 5 6 7 8; do tick 100000 $n; done > exact/cam.toml
   $ desk admit exact
   refused: TooManyInterrupts
-  (on standard error) exact: the teams and node.toml have more than 8 interrupts together
+  (on standard error) exact: the documents have more than 8 interrupts together
   [4]
   $ task p 3000 2990 > exact/cam.toml
   $ desk admit exact

@@ -435,8 +435,10 @@ Each refusal, and which comes first; of two locks either both mutexes stand or n
   refused: MissingTask mid
   refused: MissingTask hi
   refused: WrongCeiling m
-  refused: WrongCeiling m
-  [4]
+  meets 3
+  1 lo 27000 of 100000 at 1
+  2 mid 7000 of 20000 at 2
+  3 hi 5000 of 10000 at 3
   $ { task x 10000 10000 1000 'section = [{ locks = ["m", "n"], at = 0, len = 100 }]'; task y 20000 20000 2000 'section = [{ locks = ["n"], at = 0, len = 200 }]'; } > two-locks.toml
   $ for mutexes in '' 'mutex n 2\nmutex m 1\n' 'mutex n 2\n' 'mutex m 2\n' 'mutex m 2\nmutex n 1\n' 'mutex n 1\nmutex m 1\n'; do printf "thread x 1\nthread y 2\n$mutexes" | desk judge two-locks.toml - 2> told; done
   meets 2
@@ -447,7 +449,7 @@ Each refusal, and which comes first; of two locks either both mutexes stand or n
   2 y 2100 of 20000 at 2
   refused: MissingLock m
   refused: MissingLock n
-  refused: WrongCeiling m
+  refused: WrongCeiling n
   refused: WrongCeiling n
   [4]
 
@@ -653,7 +655,7 @@ second job isn't done at the end:
   <svg xmlns="http://www.w3.org/2000/svg" version="1.1" width="960" height="312" viewBox="0 0 9600 3120">
   <title>tasks: 2, jobs: 3, until 1300 us</title>
   <text class="t" x="100" y="200">no deadline missed</text>
-  <text x="100" y="390">tasks: 2, jobs: 3, until 1.3 ms</text>
+  <text x="100" y="390">tasks: 2, jobs: 3, until 1300 us</text>
   <path class="g" d="M1960 1230V2650"/><text class="s" x="1960" y="1200">0</text>
   <path class="g" d="M3104 1230V2650"/><text class="s" x="3104" y="1200">200</text>
   <path class="g" d="M4249 1230V2650"/><text class="s" x="4249" y="1200">400</text>
@@ -669,10 +671,10 @@ second job isn't done at the end:
   <text class="n" x="500" y="1460">processor</text><text x="500" y="1580">busy 88.4 %</text>
   <text class="v" x="300" y="1920">2</text><rect class="f0" x="350" y="1820" width="100" height="100" rx="20"/>
   <text class="n" x="500" y="1920"><title>done: 1, greatest response: 450, bound: 550 us</title>a</text>
-  <text x="500" y="2045">bound 0.55 of 0.9 ms</text>
+  <text x="500" y="2045">bound 550 of 900 us</text>
   <text class="v" x="300" y="2400">1</text><rect class="f1" x="350" y="2300" width="100" height="100" rx="20"/>
   <text class="n" x="500" y="2400"><title>done: 1, greatest response: 900, bound: 900 us</title>b</text>
-  <text x="500" y="2525">bound 0.9 of 2 ms</text>
+  <text x="500" y="2525">bound 900 of 2000 us</text>
   </g>
   <g id="k">
   <text x="100" y="2898">holds a lock:</text>
@@ -706,10 +708,10 @@ second job isn't done at the end:
   M7396 1750v100m0 0l-35-50h70z
   "/>
   <path class="wa i0" d="M3104 2425H4821"><title>b waits for a 200 to 500 us</title></path>
-  <text class="wl" x="3962" y="2395">a</text>
-  <path class="wb d0" d="M2548 1945H3088"><title>a is blocked by b with m 100 to 200 us</title></path>
+  <text class="wl" x="3962" y="2375">a</text>
+  <path class="wb d0" d="M2562 1945H3074"><title>a is blocked by b with m 100 to 200 us</title></path>
   <path class="wj d0" d="M3104 1945V2335"/>
-  <text class="wl" x="2818" y="1915">b</text>
+  <text class="wl" x="2818" y="1895">b</text>
   <path class="e f1" d="M1960 2335H3104v180H1960z"><title>b 0 to 200 us</title></path>
   <path class="h" d="M1960 2335H3104v180H1960z"><title>b holds m 0 to 200 us</title></path>
   <path class="k0" d="M1960 2335H3104v180H1960z"/>
@@ -734,7 +736,7 @@ a below b misses its deadline:
   <title>tasks: 2, jobs: 3, until 1250 us</title>
   <path class="x" d="M190 150h1"/><path class="y" d="M190 150m-38-38l76 76m0-76l-76 76"/>
   <text class="t q" x="320" y="200">deadlines missed: 1</text>
-  <text x="100" y="390">tasks: 2, jobs: 3, until 1.25 ms</text>
+  <text x="100" y="390">tasks: 2, jobs: 3, until 1250 us</text>
   <path class="g" d="M1960 1230V2650"/><text class="s" x="1960" y="1200">0</text>
   <path class="g" d="M3150 1230V2650"/><text class="s" x="3150" y="1200">200</text>
   <path class="g" d="M4340 1230V2650"/><text class="s" x="4340" y="1200">400</text>
@@ -750,10 +752,11 @@ a below b misses its deadline:
   <text class="n" x="500" y="1460">processor</text><text x="500" y="1580">busy 92.0 %</text>
   <text class="v" x="300" y="1920">2</text><rect class="f0" x="350" y="1820" width="100" height="100" rx="20"/>
   <text class="n" x="500" y="1920"><title>done: 1, greatest response: 600, bound: 600 us</title>b</text>
-  <text x="500" y="2045">bound 0.6 of 2 ms</text>
+  <text x="500" y="2045">bound 600 of 2000 us</text>
   <text class="v" x="300" y="2400">1</text><rect class="f1" x="350" y="2300" width="100" height="100" rx="20"/>
   <text class="n q" x="500" y="2400"><title>done: 1, greatest response: 900, bound: - us</title>a</text>
-  <text class="q" x="500" y="2525">deadlines missed: 1</text>
+  <text x="500" y="2525">deadline 500 us</text>
+  <text class="q" x="500" y="2630">deadlines missed: 1</text>
   </g>
   <g id="k">
   </g>
@@ -783,7 +786,7 @@ a below b misses its deadline:
   <path class="z" d="M4936 2315H7316v220H4936z"><title>a: arrival 0, done 900, response 900, deadline 500 us missed</title></path>
   <path class="x" d="M4936 2255h1"/><path class="y" d="M4936 2255m-38-38l76 76m0-76l-76 76"/>
   <path class="wa i0" d="M1960 2425H5531"><title>a waits for b 0 to 600 us</title></path>
-  <text class="wl" x="3745" y="2395">b</text>
+  <text class="wl" x="3745" y="2375">b</text>
   <path class="e f0" d="M1960 1855H5531v180H1960z"><title>b 0 to 600 us</title></path>
   <path class="e f1" d="M5531 2335H7316v180H5531z"><title>a 600 to 900 us</title></path>
   <path class="e f1" d="M7912 2335H9400v180H7912z"><title>a 1000 to 1250 us</title></path>
@@ -796,7 +799,7 @@ No task, and no time:
   <svg xmlns="http://www.w3.org/2000/svg" version="1.1" width="960" height="181" viewBox="0 0 9600 1810">
   <title>tasks: 0, jobs: 0, until 0 us</title>
   <text class="t" x="100" y="200">no deadline missed</text>
-  <text x="100" y="390">tasks: 0, jobs: 0, until 0 ms</text>
+  <text x="100" y="390">tasks: 0, jobs: 0, until 0 us</text>
   <path class="g" d="M1960 1230V1690"/><text class="s" x="1960" y="1200">0</text>
   <path class="g" d="M9400 1230V1690"/><text class="s" x="9400" y="1200">1</text>
   <path class="l" d="M1960 1570H9400"/>

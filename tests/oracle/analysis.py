@@ -3,6 +3,8 @@
 `tasks` is a set by rank, a task is its index, `above` a set of indexes, an order a list of indexes, lowest first.
 """
 
+import math
+from fractions import Fraction
 from typing import NamedTuple
 
 
@@ -68,12 +70,12 @@ def demand_of(tasks, i, above, t):
     return tasks[i].cost + blocking_of(tasks, i, above) + interference + interrupts_within(tasks, t)
 
 
-def trail(tasks, i, above):
+def trail(tasks, i, above, blocked=blocking_of):
     """1, its demand, the demand of that, .. up to the first that is its own demand or is past the limit.
 
     Demands rise with t, so the former is the least that is its own demand, and the latter shows that there is none.
     """
-    fixed = tasks[i].cost + blocking_of(tasks, i, above)
+    fixed = tasks[i].cost + blocked(tasks, i, above)
     others = [(tasks[h].jitter, tasks[h].period, tasks[h].cost) for h in above]
     others += [(task.jitter, task.period, task.node.release) for task in tasks]
     others += [(0, period, cost) for period, cost in interrupts_of(tasks)]
@@ -88,13 +90,13 @@ def trail(tasks, i, above):
     return times
 
 
-def passes(tasks, i, above):
-    return trail(tasks, i, above)[-1] <= tasks[i].limit
+def passes(tasks, i, above, blocked=blocking_of):
+    return trail(tasks, i, above, blocked)[-1] <= tasks[i].limit
 
 
-def response_of(tasks, i, above):
+def response_of(tasks, i, above, blocked=blocking_of):
     """The jitter and the least t that is its own demand."""
-    return tasks[i].jitter + trail(tasks, i, above)[-1]
+    return tasks[i].jitter + trail(tasks, i, above, blocked)[-1]
 
 
 def is_chain(tasks, i, above, numbers):
@@ -209,17 +211,12 @@ def first_blocker(tasks, i, above):
     return None
 
 
-def share(cost, period):
-    """In millionths, rounded up."""
-    return -(-cost * 1_000_000 // period)
-
-
 def share_of_tasks(tasks):
-    """What the tasks take, without timers and interrupts."""
-    return sum(share(task.cost, task.period) for task in tasks)
+    """What the tasks take of the processor, without timers and interrupts."""
+    return sum(Fraction(task.cost, task.period) for task in tasks)
 
 
 def load(tasks):
-    """What the tasks take, each task's timer, and each interrupt."""
-    timers = sum(share(task.node.release, task.period) for task in tasks)
-    return share_of_tasks(tasks) + timers + sum(share(cost, period) for period, cost in interrupts_of(tasks))
+    """What the tasks take, each task's timer, and each interrupt, in millionths, rounded up once."""
+    timed = sum(Fraction(task.node.release, task.period) for task in tasks)
+    return math.ceil(1_000_000 * (share_of_tasks(tasks) + timed + sum(Fraction(cost, period) for period, cost in interrupts_of(tasks))))

@@ -221,17 +221,17 @@ def limits_of(tasks, task):
 
 
 def limits_at(tasks, order, rows, task):
-    """The same of an order that is given, where that passes; else what `judge` says of it."""
-    if not analysis.is_passing_order(tasks, order):
-        return settings.judge(tasks, order, rows)
-    return settings.first_judged(tasks, order)[0] + limits_in(tasks, order, task), 0
+    """The same of an order that is given: where that fails, of what helps it."""
+    first, status = settings.first_judged(tasks, order)
+    return first + limits_in(tasks, order, task), status
 
 
 def limits_in(tasks, order, task):
-    """How far the numbers of a task may go, or of all, in an order that passes, if any, and in some order."""
+    """How far the numbers of a task may go, or of all, in an order, if any, and in some order."""
     text = []
+    is_passing = order is not None and analysis.is_passing_order(tasks, order)
     in_order = lambda other: order is not None and analysis.is_passing_order(other, order)
-    bounds = {} if order is None else bounds_of(tasks, order)
+    bounds = bounds_of(tasks, order) if is_passing else {}
     for i, sheet in enumerate(tasks):
         if task not in (None, i):
             continue
@@ -240,22 +240,26 @@ def limits_in(tasks, order, task):
             most = own_of(sheet, number, found)
             if most is not None:
                 found_in = limits.furthest(tasks, i, number, in_order)
-                in_this = or_dash(own_of(sheet, number, found_in))
+                in_this = own_of(sheet, number, found_in)
+                if order is not None and in_this is None:
+                    continue
                 value = own_of(sheet, number, number.value(sheet))
                 along = along_with(sheet, number, [found_in, found])
                 holds = number.held_by(sheet, found)
                 held = "" if holds is None else f" by {holds}"
-                text.append(f"{sheet.name} {number.words()} {value} {in_this} {most}{along}{held}\n")
-        if order is not None:
+                text.append(f"{sheet.name} {number.words()} {value} {or_dash(in_this)} {most}{along}{held}\n")
+        if is_passing:
             text.append(f"{sheet.name} slack {sheet.deadline - bounds[i]}\n")
     if tasks and task is None:
         for number in limits.common_numbers(tasks):
             most = limits.furthest_common(tasks, number, analysis.is_feasible)
             if most is not None:
-                own = or_dash(limits.furthest_common(tasks, number, in_order))
+                own = limits.furthest_common(tasks, number, in_order)
+                if order is not None and own is None:
+                    continue
                 held = number.held(most)
-                text.append(f"{number.words} {number.value} {own} {most}{'' if held is None else f' by {held}'}\n")
-    if order is None and task is None and not text:
+                text.append(f"{number.words} {number.value} {or_dash(own)} {most}{'' if held is None else f' by {held}'}\n")
+    if not is_passing and task is None and not text:
         text.append("no single change\n")
     if tasks and task is None:
         greatest = limits.factor(tasks)
@@ -269,9 +273,9 @@ def limits_in(tasks, order, task):
 def along_with(sheet, number, values):
     """What goes along with values of a number, of which the last is the furthest: the other number with each that there is."""
     other = number.taken_along()
-    if other is None or other.value(number.with_value(sheet, values[-1])) == other.value(sheet):
+    with_each = [] if other is None else [other.value(number.with_value(sheet, it)) for it in values if it is not None]
+    if all(it == other.value(sheet) for it in with_each):
         return ""
-    with_each = [other.value(number.with_value(sheet, it)) for it in values if it is not None]
     return " ".join([f" with {other.words()}", *map(str, with_each)])
 
 
@@ -319,7 +323,8 @@ def judge(tasks, rows, lower_is_higher=False):
     heights = rows
     if lower_is_higher:
         heights = [(line, kind, name, -number) for line, kind, name, number in rows]
-    return settings.judge(tasks, settings.node_order(tasks, heights), rows)
+    order = settings.node_order(tasks, heights, may_raise=True)
+    return settings.judge(tasks, order, rows, settings.blocked_by(heights))
 
 
 def simulate(tasks, said, of_tasks=False):

@@ -212,6 +212,9 @@ def settings_of(rng, tasks):
     lines = [re.sub(r"\d+$", lambda level: str(numbers[int(level[0])]), line) for line in lines]
     if rng.random() < 0.4:
         lines = [line for line in lines if line.startswith("thread")]
+    if rng.random() < 0.3:
+        ceiling = lambda least: str(rng.choice([int(least[0]), numbers[-1], max(99, numbers[-1]), rng.randint(int(least[0]), max(int(least[0]), 1_000_000))]))
+        lines = [re.sub(r"\d+$", ceiling, line) if line.startswith("mutex") else line for line in lines]
     if rng.random() < 0.6:
         rng.shuffle(lines)
     if lines and rng.random() < 0.1:

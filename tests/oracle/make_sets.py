@@ -236,7 +236,7 @@ def teams_of(rng, sheets, text_of):
 def node_of(rng, parts, sheets, said=b""):
     """The node's document, which says this for all: what teams may take, near what they take, and which may say what is the
     node's; some of it is wrong."""
-    total, longest = analysis.share_of_tasks(sheets) // 1000, max((part.len for sheet in sheets for part in sheet.sections), default=0)
+    total, longest = int(1000 * analysis.share_of_tasks(sheets)), max((part.len for sheet in sheets for part in sheet.sections), default=0)
     out, free = "", rng.random() < 0.4
     for team in rng.sample([team for team, _ in parts], len(parts) if free else rng.randrange(len(parts) + 1)):
         out += rng.choice([f"[team.{team}]\n", f"[team.{team}]\n", f'[team."{team}"]\n'])

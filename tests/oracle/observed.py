@@ -113,7 +113,7 @@ class Seen:
             culprits = ", ".join(f"{name} {time}" for name, time in self.culprits())
             yield f"blocked {at} {total(self.below)} of {self.may_be_blocked} by {culprits}"
         if past(total(self.foreign), self.may_be_taken):
-            yield f"foreign {at} {total(self.foreign)}{limit(self.may_be_taken)} by {self.foreign[0][0]}"
+            yield f"foreign {at} {total(self.foreign)}{limit(self.may_be_taken)} by {self.stranger()}"
         left = max(0, self.may_be_taken - total(self.foreign))
         if past(self.idle, left):
             yield f"idle {at} {self.idle}{limit(left)}"
@@ -125,8 +125,13 @@ class Seen:
             yield f"open {at}" if self.job.finish is None else f"bound {at} {self.lasted} of {self.bound}"
 
     def culprits(self):
-        """The two tasks below that executed longest while it waited."""
-        return longest(self.below, self.levels)[:2]
+        """The tasks below that executed while it waited, and for how long, the longest first."""
+        return longest(self.below, self.levels)
+
+    def stranger(self):
+        """The thread that isn't the set's which executed longest while it waited, of equals the first."""
+        names = list(dict.fromkeys(name for name, _ in self.foreign))
+        return max(names, key=lambda name: total(share for share in self.foreign if share[0] == name))
 
     def delays(self, other, tolerance):
         """Whether it may have delayed another job, or itself."""

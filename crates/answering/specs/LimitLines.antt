@@ -5,8 +5,9 @@ use Rattle.assignment.specs.Places.{PlaceData}
 use Rattle.limit_lines.specs.Lines.{AreTaskLines}
 
 -- the text is the lines of the first tasks of a set, by rank
-abbrev pub AreLines : List Task → Option (List PlaceData) → ℕ → List ℕ → Type 0
-AreLines U places zero text = text ≡ []
-AreLines U places (suc k) text =
-    (front : List ℕ) × (lines : List ℕ) × AreLines U places k front × AreTaskLines U places k lines
+abbrev pub AreLines : List Task → Option (List ℕ) → Option (List PlaceData) → ℕ → List ℕ → Type 0
+AreLines U order places zero text = text ≡ []
+AreLines U order places (suc k) text =
+    (front : List ℕ) × (lines : List ℕ) × AreLines U order places k front
+    × AreTaskLines U order places k lines
     × (text ≡ front ++ lines)

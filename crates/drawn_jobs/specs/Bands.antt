@@ -8,9 +8,9 @@ use Rattle.run_lines.specs.Reached.{done_of, response_of}
 use Rattle.ceiling_kernel.specs.declared.trace.JobRecord.{JobRecord}
 use Rattle.pieces.specs.Bands.{is_of, all_of, arrival_of, joins, stretch_of}
 use Rattle.frames.specs.declared.rows.TaskRow.{TaskRow}
-use Rattle.frames.specs.Frame.{Frame, x_of, is_in, sees, right_of, top_of}
+use Rattle.frames.specs.Frame.{Frame, x_of, in_millis, is_in, sees, right_of, top_of}
 use Rattle.frames.specs.Rows.{record_at, each, on_spot}
-use Rattle.frames.specs.Numbers.{known_text, millis_text}
+use Rattle.frames.specs.Numbers.{known_text, time_text, unit_text}
 use Rattle.drawn_jobs.specs.Jobs.{limit_of, limit_path, goes_on, sign_text, signs_text, job_text}
 
 -- how many microseconds 20 pixels are: arrivals of a task that are less apart are too close
@@ -31,18 +31,18 @@ band_words done greatest bound deadline =
     ∷ greatest_words done greatest ∷ codes ", bound " ∷ known_text bound
     ∷ codes ", deadline " ∷ decimal deadline ∷ codes " us</title></path>\n" ∷ [])
 
--- behind the number of jobs, where there is room: the greatest response in milliseconds, if some job is done
-abbrev pub wide_words : (wide done greatest : ℕ) → List ℕ
-wide_words wide done greatest =
+-- behind the number of jobs, where there is room: the greatest response in the picture's unit, if some job is done
+abbrev pub wide_words : (millis : Bool) → (wide done greatest : ℕ) → List ℕ
+wide_words millis wide done greatest =
     if nat_lt wide 1860 then []
     else if done == 0 then codes " jobs"
-    else concat (codes " jobs, longest " ∷ millis_text greatest ∷ codes " ms" ∷ [])
+    else concat (codes " jobs, longest " ∷ time_text millis greatest ∷ unit_text millis ∷ [])
 
 -- what stands below a band that reaches from a place up to another
-abbrev pub band_label : (x right k count done greatest : ℕ) → List ℕ
-band_label x right k count done greatest =
+abbrev pub band_label : (millis : Bool) → (x right k count done greatest : ℕ) → List ℕ
+band_label millis x right k count done greatest =
     concat (codes "<text x=\"" ∷ decimal (x + 20) ∷ codes "\" y=\"" ∷ decimal (top_of k + 455)
-    ∷ codes "\">" ∷ decimal count ∷ wide_words (right - x) done greatest ∷ codes "</text>\n" ∷ [])
+    ∷ codes "\">" ∷ decimal count ∷ wide_words millis (right - x) done greatest ∷ codes "</text>\n" ∷ [])
 
 -- a bracket at a bound behind the latest arrival, if there is one, where that is in the picture
 abbrev pub last_bound : Frame → (k latest : ℕ) → Option ℕ → List ℕ
@@ -60,8 +60,8 @@ abbrev pub seen_band : Frame → (k : ℕ) → TaskRow → JobRecord → List Jo
 seen_band f k row first jobs count latest done greatest =
     band_box (limit_path f k row first.release latest) first count latest
     ++ band_words done greatest row.bound row.sheet.deadline
-    ++ band_label (x_of f first.release) (right_of f first.release (latest + limit_of row)) k count
-    done greatest ++ last_bound f k latest row.bound
+    ++ band_label (in_millis f) (x_of f first.release)
+    (right_of f first.release (latest + limit_of row)) k count done greatest ++ last_bound f k latest row.bound
     ++ signs_text f k (nat_lt first.release f.from) (any_on f first.name jobs)
 
 -- the same of any band

@@ -1,5 +1,5 @@
 -- The slices of jobs, as bars in the rows of their tasks.
-use Rattle.std.specs.Prelude.{ℕ, ◌+◌, ◌-◌, ◌/◌, min, max, nat_lt, if◌then◌else◌, List, [], ◌∷◌, ◌++◌, length, flat_map, codes, slice_get}
+use Rattle.std.specs.Prelude.{ℕ, ◌+◌, ◌-◌, ◌/◌, min, max, Bool, nat_lt, if◌then◌else◌, List, [], ◌∷◌, ◌++◌, length, flat_map, codes, slice_get}
 use Rattle.std.specs.Fmt.{decimal}
 use Rattle.std.specs.List.{concat}
 use Rattle.task_sheet.specs.Sheet.{CriticalSection}
@@ -26,12 +26,22 @@ bar_text f s spot row =
 abbrev pub names_text : List (List ℕ) → List ℕ
 names_text names = flat_map (λ name. codes " " ++ name) names
 
+-- one name stands in the middle of its stripe; several, which would stand across stripes, below the bar
+abbrev pub label_class : (several : Bool) → List ℕ
+label_class several = if several then codes "m" else codes "k"
+
+-- how far below a row's edge
+abbrev pub label_depth : (several : Bool) → ℕ
+label_depth several = if several then 450 else 293
+
 -- the names of locks in the middle of a part, where there is room
 abbrev pub label_text : (x right k : ℕ) → List (List ℕ) → List ℕ
 label_text x right k locks =
     if fits ((right - x) / 68) locks
-    then concat (codes "<text class=\"k\" x=\"" ∷ decimal ((x + right) / 2) ∷ codes "\" y=\""
-    ∷ decimal (top_of k + 293) ∷ codes "\">" ∷ names_text locks ∷ codes "</text>\n" ∷ [])
+    then concat (codes "<text class=\"" ∷ label_class (nat_lt 1 (length locks)) ∷ codes "\" x=\""
+    ∷ decimal ((x + right) / 2) ∷ codes "\" y=\""
+    ∷ decimal (top_of k + label_depth (nat_lt 1 (length locks))) ∷ codes "\">" ∷ names_text locks
+    ∷ codes "</text>\n" ∷ [])
     else []
 
 -- where a part of a slice begins, in the slice's bar

@@ -11,8 +11,8 @@ use crate::jobs::{goes_on, limit_box, limit_of, put_job_in, put_sign, put_signs}
 use crate::marks::is_shown;
 use ceiling_kernel::JobRecord;
 use frames::{
-    Bar, Frame, Lane, Page, is_before, job_at, put_bar, put_known, put_millis, sees_up_to, top_of,
-    x_after,
+    Bar, Frame, Lane, Page, in_millis, is_before, job_at, put_bar, put_known, put_time, put_unit,
+    sees_up_to, top_of, x_after,
 };
 use pieces::{Band, band_in, joins, stretch_of};
 use run_lines::{Outcome, outcome_of};
@@ -62,8 +62,8 @@ fn put_band_words(outcome: Outcome, bound: Option<u64>, deadline: u64, page: &mu
 }
 
 // What stands behind the number of jobs of a band so wide.
-fn put_wide(wide: u64, outcome: Outcome, page: &mut Page)
-    ensures { Adds page.old page.new (wide_words wide outcome.done outcome.greatest) }
+fn put_wide(millis: bool, wide: u64, outcome: Outcome, page: &mut Page)
+    ensures { Adds page.old page.new (wide_words millis wide outcome.done outcome.greatest) }
 {
     if wide < 1_860 {
         return;
@@ -71,20 +71,29 @@ fn put_wide(wide: u64, outcome: Outcome, page: &mut Page)
     if outcome.done == 0 {
         return page.put(b" jobs");
     }
-    put_millis(b" jobs, longest ", outcome.greatest, page);
-    page.put(b" ms")
+    put_time(b" jobs, longest ", millis, outcome.greatest, page);
+    put_unit(millis, page)
 }
 
 // What stands below a band that reaches from a place up to another.
-fn put_label(x: u64, right: u64, k: usize, count: usize, outcome: Outcome, page: &mut Page)
+fn put_label(
+    millis: bool,
+    x: u64,
+    right: u64,
+    k: usize,
+    count: usize,
+    outcome: Outcome,
+    page: &mut Page,
+)
     requires place { x ≤ RIGHTMOST }
     requires row { k ≤ TASK_LIMIT }
-    ensures { Adds page.old page.new (band_label x right k count outcome.done outcome.greatest) }
+    ensures { Adds page.old page.new (band_label millis x right k count outcome.done
+        outcome.greatest) }
 {
     page.number(b"<text x=\"", x + 20);
     page.number(b"\" y=\"", top_of(k) + 455);
     page.number(b"\">", count as u64);
-    put_wide(right.saturating_sub(x), outcome, page);
+    put_wide(millis, right.saturating_sub(x), outcome, page);
     page.put(b"</text>\n")
 }
 
@@ -123,7 +132,8 @@ fn put_band(
     let row = lane.row;
     put_band_box(bar, first, band, page);
     put_band_words(outcome, row.bound, row.sheet.deadline(), page);
-    put_label(bar.x, bar.right, lane.spot.k, band.count, outcome, page);
+    let millis = in_millis(lane.frame);
+    put_label(millis, bar.x, bar.right, lane.spot.k, band.count, outcome, page);
     put_last_bound(lane, band.latest, page);
     let back = is_before(lane.frame, first.release);
     put_signs(lane, back, any_on(lane.frame, first.name, jobs), page)

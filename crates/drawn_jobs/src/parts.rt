@@ -1,8 +1,8 @@
 //! The parts of a slice in which its job holds locks.
-ghost use Rattle.std.specs.Prelude.{◌*◌, ◌+◌, ◌≡◌, ◌≤◌};
+ghost use Rattle.std.specs.Prelude.{◌*◌, ◌+◌, ◌≡◌, ◌≤◌, length, nat_lt};
 ghost use Rattle.frames.specs.Page.{Adds};
 ghost use Rattle.task_sheet.specs.declared.set.TheConstants.{TASK_LIMIT};
-ghost use Rattle.drawn_jobs.specs.Bars.{dark_text, label_text, names_text, part_box, part_left, part_right, part_text};
+ghost use Rattle.drawn_jobs.specs.Bars.{dark_text, label_class, label_depth, label_text, names_text, part_box, part_left, part_right, part_text};
 ghost use Rattle.frames.specs.declared.frame.TheConstants.{RIGHTMOST};
 
 use crate::stripes::put_stripes;
@@ -32,6 +32,28 @@ fn part_in(frame: Frame, slice: Slice, start: u64, stop: u64) -> (u64, u64)
     (left, right)
 }
 
+// One name stands in the middle of its stripe; several, which would stand across stripes, below the bar.
+fn label_class(several: bool) -> &'static [u8]
+    ensures { result.now ≡ label_class several }
+{
+    if several { b"m" } else { b"k" }
+}
+
+// How far below a row's edge.
+fn label_depth(several: bool) -> u64
+    ensures value { result ≡ label_depth several }
+    ensures within { result ≤ 450 }
+{
+    if several { 450 } else { 293 }
+}
+
+// Whether names are several.
+fn are_several(names: &[Name]) -> bool
+    ensures { result ≡ nat_lt 1 (length names.now) }
+{
+    names.len() > 1
+}
+
 // The names of locks in the middle of a part, where there is room.
 fn put_label(x: u64, right: u64, k: usize, names: &[Name], page: &mut Page)
     requires places { x + right ≤ 2 * RIGHTMOST + 1 }
@@ -41,8 +63,11 @@ fn put_label(x: u64, right: u64, k: usize, names: &[Name], page: &mut Page)
     if !fits(right.saturating_sub(x) / 68, names) {
         return;
     }
-    page.number(b"<text class=\"k\" x=\"", (x + right) / 2);
-    page.number(b"\" y=\"", top_of(k) + 293);
+    let several = are_several(names);
+    page.put(b"<text class=\"");
+    page.put(label_class(several));
+    page.number(b"\" x=\"", (x + right) / 2);
+    page.number(b"\" y=\"", top_of(k) + label_depth(several));
     page.put(b"\">");
     put_names(names, page);
     page.put(b"</text>\n")

@@ -1,59 +1,76 @@
 //! The load of a set.
-ghost use Rattle.std.specs.Prelude.{◌≡◌, ◌≤◌, sum_by};
-ghost use Rattle.explain.specs.Load.{interrupt_share, load_of, share_of, timer_share, whole_share};
+ghost use Rattle.std.specs.Prelude.{◌≡◌, ◌≤◌, ◌+◌, ◌++◌, All, IfOk, OnOk, length, map};
+ghost use Rattle.explain.specs.Load.{interrupt_share, load_of, set_shares, shares_of, task_share, timer_share};
+ghost use Rattle.loads.specs.Shares.{IsShare};
+ghost use Rattle.task_sheet.specs.Sheet.{IsInterrupt};
 
-use task_sheet::{Sheet, TaskSet};
+use loads::{Share, load_in};
+use std::alloc::{AllocError, Global};
+use task_sheet::{Interrupt, Sheet, TaskSet};
 
-/// What a task takes of the processor, in millionths, rounded up.
-pub fn share(sheet: &Sheet) -> u64
-    ensures is { result ≡ share_of sheet.now }
-    ensures short { result ≤ 10000000000000 }
+// What a task takes in each of its periods.
+fn task_share(sheet: &Sheet) -> Share
+    ensures is { result ≡ task_share sheet.now }
+    ensures valid { IsShare result }
 {
     // The sheet is valid: the proof has it from its name.
     let _ = sheet.name();
-    (sheet.cost() * 1_000_000).div_ceil(sheet.period())
+    Share {
+        cost: sheet.cost(),
+        period: sheet.period(),
+    }
 }
 
-// What its timer takes, in millionths, rounded up.
-fn timer_share(sheet: &Sheet) -> u64
+// What its timer takes.
+fn timer_share(sheet: &Sheet) -> Share
     ensures is { result ≡ timer_share sheet.now }
-    ensures short { result ≤ 10000000000000 }
+    ensures valid { IsShare result }
 {
     // The sheet is valid: the proof has it from its name.
     let _ = sheet.name();
-    (sheet.node().release * 1_000_000).div_ceil(sheet.period())
-}
-
-// What the interrupts on its account take, each in millionths, rounded up.
-fn interrupt_shares(sheet: &Sheet) -> u64
-    ensures is { result ≡ sum_by interrupt_share sheet.now.interrupts }
-    ensures short { result ≤ 80000000000000 }
-{
-    // The sheet is valid: the proof has it from its name.
-    let _ = sheet.name();
-    let mut total = 0;
-    for interrupt in sheet.interrupts() {
-        total += (interrupt.cost * 1_000_000).div_ceil(interrupt.period);
+    Share {
+        cost: sheet.node().release,
+        period: sheet.period(),
     }
-    total
 }
 
-// What a task takes with its timer and with the interrupts on its account.
-fn whole_share(sheet: &Sheet) -> u64
-    ensures is { result ≡ whole_share sheet.now }
-    ensures short { result ≤ 100000000000000 }
+// Adds what interrupts take.
+fn push_interrupts(shares: &mut Vec<Share>, interrupts: &[Interrupt]) -> Result<(), AllocError>
+    requires valid { All IsShare shares.old.items }
+    requires sound { All IsInterrupt interrupts.now }
+    ensures are { OnOk result
+        (shares.new.items ≡ shares.old.items ++ map interrupt_share interrupts.now) }
+    ensures valid { OnOk result (All IsShare shares.new.items) }
 {
-    share(sheet) + timer_share(sheet) + interrupt_shares(sheet)
+    for interrupt in interrupts {
+        shares.push(Share {
+            cost: interrupt.cost,
+            period: interrupt.period,
+        })?;
+    }
+    Ok(())
 }
 
-/// The load of a set, in millionths: each task's cost over its period, what its timer takes over its period, and each
-/// interrupt's cost over its period, each rounded up, and added.
-pub fn load(set: &TaskSet) -> u64
-    ensures { result ≡ load_of set.now }
+// Adds what a task takes, its timer, and the interrupts on its account.
+fn push_sheet(shares: &mut Vec<Share>, sheet: &Sheet) -> Result<(), AllocError>
+    requires valid { All IsShare shares.old.items }
+    ensures are { OnOk result (shares.new.items ≡ shares.old.items ++ shares_of sheet.now) }
+    ensures valid { OnOk result (All IsShare shares.new.items) }
+    ensures few { OnOk result (length shares.new.items ≤ length shares.old.items + 10) }
 {
-    let mut total = 0;
+    shares.push(task_share(sheet))?;
+    shares.push(timer_share(sheet))?;
+    push_interrupts(shares, sheet.interrupts())
+}
+
+/// The load of a set: what its tasks, their timers and the interrupts take of the processor, each its cost in each of its
+/// periods, in millionths, added exactly and then rounded up once. The error is out of memory.
+pub fn load(alloc: Global, set: &TaskSet) -> Result<u64, AllocError>
+    ensures { IfOk result (λ load. load ≡ load_of set.now) }
+{
+    let mut shares = Vec::new(alloc);
     for sheet in set.sheets() {
-        total += whole_share(sheet);
+        push_sheet(&mut shares, sheet)?;
     }
-    total
+    load_in(alloc, 1_000_000, &shares)
 }

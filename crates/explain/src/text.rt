@@ -302,10 +302,10 @@ pub fn push_conflict(text: &mut String, set: &TaskSet, left: Members) -> Result<
 }
 
 /// Adds the line of a set's load. The error is out of memory.
-pub fn push_load(text: &mut String, set: &TaskSet) -> Result<(), AllocError>
+pub fn push_load(alloc: Global, text: &mut String, set: &TaskSet) -> Result<(), AllocError>
     ensures { OnOk result (string_bytes text.new ≡ string_bytes text.old ++ load_line set.now) }
 {
-    let load = load(set);
+    let load = load(alloc, set)?;
     writeln!(text, "load {load}")
 }
 
@@ -326,6 +326,6 @@ pub fn explanation_text(
             push_needs(&mut text, set, needs)?;
         }
     }
-    push_load(&mut text, set)?;
+    push_load(alloc, &mut text, set)?;
     Ok(text)
 }

@@ -4,3 +4,4 @@ pub mod GreatestLaws
 pub mod AtLaws
 pub mod LatestAt
 pub mod SlowLaws
+pub mod Answered

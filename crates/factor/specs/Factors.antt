@@ -1,6 +1,6 @@
 -- All execution of a set taken so many thousandths of itself, as on a slower processor, and the greatest such factor with
 -- which some order passes.
-use Rattle.std.specs.Prelude.{ℕ, ◌*◌, ◌<◌, ◌≤◌, List, [], ◌∷◌, IsFalse}
+use Rattle.std.specs.Prelude.{ℕ, ◌*◌, ◌<◌, ◌≤◌, List, [], ◌∷◌, Option, Some, None, IsFalse}
 use Rattle.task_sheet.specs.Sheet.{Task, task_at}
 use Rattle.task_sheet.specs.Indexes.{Indexes, among}
 use Rattle.task_sheet.specs.Demand.{limit_of, demand_of}
@@ -43,6 +43,15 @@ IsFactor U factor = IsGreatestFor (λ f. IsFeasibleAt f U) factor
 -- the greatest factor at which the order passes as it stands
 abbrev pub IsFactorIn : List Task → List ℕ → ℕ → Type 0
 IsFactorIn U order factor = IsGreatestFor (λ f. IsPassingAt f U order) factor
+
+-- no factor helps that order
+abbrev pub HasNoFactorIn : List Task → List ℕ → Type 0
+HasNoFactorIn U order = (factor : ℕ) → 1 ≤ factor → ¬ IsPassingAt factor U order
+
+-- the greatest factor at which it passes, or none where none helps it
+abbrev pub AnswersFactorOf : List Task → List ℕ → Option ℕ → Type 0
+AnswersFactorOf U order (Some factor) = IsFactorIn U order factor
+AnswersFactorOf U order None = HasNoFactorIn U order
 
 -- no factor helps
 abbrev pub HasNoFactor : List Task → Type 0

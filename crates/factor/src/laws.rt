@@ -7,7 +7,7 @@ ghost use Rattle.task_sheet.specs.Indexes.{Indexes};
 ghost use Rattle.task_sheet.specs.Demand.{demand_of, Passes};
 ghost use Rattle.task_sheet.specs.Orders.{IsOrder, IsPassingOrder, IsFeasible};
 ghost use Rattle.latest_first.specs.LatestFirst.{AllPrompt, IsLatestFirst};
-ghost use Rattle.factor.specs.Factors.{PassesAt, IsPassingAt, IsFeasibleAt, IsFactor, IsFactorIn, HasNoFactor};
+ghost use Rattle.factor.specs.Factors.{PassesAt, IsPassingAt, IsFeasibleAt, IsFactor, IsFactorIn, HasNoFactor, HasNoFactorIn};
 ghost use Rattle.factor.specs.Failing.{FailsFirst};
 ghost use Rattle.factor.specs.Slower.{AreSlow};
 
@@ -68,4 +68,6 @@ pub fn factor_in_order_decides()
         → IsFactorIn U order second → first ≡ second }
     ensures any { (U : List Task) (order : List ℕ) (own most : ℕ) → IsFactorIn U order own
         → IsFactor U most → own ≤ most }
+    ensures none { (U : List Task) (order : List ℕ) → HasNoFactorIn U order
+        → ¬ IsPassingOrder U order }
 {}

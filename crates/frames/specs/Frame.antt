@@ -1,5 +1,5 @@
 -- How time and rows lie in the picture, in units of which ten are a pixel.
-use Rattle.std.specs.Prelude.{ℕ, ◌+◌, ◌-◌, ◌*◌, ◌/◌, ◌%◌, ◌<◌, ◌≤◌, min, max, Bool, ◌&&◌, nat_le, nat_lt, ◌==◌, if◌then◌else◌, Option, Some, None, List, [], ◌∷◌, length, codes}
+use Rattle.std.specs.Prelude.{ℕ, ◌+◌, ◌-◌, ◌*◌, ◌/◌, ◌%◌, ◌<◌, ◌≤◌, min, max, Bool, ◌&&◌, nat_le, nat_lt, ◌==◌, if◌then◌else◌, Option, Some, None, List, [], ◌∷◌, length}
 use Rattle.ceiling_kernel.specs.declared.accept.TheConstants.{HORIZON}
 use Rattle.task_sheet.specs.declared.set.TheConstants.{TASK_LIMIT}
 use Rattle.task_sheet.specs.declared.sheet.TheConstants.{PERIOD_TO}
@@ -36,13 +36,14 @@ abbrev pub least_period : ℕ → List TaskRow → ℕ
 least_period least [] = least
 least_period least (row ∷ rows) = least_period (min least row.sheet.period) rows
 
--- how many digits so many microseconds below ten seconds have before the point, in milliseconds
+-- how many digits so many microseconds, ten seconds at most, have before the point, in milliseconds
 abbrev pub whole_digits : ℕ → ℕ
 whole_digits time =
     if nat_lt time 10000 then 1
     else if nat_lt time 100000 then 2
     else if nat_lt time 1000000 then 3
-    else 4
+    else if nat_lt time 10000000 then 4
+    else 5
 
 -- how many letters they have with what stands behind it
 abbrev pub millis_letters : ℕ → ℕ
@@ -52,27 +53,38 @@ millis_letters time =
     else if time % 10 == 0 then whole_digits time + 3
     else whole_digits time + 4
 
--- how many letters the line below a row's name has, where no deadline is missed
-abbrev pub letters_of : (deadline : ℕ) → (bound : Option ℕ) → ℕ
-letters_of deadline (Some bound) = 13 + millis_letters bound + millis_letters deadline
-letters_of deadline None = 12 + millis_letters deadline
+-- all times of a picture are in milliseconds where its window has ten of them, else in microseconds
+abbrev pub is_in_millis : (window : ℕ) → Bool
+is_in_millis window = nat_le 10000 window
 
-abbrev pub limits_letters : TaskRow → ℕ
-limits_letters row = letters_of row.sheet.deadline row.bound
+-- how many letters a time has in the picture's unit: in microseconds three digits stand behind the whole milliseconds
+abbrev pub time_letters : (millis : Bool) → ℕ → ℕ
+time_letters millis time = if millis then millis_letters time else whole_digits time + 3
+
+-- how many letters the line below a row's name has
+abbrev pub letters_of : (millis : Bool) → (deadline : ℕ) → (bound : Option ℕ) → ℕ
+letters_of millis deadline (Some bound) =
+    13 + time_letters millis bound + time_letters millis deadline
+letters_of millis deadline None = 12 + time_letters millis deadline
+
+abbrev pub limits_letters : (millis : Bool) → TaskRow → ℕ
+limits_letters millis row = letters_of millis row.sheet.deadline row.bound
 
 -- how wide the margin is to be for a row
-abbrev pub margin_of : TaskRow → ℕ
-margin_of row =
-    min (max (700 + 78 * length row.sheet.name) (560 + 62 * limits_letters row)) WIDEST_MARGIN
+abbrev pub margin_of : (millis : Bool) → TaskRow → ℕ
+margin_of millis row =
+    min (max (700 + 78 * length row.sheet.name) (560 + 62 * limits_letters millis row))
+    WIDEST_MARGIN
 
 -- the widest for some rows, or one that was found before
-abbrev pub widest_margin : ℕ → List TaskRow → ℕ
-widest_margin most [] = most
-widest_margin most (row ∷ rows) = widest_margin (max most (margin_of row)) rows
+abbrev pub widest_margin : (millis : Bool) → ℕ → List TaskRow → ℕ
+widest_margin millis most [] = most
+widest_margin millis most (row ∷ rows) =
+    widest_margin millis (max most (margin_of millis row)) rows
 
 -- how wide it is: where time begins
-abbrev pub left_of : List TaskRow → ℕ
-left_of rows = widest_margin LEAST_MARGIN rows
+abbrev pub left_of : (millis : Bool) → List TaskRow → ℕ
+left_of millis rows = widest_margin millis LEAST_MARGIN rows
 
 -- how wide so much time is, to the right of a margin: so many pixels in all, where that is said; else the shortest period
 -- is 24 pixels wide where the picture is from 960 to 1,600 then
@@ -101,9 +113,14 @@ frame_from v until = min v.from (frame_to v until - 1)
 -- the frame of a view of a run of these rows
 abbrev pub frame_of : List TaskRow → View → (until : ℕ) → Frame
 frame_of rows v until =
-    frame_in v.width (length rows) (left_of rows)
+    frame_in v.width (length rows)
+    (left_of (is_in_millis (frame_to v until - frame_from v until)) rows)
     (max (least_period PERIOD_TO rows) 1) (end_of_run until) (frame_from v until)
     (frame_to v until)
+
+-- its times are in milliseconds
+abbrev pub in_millis : Frame → Bool
+in_millis f = is_in_millis (f.to - f.from)
 
 -- where a time lies; those before the window lie at its beginning, and those behind it at its end
 abbrev pub x_of : Frame → ℕ → ℕ
@@ -165,15 +182,6 @@ step_of f = step_in f (decade_of f)
 -- how many steps lie before the window
 abbrev pub steps_before : Frame → (step : ℕ) → ℕ
 steps_before f step = (f.from + step - 1) / step
-
--- how many microseconds the scale's unit has: the step is a whole number of it
-abbrev pub unit_of : ℕ → ℕ
-unit_of step = if step % 1000000 == 0 then 1000000 else if step % 1000 == 0 then 1000 else 1
-
--- the unit's name
-abbrev pub unit_name : ℕ → List ℕ
-unit_name step =
-    if step % 1000000 == 0 then codes "s" else if step % 1000 == 0 then codes "ms" else codes "us"
 
 -- when a job is done, or the end of the run
 abbrev pub ended : Frame → JobRecord → ℕ

@@ -1,5 +1,5 @@
--- Numbers: milliseconds with no more digits than they need, bounds that may not be known, and from when to when.
-use Rattle.std.specs.Prelude.{ℕ, ◌/◌, ◌%◌, ◌==◌, if◌then◌else◌, Option, Some, None, List, [], ◌∷◌, ◌++◌, codes}
+-- Numbers: times in a picture's unit, in milliseconds with no more digits than they need, bounds that may not be known, and from when to when.
+use Rattle.std.specs.Prelude.{ℕ, ◌/◌, ◌%◌, Bool, ◌==◌, if◌then◌else◌, Option, Some, None, List, [], ◌∷◌, ◌++◌, codes}
 use Rattle.std.specs.Fmt.{decimal}
 use Rattle.std.specs.List.{concat}
 
@@ -14,6 +14,14 @@ rest_text n =
 -- so many microseconds, in milliseconds
 abbrev pub millis_text : ℕ → List ℕ
 millis_text n = decimal (n / 1000) ++ rest_text (n % 1000)
+
+-- the same in milliseconds or as they are
+abbrev pub time_text : (millis : Bool) → ℕ → List ℕ
+time_text millis n = if millis then millis_text n else decimal n
+
+-- the unit, behind a number
+abbrev pub unit_text : (millis : Bool) → List ℕ
+unit_text millis = if millis then codes " ms" else codes " us"
 
 -- a bound, or `-` where none is known
 abbrev pub known_text : Option ℕ → List ℕ

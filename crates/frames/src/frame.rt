@@ -3,7 +3,7 @@ ghost use Rattle.std.specs.Prelude.{◌+◌, ◌<◌, ◌≡◌, ◌≤◌, leng
 ghost use Rattle.ceiling_kernel.specs.declared.accept.TheConstants.{HORIZON};
 ghost use Rattle.task_sheet.specs.declared.set.TheConstants.{TASK_LIMIT};
 ghost use Rattle.task_sheet.specs.declared.sheet.TheConstants.{PERIOD_TO};
-ghost use Rattle.frames.specs.Frame.{Frame, IsFrame, decade_of, ended, frame_end, frame_of, is_wide, least_period, left_of, level_of, limits_letters, margin_of, millis_letters, sees, span_of, step_of, steps_before, tone_of, top_of, unit_name, unit_of, whole_digits, x_of};
+ghost use Rattle.frames.specs.Frame.{Frame, IsFrame, decade_of, ended, frame_end, frame_of, in_millis, is_in_millis, is_wide, least_period, left_of, level_of, limits_letters, margin_of, millis_letters, sees, span_of, step_of, steps_before, time_letters, tone_of, top_of, whole_digits, x_of};
 ghost use Rattle.frames.specs.declared.frame.TheConstants.{LOWEST_TOP, NARROWEST, RIGHTMOST, WIDEST_DECADE, WIDEST_MARGIN, WIDEST_STEP};
 
 use crate::rows::TaskRow;
@@ -69,10 +69,10 @@ fn least_period(rows: &[TaskRow]) -> u64
     least
 }
 
-// How many digits so many microseconds below ten seconds have before the point, in milliseconds.
+// How many digits so many microseconds, ten seconds at most, have before the point, in milliseconds.
 fn whole_digits(time: u64) -> u64
     ensures value { result ≡ whole_digits time }
-    ensures few { result ≤ 4 }
+    ensures few { result ≤ 5 }
 {
     if time < 10_000 {
         1
@@ -80,15 +80,17 @@ fn whole_digits(time: u64) -> u64
         2
     } else if time < 1_000_000 {
         3
-    } else {
+    } else if time < 10_000_000 {
         4
+    } else {
+        5
     }
 }
 
 // How many letters they have with what stands behind it.
 fn millis_letters(time: u64) -> u64
     ensures value { result ≡ millis_letters time }
-    ensures few { result ≤ 8 }
+    ensures few { result ≤ 9 }
 {
     let whole = whole_digits(time);
     if time % 1000 == 0 {
@@ -102,36 +104,55 @@ fn millis_letters(time: u64) -> u64
     }
 }
 
-// How many letters the line below a row's name has, where no deadline is missed.
-fn limits_letters(row: &TaskRow) -> u64
-    ensures value { result ≡ limits_letters row.now }
+// Whether a picture's times are in milliseconds, by its window.
+fn is_in_millis(window: u64) -> bool
+    ensures { result ≡ is_in_millis window }
+{
+    window >= 10_000
+}
+
+/// How many letters so many microseconds have, in milliseconds or as they are.
+pub fn time_letters(millis: bool, time: u64) -> u64
+    ensures value { result ≡ time_letters millis time }
+    ensures few { result ≤ 9 }
+{
+    if millis {
+        millis_letters(time)
+    } else {
+        whole_digits(time) + 3
+    }
+}
+
+// How many letters the line below a row's name has.
+fn limits_letters(millis: bool, row: &TaskRow) -> u64
+    ensures value { result ≡ limits_letters millis row.now }
     ensures few { result ≤ 40 }
 {
-    let deadline = millis_letters(row.sheet.deadline());
+    let deadline = time_letters(millis, row.sheet.deadline());
     match row.bound {
-        Some(bound) => 13 + millis_letters(bound) + deadline,
+        Some(bound) => 13 + time_letters(millis, bound) + deadline,
         None => 12 + deadline,
     }
 }
 
 // How wide the margin is to be for a row.
-fn margin_of(row: &TaskRow) -> u64
-    ensures { result ≡ margin_of row.now }
+fn margin_of(millis: bool, row: &TaskRow) -> u64
+    ensures { result ≡ margin_of millis row.now }
 {
     let letters = (row.sheet.name().bytes().len() as u64).min(WIDEST_MARGIN);
     (700 + 78 * letters)
-        .max(560 + 62 * limits_letters(row))
+        .max(560 + 62 * limits_letters(millis, row))
         .min(WIDEST_MARGIN)
 }
 
 // How wide it is: where time begins.
-fn left_of(rows: &[TaskRow]) -> u64
-    ensures value { result ≡ left_of rows.now }
+fn left_of(millis: bool, rows: &[TaskRow]) -> u64
+    ensures value { result ≡ left_of millis rows.now }
     ensures within { result ≤ WIDEST_MARGIN }
 {
     let mut left = LEAST_MARGIN;
     for row in rows {
-        left = margin_of(row).max(left);
+        left = margin_of(millis, row).max(left);
     }
     left
 }
@@ -161,10 +182,10 @@ pub fn frame_of(rows: &[TaskRow], view: &View, until: u64) -> Frame
     requires { length rows.now ≤ TASK_LIMIT }
     ensures { result ≡ frame_of rows.now view.now until }
 {
-    let left = left_of(rows);
     let least = least_period(rows).max(1);
     let to = window_end(view, until).max(1);
     let from = view.from.min(to - 1);
+    let left = left_of(is_in_millis(to - from), rows);
     let span = span_of(view.width, left, least, to - from);
     let count = rows.len() as u64;
     Frame {
@@ -175,6 +196,13 @@ pub fn frame_of(rows: &[TaskRow], view: &View, until: u64) -> Frame
         span,
         count,
     }
+}
+
+/// Whether the picture's times are in milliseconds, where its window has ten of them; else they are in microseconds.
+pub fn in_millis(frame: Frame) -> bool
+    ensures { result ≡ in_millis frame }
+{
+    is_in_millis(frame.to - frame.from)
 }
 
 /// Where a time lies: where the window begins or ends, if it isn't in it.
@@ -331,33 +359,6 @@ pub fn steps_before(frame: Frame, step: u64) -> u64
     ensures { result ≡ steps_before frame step }
 {
     (frame.from + step - 1) / step
-}
-
-/// How many microseconds the scale's unit has.
-pub fn unit_of(step: u64) -> u64
-    ensures value { result ≡ unit_of step }
-    ensures some { 0 < result }
-{
-    if step % 1_000_000 == 0 {
-        1_000_000
-    } else if step % 1_000 == 0 {
-        1_000
-    } else {
-        1
-    }
-}
-
-/// The name of that unit.
-pub fn unit_name(step: u64) -> &'static str
-    ensures { result.now ≡ unit_name step }
-{
-    if step % 1_000_000 == 0 {
-        "s"
-    } else if step % 1_000 == 0 {
-        "ms"
-    } else {
-        "us"
-    }
 }
 
 /// When a job is done, or the end of the run.

@@ -1,6 +1,6 @@
 //! Numbers as text.
 ghost use Rattle.std.specs.Prelude.{◌++◌};
-ghost use Rattle.frames.specs.Numbers.{known_text, millis_text, rest_text, times_end};
+ghost use Rattle.frames.specs.Numbers.{known_text, millis_text, rest_text, time_text, times_end, unit_text};
 ghost use Rattle.frames.specs.Page.{Adds};
 
 use crate::page::Page;
@@ -23,12 +23,34 @@ fn put_rest(micros: u64, page: &mut Page)
     }
 }
 
-/// Puts bytes, and so many microseconds, in milliseconds.
-pub fn put_millis(before: &[u8], micros: u64, page: &mut Page)
+// Puts bytes, and so many microseconds, in milliseconds.
+fn put_millis(before: &[u8], micros: u64, page: &mut Page)
     ensures { Adds page.old page.new (before.now ++ millis_text micros) }
 {
     page.number(before, micros / 1_000);
     put_rest(micros % 1_000, page)
+}
+
+/// Puts bytes, and so many microseconds, in milliseconds or as they are.
+pub fn put_time(before: &[u8], millis: bool, micros: u64, page: &mut Page)
+    ensures { Adds page.old page.new (before.now ++ time_text millis micros) }
+{
+    if millis {
+        put_millis(before, micros, page)
+    } else {
+        page.number(before, micros)
+    }
+}
+
+/// Puts the unit, behind a number.
+pub fn put_unit(millis: bool, page: &mut Page)
+    ensures { Adds page.old page.new (unit_text millis) }
+{
+    if millis {
+        page.put(b" ms")
+    } else {
+        page.put(b" us")
+    }
 }
 
 /// Puts bytes, and a bound, or `-` where none is known.

@@ -1,5 +1,5 @@
 -- The tests of settings, one element after the other.
-use Rattle.std.proofs.Common.{◌≡◌, ℕ, ◌+◌, ◌<◌, max, add-one, Bool, true, false, cond, not, ◌==◌}
+use Rattle.std.proofs.Common.{◌≡◌, ℕ, ◌+◌, ◌<◌, max, add-one, Bool, true, false, cond, not, nat_lt, ◌==◌}
 use Rattle.std.proofs.Common.{List, [], ◌∷◌, length, get_or, take, drop, Some, refl, arith}
 use Rattle.std.proofs.Common.{slice_get}
 use Rattle.std.specs.List.{find, list_any}
@@ -7,7 +7,7 @@ use Rattle.std.proofs.lemmas.List.{drop_more, take_more}
 use Rattle.std.proofs.lemmas.Option.{slice_get_within, get_or_from_slice_get}
 use Rattle.task_sheet.proofs.Common.{Task, greatest_below}
 use Rattle.judge.specs.Faults.{is_set, line_again, mutexless, setting_number, top_number}
-use Rattle.judge.specs.Faults.{wrong_lock}
+use Rattle.judge.specs.Faults.{low_lock, wrong_lock}
 use Rattle.judge.specs.declared.rows.Setting.{Setting}
 
 -- the first element from a place on that passes, by the element there
@@ -30,6 +30,14 @@ pub wrong_some : (U : List Task) (locks : List (List ℕ)) (threads mutexes : Li
     ≡ wrong_lock U locks threads mutexes
 wrong_some U locks threads [] some = absurd (omega arith)
 wrong_some U locks threads (m ∷ mutexes) some = refl
+
+-- where there are mutexes, the first lock whose mutex is too low
+pub low_some : (U : List Task) (locks : List (List ℕ)) (threads mutexes : List Setting)
+    → 0 < length mutexes
+    → find (λ lock. nat_lt (setting_number mutexes lock) (top_number U threads lock)) locks
+    ≡ low_lock U locks threads mutexes
+low_some U locks threads [] some = absurd (omega arith)
+low_some U locks threads (m ∷ mutexes) some = refl
 
 -- the settings from a place on, with those before it
 pub again_step : (alike : Setting → Setting → Bool) (xs : List Setting) (k : ℕ) (x : Setting)

@@ -9,3 +9,5 @@ pub mod OrderLaws
 pub mod SpelledLaws
 pub mod SettingsLaws
 pub mod NumberedLaws
+pub mod RaisedLaws
+pub mod LeastLaws

@@ -1,11 +1,13 @@
 -- How an order is judged: in one way, and as passing where it passes.
-use Rattle.std.proofs.Common.{◌≡◌, ◌∙◌, ℕ, suc, ◌+◌, ◌<◌, ◌≤◌, inl, inr, Bool, true}
-use Rattle.std.proofs.Common.{List, [], ◌∷◌, ◌++◌, map, length, refl, sym, ap, subst}
+use Rattle.std.proofs.Common.{◌≡◌, ◌∙◌, ℕ, zero, suc, ◌+◌, ◌<◌, ◌≤◌, inl, inr, Bool, true, false, ◌||◌, ◌==◌}
+use Rattle.std.proofs.Common.{List, [], ◌∷◌, ◌++◌, map, length, get_or, drop, refl, sym, ap, subst}
+use Rattle.std.proofs.lemmas.List.{drop_more}
 use Rattle.std.proofs.Common.{arith}
 use Rattle.std.specs.List.Sorted.{IsStrictlyIncreasing}
 use Rattle.std.proofs.lemmas.Bool.{both_ways, cases_eq, cases_order, ne_eqb, true≢false, and_parts}
-use Rattle.std.proofs.lemmas.Bool.{and_from, ltb-true}
-use Rattle.task_sheet.proofs.Common.{Task, AllTasks, task_at, Indexes, among, without_index, IsPart}
+use Rattle.std.proofs.lemmas.Bool.{and_from, eq-eqb, ltb-true, or_right}
+use Rattle.std.proofs.lemmas.List.Folds.{list_any_at}
+use Rattle.task_sheet.proofs.Common.{Task, AllTasks, task_at, Indexes, among, with_index, without_index, IsPart}
 use Rattle.task_sheet.proofs.Common.{IsResponseOf, Passes, all_of, is_bound, Stands, AllStand}
 use Rattle.task_sheet.proofs.Common.{IsOrderOf, IsLeastOver}
 use Rattle.task_sheet.proofs.Common.{demand_of, limit_of}
@@ -180,6 +182,36 @@ module _ (f : ℕ → ℕ) where
           first_less z zs y (rises_rest x (z ∷ zs) rises)
               (rw (ne_eqb z y ne) at has),
         )
+      ]
+
+  rises_drop : (n : ℕ) (xs : List ℕ) → Rises xs → Rises (drop n xs)
+  rises_drop zero xs rises = rises
+  rises_drop (suc n) [] rises = rises
+  rises_drop (suc n) (x ∷ xs) rises = rises_drop n xs (rises_rest x xs rises)
+
+  -- so is that at a place below each after it
+  pub above_more : (n : ℕ) (xs : List ℕ) (y : ℕ) → Rises xs → n < length xs
+      → among (drop (n + 1) xs) y ≡ true → f (get_or xs n 0) < f y
+  above_more n xs y rises lt has = first_less (get_or xs n 0) (drop (n + 1) xs) y
+      (subst (λ (zs : List ℕ). Rises zs) (drop_more xs n 0 lt) (rises_drop n xs rises)) has
+
+  -- and above each before it
+  pub below_less : (n : ℕ) (xs : List ℕ) (y : ℕ) → Rises xs → n < length xs → among xs y ≡ true
+      → with_index (among (drop (n + 1) xs)) (get_or xs n 0) y ≡ false → f y < f (get_or xs n 0)
+  below_less n [] y rises lt has out = absurd (omega arith)
+  below_less zero (x ∷ xs) y rises lt has out = elim (cases_eq x y) [
+    | inl e ↦ absurd (both_ways _ out (rw e (ap (λ b. b || among xs y) (eq-eqb y y refl))))
+    | inr ne ↦
+        let later : among xs y ≡ true = rw (ne_eqb x y ne) at has in
+        absurd (both_ways _ out (or_right (y == x) (among xs y) later))
+  ]
+  below_less (suc n) (x ∷ xs) y rises lt has out =
+      let next : suc n + 1 ≡ suc (n + 1) = omega arith in
+      let there = list_any_at (λ z. z == get_or xs n 0) xs n 0 (omega arith) (eq-eqb _ _ refl) in
+      elim (cases_eq x y) [
+        | inl e ↦ rw (← e) (first_less x xs (get_or xs n 0) rises there)
+        | inr ne ↦ below_less n xs y (rises_rest x xs rises) (omega arith)
+            (rw (ne_eqb x y ne) at has) (rw next at out)
       ]
 
   one_order : (L : Indexes) (xs ys : List ℕ) → IsOrderOf L xs → IsOrderOf L ys → Rises xs

@@ -471,7 +471,7 @@ module _ (U : List Task) (f : ℕ → ℕ) where
             let numbers = again_none same_number [] threads apart.1 in
             rw (tasks, held, names, lock_names, numbers) refl
 
-        no_name : name_fault false U threads mutexes ≡ None
+        no_name : name_fault (wrong_lock U (locks_of U) threads mutexes) false U threads mutexes ≡ None
         no_name =
             let tasks = find_none (λ (t : Task). not (is_set threads t.name)) U
             (recursion_from_All (λ (t : Task). not (is_set threads t.name) ≡ false) U (λ k d lt.

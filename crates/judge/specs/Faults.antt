@@ -1,5 +1,5 @@
 -- Why a text is no settings of a set: the first reason, in the order of the tests.
-use Rattle.std.specs.Prelude.{◌≡◌, ℕ, Bool, false, not, ◌==◌, List, [], ◌∷◌, ◌++◌, length, find, position, is_none, Option, Some, None, Result, Ok, Err, if◌then◌else◌}
+use Rattle.std.specs.Prelude.{◌≡◌, ℕ, Bool, false, not, nat_lt, ◌==◌, List, [], ◌∷◌, ◌++◌, length, find, position, is_none, Option, Some, None, Result, Ok, Err, if◌then◌else◌}
 use Rattle.std.specs.List.{list_any}
 use Rattle.std.specs.Option.{option_or, option_map}
 use Rattle.task_sheet.specs.Sheet.{Task, same_bytes, task_at}
@@ -84,6 +84,13 @@ wrong_lock U locks threads [] = None
 wrong_lock U locks threads (m ∷ mutexes) =
     find (λ lock. not (setting_number (m ∷ mutexes) lock == top_number U threads lock)) locks
 
+-- where there are mutexes, the first of these locks whose mutex is below the number of its highest user
+abbrev pub low_lock : List Task → List (List ℕ) → (threads mutexes : List Setting)
+    → Option (List ℕ)
+low_lock U locks threads [] = None
+low_lock U locks threads (m ∷ mutexes) =
+    find (λ lock. nat_lt (setting_number (m ∷ mutexes) lock) (top_number U threads lock)) locks
+
 -- ---- the faults
 -- the first reason that the lines of threads and mutexes give
 abbrev pub line_fault : List Task → (threads mutexes : List Setting) → Option SettingsFault
@@ -94,24 +101,36 @@ line_fault U threads mutexes =
     (option_or (option_map (λ line. fault.SameLock line) (line_again same_setting_name [] mutexes))
     (option_map (λ line. fault.SameNumber line) (line_again same_number [] threads)))))
 
--- a mutex isn't at the number of its highest user, which is this one as the text has it
+-- the ceiling of a lock is wrong: the number of its highest user is this one, as the text has it
 abbrev pub ceiling_fault : (lower : Bool) → List Task → List Setting → List ℕ → SettingsFault
 ceiling_fault lower U threads lock =
     fault.WrongCeiling lock (as_written lower (top_number U threads lock))
 
--- the first reason that a task or a lock gives
-abbrev pub name_fault : (lower : Bool) → List Task → (threads mutexes : List Setting)
+-- the first reason that a task or a lock gives, where this lock's ceiling is wrong
+abbrev pub name_fault : Option (List ℕ) → (lower : Bool) → List Task → (threads mutexes : List Setting)
     → Option SettingsFault
-name_fault lower U threads mutexes =
+name_fault wrong lower U threads mutexes =
     option_or (option_map (λ name. fault.MissingTask name) (threadless U threads))
     (option_or (option_map (λ name. fault.MissingLock name) (mutexless (locks_of U) mutexes))
-    (option_map (ceiling_fault lower U threads) (wrong_lock U (locks_of U) threads mutexes)))
+    (option_map (ceiling_fault lower U threads) wrong))
 
--- the first reason that threads and mutexes give: the lines come first
+-- the first reason that threads and mutexes give then: the lines come first
+abbrev pub fault_with : Option (List ℕ) → (lower : Bool) → List Task → (threads mutexes : List Setting)
+    → Option SettingsFault
+fault_with wrong lower U threads mutexes =
+    option_or (line_fault U threads mutexes) (name_fault wrong lower U threads mutexes)
+
+-- each ceiling has to be the least
 abbrev pub setting_fault : (lower : Bool) → List Task → (threads mutexes : List Setting)
     → Option SettingsFault
 setting_fault lower U threads mutexes =
-    option_or (line_fault U threads mutexes) (name_fault lower U threads mutexes)
+    fault_with (wrong_lock U (locks_of U) threads mutexes) lower U threads mutexes
+
+-- or at least that
+abbrev pub given_fault : (lower : Bool) → List Task → (threads mutexes : List Setting)
+    → Option SettingsFault
+given_fault lower U threads mutexes =
+    fault_with (low_lock U (locks_of U) threads mutexes) lower U threads mutexes
 
 -- the first reason of a reading, whose numbers count so
 abbrev pub rows_fault : (lower : Bool) → List Task → Result (List SettingRow) ℕ → Option SettingsFault
@@ -119,11 +138,22 @@ rows_fault lower U (Err line) = Some (fault.BadLine line)
 rows_fault lower U (Ok rows) =
     setting_fault lower U (heights lower (threads_of rows)) (heights lower (mutexes_of rows))
 
+-- the same, where ceilings may be higher than the least
+abbrev pub given_rows_fault : (lower : Bool) → List Task → Result (List SettingRow) ℕ
+    → Option SettingsFault
+given_rows_fault lower U (Err line) = Some (fault.BadLine line)
+given_rows_fault lower U (Ok rows) =
+    given_fault lower U (heights lower (threads_of rows)) (heights lower (mutexes_of rows))
+
 -- the first reason why a text, whose numbers count so, is no settings of a set
 abbrev pub settings_fault_by : (lower : Bool) → List Task → List ℕ → Option SettingsFault
 settings_fault_by lower U text = rows_fault lower U (rows_in text)
 
--- the same, where a greater number is higher
+-- the same, where ceilings may be higher than the least
+abbrev pub given_fault_by : (lower : Bool) → List Task → List ℕ → Option SettingsFault
+given_fault_by lower U text = given_rows_fault lower U (rows_in text)
+
+-- the first reason, where each ceiling has to be the least and a greater number is higher
 abbrev pub settings_fault : List Task → List ℕ → Option SettingsFault
 settings_fault = settings_fault_by false
 

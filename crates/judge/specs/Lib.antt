@@ -7,3 +7,4 @@ pub mod Kept
 pub mod Front
 pub mod Missed
 pub mod Explained
+pub mod Ceilings

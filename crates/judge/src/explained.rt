@@ -28,8 +28,8 @@ pub enum Parted {
     Bare,
 }
 
-// The tasks of an order that was judged, the lowest first.
-pub(crate) fn order_of(alloc: Global, judged: &[JudgedTask]) -> Result<Vec<usize>, AllocError>
+/// The tasks of an order that was judged, the lowest first. The error is out of memory.
+pub fn order_of(alloc: Global, judged: &[JudgedTask]) -> Result<Vec<usize>, AllocError>
     ensures { IfOk result (λ order. order.items ≡ order_judged judged.now) }
 {
     let mut order = Vec::with_capacity(alloc, judged.len())?;
@@ -250,13 +250,18 @@ pub fn levels_text(
 }
 
 // The load of a set, where no task is named.
-fn push_load_asked(text: &mut String, set: &TaskSet, asked: Option<usize>) -> Result<(), AllocError>
+fn push_load_asked(
+    alloc: Global,
+    text: &mut String,
+    set: &TaskSet,
+    asked: Option<usize>,
+) -> Result<(), AllocError>
     ensures { OnOk result (string_bytes text.new ≡ string_bytes text.old
         ++ load_asked set.now asked) }
 {
     match asked {
         Some(_) => Ok(()),
-        None => push_load(text, set),
+        None => push_load(alloc, text, set),
     }
 }
 
@@ -273,6 +278,6 @@ pub fn explained_text(
     ensures { IfOk result (λ text. AreExplained set.now asked judged.now (string_bytes text)) }
 {
     let mut text = levels_text(alloc, set, Parted::Each, asked, judged)?;
-    push_load_asked(&mut text, set.tasks(), asked)?;
+    push_load_asked(alloc, &mut text, set.tasks(), asked)?;
     Ok(text)
 }

@@ -1,14 +1,19 @@
 //! Laws of orders that a node has. Each is the contract of a function that does nothing.
-ghost use Rattle.std.specs.Prelude.{◌≡◌, ◌↔◌, ◌+◌, ◌≤◌, ℕ, All, Bool, List, length, IsTrue};
+ghost use Rattle.std.specs.Prelude.{◌≡◌, ◌↔◌, ◌+◌, ◌<◌, ◌≤◌, ℕ, All, Bool, List, drop, length, slice_index, IsTrue};
 ghost use Rattle.task_sheet.specs.Sheet.{Task, AllTasks};
 ghost use Rattle.task_sheet.specs.TaskSet.{IsTaskSet};
+ghost use Rattle.task_sheet.specs.Indexes.{among};
+ghost use Rattle.task_sheet.specs.Demand.{blocking_of};
 ghost use Rattle.task_sheet.specs.Orders.{AllStand, IsOrder};
 ghost use Rattle.assignment.specs.Places.{PlaceData};
 ghost use Rattle.assignment.specs.Placings.{IsBestPlacing, tasks_of_places};
 ghost use Rattle.settings.specs.Settings.{settings_anew, settings_from, settings_kept};
 ghost use Rattle.judge.specs.Judgements.{AllJudged, all_meet, judged_of, order_judged};
-ghost use Rattle.judge.specs.Node.{IsNodeOrder, IsNodeOrderBy};
+ghost use Rattle.judge.specs.Ceilings.{AllJudgedBy, blocking_at, ceiling_in};
+ghost use Rattle.judge.specs.Faults.{setting_number, thread_number, top_number};
+ghost use Rattle.judge.specs.Node.{IsNodeOrder, IsNodeOrderBy, IsOrderBy};
 ghost use Rattle.judge.specs.declared.judging.JudgedTask.{JudgedTask};
+ghost use Rattle.judge.specs.declared.rows.Setting.{Setting};
 ghost use Rattle.judge.specs.declared.rows.TheConstants.{NUMBER_LIMIT};
 
 /// An order is judged in one way at most.
@@ -64,4 +69,24 @@ pub fn best_settings_meet()
         → IsBestPlacing U places → 1 ≤ base → base + length places ≤ NUMBER_LIMIT + 1
         → IsNodeOrder U (settings_from U base (tasks_of_places places)) (order_judged judged)
         → AllJudged U judged → judged ≡ judged_of places }
+{}
+
+/// Given ceilings block no less than the least ones; and where no mutex is above the highest user of its lock, what they
+/// block, and what becomes of each task, is the same as by the least.
+pub fn given_ceilings_block_no_less()
+    ensures more { (U : List Task) (threads mutexes : List Setting) (order : List ℕ) (place : ℕ)
+        → IsOrderBy U threads order → place < length order
+        → blocking_of U (slice_index order place) (among (drop (place + 1) order))
+        ≤ blocking_at (ceiling_in U threads mutexes) (thread_number U threads (slice_index order place))
+        U (slice_index order place) (among (drop (place + 1) order)) }
+    ensures same { (U : List Task) (threads mutexes : List Setting) (order : List ℕ) (place : ℕ)
+        → IsOrderBy U threads order → place < length order
+        → ((lock : List ℕ) → setting_number mutexes lock ≤ top_number U threads lock)
+        → blocking_at (ceiling_in U threads mutexes) (thread_number U threads (slice_index order place))
+        U (slice_index order place) (among (drop (place + 1) order))
+        ≡ blocking_of U (slice_index order place) (among (drop (place + 1) order)) }
+    ensures judged { (U : List Task) (threads mutexes : List Setting) (judged : List JudgedTask)
+        → IsOrderBy U threads (order_judged judged)
+        → ((lock : List ℕ) → setting_number mutexes lock ≤ top_number U threads lock)
+        → AllJudgedBy U threads mutexes judged ↔ AllJudged U judged }
 {}

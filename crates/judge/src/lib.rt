@@ -2,6 +2,7 @@
 //! there, and why.
 #![tactic(auto)]
 
+mod by_ceilings;
 mod explained;
 mod fault;
 mod front;
@@ -13,17 +14,18 @@ mod node;
 mod numbers;
 mod order;
 mod places;
+mod raised;
 mod reading;
 mod rows;
 mod settings_fault;
 mod text;
 
-pub use crate::explained::{Parted, explained_text, levels_text};
+pub use crate::explained::{Parted, explained_text, levels_text, order_of};
 pub use crate::fault::SettingsFault;
 pub use crate::front::{Front, read_front};
 pub use crate::judging::{JudgedTask, Judgement, all_meet, judge_order};
 pub use crate::kept::{read_kept, read_kept_numbers};
-pub use crate::node::{JudgedNode, judge_rows, judge_settings};
+pub use crate::node::{JudgedNode, judge_given, judge_rows, judge_settings};
 pub use crate::places::places_of;
 pub use crate::reading::order_of_rows;
 pub use crate::rows::{NUMBER_LIMIT, Setting, SettingRow};

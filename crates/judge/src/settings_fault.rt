@@ -1,8 +1,8 @@
 //! The first reason why threads and mutexes are no settings of a set.
-ghost use Rattle.std.specs.Prelude.{◌≡◌, ℕ, Bool, not, ◌==◌, List, [], find};
+ghost use Rattle.std.specs.Prelude.{◌≡◌, ℕ, Bool, not, nat_lt, ◌==◌, List, [], find};
 ghost use Rattle.std.specs.List.{list_any};
 ghost use Rattle.ceilings.specs.IsTableOf.{locks_of};
-ghost use Rattle.judge.specs.Faults.{ceiling_fault, is_no_lock, is_no_task, is_set, line_again, line_where, mutexless, setting_number, setting_fault, share, threadless, top_number, wrong_lock};
+ghost use Rattle.judge.specs.Faults.{ceiling_fault, is_no_lock, is_no_task, is_set, line_again, line_where, low_lock, fault_with, given_fault, mutexless, setting_number, setting_fault, share, threadless, top_number, wrong_lock};
 
 use crate::fault::SettingsFault;
 use crate::rows::{NodeSettings, Setting, as_written};
@@ -29,7 +29,7 @@ pub(crate) fn number_of(settings: &[Setting], name: Name) -> u64
 }
 
 // The number of the highest user of a lock.
-fn top_of(set: &Tabled<'_>, threads: &[Setting], lock: Name) -> u64
+pub(crate) fn top_of(set: &Tabled<'_>, threads: &[Setting], lock: Name) -> u64
     ensures { result ≡ top_number set.now threads.now lock }
 {
     let users = set.users(lock);
@@ -165,7 +165,26 @@ fn wrong_lock(set: &Tabled<'_>, settings: &NodeSettings) -> Option<Name>
     first_lock(set, |lock| is_wrong(set, settings, lock))
 }
 
-// That a lock's mutex isn't at the number of its highest user.
+// The mutex of a lock is below the number of the lock's highest user.
+fn is_low(set: &Tabled<'_>, settings: &NodeSettings, lock: Name) -> bool
+    ensures { result ≡ nat_lt (setting_number settings.now.mutexes.items lock)
+        (top_number set.now settings.now.threads.items lock) }
+{
+    number_of(&settings.mutexes, lock) < top_of(set, &settings.threads, lock)
+}
+
+// Where there are mutexes, the first lock, in the order of first sight, whose mutex is below the number of its highest user.
+fn low_lock(set: &Tabled<'_>, settings: &NodeSettings) -> Option<Name>
+    ensures { result ≡ low_lock set.now (locks_of set.now)
+        settings.now.threads.items settings.now.mutexes.items }
+{
+    if settings.mutexes.is_empty() {
+        return None;
+    }
+    first_lock(set, |lock| is_low(set, settings, lock))
+}
+
+// That a lock's ceiling is wrong, and the number of its highest user.
 fn ceiling_fault(
     set: &Tabled<'_>,
     lower_is_higher: bool,
@@ -178,13 +197,14 @@ fn ceiling_fault(
     SettingsFault::WrongCeiling { name, number }
 }
 
-/// The first reason why threads and mutexes are no settings of a set, whose text's numbers count so.
-pub(crate) fn setting_fault(
+// The first reason why threads and mutexes are no settings of a set, where this lock's ceiling is wrong.
+fn fault_with(
     set: &Tabled<'_>,
     lower_is_higher: bool,
     settings: &NodeSettings,
+    wrong: Option<Name>,
 ) -> Option<SettingsFault>
-    ensures { result ≡ setting_fault lower_is_higher set.now
+    ensures { result ≡ fault_with wrong lower_is_higher set.now
         settings.now.threads.items settings.now.mutexes.items }
 {
     if let Some(line) = unknown_task(set.tasks(), &settings.threads) {
@@ -208,8 +228,33 @@ pub(crate) fn setting_fault(
     if let Some(name) = mutexless(set, &settings.mutexes) {
         return Some(SettingsFault::MissingLock { name });
     }
-    match wrong_lock(set, settings) {
+    match wrong {
         Some(name) => Some(ceiling_fault(set, lower_is_higher, &settings.threads, name)),
         None => None,
     }
+}
+
+/// The first reason why threads and mutexes are no settings of a set, whose text's numbers count so: each ceiling has to be
+/// the least.
+pub(crate) fn setting_fault(
+    set: &Tabled<'_>,
+    lower_is_higher: bool,
+    settings: &NodeSettings,
+) -> Option<SettingsFault>
+    ensures { result ≡ setting_fault lower_is_higher set.now
+        settings.now.threads.items settings.now.mutexes.items }
+{
+    fault_with(set, lower_is_higher, settings, wrong_lock(set, settings))
+}
+
+/// The same where ceilings may be higher than the least.
+pub(crate) fn given_fault(
+    set: &Tabled<'_>,
+    lower_is_higher: bool,
+    settings: &NodeSettings,
+) -> Option<SettingsFault>
+    ensures { result ≡ given_fault lower_is_higher set.now
+        settings.now.threads.items settings.now.mutexes.items }
+{
+    fault_with(set, lower_is_higher, settings, low_lock(set, settings))
 }

@@ -5,12 +5,14 @@ use Rattle.std.proofs.Common.{List, [], ◌∷◌, ◌++◌, Option, None, Some,
 use Rattle.std.proofs.lemmas.Bool.{false_from_ne_true, le-ltb, ltb-false, or_parts, true≢false}
 use Rattle.std.proofs.lemmas.List.Folds.{list_all_at}
 use Rattle.std.specs.List.{list_all}
-use Rattle.observed.specs.declared.seen.Seen.{Seen}
+use Rattle.observed.specs.SeenJob.{SeenData}
 use Rattle.observed_lines.specs.Breaks.{breaks_any, breaks_blocking, breaks_bound, breaks_cost}
 use Rattle.observed_lines.specs.Breaks.{breaks_foreign, breaks_idle, breaks_jitter, breaks_period, breaks_priority}
 use Rattle.observed_lines.specs.Breaks.{is_kept, is_over, is_short, may_idle}
 use Rattle.observed_lines.specs.Broken.{broken_lines, own_lines, own_words, wait_lines, wait_words}
-use Rattle.observed_lines.specs.Causes.{causes_in}
+use Rattle.observed_lines.specs.Causes.{cause_of, sources_in}
+use Rattle.observed_lines.specs.declared.causes.Cause.{Cause}
+use Rattle.observed_lines.specs.declared.causes.Source.{Source}
 use Rattle.kept_promises.specs.Kept.{Keeps, KeepsToDemand}
 
 -- a time that isn't short of a limit, is short of it by no tolerance
@@ -32,7 +34,7 @@ lesser None limit less le enough = tt
 lesser (Some t) limit less le enough = omega (arith, le, enough)
 
 -- who keeps what is promised keeps to the demand, which has room for more
-pub keeps-to_demand : (s : Seen) → s.promise.cost ≤ s.may_execute → s.closest ≤ s.promise.period
+pub keeps-to_demand : (s : SeenData) → s.promise.cost ≤ s.may_execute → s.closest ≤ s.promise.period
     → s.promise.blocking ≤ s.may_be_blocked → Keeps s → KeepsToDemand s
 keeps-to_demand s cost closest blocking keeps = record {
   priority = keeps.priority;
@@ -44,7 +46,7 @@ keeps-to_demand s cost closest blocking keeps = record {
   taken = omega (arith, keeps.foreign, keeps.idle);
 }
 
-module _ (tolerance : ℕ) (s : Seen) (keeps : KeepsToDemand s) where
+module _ (tolerance : ℕ) (s : SeenData) (keeps : KeepsToDemand s) where
   priority : breaks_priority s ≡ false
   priority = ap (λ (o : Option ℕ). is_some o) keeps.priority
 
@@ -76,43 +78,43 @@ module _ (tolerance : ℕ) (s : Seen) (keeps : KeepsToDemand s) where
   own = rw (priority, cost, period, jitter) refl
 
   -- neither among what follows from something, nor among what doesn't
-  waits : (follows : Bool) (causes : List Seen) → wait_words follows causes tolerance s ≡ []
-  waits true causes = rw (bound, blocking, idle) refl
-  waits false causes = rw (bound, blocking, foreign, idle) refl
+  waits : (follows : Bool) (cause : Option Cause) → wait_words follows cause tolerance s ≡ []
+  waits true cause = rw (bound, blocking, idle) refl
+  waits false cause = rw (bound, blocking, foreign, idle) refl
 
 -- behind the first, too
-rest_keeps : (s : Seen) (seen : List Seen) → All KeepsToDemand (s ∷ seen) → All KeepsToDemand seen
+rest_keeps : (s : SeenData) (seen : List SeenData) → All KeepsToDemand (s ∷ seen) → All KeepsToDemand seen
 rest_keeps s seen all k d lt = all (suc k) d (omega (arith, lt))
 
-pub all_are_kept : (tolerance : ℕ) (seen : List Seen) → All KeepsToDemand seen
+pub all_are_kept : (tolerance : ℕ) (seen : List SeenData) → All KeepsToDemand seen
     → is_kept tolerance seen ≡ true
 all_are_kept tolerance [] all = refl
 all_are_kept tolerance (s ∷ seen) all =
     let here : breaks_any tolerance s ≡ false = any tolerance s (all 0 s (omega arith)) in
-    let rest : list_all (λ (x : Seen). not (breaks_any tolerance x)) seen ≡ true =
+    let rest : list_all (λ (x : SeenData). not (breaks_any tolerance x)) seen ≡ true =
     all_are_kept tolerance seen (rest_keeps s seen all) in
     rw (here, rest) refl
 
-none_own : (tolerance : ℕ) (seen : List Seen) → All KeepsToDemand seen → own_lines tolerance seen ≡ []
+none_own : (tolerance : ℕ) (seen : List SeenData) → All KeepsToDemand seen → own_lines tolerance seen ≡ []
 none_own tolerance [] all = refl
 none_own tolerance (s ∷ seen) all =
     let here : own_words tolerance s ≡ [] = own tolerance s (all 0 s (omega arith)) in
     ap (λ (words : List ℕ). words ++ own_lines tolerance seen) here
     ∙ none_own tolerance seen (rest_keeps s seen all)
 
-none_waits : (tolerance : ℕ) (follows : Bool) (causes seen : List Seen) → All KeepsToDemand seen
+none_waits : (tolerance : ℕ) (follows : Bool) (causes : List Source) (seen : List SeenData) → All KeepsToDemand seen
     → wait_lines follows causes tolerance seen ≡ []
 none_waits tolerance follows causes [] all = refl
 none_waits tolerance follows causes (s ∷ seen) all =
-    let here : wait_words follows causes tolerance s ≡ [] =
-    waits tolerance s (all 0 s (omega arith)) follows causes in
+    let here : wait_words follows (cause_of causes s) tolerance s ≡ [] =
+    waits tolerance s (all 0 s (omega arith)) follows (cause_of causes s) in
     ap (λ (words : List ℕ). words ++ wait_lines follows causes tolerance seen) here
     ∙ none_waits tolerance follows causes seen (rest_keeps s seen all)
 
-pub none_written : (tolerance : ℕ) (seen : List Seen) → All KeepsToDemand seen
+pub none_written : (tolerance : ℕ) (seen : List SeenData) → All KeepsToDemand seen
     → broken_lines tolerance seen ≡ []
 none_written tolerance seen all =
-    let causes : List Seen = causes_in tolerance seen in
+    let causes : List Source = sources_in tolerance seen in
     let later : List ℕ = wait_lines true causes tolerance seen in
     ap (λ (words : List ℕ). words ++ wait_lines false causes tolerance seen ++ later)
     (none_own tolerance seen all)
@@ -138,7 +140,7 @@ no_some None none = refl
 no_some (Some n) none = absurd (true≢false none)
 
 -- who breaks nothing keeps to the demand
-kept_one : (s : Seen) → breaks_any 0 s ≡ false → KeepsToDemand s
+kept_one : (s : SeenData) → breaks_any 0 s ≡ false → KeepsToDemand s
 kept_one s none =
     let p = or_parts (breaks_priority s) _ none in
     let a = or_parts (breaks_cost 0 s) _ p.1 in
@@ -161,9 +163,9 @@ kept_one s none =
       );
     }
 
-pub kept_all : (seen : List Seen) → is_kept 0 seen ≡ true → All KeepsToDemand seen
+pub kept_all : (seen : List SeenData) → is_kept 0 seen ≡ true → All KeepsToDemand seen
 kept_all seen kept k d lt =
     let s = get_or seen k d in
     let none : breaks_any 0 s ≡ false = false_from_ne_true _ (λ broken. true≢false (sym kept
-    ∙ list_all_at (λ (x : Seen). not (breaks_any 0 x)) seen k d lt (ap not broken))) in
+    ∙ list_all_at (λ (x : SeenData). not (breaks_any 0 x)) seen k d lt (ap not broken))) in
     kept_one s none

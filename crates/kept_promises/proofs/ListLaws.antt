@@ -13,7 +13,7 @@ use Rattle.observed.specs.Promises.{no_promise}
 use Rattle.observed.specs.Seen.{closest_to, last_from, seen_job}
 use Rattle.observed.specs.declared.pieces.Piece.{Piece}
 use Rattle.observed.specs.declared.promises.Promise.{Promise}
-use Rattle.observed.specs.declared.seen.Seen.{Seen}
+use Rattle.observed.specs.SeenJob.{SeenData}
 
 -- what is within a bound for each element, is for the greatest
 pub greatest_most : {X : Type 0} (f : X → ℕ) (b : ℕ) (xs : List X) (d : X)
@@ -26,7 +26,7 @@ greatest_most f b (x ∷ xs) d each =
     omega (arith, here, rest)
 
 -- what holds of what is seen of each job that has a level
-pub each_seen : (P : Seen → Type 0) (U : List Task) (promises : List Promise) (end : ℕ) (pieces : List Piece)
+pub each_seen : (P : SeenData → Type 0) (U : List Task) (promises : List Promise) (end : ℕ) (pieces : List Piece)
     (all : List TraceJob) (d : TraceJob)
     → ((j level : ℕ) → j < length all → level_of promises (slice_index_or all j d).name ≡ Some level
     → P (seen_job U promises (slice_index_or promises level no_promise) level end pieces (take j all)

@@ -62,7 +62,7 @@ use Rattle.observed.specs.Ranks.{is_stray, is_wrong, stray_in}
 use Rattle.observed.specs.Shares.{is_at, is_below}
 use Rattle.observed.specs.declared.pieces.Piece.{Piece}
 use Rattle.observed.specs.declared.promises.Promise.{Promise}
-use Rattle.observed.specs.declared.seen.Seen.{Seen}
+use Rattle.observed.specs.SeenJob.{SeenData}
 use Rattle.kept_promises.specs.Kept.{Keeps, KeepsToDemand}
 use Rattle.kept_promises.proofs.BlockLaws.{low, low_most}
 use Rattle.kept_promises.proofs.BreakLaws.{keeps-to_demand}
@@ -413,12 +413,12 @@ module _ {U : List Task} {places : List PlaceData} {lines : TraceLines}
   abbrev promise_at : (j : ℕ) → j < length rs → Promise
   promise_at j lt = slice_index_or promises (level_at j lt) no_promise
 
-  abbrev pub sight : (j : ℕ) → j < length rs → Seen
+  abbrev pub sight : (j : ℕ) → j < length rs → SeenData
   sight j lt =
       seen_job U promises (promise_at j lt) (level_at j lt) end pieces (take j all) (shown j)
 
   -- what holds of what is seen of each job, holds of all that is seen
-  pub all_seen : (P : Seen → Type 0) → ((j : ℕ) (lt : j < length rs) → P (sight j lt))
+  pub all_seen : (P : SeenData → Type 0) → ((j : ℕ) (lt : j < length rs) → P (sight j lt))
       → All P (observed_in U promises lines)
   all_seen P each =
       let here : (j level : ℕ) → j < length all

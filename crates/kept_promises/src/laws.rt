@@ -5,7 +5,7 @@ ghost use Rattle.assignment.specs.Places.{PlaceData};
 ghost use Rattle.trace_text.specs.declared.reading.TraceLines.{TraceLines};
 ghost use Rattle.observed.specs.Observed.{observed_fault, observed_in};
 ghost use Rattle.observed.specs.Promises.{promises_of};
-ghost use Rattle.observed.specs.declared.seen.Seen.{Seen};
+ghost use Rattle.observed.specs.SeenJob.{SeenData};
 ghost use Rattle.observed_lines.specs.Breaks.{is_kept};
 ghost use Rattle.observed_lines.specs.Broken.{broken_lines};
 ghost use Rattle.kept_promises.specs.Kept.{Keeps, KeepsToDemand};
@@ -21,7 +21,7 @@ pub fn promises_are_kept()
 
 /// What is seen of jobs breaks nothing, to the tick, if and only if each keeps to the demand, timers and interrupts with it.
 pub fn kept_is_to_the_demand()
-    ensures { (seen : List Seen) → (is_kept 0 seen ≡ true) ↔ All KeepsToDemand seen }
+    ensures { (seen : List SeenData) → (is_kept 0 seen ≡ true) ↔ All KeepsToDemand seen }
 {}
 
 /// So a trace of such a run is one of the set, and whatever the tolerance, nothing is said to be broken.

@@ -4,11 +4,6 @@ use Rattle.std.specs.Fmt.{decimal}
 use Rattle.task_sheet.specs.declared.node.Node.{Node}
 use Rattle.task_sheet.specs.Sheet.{Task, task_at}
 use Rattle.task_sheet.specs.TaskSet.{IsTaskSet}
-use Rattle.task_sheet.specs.Orders.{IsOrder}
-use Rattle.assignment.specs.declared.placing.Placing.{Placing}
-use Rattle.assignment.specs.declared.placing.Placing.TheVariants.{Best, Stuck}
-use Rattle.assignment.specs.Places.{PlaceData}
-use Rattle.assignment.specs.Placings.{tasks_of_places}
 use Rattle.overheads.specs.Padding.{padding_fault}
 use Rattle.overheads.specs.declared.padding.PadFault.{PadFault}
 use Rattle.overheads.specs.declared.padding.PadFault.TheVariants.{CostPastPeriod, JitterPastDeadline, OutOfMemory}
@@ -23,30 +18,30 @@ use Rattle.limit_lines.specs.Lines.{IsNumberLine, values_words}
 
 -- ---- interrupts
 -- the lines of the interrupt at a place on the account of task i: its cost and its period
-abbrev pub AreInterruptLines : List Owner → List Task → Option (List PlaceData) → (i place : ℕ)
+abbrev pub AreInterruptLines : List Owner → List Task → Option (List ℕ) → (i place : ℕ)
     → List ℕ → Type 0
-AreInterruptLines owners U places i place text =
+AreInterruptLines owners U order i place text =
     (cost : List ℕ) × (period : List ℕ)
-    × IsNumberLine (interrupt_words owners place) U places i (InterruptCost place) cost
-    × IsNumberLine (interrupt_words owners place) U places i (InterruptPeriod place) period
+    × IsNumberLine (interrupt_words owners place) U order i (InterruptCost place) cost
+    × IsNumberLine (interrupt_words owners place) U order i (InterruptPeriod place) period
     × (text ≡ cost ++ period)
 
 -- those of the first on its account
-abbrev pub AreAccountLines : List Owner → List Task → Option (List PlaceData) → (i count : ℕ)
+abbrev pub AreAccountLines : List Owner → List Task → Option (List ℕ) → (i count : ℕ)
     → List ℕ → Type 0
-AreAccountLines owners U places i zero text = text ≡ []
-AreAccountLines owners U places i (suc place) text =
-    (front : List ℕ) × (lines : List ℕ) × AreAccountLines owners U places i place front
-    × AreInterruptLines owners U places i place lines
+AreAccountLines owners U order i zero text = text ≡ []
+AreAccountLines owners U order i (suc place) text =
+    (front : List ℕ) × (lines : List ℕ) × AreAccountLines owners U order i place front
+    × AreInterruptLines owners U order i place lines
     × (text ≡ front ++ lines)
 
 -- those of all on the accounts of the first tasks
-abbrev pub AreInterruptsLines : List Owner → List Task → Option (List PlaceData) → (count : ℕ)
+abbrev pub AreInterruptsLines : List Owner → List Task → Option (List ℕ) → (count : ℕ)
     → List ℕ → Type 0
-AreInterruptsLines owners U places zero text = text ≡ []
-AreInterruptsLines owners U places (suc i) text =
-    (front : List ℕ) × (lines : List ℕ) × AreInterruptsLines owners U places i front
-    × AreAccountLines owners U places i (length (task_at U i).interrupts) lines
+AreInterruptsLines owners U order zero text = text ≡ []
+AreInterruptsLines owners U order (suc i) text =
+    (front : List ℕ) × (lines : List ℕ) × AreInterruptsLines owners U order i front
+    × AreAccountLines owners U order i (length (task_at U i).interrupts) lines
     × (text ≡ front ++ lines)
 
 -- ---- the node
@@ -88,53 +83,59 @@ shared_line W node number own (Some most) =
     values_words (codes "node") (shared_label number) (shared_of number node) own most
     ++ shared_held W node number most ++ codes "\n"
 
--- the furthest value in the order of these places, where there is an order
-abbrev pub AnswersSharedIn : List Task → Node → Option (List PlaceData) → Shared → Option ℕ → Type 0
-AnswersSharedIn W node (Some places) number own =
-    AnswersShared W node number (Some (tasks_of_places places)) own
+-- the furthest value in the order, where one is given
+abbrev pub AnswersSharedIn : List Task → Node → Option (List ℕ) → Shared → Option ℕ → Type 0
+AnswersSharedIn W node (Some order) number own = AnswersShared W node number (Some order) own
 AnswersSharedIn W node None number own = own ≡ None
 
-abbrev pub IsSharedLine : List Task → Node → Option (List PlaceData) → Shared → List ℕ → Type 0
-IsSharedLine W node places number text =
-    (own : Option ℕ) × (most : Option ℕ) × AnswersSharedIn W node places number own
-    × AnswersShared W node number None most
+-- a number of the node has a line: in an order that is given only where a value of it helps that
+abbrev pub is_shared_told : Option (List ℕ) → (own : Option ℕ) → Bool
+is_shared_told None own = true
+is_shared_told (Some order) None = false
+is_shared_told (Some order) (Some value) = true
+
+-- the line of a number of the node; nothing where it has none
+abbrev pub IsSharedTold : Bool → List Task → Node → Shared → (own : Option ℕ) → List ℕ → Type 0
+IsSharedTold false W node number own text = text ≡ []
+IsSharedTold true W node number own text =
+    (most : Option ℕ) × AnswersShared W node number None most
     × (text ≡ shared_line W node number own most)
 
--- the line of a number of the node that takes something; nothing where it is 0
-abbrev pub IsSharedLineIf : Bool → List Task → Node → Option (List PlaceData) → Shared → List ℕ
-    → Type 0
-IsSharedLineIf true W node places number text = IsSharedLine W node places number text
-IsSharedLineIf false W node places number text = text ≡ []
+abbrev pub IsSharedLine : List Task → Node → Option (List ℕ) → Shared → List ℕ → Type 0
+IsSharedLine W node order number text =
+    (own : Option ℕ) × AnswersSharedIn W node order number own
+    × IsSharedTold (is_shared_told order own) W node number own text
 
-abbrev pub IsNodeLine : List Task → Node → Option (List PlaceData) → Shared → List ℕ → Type 0
-IsNodeLine W node places number text =
-    IsSharedLineIf (nat_lt 0 (shared_of number node)) W node places number text
+-- the line of a number of the node that takes something; nothing where it is 0
+abbrev pub IsSharedLineIf : Bool → List Task → Node → Option (List ℕ) → Shared → List ℕ
+    → Type 0
+IsSharedLineIf true W node order number text = IsSharedLine W node order number text
+IsSharedLineIf false W node order number text = text ≡ []
+
+abbrev pub IsNodeLine : List Task → Node → Option (List ℕ) → Shared → List ℕ → Type 0
+IsNodeLine W node order number text =
+    IsSharedLineIf (nat_lt 0 (shared_of number node)) W node order number text
 
 -- the lines of what the node takes of tasks as they are written
-abbrev pub AreNodeLines : List Task → Node → Option (List PlaceData) → List ℕ → Type 0
-AreNodeLines W node places text =
+abbrev pub AreNodeLines : List Task → Node → Option (List ℕ) → List ℕ → Type 0
+AreNodeLines W node order text =
     (job : List ℕ) × (lock : List ℕ) × (release : List ℕ) × (late : List ℕ)
-    × IsNodeLine W node places Job job
-    × IsNodeLine W node places Lock lock
-    × IsNodeLine W node places Release release
-    × IsNodeLine W node places Late late
+    × IsNodeLine W node order Job job
+    × IsNodeLine W node order Lock lock
+    × IsNodeLine W node order Release release
+    × IsNodeLine W node order Late late
     × (text ≡ job ++ lock ++ release ++ late)
 
 -- the same of a set with what its node takes; nothing where no document says it
-abbrev pub AreNodeLinesOf : List Task → Option (List PlaceData) → List ℕ → Type 0
-AreNodeLinesOf U places text =
-    (IsTaskSet (written U) × AreNodeLines (written U) (node_of U) places text)
+abbrev pub AreNodeLinesOf : List Task → Option (List ℕ) → List ℕ → Type 0
+AreNodeLinesOf U order text =
+    (IsTaskSet (written U) × AreNodeLines (written U) (node_of U) order text)
     ⊎ (¬ IsTaskSet (written U) × (text ≡ []))
 
--- the order of a placing, where it has one, names the tasks of a set
-abbrev pub OrdersOf : Placing → List Task → Type 0
-OrdersOf (Best places) W = IsOrder W (tasks_of_places places.items)
-OrdersOf (Stuck members) W = Unit {0}
-
 -- ---- both
-abbrev pub AreCommonLines : List Owner → List Task → Option (List PlaceData) → List ℕ → Type 0
-AreCommonLines owners U places text =
+abbrev pub AreCommonLines : List Owner → List Task → Option (List ℕ) → List ℕ → Type 0
+AreCommonLines owners U order text =
     (interrupts : List ℕ) × (node : List ℕ)
-    × AreInterruptsLines owners U places (length U) interrupts
-    × AreNodeLinesOf U places node
+    × AreInterruptsLines owners U order (length U) interrupts
+    × AreNodeLinesOf U order node
     × (text ≡ interrupts ++ node)

@@ -1,21 +1,20 @@
 -- The lines that say how far the numbers of a set may go.
-use Rattle.std.specs.Prelude.{◌≡◌, ◌⊎◌, ℕ, zero, suc, ◌+◌, ◌-◌, ◌<◌, ◌==◌, Bool, true, nat_lt, nat_le, List, [], ◌∷◌, ◌++◌, length, codes, Option, Some, None, option_map, if◌then◌else◌}
+use Rattle.std.specs.Prelude.{◌≡◌, ◌⊎◌, ℕ, zero, suc, ◌+◌, ◌-◌, ◌<◌, ◌==◌, Bool, true, false, ◌&&◌, nat_lt, nat_le, List, [], ◌∷◌, ◌++◌, length, codes, Option, Some, None, option_map, if◌then◌else◌}
 use Rattle.std.specs.Fmt.{decimal}
 use Rattle.task_sheet.specs.declared.sheet.TheConstants.{PERIOD_FROM}
 use Rattle.task_sheet.specs.declared.node.TheConstants.{INTERRUPT_FROM}
 use Rattle.task_sheet.specs.Sheet.{Task, task_at}
 use Rattle.task_sheet.specs.Overheads.{calls, overhead_of}
-use Rattle.task_sheet.specs.Orders.{IsPassingOrder}
 use Rattle.lines.specs.Naming.{name_at}
 use Rattle.assignment.specs.Places.{PlaceData}
 use Rattle.assignment.specs.Placings.{tasks_of_places}
 use Rattle.assignment.specs.declared.placing.Placing.{Placing}
 use Rattle.assignment.specs.declared.placing.Placing.TheVariants.{Best, Stuck}
 use Rattle.limits.specs.Numbers.{interrupt_at, section_at, value_of, with_number, AnswersFurthest}
-use Rattle.limits.specs.InOrder.{IsFurthestIn}
+use Rattle.limits.specs.InOrder.{AnswersFurthestIn}
 use Rattle.limits.specs.declared.number.Number.{Number}
 use Rattle.limits.specs.declared.number.Number.TheVariants.{Cost, Period, Deadline, Jitter, Len, InterruptCost, InterruptPeriod}
-use Rattle.factor.specs.Factors.{IsFactorIn}
+use Rattle.factor.specs.Factors.{AnswersFactorOf}
 use Rattle.factor.specs.Failing.{AnswersFactor}
 use Rattle.factor.specs.declared.Slowdown.{Slowdown}
 
@@ -29,10 +28,10 @@ abbrev pub order_in : Placing → List ℕ
 order_in (Best places) = tasks_of_places places.items
 order_in (Stuck members) = []
 
--- the order of a placing, where it has one, passes, whether it is the best or not
-abbrev pub HasPassing : List Task → Placing → Type 0
-HasPassing U (Best places) = IsPassingOrder U (tasks_of_places places.items)
-HasPassing U (Stuck members) = Unit {0}
+-- the same, where it has one
+abbrev pub order_given : Placing → Option (List ℕ)
+order_given (Best places) = Some (tasks_of_places places.items)
+order_given (Stuck members) = None
 
 -- ---- a number
 -- the numbers of a task, one after the other: cost, period, deadline, jitter, and the lengths of its sections
@@ -58,12 +57,10 @@ abbrev pub some_words : Option ℕ → List ℕ
 some_words None = codes "-"
 some_words (Some n) = decimal n
 
--- the furthest value of the number of task i with which the order passes, where there is an order
-abbrev pub AnswersIn : List Task → Option (List PlaceData) → ℕ → Number → Option ℕ → Type 0
-AnswersIn U (Some places) i number (Some value) =
-    IsFurthestIn U (tasks_of_places places) i number value
-AnswersIn U (Some places) i number None = ⊥
-AnswersIn U None i number answer = answer ≡ None
+-- the furthest value of the number of task i with which the order passes, where one is given
+abbrev pub AnswersIn : List Task → Option (List ℕ) → ℕ → Number → Option ℕ → Type 0
+AnswersIn U (Some order) i number own = AnswersFurthestIn U order i number own
+AnswersIn U None i number own = own ≡ None
 
 -- what of a number is the node's: of a cost what a job takes beside its own work, but for its timer; of a jitter how late
 -- the node may be; of the length of a section the calls on its locks
@@ -96,11 +93,17 @@ abbrev pub before_words : Option ℕ → List ℕ
 before_words None = []
 before_words (Some n) = decimal n ++ codes " "
 
--- what another number was, and what it is with the furthest value in the order, where there is one, and with that in any;
--- nothing where it stays with the latter
+-- a number stays as it was, where there is one
+abbrev pub stays : (was : ℕ) → Option ℕ → Bool
+stays was None = true
+stays was (Some n) = n == was
+
+-- what another number is with the furthest value in the order, where there is one, and with that in any; nothing where it
+-- stays as it was with both
 abbrev pub moved_words : Number → (was : ℕ) → (own : Option ℕ) → (most : ℕ) → List ℕ
 moved_words other was own most =
-    if most == was then [] else codes " with" ++ label_of other ++ before_words own ++ decimal most
+    if stays was own && (most == was) then []
+    else codes " with" ++ label_of other ++ before_words own ++ decimal most
 
 -- what goes along with the furthest values of a number: the deadline with a period, the period with a deadline
 abbrev pub along_words : Number → Task → (own : Option ℕ) → (most : ℕ) → List ℕ
@@ -166,20 +169,34 @@ number_line whose t number own (Some most) =
     ++ along_words number t own most ++ held_words number t most ++ codes "\n"
     else []
 
--- the line of a number of task i, which is said to be of this
-abbrev pub IsNumberLine : (whose : List ℕ) → List Task → Option (List PlaceData) → ℕ → Number
-    → List ℕ → Type 0
-IsNumberLine whose U places i number text =
-    (own : Option ℕ) × (most : Option ℕ) × AnswersIn U places i number own
-    × AnswersFurthest U i number most
+-- this furthest value in an order leaves the task a number of its own
+abbrev pub helps_own : Number → Task → Option ℕ → Bool
+helps_own number t None = false
+helps_own number t (Some value) = leaves_own number (node_part number t) value
+
+-- a number has a line: in an order that is given only where a value of it helps that
+abbrev pub is_told : Number → Task → Option (List ℕ) → (own : Option ℕ) → Bool
+is_told number t None own = true
+is_told number t (Some order) own = helps_own number t own
+
+-- the line of a number of task i, which is said to be of this; nothing where it has none
+abbrev pub IsLineIf : Bool → (whose : List ℕ) → List Task → ℕ → Number → (own : Option ℕ) → List ℕ → Type 0
+IsLineIf false whose U i number own text = text ≡ []
+IsLineIf true whose U i number own text =
+    (most : Option ℕ) × AnswersFurthest U i number most
     × (text ≡ number_line whose (task_at U i) number own most)
 
+abbrev pub IsNumberLine : (whose : List ℕ) → List Task → Option (List ℕ) → ℕ → Number → List ℕ → Type 0
+IsNumberLine whose U order i number text =
+    (own : Option ℕ) × AnswersIn U order i number own
+    × IsLineIf (is_told number (task_at U i) order own) whose U i number own text
+
 -- the text is a line for each of the first numbers of task i
-abbrev pub AreNumberLines : List Task → Option (List PlaceData) → ℕ → ℕ → List ℕ → Type 0
-AreNumberLines U places i zero text = text ≡ []
-AreNumberLines U places i (suc k) text =
-    (front : List ℕ) × (line : List ℕ) × AreNumberLines U places i k front
-    × IsNumberLine (name_at U i) U places i (number_at k) line
+abbrev pub AreNumberLines : List Task → Option (List ℕ) → ℕ → ℕ → List ℕ → Type 0
+AreNumberLines U order i zero text = text ≡ []
+AreNumberLines U order i (suc k) text =
+    (front : List ℕ) × (line : List ℕ) × AreNumberLines U order i k front
+    × IsNumberLine (name_at U i) U order i (number_at k) line
     × (text ≡ front ++ line)
 
 -- ---- a task
@@ -189,7 +206,7 @@ slack_in deadline [] i = None
 slack_in deadline (place ∷ places) i =
     if place.task == i then Some (deadline - place.response) else slack_in deadline places i
 
--- the same, where there is an order
+-- the same, where there are places
 abbrev pub slack_of : List Task → Option (List PlaceData) → ℕ → Option ℕ
 slack_of U (Some places) i = slack_in (task_at U i).deadline places i
 slack_of U None i = None
@@ -199,18 +216,17 @@ abbrev pub slack_line : List Task → ℕ → Option ℕ → List ℕ
 slack_line U i None = []
 slack_line U i (Some slack) = name_at U i ++ codes " slack " ++ decimal slack ++ codes "\n"
 
--- the lines of task i: its numbers, and its slack
-abbrev pub AreTaskLines : List Task → Option (List PlaceData) → ℕ → List ℕ → Type 0
-AreTaskLines U places i text =
-    (numbers : List ℕ) × AreNumberLines U places i (4 + length (task_at U i).sections) numbers
+-- the lines of task i: its numbers, and its slack in places
+abbrev pub AreTaskLines : List Task → Option (List ℕ) → Option (List PlaceData) → ℕ → List ℕ → Type 0
+AreTaskLines U order places i text =
+    (numbers : List ℕ) × AreNumberLines U order i (4 + length (task_at U i).sections) numbers
     × (text ≡ numbers ++ slack_line U i (slack_of U places i))
 
 -- ---- all at once
--- the greatest factor on all execution with which the order passes, where there is an order
-abbrev pub AnswersFactorIn : List Task → Option (List PlaceData) → Option ℕ → Type 0
-AnswersFactorIn U (Some places) (Some factor) = IsFactorIn U (tasks_of_places places) factor
-AnswersFactorIn U (Some places) None = ⊥
-AnswersFactorIn U None answer = answer ≡ None
+-- the greatest factor on all execution with which the order passes, where one is given
+abbrev pub AnswersFactorIn : List Task → Option (List ℕ) → Option ℕ → Type 0
+AnswersFactorIn U (Some order) own = AnswersFactorOf U order own
+AnswersFactorIn U None own = own ≡ None
 
 -- that factor, the greatest with which some order passes, and the task that fails first past the latter; `-` where no
 -- factor helps
@@ -222,10 +238,10 @@ factor_line U own (Some found) =
 factor_line U own None = codes "all - -\n"
 
 -- the line of the factors, and nothing for the empty set
-abbrev pub IsLast : List Task → Option (List PlaceData) → List ℕ → Type 0
-IsLast U places text =
+abbrev pub IsLast : List Task → Option (List ℕ) → List ℕ → Type 0
+IsLast U order text =
     ((length U ≡ 0) × (text ≡ []))
     ⊎ ((0 < length U)
-    × ((own : Option ℕ) × (found : Option Slowdown) × AnswersFactorIn U places own
+    × ((own : Option ℕ) × (found : Option Slowdown) × AnswersFactorIn U order own
     × AnswersFactor U found
     × (text ≡ factor_line U own found)))

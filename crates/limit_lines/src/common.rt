@@ -1,14 +1,13 @@
 //! The lines of numbers that are no task's own: of the interrupts, and of what the node takes.
-ghost use Rattle.std.specs.Prelude.{◌≡◌, ◌++◌, ◌<◌, ◌≤◌, length, codes, IfOk, IfSome, OnOk, string_bytes};
+ghost use Rattle.std.specs.Prelude.{◌≡◌, ◌++◌, ◌<◌, ◌≤◌, length, codes, option_map, IfOk, IfSome, OnOk, string_bytes};
 ghost use Rattle.task_sheet.specs.declared.node.TheConstants.{INTERRUPT_LIMIT};
 ghost use Rattle.task_sheet.specs.Sheet.{AreOverheads, task_at};
+ghost use Rattle.task_sheet.specs.Orders.{IsOrder};
 ghost use Rattle.limits.specs.Shared.{most_shared};
 ghost use Rattle.limits.specs.Written.{node_of, written};
-ghost use Rattle.limit_lines.specs.Lines.{HasPassing, order_in, places_in};
-ghost use Rattle.limit_lines.specs.Common.{AnswersSharedIn, AreAccountLines, AreCommonLines, AreInterruptLines, AreInterruptsLines, AreNodeLines, AreNodeLinesOf, IsNodeLine, OrdersOf, IsSharedLine, fault_words, is_whole, room_words, shared_held, shared_label, shared_line};
+ghost use Rattle.limit_lines.specs.Common.{AnswersSharedIn, AreAccountLines, AreCommonLines, AreInterruptLines, AreInterruptsLines, AreNodeLines, AreNodeLinesOf, IsNodeLine, IsSharedLine, fault_words, is_shared_told, is_whole, room_words, shared_held, shared_label, shared_line};
 
 use crate::text::{number_text, push_some};
-use assignment::Placing;
 use ceilings::Tabled;
 use limits::{
     Number, Shared, furthest_shared, most_shared, node_of, room_fault, shared_of, with_shared,
@@ -26,26 +25,24 @@ fn interrupt_text(
     alloc: Global,
     owners: &[Owner],
     set: &Tabled<'_>,
-    placing: &Placing,
-    order: &[usize],
+    order: Option<&[usize]>,
     task: usize,
     place: usize,
 ) -> Result<String, AllocError>
-    requires placing { HasPassing set.now placing.now }
-    requires order { order.now ≡ order_in placing.now }
+    requires order { IfSome (option_map (λ o. o.now) order) (IsOrder set.now) }
     requires task { task < length set.now }
     requires place { place < length (task_at set.now task).interrupts }
     requires few { place < INTERRUPT_LIMIT }
-    ensures { IfOk result (λ text. AreInterruptLines owners.now set.now (places_in placing.now) task
+    ensures { IfOk result (λ text. AreInterruptLines owners.now set.now (option_map (λ o. o.now) order.entry) task
         place (string_bytes text)) }
 {
     let mut whose = String::new(alloc);
     push_interrupt(&mut whose, owners, place)?;
     let whose = whose.as_str();
     let cost = Number::InterruptCost(place);
-    let mut text = number_text(alloc, whose, set, placing, order, task, cost)?;
+    let mut text = number_text(alloc, whose, set, order, task, cost)?;
     let period = Number::InterruptPeriod(place);
-    let line = number_text(alloc, whose, set, placing, order, task, period)?;
+    let line = number_text(alloc, whose, set, order, task, period)?;
     text.push_str(line.as_str())?;
     Ok(text)
 }
@@ -55,20 +52,18 @@ fn account_text(
     alloc: Global,
     owners: &[Owner],
     set: &Tabled<'_>,
-    placing: &Placing,
-    order: &[usize],
+    order: Option<&[usize]>,
     task: usize,
 ) -> Result<String, AllocError>
-    requires placing { HasPassing set.now placing.now }
-    requires order { order.now ≡ order_in placing.now }
+    requires order { IfSome (option_map (λ o. o.now) order) (IsOrder set.now) }
     requires task { task < length set.now }
-    ensures { IfOk result (λ text. AreAccountLines owners.now set.now (places_in placing.now) task
+    ensures { IfOk result (λ text. AreAccountLines owners.now set.now (option_map (λ o. o.now) order.entry) task
         (length (task_at set.now task).interrupts) (string_bytes text)) }
 {
     let count = set.sheets()[task].interrupts().len();
     let mut text = String::new(alloc);
     for place in 0..count {
-        let lines = interrupt_text(alloc, owners, set, placing, order, task, place)?;
+        let lines = interrupt_text(alloc, owners, set, order, task, place)?;
         text.push_str(lines.as_str())?;
     }
     Ok(text)
@@ -79,17 +74,15 @@ fn interrupts_text(
     alloc: Global,
     owners: &[Owner],
     set: &Tabled<'_>,
-    placing: &Placing,
-    order: &[usize],
+    order: Option<&[usize]>,
 ) -> Result<String, AllocError>
-    requires placing { HasPassing set.now placing.now }
-    requires order { order.now ≡ order_in placing.now }
-    ensures { IfOk result (λ text. AreInterruptsLines owners.now set.now (places_in placing.now)
+    requires order { IfSome (option_map (λ o. o.now) order) (IsOrder set.now) }
+    ensures { IfOk result (λ text. AreInterruptsLines owners.now set.now (option_map (λ o. o.now) order.entry)
         (length set.now) (string_bytes text)) }
 {
     let mut text = String::new(alloc);
     for task in 0..set.len() {
-        let lines = account_text(alloc, owners, set, placing, order, task)?;
+        let lines = account_text(alloc, owners, set, order, task)?;
         text.push_str(lines.as_str())?;
     }
     Ok(text)
@@ -201,43 +194,52 @@ fn push_shared(
     text.push_str("\n")
 }
 
-// The furthest value of a number of the node with which the order of a placing passes; none after a no.
+// The furthest value of a number of the node with which an order passes that is given; none where none is.
 fn shared_in(
     alloc: Global,
     written: &TaskSet,
     node: Node,
-    placing: &Placing,
-    order: &[usize],
+    order: Option<&[usize]>,
     number: Shared,
 ) -> Result<Option<u64>, AllocError>
-    requires order { order.now ≡ order_in placing.now }
-    requires fits { OrdersOf placing.now written.now }
-    ensures { IfOk result (λ own. AnswersSharedIn written.now node (places_in placing.now) number own) }
+    requires order { IfSome (option_map (λ o. o.now) order) (IsOrder written.now) }
+    ensures { IfOk result (λ own. AnswersSharedIn written.now node (option_map (λ o. o.now) order.entry) number own) }
 {
-    match placing {
-        Placing::Best(_) => furthest_shared(alloc, written, node, number, Some(order)),
-        Placing::Stuck(_) => Ok(None),
+    match order {
+        Some(order) => furthest_shared(alloc, written, node, number, Some(order)),
+        None => Ok(None),
     }
 }
 
-// The line of a number of the node.
+// Whether a number of the node has a line.
+fn is_shared_told(order: Option<&[usize]>, own: Option<u64>) -> bool
+    ensures { result ≡ is_shared_told (option_map (λ o. o.now) order.entry) own }
+{
+    match order {
+        Some(_) => own.is_some(),
+        None => true,
+    }
+}
+
+// The line of a number of the node; nothing where it has none.
 fn shared_text(
     alloc: Global,
     written: &TaskSet,
     node: Node,
-    placing: &Placing,
-    order: &[usize],
+    order: Option<&[usize]>,
     number: Shared,
 ) -> Result<String, AllocError>
     requires limits { AreOverheads node }
-    requires order { order.now ≡ order_in placing.now }
-    requires fits { OrdersOf placing.now written.now }
-    ensures { IfOk result (λ text. IsSharedLine written.now node (places_in placing.now) number
+    requires order { IfSome (option_map (λ o. o.now) order) (IsOrder written.now) }
+    ensures { IfOk result (λ text. IsSharedLine written.now node (option_map (λ o. o.now) order.entry) number
         (string_bytes text)) }
 {
-    let own = shared_in(alloc, written, node, placing, order, number)?;
-    let most = furthest_shared(alloc, written, node, number, None)?;
+    let own = shared_in(alloc, written, node, order, number)?;
     let mut text = String::new(alloc);
+    if !is_shared_told(order, own) {
+        return Ok(text);
+    }
+    let most = furthest_shared(alloc, written, node, number, None)?;
     push_shared(alloc, &mut text, written, node, number, own, most)?;
     Ok(text)
 }
@@ -247,18 +249,16 @@ fn node_line(
     alloc: Global,
     written: &TaskSet,
     node: Node,
-    placing: &Placing,
-    order: &[usize],
+    order: Option<&[usize]>,
     number: Shared,
 ) -> Result<String, AllocError>
     requires limits { AreOverheads node }
-    requires order { order.now ≡ order_in placing.now }
-    requires fits { OrdersOf placing.now written.now }
-    ensures { IfOk result (λ text. IsNodeLine written.now node (places_in placing.now) number
+    requires order { IfSome (option_map (λ o. o.now) order) (IsOrder written.now) }
+    ensures { IfOk result (λ text. IsNodeLine written.now node (option_map (λ o. o.now) order.entry) number
         (string_bytes text)) }
 {
     if 0 < shared_of(node, number) {
-        shared_text(alloc, written, node, placing, order, number)
+        shared_text(alloc, written, node, order, number)
     } else {
         Ok(String::new(alloc))
     }
@@ -269,19 +269,17 @@ fn node_lines(
     alloc: Global,
     written: &TaskSet,
     node: Node,
-    placing: &Placing,
-    order: &[usize],
+    order: Option<&[usize]>,
 ) -> Result<String, AllocError>
     requires limits { AreOverheads node }
-    requires order { order.now ≡ order_in placing.now }
-    requires fits { OrdersOf placing.now written.now }
-    ensures { IfOk result (λ text. AreNodeLines written.now node (places_in placing.now)
+    requires order { IfSome (option_map (λ o. o.now) order) (IsOrder written.now) }
+    ensures { IfOk result (λ text. AreNodeLines written.now node (option_map (λ o. o.now) order.entry)
         (string_bytes text)) }
 {
-    let mut text = node_line(alloc, written, node, placing, order, Shared::Job)?;
-    let lock = node_line(alloc, written, node, placing, order, Shared::Lock)?;
-    let release = node_line(alloc, written, node, placing, order, Shared::Release)?;
-    let late = node_line(alloc, written, node, placing, order, Shared::Late)?;
+    let mut text = node_line(alloc, written, node, order, Shared::Job)?;
+    let lock = node_line(alloc, written, node, order, Shared::Lock)?;
+    let release = node_line(alloc, written, node, order, Shared::Release)?;
+    let late = node_line(alloc, written, node, order, Shared::Late)?;
     text.push_str(lock.as_str())?;
     text.push_str(release.as_str())?;
     text.push_str(late.as_str())?;
@@ -292,12 +290,10 @@ fn node_lines(
 fn node_text(
     alloc: Global,
     set: &TaskSet,
-    placing: &Placing,
-    order: &[usize],
+    order: Option<&[usize]>,
 ) -> Result<String, AllocError>
-    requires placing { HasPassing set.now placing.now }
-    requires order { order.now ≡ order_in placing.now }
-    ensures { IfOk result (λ text. AreNodeLinesOf set.now (places_in placing.now)
+    requires order { IfSome (option_map (λ o. o.now) order) (IsOrder set.now) }
+    ensures { IfOk result (λ text. AreNodeLinesOf set.now (option_map (λ o. o.now) order.entry)
         (string_bytes text)) }
 {
     // (a set, as its sheets say)
@@ -307,28 +303,26 @@ fn node_text(
     match said {
         Some(tasks) => {
             let _sheets = tasks.sheets();
-            node_lines(alloc, &tasks, node, placing, order)
+            node_lines(alloc, &tasks, node, order)
         }
         None => Ok(String::new(alloc)),
     }
 }
 
 /// The lines of numbers that are no task's own: of each interrupt its cost and its period, and of what the node takes each
-/// number above 0. `order` is that of the placing, the lowest first. The error is out of memory.
+/// number above 0; in an order that is given, the lowest first, only of what helps it. The error is out of memory.
 pub fn common_text(
     alloc: Global,
     owners: &[Owner],
     set: &Tabled<'_>,
-    placing: &Placing,
-    order: &[usize],
+    order: Option<&[usize]>,
 ) -> Result<String, AllocError>
-    requires placing { HasPassing set.now placing.now }
-    requires order { order.now ≡ order_in placing.now }
-    ensures { IfOk result (λ text. AreCommonLines owners.now set.now (places_in placing.now)
+    requires order { IfSome (option_map (λ o. o.now) order) (IsOrder set.now) }
+    ensures { IfOk result (λ text. AreCommonLines owners.now set.now (option_map (λ o. o.now) order.entry)
         (string_bytes text)) }
 {
-    let mut text = interrupts_text(alloc, owners, set, placing, order)?;
-    let node = node_text(alloc, set.tasks(), placing, order)?;
+    let mut text = interrupts_text(alloc, owners, set, order)?;
+    let node = node_text(alloc, set.tasks(), order)?;
     text.push_str(node.as_str())?;
     Ok(text)
 }

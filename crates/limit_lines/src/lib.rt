@@ -3,7 +3,9 @@
 #![tactic(auto)]
 
 mod common;
+mod given;
 mod text;
 
 pub use crate::common::common_text;
+pub use crate::given::{order_given, places_given};
 pub use crate::text::{last_text, task_text};

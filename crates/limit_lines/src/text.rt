@@ -2,13 +2,13 @@
 ghost use Rattle.std.specs.Prelude.{◌≡◌, ◌++◌, ◌<◌, ◌==◌, ℕ, length, codes, option_map, IfOk, IfSome, OnOk, if◌then◌else◌, string_bytes};
 ghost use Rattle.task_sheet.specs.declared.node.TheConstants.{INTERRUPT_FROM};
 ghost use Rattle.task_sheet.specs.Sheet.{IsValidSheet, task_at};
-ghost use Rattle.task_sheet.specs.Orders.{IsFeasible};
+ghost use Rattle.task_sheet.specs.Orders.{IsFeasible, IsOrder};
 ghost use Rattle.task_sheet.specs.declared.sheet.TheConstants.{SECTION_LIMIT};
 ghost use Rattle.lines.specs.Naming.{name_at};
 ghost use Rattle.limits.specs.Numbers.{AnswersFurthest, HasNumber, MayHave, numbered, with_number};
-ghost use Rattle.limit_lines.specs.Lines.{AnswersFactorIn, AnswersIn, AreTaskLines, HasPassing, IsLast, IsNumberLine, along_words, before_words, end_of, end_words, factor_line, held_words, label_of, leaves_own, less_of, moved_words, node_part, number_at, number_line, order_in, places_in, slack_in, slack_line, slack_of, some_words, word_if};
+ghost use Rattle.limit_lines.specs.Lines.{AnswersFactorIn, AnswersIn, AreTaskLines, IsLast, IsNumberLine, along_words, before_words, end_of, end_words, factor_line, held_words, helps_own, is_told, label_of, leaves_own, less_of, moved_words, node_part, number_at, number_line, slack_in, slack_line, slack_of, some_words, stays, word_if};
 
-use assignment::{Place, Placing};
+use assignment::Place;
 use ceilings::Tabled;
 use factor::{Slowdown, factor, factor_in_order};
 use limits::{Number, furthest, furthest_from, furthest_in_order, value_of};
@@ -109,7 +109,17 @@ fn push_before(text: &mut String, number: Option<u64>) -> Result<(), AllocError>
     }
 }
 
-// What another number is with these values, where it doesn't stay with the last.
+// A number stays as it was, where there is one.
+fn stays(was: u64, number: Option<u64>) -> bool
+    ensures { result ≡ stays was number }
+{
+    match number {
+        Some(number) => number == was,
+        None => true,
+    }
+}
+
+// What another number is with these values; nothing where it stays as it was with both.
 fn push_moved(
     text: &mut String,
     other: Number,
@@ -121,7 +131,7 @@ fn push_moved(
     ensures { OnOk result (string_bytes text.new ≡ string_bytes text.old
         ++ moved_words other was own most) }
 {
-    if most == was {
+    if stays(was, own) && most == was {
         return Ok(());
     }
     text.push_str(" with")?;
@@ -331,27 +341,54 @@ fn push_number(
     text.push_str("\n")
 }
 
-// The furthest value of a number with which the order of a placing passes; none after a no.
+// The furthest value of a number with which an order passes that is given; none where none helps it, or none is given.
 fn in_order(
     alloc: Global,
     set: &Tabled<'_>,
-    placing: &Placing,
-    order: &[usize],
+    order: Option<&[usize]>,
     task: usize,
     number: Number,
 ) -> Result<Option<u64>, AllocError>
-    requires placing { HasPassing set.now placing.now }
-    requires order { order.now ≡ order_in placing.now }
+    requires order { IfSome (option_map (λ o. o.now) order) (IsOrder set.now) }
     requires task { task < length set.now }
     requires has { HasNumber (task_at set.now task) number }
-    ensures { IfOk result (λ own. AnswersIn set.now (places_in placing.now) task number own) }
+    ensures { IfOk result (λ own. AnswersIn set.now (option_map (λ o. o.now) order.entry) task number own) }
 {
-    match placing {
-        Placing::Best(_) => {
-            let value = furthest_in_order(alloc, set, order, task, number)?;
-            Ok(Some(value))
-        }
-        Placing::Stuck(_) => Ok(None),
+    match order {
+        Some(order) => furthest_in_order(alloc, set, order, task, number),
+        None => Ok(None),
+    }
+}
+
+// Whether this furthest value leaves the task a number of its own.
+fn helps_own(set: &TaskSet, task: usize, number: Number, own: Option<u64>) -> bool
+    requires task { task < length set.now }
+    requires has { HasNumber (task_at set.now task) number }
+    ensures { result ≡ helps_own number (task_at set.now task) own }
+{
+    let sheet = &set.sheets()[task];
+    let part = node_part(sheet, number);
+    match own {
+        Some(value) => leaves_own(number, part, value),
+        None => false,
+    }
+}
+
+// Whether a number has a line.
+fn is_told(
+    set: &TaskSet,
+    task: usize,
+    number: Number,
+    order: Option<&[usize]>,
+    own: Option<u64>,
+) -> bool
+    requires task { task < length set.now }
+    requires has { HasNumber (task_at set.now task) number }
+    ensures { result ≡ is_told number (task_at set.now task) (option_map (λ o. o.now) order.entry) own }
+{
+    match order {
+        Some(_) => helps_own(set, task, number, own),
+        None => true,
     }
 }
 
@@ -379,26 +416,27 @@ fn in_any(
     }
 }
 
-// The line of a number, said to be of this.
+// The line of a number, said to be of this; nothing where it has none.
 pub(crate) fn number_text(
     alloc: Global,
     whose: &str,
     set: &Tabled<'_>,
-    placing: &Placing,
-    order: &[usize],
+    order: Option<&[usize]>,
     task: usize,
     number: Number,
 ) -> Result<String, AllocError>
-    requires placing { HasPassing set.now placing.now }
-    requires order { order.now ≡ order_in placing.now }
+    requires order { IfSome (option_map (λ o. o.now) order) (IsOrder set.now) }
     requires task { task < length set.now }
     requires has { HasNumber (task_at set.now task) number }
-    ensures { IfOk result (λ text. IsNumberLine whose.now set.now (places_in placing.now) task
+    ensures { IfOk result (λ text. IsNumberLine whose.now set.now (option_map (λ o. o.now) order.entry) task
         number (string_bytes text)) }
 {
-    let own = in_order(alloc, set, placing, order, task, number)?;
-    let most = in_any(alloc, set, task, number, own)?;
+    let own = in_order(alloc, set, order, task, number)?;
     let mut text = String::new(alloc);
+    if !is_told(set.tasks(), task, number, order, own) {
+        return Ok(text);
+    }
+    let most = in_any(alloc, set, task, number, own)?;
     push_number(&mut text, whose, set.tasks(), task, number, own, most)?;
     Ok(text)
 }
@@ -415,14 +453,14 @@ fn slack_in(deadline: u64, places: &[Place], task: usize) -> Option<u64>
     None
 }
 
-// The same in the order of a placing; none after a no.
-fn slack_of(set: &TaskSet, placing: &Placing, task: usize) -> Option<u64>
+// The same, where there are places.
+fn slack_of(set: &TaskSet, places: Option<&[Place]>, task: usize) -> Option<u64>
     requires { task < length set.now }
-    ensures { result ≡ slack_of set.now (places_in placing.now) task }
+    ensures { result ≡ slack_of set.now (option_map (λ p. p.now) places.entry) task }
 {
-    match placing {
-        Placing::Best(places) => slack_in(set.sheets()[task].deadline(), places, task),
-        Placing::Stuck(_) => None,
+    match places {
+        Some(places) => slack_in(set.sheets()[task].deadline(), places, task),
+        None => None,
     }
 }
 
@@ -454,46 +492,44 @@ fn name_text(alloc: Global, set: &TaskSet, task: usize) -> Result<String, AllocE
     Ok(name)
 }
 
-/// The lines of a task of a placed set: for each of its numbers that may help its value, the furthest with which the
-/// order passes, and the furthest with which some order does, each less what of it is the node's, what goes along, and what
-/// holds the last; and where there is an order, its slack. That is any one which passes, the best or another; `order` is the same, the lowest first. The error is
-/// out of memory.
+/// The lines of a task: for each of its numbers that may help its value, the furthest with which an order passes that is
+/// given, the lowest first, and the furthest with which some order does, each less what of it is the node's, what goes
+/// along, and what holds the last; and its slack in places, where it has them. In an order only what helps that has a line:
+/// each number where it passes. The error is out of memory.
 pub fn task_text(
     alloc: Global,
     set: &Tabled<'_>,
-    placing: &Placing,
-    order: &[usize],
+    order: Option<&[usize]>,
+    places: Option<&[Place]>,
     task: usize,
 ) -> Result<String, AllocError>
-    requires placing { HasPassing set.now placing.now }
-    requires order { order.now ≡ order_in placing.now }
+    requires order { IfSome (option_map (λ o. o.now) order) (IsOrder set.now) }
     requires task { task < length set.now }
-    ensures { IfOk result (λ text. AreTaskLines set.now (places_in placing.now) task
-        (string_bytes text)) }
+    ensures { IfOk result (λ text. AreTaskLines set.now (option_map (λ o. o.now) order.entry)
+        (option_map (λ p. p.now) places.entry) task (string_bytes text)) }
 {
     let count = 4 + set.sheets()[task].sections().len();
     let name = name_text(alloc, set.tasks(), task)?;
     let whose = name.as_str();
     let mut text = String::new(alloc);
     for place in 0..count {
-        let line = number_text(alloc, whose, set, placing, order, task, number_at(place))?;
+        let line = number_text(alloc, whose, set, order, task, number_at(place))?;
         text.push_str(line.as_str())?;
     }
-    let slack = slack_of(set.tasks(), placing, task);
+    let slack = slack_of(set.tasks(), places, task);
     push_slack(&mut text, set.tasks(), task, slack)?;
     Ok(text)
 }
 
-// The greatest factor with which the order of a placing passes; none after a no.
-fn factor_in(set: &Tabled<'_>, placing: &Placing, order: &[usize]) -> Option<u64>
+// The greatest factor with which an order passes that is given; none where none helps it, or none is given.
+fn factor_in(set: &Tabled<'_>, order: Option<&[usize]>) -> Option<u64>
     requires some { 0 < length set.now }
-    requires placing { HasPassing set.now placing.now }
-    requires order { order.now ≡ order_in placing.now }
-    ensures { AnswersFactorIn set.now (places_in placing.now) result }
+    requires order { IfSome (option_map (λ o. o.now) order) (IsOrder set.now) }
+    ensures { AnswersFactorIn set.now (option_map (λ o. o.now) order.entry) result }
 {
-    match placing {
-        Placing::Best(_) => Some(factor_in_order(set, order)),
-        Placing::Stuck(_) => None,
+    match order {
+        Some(order) => factor_in_order(set, order),
+        None => None,
     }
 }
 
@@ -523,22 +559,20 @@ fn factor_text(
     Ok(text)
 }
 
-/// The line of the factors on all execution, in the order of the placing and in any; nothing for the empty set. `order` is
-/// that of the placing, the lowest first. The error is out of memory.
+/// The line of the factors on all execution, in an order that is given, the lowest first, and in any; nothing for the empty
+/// set. The error is out of memory.
 pub fn last_text(
     alloc: Global,
     set: &Tabled<'_>,
-    placing: &Placing,
-    order: &[usize],
+    order: Option<&[usize]>,
 ) -> Result<String, AllocError>
-    requires placing { HasPassing set.now placing.now }
-    requires order { order.now ≡ order_in placing.now }
-    ensures { IfOk result (λ text. IsLast set.now (places_in placing.now) (string_bytes text)) }
+    requires order { IfSome (option_map (λ o. o.now) order) (IsOrder set.now) }
+    ensures { IfOk result (λ text. IsLast set.now (option_map (λ o. o.now) order.entry) (string_bytes text)) }
 {
     if set.len() == 0 {
         return Ok(String::new(alloc));
     }
     let found = factor(set);
-    let own = factor_in(set, placing, order);
+    let own = factor_in(set, order);
     factor_text(alloc, set.tasks(), own, found)
 }

@@ -1,13 +1,14 @@
 //! Numbers with which a given order of the set passes.
-ghost use Rattle.std.specs.Prelude.{◌↔◌, ◌<◌, length, IsTrue, IfOk};
+ghost use Rattle.std.specs.Prelude.{◌↔◌, ◌+◌, ◌<◌, ◌≤◌, length, IsTrue, IfOk};
 ghost use Rattle.task_sheet.specs.Sheet.{task_at};
+ghost use Rattle.task_sheet.specs.TaskSet.{IsTaskSet};
 ghost use Rattle.task_sheet.specs.Orders.{IsOrder, IsPassingOrder};
-ghost use Rattle.limits.specs.Numbers.{HasNumber, MayHave, numbered};
-ghost use Rattle.limits.specs.InOrder.{IsFurthestIn};
+ghost use Rattle.limits.specs.Numbers.{HasNumber, IsSpan, MayHave, at_distance, numbered};
+ghost use Rattle.limits.specs.InOrder.{AnswersFurthestIn, IsFurthestIn};
 
 use crate::number::Number;
 use crate::numbered::{keeps_sections, numbered};
-use crate::spans::{at_distance, distance, span_in, value_of};
+use crate::spans::{Span, at_distance, span_in};
 use assignment::least_over;
 use ceilings::{LockTable, Tabled};
 use response_time::passes;
@@ -54,23 +55,26 @@ fn order_passes_with(
     Ok(order_passes(&Tabled::of(&other, &table), order))
 }
 
-/// The furthest value that a number of a task may have with which an order of the set that passes still passes as it
-/// stands, all else equal. The error is out of memory.
-pub fn furthest_in_order(
+// The furthest value of a number with which it passes, where it does with the easiest.
+fn furthest_past(
     alloc: Global,
     set: &Tabled<'_>,
     order: &[usize],
     task: usize,
     number: Number,
+    span: Span,
 ) -> Result<u64, AllocError>
-    requires passing { IsPassingOrder set.now order.now }
+    requires kept { IsTaskSet set.now }
+    requires each { IsOrder set.now order.now }
     requires task { task < length set.now }
     requires has { HasNumber (task_at set.now task) number }
+    requires span { IsSpan (task_at set.now task) number span.easiest span.length }
+    requires short { span.easiest + span.length ≤ 20000000 }
+    requires passes { IsPassingOrder (numbered set.now task number (at_distance number span.easiest 0))
+        order.now }
     ensures { IfOk result (IsFurthestIn set.now order.now task number) }
 {
-    let span = span_in(set, task, number);
-    let own = value_of(&set.sheets()[task], number);
-    let mut passing = distance(number, span.easiest, own);
+    let mut passing = 0;
     let mut failing = span.length + 1;
     while failing - passing > 1 {
         let middle = passing + (failing - passing) / 2;
@@ -82,4 +86,26 @@ pub fn furthest_in_order(
         }
     }
     Ok(at_distance(number, span.easiest, passing))
+}
+
+/// The furthest value that a number of a task may have with which an order of the set passes as it stands, all else equal,
+/// whether it passes with the task's own or not; none where none helps. The error is out of memory.
+pub fn furthest_in_order(
+    alloc: Global,
+    set: &Tabled<'_>,
+    order: &[usize],
+    task: usize,
+    number: Number,
+) -> Result<Option<u64>, AllocError>
+    requires each { IsOrder set.now order.now }
+    requires task { task < length set.now }
+    requires has { HasNumber (task_at set.now task) number }
+    ensures { IfOk result (λ answer. AnswersFurthestIn set.now order.now task number answer) }
+{
+    let span = span_in(set, task, number);
+    if !order_passes_with(alloc, set, order, task, number, span.easiest)? {
+        return Ok(None);
+    }
+    let most = furthest_past(alloc, set, order, task, number, span)?;
+    Ok(Some(most))
 }

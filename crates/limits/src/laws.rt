@@ -12,7 +12,7 @@ ghost use Rattle.task_sheet.specs.declared.node.Interrupt.{Interrupt};
 ghost use Rattle.limits.specs.Easier.{AreEasier};
 ghost use Rattle.limits.specs.declared.number.Number.{Number};
 ghost use Rattle.limits.specs.Numbers.{HasNumber, value_of, numbered, MayHave, IsNoFurther, IsFurthest, NoneHelps};
-ghost use Rattle.limits.specs.InOrder.{IsFurthestIn};
+ghost use Rattle.limits.specs.InOrder.{IsFurthestIn, NoneHelpsIn};
 ghost use Rattle.limits.specs.declared.shared.Shared.{Shared};
 ghost use Rattle.limits.specs.Shared.{IsFurthestShared, MayTake, PassesIn, with_shared};
 ghost use Rattle.limits.specs.Written.{node_of, written};
@@ -85,6 +85,9 @@ pub fn furthest_in_order_decides()
     ensures within { (U : List Task) (order : List ℕ) (i : ℕ) (number : Number) (most any : ℕ)
         → IsFurthestIn U order i number most → IsFurthest U i number any
         → IsNoFurther number most any }
+    ensures none { (U : List Task) (order : List ℕ) (i : ℕ) (number : Number) → IsTaskSet U → i < length U
+        → HasNumber (task_at U i) number → NoneHelpsIn U order i number
+        → ¬ IsPassingOrder U order }
 {}
 
 /// The same of a number of the node: the order passes exactly with the values that a document may say and there is room for,

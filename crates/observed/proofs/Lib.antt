@@ -1,3 +1,4 @@
+pub mod CulpritLaws
 pub mod InterruptSums
 pub mod NearLaws
 pub mod PlaceLaws

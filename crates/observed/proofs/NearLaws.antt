@@ -1,22 +1,22 @@
 -- What is seen of a job is seen in the pieces near it.
 use Rattle.std.proofs.Common.{◌≡◌, ◌∙◌, ℕ, zero, suc, ◌+◌, ◌≤◌, ◌&&◌, nat_le, nat_lt, Bool, true, false, cond, List}
-use Rattle.std.proofs.Common.{[], ◌∷◌, length, Option, Some, None, option_map, refl, sym, ap, arith}
-use Rattle.std.specs.List.{find}
+use Rattle.std.proofs.Common.{[], ◌∷◌, length, Option, None, option_map, refl, sym, ap, arith}
 use Rattle.std.specs.Prelude.{if◌then◌else◌}
 use Rattle.std.proofs.Math.Nat.{min-le_left, min-le_right, le-max_left, le-max_right}
 use Rattle.std.proofs.lemmas.Bool.{and_parts, le-leb, leb-true}
 use Rattle.task_sheet.specs.Sheet.{Task}
 use Rattle.trace_text.specs.declared.rows.TraceJob.{TraceJob}
 use Rattle.observed.specs.Near.{ahead, behind, near, rise_from}
-use Rattle.observed.specs.Culprits.{longest_below, next_culprit}
+use Rattle.observed.specs.Culprits.{culprits_below}
 use Rattle.observed.specs.Ranks.{is_stray, is_wrong, stray_in}
-use Rattle.observed.specs.Seen.{first_blocker, ready_by, seen_job, until_of}
-use Rattle.observed.specs.Shares.{counts, first_name, overlap, share_of, time_in}
-use Rattle.observed.specs.declared.culprits.Culprit.{Culprit}
+use Rattle.observed.specs.Seen.{ready_by, seen_job, until_of}
+use Rattle.observed.specs.Shares.{counts, overlap, share_of, time_in}
+use Rattle.observed.specs.Strangers.{longest_of, longest_stranger, names_from, with_name}
+use Rattle.observed.specs.declared.strangers.Stranger.{Stranger}
 use Rattle.observed.specs.declared.pieces.Piece.{Piece}
 use Rattle.observed.specs.declared.promises.Promise.{Promise}
 use Rattle.observed.specs.declared.shares.Whom.{Whom}
-use Rattle.observed.specs.declared.shares.Whom.TheVariants.{Job, Level, Below, Foreign, Anyone}
+use Rattle.observed.specs.declared.shares.Whom.TheVariants.{Job, Level, Below, Foreign, Thread, Anyone}
 
 -- ---- what lies behind a time
 
@@ -57,9 +57,6 @@ module _ (whom : Whom) (from to : ℕ) where
   abbrev share : Piece → ℕ
   share p = share_of whom from to p
 
-  abbrev named : List Piece → Option (List ℕ)
-  named pieces = first_name whom from to pieces
-
   -- nothing of a piece that ends before, or begins after
   no_share : (p : Piece) → overlap from to p ≡ 0 → share p ≡ 0
   no_share p none = go (counts whom p)
@@ -74,22 +71,17 @@ module _ (whom : Whom) (from to : ℕ) where
   after : (p : Piece) → to ≤ p.start → share p ≡ 0
   after p le = no_share p (omega (arith, le, min-le_right p.stop to, le-max_left p.start from))
 
-  -- so it adds nothing, and isn't the first
+  -- so it adds nothing
   adds : (p : Piece) (pieces : List Piece) → share p ≡ 0
       → time_in whom from to (p ∷ pieces) ≡ time_in whom from to pieces
   adds p pieces none = omega (arith, none)
 
-  passed : (p : Piece) (pieces : List Piece) → share p ≡ 0 → named (p ∷ pieces) ≡ named pieces
-  passed p pieces none =
-      ap (λ n. option_map (λ (q : Piece). q.name)
-      (cond (nat_lt 0 n) (Some p) (find (λ q. nat_lt 0 (share q)) pieces))) none
-
-  -- the same is counted of both: for how long, and whose is the first
+  -- the same is counted of both
   abbrev Same : List Piece → List Piece → Type 0
-  Same xs ys = (time_in whom from to xs ≡ time_in whom from to ys) × (named xs ≡ named ys)
+  Same xs ys = time_in whom from to xs ≡ time_in whom from to ys
 
   behind-same : (time : ℕ) (pieces : List Piece) → time ≤ from → Same (behind time pieces) pieces
-  behind-same time [] le = (refl, refl)
+  behind-same time [] le = refl
   behind-same time (p ∷ pieces) le = go (behind-same time pieces le) (nat_le p.stop time) refl
     where
       go : Same (behind time pieces) pieces → (b : Bool) → nat_le p.stop time ≡ b
@@ -97,61 +89,44 @@ module _ (whom : Whom) (from to : ℕ) where
       go more true ended =
           let stop : p.stop ≤ time = leb-true p.stop time ended in
           let none : share p ≡ 0 = before p (omega (arith, stop, le)) in
-          (more.0 ∙ sym (adds p pieces none), more.1 ∙ sym (passed p pieces none))
-      go more false goes = (refl, refl)
+          more ∙ sym (adds p pieces none)
+      go more false goes = refl
 
   -- ---- what lies ahead of the end
 
   -- nothing of pieces that rise from there
   none_left : (least : ℕ) (pieces : List Piece) → to ≤ least → rise_from least pieces ≡ true
-      → (time_in whom from to pieces ≡ 0) × (named pieces ≡ None)
-  none_left least [] le rises = (refl, refl)
+      → time_in whom from to pieces ≡ 0
+  none_left least [] le rises = refl
   none_left least (p ∷ pieces) le rises =
       let each = and_parts (nat_le least p.start) (rise_from p.start pieces) rises in
       let start : least ≤ p.start = leb-true least p.start each.0 in
       let none = after p (omega (arith, le, start)) in
       let more = none_left p.start pieces (omega (arith, le, start)) each.1 in
-      (adds p pieces none ∙ more.0, passed p pieces none ∙ more.1)
+      adds p pieces none ∙ more
 
   ahead-same : (least : ℕ) (pieces : List Piece) → rise_from least pieces ≡ true
       → Same (ahead to pieces) pieces
-  ahead-same least [] rises = (refl, refl)
+  ahead-same least [] rises = refl
   ahead-same least (p ∷ pieces) rises = go (ahead-same p.start pieces (and_parts
       (nat_le least p.start) (rise_from p.start pieces) rises).1) (nat_le to p.start) refl
     where
       each : (nat_le least p.start ≡ true) × (rise_from p.start pieces ≡ true)
       each = and_parts (nat_le least p.start) (rise_from p.start pieces) rises
 
-      name : Bool → Option (List ℕ) → Option (List ℕ)
-      name b rest = if b then Some p.name else rest
-
-      split : (b : Bool) (rest : Option Piece) → option_map (λ (q : Piece). q.name)
-          (cond b (Some p) rest) ≡ name b (option_map (λ (q : Piece). q.name) rest)
-      split true rest = refl
-      split false rest = refl
-
       go : Same (ahead to pieces) pieces → (b : Bool) → nat_le to p.start ≡ b
           → Same (if b then [] else p ∷ ahead to pieces) (p ∷ pieces)
       go more true over =
           let start : to ≤ p.start = leb-true to p.start over in
-          let left = none_left p.start pieces start each.1 in (
-            sym (adds p pieces (after p start) ∙ left.0),
-            sym (passed p pieces (after p start) ∙ left.1),
-          )
-      go more false goes =
-          let here = nat_lt 0 (share p) in
-          let seen = λ (qs : List Piece). find (λ q. nat_lt 0 (share q)) qs in (
-            ap (λ n. share p + n) more.0,
-            split here (seen (ahead to pieces)) ∙ ap (name here) more.1
-                ∙ sym (split here (seen pieces)),
-          )
+          sym (adds p pieces (after p start) ∙ none_left p.start pieces start each.1)
+      go more false goes = ap (λ n. share p + n) more
 
   -- both, where the pieces rise, or the first alone
   near-same : (b : Bool) (time : ℕ) (pieces : List Piece) → rise_from 0 pieces ≡ b → time ≤ from
       → Same (near b to (behind time pieces)) pieces
   near-same true time pieces rises le =
       let first = ahead-same 0 (behind time pieces) (behind-rises time pieces rises) in
-      let rest = behind-same time pieces le in (first.0 ∙ rest.0, first.1 ∙ rest.1)
+      let rest = behind-same time pieces le in first ∙ rest
   near-same false time pieces rises le = behind-same time pieces le
 
 -- the first priority at which a job may not run is seen in them, too
@@ -213,27 +188,102 @@ module _ (U : List Task) (promises : List Promise) (promise : Promise) (place fr
       (behind-rises time pieces rises) ∙ behind-stray time pieces le
   near-stray false time pieces rises le = behind-stray time pieces le
 
--- who executes longest below a level is seen in them, too
-longest_near : (promises : List Promise) (but : Option ℕ) (from to : ℕ) (b : Bool) (time : ℕ)
+-- who executes below a level is seen in them, too
+culprits_near : (promises : List Promise) (from to : ℕ) (b : Bool) (time : ℕ)
     (pieces : List Piece) → rise_from 0 pieces ≡ b → time ≤ from → (level : ℕ)
-    → longest_below promises but from to (near b to (behind time pieces)) level
-    ≡ longest_below promises but from to pieces level
-longest_near promises but from to b time pieces rises le zero = refl
-longest_near promises but from to b time pieces rises le (suc level) =
+    → culprits_below promises from to (near b to (behind time pieces)) level
+    ≡ culprits_below promises from to pieces level
+culprits_near promises from to b time pieces rises le zero = refl
+culprits_near promises from to b time pieces rises le (suc level) =
     rw (
-      longest_near promises but from to b time pieces rises le level,
-      (near-same (Level level) from to b time pieces rises le).0,
+      culprits_near promises from to b time pieces rises le level,
+      near-same (Level level) from to b time pieces rises le,
     )
     refl
 
--- and of those who execute longest, the next
-next_near : (promises : List Promise) (first : Option Culprit) (from to : ℕ) (b : Bool) (time : ℕ)
-    (pieces : List Piece) → rise_from 0 pieces ≡ b → time ≤ from → (level : ℕ)
-    → next_culprit first promises from to (near b to (behind time pieces)) level
-    ≡ next_culprit first promises from to pieces level
-next_near promises None from to b time pieces rises le level = refl
-next_near promises (Some first) from to b time pieces rises le level =
-    longest_near promises (Some first.level) from to b time pieces rises le level
+-- which threads of the node's own execute, is seen in them, too
+module _ (from to : ℕ) where
+  abbrev there : Piece → ℕ
+  there p = share Foreign from to p
+
+  -- a piece of which nothing lies between the times adds no name
+  adds_none : (names : List (List ℕ)) (p : Piece) (pieces : List Piece) → there p ≡ 0
+      → names_from from to names (p ∷ pieces) ≡ names_from from to names pieces
+  adds_none names p pieces none =
+      ap (λ n. names_from from to (cond (nat_lt 0 n) (with_name p.name names) names) pieces) none
+
+  behind-names : (names : List (List ℕ)) (time : ℕ) (pieces : List Piece) → time ≤ from
+      → names_from from to names (behind time pieces) ≡ names_from from to names pieces
+  behind-names names time [] le = refl
+  behind-names names time (p ∷ pieces) le = go (behind-names names time pieces le)
+      (nat_le p.stop time) refl
+    where
+      go : names_from from to names (behind time pieces) ≡ names_from from to names pieces → (b : Bool)
+          → nat_le p.stop time ≡ b
+          → names_from from to names (if b then behind time pieces else p ∷ pieces)
+          ≡ names_from from to names (p ∷ pieces)
+      go more true ended =
+          let stop : p.stop ≤ time = leb-true p.stop time ended in
+          let none : there p ≡ 0 = before Foreign from to p (omega (arith, stop, le)) in
+          more ∙ sym (adds_none names p pieces none)
+      go more false goes = refl
+
+  no_names : (names : List (List ℕ)) (least : ℕ) (pieces : List Piece) → to ≤ least
+      → rise_from least pieces ≡ true → names_from from to names pieces ≡ names
+  no_names names least [] le rises = refl
+  no_names names least (p ∷ pieces) le rises =
+      let each = and_parts (nat_le least p.start) (rise_from p.start pieces) rises in
+      let start : least ≤ p.start = leb-true least p.start each.0 in
+      let none = after Foreign from to p (omega (arith, le, start)) in
+      adds_none names p pieces none
+      ∙ no_names names p.start pieces (omega (arith, le, start)) each.1
+
+  ahead-names : (names : List (List ℕ)) (least : ℕ) (pieces : List Piece) → rise_from least pieces ≡ true
+      → names_from from to names (ahead to pieces) ≡ names_from from to names pieces
+  ahead-names names least [] rises = refl
+  ahead-names names least (p ∷ pieces) rises = go (nat_le to p.start) refl
+      (ahead-names (if nat_lt 0 (there p) then with_name p.name names else names) p.start pieces
+      (and_parts (nat_le least p.start) (rise_from p.start pieces) rises).1)
+    where
+      each : (nat_le least p.start ≡ true) × (rise_from p.start pieces ≡ true)
+      each = and_parts (nat_le least p.start) (rise_from p.start pieces) rises
+
+      go : (b : Bool) → nat_le to p.start ≡ b
+          → names_from from to (if nat_lt 0 (there p) then with_name p.name names else names)
+          (ahead to pieces)
+          ≡ names_from from to (if nat_lt 0 (there p) then with_name p.name names else names) pieces
+          → names_from from to names (if b then [] else p ∷ ahead to pieces)
+          ≡ names_from from to names (p ∷ pieces)
+      go true over more =
+          let start : to ≤ p.start = leb-true to p.start over in
+          let none = after Foreign from to p start in
+          sym (adds_none names p pieces none ∙ no_names names p.start pieces start each.1)
+      go false goes more = more
+
+  near-names : (b : Bool) (time : ℕ) (pieces : List Piece) → rise_from 0 pieces ≡ b → time ≤ from
+      → names_from from to [] (near b to (behind time pieces)) ≡ names_from from to [] pieces
+  near-names true time pieces rises le = ahead-names [] 0 (behind time pieces)
+      (behind-rises time pieces rises) ∙ behind-names [] time pieces le
+  near-names false time pieces rises le = behind-names [] time pieces le
+
+  near-longest : (b : Bool) (time : ℕ) (pieces : List Piece) → rise_from 0 pieces ≡ b → time ≤ from
+      → (names : List (List ℕ)) → longest_of from to (near b to (behind time pieces)) names
+      ≡ longest_of from to pieces names
+  near-longest b time pieces rises le [] = refl
+  near-longest b time pieces rises le (n ∷ names) =
+      rw (
+        near-longest b time pieces rises le names,
+        near-same (Thread n) from to b time pieces rises le,
+      )
+      refl
+
+  near-stranger : (b : Bool) (time : ℕ) (pieces : List Piece) → rise_from 0 pieces ≡ b → time ≤ from
+      → longest_stranger from to (near b to (behind time pieces)) ≡ longest_stranger from to pieces
+  near-stranger b time pieces rises le =
+      ap (λ (ns : List (List ℕ)). option_map (λ (s : Stranger). s.name)
+      (longest_of from to (near b to (behind time pieces)) ns)) (near-names b time pieces rises le)
+      ∙ ap (λ (o : Option Stranger). option_map (λ (s : Stranger). s.name) o)
+      (near-longest b time pieces rises le (names_from from to [] pieces))
 
 -- what is seen of a job is seen in the pieces near it
 pub seen-near : (U : List Task) (promises : List Promise) (promise : Promise) (level end : ℕ)
@@ -248,15 +298,13 @@ seen-near U promises promise level end pieces past job =
     let at : job.arrival ≤ job.arrival = omega (arith) in
     let soon : job.arrival ≤ ready = omega (arith) in
     let foreign = near-same Foreign ready to b job.arrival pieces refl soon in
-    let first = first_blocker U promises promise level end pieces job in
     rw (
-      (near-same (Job (length past)) job.arrival to b job.arrival pieces refl at).0,
+      near-same (Job (length past)) job.arrival to b job.arrival pieces refl at,
       near-stray U promises promise (length past) job.arrival to b job.arrival pieces refl at,
-      (near-same (Below level) ready to b job.arrival pieces refl soon).0,
-      longest_near promises None ready to b job.arrival pieces refl soon level,
-      next_near promises first ready to b job.arrival pieces refl soon level,
-      foreign.0,
-      foreign.1,
-      (near-same Anyone ready to b job.arrival pieces refl soon).0,
+      near-same (Below level) ready to b job.arrival pieces refl soon,
+      culprits_near promises ready to b job.arrival pieces refl soon level,
+      foreign,
+      near-stranger ready to b job.arrival pieces refl soon,
+      near-same Anyone ready to b job.arrival pieces refl soon,
     )
     refl

@@ -1,7 +1,7 @@
--- Which tasks below a level execute longest.
-use Rattle.std.specs.Prelude.{ℕ, zero, suc, Bool, nat_lt, List, Option, Some, None, slice_index_or, if◌then◌else◌}
+-- Which tasks below a level execute, and for how long.
+use Rattle.std.specs.Prelude.{◌≡◌, ℕ, zero, suc, ◌<◌, Bool, true, ◌==◌, ◌&&◌, ◌||◌, nat_lt, List, [], ◌∷◌, slice_index_or, if◌then◌else◌}
 use Rattle.observed.specs.Promises.{no_promise}
-use Rattle.observed.specs.Shares.{is_at, time_in}
+use Rattle.observed.specs.Shares.{time_in}
 use Rattle.observed.specs.declared.culprits.Culprit.{Culprit}
 use Rattle.observed.specs.declared.pieces.Piece.{Piece}
 use Rattle.observed.specs.declared.promises.Promise.{Promise}
@@ -16,37 +16,41 @@ culprit_at promises from to pieces level =
       time = time_in (Level level) from to pieces;
     }
 
--- of one before, and one more, who executes longer, of equals the one before; none where none executes
-abbrev pub longer : Option Culprit → Culprit → Option Culprit
-longer None culprit = if nat_lt 0 culprit.time then Some culprit else None
-longer (Some before) culprit =
-    if nat_lt before.time culprit.time then Some culprit else Some before
+-- one more among others, before the first that executes for less
+abbrev pub placed : Culprit → List Culprit → List Culprit
+placed culprit [] = culprit ∷ []
+placed culprit (c ∷ cs) =
+    if nat_lt c.time culprit.time then culprit ∷ c ∷ cs else c ∷ placed culprit cs
 
--- of the tasks below a level, but for one, who executes longest between two times, of equals the lowest
-abbrev pub longest_below : List Promise → Option ℕ → (from to : ℕ) → List Piece → ℕ → Option Culprit
-longest_below promises but from to pieces zero = None
-longest_below promises but from to pieces (suc level) =
-    if is_at level but
-    then longest_below promises but from to pieces level
-    else longer (longest_below promises but from to pieces level)
-    (culprit_at promises from to pieces level)
+-- the same, where it executes at all
+abbrev pub with_culprit : Culprit → List Culprit → List Culprit
+with_culprit culprit cs = if nat_lt 0 culprit.time then placed culprit cs else cs
 
--- its name, if there is one, and its time
-abbrev pub name_of : Option Culprit → Option (List ℕ)
-name_of None = None
-name_of (Some culprit) = Some culprit.name
+-- the tasks below a level that execute between two times: who does so longest first, of equals the lowest
+abbrev pub culprits_below : List Promise → (from to : ℕ) → List Piece → ℕ → List Culprit
+culprits_below promises from to pieces zero = []
+culprits_below promises from to pieces (suc level) =
+    with_culprit (culprit_at promises from to pieces level)
+    (culprits_below promises from to pieces level)
 
-abbrev pub time_of : Option Culprit → ℕ
-time_of None = 0
-time_of (Some culprit) = culprit.time
+-- ---- what they are
+-- it is a task below a level that executes between two times, with all that it does
+pub record IsCulprit (promises : List Promise) (from to : ℕ) (pieces : List Piece) (level : ℕ)
+    (culprit : Culprit) : Type 0 where
+  pub below : culprit.level < level
+  pub executes : 0 < culprit.time
+  pub whole : culprit ≡ culprit_at promises from to pieces culprit.level
 
--- where they execute for longer than they may, who does so longest
-abbrev pub first_culprit : Bool → List Promise → (from to : ℕ) → List Piece → ℕ → Option Culprit
-first_culprit is_past promises from to pieces level =
-    if is_past then longest_below promises None from to pieces level else None
+-- one comes before another: it executes for longer, or as long and stands lower
+abbrev pub is_before : Culprit → Culprit → Bool
+is_before c d = nat_lt d.time c.time || ((d.time == c.time) && nat_lt c.level d.level)
 
--- and who does so longest of the others
-abbrev pub next_culprit : Option Culprit → List Promise → (from to : ℕ) → List Piece → ℕ → Option Culprit
-next_culprit None promises from to pieces level = None
-next_culprit (Some first) promises from to pieces level =
-    longest_below promises (Some first.level) from to pieces level
+-- each comes before the next, the first behind one
+abbrev pub are_behind : Culprit → List Culprit → Bool
+are_behind c [] = true
+are_behind c (d ∷ ds) = is_before c d && are_behind d ds
+
+-- each comes before the next
+abbrev pub are_sorted : List Culprit → Bool
+are_sorted [] = true
+are_sorted (c ∷ cs) = are_behind c cs

@@ -6,6 +6,8 @@ pub mod Near
 pub mod Shares
 pub mod Ranks
 pub mod Culprits
+pub mod Strangers
+pub mod SeenJob
 pub mod Seen
 pub mod Observed
 pub mod Sights

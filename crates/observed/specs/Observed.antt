@@ -12,28 +12,28 @@ use Rattle.observed.specs.Promises.{no_promise}
 use Rattle.observed.specs.Seen.{seen_job}
 use Rattle.observed.specs.declared.promises.Promise.{Promise}
 use Rattle.observed.specs.declared.pieces.Piece.{Piece}
-use Rattle.observed.specs.declared.seen.Seen.{Seen}
+use Rattle.observed.specs.SeenJob.{SeenData}
 
 -- what is seen of a job at a level, in front of what is seen of others; nothing where it has no level
-abbrev pub with_seen : List Task → List Promise → ℕ → List Piece → List TraceJob → TraceJob → Option ℕ → List Seen
-    → List Seen
+abbrev pub with_seen : List Task → List Promise → ℕ → List Piece → List TraceJob → TraceJob → Option ℕ → List SeenData
+    → List SeenData
 with_seen U promises end pieces before job None seen = seen
 with_seen U promises end pieces before job (Some level) seen =
     seen_job U promises (slice_index_or promises level no_promise) level end pieces before job ∷ seen
 
 -- of jobs, of which the first stands at a place among all: what is seen of those of tasks of the set
-abbrev pub seen_from : List Task → List Promise → ℕ → List Piece → List TraceJob → ℕ → List TraceJob → List Seen
+abbrev pub seen_from : List Task → List Promise → ℕ → List Piece → List TraceJob → ℕ → List TraceJob → List SeenData
 seen_from U promises end pieces all place [] = []
 seen_from U promises end pieces all place (job ∷ jobs) =
     with_seen U promises end pieces (take place all) job (level_of promises job.name)
     (seen_from U promises end pieces all (place + 1) jobs)
 
 -- what is seen of the jobs of tasks of the set
-abbrev pub seen_jobs : List Task → List Promise → ℕ → List Piece → List TraceJob → List Seen
+abbrev pub seen_jobs : List Task → List Promise → ℕ → List Piece → List TraceJob → List SeenData
 seen_jobs U promises end pieces jobs = seen_from U promises end pieces jobs 0 jobs
 
 -- what a trace shows of the jobs of tasks of the set
-abbrev pub observed_in : List Task → List Promise → TraceLines → List Seen
+abbrev pub observed_in : List Task → List Promise → TraceLines → List SeenData
 observed_in U promises trace =
     seen_jobs U promises (end_of trace.slices.items trace.jobs.items)
     (pieces_of promises trace.jobs.items trace.slices.items) trace.jobs.items

@@ -22,18 +22,22 @@ is_of slice job =
 abbrev pub job_of : List TraceJob → TraceSlice → Option ℕ
 job_of jobs slice = position (λ j. is_of slice j) jobs
 
--- a slice with the level of its task, and the place of its job
-abbrev pub piece_of : List Promise → List TraceJob → TraceSlice → Piece
-piece_of promises jobs slice =
+-- a slice with the level of its task, and a place of its job
+abbrev pub piece_with : List Promise → TraceSlice → Option ℕ → Piece
+piece_with promises slice job =
     record {
       line = slice.line;
       name = slice.name;
       level = level_of promises slice.name;
-      job = job_of jobs slice;
+      job = job;
       start = slice.start;
       stop = slice.stop;
       priority = slice.priority;
     }
+
+-- the same, with that of the first job that it is of
+abbrev pub piece_of : List Promise → List TraceJob → TraceSlice → Piece
+piece_of promises jobs slice = piece_with promises slice (job_of jobs slice)
 
 -- each slice of a trace
 abbrev pub pieces_of : List Promise → List TraceJob → List TraceSlice → List Piece

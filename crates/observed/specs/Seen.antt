@@ -4,13 +4,14 @@ use Rattle.std.specs.Option.{is_some, option_map}
 use Rattle.task_sheet.specs.Sheet.{Task, same_bytes}
 use Rattle.task_sheet.specs.Demand.{interrupts_within}
 use Rattle.trace_text.specs.declared.rows.TraceJob.{TraceJob}
-use Rattle.observed.specs.Culprits.{first_culprit, name_of, next_culprit, time_of}
+use Rattle.observed.specs.Culprits.{culprits_below}
 use Rattle.observed.specs.Ranks.{stray_in}
-use Rattle.observed.specs.Shares.{first_name, time_in}
+use Rattle.observed.specs.SeenJob.{SeenData}
+use Rattle.observed.specs.Shares.{time_in}
+use Rattle.observed.specs.Strangers.{longest_stranger}
 use Rattle.observed.specs.declared.promises.Promise.{Promise}
 use Rattle.observed.specs.declared.culprits.Culprit.{Culprit}
 use Rattle.observed.specs.declared.pieces.Piece.{Piece}
-use Rattle.observed.specs.declared.seen.Seen.{Seen}
 use Rattle.observed.specs.declared.shares.Whom.TheVariants.{Job, Below, Foreign, Anyone}
 
 -- the last of these jobs that is of the task with a name, else what came before them
@@ -57,21 +58,28 @@ is_blocked_past U promise level end pieces job =
     nat_lt (promise.blocking + interrupts_within U (waited_of promise end job))
     (time_in (Below level) (ready_by promise job) (until_of end job) pieces)
 
--- who of them does so longest, and who of the others
-abbrev pub first_blocker : List Task → List Promise → Promise → ℕ → ℕ → List Piece → TraceJob → Option Culprit
-first_blocker U promises promise level end pieces job =
-    first_culprit (is_blocked_past U promise level end pieces job) promises (ready_by promise job)
-    (until_of end job) pieces level
+-- which of them, where they do so
+abbrev pub culprits_of : Bool → List Promise → Promise → ℕ → ℕ → List Piece → TraceJob → List Culprit
+culprits_of is_past promises promise level end pieces job =
+    if is_past
+    then culprits_below promises (ready_by promise job) (until_of end job) pieces level
+    else []
 
-abbrev pub other_blocker : List Task → List Promise → Promise → ℕ → ℕ → List Piece → TraceJob → Option Culprit
-other_blocker U promises promise level end pieces job =
-    next_culprit (first_blocker U promises promise level end pieces job) promises
-    (ready_by promise job) (until_of end job) pieces level
+-- threads that the set doesn't have execute for longer, while it waits, than timers and interrupts may take
+abbrev pub is_taken_past : List Task → Promise → ℕ → List Piece → TraceJob → Bool
+is_taken_past U promise end pieces job =
+    nat_lt (interrupts_within U (waited_of promise end job))
+    (time_in Foreign (ready_by promise job) (until_of end job) pieces)
+
+-- who of them does so longest, where they do
+abbrev pub stranger_of : Bool → Promise → ℕ → List Piece → TraceJob → Option (List ℕ)
+stranger_of is_past promise end pieces job =
+    if is_past then longest_stranger (ready_by promise job) (until_of end job) pieces else None
 
 -- what is seen of a job of a set behind these, whose task has this level. What timers and interrupts may take of its whole
 -- time it may execute beside its cost; what they may take while it waits, it may be blocked for beside its blocking, and
 -- others may take, or nobody
-abbrev pub seen_job : List Task → List Promise → Promise → ℕ → ℕ → List Piece → List TraceJob → TraceJob → Seen
+abbrev pub seen_job : List Task → List Promise → Promise → ℕ → ℕ → List Piece → List TraceJob → TraceJob → SeenData
 seen_job U promises promise level end pieces before job =
     record {
       level = level;
@@ -86,13 +94,11 @@ seen_job U promises promise level end pieces before job =
       stray = stray_in U promises promise (length before) job.arrival (until_of end job) pieces;
       may_execute = promise.cost + interrupts_within U (until_of end job - job.arrival);
       blocked = time_in (Below level) (ready_by promise job) (until_of end job) pieces;
-      blocker = name_of (first_blocker U promises promise level end pieces job);
-      blocker_time = time_of (first_blocker U promises promise level end pieces job);
-      next_blocker = name_of (other_blocker U promises promise level end pieces job);
-      next_time = time_of (other_blocker U promises promise level end pieces job);
+      culprits = culprits_of (is_blocked_past U promise level end pieces job) promises promise level end pieces
+          job;
       may_be_blocked = promise.blocking + interrupts_within U (waited_of promise end job);
       foreign = time_in Foreign (ready_by promise job) (until_of end job) pieces;
-      stranger = first_name Foreign (ready_by promise job) (until_of end job) pieces;
+      stranger = stranger_of (is_taken_past U promise end pieces job) promise end pieces job;
       idle = until_of end job - ready_by promise job
           - time_in Anyone (ready_by promise job) (until_of end job) pieces;
       may_be_taken = interrupts_within U (waited_of promise end job);

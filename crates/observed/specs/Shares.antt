@@ -1,10 +1,9 @@
 -- For how long some of the pieces of a trace execute between two times.
-use Rattle.std.specs.Prelude.{ℕ, ◌+◌, ◌-◌, Bool, true, false, ◌==◌, nat_lt, min, max, List, [], ◌∷◌, Option, Some, None, is_none, if◌then◌else◌}
-use Rattle.std.specs.Option.{option_map}
-use Rattle.std.specs.List.{find}
+use Rattle.std.specs.Prelude.{ℕ, ◌+◌, ◌-◌, Bool, true, false, ◌==◌, ◌&&◌, nat_lt, min, max, List, [], ◌∷◌, Option, Some, None, is_none, if◌then◌else◌}
+use Rattle.task_sheet.specs.Sheet.{same_bytes}
 use Rattle.observed.specs.declared.pieces.Piece.{Piece}
 use Rattle.observed.specs.declared.shares.Whom.{Whom}
-use Rattle.observed.specs.declared.shares.Whom.TheVariants.{Job, Level, Below, Foreign, Anyone}
+use Rattle.observed.specs.declared.shares.Whom.TheVariants.{Job, Level, Below, Foreign, Thread, Anyone}
 
 -- it is this number
 abbrev pub is_at : ℕ → Option ℕ → Bool
@@ -16,12 +15,13 @@ abbrev pub is_below : ℕ → Option ℕ → Bool
 is_below number None = false
 is_below number (Some other) = nat_lt other number
 
--- the piece is counted: one of a job, of the task of a level, of the tasks below one, of a thread that the set doesn't have, or any
+-- the piece is counted: one of a job, of the task of a level, of the tasks below one, of threads that the set doesn't have, of the one of them with a name, or any
 abbrev pub counts : Whom → Piece → Bool
 counts (Job place) piece = is_at place piece.job
 counts (Level level) piece = is_at level piece.level
 counts (Below level) piece = is_below level piece.level
 counts Foreign piece = is_none piece.level
+counts (Thread name) piece = is_none piece.level && same_bytes piece.name name
 counts Anyone piece = true
 
 -- how much of a piece lies between two times
@@ -36,8 +36,3 @@ share_of whom from to piece = if counts whom piece then overlap from to piece el
 abbrev pub time_in : Whom → (from to : ℕ) → List Piece → ℕ
 time_in whom from to [] = 0
 time_in whom from to (p ∷ pieces) = share_of whom from to p + time_in whom from to pieces
-
--- the name of the first of them that executes there
-abbrev pub first_name : Whom → (from to : ℕ) → List Piece → Option (List ℕ)
-first_name whom from to pieces =
-    option_map (λ p. p.name) (find (λ p. nat_lt 0 (share_of whom from to p)) pieces)

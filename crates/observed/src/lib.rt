@@ -4,6 +4,7 @@
 mod culprits;
 mod end;
 mod interrupts;
+pub mod laws;
 mod near;
 mod observing;
 mod pieces;
@@ -12,8 +13,10 @@ mod ranks;
 mod seen;
 mod shares;
 mod sight;
+mod strangers;
 mod sweeps;
 
+pub use crate::culprits::Culprit;
 pub use crate::observing::observe;
 pub use crate::pieces::Piece;
 pub use crate::promises::{Promise, levels_of, promises_of};

@@ -34,7 +34,8 @@ fn seen_jobs(
         reached = job.arrival;
         if let Some(level) = level_of(promises, job.name) {
             let near = near(sorted, rest, until_of(end, job));
-            seen.push(seen_job(set, promises, level, end, near, &jobs[..place], job))?;
+            let before = &jobs[..place];
+            seen.push(seen_job(alloc, set, promises, level, end, near, before, job)?)?;
         }
     }
     Ok(seen)

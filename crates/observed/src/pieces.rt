@@ -1,10 +1,10 @@
 //! Of which level and of which job a slice of a trace is.
 ghost use Rattle.std.specs.Prelude.{◌≡◌, ◌<◌, true, length, IfOk, IfSome};
-ghost use Rattle.observed.specs.Pieces.{homeless_line, is_homeless, is_of, job_of, level_of, piece_of, pieces_of};
-ghost use Rattle.observed.specs.Sweeps.{IsSwept};
+ghost use Rattle.observed.specs.Pieces.{homeless_line, is_homeless, is_of, job_of, level_of, piece_with, pieces_of};
+ghost use Rattle.observed.specs.Sweeps.{arrive_from, begin_from};
 
 use crate::promises::Promise;
-use crate::sweeps::{job_from, jobs_rise, past_over, slices_rise};
+use crate::sweeps::{find_job, jobs_rise, slices_rise};
 use std::alloc::{AllocError, Global};
 use task_sheet::Name;
 use trace_text::{TraceJob, TraceSlice};
@@ -47,40 +47,43 @@ fn job_of(jobs: &[TraceJob], slice: TraceSlice) -> Option<usize>
     jobs.iter().position(|job| is_of(*job, slice))
 }
 
-// The same, where jobs that stand in order before a place are known not to be.
-fn job_found(jobs: &[TraceJob], in_order: bool, first: usize, slice: &TraceSlice) -> Option<usize>
-    requires { in_order ≡ true → IsSwept jobs.now first slice.now }
-    ensures { result ≡ job_of jobs.now slice.now }
-{
-    if in_order {
-        job_from(jobs, first, slice)
-    } else {
-        job_of(jobs, *slice)
-    }
-}
-
 // A slice with its level and its job.
-fn piece_of(
-    promises: &[Promise],
-    jobs: &[TraceJob],
-    in_order: bool,
-    first: usize,
-    slice: &TraceSlice,
-) -> Piece
-    requires { in_order ≡ true → IsSwept jobs.now first slice.now }
-    ensures { result ≡ piece_of promises.now jobs.now slice.now }
+fn piece_of(promises: &[Promise], slice: &TraceSlice, job: Option<usize>) -> Piece
+    ensures { result ≡ piece_with promises.now slice.now job }
 {
-    let level = level_of(promises, slice.name);
-    let job = job_found(jobs, in_order, first, slice);
     Piece {
         line: slice.line,
         name: slice.name,
-        level,
+        level: level_of(promises, slice.name),
         job,
         start: slice.start,
         stop: slice.stop,
         priority: slice.priority,
     }
+}
+
+// The slices of a trace, each with its level and its job, where slices and jobs stand by time.
+fn pieces_swept(
+    alloc: Global,
+    promises: &[Promise],
+    jobs: &[TraceJob],
+    slices: &[TraceSlice],
+) -> Result<Vec<Piece>, AllocError>
+    requires jobs { arrive_from 0 jobs.now ≡ true }
+    requires slices { begin_from 0 slices.now ≡ true }
+    ensures { IfOk result (λ pieces. pieces.items ≡ pieces_of promises.now jobs.now slices.now) }
+{
+    let mut pieces = Vec::with_capacity(alloc, slices.len())?;
+    let mut live = Vec::new(alloc);
+    let mut next = 0;
+    let mut reached = 0;
+    for slice in slices {
+        let found = find_job(&mut live, jobs, next, slice)?;
+        reached = slice.start;
+        next = found.next;
+        pieces.push(piece_of(promises, slice, found.job))?;
+    }
+    Ok(pieces)
 }
 
 // The slices of a trace, each with its level and its job.
@@ -92,16 +95,12 @@ pub(crate) fn pieces_of(
 ) -> Result<Vec<Piece>, AllocError>
     ensures { IfOk result (λ pieces. pieces.items ≡ pieces_of promises.now jobs.now slices.now) }
 {
+    if jobs_rise(jobs) && slices_rise(slices) {
+        return pieces_swept(alloc, promises, jobs, slices);
+    }
     let mut pieces = Vec::with_capacity(alloc, slices.len())?;
-    let in_order = jobs_rise(jobs) && slices_rise(slices);
-    let mut first = 0;
-    let mut reached = 0;
     for slice in slices {
-        if in_order {
-            reached = slice.start;
-            first = past_over(jobs, first, reached);
-        }
-        pieces.push(piece_of(promises, jobs, in_order, first, slice))?;
+        pieces.push(piece_of(promises, slice, job_of(jobs, *slice)))?;
     }
     Ok(pieces)
 }

@@ -114,7 +114,8 @@ fn is_stray(
     requires tasks { All (λ p. p.task < length set.now) promises.now }
     ensures { result ≡ is_stray set.now promises.now promise.now place from to piece.now }
 {
-    0 < share_of(Whom::Job(place), from, to, piece)
+    let own = Whom::Job(place);
+    0 < share_of(&own, from, to, piece)
         && is_wrong(set, promises, promise, piece.priority)
 }
 

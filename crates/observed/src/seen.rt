@@ -1,21 +1,24 @@
 //! What a trace shows of a job.
-ghost use Rattle.std.specs.Prelude.{◌≡◌, ◌<◌, ◌≤◌, length, slice_index_or, All};
+ghost use Rattle.std.specs.Prelude.{◌≡◌, ◌<◌, ◌≤◌, length, slice_index_or, All, IfOk};
 ghost use Rattle.observed.specs.Promises.{no_promise};
-ghost use Rattle.observed.specs.Seen.{closest_to, delay_of, gap_since, last_job, ready_by, seen_job, until_of, waited_of};
+ghost use Rattle.observed.specs.Seen.{closest_to, culprits_of, delay_of, gap_since, last_job, ready_by, seen_job, stranger_of, until_of, waited_of};
 
-use crate::culprits::{first_culprit, name_of, next_culprit, time_of};
+use crate::culprits::{Culprit, culprits_below};
 use crate::interrupts::interrupts_within;
 use crate::pieces::Piece;
 use crate::promises::Promise;
 use crate::ranks::stray_in;
-use crate::shares::{Whom, first_name, time_in};
+use crate::shares::{Whom, time_in};
+use crate::strangers::longest_stranger;
 use ceilings::Tabled;
+use std::alloc::{AllocError, Global};
+use std::marker::Model;
 use task_sheet::Name;
 use trace_text::TraceJob;
 
 /// What a trace shows of a job of a task of the set, in microseconds. It waits for sure from when it is ready,
 /// at the latest its task's jitter after its arrival, up to its finish, or to the end of the trace.
-#[derive(Clone, Copy)]
+#[derive(Drop)]
 pub struct Seen {
     /// Of its task, counted from 0, the lowest.
     pub level: usize,
@@ -39,21 +42,45 @@ pub struct Seen {
     pub may_execute: u128,
     /// For how long tasks below executed while it waited.
     pub blocked: u128,
-    /// Where that is more: who of them did so longest, the lowest of equals, and who of the others, and for how long.
-    pub blocker: Option<Name>,
-    pub blocker_time: u128,
-    pub next_blocker: Option<Name>,
-    pub next_time: u128,
+    /// Where that is longer than they may: each that did so, the longest first, of equals the lowest.
+    pub culprits: Vec<Culprit>,
     /// For how long they may: for its blocking, and for what timers and interrupts may take while it waits.
     pub may_be_blocked: u128,
     /// For how long threads executed, while it waited, that the set doesn't have.
     pub foreign: u128,
-    /// The first of them.
+    /// Where that is longer than they may: who of them did so longest, of equals the first.
     pub stranger: Option<Name>,
     /// For how long nobody executed while it waited.
     pub idle: u128,
     /// What timers and interrupts may take while it waits: for how long such threads, and nobody, may execute in all.
     pub may_be_taken: u128,
+}
+
+impl Model for Seen {
+    ghost use Rattle.observed.specs.SeenJob.{SeenData};
+
+    ghost Value = { SeenData };
+
+    ghost view = { λ s. record {
+        level = s.level;
+        promise = s.promise;
+        arrival = s.arrival;
+        gap = s.gap;
+        closest = s.closest;
+        delay = s.delay;
+        is_finished = s.is_finished;
+        lasted = s.lasted;
+        executed = s.executed;
+        stray = s.stray;
+        may_execute = s.may_execute;
+        blocked = s.blocked;
+        culprits = s.culprits.items;
+        may_be_blocked = s.may_be_blocked;
+        foreign = s.foreign;
+        stranger = s.stranger;
+        idle = s.idle;
+        may_be_taken = s.may_be_taken;
+    } };
 }
 
 // The last of these jobs that is of the task with a name.
@@ -131,8 +158,51 @@ fn delay_of(job: &TraceJob) -> Option<u64>
     Some(ready.saturating_sub(job.arrival))
 }
 
+// Where tasks below execute for longer than they may, each that does so.
+fn culprits_of(
+    alloc: Global,
+    is_past: bool,
+    promises: &[Promise],
+    promise: &Promise,
+    level: usize,
+    end: u64,
+    pieces: &[Piece],
+    job: &TraceJob,
+) -> Result<Vec<Culprit>, AllocError>
+    requires { level ≤ length promises.now }
+    ensures { IfOk result (λ culprits. culprits.items
+        ≡ culprits_of is_past promises.now promise.now level end pieces.now job.now) }
+{
+    if is_past {
+        let to = u128::from(until_of(end, job));
+        culprits_below(alloc, promises, ready_by(promise, job), to, pieces, level)
+    } else {
+        Ok(Vec::new(alloc))
+    }
+}
+
+// Where threads that the set doesn't have execute for longer than they may, who does so longest.
+fn stranger_of(
+    alloc: Global,
+    is_past: bool,
+    promise: &Promise,
+    end: u64,
+    pieces: &[Piece],
+    job: &TraceJob,
+) -> Result<Option<Name>, AllocError>
+    ensures { IfOk result (λ name. name ≡ stranger_of is_past promise.now end pieces.now job.now) }
+{
+    if is_past {
+        let to = u128::from(until_of(end, job));
+        longest_stranger(alloc, ready_by(promise, job), to, pieces)
+    } else {
+        Ok(None)
+    }
+}
+
 // What is seen of the job of a set at a place, whose task has this level, with the jobs before it.
 pub(crate) fn seen_job(
+    alloc: Global,
     set: &Tabled<'_>,
     promises: &[Promise],
     level: usize,
@@ -140,10 +210,11 @@ pub(crate) fn seen_job(
     pieces: &[Piece],
     before: &[TraceJob],
     job: &TraceJob,
-) -> Seen
+) -> Result<Seen, AllocError>
     requires level { level < length promises.now }
     requires tasks { All (λ p. p.task < length set.now) promises.now }
-    ensures { result ≡ seen_job set.now promises.now (slice_index_or promises.now level no_promise) level end pieces.now before.now job.now }
+    ensures { IfOk result (λ seen. seen
+        ≡ seen_job set.now promises.now (slice_index_or promises.now level no_promise) level end pieces.now before.now job.now) }
 {
     let promise = &promises[level];
     let ready = ready_by(promise, job);
@@ -153,11 +224,17 @@ pub(crate) fn seen_job(
     let taken = interrupts_within(set, waited_of(promise, end, job));
     let last = last_job(before, job.name);
     let closest = closest_to(promise, &last);
-    let blocked = time_in(Whom::Below(level), ready, to, pieces);
+    let below = Whom::Below(level);
+    let blocked = time_in(&below, ready, to, pieces);
     let may_be_blocked = u128::from(promise.blocking) + taken;
-    let first = first_culprit(may_be_blocked < blocked, promises, ready, to, pieces, level);
-    let next = next_culprit(&first, promises, ready, to, pieces, level);
-    Seen {
+    let is_past = may_be_blocked < blocked;
+    let culprits = culprits_of(alloc, is_past, promises, promise, level, end, pieces, job)?;
+    let strange = Whom::Foreign;
+    let foreign = time_in(&strange, ready, to, pieces);
+    let stranger = stranger_of(alloc, taken < foreign, promise, end, pieces, job)?;
+    let own = Whom::Job(before.len());
+    let anyone = Whom::Anyone;
+    Ok(Seen {
         level,
         promise: promises[level],
         arrival: job.arrival,
@@ -166,7 +243,7 @@ pub(crate) fn seen_job(
         delay: delay_of(job),
         is_finished: job.finish.is_some(),
         lasted,
-        executed: time_in(Whom::Job(before.len()), u128::from(job.arrival), to, pieces),
+        executed: time_in(&own, u128::from(job.arrival), to, pieces),
         stray: stray_in(
             set,
             promises,
@@ -179,15 +256,12 @@ pub(crate) fn seen_job(
         may_execute: u128::from(promise.cost) + interrupts_within(set, lasted),
         blocked,
         may_be_blocked,
-        blocker: name_of(&first),
-        blocker_time: time_of(&first),
-        next_blocker: name_of(&next),
-        next_time: time_of(&next),
-        foreign: time_in(Whom::Foreign, ready, to, pieces),
-        stranger: first_name(Whom::Foreign, ready, to, pieces),
+        culprits,
+        foreign,
+        stranger,
         idle: to
             .saturating_sub(ready)
-            .saturating_sub(time_in(Whom::Anyone, ready, to, pieces)),
+            .saturating_sub(time_in(&anyone, ready, to, pieces)),
         may_be_taken: taken,
-    }
+    })
 }

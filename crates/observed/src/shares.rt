@@ -1,6 +1,6 @@
 //! For how long some of the pieces of a trace execute between two times.
 ghost use Rattle.std.specs.Prelude.{◌≡◌, ◌<◌};
-ghost use Rattle.observed.specs.Shares.{counts, first_name, is_at, is_below, overlap, share_of, time_in};
+ghost use Rattle.observed.specs.Shares.{counts, is_at, is_below, overlap, share_of, time_in};
 
 use crate::pieces::Piece;
 use task_sheet::Name;
@@ -16,6 +16,8 @@ pub(crate) enum Whom {
     Below(usize),
     /// Those of threads that the set doesn't have.
     Foreign,
+    /// Those of the one of them with a name.
+    Thread(Name),
     Anyone,
 }
 
@@ -40,14 +42,15 @@ fn is_below(number: usize, some: Option<usize>) -> bool
 }
 
 // The piece is counted.
-fn counts(whom: Whom, piece: &Piece) -> bool
-    ensures { result ≡ counts whom piece.now }
+fn counts(whom: &Whom, piece: &Piece) -> bool
+    ensures { result ≡ counts whom.now piece.now }
 {
     match whom {
-        Whom::Job(place) => is_at(place, piece.job),
-        Whom::Level(level) => is_at(level, piece.level),
-        Whom::Below(level) => is_below(level, piece.level),
+        Whom::Job(place) => is_at(*place, piece.job),
+        Whom::Level(level) => is_at(*level, piece.level),
+        Whom::Below(level) => is_below(*level, piece.level),
         Whom::Foreign => piece.level.is_none(),
+        Whom::Thread(name) => piece.level.is_none() && piece.name == *name,
         Whom::Anyone => true,
     }
 }
@@ -63,8 +66,8 @@ fn overlap(from: u128, to: u128, piece: &Piece) -> u128
 }
 
 // The same, where the piece is counted; else 0.
-pub(crate) fn share_of(whom: Whom, from: u128, to: u128, piece: &Piece) -> u128
-    ensures is { result ≡ share_of whom from to piece.now }
+pub(crate) fn share_of(whom: &Whom, from: u128, to: u128, piece: &Piece) -> u128
+    ensures is { result ≡ share_of whom.now from to piece.now }
     ensures small { result < 18446744073709551616 }
 {
     if counts(whom, piece) {
@@ -75,22 +78,12 @@ pub(crate) fn share_of(whom: Whom, from: u128, to: u128, piece: &Piece) -> u128
 }
 
 // For how long those who are counted execute between two times.
-pub(crate) fn time_in(whom: Whom, from: u128, to: u128, pieces: &[Piece]) -> u128
-    ensures { result ≡ time_in whom from to pieces.now }
+pub(crate) fn time_in(whom: &Whom, from: u128, to: u128, pieces: &[Piece]) -> u128
+    ensures { result ≡ time_in whom.now from to pieces.now }
 {
     let mut time: u128 = 0;
     for piece in pieces {
         time += share_of(whom, from, to, piece);
     }
     time
-}
-
-// The first of them.
-pub(crate) fn first_name(whom: Whom, from: u128, to: u128, pieces: &[Piece]) -> Option<Name>
-    ensures { result ≡ first_name whom from to pieces.now }
-{
-    let piece = pieces
-        .iter()
-        .find(|piece| 0 < share_of(whom, from, to, piece))?;
-    Some(piece.name)
 }

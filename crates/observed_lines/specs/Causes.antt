@@ -1,67 +1,77 @@
 -- From what a broken promise of a job follows.
-use Rattle.std.specs.Prelude.{ℕ, ◌+◌, Bool, true, false, ◌&&◌, ◌||◌, not, nat_le, nat_lt, List, [], ◌∷◌, ◌++◌, Option, Some, None, codes, option_map, if◌then◌else◌}
+use Rattle.std.specs.Prelude.{ℕ, ◌+◌, ◌==◌, Bool, true, false, ◌&&◌, ◌||◌, not, nat_le, nat_lt, List, [], ◌∷◌, ◌++◌, Option, Some, None, codes, option_map, if◌then◌else◌}
 use Rattle.std.specs.Fmt.{decimal}
-use Rattle.std.specs.List.{filter, find}
+use Rattle.std.specs.List.{find, list_any}
 use Rattle.std.specs.Option.{option_or}
-use Rattle.task_sheet.specs.Sheet.{same_bytes}
-use Rattle.observed.specs.declared.seen.Seen.{Seen}
+use Rattle.observed.specs.SeenJob.{SeenData}
 use Rattle.observed_lines.specs.Breaks.{breaks_blocking, breaks_cost, breaks_foreign, breaks_idle, breaks_jitter, breaks_period, breaks_priority}
 use Rattle.observed_lines.specs.declared.causes.Broken.{Broken}
 use Rattle.observed_lines.specs.declared.causes.Broken.TheVariants.{Priority, Cost, Period, Late, Blocked, Foreign, Idle}
 use Rattle.observed_lines.specs.declared.causes.Cause.{Cause}
+use Rattle.observed_lines.specs.declared.causes.Source.{Source}
 
 -- ---- what a job breaks by itself
 -- what it breaks itself, or its thread's settings or its timer for it, follows from nothing
-abbrev pub breaks_own : ℕ → Seen → Bool
+abbrev pub breaks_own : ℕ → SeenData → Bool
 breaks_own tolerance s =
     breaks_priority s
     || (breaks_cost tolerance s || (breaks_period tolerance s || breaks_jitter tolerance s))
 
 -- the first of these
-abbrev pub own_of : ℕ → Seen → Broken
+abbrev pub own_of : ℕ → SeenData → Broken
 own_of tolerance s =
     if breaks_priority s then Priority
     else if breaks_cost tolerance s then Cost
     else if breaks_period tolerance s then Period
     else Late
 
--- the jobs that break something so
-abbrev pub causes_in : ℕ → List Seen → List Seen
-causes_in tolerance seen = filter (breaks_own tolerance) seen
+-- what a job breaks, as a cause
+abbrev pub as_cause : Broken → SeenData → Cause
+as_cause what c = record { what = what; name = c.promise.name; arrival = c.arrival }
+
+-- the first of these, as a cause, with its task's level and for how long its job was there
+abbrev pub source_of : ℕ → SeenData → Source
+source_of tolerance s =
+    record {
+      cause = as_cause (own_of tolerance s) s;
+      level = s.level;
+      lasted = s.lasted;
+    }
+
+-- that of each job that breaks something so
+abbrev pub sources_in : ℕ → List SeenData → List Source
+sources_in tolerance [] = []
+sources_in tolerance (s ∷ seen) =
+    if breaks_own tolerance s
+    then source_of tolerance s ∷ sources_in tolerance seen
+    else sources_in tolerance seen
 
 -- ---- whom it delays
--- both are there at some time
-abbrev pub overlap : Seen → Seen → Bool
-overlap c s = nat_lt c.arrival (s.arrival + s.lasted) && nat_lt s.arrival (c.arrival + c.lasted)
+-- it is there behind a time
+abbrev pub is_there : ℕ → Source → Bool
+is_there time c = nat_lt time (c.cause.arrival + c.lasted)
 
--- it is this name
-abbrev pub is_named : List ℕ → Option (List ℕ) → Bool
-is_named name None = false
-is_named name (Some other) = same_bytes other name
+-- both are there at some time
+abbrev pub overlap : Source → SeenData → Bool
+overlap c s = nat_lt c.cause.arrival (s.arrival + s.lasted) && is_there s.arrival c
 
 -- its task stands no lower, or is one of those that are named to have blocked it
-abbrev pub may_delay : Seen → Seen → Bool
+abbrev pub may_delay : Source → SeenData → Bool
 may_delay c s =
-    nat_le s.level c.level
-    || (is_named c.promise.name s.blocker || is_named c.promise.name s.next_blocker)
+    nat_le s.level c.level || list_any (λ d. d.level == c.level) s.culprits
 
 -- a job delays another, or itself
-abbrev pub delays : Seen → Seen → Bool
+abbrev pub delays : Source → SeenData → Bool
 delays c s = overlap c s && may_delay c s
 
 -- ---- the causes
--- what a job breaks, as a cause
-abbrev pub as_cause : Broken → Seen → Cause
-as_cause what c = record { what = what; name = c.promise.name; arrival = c.arrival }
-
 -- from what follows that a job was blocked, or nobody executed while it waited: from the first job that breaks something
 -- itself and delays it
-abbrev pub cause_of : ℕ → (causes : List Seen) → Seen → Option Cause
-cause_of tolerance causes s =
-    option_map (λ c. as_cause (own_of tolerance c) c) (find (λ c. delays c s) causes)
+abbrev pub cause_of : List Source → SeenData → Option Cause
+cause_of causes s = option_map (λ c. c.cause) (find (λ c. delays c s) causes)
 
 -- what it broke while it waited
-abbrev pub wait_of : ℕ → Seen → Option Cause
+abbrev pub wait_of : ℕ → SeenData → Option Cause
 wait_of tolerance s =
     if breaks_blocking tolerance s then Some (as_cause Blocked s)
     else if breaks_foreign tolerance s then Some (as_cause Foreign s)
@@ -69,8 +79,8 @@ wait_of tolerance s =
     else None
 
 -- from what follows that it took longer than its bound: from the same, else from what it broke while it waited
-abbrev pub bound_cause : ℕ → (causes : List Seen) → Seen → Option Cause
-bound_cause tolerance causes s = option_or (cause_of tolerance causes s) (wait_of tolerance s)
+abbrev pub bound_cause : ℕ → Option Cause → SeenData → Option Cause
+bound_cause tolerance cause s = option_or cause (wait_of tolerance s)
 
 -- ---- as words
 abbrev pub word_of : Broken → List ℕ

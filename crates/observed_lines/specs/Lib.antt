@@ -1,5 +1,6 @@
 pub mod Breaks
 pub mod Causes
+pub mod Sweeps
 pub mod Jobless
 pub mod Broken
 pub mod Reached

@@ -1,13 +1,14 @@
 //! The lines of the promises that jobs break.
 ghost use Rattle.std.specs.Prelude.{◌≡◌, ◌++◌, OnOk, string_bytes};
-ghost use Rattle.observed_lines.specs.Broken.{at_words, blocked_words, bound_words, broken_lines, by_words, cost_words, culprit_words, culprits_words, delay_words, foreign_words, idle_words, jitter_words, late_words, limit_words, own_lines, own_words, period_words, priority_words, strange_words, stray_words, wait_lines, wait_words};
+ghost use Rattle.observed_lines.specs.Broken.{at_words, blocked_words, bound_words, broken_lines, by_words, cost_words, culprits_words, delay_words, foreign_words, idle_words, jitter_words, late_words, limit_words, others_words, own_lines, own_words, period_words, priority_words, strange_words, stray_words, wait_lines, wait_words};
 
 use crate::breaks::{
     breaks_blocking, breaks_bound, breaks_cost, breaks_foreign, breaks_idle, breaks_jitter,
     breaks_period, breaks_priority, may_idle,
 };
-use crate::causes::{Cause, bound_cause, cause_of, causes_in, is_among, push_after};
-use observed::Seen;
+use crate::causes::{Cause, Source, bound_cause, is_among, push_after, sources_in};
+use crate::sweep::{are_in_order, cause_of, move_on};
+use observed::{Culprit, Seen};
 use std::alloc::{AllocError, Global};
 use task_sheet::Name;
 
@@ -33,18 +34,29 @@ fn push_limit(text: &mut String, time: u128, limit: u128) -> Result<(), AllocErr
     }
 }
 
-// A name, if there is one, and for how long it executed.
-fn push_culprit(
-    text: &mut String,
-    before: &str,
-    name: Option<Name>,
-    time: u128,
-) -> Result<(), AllocError>
-    ensures { OnOk result (string_bytes text.new
-        ≡ string_bytes text.old ++ culprit_words before.now name time) }
+// Who else executed, and for how long.
+fn push_others(text: &mut String, culprits: &[Culprit]) -> Result<(), AllocError>
+    ensures { OnOk result (string_bytes text.new ≡ string_bytes text.old ++ others_words culprits.now) }
 {
-    match name {
-        Some(name) => write!(text, "{before}{name} {time}"),
+    for culprit in culprits {
+        let name = culprit.name;
+        let time = culprit.time;
+        write!(text, ", {name} {time}")?;
+    }
+    Ok(())
+}
+
+// Who executed, and for how long.
+fn push_culprits(text: &mut String, culprits: &[Culprit]) -> Result<(), AllocError>
+    ensures { OnOk result (string_bytes text.new ≡ string_bytes text.old ++ culprits_words culprits.now) }
+{
+    match culprits.split_first() {
+        Some((first, others)) => {
+            let name = first.name;
+            let time = first.time;
+            write!(text, " by {name} {time}")?;
+            push_others(text, others)
+        }
         None => Ok(()),
     }
 }
@@ -144,9 +156,9 @@ fn push_own(text: &mut String, tolerance: u64, seen: &Seen) -> Result<(), AllocE
 }
 
 // It is done, and how long it took; or it is open; and from what this follows.
-fn push_late(text: &mut String, cause: Option<Cause>, seen: &Seen) -> Result<(), AllocError>
+fn push_late(text: &mut String, cause: &Option<Cause>, seen: &Seen) -> Result<(), AllocError>
     ensures { OnOk result (string_bytes text.new
-        ≡ string_bytes text.old ++ late_words cause seen.now) }
+        ≡ string_bytes text.old ++ late_words cause.now seen.now) }
 {
     if !seen.is_finished {
         push_at(text, "open", seen)?;
@@ -163,48 +175,39 @@ fn push_late(text: &mut String, cause: Option<Cause>, seen: &Seen) -> Result<(),
 fn push_bound(
     text: &mut String,
     follows: bool,
-    cause: Option<Cause>,
+    cause: &Option<Cause>,
     tolerance: u64,
     seen: &Seen,
 ) -> Result<(), AllocError>
     ensures { OnOk result (string_bytes text.new
-        ≡ string_bytes text.old ++ bound_words follows cause tolerance seen.now) }
+        ≡ string_bytes text.old ++ bound_words follows cause.now tolerance seen.now) }
 {
-    if breaks_bound(tolerance, seen) && is_among(follows, &cause) {
+    if breaks_bound(tolerance, seen) && is_among(follows, cause) {
         push_late(text, cause, seen)
     } else {
         Ok(())
     }
 }
 
-// Who executed longest, and who did so of the others.
-fn push_culprits(text: &mut String, seen: &Seen) -> Result<(), AllocError>
-    ensures { OnOk result (string_bytes text.new
-        ≡ string_bytes text.old ++ culprits_words seen.now) }
-{
-    push_culprit(text, " by ", seen.blocker, seen.blocker_time)?;
-    push_culprit(text, ", ", seen.next_blocker, seen.next_time)
-}
-
 // While it waited, tasks below it executed for longer than they may.
 fn push_blocked(
     text: &mut String,
     follows: bool,
-    cause: Option<Cause>,
+    cause: &Option<Cause>,
     tolerance: u64,
     seen: &Seen,
 ) -> Result<(), AllocError>
     ensures { OnOk result (string_bytes text.new
-        ≡ string_bytes text.old ++ blocked_words follows cause tolerance seen.now) }
+        ≡ string_bytes text.old ++ blocked_words follows cause.now tolerance seen.now) }
 {
-    if !(breaks_blocking(tolerance, seen) && is_among(follows, &cause)) {
+    if !(breaks_blocking(tolerance, seen) && is_among(follows, cause)) {
         return Ok(());
     }
     let time = seen.blocked;
     let most = seen.may_be_blocked;
     push_at(text, "blocked", seen)?;
     write!(text, " {time} of {most}")?;
-    push_culprits(text, seen)?;
+    push_culprits(text, &seen.culprits)?;
     push_after(text, cause)
 }
 
@@ -225,14 +228,14 @@ fn push_foreign(text: &mut String, tolerance: u64, seen: &Seen) -> Result<(), Al
 fn push_idle(
     text: &mut String,
     follows: bool,
-    cause: Option<Cause>,
+    cause: &Option<Cause>,
     tolerance: u64,
     seen: &Seen,
 ) -> Result<(), AllocError>
     ensures { OnOk result (string_bytes text.new
-        ≡ string_bytes text.old ++ idle_words follows cause tolerance seen.now) }
+        ≡ string_bytes text.old ++ idle_words follows cause.now tolerance seen.now) }
 {
-    if !(breaks_idle(tolerance, seen) && is_among(follows, &cause)) {
+    if !(breaks_idle(tolerance, seen) && is_among(follows, cause)) {
         return Ok(());
     }
     push_at(text, "idle", seen)?;
@@ -261,25 +264,18 @@ fn push_strange(
 fn push_wait(
     text: &mut String,
     follows: bool,
-    causes: &[Seen],
+    cause: &Option<Cause>,
     tolerance: u64,
     seen: &Seen,
 ) -> Result<(), AllocError>
     ensures { OnOk result (string_bytes text.new
-        ≡ string_bytes text.old ++ wait_words follows causes.now tolerance seen.now) }
+        ≡ string_bytes text.old ++ wait_words follows cause.now tolerance seen.now) }
 {
-    let blocked = cause_of(tolerance, causes, seen);
-    push_blocked(text, follows, blocked, tolerance, seen)?;
+    push_blocked(text, follows, cause, tolerance, seen)?;
     push_strange(text, follows, tolerance, seen)?;
-    let idle = cause_of(tolerance, causes, seen);
-    push_idle(text, follows, idle, tolerance, seen)?;
-    push_bound(
-        text,
-        follows,
-        bound_cause(tolerance, causes, seen),
-        tolerance,
-        seen,
-    )
+    push_idle(text, follows, cause, tolerance, seen)?;
+    let cause = bound_cause(tolerance, cause, seen);
+    push_bound(text, follows, &cause, tolerance, seen)
 }
 
 // What each job breaks itself.
@@ -295,17 +291,25 @@ fn push_all_own(text: &mut String, tolerance: u64, seen: &[Seen]) -> Result<(), 
 
 // What each job breaks while it waits, and its bound.
 fn push_waits(
+    alloc: Global,
     text: &mut String,
     follows: bool,
-    causes: &[Seen],
+    causes: &[Source],
     tolerance: u64,
     seen: &[Seen],
 ) -> Result<(), AllocError>
     ensures { OnOk result (string_bytes text.new
         ≡ string_bytes text.old ++ wait_lines follows causes.now tolerance seen.now) }
 {
+    let in_order = are_in_order(causes);
+    let mut live = Vec::new(alloc);
+    let mut rest = causes;
+    let mut reached = 0;
     for job in seen {
-        push_wait(text, follows, causes, tolerance, job)?;
+        rest = move_on(causes, &mut live, rest, in_order, reached, job.arrival)?;
+        reached = job.arrival;
+        let cause = cause_of(&live, rest, in_order, job);
+        push_wait(text, follows, &cause, tolerance, job)?;
     }
     Ok(())
 }
@@ -320,8 +324,8 @@ pub(crate) fn push_all_broken(
     ensures { OnOk result (string_bytes text.new
         ≡ string_bytes text.old ++ broken_lines tolerance seen.now) }
 {
-    let causes = causes_in(alloc, tolerance, seen)?;
+    let causes = sources_in(alloc, tolerance, seen)?;
     push_all_own(text, tolerance, seen)?;
-    push_waits(text, false, &causes, tolerance, seen)?;
-    push_waits(text, true, &causes, tolerance, seen)
+    push_waits(alloc, text, false, &causes, tolerance, seen)?;
+    push_waits(alloc, text, true, &causes, tolerance, seen)
 }

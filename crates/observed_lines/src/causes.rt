@@ -1,12 +1,13 @@
 //! From what a broken promise of a job follows.
-ghost use Rattle.std.specs.Prelude.{◌≡◌, ◌++◌, IfOk, OnOk, string_bytes};
-ghost use Rattle.observed_lines.specs.Causes.{after_words, as_cause, bound_cause, breaks_own, cause_of, causes_in, delays, is_among, is_named, may_delay, overlap, own_of, wait_of, word_of};
+ghost use Rattle.std.specs.Prelude.{◌≡◌, ◌++◌, ◌==◌, IfOk, OnOk, string_bytes};
+ghost use Rattle.std.specs.List.{list_any};
+ghost use Rattle.observed_lines.specs.Causes.{after_words, as_cause, bound_cause, breaks_own, delays, is_among, is_there, may_delay, overlap, own_of, source_of, sources_in, wait_of, word_of};
 
 use crate::breaks::{
     breaks_blocking, breaks_cost, breaks_foreign, breaks_idle, breaks_jitter, breaks_period,
     breaks_priority,
 };
-use observed::Seen;
+use observed::{Culprit, Seen};
 use std::alloc::{AllocError, Global};
 use task_sheet::Name;
 
@@ -28,6 +29,14 @@ pub(crate) struct Cause {
     pub what: Broken,
     pub name: Name,
     pub arrival: u64,
+}
+
+// A job that breaks something itself: its task's level, and for how long it was there, in microseconds.
+#[derive(Clone, Copy)]
+pub(crate) struct Source {
+    pub cause: Cause,
+    pub level: usize,
+    pub lasted: u64,
 }
 
 // It breaks something itself, or its thread's settings or its timer do.
@@ -55,57 +64,6 @@ fn own_of(tolerance: u64, seen: &Seen) -> Broken
     }
 }
 
-// The jobs that break something so.
-pub(crate) fn causes_in(
-    alloc: Global,
-    tolerance: u64,
-    seen: &[Seen],
-) -> Result<Vec<Seen>, AllocError>
-    ensures { IfOk result (λ causes. causes.items ≡ causes_in tolerance seen.now) }
-{
-    let mut causes = Vec::new(alloc);
-    for job in seen {
-        if breaks_own(tolerance, job) {
-            causes.push(*job)?;
-        }
-    }
-    Ok(causes)
-}
-
-// Both jobs are there at some time.
-fn overlap(one: &Seen, other: &Seen) -> bool
-    ensures { result ≡ overlap one.now other.now }
-{
-    u128::from(one.arrival) < u128::from(other.arrival) + u128::from(other.lasted)
-        && u128::from(other.arrival) < u128::from(one.arrival) + u128::from(one.lasted)
-}
-
-// It is this name.
-fn is_named(name: Name, some: Option<Name>) -> bool
-    ensures { result ≡ is_named name some }
-{
-    match some {
-        Some(other) => other == name,
-        None => false,
-    }
-}
-
-// Its task stands no lower than the other's, or is one of those that are named to have blocked it.
-fn may_delay(cause: &Seen, other: &Seen) -> bool
-    ensures { result ≡ may_delay cause.now other.now }
-{
-    other.level <= cause.level
-        || is_named(cause.promise.name, other.blocker)
-        || is_named(cause.promise.name, other.next_blocker)
-}
-
-// A job delays another, or itself.
-fn delays(cause: &Seen, other: &Seen) -> bool
-    ensures { result ≡ delays cause.now other.now }
-{
-    overlap(cause, other) && may_delay(cause, other)
-}
-
 // What a job breaks, as a cause.
 fn as_cause(what: Broken, seen: &Seen) -> Cause
     ensures { result ≡ as_cause what seen.now }
@@ -117,12 +75,68 @@ fn as_cause(what: Broken, seen: &Seen) -> Cause
     }
 }
 
-// From what follows that a job was blocked, or nobody executed while it waited.
-pub(crate) fn cause_of(tolerance: u64, causes: &[Seen], seen: &Seen) -> Option<Cause>
-    ensures { result ≡ cause_of tolerance causes.now seen.now }
+// The first of these, as a cause.
+fn source_of(tolerance: u64, seen: &Seen) -> Source
+    ensures { result ≡ source_of tolerance seen.now }
 {
-    let first = causes.iter().find(|job| delays(job, seen))?;
-    Some(as_cause(own_of(tolerance, first), first))
+    Source {
+        cause: as_cause(own_of(tolerance, seen), seen),
+        level: seen.level,
+        lasted: seen.lasted,
+    }
+}
+
+// That of each job that breaks something so.
+pub(crate) fn sources_in(
+    alloc: Global,
+    tolerance: u64,
+    seen: &[Seen],
+) -> Result<Vec<Source>, AllocError>
+    ensures { IfOk result (λ causes. causes.items ≡ sources_in tolerance seen.now) }
+{
+    let mut causes = Vec::new(alloc);
+    for job in seen {
+        if breaks_own(tolerance, job) {
+            causes.push(source_of(tolerance, job))?;
+        }
+    }
+    Ok(causes)
+}
+
+// It is there behind a time.
+pub(crate) fn is_there(time: u64, source: &Source) -> bool
+    ensures { result ≡ is_there time source.now }
+{
+    u128::from(time) < u128::from(source.cause.arrival) + u128::from(source.lasted)
+}
+
+// Both jobs are there at some time.
+fn overlap(source: &Source, seen: &Seen) -> bool
+    ensures { result ≡ overlap source.now seen.now }
+{
+    u128::from(source.cause.arrival) < u128::from(seen.arrival) + u128::from(seen.lasted)
+        && is_there(seen.arrival, source)
+}
+
+// The task of a level is among these.
+fn has_level(culprits: &[Culprit], level: usize) -> bool
+    ensures { result ≡ list_any (λ d. d.level == level) culprits.now }
+{
+    culprits.iter().any(|culprit| culprit.level == level)
+}
+
+// Its task stands no lower than the other's, or is one of those that are named to have blocked it.
+fn may_delay(source: &Source, seen: &Seen) -> bool
+    ensures { result ≡ may_delay source.now seen.now }
+{
+    seen.level <= source.level || has_level(&seen.culprits, source.level)
+}
+
+// A job delays another, or itself.
+pub(crate) fn delays(source: &Source, seen: &Seen) -> bool
+    ensures { result ≡ delays source.now seen.now }
+{
+    overlap(source, seen) && may_delay(source, seen)
 }
 
 // What it broke while it waited.
@@ -141,11 +155,11 @@ fn wait_of(tolerance: u64, seen: &Seen) -> Option<Cause>
 }
 
 // From what follows that it took longer than its bound.
-pub(crate) fn bound_cause(tolerance: u64, causes: &[Seen], seen: &Seen) -> Option<Cause>
-    ensures { result ≡ bound_cause tolerance causes.now seen.now }
+pub(crate) fn bound_cause(tolerance: u64, cause: &Option<Cause>, seen: &Seen) -> Option<Cause>
+    ensures { result ≡ bound_cause tolerance cause.now seen.now }
 {
-    match cause_of(tolerance, causes, seen) {
-        Some(cause) => Some(cause),
+    match cause {
+        Some(cause) => Some(*cause),
         None => wait_of(tolerance, seen),
     }
 }
@@ -166,8 +180,8 @@ fn word_of<'a>(what: Broken) -> &'a str
 }
 
 // The cause, if there is one, and the end of the line.
-pub(crate) fn push_after(text: &mut String, cause: Option<Cause>) -> Result<(), AllocError>
-    ensures { OnOk result (string_bytes text.new ≡ string_bytes text.old ++ after_words cause) }
+pub(crate) fn push_after(text: &mut String, cause: &Option<Cause>) -> Result<(), AllocError>
+    ensures { OnOk result (string_bytes text.new ≡ string_bytes text.old ++ after_words cause.now) }
 {
     match cause {
         Some(cause) => {

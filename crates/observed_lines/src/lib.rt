@@ -8,6 +8,7 @@ mod jobless;
 pub mod laws;
 mod leeway;
 mod reached;
+mod sweep;
 mod text;
 
 pub use crate::breaks::{breaks_any, is_kept};

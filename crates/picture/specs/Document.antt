@@ -13,9 +13,9 @@ use Rattle.frames.specs.View.{shown_of}
 use Rattle.picture.specs.Titles.{title_tail}
 use Rattle.picture.specs.declared.style.TheConstants.{STYLE}
 use Rattle.picture.specs.declared.legend.TheConstants.{LEGEND}
-use Rattle.frames.specs.Frame.{Frame, frame_of, frame_end, step_of, steps_before, top_of, unit_name}
+use Rattle.frames.specs.Frame.{Frame, frame_of, frame_end, in_millis, step_of, steps_before, top_of}
 use Rattle.frames.specs.Rows.{each, row_at, spot_in}
-use Rattle.frames.specs.Numbers.{millis_text}
+use Rattle.frames.specs.Numbers.{time_text, unit_text}
 use Rattle.drawn_jobs.specs.Misses.{all_missed, badge_text, misses_text}
 use Rattle.picture.specs.Margin.{margin_text}
 use Rattle.frames.specs.Locks.{locks_of}
@@ -50,7 +50,7 @@ document_head f title locks shown rows jobs until =
 abbrev pub ticks_text : Frame → (bottom step : ℕ) → List ℕ
 ticks_text f bottom step =
     each (f.to / step + 1 - steps_before f step)
-    (λ i. tick_text f bottom step ((steps_before f step + i) * step))
+    (λ i. tick_text f bottom ((steps_before f step + i) * step))
 
 -- the lines of the rows
 abbrev pub lines_text : Frame → (rows : ℕ) → List ℕ
@@ -65,7 +65,7 @@ margins_text f rows shown jobs =
 -- the same as a group, with the scale's unit and the lane of the processor
 abbrev pub margin_group : Frame → List TaskRow → (shown : List ℕ) → List JobRecord → List Slice → List ℕ
 margin_group f rows shown jobs slices =
-    concat (codes "<g id=\"n\">\n<text x=\"500\" y=\"1200\">time in " ∷ unit_name (step_of f)
+    concat (codes "<g id=\"n\">\n<text x=\"500\" y=\"1200\">time in" ∷ unit_text (in_millis f)
     ∷ codes "</text>\n" ∷ [])
     ++ lane_head f slices ++ margins_text f rows shown jobs ++ codes "</g>\n"
 
@@ -82,10 +82,11 @@ verdict_text title missed =
     verdict_head missed ++ title_tail title ++ codes "</text>\n"
 
 -- what part of it is drawn, where that isn't all
-abbrev pub window_words : Frame → List ℕ
-window_words f =
+abbrev pub window_words : (millis : Bool) → Frame → List ℕ
+window_words millis f =
     if (f.from == 0) && (f.to == f.until) then []
-    else concat (codes ", shown: " ∷ millis_text f.from ∷ codes " to " ∷ millis_text f.to ∷ codes " ms" ∷ [])
+    else concat (codes ", shown: " ∷ time_text millis f.from ∷ codes " to " ∷ time_text millis f.to
+    ∷ unit_text millis ∷ [])
 
 -- some task has a timer that takes time, or an interrupt on its account
 abbrev pub are_interrupted : List TaskRow → Bool
@@ -100,9 +101,9 @@ unrun_words rows =
 abbrev pub what_text : Frame → List TaskRow → (jobs until : ℕ) → List ℕ
 what_text f rows jobs until =
     concat (codes "<text x=\"100\" y=\"390\">tasks: " ∷ decimal (length rows) ∷ codes ", jobs: "
-    ∷ decimal jobs ∷ codes ", until " ∷ millis_text until
-    ∷ codes " ms" ∷ [])
-    ++ unrun_words rows ++ window_words f ++ codes "</text>\n"
+    ∷ decimal jobs ∷ codes ", until " ∷ time_text (in_millis f) until
+    ∷ unit_text (in_millis f) ∷ [])
+    ++ unrun_words rows ++ window_words (in_millis f) f ++ codes "</text>\n"
 
 -- what stands still: how the elements look, whether a deadline is missed, what is drawn, what the signs mean, the scale, the
 -- lines of the lane and of the rows, the margin, and the locks

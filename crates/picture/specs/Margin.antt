@@ -1,5 +1,5 @@
 -- The margin: each row's level, tone and name, and how long its jobs take at most.
-use Rattle.std.specs.Prelude.{ℕ, ◌+◌, ◌==◌, if◌then◌else◌, Option, Some, None, List, [], ◌∷◌, ◌++◌, length, codes}
+use Rattle.std.specs.Prelude.{ℕ, ◌+◌, Bool, ◌==◌, if◌then◌else◌, Option, Some, None, List, [], ◌∷◌, ◌++◌, length, codes}
 use Rattle.std.specs.Fmt.{decimal}
 use Rattle.std.specs.List.{concat}
 use Rattle.task_sheet.specs.Demand.{greatest_of}
@@ -8,8 +8,8 @@ use Rattle.run_lines.specs.Reached.{done_of, response_of}
 use Rattle.ceiling_kernel.specs.declared.trace.JobRecord.{JobRecord}
 use Rattle.frames.specs.declared.rows.TaskRow.{TaskRow}
 use Rattle.frames.specs.declared.rows.Spot.{Spot}
-use Rattle.frames.specs.Frame.{Frame, top_of, level_of, tone_of}
-use Rattle.frames.specs.Numbers.{millis_text, known_text}
+use Rattle.frames.specs.Frame.{Frame, in_millis, top_of, level_of, tone_of}
+use Rattle.frames.specs.Numbers.{known_text, time_text, unit_text}
 use Rattle.drawn_jobs.specs.Misses.{missed_in}
 
 -- a row's level, and the tone of its task
@@ -38,22 +38,23 @@ name_text missed jobs k row =
     ++ concat (codes ", bound: " ∷ known_text row.bound ∷ codes " us</title>" ∷ row.sheet.name
     ∷ codes "</text>\n" ∷ [])
 
--- the bound and the deadline, in milliseconds; without a bound the deadline
-abbrev pub limits_text : ℕ → TaskRow → Option ℕ → List ℕ
-limits_text k row (Some bound) =
+-- the bound and the deadline, in the picture's unit; without a bound the deadline
+abbrev pub limits_text : (millis : Bool) → ℕ → TaskRow → Option ℕ → List ℕ
+limits_text millis k row (Some bound) =
     concat (codes "<text x=\"500\" y=\"" ∷ decimal (top_of k + 355) ∷ codes "\">bound "
-    ∷ millis_text bound
-    ∷ codes " of " ∷ millis_text row.sheet.deadline ∷ codes " ms</text>\n" ∷ [])
-limits_text k row None =
+    ∷ time_text millis bound
+    ∷ codes " of " ∷ time_text millis row.sheet.deadline ∷ unit_text millis
+    ∷ codes "</text>\n" ∷ [])
+limits_text millis k row None =
     concat (codes "<text x=\"500\" y=\"" ∷ decimal (top_of k + 355) ∷ codes "\">deadline "
-    ∷ millis_text row.sheet.deadline
-    ∷ codes " ms</text>\n" ∷ [])
+    ∷ time_text millis row.sheet.deadline
+    ∷ unit_text millis ∷ codes "</text>\n" ∷ [])
 
--- how many deadlines are missed, or those two
-abbrev pub second_line : (missed : ℕ) → ℕ → TaskRow → List ℕ
-second_line missed k row =
-    if missed == 0 then limits_text k row row.bound
-    else concat (codes "<text class=\"q\" x=\"500\" y=\"" ∷ decimal (top_of k + 355)
+-- below them how many deadlines are missed, where some are
+abbrev pub missed_line : (missed : ℕ) → ℕ → List ℕ
+missed_line missed k =
+    if missed == 0 then []
+    else concat (codes "<text class=\"q\" x=\"500\" y=\"" ∷ decimal (top_of k + 460)
     ∷ codes "\">deadlines missed: " ∷ decimal missed
     ∷ codes "</text>\n" ∷ [])
 
@@ -61,4 +62,5 @@ second_line missed k row =
 abbrev pub margin_text : Frame → List JobRecord → Spot → TaskRow → List ℕ
 margin_text f jobs spot row =
     level_text f spot ++ name_text (missed_in f row jobs) jobs spot.k row
-    ++ second_line (missed_in f row jobs) spot.k row
+    ++ limits_text (in_millis f) spot.k row row.bound
+    ++ missed_line (missed_in f row jobs) spot.k

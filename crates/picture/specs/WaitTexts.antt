@@ -73,8 +73,8 @@ link_text c k w tone =
 -- a wait of a row for a task below, which blocks by a lock: dots in its tone, and a link
 abbrev pub blocked_text : Scene → Spot → Wait → Option (List ℕ) → List ℕ
 blocked_text c spot w lock =
-    wait_path (codes "wb d") (decimal (tone_of_lock c.locks lock)) (x_of c.frame w.start + 16)
-    (max (x_of c.frame w.stop - 16) (x_of c.frame w.start + 17)) spot.k
+    wait_path (codes "wb d") (decimal (tone_of_lock c.locks lock)) (x_of c.frame w.start + 30)
+    (max (x_of c.frame w.stop - 30) (x_of c.frame w.start + 31)) spot.k
     ++ wait_title c.rows spot.rank w (codes " is blocked by ") lock
     ++ link_text c spot.k w (tone_of_lock c.locks lock)
 
@@ -84,7 +84,7 @@ who_text c k w =
     if nat_le (66 * length (name_in c.rows w.row) + 60) (x_of c.frame w.stop - x_of c.frame w.start)
     then concat (codes "<text class=\"wl\" x=\""
     ∷ decimal ((x_of c.frame w.start + x_of c.frame w.stop) / 2)
-    ∷ codes "\" y=\"" ∷ decimal (top_of k + 225)
+    ∷ codes "\" y=\"" ∷ decimal (top_of k + 205)
     ∷ codes "\">" ∷ name_in c.rows w.row ∷ codes "</text>\n" ∷ [])
     else []
 

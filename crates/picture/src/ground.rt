@@ -12,15 +12,16 @@ use crate::style::STYLE;
 use crate::title::put_title_tail;
 use drawn_jobs::{all_missed, locks_high, put_badge, put_lane_line, put_locks_group};
 use frames::{
-    Chart, Frame, Page, TaskRow, end_of, put_millis, start_of, step_of, steps_before, top_of,
-    unit_of, x_of,
+    Chart, Frame, Page, TaskRow, end_of, in_millis, put_time, put_unit, start_of, step_of,
+    steps_before, time_letters, top_of, x_of,
 };
 
 // Where the number of a line stands in the scale.
-fn number_x(frame: Frame, number: u64, x: u64) -> u64
-    ensures { result ≡ number_x frame number x }
+fn number_x(frame: Frame, time: u64) -> u64
+    ensures { result ≡ number_x frame time }
 {
-    if number < 1_000_000 {
+    let x = x_of(frame, time);
+    if time_letters(in_millis(frame), time) < 7 {
         x
     } else {
         x.min(end_of(frame).saturating_sub(90))
@@ -53,15 +54,13 @@ fn put_head(chart: &Chart<'_>, page: &mut Page)
 }
 
 // A line down through the rows, and its time.
-fn put_tick(frame: Frame, bottom: u64, step: u64, time: u64, page: &mut Page)
-    ensures { Adds page.old page.new (tick_text frame bottom step time) }
+fn put_tick(frame: Frame, bottom: u64, time: u64, page: &mut Page)
+    ensures { Adds page.old page.new (tick_text frame bottom time) }
 {
-    let x = x_of(frame, time);
-    let number = time / unit_of(step);
-    page.number(b"<path class=\"g\" d=\"M", x);
+    page.number(b"<path class=\"g\" d=\"M", x_of(frame, time));
     page.number(b" 1230V", bottom);
-    page.number(b"\"/><text class=\"s\" x=\"", number_x(frame, number, x));
-    page.number(b"\" y=\"1200\">", number);
+    page.number(b"\"/><text class=\"s\" x=\"", number_x(frame, time));
+    put_time(b"\" y=\"1200\">", in_millis(frame), time, page);
     page.put(b"</text>\n")
 }
 
@@ -74,7 +73,7 @@ fn put_ticks(frame: Frame, bottom: u64, step: u64, page: &mut Page)
     let first = steps_before(frame, step);
     let count = (frame.to / step + 1).saturating_sub(first);
     for i in 0..count {
-        put_tick(frame, bottom, step, (first + i) * step, page);
+        put_tick(frame, bottom, (first + i) * step, page);
     }
 }
 
@@ -127,15 +126,15 @@ fn put_verdict(title: &[u8], missed: usize, page: &mut Page)
 }
 
 // What part of it is drawn, where that isn't all.
-fn put_window(frame: Frame, page: &mut Page)
-    ensures { Adds page.old page.new (window_words frame) }
+fn put_window(millis: bool, frame: Frame, page: &mut Page)
+    ensures { Adds page.old page.new (window_words millis frame) }
 {
     if frame.from == 0 && frame.to == frame.until {
         return;
     }
-    put_millis(b", shown: ", frame.from, page);
-    put_millis(b" to ", frame.to, page);
-    page.put(b" ms")
+    put_time(b", shown: ", millis, frame.from, page);
+    put_time(b" to ", millis, frame.to, page);
+    put_unit(millis, page)
 }
 
 // Whether some task has a timer that takes time, or an interrupt on its account.
@@ -165,10 +164,11 @@ fn put_what(frame: Frame, rows: &[TaskRow], jobs: usize, until: u64, page: &mut 
 {
     page.number(b"<text x=\"100\" y=\"390\">tasks: ", rows.len() as u64);
     page.number(b", jobs: ", jobs as u64);
-    put_millis(b", until ", until, page);
-    page.put(b" ms");
+    let millis = in_millis(frame);
+    put_time(b", until ", millis, until, page);
+    put_unit(millis, page);
     put_unrun(rows, page);
-    put_window(frame, page);
+    put_window(millis, frame, page);
     page.put(b"</text>\n")
 }
 

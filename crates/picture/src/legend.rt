@@ -6,7 +6,7 @@ pub(crate) const LEGEND: &str = concat!(
     "<text x=\"420\" y=\"668\">executes</text>\n",
     "<path class=\"wa i0\" d=\"M1100 630h260\"/>",
     "<text x=\"1420\" y=\"668\">waits for a task above, in its colour</text>\n",
-    "<path class=\"wb d0\" d=\"M3716 630h240\"/>",
+    "<path class=\"wb d0\" d=\"M3730 630h200\"/>",
     "<text x=\"4020\" y=\"668\">is blocked by a task below, in the lock's tone</text>\n",
     "<path class=\"wa in\" d=\"M6900 630h260\"/>",
     "<text x=\"7220\" y=\"668\">waits for several above</text>\n",

@@ -1,13 +1,14 @@
 //! The margin: each row's level, tone and name, and how long its jobs take at most.
 ghost use Rattle.std.specs.Prelude.{◌≡◌, ◌++◌, codes};
+ghost use Rattle.frames.specs.Frame.{in_millis};
 ghost use Rattle.frames.specs.Page.{Adds};
 ghost use Rattle.picture.specs.Document.{margin_group, margins_text};
-ghost use Rattle.picture.specs.Margin.{level_text, limits_text, margin_text, name_class, name_text, second_line};
+ghost use Rattle.picture.specs.Margin.{level_text, limits_text, margin_text, missed_line, name_class, name_text};
 
 use ceiling_kernel::JobRecord;
 use drawn_jobs::{missed_in, put_greatest, put_lane_head};
 use frames::{
-    Chart, Lane, Page, level_of, put_known, put_millis, step_of, tone_of, top_of, unit_name,
+    Chart, Lane, Page, in_millis, level_of, put_known, put_time, put_unit, tone_of, top_of,
 };
 use run_lines::outcome_of;
 
@@ -49,36 +50,40 @@ fn put_row_name(missed: usize, lane: &Lane<'_>, jobs: &[JobRecord], page: &mut P
     page.put(b"</text>\n")
 }
 
-// The bound and the deadline, in milliseconds; without a bound the deadline.
+// The bound and the deadline, in the picture's unit; without a bound the deadline.
 fn put_limits(lane: &Lane<'_>, page: &mut Page)
-    ensures { Adds page.old page.new (limits_text lane.now.spot.k lane.now.row.now
+    ensures { Adds page.old page.new (limits_text (in_millis lane.now.frame) lane.now.spot.k
+        lane.now.row.now
         lane.now.row.now.bound) }
 {
+    let millis = in_millis(lane.frame);
     let deadline = lane.row.sheet.deadline();
     page.number(b"<text x=\"500\" y=\"", top_of(lane.spot.k) + 355);
     match lane.row.bound {
         Some(bound) => {
-            put_millis(b"\">bound ", bound, page);
-            put_millis(b" of ", deadline, page);
-            page.put(b" ms</text>\n")
+            put_time(b"\">bound ", millis, bound, page);
+            put_time(b" of ", millis, deadline, page);
+            put_unit(millis, page);
+            page.put(b"</text>\n")
         }
         None => {
-            put_millis(b"\">deadline ", deadline, page);
-            page.put(b" ms</text>\n")
+            put_time(b"\">deadline ", millis, deadline, page);
+            put_unit(millis, page);
+            page.put(b"</text>\n")
         }
     }
 }
 
-// How many deadlines are missed, or those two.
-fn put_second_line(missed: usize, lane: &Lane<'_>, page: &mut Page)
-    ensures { Adds page.old page.new (second_line missed lane.now.spot.k lane.now.row.now) }
+// Below them how many deadlines are missed, where some are.
+fn put_missed_line(missed: usize, lane: &Lane<'_>, page: &mut Page)
+    ensures { Adds page.old page.new (missed_line missed lane.now.spot.k) }
 {
     if missed == 0 {
-        return put_limits(lane, page);
+        return;
     }
     page.number(
         b"<text class=\"q\" x=\"500\" y=\"",
-        top_of(lane.spot.k) + 355,
+        top_of(lane.spot.k) + 460,
     );
     page.number(b"\">deadlines missed: ", missed as u64);
     page.put(b"</text>\n")
@@ -92,7 +97,8 @@ fn put_margin(lane: &Lane<'_>, jobs: &[JobRecord], page: &mut Page)
     let missed = missed_in(lane.frame, lane.row, jobs);
     put_level(lane, page);
     put_row_name(missed, lane, jobs, page);
-    put_second_line(missed, lane, page)
+    put_limits(lane, page);
+    put_missed_line(missed, lane, page)
 }
 
 // The rows' parts.
@@ -111,8 +117,8 @@ pub(crate) fn put_group(chart: &Chart<'_>, page: &mut Page)
         chart.now.shown.now chart.now.jobs.now
         chart.now.slices.now) }
 {
-    page.put(b"<g id=\"n\">\n<text x=\"500\" y=\"1200\">time in ");
-    page.put(unit_name(step_of(chart.frame)).as_bytes());
+    page.put(b"<g id=\"n\">\n<text x=\"500\" y=\"1200\">time in");
+    put_unit(in_millis(chart.frame), page);
     page.put(b"</text>\n");
     put_lane_head(chart, page);
     put_margins(chart, page);

@@ -15,7 +15,9 @@ pub(crate) const STYLE: &str = concat!(
     ".s{text-anchor:middle}",
     // names in the lane of the processor
     ".u{font:110px monospace;fill:#111;text-anchor:middle;pointer-events:none}",
-    // names of locks, in a section
+    // names of several locks, below a section
+    ".m{font:110px monospace;text-anchor:middle;pointer-events:none}",
+    // the name of a lock, in a section
     ".k{font:110px monospace;fill:#fff;text-anchor:middle;pointer-events:none;paint-order:stroke;",
     "stroke:#222;stroke-width:28px;stroke-linejoin:round}",
     // the ground
@@ -75,9 +77,9 @@ pub(crate) const STYLE: &str = concat!(
     // lines in the patterns of locks
     ".j{stroke:#fff;stroke-opacity:.55;stroke-width:14;fill:none}",
     // waits: for a task above
-    ".wa{stroke-width:24;fill:none}",
+    ".wa{stroke-width:60;fill:none}",
     // waits: blocked by a task below
-    ".wb{stroke-width:32;stroke-linecap:round;stroke-dasharray:0 55;fill:none}",
+    ".wb{stroke-width:60;stroke-linecap:round;stroke-dasharray:0 80;fill:none}",
     // waits: the link to the one below
     ".wj{stroke-width:10;stroke-dasharray:10 22;fill:none;pointer-events:none}",
     // waits: who executes
@@ -111,7 +113,7 @@ pub(crate) const STYLE: &str = concat!(
     ".t,.n{fill:#f2f4f7}",
     // names in the lane of the processor
     ".u{fill:#fff}",
-    // names of locks, in a section
+    // the name of a lock, in a section
     ".k{fill:#101418;stroke:#eee}",
     // the ground
     ".p{fill:#14181d}",

@@ -124,9 +124,9 @@ fn put_blocked(chart: &Chart<'_>, spot: Spot, wait: Wait, lock: Option<Name>, pa
     let tone = tone_of_lock(chart.locks, &lock);
     let start = x_of(chart.frame, wait.start);
     let stop = x_of(chart.frame, wait.stop);
-    let right = stop.saturating_sub(16).max(start + 17);
+    let right = stop.saturating_sub(30).max(start + 31);
     page.number(b"<path class=\"wb d", tone);
-    put_line(start + 16, right, spot.k, page);
+    put_line(start + 30, right, spot.k, page);
     put_title(chart, spot.rank, wait, b" is blocked by ", &lock, page);
     put_link(chart, spot.k, wait, tone, page)
 }
@@ -142,7 +142,7 @@ fn put_who(chart: &Chart<'_>, k: usize, wait: Wait, page: &mut Page)
     let name = name_in(chart.rows, wait.row);
     if has_room(name, right.saturating_sub(x)) {
         page.number(b"<text class=\"wl\" x=\"", (x + right) / 2);
-        page.number(b"\" y=\"", top_of(k) + 225);
+        page.number(b"\" y=\"", top_of(k) + 205);
         page.name(b"\">", name);
         page.put(b"</text>\n")
     }

@@ -4,3 +4,4 @@ pub mod FollowLaws
 pub mod MonotonicLaws
 pub mod Renumbering
 pub mod ToldLaws
+pub mod AskedLaws

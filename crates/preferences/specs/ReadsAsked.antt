@@ -17,9 +17,13 @@ use Rattle.preferences.specs.declared.asking.AskedFault.{AskedFault}
 use Rattle.preferences.specs.declared.asking.AskedFault.TheVariants.{Text, Doubt}
 use Rattle.preferences.specs.declared.preferred.Preferred.{Preferred}
 
+-- the same, and so strict
+abbrev pub asking_so : Strictness → Asking → Asking
+asking_so strictness asking = record asking { strictness = strictness }
+
 -- the same, though the set may have doubts, whatever its text asks
 abbrev pub lenient : Asking → Asking
-lenient asking = record asking { strictness = Lenient }
+lenient asking = asking_so Lenient asking
 
 -- whether the first doubt of the set that a text says is told: as the call asks, or lets the text ask
 abbrev pub IsTold : Strictness → List ℕ → (told : Bool) → Type 0

@@ -1,9 +1,14 @@
 //! Laws of sets by a preference. Each is the clause of a function that does nothing, and its names are defined in
 //! `specs/`.
 
-ghost use Rattle.std.specs.Prelude.{◌≡◌, ◌<◌, ◌↔◌, ◌⊎◌, ℕ, List, length, Some, None, Ok};
+ghost use Rattle.std.specs.Prelude.{◌≡◌, ◌<◌, ◌↔◌, ◌⊎◌, ℕ, List, Option, length, Some, None, Ok};
 ghost use Rattle.std.specs.List.Sorted.{IsPermutation};
 ghost use Rattle.teams.specs.ReadsText.{ReadsText};
+ghost use Rattle.teams.specs.Strictness.{IsStrict};
+ghost use Rattle.doubts.specs.declared.doubt.Doubt.{Doubt};
+ghost use Rattle.preferences.specs.ReadsAsked.{IsDoubted, SaysAsked, asking_so};
+ghost use Rattle.preferences.specs.declared.asking.Asking.{Asking};
+ghost use Rattle.preferences.specs.declared.asking.Strictness.TheVariants.{AsSaid, Lenient, Strict};
 ghost use Rattle.task_sheet.specs.declared.read.Document.{Document};
 ghost use Rattle.preferences.specs.ReadsPreferred.{SaysPreferred};
 ghost use Rattle.task_sheet.specs.Sheet.{Task, AllTasks, task_at};
@@ -86,6 +91,18 @@ pub fn call_then_set()
         → SaysPreferred None text d.set }
     ensures weights { (text : List ℕ) (U : List Task) → SaysPreferred (Some Weights) text U
         ↔ ((d : Document) × ReadsText text (Ok d) × (U ≡ d.set)) }
+{}
+
+/// Where a set's text asks that the set have no doubt, a call that lets it ask gets what a strict call gets; elsewhere what a
+/// lenient one does.
+pub fn texts_ask_as_calls()
+    ensures set { (asking : Asking) (text : List ℕ) (U : List Task) → IsStrict text
+        → SaysAsked (asking_so AsSaid asking) text U ↔ SaysAsked (asking_so Strict asking) text U }
+    ensures doubt { (asking : Asking) (text : List ℕ) (doubt : Doubt) → IsStrict text
+        → IsDoubted (asking_so AsSaid asking) text doubt
+        ↔ IsDoubted (asking_so Strict asking) text doubt }
+    ensures lenient { (asking : Asking) (text : List ℕ) (U : List Task) → (IsStrict text → ⊥)
+        → SaysAsked (asking_so AsSaid asking) text U ↔ SaysAsked (asking_so Lenient asking) text U }
 {}
 
 /// Of a set by deadlines the best order bears most.

@@ -18,7 +18,7 @@ use Rattle.trace_text.specs.declared.reading.TraceLines.{TraceLines}
 use Rattle.observed.specs.Observed.{observed_in}
 use Rattle.observed.specs.Promises.{levels_from, promises_by_level}
 use Rattle.observed.specs.Sights.{IsSight, IsSightFault}
-use Rattle.observed.specs.declared.seen.Seen.{Seen as SeenData}
+use Rattle.observed.specs.SeenJob.{SeenData}
 use Rattle.observed.specs.declared.sight.Sight.{Sight}
 use Rattle.observed.specs.declared.sight.Sight.TheVariants.{Infeasible, Seen}
 use Rattle.observed_lines.specs.Breaks.{is_kept}

@@ -58,7 +58,7 @@ fn tell_gathered(told: &mut Told, alloc: Global, bytes: &[u8], fault: TeamsFault
             tell_two(told, team, ".toml: another [node] than ", other);
         }
         TeamsFault::TooManyInterrupts => {
-            told.words("the teams and node.toml have more than 8 interrupts together");
+            told.words("the documents have more than 8 interrupts together");
         }
         TeamsFault::Node { fault } => tell_node(told, alloc, node, fault),
         TeamsFault::NoSuchTeam { team } => tell_stranger(told, node, team),

@@ -6,7 +6,7 @@ use Rattle.task_sheet.specs.Sheet.{Task}
 use Rattle.assignment.specs.Placings.{IsPlacingOf}
 use Rattle.assignment.specs.declared.placing.Placing.{Placing}
 use Rattle.assignment.specs.declared.placing.Placing.TheVariants.{Best, Stuck}
-use Rattle.limit_lines.specs.Lines.{IsLast, order_in, places_in}
+use Rattle.limit_lines.specs.Lines.{IsLast, order_given, order_in, places_in}
 use Rattle.limit_lines.specs.Common.{AreCommonLines}
 use Rattle.owners.specs.declared.owner.Owner.{Owner}
 use Rattle.answering.specs.Owning.{HasOwned}
@@ -32,21 +32,23 @@ alone_line true (Stuck left) = codes "no single change\n"
 -- and that of the factors
 abbrev pub AreEndLines : List Owner → List Task → Placing → (is_silent : Bool) → List ℕ → Type 0
 AreEndLines owners U placing is_silent text =
-    (common : List ℕ) × (last : List ℕ) × AreCommonLines owners U (places_in placing) common
-    × IsLast U (places_in placing) last
+    (common : List ℕ) × (last : List ℕ) × AreCommonLines owners U (order_given placing) common
+    × IsLast U (order_given placing) last
     × (text ≡ common ++ (alone_line (is_silent && (length common == 0)) placing ++ last))
 
 -- the lines of each task of a placed set, and those
 abbrev pub ListsAll : List Owner → List Task → Placing → List ℕ → Type 0
 ListsAll owners U placing text =
-    (lines : List ℕ) × (end : List ℕ) × AreLines U (places_in placing) (length U) lines
+    (lines : List ℕ) × (end : List ℕ)
+    × AreLines U (order_given placing) (places_in placing) (length U) lines
     × AreEndLines owners U placing (length lines == 0) end
     × (text ≡ lines ++ end)
 
 -- the lines of each of the first tasks
 abbrev pub ListsSome : List Task → Placing → List ℕ → Type 0
 ListsSome U placing text =
-    (count : ℕ) × (count ≤ length U) × AreLines U (places_in placing) count text
+    (count : ℕ) × (count ≤ length U)
+    × AreLines U (order_given placing) (places_in placing) count text
 
 -- the lines of a placed set, with the status of its placing; or some, and then that memory ran out for the next
 abbrev pub Lists : List Owner → List Task → Placing → List ℕ → Status → Type 0

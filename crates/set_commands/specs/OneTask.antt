@@ -9,7 +9,7 @@ use Rattle.explain.specs.Explanations.{Explains}
 use Rattle.explain.specs.TaskLines.{task_lines}
 use Rattle.explain.specs.declared.explanation.Explanation.{Explanation}
 use Rattle.judge.specs.declared.explained.Parted.TheVariants.{Missed}
-use Rattle.limit_lines.specs.Lines.{AreTaskLines, places_in}
+use Rattle.limit_lines.specs.Lines.{AreTaskLines, order_given, places_in}
 use Rattle.worst_lines.specs.Lines.{AreWorstLines}
 use Rattle.owners.specs.NamedLines.{named_lines}
 use Rattle.owners.specs.declared.owner.Owner.{Owner}
@@ -32,7 +32,8 @@ use Rattle.answering.specs.Asked.{asked_task}
 -- a text is what is said of a task of a placed set: how far its numbers may go, what explains its response, or that it has
 -- none, or its worst case
 abbrev pub AreLinesOf : TaskPart → List Owner → List Task → Placing → ℕ → List ℕ → Type 0
-AreLinesOf Limits owners U placing task text = AreTaskLines U (places_in placing) task text
+AreLinesOf Limits owners U placing task text =
+    AreTaskLines U (order_given placing) (places_in placing) task text
 AreLinesOf (Reasons all) owners U placing task text =
     (explanation : Explanation) × (decided : List ℕ) × Explains U placing explanation
     × AreDecided Missed U (Some task) placing decided

@@ -79,7 +79,7 @@ fn short_text(
 {
     let mut text = String::from_str(alloc, decided)?;
     push_said(&mut text, set, explanation)?;
-    push_load(&mut text, set)?;
+    push_load(alloc, &mut text, set)?;
     Ok(text)
 }
 

@@ -2,7 +2,7 @@
 ghost use Rattle.std.specs.Prelude.{◌≡◌, ◌≢◌, ℕ, ◌<◌, ◌==◌, ◌&&◌, List, ◌++◌, length, Err, true, IfOk, OnOk, string_bytes};
 ghost use Rattle.std.specs.Io.KnownBytes.{Appends};
 ghost use Rattle.assignment.specs.Placings.{IsPlacingOf};
-ghost use Rattle.limit_lines.specs.Lines.{AreTaskLines, IsLast, order_in, places_in};
+ghost use Rattle.limit_lines.specs.Lines.{AreTaskLines, IsLast, order_given, order_in, places_in};
 ghost use Rattle.set_commands.specs.Limits.{AreEndLines, IsListing, ListsAll, ListsSome, SaysLimitsOf, alone_line};
 ghost use Rattle.answering.specs.OrderParts.{placing_first};
 ghost use Rattle.streams.specs.Sending.{Sends};
@@ -11,7 +11,7 @@ ghost use Rattle.answering.specs.Outcomes.{IsSaidOn};
 use answering::{CommandRefusal, OrderPart, Status, placing_status, placing_text, refuse};
 use assignment::{Placing, tasks_of_places};
 use ceilings::{LockTable, Tabled};
-use limit_lines::{common_text, last_text, task_text};
+use limit_lines::{common_text, last_text, order_given, places_given, task_text};
 use owners::Owner;
 use std::alloc::{AllocError, Global};
 use std::io::Write;
@@ -54,10 +54,12 @@ pub(crate) fn order_of(alloc: Global, placing: &Placing) -> Result<Vec<usize>, A
 fn lines_of_task(alloc: Global, listing: &Listing<'_>, task: usize) -> Result<String, AllocError>
     requires listing { IsListing listing.now }
     requires task { task < length listing.now.set }
-    ensures { IfOk result (λ text. AreTaskLines listing.now.set
+    ensures { IfOk result (λ text. AreTaskLines listing.now.set (order_given listing.now.placing.now)
         (places_in listing.now.placing.now) task (string_bytes text)) }
 {
-    task_text(alloc, &listing.set, listing.placing, &listing.order, task)
+    let order = order_given(listing.placing, &listing.order);
+    let places = places_given(listing.placing);
+    task_text(alloc, &listing.set, order, places, task)
 }
 
 // Whether no task had a line, with one more text.
@@ -71,10 +73,11 @@ fn is_still_silent(is_silent: bool, text: &str) -> bool
 fn last_lines(alloc: Global, listing: &Listing<'_>, is_silent: bool) -> Result<String, AllocError>
     requires { IsListing listing.now }
     ensures { let placing = listing.now.placing.now in
-        IfOk result (λ text. (last : List ℕ) × IsLast listing.now.set (places_in placing) last
+        IfOk result (λ text. (last : List ℕ) × IsLast listing.now.set (order_given placing) last
         × (string_bytes text ≡ alone_line is_silent placing ++ last)) }
 {
-    let last = last_text(alloc, &listing.set, listing.placing, &listing.order)?;
+    let order = order_given(listing.placing, &listing.order);
+    let last = last_text(alloc, &listing.set, order)?;
     match listing.placing {
         Placing::Best(_) => Ok(last),
         Placing::Stuck(_) => {
@@ -95,13 +98,8 @@ fn end_text(alloc: Global, listing: &Listing<'_>, is_silent: bool) -> Result<Str
     ensures { IfOk result (λ text. AreEndLines listing.now.owners.now listing.now.set
         listing.now.placing.now is_silent (string_bytes text)) }
 {
-    let mut text = common_text(
-        alloc,
-        listing.owners,
-        &listing.set,
-        listing.placing,
-        &listing.order,
-    )?;
+    let order = order_given(listing.placing, &listing.order);
+    let mut text = common_text(alloc, listing.owners, &listing.set, order)?;
     let is_silent = is_still_silent(is_silent, text.as_str());
     let last = last_lines(alloc, listing, is_silent)?;
     text.push_str(last.as_str())?;

@@ -1,7 +1,7 @@
 //! What is said of one task of a set, where the words ask about it.
 ghost use Rattle.std.specs.Prelude.{◌≡◌, ◌++◌, ◌<◌, length, IfOk, option_map, Some, string_bytes};
 ghost use Rattle.assignment.specs.Placings.{IsPlacingOf};
-ghost use Rattle.limit_lines.specs.Lines.{AreTaskLines, places_in};
+ghost use Rattle.limit_lines.specs.Lines.{AreTaskLines, order_given, places_in};
 ghost use Rattle.worst_lines.specs.Lines.{AreWorstLines};
 ghost use Rattle.set_commands.specs.OneTask.{AreLinesOf, OfPlaced, SaysAll, SaysPart, SaysTask, first_said};
 ghost use Rattle.answering.specs.Outcomes.{IsSaidOn};
@@ -14,6 +14,7 @@ use answering::{
 };
 use assignment::Placing;
 use ceilings::{LockTable, Tabled};
+use limit_lines::{order_given, places_given};
 use owners::Owner;
 use std::alloc::{AllocError, Global};
 use std::io::Write;
@@ -42,12 +43,14 @@ fn limits_text(
 ) -> Result<Vec<u8>, AllocError>
     requires placing { IsPlacingOf set.now placing.now }
     requires task { task < length set.now }
-    ensures { IfOk result (λ text. AreTaskLines set.now (places_in placing.now) task
-        text.items) }
+    ensures { IfOk result (λ text. AreTaskLines set.now (order_given placing.now)
+        (places_in placing.now) task text.items) }
 {
     let table = LockTable::new(alloc, set)?;
     let order = order_of(alloc, placing)?;
-    let text = limit_lines::task_text(alloc, &Tabled::of(set, &table), placing, &order, task)?;
+    let order = order_given(placing, &order);
+    let places = places_given(placing);
+    let text = limit_lines::task_text(alloc, &Tabled::of(set, &table), order, places, task)?;
     let mut lines = Vec::new(alloc);
     lines.extend_from_slice(text.as_bytes())?;
     Ok(lines)

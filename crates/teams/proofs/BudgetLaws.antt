@@ -11,16 +11,16 @@ use Rattle.std.specs.Option.{option_or}
 use Rattle.task_sheet.specs.Sheet.{Task, same_bytes}
 use Rattle.teams.specs.Agreeing.{interrupts_by}
 use Rattle.teams.specs.Owned.{TeamSetData, owned_all, owned_by}
-use Rattle.teams.specs.Shares.{costs_of, periods_of, IsShare}
+use Rattle.loads.specs.Shares.{costs_of, periods_of, IsShare}
 use Rattle.teams.specs.Budgets.{budget_fault, has_team, interrupt_share, is_load_past, limits_fault}
 use Rattle.teams.specs.Budgets.{load_fault, longest_shared, section_fault, shares_by, shares_in}
 use Rattle.teams.specs.Budgets.{task_share, thousandths_of, IsAtMost, IsLoadAtMost, IsWithin}
-use Rattle.teams.proofs.ShareLaws.{share_some}
+use Rattle.loads.proofs.ShareLaws.{share_some}
 use Rattle.teams.specs.declared.fault.TeamsFault.{TeamsFault}
 use Rattle.teams.specs.declared.fault.TeamsFault.TheVariants.{NoSuchTeam, PastBudget}
 use Rattle.teams.specs.declared.node.Budget.{Budget}
 use Rattle.teams.specs.declared.node.Quantity.TheVariants.{Load, Section}
-use Rattle.teams.specs.declared.shares.Share.{Share}
+use Rattle.loads.specs.declared.shares.Share.{Share}
 
 -- ---- one limit
 section_none : (team : List ℕ) (len : ℕ) (limit : Option ℕ)

@@ -1,5 +1,4 @@
 pub mod TeamLaws
-pub mod ShareLaws
 pub mod BudgetLaws
 pub mod WrittenLaws
 pub mod OwnLaws

@@ -1,6 +1,5 @@
 -- What a team takes of a node, beside what it may take.
 use Rattle.std.specs.Prelude.{◌≡◌, ℕ, ◌*◌, ◌≤◌, nat_lt, Bool, true, ◌&&◌, not, List, [], ◌∷◌, ◌++◌, map, All, Option, Some, None, if◌then◌else◌}
-use Rattle.std.specs.Int.{div_ceil}
 use Rattle.std.specs.List.{list_any}
 use Rattle.std.specs.Option.{option_or}
 use Rattle.task_sheet.specs.Sheet.{CriticalSection, IsInterrupt, Task, same_bytes}
@@ -8,8 +7,8 @@ use Rattle.task_sheet.specs.Demand.{greatest_of}
 use Rattle.task_sheet.specs.Locks.{shares_lock}
 use Rattle.task_sheet.specs.declared.node.Interrupt.{Interrupt}
 use Rattle.teams.specs.Owned.{OwnedData, TeamSetData, owned_all}
-use Rattle.teams.specs.Shares.{costs_of, periods_of}
-use Rattle.teams.specs.declared.shares.Share.{Share}
+use Rattle.loads.specs.Shares.{costs_of, load_in, periods_of}
+use Rattle.loads.specs.declared.shares.Share.{Share}
 use Rattle.teams.specs.declared.node.Budget.{Budget}
 use Rattle.teams.specs.declared.node.Quantity.TheVariants.{Load, Section}
 use Rattle.teams.specs.declared.fault.TeamsFault.{TeamsFault}
@@ -61,7 +60,7 @@ is_load_past shares limit = nat_lt (limit * periods_of shares) (costs_of shares 
 
 -- the load in thousandths, rounded up once
 abbrev pub thousandths_of : List Share → ℕ
-thousandths_of shares = div_ceil (costs_of shares * 1000) (periods_of shares)
+thousandths_of shares = load_in 1000 shares
 
 -- a load is past its limit, where there is one
 abbrev pub load_fault : List ℕ → List Share → Option ℕ → Option TeamsFault

@@ -3,8 +3,6 @@ pub mod Agreeing
 pub mod ReadsTeams
 pub mod Gathering
 pub mod NodeDocument
-pub mod Shares
-pub mod Digits
 pub mod Budgets
 pub mod Rights
 pub mod Naming

@@ -7,12 +7,12 @@ ghost use Rattle.task_sheet.specs.declared.set.TheConstants.{TASK_LIMIT};
 ghost use Rattle.teams.specs.Agreeing.{interrupts_by};
 ghost use Rattle.teams.specs.Budgets.{AreSound, budget_fault, budgets_fault, has_team, interrupt_share, is_shared, limits_fault, load_fault, longest_of, longest_shared, section_fault, shares_by, task_share};
 ghost use Rattle.teams.specs.Owned.{owned_all};
-ghost use Rattle.teams.specs.Shares.{IsShare};
+ghost use Rattle.loads.specs.Shares.{IsShare};
 
 use crate::fault::TeamsFault;
 use crate::node::{Budget, Quantity};
-use crate::shares::{Share, thousandths};
 use crate::uniting::{Owned, TeamSet};
+use loads::{Share, load_in};
 use std::alloc::{AllocError, Global};
 use task_sheet::{Interrupt, Name, Section, Sheet};
 
@@ -159,7 +159,7 @@ fn load_fault(
         return Ok(None);
     };
     let shares = shares_by(alloc, sets, team)?;
-    let number = thousandths(alloc, &shares)?;
+    let number = load_in(alloc, 1000, &shares)?;
     if number <= limit {
         return Ok(None);
     }

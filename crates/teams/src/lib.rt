@@ -10,7 +10,6 @@ mod naming;
 mod node;
 mod reading;
 mod rights;
-mod shares;
 mod strictness;
 mod text;
 mod uniting;

@@ -1,10 +1,11 @@
 -- What `desk judge` answers and prints.
 use Rattle.std.specs.Prelude.{ℕ, Bool, List, Result, Ok, Err, if◌then◌else◌}
 use Rattle.task_sheet.specs.Sheet.{Task}
-use Rattle.judge.specs.Faults.{IsSettingsFault, settings_fault_by}
-use Rattle.judge.specs.Judgements.{AllJudged, all_meet, order_judged}
+use Rattle.judge.specs.Ceilings.{IsTextJudgement}
+use Rattle.judge.specs.Faults.{IsSettingsFault, given_fault_by}
+use Rattle.judge.specs.Judgements.{all_meet, order_judged}
 use Rattle.judge.specs.Lines.{judged_lines}
-use Rattle.judge.specs.Node.{AreNumbersIn, IsNodeOrderBy}
+use Rattle.judge.specs.Node.{AreNumbersIn}
 use Rattle.judge.specs.declared.judging.JudgedTask.{JudgedTask}
 use Rattle.judge.specs.declared.node.JudgedNode.{JudgedNode}
 use Rattle.two_input_commands.specs.OnBoth.{OfTwoSays, SaysOnBoth}
@@ -13,18 +14,17 @@ use Rattle.answering.specs.declared.refusal.CommandRefusal.TheVariants as refusa
 use Rattle.answering.specs.declared.status.Status.{Status}
 use Rattle.answering.specs.declared.status.Status.TheVariants as status
 
--- the text, whose numbers count so, gives the order that a node has, and this becomes of each task of a set, whose thread has
--- this number there
+-- the text, whose numbers count so, gives the order that a node has, and by the ceilings of its mutexes this becomes of each
+-- task of a set, whose thread has this number there
 pub record IsJudgement (lower : Bool) (U : List Task) (text : List ℕ) (node : JudgedNode) : Type 0 where
-  pub order : IsNodeOrderBy lower U text (order_judged node.judged.items)
-  pub each : AllJudged U node.judged.items
+  pub each : IsTextJudgement lower U text node.judged.items
   pub numbers : AreNumbersIn U text (order_judged node.judged.items) node.numbers.items
 
 -- the answer on a set and the text of settings
 abbrev pub JudgesText : (lower : Bool) → List Task → List ℕ → Result JudgedNode CommandRefusal → Type 0
 JudgesText lower U text (Ok node) = IsJudgement lower U text node
 JudgesText lower U text (Err (refusal.Settings fault)) =
-    IsSettingsFault fault (settings_fault_by lower U text)
+    IsSettingsFault fault (given_fault_by lower U text)
 JudgesText lower U text _ = ⊥
 
 -- the exit status of an order

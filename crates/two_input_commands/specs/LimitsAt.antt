@@ -1,9 +1,10 @@
 -- What `desk limits SET --at SETTINGS` answers and prints.
-use Rattle.std.specs.Prelude.{◌≡◌, ℕ, Bool, true, false, List, ◌++◌, length, Option, Some, None, Result, Ok, Err, string_bytes}
+use Rattle.std.specs.Prelude.{◌≡◌, ◌==◌, ℕ, Bool, true, false, List, [], ◌++◌, length, codes, Option, Some, None, Result, Ok, Err, string_bytes}
 use Rattle.task_sheet.specs.Sheet.{Task}
 use Rattle.assignment.specs.Places.{PlaceData}
-use Rattle.judge.specs.Judgements.{all_meet, judged_of}
-use Rattle.judge.specs.Lines.{judged_lines, meets_line}
+use Rattle.judge.specs.Judgements.{all_meet, judged_of, order_judged}
+use Rattle.judge.specs.Lines.{meets_line}
+use Rattle.judge.specs.declared.judging.JudgedTask.{JudgedTask}
 use Rattle.judge.specs.declared.node.JudgedNode.{JudgedNode}
 use Rattle.limit_lines.specs.Lines.{AreTaskLines, IsLast}
 use Rattle.two_input_commands.specs.InOrder.{AsksIn}
@@ -20,36 +21,34 @@ use Rattle.two_input_commands.specs.OnBoth.{OfTwoSays}
 use Rattle.two_input_commands.specs.declared.in_order.InOrder.{InOrder}
 use Rattle.answering.specs.declared.refusal.CommandRefusal.{CommandRefusal}
 
--- the text is the lines of the task that is asked about; else those of each task, by rank, of the interrupts and the node,
--- and that of the factors
-abbrev pub AreLimitsOf : List Owner → List Task → Option (List PlaceData) → (asked : Option ℕ) → List ℕ
-    → Type 0
-AreLimitsOf owners U places (Some task) text = AreTaskLines U places task text
-AreLimitsOf owners U places None text =
-    (lines : List ℕ) × (common : List ℕ) × (last : List ℕ) × AreLines U places (length U) lines
-    × AreCommonLines owners U places common × IsLast U places last
-    × (text ≡ lines ++ common ++ last)
+-- these are the places of an order in which this becomes of its tasks: none where some task doesn't meet its deadline
+abbrev pub ArePlacesOf : List JudgedTask → Option (List PlaceData) → Type 0
+ArePlacesOf judged (Some places) = judged ≡ judged_of places
+ArePlacesOf judged None = all_meet judged ≡ false
 
--- the same in the order of these places
-abbrev pub AreLimitsIn : List Owner → List Task → List PlaceData → (asked : Option ℕ) → List ℕ → Type 0
-AreLimitsIn owners U places asked text = AreLimitsOf owners U (Some places) asked text
+-- the line that no single change mends an order without places, where nothing has a line
+abbrev pub alone_words : (is_silent : Bool) → Option (List PlaceData) → List ℕ
+alone_words is_silent (Some places) = []
+alone_words false None = []
+alone_words true None = codes "no single change\n"
 
--- the text is what is printed of an order: where all tasks meet their deadlines, that, and how far the numbers may go in it
-abbrev pub PassesWith : List Owner → List Task → JudgedNode → (asked : Option ℕ) → List ℕ → Type 0
-PassesWith owners U node asked text =
-    (places : List PlaceData) × (lines : List ℕ) × (node.judged.items ≡ judged_of places)
-    × AreLimitsIn owners U places asked lines
-    × (text ≡ meets_line U node.judged.items ++ lines)
+-- the text is the lines of the task that is asked about, in an order with these places; else those of each task, by rank, of
+-- the interrupts and the node, that line, and that of the factors
+abbrev pub AreLimitsIn : List Owner → List Task → (order : List ℕ) → Option (List PlaceData)
+    → (asked : Option ℕ) → List ℕ → Type 0
+AreLimitsIn owners U order places (Some task) text = AreTaskLines U (Some order) places task text
+AreLimitsIn owners U order places None text =
+    (lines : List ℕ) × (common : List ℕ) × (last : List ℕ)
+    × AreLines U (Some order) places (length U) lines
+    × AreCommonLines owners U (Some order) common × IsLast U (Some order) last
+    × (text ≡ ((lines ++ common) ++ alone_words (length (lines ++ common) == 0) places) ++ last)
 
--- else what `desk judge` prints
-abbrev pub IsLimitsBy : (meet : Bool) → List Owner → List Task → JudgedNode → (asked : Option ℕ) → List ℕ
-    → Type 0
-IsLimitsBy true owners U node asked text = PassesWith owners U node asked text
-IsLimitsBy false owners U node asked text = text ≡ judged_lines U node.judged.items node.numbers.items
-
--- by whether all tasks of the order meet their deadlines
+-- the text is what is printed of an order: whether all its tasks meet their deadlines, and how far its numbers may go
 abbrev pub IsLimitsText : List Owner → List Task → JudgedNode → (asked : Option ℕ) → List ℕ → Type 0
-IsLimitsText owners U node asked text = IsLimitsBy (all_meet node.judged.items) owners U node asked text
+IsLimitsText owners U node asked text =
+    (places : Option (List PlaceData)) × (lines : List ℕ) × ArePlacesOf node.judged.items places
+    × AreLimitsIn owners U (order_judged node.judged.items) places asked lines
+    × (text ≡ meets_line U node.judged.items ++ lines)
 
 -- the answer on a set and the text of settings: what becomes of each task in the order that they give, and what is printed
 -- of it

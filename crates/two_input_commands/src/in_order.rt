@@ -1,11 +1,10 @@
 //! Commands with `--at SETTINGS`.
 ghost use Rattle.std.specs.Prelude.{◌<◌, length, All, IfOk, IfSome, option_map};
 ghost use Rattle.task_sheet.specs.declared.set.TheConstants.{TASK_LIMIT};
-ghost use Rattle.two_input_commands.specs.InOrder.{AsksIn, AsksTask};
+ghost use Rattle.two_input_commands.specs.InOrder.{AsksIn, AsksTask, JudgesOrder};
 
-use crate::judge_lines::judge_text;
 use answering::{CommandRefusal, find_task, no_such_task};
-use judge::JudgedNode;
+use judge::{JudgedNode, judge_settings};
 use std::alloc::Global;
 use task_sheet::TaskSet;
 
@@ -32,7 +31,15 @@ fn asked_in(tasks: &TaskSet, word: Option<&str>) -> Result<Option<usize>, Comman
     }
 }
 
-// What becomes of each task in the order that the text of settings gives, and the task that is asked about.
+// What becomes of each task in the order that the text of settings gives, in which each ceiling is the least.
+fn judge_order(alloc: Global, tasks: &TaskSet, text: &[u8]) -> Result<JudgedNode, CommandRefusal>
+    ensures answer { JudgesOrder tasks.now text.now result }
+    ensures within { IfOk result (λ node. All (λ j. j.task < TASK_LIMIT) node.judged.items) }
+{
+    judge_settings(alloc, tasks, false, text).map_err(CommandRefusal::Settings)
+}
+
+// The same, and the task that is asked about.
 pub(crate) fn judge_asked(
     alloc: Global,
     word: Option<&str>,
@@ -43,7 +50,7 @@ pub(crate) fn judge_asked(
     ensures asked { IfOk result (λ found. IfSome found.1 (λ task. task < length tasks.now)) }
     ensures within { IfOk result (λ found. All (λ j. j.task < TASK_LIMIT) found.0.judged.items) }
 {
-    let node = judge_text(alloc, false, tasks, text)?;
+    let node = judge_order(alloc, tasks, text)?;
     let asked = asked_in(tasks, word)?;
     Ok((node, asked))
 }

@@ -4,12 +4,12 @@ ghost use Rattle.task_sheet.specs.declared.set.TheConstants.{TASK_LIMIT};
 ghost use Rattle.two_input_commands.specs.Judge.{JudgesText, judged_status};
 
 use answering::{CommandRefusal, Status};
-use judge::{JudgedNode, JudgedTask, all_meet, judge_settings};
+use judge::{JudgedNode, JudgedTask, all_meet, judge_given};
 use std::alloc::Global;
 use task_sheet::TaskSet;
 
-/// What becomes of a set's tasks in the order that the text of settings gives, with the numbers of their threads; a
-/// smaller number may be the higher one.
+/// What becomes of a set's tasks in the order that the text of settings gives, by the ceilings of its mutexes, with the
+/// numbers of their threads; a smaller number may be the higher one.
 pub fn judge_text(
     alloc: Global,
     lower_is_higher: bool,
@@ -19,7 +19,7 @@ pub fn judge_text(
     ensures answer { JudgesText lower_is_higher tasks.now text.now result }
     ensures within { IfOk result (λ node. All (λ j. j.task < TASK_LIMIT) node.judged.items) }
 {
-    judge_settings(alloc, tasks, lower_is_higher, text).map_err(CommandRefusal::Settings)
+    judge_given(alloc, tasks, lower_is_higher, text).map_err(CommandRefusal::Settings)
 }
 
 /// The exit status of an order.

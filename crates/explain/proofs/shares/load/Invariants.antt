@@ -1,9 +1,11 @@
-use Rattle.std.proofs.Common.{◌≡◌, ◌+◌, ◌*◌, ◌≤◌, drop, sum_by}
-use Rattle.explain.specs.Load.{load_of, whole_share}
+use Rattle.std.proofs.Common.{◌≡◌, ◌++◌, ◌*◌, ◌≤◌, All, drop, length}
+use Rattle.explain.specs.Load.{set_shares}
+use Rattle.loads.specs.Shares.{IsShare}
 use Rattle.explain.proofs.shares.load.Given as goal
 
 abbrev pub invariant-loop-sheet : goal.invariant-loop-sheet
 invariant-loop-sheet l = record {
-  sum : l.total + sum_by whole_share (drop l.sheet-index l.set) ≡ load_of l.set;
-  short : l.total ≤ l.sheet-index * 100000000000000;
+  are : l.shares.items ++ set_shares (drop l.sheet-index l.set) ≡ set_shares l.set;
+  valid : All IsShare l.shares.items;
+  few : length l.shares.items ≤ 10 * l.sheet-index;
 }

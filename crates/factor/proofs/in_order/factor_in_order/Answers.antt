@@ -1,11 +1,14 @@
-use Rattle.std.proofs.Common.{◌≡◌, ◌∙◌, ◌≤◌, inl, inr, List, length, ap, sym, subst, get_or, arith}
-use Rattle.std.proofs.lemmas.Bool.{cases_lt}
+use Rattle.std.proofs.Common.{◌≡◌, false, ◌∙◌, ◌≤◌, inl, inr, List, length, ap, sym, subst, get_or, drop, arith}
+use Rattle.std.proofs.lemmas.Bool.{both_ways, cases_lt}
 use Rattle.std.proofs.lemmas.List.{drop_all}
-use Rattle.task_sheet.proofs.Common.{Task, indexes_of, below, IsPart, all_of, IsOrderOf, Stands}
+use Rattle.task_sheet.proofs.Common.{Task, indexes_of, below, IsPart, all_of, is_bound, IsOrderOf}
+use Rattle.task_sheet.proofs.Common.{IsLeastOver}
 use Rattle.task_sheet.proofs.MembersIndexes.{indexes_of-all_below}
-use Rattle.headroom.proofs.OrderLaws.{low-inside, part-next, rest-next, stands-here}
+use Rattle.task_sheet.proofs.PassingLaws.{is_bound-at}
+use Rattle.headroom.proofs.OrderLaws.{low-inside, part-next, rest-next}
 use Rattle.factor.specs.Factors.{AllStandAt}
-use Rattle.factor.proofs.AtLaws.{PassesAt-less, IsPassing-same}
+use Rattle.factor.proofs.Answered.{if-none, if-some}
+use Rattle.factor.proofs.AtLaws.{PassesAt-less}
 use Rattle.factor.proofs.LatestAt.{IsPassingAt-few}
 use Rattle.factor.proofs.WalkLaws.{stands-here-at, all-here-at}
 use Rattle.factor.proofs.in_order.factor_in_order.Goals as goal
@@ -17,7 +20,7 @@ loop-low-init c =
     ∙ indexes_of-all_below _ ∙ ap (λ m. below m) (ap (λ (V : List Task). length V) c.sheets.ensures.same) in
     record {
       part = subst (λ X. IsPart X (all_of U)) (sym all) (λ k h. h);
-      rest = subst (λ X. IsOrderOf X c.args.order.now) (sym all) c.requires.passing.each_once;
+      rest = subst (λ X. IsOrderOf X c.args.order.now) (sym all) c.requires.each;
       stood = λ f le all. all;
       fails = λ more lt passing. absurd (omega (
         arith,
@@ -37,11 +40,32 @@ without-above-requires c =
       c.sheets.ensures.kept.few,
     )
 
+pub least_over-requires : goal.least_over-requires
+least_over-requires c =
+    let inv = c.loop-low.invariant in
+    low-inside c.args.set.now c.args.order.now c.loop-low.low-index c.loop-low.above inv.part
+    inv.rest c.loop-low-test.true
+
 pub most_below-most-requires-clause-task : goal.most_below-most-requires-clause-task
 most_below-most-requires-clause-task c =
     let inv = c.loop-low.invariant in
     low-inside c.args.set.now c.args.order.now c.loop-low.low-index c.loop-low.above inv.part
     inv.rest c.loop-low-test.true
+
+pub returns-then-is_some : goal.returns-then-is_some
+returns-then-is_some c = λ factor some passing.
+    let inv = c.loop-low.invariant in
+    let U = c.args.set.now in
+    let order = c.args.order.now in
+    let i = get_or order c.loop-low.low-index 0 in
+    let H = indexes_of c.without-above.result in
+    let over = if-some (λ k. IsLeastOver U i H k) c.least_over.result
+    (sym c.is_some.ensures ∙ c.if-is_some.true) c.least_over.ensures.some in
+    both_ways _
+    (stands-here-at U order c.loop-low.low-index c.loop-low.above inv.part inv.rest
+    c.loop-low-test.true c.without-above.result c.without-above.ensures factor
+    passing.each_stands).1
+    (is_bound-at U i H over.0 over.1.in_set over.1.above over.1.named)
 
 pub loop-low-preserved : goal.loop-low-preserved
 loop-low-preserved c =
@@ -54,14 +78,14 @@ loop-low-preserved c =
     let removed = c.without-above.ensures in
     let i = get_or order n 0 in
     let own = c.most_below-most.result in
-    let free : Stands U i (indexes_of left') = stands-here U order n left inv.part inv.rest
-    c.loop-low-test.true left' removed U c.requires.passing.each_stands in
+    let free = if-none (is_bound U i (indexes_of left') ≡ false) c.least_over.result
+    (sym c.is_some.ensures ∙ c.if-is_some.false) c.least_over.ensures.none in
     record {
       part = part-next U order n left inv.part inv.rest c.loop-low-test.true left' removed;
       rest = rest-next U order n left inv.part inv.rest c.loop-low-test.true left' removed;
       stood = λ f le all. inv.stood f (omega (arith, le, c.most_below-most.ensures.within))
           (all-here-at U order n left inv.part inv.rest c.loop-low-test.true left' removed f
-          (PassesAt-less U f own le i (indexes_of left') c.most_below-most.ensures.passes, free.1)
+          (PassesAt-less U f own le i (indexes_of left') c.most_below-most.ensures.passes, free)
           all);
       fails = λ more lt passing. elim (cases_lt c.loop-low.most more) [
         | inl past ↦ inv.fails more past passing
@@ -72,22 +96,22 @@ loop-low-preserved c =
       short = omega (arith, c.most_below-most.ensures.within, inv.short);
     }
 
+pub returns-then-most-eq0 : goal.returns-then-most-eq0
+returns-then-most-eq0 c = λ factor some.
+    c.loop-low.invariant.fails factor (omega (arith, some, c.if-most-eq0.true))
+
 pub returns : goal.returns
 returns c =
     let inv = c.loop-low.invariant in
     let U = c.args.set.now in
-    let order = c.args.order.now in
-    let least : 1000 ≤ c.loop-low.most = elim (cases_lt c.loop-low.most 1000) [
-      | inl lt ↦ absurd (inv.fails 1000 lt ((IsPassing-same U order).1 c.requires.passing))
-      | inr le ↦ le
-    ] in
     record {
-      some = omega (arith, least);
+      some = omega (arith, c.if-most-eq0.false);
       is_so = record {
-        each_once = c.requires.passing.each_once;
+        each_once = c.requires.each;
         each_stands = inv.stood c.loop-low.most (omega arith)
             (subst (λ xs. AllStandAt c.loop-low.most U xs)
-            (sym (drop_all c.loop-low.low-index order (omega (arith, c.loop-low-test.false)))) tt);
+            (sym (drop_all c.loop-low.low-index c.args.order.now
+            (omega (arith, c.loop-low-test.false)))) tt);
       };
       greatest = inv.fails;
     }

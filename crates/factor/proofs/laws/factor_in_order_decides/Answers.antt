@@ -1,4 +1,4 @@
-use Rattle.std.proofs.Common.{inl, inr}
+use Rattle.std.proofs.Common.{inl, inr, arith}
 use Rattle.std.proofs.lemmas.Bool.{cases_lt}
 use Rattle.factor.specs.Factors.{IsPassingAt}
 use Rattle.factor.proofs.AtLaws.{IsPassingAt-less, IsPassing-same}
@@ -19,4 +19,5 @@ returns c = record {
     | inl lt ↦ absurd (other.greatest own lt (order, is.is_so))
     | inr le ↦ le
   ];
+  none = λ U order none passing. none 1000 (omega arith) ((IsPassing-same U order).1 passing);
 }

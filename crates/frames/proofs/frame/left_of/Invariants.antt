@@ -5,6 +5,6 @@ use Rattle.frames.proofs.frame.left_of.Given as goal
 
 abbrev pub invariant-loop-row : goal.invariant-loop-row
 invariant-loop-row l = record {
-  value : widest_margin l.left (drop l.row-index l.rows) ≡ left_of l.fn.rows;
+  value : widest_margin l.fn.millis l.left (drop l.row-index l.rows) ≡ left_of l.fn.millis l.fn.rows;
   within : l.left ≤ WIDEST_MARGIN;
 }

@@ -1,6 +1,7 @@
 use Rattle.task_sheet.specs.Orders.{IsPassingOrder}
 use Rattle.limits.proofs.EasierLaws.{IsPassingOrder-easier}
-use Rattle.limits.proofs.NumberLaws.{furthest-each, furthest-own, furthest-one, in_order-within}
+use Rattle.limits.proofs.NumberLaws.{furthest-each, furthest-none, furthest-own, furthest-one}
+use Rattle.limits.proofs.NumberLaws.{in_order-within}
 use Rattle.limits.proofs.laws.furthest_in_order_decides.Goals as goal
 
 pub returns : goal.returns
@@ -12,4 +13,6 @@ returns c = record {
       (λ V U easy valid. IsPassingOrder-easier V U easy valid order) U i number set inside most;
   one = λ U order. furthest-one (λ V. IsPassingOrder V order) U;
   within = in_order-within;
+  none = λ U order i number set inside has. furthest-none (λ V. IsPassingOrder V order)
+      (λ V U easy valid. IsPassingOrder-easier V U easy valid order) U i number set inside;
 }

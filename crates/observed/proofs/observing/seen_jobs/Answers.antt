@@ -11,10 +11,10 @@ use Rattle.observed.specs.Promises.{no_promise}
 use Rattle.observed.specs.Seen.{seen_job, until_of}
 use Rattle.observed.specs.declared.pieces.Piece.{Piece}
 use Rattle.observed.specs.declared.promises.Promise.{Promise}
-use Rattle.observed.specs.declared.seen.Seen.{Seen}
+use Rattle.observed.specs.SeenJob.{SeenData}
 use Rattle.observed.proofs.NearLaws.{seen-near}
 use Rattle.observed.proofs.observing.seen_jobs.Goals as goal
-use Rattle.observed.proofs.observing.seen_jobs.Goals.{in-Some+in_ok-push, in_default}
+use Rattle.observed.proofs.observing.seen_jobs.Goals.{in-Some+in_ok-seen_job+in_ok-push, in_default}
 
 pub loop-place-preserved : goal.loop-place-preserved
 loop-place-preserved c =
@@ -25,8 +25,8 @@ loop-place-preserved c =
     let jobs : List TraceJob = c.args.jobs.now in
     let k : ℕ = c.loop-place.place in
     let job : TraceJob = c.index-jobs-place.result in
-    let before : List Seen = c.loop-place.seen.items in
-    let later : List Seen = seen_from U promises end pieces jobs (k + 1) (drop (k + 1) jobs) in
+    let before : List SeenData = c.loop-place.seen.items in
+    let later : List SeenData = seen_from U promises end pieces jobs (k + 1) (drop (k + 1) jobs) in
     let here : drop k jobs ≡ job ∷ drop (k + 1) jobs = drop_more jobs k job c.loop-place-test.true
     ∙ ap (λ (j : TraceJob). j ∷ drop (k + 1) jobs) (sym c.index-jobs-place.is) in
     let at : (o : Option ℕ) → level_of promises job.name ≡ o → seen_from U promises end pieces jobs k
@@ -36,10 +36,10 @@ loop-place-preserved c =
     record {
       near = c.behind_next-rest.ensures;
       whole = elim c.match-level_of.branch [
-        | in-Some+in_ok-push w ↦
+        | in-Some+in_ok-seen_job+in_ok-push w ↦
             let level : ℕ = w.in-Some.level in
             let p : Promise = slice_index_or promises level no_promise in
-            let r : Seen = w.seen_job.result in
+            let r : SeenData = w.in_ok-seen_job.field-0 in
             let close : w.near-near.result.now
             ≡ near (rise_from 0 pieces) (until_of end job) (behind job.arrival pieces) =
             w.near-near.ensures ∙ (ap (λ (b : Bool). near b w.until_of.result
@@ -47,20 +47,20 @@ loop-place-preserved c =
             ∙ ap₂ (λ (u : ℕ) (ps : List Piece). near (rise_from 0 pieces) u ps) w.until_of.ensures
             c.behind_next-rest.ensures) in
             let same : r ≡ seen_job U promises p level end pieces (take k jobs) job =
-            w.seen_job.ensures
+            w.in_ok-seen_job.ensures
             ∙ (ap (λ (ps : List Piece). seen_job U promises p level end ps (take k jobs) job) close
             ∙ seen-near U promises p level end pieces (take k jobs) job) in
             let step : seen_from U promises end pieces jobs k (drop k jobs) ≡ r ∷ later =
             at (Some level) (sym c.level_of.ensures.is ∙ w.in-Some.is)
-            ∙ ap (λ (x : Seen). x ∷ later)
+            ∙ ap (λ (x : SeenData). x ∷ later)
             (sym same) in
-            ap (λ (s : List Seen). s ++ later)
+            ap (λ (s : List SeenData). s ++ later)
             (ap (λ v. v.items) w.seen-is ∙ w.in_ok-push.ensures.items)
             ∙ (append_assoc before (r ∷ []) later
-            ∙ (ap (λ (xs : List Seen). before ++ xs) (sym step) ∙ c.loop-place.invariant.whole))
+            ∙ (ap (λ (xs : List SeenData). before ++ xs) (sym step) ∙ c.loop-place.invariant.whole))
         | in_default w ↦
-            ap (λ (s : List Seen). s ++ later) (ap (λ v. v.items) w.seen-is)
-            ∙ (ap (λ (xs : List Seen). before ++ xs)
+            ap (λ (s : List SeenData). s ++ later) (ap (λ v. v.items) w.seen-is)
+            ∙ (ap (λ (xs : List SeenData). before ++ xs)
             (sym (at None (sym c.level_of.ensures.is ∙ w.in_default.is)))
             ∙ c.loop-place.invariant.whole)
       ];

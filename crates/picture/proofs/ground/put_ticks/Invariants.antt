@@ -7,4 +7,4 @@ use Rattle.picture.proofs.ground.put_ticks.Given as goal
 
 abbrev pub invariant-loop-i : goal.invariant-loop-i
 invariant-loop-i l = Adds l.fn.page l.page (each l.i (λ i. tick_text
-    l.fn.frame l.fn.bottom l.fn.step ((steps_before l.fn.frame l.fn.step + i) * l.fn.step)))
+    l.fn.frame l.fn.bottom ((steps_before l.fn.frame l.fn.step + i) * l.fn.step)))

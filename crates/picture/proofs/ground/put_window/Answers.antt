@@ -1,5 +1,5 @@
 use Rattle.std.proofs.lemmas.Bool.{eq-eqb, ne_eqb}
-use Rattle.frames.proofs.Adds.{adds_3, adds_nothing}
+use Rattle.frames.proofs.Adds.{adds_4, adds_nothing}
 use Rattle.picture.proofs.ground.put_window.Goals as goal
 use Rattle.picture.proofs.ground.put_window.Goals.{else-frame-eq0-via-then-frame-eq0+else-frame}
 use Rattle.picture.proofs.ground.put_window.Goals.{else-frame-eq0-via-else-frame-eq0}
@@ -13,7 +13,8 @@ returns-then-frame c = rw (
 
 pub returns : goal.returns
 returns c =
-    let puts = adds_3 c.put_millis.ensures c.put_millis-2.ensures c.put.ensures in
+    let puts =
+    adds_4 c.put_time.ensures c.put_time-2.ensures c.put_unit.ensures (adds_nothing _) in
     elim c.else-frame-eq0.branch [
       | else-frame-eq0-via-then-frame-eq0+else-frame w ↦ rw (
         ← c.frame.view_is,

@@ -1,13 +1,15 @@
 use Rattle.std.proofs.Common.{◌≡◌, ℕ, ◌+◌, ◌*◌, ◌/◌, ◌≤◌, List, [], ◌∷◌, arith, min, max}
-use Rattle.std.specs.Prelude.{Option, Some, None, ◌-◌}
+use Rattle.std.specs.Prelude.{Bool, Option, Some, None, ◌-◌}
 use Rattle.frames.specs.declared.rows.TaskRow.{TaskRow}
-use Rattle.frames.specs.Frame.{left_of, margin_of, span_of, widest_margin}
+use Rattle.frames.specs.Frame.{frame_from, frame_to, is_in_millis, left_of}
+use Rattle.frames.specs.Frame.{margin_of, span_of, widest_margin}
 use Rattle.picture.proofs.laws.widths_are_held.Goals as goal
 
-within_margin : (most : ℕ) (rows : List TaskRow) → most ≤ 2600 → widest_margin most rows ≤ 2600
-within_margin most [] le = le
-within_margin most (row ∷ rows) le =
-    within_margin (max most (margin_of row)) rows (omega (arith, le))
+within_margin : (millis : Bool) (most : ℕ) (rows : List TaskRow) → most ≤ 2600
+    → widest_margin millis most rows ≤ 2600
+within_margin millis most [] le = le
+within_margin millis most (row ∷ rows) le =
+    within_margin millis (max most (margin_of millis row)) rows (omega (arith, le))
 
 wide : (left span : ℕ) → left ≤ 2600
     → (9600 ≤ left + max (min span (15800 - left)) (9400 - left) + 200)
@@ -27,7 +29,8 @@ some_said left least time given width small is least_wide most =
 
 pub returns : goal.returns
 returns c = λ rows v until.
-    let small : left_of rows ≤ 2600 = within_margin 1960 rows (omega arith) in (
+    let millis = is_in_millis (frame_to v until - frame_from v until) in
+    let small : left_of millis rows ≤ 2600 = within_margin millis 1960 rows (omega arith) in (
       λ none. none_said _ _ _ v.width small none,
       λ width is least most. some_said _ _ _ v.width width small is least most,
     )

@@ -10,10 +10,12 @@ returns-in-None c =
       read.2,
       read.3,
       read.4,
-      c.is_told.is_told,
-      c.is_told.ensures,
-      told_as c.is_told.is_told _ _ _ _ c.in-Ok.read.set _ read.2 read.3
-          (sym c.in-None.is ∙ c.doubt_told.ensures),
+      (
+        c.in-Ok-is_told.is_told,
+        c.in-Ok-is_told.ensures,
+        told_as c.in-Ok-is_told.is_told _ _ _ _ c.in-Ok.read.set _ read.2 read.3
+            (sym c.in-None.is ∙ c.doubt_told.ensures),
+      ),
     )
 
 pub returns-in-Some : goal.returns-in-Some
@@ -23,8 +25,10 @@ returns-in-Some c =
       c.in-Ok.read.set,
       read.1,
       read.4,
-      c.is_told.is_told,
-      c.is_told.ensures,
-      told_as c.is_told.is_told _ _ _ _ c.in-Ok.read.set _ read.2 read.3
-          (sym c.in-Some.is ∙ c.doubt_told.ensures),
+      (
+        c.in-Ok-is_told.is_told,
+        c.in-Ok-is_told.ensures,
+        told_as c.in-Ok-is_told.is_told _ _ _ _ c.in-Ok.read.set _ read.2 read.3
+            (sym c.in-Some.is ∙ c.doubt_told.ensures),
+      ),
     )

@@ -1,12 +1,12 @@
 use Rattle.std.proofs.Common.{◌≡◌, ◌∙◌, ◌++◌, ◌==◌, ◌&&◌, ℕ, Bool, List, length, sym, ap, subst}
 use Rattle.std.proofs.Common.{string_bytes}
-use Rattle.limit_lines.proofs.LineLaws.{best_passes}
+use Rattle.limit_lines.proofs.LineLaws.{given_orders}
 use Rattle.set_commands.specs.Limits.{alone_line}
 use Rattle.set_commands.proofs.limits_lines.end_text.Goals as goal
 
-pub common_text-requires-clause-placing : goal.common_text-requires-clause-placing
-common_text-requires-clause-placing c =
-    best_passes c.args.listing.now.set c.args.listing.now.placing.now c.requires.placing
+pub common_text-requires : goal.common_text-requires
+common_text-requires c = rw c.order_given-order.ensures
+    (given_orders c.args.listing.now.set c.args.listing.now.placing.now c.requires.placing)
 
 pub returns : goal.returns
 returns c =

@@ -2,7 +2,7 @@ use Rattle.std.proofs.Common.{◌≡◌, ◌∙◌, ◌++◌, ◌==◌, ◌&&◌
 use Rattle.std.proofs.Common.{refl, sym, ap, subst, arith, append_assoc, append-nil, string_bytes}
 use Rattle.std.specs.Io.KnownBytes.{Appends, append_known}
 use Rattle.std.proofs.KnownBytes.{Appends-trans}
-use Rattle.limit_lines.specs.Lines.{places_in}
+use Rattle.limit_lines.specs.Lines.{order_given, places_in}
 use Rattle.answering.specs.LimitLines.{AreLines}
 use Rattle.set_commands.specs.Limits.{AreEndLines}
 use Rattle.set_commands.proofs.ListedLimits.{silent_more, where_sound}
@@ -78,7 +78,7 @@ returns-in-Ok-put-clause-all g c =
       (
         said.0,
         ends,
-        subst (λ n. AreLines U (places_in placing) n said.0) count said.2,
+        subst (λ n. AreLines U (order_given placing) (places_in placing) n said.0) count said.2,
         subst (λ (b : Bool). AreEndLines c.args.listing.now.owners.now U placing b ends) said.1 end,
         refl,
       ),

@@ -3,8 +3,8 @@ use Rattle.teams.specs.Budgets.{shares_by, thousandths_of}
 use Rattle.teams.proofs.BudgetLaws.{few_shares, load_past, load_within}
 use Rattle.teams.proofs.keeping.load_fault.Goals as goal
 
-pub thousandths-requires-clause-few : goal.thousandths-requires-clause-few
-thousandths-requires-clause-few c = rw (c.deref.ensures.value, c.in_ok-shares.ensures.are)
+pub load_in-requires-clause-few : goal.load_in-requires-clause-few
+load_in-requires-clause-few c = rw (c.deref.ensures.value, c.in_ok-shares.ensures.are)
     (omega (arith, few_shares c.args.sets.now c.args.team, c.requires.few, c.requires.bounded))
 
 pub returns-then-number-limit : goal.returns-then-number-limit

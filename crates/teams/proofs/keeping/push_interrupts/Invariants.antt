@@ -1,6 +1,6 @@
 use Rattle.std.proofs.Common.{◌≡◌, ◌++◌, All, drop, map}
 use Rattle.teams.specs.Budgets.{interrupt_share}
-use Rattle.teams.specs.Shares.{IsShare}
+use Rattle.loads.specs.Shares.{IsShare}
 use Rattle.teams.proofs.keeping.push_interrupts.Given as goal
 
 abbrev pub invariant-loop-interrupt : goal.invariant-loop-interrupt

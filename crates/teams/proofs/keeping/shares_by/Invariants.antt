@@ -1,6 +1,6 @@
 use Rattle.std.proofs.Common.{◌≡◌, ◌++◌, All, drop}
 use Rattle.teams.specs.Budgets.{shares_by}
-use Rattle.teams.specs.Shares.{IsShare}
+use Rattle.loads.specs.Shares.{IsShare}
 use Rattle.teams.proofs.keeping.shares_by.Given as goal
 
 abbrev pub invariant-loop-part : goal.invariant-loop-part

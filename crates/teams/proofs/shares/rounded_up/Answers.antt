@@ -1,6 +1,0 @@
-use Rattle.std.proofs.Common.{ltb-false, sym}
-use Rattle.teams.proofs.ShareLaws.{least_is}
-use Rattle.teams.proofs.shares.rounded_up.Goals as goal
-
-pub returns : goal.returns
-returns c = least_is _ _ _ (c.requires.some) (ltb-false _ _ (sym c.loop-number-test.ensures)) (c.loop-number.invariant.least)
