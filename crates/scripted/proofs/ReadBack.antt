@@ -647,38 +647,38 @@ record IsOpen (opened draft : ℕ) : Type 0 where
   to : draft ≤ opened
   few : draft < 10 ^ 10
 
-module _ (opened draft : ℕ) (open : IsOpen opened draft) where
+module _ (opened draft : ℕ) (held : IsOpen opened draft) where
   put_again : (ws : List (List ℕ)) (t : Task) → sheet_in ws ≡ Ok t
       → row_in opened (codes "put" ∷ decimal draft ∷ ws) ≡ Ok (Put draft t)
   unfolding row_in put_in
-  put_again ws t is = rw (draft_next opened draft ws open.from open.to open.few, is) refl
+  put_again ws t is = rw (draft_next opened draft ws held.from held.to held.few, is) refl
 
   line_again : (t : Task) → IsValidSheet t
       → row_in opened (words (put_line draft t)) ≡ Ok (Put draft t)
   line_again t is =
       ap (λ (l : List ℕ). row_in opened (words l)) (put_shape draft t)
       ∙ ap (row_in opened) (joined_again 32 (codes "put") (put_words draft t)
-      (name_lacks 32 (codes "put") refl refl) (put_apart 32 space_apart refl draft t open.few is))
+      (name_lacks 32 (codes "put") refl refl) (put_apart 32 space_apart refl draft t held.few is))
       ∙ put_again _ t (sheet_again t is)
 
   put_ends : (t : Task) → IsValidSheet t → Lacks 10 (put_line draft t)
   put_ends t is = subst (λ (l : List ℕ). Lacks 10 l) (sym (put_shape draft t))
       (joined_lacks 32 10 (codes "put" ∷ put_words draft t) refl
-      (name_lacks 10 (codes "put") refl refl, put_apart 10 end_apart refl draft t open.few is))
+      (name_lacks 10 (codes "put") refl refl, put_apart 10 end_apart refl draft t held.few is))
 
   commit_row : row_in opened (codes "commit" ∷ decimal draft ∷ []) ≡ Ok (Commit draft)
   unfolding row_in only_draft
-  commit_row = rw (draft_next opened draft [] open.from open.to open.few) refl
+  commit_row = rw (draft_next opened draft [] held.from held.to held.few) refl
 
   commit_again : row_in opened (words (commit_line draft)) ≡ Ok (Commit draft)
   commit_again =
       ap (row_in opened) (joined_again 32 (codes "commit") (decimal draft ∷ [])
-      (name_lacks 32 (codes "commit") refl refl) (number_lacks 32 draft refl (omega (arith, open.few)), tt))
+      (name_lacks 32 (codes "commit") refl refl) (number_lacks 32 draft refl (omega (arith, held.few)), tt))
       ∙ commit_row
 
   commit_ends : Lacks 10 (commit_line draft)
   commit_ends = joined_lacks 32 10 (codes "commit" ∷ decimal draft ∷ []) refl
-      (name_lacks 10 (codes "commit") refl refl, (number_lacks 10 draft refl (omega (arith, open.few)), tt))
+      (name_lacks 10 (codes "commit") refl refl, (number_lacks 10 draft refl (omega (arith, held.few)), tt))
 
   -- ---- all lines of a draft
   put_texts : List Task → List (List ℕ)
@@ -722,7 +722,7 @@ draft_again : (opened team number : ℕ) (U : List Task) (rest : List ℕ) (ls :
 unfolding script_from
 draft_again opened team number U rest ls from to few each behind =
     let draft : ℕ = opened + 1 in
-    let open : IsOpen (opened + 1) draft =
+    let held : IsOpen (opened + 1) draft =
     record { from = omega arith; to = omega arith; few = omega (arith, few) } in
     let first : List ℕ = join_with_byte 32 (codes "open" ∷ decimal team ∷ []) in
     let last : List ℕ = put_lines draft U ++ (commit_line draft ++ 10 ∷ rest) in
@@ -731,12 +731,12 @@ draft_again opened team number U rest ls from to few each behind =
     let line = joined_lacks 32 10 (codes "open" ∷ decimal team ∷ []) refl
     (name_lacks 10 (codes "open") refl refl, (number_lacks 10 team refl (omega (arith, to)), tt)) in
     let texts = ap lines_of shape ∙ one_more first last line
-    ∙ ap (λ (l : List (List ℕ)). first ∷ l) (texts_again draft draft open U rest each) in
+    ∙ ap (λ (l : List (List ℕ)). first ∷ l) (texts_again draft draft held U rest each) in
     let row = ap (row_in opened) (joined_again 32 (codes "open") (decimal team ∷ [])
     (name_lacks 32 (codes "open") refl refl) (number_lacks 32 team refl (omega (arith, to)), tt))
     ∙ open_again opened team from to in
     ap (λ (ls : List (List ℕ)). script_from opened (kept_from number ls)) texts
-    ∙ rw (row, rows_again draft draft open U (number + 1) (lines_of rest) ls each behind) refl
+    ∙ rw (row, rows_again draft draft held U (number + 1) (lines_of rest) ls each behind) refl
   where
     regroup : (o team puts commit rest : List ℕ)
         → (((((o ++ team) ++ codes "\n") ++ puts) ++ commit) ++ codes "\n") ++ rest

@@ -164,12 +164,7 @@ fn push_tasks(text: &mut String, draft: u64, sheets: &[Sheet]) -> Result<(), All
 }
 
 // The draft of a team: it is opened, each task is put, and it is committed.
-fn push_draft(
-    text: &mut String,
-    draft: u64,
-    team: Team,
-    sheets: &[Sheet],
-) -> Result<(), AllocError>
+fn push_draft(text: &mut String, draft: u64, team: Team, sheets: &[Sheet]) -> Result<(), AllocError>
     ensures { OnOk result (string_bytes text.new
         ≡ string_bytes text.old ++ draft_of draft team sheets.now) }
 {

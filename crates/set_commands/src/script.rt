@@ -75,11 +75,7 @@ fn run_of_team<R: Read + Drop, W: Write + Drop, P: Audience>(
 }
 
 // The script of all teams that have tasks of a set, or that they are too many.
-fn script_of_all(
-    alloc: Global,
-    owners: &[Owner],
-    tasks: &TaskSet,
-) -> Result<String, CommandRefusal>
+fn script_of_all(alloc: Global, owners: &[Owner], tasks: &TaskSet) -> Result<String, CommandRefusal>
     ensures { MatchResult result (λ text. IsAllScripted owners.now tasks.now (string_bytes text))
         (λ r. AreTooMany owners.now tasks.now r) }
 {
