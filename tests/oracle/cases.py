@@ -206,7 +206,7 @@ def called(rng, subject, inputs, options=(), number=None, by=None):
             files[path] = data
     if number is not None:
         words.append(str(number))
-    if subject == "script":
+    if subject == "script" and rng.random() < 0.6:
         words.append(str(rng.choice([1, 2, 3, 8, 8, 0, 9] if rng.random() < 0.1 else [1, 2, 8])))
     if subject == "rush":
         words.append(str(rng.choice([1, 1, 2, 3, 8, 8, 0, 9] if rng.random() < 0.1 else [1, 2, 3, 8])))

@@ -42,7 +42,8 @@ fn says_no_alone(call: Call<'_>) -> bool {
     match call {
         Call::One { command, .. } => match command {
             OfOne::Admit | OfOne::Settings => true,
-            OfOne::Limits | OfOne::Explain | OfOne::Worst | OfOne::Certify | OfOne::Play => false,
+            OfOne::Limits | OfOne::Explain | OfOne::Worst | OfOne::Certify => false,
+            OfOne::Script | OfOne::Play => false,
         },
         _ => false,
     }
@@ -95,7 +96,7 @@ fn asks_densest(call: Call<'_>) -> bool {
             ..
         } => match command {
             OfNumber::Releases => options.seed.is_none(),
-            OfNumber::Script | OfNumber::Rush => false,
+            OfNumber::Rush => false,
         },
         _ => false,
     }
