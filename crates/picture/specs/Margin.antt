@@ -10,7 +10,7 @@ use Rattle.frames.specs.declared.rows.TaskRow.{TaskRow}
 use Rattle.frames.specs.declared.rows.Spot.{Spot}
 use Rattle.frames.specs.Frame.{Frame, in_millis, top_of, level_of, tone_of}
 use Rattle.frames.specs.Numbers.{known_text, time_text, unit_text}
-use Rattle.drawn_jobs.specs.Misses.{missed_in}
+use Rattle.drawn_jobs.specs.Misses.{latest_in, missed_in}
 
 -- a row's level, and the tone of its task
 abbrev pub level_text : Frame → Spot → List ℕ
@@ -50,12 +50,18 @@ limits_text millis k row None =
     ∷ time_text millis row.sheet.deadline
     ∷ unit_text millis ∷ codes "</text>\n" ∷ [])
 
--- below them how many deadlines are missed, where some are
-abbrev pub missed_line : (missed : ℕ) → ℕ → List ℕ
-missed_line missed k =
+-- by how much, where a job is done late
+abbrev pub late_words : (millis : Bool) → (late : ℕ) → List ℕ
+late_words millis late =
+    if late == 0 then []
+    else concat (codes ", " ∷ time_text millis late ∷ unit_text millis ∷ codes " late" ∷ [])
+
+-- below them how many deadlines are missed, where some are, and by how much at most
+abbrev pub missed_line : (millis : Bool) → (missed late : ℕ) → ℕ → List ℕ
+missed_line millis missed late k =
     if missed == 0 then []
-    else concat (codes "<text class=\"q\" x=\"500\" y=\"" ∷ decimal (top_of k + 460)
-    ∷ codes "\">deadlines missed: " ∷ decimal missed
+    else concat (codes "<text class=\"qn\" x=\"500\" y=\"" ∷ decimal (top_of k + 460) ∷ codes "\">missed: "
+    ∷ decimal missed ∷ late_words millis late
     ∷ codes "</text>\n" ∷ [])
 
 -- a row's part of the margin
@@ -63,4 +69,4 @@ abbrev pub margin_text : Frame → List JobRecord → Spot → TaskRow → List 
 margin_text f jobs spot row =
     level_text f spot ++ name_text (missed_in f row jobs) jobs spot.k row
     ++ limits_text (in_millis f) spot.k row row.bound
-    ++ missed_line (missed_in f row jobs) spot.k
+    ++ missed_line (in_millis f) (missed_in f row jobs) (latest_in row jobs) spot.k

@@ -3,10 +3,10 @@ ghost use Rattle.std.specs.Prelude.{◌≡◌, ◌++◌, codes};
 ghost use Rattle.frames.specs.Frame.{in_millis};
 ghost use Rattle.frames.specs.Page.{Adds};
 ghost use Rattle.picture.specs.Document.{margin_group, margins_text};
-ghost use Rattle.picture.specs.Margin.{level_text, limits_text, margin_text, missed_line, name_class, name_text};
+ghost use Rattle.picture.specs.Margin.{late_words, level_text, limits_text, margin_text, missed_line, name_class, name_text};
 
 use ceiling_kernel::JobRecord;
-use drawn_jobs::{missed_in, put_greatest, put_lane_head};
+use drawn_jobs::{latest_in, missed_in, put_greatest, put_lane_head};
 use frames::{
     Chart, Lane, Page, in_millis, level_of, put_known, put_time, put_unit, tone_of, top_of,
 };
@@ -74,18 +74,32 @@ fn put_limits(lane: &Lane<'_>, page: &mut Page)
     }
 }
 
-// Below them how many deadlines are missed, where some are.
-fn put_missed_line(missed: usize, lane: &Lane<'_>, page: &mut Page)
-    ensures { Adds page.old page.new (missed_line missed lane.now.spot.k) }
+// By how much, where a job is done late.
+fn put_late(millis: bool, late: u64, page: &mut Page)
+    ensures { Adds page.old page.new (late_words millis late) }
+{
+    if late == 0 {
+        return;
+    }
+    put_time(b", ", millis, late, page);
+    put_unit(millis, page);
+    page.put(b" late")
+}
+
+// Below them how many deadlines are missed, where some are, and by how much at most.
+fn put_missed_line(missed: usize, late: u64, lane: &Lane<'_>, page: &mut Page)
+    ensures { Adds page.old page.new (missed_line (in_millis lane.now.frame) missed late
+        lane.now.spot.k) }
 {
     if missed == 0 {
         return;
     }
     page.number(
-        b"<text class=\"q\" x=\"500\" y=\"",
+        b"<text class=\"qn\" x=\"500\" y=\"",
         top_of(lane.spot.k) + 460,
     );
-    page.number(b"\">deadlines missed: ", missed as u64);
+    page.number(b"\">missed: ", missed as u64);
+    put_late(in_millis(lane.frame), late, page);
     page.put(b"</text>\n")
 }
 
@@ -98,7 +112,7 @@ fn put_margin(lane: &Lane<'_>, jobs: &[JobRecord], page: &mut Page)
     put_level(lane, page);
     put_row_name(missed, lane, jobs, page);
     put_limits(lane, page);
-    put_missed_line(missed, lane, page)
+    put_missed_line(missed, latest_in(lane.row, jobs), lane, page)
 }
 
 // The rows' parts.
