@@ -290,9 +290,9 @@ Of many that are missed not each has a disc, but its hatching:
 
 Where only the hatching of a job is left in a window, its signs stand there too:
 
-  $ printf 'thread a 1\nthread b 2\nuntil 40000\n0 a\n0 b\n10000 a\n' | desk draw late.toml - --from 2000 --to 4000 | grep -E '^<path class="[awz]" d="M(1960|9400)'
-  <path class="z" d="M1960 2315H9400v220H1960z"><title>a: arrival 0, done 6000, response 6000, deadline 1000 us missed</title></path>
-  <path class="a" d="M1960 2365m-20 0l-60 60 60 60m-60-120l-60 60 60 60"/>
+  $ printf 'thread a 1\nthread b 2\nuntil 40000\n0 a\n0 b\n10000 a\n' | desk draw late.toml - --from 2000 --to 4000 | grep -E '^<path class="[awz]" d="M(2004|9400)'
+  <path class="z" d="M2004 2315H9400v220H2004z"><title>a: arrival 0, done 6000, response 6000, deadline 1000 us missed</title></path>
+  <path class="a" d="M2004 2365m-20 0l-60 60 60 60m-60-120l-60 60 60 60"/>
   <path class="a" d="M9400 2365m20 0l60 60-60 60m60-120l60 60-60 60"/>
 
 What the bounds count, and the run lacks, its second line says:
@@ -306,6 +306,14 @@ What the bounds count, and the run lacks, its second line says:
   tasks: 3, jobs: 1, until 3000 us, timers and interrupts in the bounds alone, shown: 0 to 2000 us<
   $ cat note
   note: what timers and interrupts take is in the bounds, and not in the run
+
+With settings in front each name has the number of its thread behind it:
+
+  $ numbered() { sed -nE 's/.*<title>done: .*<.title>([^<]*)(<tspan[^>]*>([0-9]+)<.tspan>)?<.text>/\1 \3/p' | paste -sd '|'; }
+  $ { desk settings examples/shared-lock.toml --base 50; cat examples/shared-lock.releases; } | desk draw examples/shared-lock.toml - | numbered
+  hi 52|mid 51|lo 50
+  $ desk draw examples/shared-lock.toml examples/shared-lock.releases | numbered
+  hi |mid |lo 
 
 The names of several locks stand below the bar, and one name on its stripe; waits are 6 pixels high:
 
@@ -325,7 +333,7 @@ A stripe isn't wider than its lock is held, and the last number of the scale sta
   <path class="h" d="M1960 1855H1961v180H1960z"
   <path class="k0" d="M1960 1855H1961v180H1960z"
   $ printf 'until 60000000\n0 hi\n' | desk draw examples/shared-lock.toml - --from 59000000 --to 59003000 | sed -nE 's/.*x="([0-9]*)" y="1200">(.*)<.text>/\1 \2/p' | tail -n 3
-  8174 59002500
+  8188 59002500
   9310 59003000
   500 time in us
 

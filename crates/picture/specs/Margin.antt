@@ -25,10 +25,17 @@ level_text f spot =
 abbrev pub name_class : (missed : ℕ) → List ℕ
 name_class missed = if missed == 0 then codes "n" else codes "n q"
 
--- the name of a row, with what its jobs came to as its title: how many are done, the greatest response among them, and the
+-- the number of a row's thread, where settings say it, and it isn't the row's level
+abbrev pub number_words : (level : ℕ) → Option ℕ → List ℕ
+number_words level None = []
+number_words level (Some number) =
+    if number == level then []
+    else concat (codes "<tspan class=\"nn\" dx=\"45\">" ∷ decimal number ∷ codes "</tspan>" ∷ [])
+
+-- the name of a row, and the number, with what its jobs came to as its title: how many are done, the greatest response among them, and the
 -- row's bound
-abbrev pub name_text : (missed : ℕ) → List JobRecord → ℕ → TaskRow → List ℕ
-name_text missed jobs k row =
+abbrev pub name_text : (missed : ℕ) → List JobRecord → (k level : ℕ) → TaskRow → List ℕ
+name_text missed jobs k level row =
     concat (codes "<text class=\"" ∷ name_class missed ∷ codes "\" x=\"500\" y=\""
     ∷ decimal (top_of k + 230)
     ∷ codes "\"><title>done: " ∷ decimal (length (done_of row.sheet.name jobs))
@@ -36,7 +43,7 @@ name_text missed jobs k row =
     ++ greatest_words (length (done_of row.sheet.name jobs))
     (greatest_of response_of (done_of row.sheet.name jobs))
     ++ concat (codes ", bound: " ∷ known_text row.bound ∷ codes " us</title>" ∷ row.sheet.name
-    ∷ codes "</text>\n" ∷ [])
+    ∷ number_words level row.number ∷ codes "</text>\n" ∷ [])
 
 -- the bound and the deadline, in the picture's unit; without a bound the deadline
 abbrev pub limits_text : (millis : Bool) → ℕ → TaskRow → Option ℕ → List ℕ
@@ -67,6 +74,6 @@ missed_line millis missed late k =
 -- a row's part of the margin
 abbrev pub margin_text : Frame → List JobRecord → Spot → TaskRow → List ℕ
 margin_text f jobs spot row =
-    level_text f spot ++ name_text (missed_in f row jobs) jobs spot.k row
+    level_text f spot ++ name_text (missed_in f row jobs) jobs spot.k (level_of f spot.rank) row
     ++ limits_text (in_millis f) spot.k row row.bound
     ++ missed_line (in_millis f) (missed_in f row jobs) (latest_in row jobs) spot.k

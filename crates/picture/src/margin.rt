@@ -1,9 +1,9 @@
 //! The margin: each row's level, tone and name, and how long its jobs take at most.
 ghost use Rattle.std.specs.Prelude.{◌≡◌, ◌++◌, codes};
-ghost use Rattle.frames.specs.Frame.{in_millis};
+ghost use Rattle.frames.specs.Frame.{in_millis, level_of};
 ghost use Rattle.frames.specs.Page.{Adds};
 ghost use Rattle.picture.specs.Document.{margin_group, margins_text};
-ghost use Rattle.picture.specs.Margin.{late_words, level_text, limits_text, margin_text, missed_line, name_class, name_text};
+ghost use Rattle.picture.specs.Margin.{late_words, level_text, limits_text, margin_text, missed_line, name_class, name_text, number_words};
 
 use ceiling_kernel::JobRecord;
 use drawn_jobs::{latest_in, missed_in, put_greatest, put_lane_head};
@@ -35,9 +35,24 @@ fn put_level(lane: &Lane<'_>, page: &mut Page)
     page.put(b"\" width=\"100\" height=\"100\" rx=\"20\"/>\n")
 }
 
-// The name of a row, with what its jobs came to.
+// The number of a row's thread, where settings say it, and it isn't the row's level.
+fn put_number(level: u64, number: Option<u64>, page: &mut Page)
+    ensures { Adds page.old page.new (number_words level number) }
+{
+    let Some(number) = number else {
+        return;
+    };
+    if number == level {
+        return;
+    }
+    page.number(b"<tspan class=\"nn\" dx=\"45\">", number);
+    page.put(b"</tspan>")
+}
+
+// The name of a row, and the number, with what its jobs came to.
 fn put_row_name(missed: usize, lane: &Lane<'_>, jobs: &[JobRecord], page: &mut Page)
-    ensures { Adds page.old page.new (name_text missed jobs.now lane.now.spot.k lane.now.row.now) }
+    ensures { Adds page.old page.new (name_text missed jobs.now lane.now.spot.k (level_of
+        lane.now.frame lane.now.spot.rank) lane.now.row.now) }
 {
     let name = lane.row.sheet.name();
     let outcome = outcome_of(jobs, name);
@@ -47,6 +62,7 @@ fn put_row_name(missed: usize, lane: &Lane<'_>, jobs: &[JobRecord], page: &mut P
     put_greatest(outcome, page);
     put_known(b", bound: ", lane.row.bound, page);
     page.name(b" us</title>", name);
+    put_number(level_of(lane.frame, lane.spot.rank), lane.row.number, page);
     page.put(b"</text>\n")
 }
 

@@ -9,6 +9,8 @@ pub(crate) const STYLE: &str = concat!(
     ".t{font:bold 150px sans-serif;fill:#111}",
     // names of rows
     ".n{font:bold 130px monospace;fill:#111}",
+    // numbers of threads, behind them
+    ".nn{font:110px monospace}",
     // levels
     ".v{font-size:110px;text-anchor:end}",
     // the scale's numbers
