@@ -13,7 +13,7 @@ pub loop-rank-preserved : goal.loop-rank-preserved
 loop-rank-preserved c =
     let p : ℕ → Bool = λ rank. is_chosen c.args.names.now c.args.releases.now (name_in c.args.rows.now rank) in
     let n = c.loop-rank.rank in
-    let chosen = c.is_chosen.ensures
+    let chosen = c.is_chosen-is_shown.ensures
     ∙ ap (λ (name : List ℕ). is_chosen c.args.names.now c.args.releases.now name)
     c.name_in.ensures in
     c.in_ok-note.ensures ∙ ap (λ (b : Bool). noted_rank c.loop-rank.shown.items n b) chosen
