@@ -119,7 +119,7 @@ def view_of(rng, sheets):
         "to": time(),
         "width": str(rng.choice([959, 960, 16_000, 16_001] if rng.random() < 0.2 else [rng.randint(960, 16_000)])),
         "title": rng.choice(["", "x", "R&D <hi>", "a  b\t\r\n", '"\u00e9\u20ac\x7f', "]]>", "\uffff\ufffea\ufffd\ufffe", "\uff5f\U0001ffff"]),
-        "tasks": ",".join(some),
+        "tasks": rng.choice([",".join(some)] * 4 + ["all"]),
     }
     return [option for option in drawn.items() if rng.random() < 0.4]
 

@@ -111,14 +111,23 @@ fn options_of(call: Call<'_>) -> Options<'_> {
     }
 }
 
-// The tasks that a picture is to have rows for, as the words of a call say.
+// The tasks that a picture is to have rows for, as the words of a call name them.
 fn rows_of<'a>(call: Call<'a>) -> Option<&'a str> {
     match call {
         Call::Two {
             command: OfTwo::Draw,
             options,
             ..
-        } => options.rows,
+        } => match options.rows {
+            Some(words) => {
+                if words.as_bytes() == b"all".as_slice() {
+                    None
+                } else {
+                    Some(words)
+                }
+            }
+            None => None,
+        },
         _ => None,
     }
 }

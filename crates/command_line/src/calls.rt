@@ -206,7 +206,7 @@ pub struct Options<'a> {
     pub width: Option<usize>,
     /// `--title TEXT`: what stands behind its verdict.
     pub title: Option<&'a str>,
-    /// `--tasks NAMES`: the tasks that have rows in it, a comma between two.
+    /// `--tasks NAMES`: the tasks that have rows in it, a comma between two, or all.
     pub rows: Option<&'a str>,
     /// The number of the team whose script it is.
     pub team: Option<usize>,
@@ -437,7 +437,7 @@ impl Choice {
             Choice::To => "Where the picture ends, in microseconds, if not with the run",
             Choice::Width => "How wide the picture is, in pixels, from 960 to 16000",
             Choice::Title => "What stands behind its verdict",
-            Choice::Rows => "The tasks that have rows, a comma between two; else all",
+            Choice::Rows => "The tasks that have rows, a comma between two, or all; else the list's",
             Choice::Team => {
                 "The number of the team whose script it is, from 1 to 8, if not each team has a draft"
             }

@@ -6,11 +6,12 @@ use Rattle.two_input_commands.proofs.draw.print_drawing.Goals as goal
 
 pub returns-in-Ran : goal.returns-in-Ran
 returns-in-Ran g c = rw c.in-Ran.is (made_printed c.picture_of_run.result (λ t. t.items) status.Done
-    (answer_said c.args.tasks.now c.args.drawing.now.view (Ran c.in-Ran.run'))
-    c.picture_of_run.ensures c.print_bytes.ensures)
+    (answer_said c.args.tasks.now c.args.drawing.now.settings.items c.args.drawing.now.view (Ran c.in-Ran.run'))
+    (rw c.deref-settings.ensures.value at c.picture_of_run.ensures) c.print_bytes.ensures)
 
 pub returns-in-Ordered : goal.returns-in-Ordered
 returns-in-Ordered g c =
     rw c.in-Ordered.is (made_printed c.picture_of_ordered.result (λ t. t.items) status.Done
-    (answer_said c.args.tasks.now c.args.drawing.now.view (Ordered c.in-Ordered.run'))
-    c.picture_of_ordered.ensures c.print_bytes-in-Ordered.ensures)
+    (answer_said c.args.tasks.now c.args.drawing.now.settings.items c.args.drawing.now.view (Ordered c.in-Ordered.run'))
+    (rw c.deref-settings.ensures.value at c.picture_of_ordered.ensures)
+    c.print_bytes-in-Ordered.ensures)
