@@ -1,5 +1,5 @@
 -- How far a run in which a job misses its deadline goes on.
-use Rattle.std.specs.Prelude.{◌≡◌, ◌⊎◌, ¬, ℕ, List, Option, None, Ok, Err, slice_get}
+use Rattle.std.specs.Prelude.{◌≡◌, ◌⊎◌, ℕ, List, Option, None, Ok, Err, slice_get}
 use Rattle.std.specs.Option.{option_and_then, unwrap_or}
 use Rattle.ceiling_kernel.specs.declared.accept.TheConstants.{HORIZON}
 use Rattle.ceiling_kernel.specs.declared.trace.JobRecord.{JobRecord}
@@ -19,7 +19,7 @@ abbrev pub IsDoneLater : Node → Miss → Option ℕ → Type 0
 IsDoneLater node m finish =
     ((trace : Trace) × Runs node m.releases.items HORIZON (Ok trace)
     × (finish ≡ finish_of trace.jobs.items m.job))
-    ⊎ ((f : RunFault) × (¬ (f ≡ fault.OutOfMemory)) × Runs node m.releases.items HORIZON (Err f)
+    ⊎ ((f : RunFault) × (f ≡ fault.OutOfMemory → ⊥) × Runs node m.releases.items HORIZON (Err f)
     × (finish ≡ None))
 
 -- the run of a miss goes on until its job is done; where that isn't known it ends at the deadline

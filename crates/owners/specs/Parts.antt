@@ -1,28 +1,25 @@
 -- A set's tasks by their teams.
-use Rattle.std.specs.Prelude.{ℕ, Bool, true, false, not, ◌&&◌, List, [], ◌∷◌, ◌++◌, Option, None, Some, if◌then◌else◌}
+use Rattle.std.specs.Prelude.{ℕ, Bool, false, not, List, [], ◌∷◌, ◌++◌, Option, None, Some, if◌then◌else◌}
 use Rattle.std.specs.List.{filter, list_any}
 use Rattle.task_sheet.specs.Sheet.{Task, same_bytes}
 use Rattle.owners.specs.Owners.{team_of}
-use Rattle.owners.specs.declared.owner.Owned.{Owned}
-use Rattle.owners.specs.declared.owner.Owned.TheVariants as owned
 use Rattle.owners.specs.declared.owner.Owner.{Owner}
-
--- it is a task
-abbrev pub is_any_task : Owned → Bool
-is_any_task (owned.Task name) = true
-is_any_task (owned.Interrupt place) = false
+use Rattle.owners.specs.declared.owner.Owner.TheVariants.{Task as OwnedTask, Interrupt as OwnedInterrupt, Follower}
 
 -- a team is among some
 abbrev pub is_among : List (List ℕ) → List ℕ → Bool
 is_among teams team = list_any (λ t. same_bytes t team) teams
 
--- the teams that have tasks, each once, by their first tasks, but for those that were seen before
-abbrev pub teams_from : (seen : List (List ℕ)) → List Owner → List (List ℕ)
-teams_from seen [] = []
-teams_from seen (o ∷ owners) =
-    if is_any_task o.owned && not (is_among seen o.team)
-    then o.team ∷ teams_from (seen ++ o.team ∷ []) owners
-    else teams_from seen owners
+-- the teams, and the one whose task this is, if it isn't among them
+abbrev pub with_owner : (teams : List (List ℕ)) → Owner → List (List ℕ)
+with_owner teams (OwnedTask task team) = if is_among teams team then teams else teams ++ team ∷ []
+with_owner teams (OwnedInterrupt place team) = teams
+with_owner teams (Follower task place) = teams
+
+-- some teams, and those that have tasks, each once, by their first tasks
+abbrev pub teams_from : (teams : List (List ℕ)) → List Owner → List (List ℕ)
+teams_from teams [] = teams
+teams_from teams (o ∷ owners) = teams_from (with_owner teams o) owners
 
 -- the team is this one
 abbrev pub is_team : List ℕ → Option (List ℕ) → Bool

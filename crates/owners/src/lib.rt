@@ -11,6 +11,6 @@ mod words;
 
 pub use crate::followers::along;
 pub use crate::naming::named_text;
-pub use crate::owner::{Owned, Owner, push_interrupt, read_owners};
+pub use crate::owner::{Owner, push_interrupt, read_owners};
 pub use crate::parts::parts_of;
 pub use crate::words::Naming;

@@ -1,21 +1,11 @@
 //! A set's tasks by their teams.
-ghost use Rattle.std.specs.Prelude.{◌≡◌, ◌++◌, IfOk, map, not};
+ghost use Rattle.std.specs.Prelude.{◌≡◌, IfOk, OnOk, map, not, []};
 ghost use Rattle.std.specs.List.{filter};
-ghost use Rattle.owners.specs.Parts.{has_task, is_among, is_any_task, parts_by, parts_of, teams_from};
+ghost use Rattle.owners.specs.Parts.{has_task, is_among, parts_by, parts_of, teams_from, with_owner};
 
-use crate::owner::{Owned, Owner, team_of};
+use crate::owner::{Owner, team_of};
 use std::alloc::{AllocError, Global};
 use task_sheet::{Name, Sheet};
-
-// Whether it is a task.
-fn is_any_task(owned: Owned) -> bool
-    ensures { result ≡ is_any_task owned }
-{
-    match owned {
-        Owned::Task(_) => true,
-        Owned::Interrupt(_) => false,
-    }
-}
 
 // Whether a team is among some.
 fn is_among(teams: &[Name], team: Name) -> bool
@@ -24,15 +14,25 @@ fn is_among(teams: &[Name], team: Name) -> bool
     teams.iter().any(|seen| *seen == team)
 }
 
+// Adds the team whose task this is, if it isn't there.
+fn push_owner(teams: &mut Vec<Name>, owner: Owner) -> Result<(), AllocError>
+    ensures { OnOk result (teams.new.items ≡ with_owner teams.old.items owner) }
+{
+    if let Owner::Task { team, .. } = owner {
+        if !is_among(teams, team) {
+            teams.push(team)?;
+        }
+    }
+    Ok(())
+}
+
 // The teams that have tasks, each once, by their first tasks.
 fn teams_of(alloc: Global, owners: &[Owner]) -> Result<Vec<Name>, AllocError>
     ensures { IfOk result (λ teams. teams.items ≡ teams_from [] owners.now) }
 {
     let mut teams = Vec::new(alloc);
     for owner in owners {
-        if is_any_task(owner.owned) && !is_among(&teams, owner.team) {
-            teams.push(owner.team)?;
-        }
+        push_owner(&mut teams, *owner)?;
     }
     Ok(teams)
 }

@@ -767,4 +767,4 @@ drafts_again opened number (U ∷ parts) few all =
 pub teams_again : (parts : List (List Task)) → length parts ≤ TEAM_LIMIT
     → AllByRecursion (λ U. All IsValidSheet U) parts
     → script_in (script_of_teams parts) ≡ Ok (lines_of_teams parts)
-teams_again parts few all = drafts_again 0 1 parts few all
+teams_again parts few all = drafts_again 0 1 parts (omega (arith, few)) all
