@@ -5,8 +5,10 @@ use Rattle.set_commands.specs.Limits.{alone_line}
 use Rattle.set_commands.proofs.limits_lines.end_text.Goals as goal
 
 pub common_text-requires : goal.common_text-requires
-common_text-requires c = rw c.order_given-order.ensures
-    (given_orders c.args.listing.now.set c.args.listing.now.placing.now c.requires.placing)
+common_text-requires c = record {
+  order = rw c.order_given-order.ensures
+      (given_orders c.args.listing.now.set c.args.listing.now.placing.now c.requires.placing);
+}
 
 pub returns : goal.returns
 returns c =
@@ -18,7 +20,7 @@ returns c =
     c.is_still_silent-is_silent.ensures in (
       common,
       end.0,
-      c.in_ok-text.ensures,
+      rw c.order_given-order.ensures at c.in_ok-text.ensures,
       end.1,
       c.in_ok-push_str.ensures.bytes
           ∙ ap (λ (t : List ℕ). common ++ t) (c.as_str-2.ensures.value ∙ end.2

@@ -52,6 +52,6 @@ returns-in-Err-OutOfMemory g c =
     (rw (made.first, c.of.ensures) at said.2) c.refuse-in-Err-OutOfMemory.ensures
     (λ all is. inl (
       said.0 ++ none,
-      inr (said.0, rw (made.set, c.of.ensures, made.placing) at said.1, refl, is),
+      inr (said.0, rw (made.owners, made.set, c.of.ensures, made.placing) at said.1, refl, is),
       subst (λ (text : List ℕ). Appends before after text) (append_assoc first said.0 none) all,
     ))
