@@ -437,7 +437,8 @@ impl Choice {
             Choice::To => "Where the picture ends, in microseconds, if not with the run",
             Choice::Width => "How wide the picture is, in pixels, from 960 to 16000",
             Choice::Title => "What stands behind its verdict",
-            Choice::Rows => "The tasks that have rows, a comma between two, or all; else the list's",
+            Choice::Rows =>
+                "The tasks that have rows, a comma between two, or all; else the list's",
             Choice::Team => {
                 "The number of the team whose script it is, from 1 to 8, if not each team has a draft"
             }

@@ -133,7 +133,15 @@ fn put_band(
     put_band_box(bar, first, band, page);
     put_band_words(outcome, row.bound, row.sheet.deadline(), page);
     let millis = in_millis(lane.frame);
-    put_label(millis, bar.x, bar.right, lane.spot.k, band.count, outcome, page);
+    put_label(
+        millis,
+        bar.x,
+        bar.right,
+        lane.spot.k,
+        band.count,
+        outcome,
+        page,
+    );
     put_last_bound(lane, band.latest, page);
     let back = is_before(lane.frame, first.release);
     put_signs(lane, back, any_on(lane.frame, first.name, jobs), page)

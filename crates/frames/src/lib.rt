@@ -14,9 +14,9 @@ mod view;
 pub use boxes::{Bar, bar_of, has_room, put_bar};
 pub use chart::{Chart, Lane};
 pub use frame::{
-    Frame, LOWEST_TOP, RIGHTMOST, WIDEST_STEP, end_of, ended, frame_of, is_before, is_by_end,
-    in_millis, is_from_start, level_of, sees, sees_from, sees_up_to, start_of, step_of, steps_before, tone_of,
-    time_letters, top_of, x_after, x_of,
+    Frame, LOWEST_TOP, RIGHTMOST, WIDEST_STEP, end_of, ended, frame_of, in_millis, is_before,
+    is_by_end, is_from_start, level_of, sees, sees_from, sees_up_to, start_of, step_of,
+    steps_before, time_letters, tone_of, top_of, x_after, x_of,
 };
 pub use locks::{LOCKS_LIMIT, lock_tone, locks_of};
 pub use numbers::{put_known, put_time, put_times, put_unit};

@@ -35,12 +35,7 @@ fn done_later(alloc: Global, kernel: &Kernel, miss: &Miss) -> Result<Option<u64>
 
 /// Until when the run of a miss goes on in the order that it was found in, lowest first: until its job is done, in
 /// microseconds. The error is out of memory.
-pub fn end_of(
-    alloc: Global,
-    set: &TaskSet,
-    order: &[usize],
-    miss: &Miss,
-) -> Result<u64, AllocError>
+pub fn end_of(alloc: Global, set: &TaskSet, order: &[usize], miss: &Miss) -> Result<u64, AllocError>
     requires { IsOrder set.now order.now }
     ensures { IfOk result (GoesOnUntil (node_in set.now order.now) miss.now) }
 {

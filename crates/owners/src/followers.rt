@@ -87,11 +87,7 @@ fn push_follower(
 }
 
 // Adds those of a task's sections.
-fn push_sections(
-    owners: &mut Vec<Owner>,
-    task: Name,
-    items: &[Value],
-) -> Result<(), AllocError>
+fn push_sections(owners: &mut Vec<Owner>, task: Name, items: &[Value]) -> Result<(), AllocError>
     ensures { OnOk result (owners.new.items
         ≡ owners.old.items ++ followers_from task 0 (items_view items.now)) }
 {
