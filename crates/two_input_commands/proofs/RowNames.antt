@@ -46,10 +46,12 @@ pub refused_row : (U : List Task) (text part : List ℕ) (old new rest : List (L
     → first_unknown U old ≡ None → Notes U part old new (Err r) → AsksRows U (Some text) (Err r)
 refused_row U text part old new rest (refusal.NoSuchTask name) all parts known why = (
   all,
-  part,
-  ap (first_unknown U) parts ∙ unknown_behind U old (part ∷ rest) known
-      ∙ unknown_first U part rest why.0,
-  why.1,
+  (
+    part,
+    ap (first_unknown U) parts ∙ unknown_behind U old (part ∷ rest) known
+        ∙ unknown_first U part rest why.0,
+    why.1,
+  ),
 )
 refused_row U text part old new rest refusal.OutOfMemory all parts known why = tt
 refused_row U text part old new rest _ all parts known why = absurd why
