@@ -854,7 +854,7 @@ def worst(tasks: Sheets, task: str = "") -> Worst:
     1000
     >>> late = [Task("a", 10_000, 9000, 6000), Task("b", 10_000, 9000, 6000)]
     >>> simulate(late, worst(late).releases).jobs[0]
-    Job(task='a', arrival=0, finish=None)
+    Job(task='a', arrival=0, finish=12000)
     """
     status, said = _ask("worst", tasks, task.encode())
     lines = said.splitlines()

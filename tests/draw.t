@@ -103,6 +103,37 @@ Where nothing of the run lies in it:
   refused: EmptyWindow
   [4]
 
+Without a word only tasks of the list have rows; `all` gives one to each, with its level and tone as ever:
+
+  $ rows() { sed -nE 's/.*class="v"[^>]*>([0-9]+)<.text><rect class="(f[0-9])".*/\1 \2/p; s/.*<title>done: .*<.title>(.*)<.text>/\1/p' | paste -sd ' '; }
+  $ printf 'until 3000\n0 lo\n' | desk draw examples/shared-lock.toml - | rows
+  1 f2 lo
+  $ printf 'until 3000\n0 lo\n' | desk draw examples/shared-lock.toml - --tasks all | rows
+  3 f0 hi 2 f1 mid 1 f2 lo
+  $ wide --tasks all | cmp - run.svg
+  $ echo 'until 3000' | desk draw examples/shared-lock.toml - | rows
+  
+  $ printf "task = [\n{ name = 'all', period = 9000, deadline = 9000, cost = 1000 },\n{ name = 'b', period = 9000, deadline = 9000, cost = 1000 },\n]\n" > all.toml
+  $ for some in all all,all; do echo 'until 9000' | desk draw all.toml - --tasks $some | rows; done
+  2 f0 b 1 f1 all
+  1 f1 all
+
+The worst case of a deadline that is missed has its tasks alone, and goes on until that job is done, so that it shows how late:
+
+  $ desk worst examples/robot.toml | grep -v '^thread\|^mutex'
+  # motor misses 1000
+  until 1150
+  0 battery
+  101 motor
+  $ desk worst examples/robot.toml | desk draw examples/robot.toml - > run.svg
+  $ rows < run.svg
+  9 f0 motor 3 f6 battery
+  $ grep -o 'missed: .*<' run.svg
+  missed: 1<
+  missed: 1, 49 us late<
+  $ desk worst examples/robot.toml | desk draw examples/robot.toml - --tasks all | rows
+  9 f0 motor 8 f1 imu 7 f2 balance 6 f3 lidar 5 f4 camera 4 f5 planner 3 f6 battery 2 f7 diagnostics 1 f8 upload
+
 Rows that are chosen keep their order, their levels and their tones; the lane stays whole, and the link needs both rows:
 
   $ wide --tasks lo,hi > run.svg
@@ -162,7 +193,7 @@ What stands in a picture to be read, in its order: the verdict, the legend, the 
   no deadline missed | tasks: 3, jobs: 4, until 12 ms | executes | waits for a task above, in its colour | is blocked by a task below, in the lock's tone | waits for several above | goes on | arrival to bound | arrival | not ready yet | deadline | missed | 0 | 2 | 4 | 6 | 8 | 10 | 12 | time in ms | processor | busy 91.6 % | 3 | b | bound 3 of 12 ms | 2 | a | bound 7 of 7 ms | 1 | c | bound 20 of 20 ms | b | a | a | c | b | b | a | a
 
 A list's own order, in which hi has no bound and misses its deadline: what is hatched behind the deadline says so, a badge
-stands on it, and above and in its row how many they are, below its deadline. Where none is missed, that stands above:
+stands on it, and above and in its row how many they are, there with how late. Where none is missed, that stands above:
 
   $ printf 'thread lo 1\nthread hi 2\nuntil 12000\n0 lo\n1001 hi\n' | desk draw examples/blocked-out.toml - > missed.svg
   $ grep -o '<title>hi: arrival .*</title>' missed.svg
@@ -174,7 +205,7 @@ stands on it, and above and in its row how many they are, below its deadline. Wh
   $ grep -A 2 '<.title>hi<' missed.svg | sed -E 's/<title>.*<.title>//; s/<[^>]*>//g'
   hi
   deadline 4.4 ms
-  deadlines missed: 1
+  missed: 1, 0.099 ms late
   $ grep -c 'class="t q".*deadlines missed: 1<' missed.svg
   1
   $ grep -o 'no deadline missed' run.svg
@@ -254,14 +285,14 @@ Of many that are missed not each has a disc, but its hatching:
   $ { printf 'thread a 1\nthread b 2\nuntil 2000000\n'; for i in $(seq 0 199); do echo $((i * 10000)) a; done; } | desk draw late.toml - > late.svg
   $ grep -c '^<path class="z".* missed</title>' late.svg
   200
-  $ grep -c '^<path class="x" d="M[0-9]* 2255h1"/>' late.svg
+  $ grep -c '^<path class="x" d="M[0-9]* 1775h1"/>' late.svg
   67
 
 Where only the hatching of a job is left in a window, its signs stand there too:
 
-  $ printf 'thread a 1\nthread b 2\nuntil 40000\n0 a\n0 b\n10000 a\n' | desk draw late.toml - --from 2000 --to 4000 | grep -E '^<path class="[awz]" d="M(1960|9400)'
-  <path class="z" d="M1960 2315H9400v220H1960z"><title>a: arrival 0, done 6000, response 6000, deadline 1000 us missed</title></path>
-  <path class="a" d="M1960 2365m-20 0l-60 60 60 60m-60-120l-60 60 60 60"/>
+  $ printf 'thread a 1\nthread b 2\nuntil 40000\n0 a\n0 b\n10000 a\n' | desk draw late.toml - --from 2000 --to 4000 | grep -E '^<path class="[awz]" d="M(2004|9400)'
+  <path class="z" d="M2004 2315H9400v220H2004z"><title>a: arrival 0, done 6000, response 6000, deadline 1000 us missed</title></path>
+  <path class="a" d="M2004 2365m-20 0l-60 60 60 60m-60-120l-60 60 60 60"/>
   <path class="a" d="M9400 2365m20 0l60 60-60 60m60-120l60 60-60 60"/>
 
 What the bounds count, and the run lacks, its second line says:
@@ -275,6 +306,14 @@ What the bounds count, and the run lacks, its second line says:
   tasks: 3, jobs: 1, until 3000 us, timers and interrupts in the bounds alone, shown: 0 to 2000 us<
   $ cat note
   note: what timers and interrupts take is in the bounds, and not in the run
+
+With settings in front each name has the number of its thread behind it:
+
+  $ numbered() { sed -nE 's/.*<title>done: .*<.title>([^<]*)(<tspan[^>]*>([0-9]+)<.tspan>)?<.text>/\1 \3/p' | paste -sd '|'; }
+  $ { desk settings examples/shared-lock.toml --base 50; cat examples/shared-lock.releases; } | desk draw examples/shared-lock.toml - | numbered
+  hi 52|mid 51|lo 50
+  $ desk draw examples/shared-lock.toml examples/shared-lock.releases | numbered
+  hi |mid |lo 
 
 The names of several locks stand below the bar, and one name on its stripe; waits are 6 pixels high:
 
@@ -294,7 +333,7 @@ A stripe isn't wider than its lock is held, and the last number of the scale sta
   <path class="h" d="M1960 1855H1961v180H1960z"
   <path class="k0" d="M1960 1855H1961v180H1960z"
   $ printf 'until 60000000\n0 hi\n' | desk draw examples/shared-lock.toml - --from 59000000 --to 59003000 | sed -nE 's/.*x="([0-9]*)" y="1200">(.*)<.text>/\1 \2/p' | tail -n 3
-  8174 59002500
+  8188 59002500
   9310 59003000
   500 time in us
 

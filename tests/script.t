@@ -1,4 +1,5 @@
-`desk script SET TEAM` prints a set as the script of a team: it opens a draft, puts each task by rank, and commits.
+`desk script SET TEAM` prints a set as the script of a team: it opens a draft, puts each task by rank, and commits. Without
+TEAM it is that of each team that has tasks.
 
   $ desk script examples/three-tasks-weighted.toml 3
   open 3
@@ -92,6 +93,45 @@ Played, it admits as `admit` does, with the same levels and responses, and refus
   infeasible motor
   $ desk script examples/shared-lock.toml 2 | desk rush - 2 | head -n 1
   1 team 2 admitted 1
+
+Without a number each team has a draft of its own, in the order of the documents, and what is on the account of the whole
+set's first task stays there. Played, the book has the folder's set:
+
+  $ mkdir node
+  $ task() { printf '[[task]]\nname = "%s"\nperiod = %s\ndeadline = %s\ncost = %s\n' $1 $2 $2 $3; }
+  $ { task b 20000 1000; task d 40000 1000; echo 'weight = 3'; } > node/arm.toml
+  $ { task a 10000 1000; task c 30000 1000; } > node/cam.toml
+  $ : > node/base.toml
+  $ printf '[[interrupt]]\nperiod = 4000\ncost = 17\n' > node/node.toml
+  $ desk script node
+  open 1
+  put 1 b 0 20000 20000 1000
+  put 1 d 3 40000 40000 1000
+  commit 1
+  open 2
+  put 2 a 0 10000 10000 1000 irq=4000:17
+  put 2 c 0 30000 30000 1000
+  commit 2
+  $ desk script node | desk play - | grep -c admitted
+  2
+  $ desk admit node | sed 's/^\([0-9]* [a-z]*\) /level \1 X /' | sed 1d > wanted
+  $ desk script node | desk play - | sed -n 's/^\(level [0-9]* [a-z]*\) [0-9]*/\1 X/p' | cmp - wanted
+
+One document is one team's, of an empty set there is none, and more teams than a script has are refused:
+
+  $ desk script examples/shared-lock.toml 1 > one
+  $ desk script examples/shared-lock.toml | cmp - one
+  $ desk script examples/empty-set.toml
+  $ for n in 1 2 3 4 5 6; do task t$n 10000 10 > node/t$n.toml; done
+  $ desk script node | tail -n 3
+  open 8
+  put 8 t6 0 10000 10000 10
+  commit 8
+  $ task t7 10000 10 > node/t7.toml
+  $ desk script node
+  refused: TooManyTeams
+  (on standard error) node: more than 8 teams have tasks, and a script has 8
+  [4]
 
 A set that is none, and numbers that no team has:
 

@@ -507,23 +507,23 @@ In orders that are given. hi, below lo, begins at 10000; x is left 400 of 600, a
   thread hi 1
   thread lo 2
   mutex m 2
-  until 4400
+  until 12000
   0 hi
   0 lo
   [3]
   $ worst overrun 'thread x 1\nthread y 2\n' x | sed 1,3d
-  until 1000
+  until 1200
   0 x
   0 y
   $ worst late-overrun 'thread x 1\nthread y 2\n' x | sed 1,3d
-  until 1000
+  until 1500
   0 x 300
   0 y 300
   $ worst both-late 'thread u 1\nthread v 2\n' v | sed 1,3d
-  until 2500
+  until 3000
   0 v
   $ worst both-late 'thread u 1\nthread v 2\n' u | sed 1,3d
-  until 2000
+  until 6000
   0 u
   0 v
 
@@ -559,7 +559,7 @@ and hi's second job comes after it. With a tick behind the section that job come
   [3]
   $ inside 3001 > behind.toml
   $ printf 'thread lo 1\nthread hi 2\n' | desk worst behind.toml --at - --task lo | sed 1,4d
-  until 5000
+  until 6001
   0 lo
   0 hi
   4000 hi
@@ -756,7 +756,7 @@ a below b misses its deadline:
   <text class="v" x="300" y="2400">1</text><rect class="f1" x="350" y="2300" width="100" height="100" rx="20"/>
   <text class="n q" x="500" y="2400"><title>done: 1, greatest response: 900, bound: - us</title>a</text>
   <text x="500" y="2525">deadline 500 us</text>
-  <text class="q" x="500" y="2630">deadlines missed: 1</text>
+  <text class="qn" x="500" y="2630">missed: 1, 400 us late</text>
   </g>
   <g id="k">
   </g>

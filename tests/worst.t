@@ -23,7 +23,7 @@ deadline of 19000 c misses it:
   thread c 1
   thread b 2
   thread a 3
-  until 19000
+  until 20000
   0 c
   0 b
   0 a
@@ -152,7 +152,7 @@ hi can't wait for 2500 and execute for 2000 within 4400, and is above lo, by the
   thread lo 1
   thread hi 2
   mutex m 2
-  until 5401
+  until 5500
   0 lo
   1001 hi
   [3]
@@ -213,7 +213,7 @@ Of two with equal limits the one of least rank is lower:
   # b misses 9000
   thread b 1
   thread a 2
-  until 9000
+  until 12000
   0 b
   0 a
   [3]
@@ -282,7 +282,7 @@ meet its own, has no run to its end; nor has a mid that doesn't. That far it is 
   thread mid 2
   thread hi 3
   mutex m 3
-  until 2001
+  until 3000
   0 lo
   1 hi
   [3]
@@ -347,14 +347,14 @@ above each deadline is met, and c has no slack; with c on top a is the highest t
   thread b 1
   thread a 2
   thread c 3
-  until 7000
+  until 8000
   0 a
   0 c
   [3]
   $ desk worst examples/three-tasks.toml --at down | desk simulate examples/three-tasks.toml -
   0 5000 c
-  5000 7000 a
-  job a 0 -
+  5000 8000 a
+  job a 0 8000
   job c 0 5000
   $ desk worst examples/three-tasks.toml --at down --task c
   # c 5000 of 5000

@@ -14,6 +14,7 @@ class Command(NamedTuple):
     number: tuple = ()  # the least and the greatest number of a last word
     options: dict = {}  # for each what its word says; of a flag, which has no word, FLAG
     by_file: tuple = ()  # the option that names a second input, and the command that it then is
+    may_lack: bool = False  # whether the number may be left out
 
 
 FLAG = None
@@ -33,7 +34,8 @@ def call_of(words, commands):
         raise Wrong
     command = commands[first]
     plain, options = told_apart(words, command.options)
-    if len(plain) != len(command.readers) + bool(command.number):
+    most = len(command.readers) + bool(command.number)
+    if not most - command.may_lack <= len(plain) <= most:
         raise Wrong
     paths, numbers = plain[: len(command.readers)], plain[len(command.readers) :]
     if command.by_file and command.by_file[0] in options:

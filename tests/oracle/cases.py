@@ -119,7 +119,7 @@ def view_of(rng, sheets):
         "to": time(),
         "width": str(rng.choice([959, 960, 16_000, 16_001] if rng.random() < 0.2 else [rng.randint(960, 16_000)])),
         "title": rng.choice(["", "x", "R&D <hi>", "a  b\t\r\n", '"\u00e9\u20ac\x7f', "]]>", "\uffff\ufffea\ufffd\ufffe", "\uff5f\U0001ffff"]),
-        "tasks": ",".join(some),
+        "tasks": rng.choice([",".join(some)] * 4 + ["all"]),
     }
     return [option for option in drawn.items() if rng.random() < 0.4]
 
@@ -206,7 +206,7 @@ def called(rng, subject, inputs, options=(), number=None, by=None):
             files[path] = data
     if number is not None:
         words.append(str(number))
-    if subject == "script":
+    if subject == "script" and rng.random() < 0.6:
         words.append(str(rng.choice([1, 2, 3, 8, 8, 0, 9] if rng.random() < 0.1 else [1, 2, 8])))
     if subject == "rush":
         words.append(str(rng.choice([1, 1, 2, 3, 8, 8, 0, 9] if rng.random() < 0.1 else [1, 2, 3, 8])))

@@ -355,9 +355,20 @@ def releases(tasks, until, seed=None):
     return kernel.release_list(until, said), 0
 
 
-def script(tasks, team):
-    puts = [f"put 1 {scripts.sheet_words(task)}\n" for task in tasks]
-    return "".join([f"open {team}\n", *puts, "commit 1\n"]), 0
+def script(tasks, team=None):
+    if team is not None:
+        return draft(1, team, tasks), 0
+    teams_of = list(dict.fromkeys(tasks.owners.values())) or [None] * bool(tasks)
+    if len(teams_of) > scripts.TEAMS:
+        raise Refused(4, "TooManyTeams")
+    parts = [[task for task in tasks if tasks.owners.get(task.name) == it] for it in teams_of]
+    return "".join(draft(number, number, part) for number, part in enumerate(parts, 1)), 0
+
+
+def draft(number, team, tasks):
+    """The draft of a team: it is opened, each task is put, and it is committed."""
+    puts = [f"put {number} {scripts.sheet_words(task)}\n" for task in tasks]
+    return "".join([f"open {team}\n", *puts, f"commit {number}\n"])
 
 
 def observe(tasks, said, tolerance=0, is_jobless=False):
@@ -403,8 +414,8 @@ PREFERS = {"prefer": calls.one_of("weight", "deadline"), "strict": calls.FLAG}
 OF_TASK = {**PREFERS, "task": calls.any_word}
 
 
-def on_set(run, *readers, number=(), options=PREFERS, by_file=()):
-    return calls.Command(run, (teams.read_set, *readers), number, options, by_file)
+def on_set(run, *readers, number=(), options=PREFERS, by_file=(), may_lack=False):
+    return calls.Command(run, (teams.read_set, *readers), number, options, by_file, may_lack)
 
 
 KEEP = on_set(keep, settings.read_settings)
@@ -434,7 +445,7 @@ COMMANDS = {
     "worst": on_set(of_task(worst.worst), options=AT, by_file=("at", WORST_AT)),
     "draw": on_set(draw, kernel.read_releases, options={**PREFERS, **VIEW}),
     "observe": on_set(observe, observed.read_trace, options={**PREFERS, **LEEWAY}),
-    "script": on_set(script, number=(1, scripts.TEAMS)),
+    "script": on_set(script, number=(1, scripts.TEAMS), may_lack=True),
     "play": calls.Command(play, (scripts.read_script,)),
     "rush": calls.Command(rush, (scripts.read_script,), (1, scripts.TEAMS)),
 }

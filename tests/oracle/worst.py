@@ -59,10 +59,16 @@ def worst_case(tasks, order, i):
 
 
 def run(tasks, order, i):
-    """What is said of the task's worst case, and its end and releases; none up to 0 where there are too many."""
-    listed = worst_case(tasks, order, i)
-    too_many = len(listed[1]) > kernel.RELEASES_MOST
-    return what_of(tasks, order, i, *listed, too_many), (0, []) if too_many else listed
+    """What is said of the task's worst case, and its end and releases; none up to 0 where there are too many. Of a deadline
+    that is missed the list goes on until the job is done."""
+    until, releases = worst_case(tasks, order, i)
+    too_many = len(releases) > kernel.RELEASES_MOST
+    what = what_of(tasks, order, i, until, releases, too_many)
+    if what.startswith("misses "):
+        _, jobs = kernel.run(tasks, order, analysis.ceilings(tasks, order), kernel.HORIZON, releases)
+        own = next(job for job in jobs if job.task.name == tasks[i].name)
+        until = until if own.finish is None else own.finish
+    return what, (0, []) if too_many else (until, releases)
 
 
 def what_of(tasks, order, i, until, releases, too_many):

@@ -42,7 +42,8 @@ fn says_no_alone(call: Call<'_>) -> bool {
     match call {
         Call::One { command, .. } => match command {
             OfOne::Admit | OfOne::Settings => true,
-            OfOne::Limits | OfOne::Explain | OfOne::Worst | OfOne::Certify | OfOne::Play => false,
+            OfOne::Limits | OfOne::Explain | OfOne::Worst | OfOne::Certify => false,
+            OfOne::Script | OfOne::Play => false,
         },
         _ => false,
     }
@@ -95,7 +96,7 @@ fn asks_densest(call: Call<'_>) -> bool {
             ..
         } => match command {
             OfNumber::Releases => options.seed.is_none(),
-            OfNumber::Script | OfNumber::Rush => false,
+            OfNumber::Rush => false,
         },
         _ => false,
     }
@@ -110,14 +111,23 @@ fn options_of(call: Call<'_>) -> Options<'_> {
     }
 }
 
-// The tasks that a picture is to have rows for, as the words of a call say.
+// The tasks that a picture is to have rows for, as the words of a call name them.
 fn rows_of<'a>(call: Call<'a>) -> Option<&'a str> {
     match call {
         Call::Two {
             command: OfTwo::Draw,
             options,
             ..
-        } => options.rows,
+        } => match options.rows {
+            Some(words) => {
+                if words.as_bytes() == b"all".as_slice() {
+                    None
+                } else {
+                    Some(words)
+                }
+            }
+            None => None,
+        },
         _ => None,
     }
 }

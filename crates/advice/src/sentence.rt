@@ -88,6 +88,9 @@ pub(crate) fn sentence_of(
         CommandRefusal::Trace(fault) => of_trace(alloc, bytes, fault),
         CommandRefusal::Script(fault) => of_script(alloc, bytes, fault),
         CommandRefusal::EmptyWindow => of_view(alloc, bytes, known.options),
+        CommandRefusal::TooManyTeams => {
+            String::from_str(alloc, "more than 8 teams have tasks, and a script has 8").ok()
+        }
         CommandRefusal::Text(TextFault::OutOfMemory)
         | CommandRefusal::Rush(_)
         | CommandRefusal::NoSuchTask { .. }

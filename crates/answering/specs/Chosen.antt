@@ -1,5 +1,5 @@
 -- What the words of a call choose.
-use Rattle.std.specs.Prelude.{Bool, true, false, Option, Some, None, ℕ, min, List, option_map, if◌then◌else◌}
+use Rattle.std.specs.Prelude.{Bool, true, false, Option, Some, None, ℕ, min, max, List, option_map, if◌then◌else◌}
 use Rattle.task_sheet.specs.declared.prefer.Preference.{Preference}
 use Rattle.task_sheet.specs.declared.prefer.Preference.TheVariants as preference
 use Rattle.preferences.specs.declared.asking.Asking.{Asking}
@@ -8,7 +8,7 @@ use Rattle.preferences.specs.declared.asking.Strictness.TheVariants.{AsSaid, Str
 use Rattle.command_line.specs.declared.calls.Preferred.{Preferred}
 use Rattle.command_line.specs.declared.calls.Preferred.TheVariants as preferred
 use Rattle.command_line.specs.declared.calls.Options.{Options}
-use Rattle.command_line.specs.declared.calls.TheConstants.{MOST_PRIORITY, MOST_ROOM}
+use Rattle.command_line.specs.declared.calls.TheConstants.{MOST_PRIORITY, MOST_ROOM, MOST_TEAM}
 
 -- what a call prefers, where its words say so
 abbrev pub preferred_by : Option Preferred → Option Preference
@@ -40,6 +40,10 @@ room_chosen None = 0
 -- the same of what a call's words choose
 abbrev pub room_of : Options → ℕ
 room_of options = room_chosen options.room
+
+-- the number of a team that words choose; they choose none below the least or above the greatest
+abbrev pub team_chosen : Options → Option ℕ
+team_chosen options = option_map (λ team. max 1 (min team MOST_TEAM)) options.team
 
 -- the word that names the task that is asked about
 abbrev pub task_of : Options → Option (List ℕ)

@@ -270,6 +270,7 @@ words_of (refusal.Rush fault) = rush_words fault
 words_of (refusal.NoSuchTask (Some name)) = codes "NoSuchTask " ++ name
 words_of (refusal.NoSuchTask None) = codes "NoSuchTask"
 words_of refusal.EmptyWindow = codes "EmptyWindow"
+words_of refusal.TooManyTeams = codes "TooManyTeams"
 words_of refusal.OutOfMemory = codes "OutOfMemory"
 
 -- the line of a refusal
@@ -303,4 +304,5 @@ status_of (refusal.Script _) = status.BadInput
 status_of (refusal.Rush _) = status.OutOfMemory
 status_of (refusal.NoSuchTask _) = status.BadInput
 status_of refusal.EmptyWindow = status.BadInput
+status_of refusal.TooManyTeams = status.BadInput
 status_of refusal.OutOfMemory = status.OutOfMemory

@@ -53,6 +53,8 @@ pub enum CommandRefusal {
     NoSuchTask { name: Option<Name> },
     /// Nothing of the run lies in the window that was asked for.
     EmptyWindow,
+    /// More teams have tasks than a script has.
+    TooManyTeams,
     /// Memory ran out after the inputs were read.
     OutOfMemory,
 }
@@ -95,6 +97,7 @@ impl CommandRefusal {
             CommandRefusal::Rush(_) => Status::OutOfMemory,
             CommandRefusal::NoSuchTask { .. } => Status::BadInput,
             CommandRefusal::EmptyWindow => Status::BadInput,
+            CommandRefusal::TooManyTeams => Status::BadInput,
             CommandRefusal::OutOfMemory => Status::OutOfMemory,
         }
     }
@@ -488,6 +491,7 @@ fn write_words<W: fmt::Write>(refusal: CommandRefusal, f: &mut fmt::Formatter<W>
         CommandRefusal::NoSuchTask { name: Some(name) } => write!(f, "NoSuchTask {name}"),
         CommandRefusal::NoSuchTask { name: None } => f.write_str("NoSuchTask"),
         CommandRefusal::EmptyWindow => f.write_str("EmptyWindow"),
+        CommandRefusal::TooManyTeams => f.write_str("TooManyTeams"),
         CommandRefusal::OutOfMemory => f.write_str("OutOfMemory"),
     }
 }

@@ -1,7 +1,7 @@
 //! Reading the inputs of a command: a set, or a set and a text.
 ghost use Rattle.std.specs.Prelude.{◌≡◌, Err, IfOk, MatchResult};
 ghost use Rattle.preferences.specs.ReadsAsked.{SaysAsked};
-ghost use Rattle.answering.specs.Chosen.{asking_of, base_of, room_of};
+ghost use Rattle.answering.specs.Chosen.{asking_of, base_of, room_of, team_chosen};
 ghost use Rattle.answering.specs.Owning.{HasOwned, HaveOwned, IsTakenBy, SaysOwned};
 ghost use Rattle.answering.specs.Sets.{HasNoSet, HasSet, HaveNotBoth, IsNoSet, asked_refusal};
 ghost use Rattle.answering.specs.Outcomes.{AreRead, IsRead, failed_read};
@@ -9,7 +9,7 @@ ghost use Rattle.streams.specs.Inputs.{IsReadFrom, IsTooLong};
 
 use crate::audience::{Audience, Which};
 use crate::refusal::CommandRefusal;
-use command_line::{MOST_PRIORITY, MOST_ROOM, Options, Preferred};
+use command_line::{MOST_PRIORITY, MOST_ROOM, MOST_TEAM, Options, Preferred};
 use owners::{Owner, read_owners};
 use preferences::{AskedFault, Asking, Preference, Strictness, read_asked};
 use std::alloc::Global;
@@ -97,6 +97,14 @@ pub fn room_of(options: Options<'_>) -> u32
         Some(room) => room.min(MOST_ROOM) as u32,
         None => 0,
     }
+}
+
+/// The number of a team that the words choose.
+pub fn team_chosen(options: Options<'_>) -> Option<u64>
+    ensures { result ≡ team_chosen options.entry }
+{
+    let team = options.team?;
+    Some(team.min(MOST_TEAM).max(1) as u64)
 }
 
 // The set that bytes say, as the call asks for it, and by what it is taken; or why there is none. The audience is told

@@ -1,9 +1,9 @@
 -- The command line of `desk`, as `clap` sees it.
-use Rattle.std.specs.Prelude.{ℕ, List, [], ◌∷◌, Some, codes, map, true}
+use Rattle.std.specs.Prelude.{ℕ, List, [], ◌∷◌, Option, Some, codes, map, true}
 use Rattle.clap.specs.Words.{App, Rule, Text, new_app, new_rule, with_rule, with_subcommand}
 use Rattle.clap.specs.declared.builder.ArgAction.TheVariants.{Set, SetTrue}
 use Rattle.clap.specs.declared.builder.value_parser.ValueParser.TheVariants.{Unsigned}
-use Rattle.command_line.specs.Commands.{choice_id, choice_name, commands, input_of, least_of, most_of, number_name, second_of, takes_of}
+use Rattle.command_line.specs.Commands.{choice_id, commands, input_of, least_of, long_of, most_of, number_name, second_of, takes_of}
 use Rattle.command_line.specs.declared.calls.Choice.{Choice}
 use Rattle.command_line.specs.declared.calls.Takes.{Takes}
 use Rattle.command_line.specs.declared.calls.Takes.TheVariants as takes
@@ -19,21 +19,19 @@ abbrev pub number_rule : (name : Text) (least most : ℕ) → Rule
 number_rule name least most = record (input_rule name) { parser = Some (Unsigned least most) }
 
 -- an option with a word
-abbrev pub word_rule : (id name : Text) → Rule
-word_rule id name =
-    record (new_rule id) { long = Some name; action = Some Set; value_names = 1 }
+abbrev pub word_rule : (id : Text) → (long : Option Text) → Rule
+word_rule id long = record (new_rule id) { long = long; action = Some Set; value_names = 1 }
 
 -- an option that takes this
-abbrev pub taking_rule : (id name : Text) → Takes → Rule
-taking_rule id name takes.Word = word_rule id name
-taking_rule id name (takes.Number least most) =
-    record (word_rule id name) { parser = Some (Unsigned least most) }
-taking_rule id name takes.Flag =
-    record (new_rule id) { long = Some name; action = Some SetTrue }
+abbrev pub taking_rule : (id : Text) → (long : Option Text) → Takes → Rule
+taking_rule id long takes.Word = word_rule id long
+taking_rule id long (takes.Number least most) =
+    record (word_rule id long) { parser = Some (Unsigned least most) }
+taking_rule id long takes.Flag = record (new_rule id) { long = long; action = Some SetTrue }
 
 -- an option
 abbrev pub choice_rule : Choice → Rule
-choice_rule c = taking_rule (choice_id c) (choice_name c) (takes_of c)
+choice_rule c = taking_rule (choice_id c) (long_of c) (takes_of c)
 
 -- a command with one input
 abbrev pub input_app : (word input : Text) → App

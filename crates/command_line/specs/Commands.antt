@@ -4,16 +4,16 @@ use Rattle.std.specs.List.{find}
 use Rattle.std.specs.Str.{bytes_eq}
 use Rattle.clap.specs.Words.{Text}
 use Rattle.command_line.specs.declared.calls.OfOne.{OfOne}
-use Rattle.command_line.specs.declared.calls.OfOne.TheVariants.{Admit, Certify, Limits, Settings, Explain, Worst, Play}
+use Rattle.command_line.specs.declared.calls.OfOne.TheVariants.{Admit, Certify, Limits, Settings, Explain, Worst, Script, Play}
 use Rattle.command_line.specs.declared.calls.OfTwo.{OfTwo}
 use Rattle.command_line.specs.declared.calls.OfTwo.TheVariants.{Check, Judge, Diff, Simulate, Draw, Observe}
 use Rattle.command_line.specs.declared.calls.OfTwo.TheVariants as of_two
 use Rattle.command_line.specs.declared.calls.OfNumber.{OfNumber}
-use Rattle.command_line.specs.declared.calls.OfNumber.TheVariants.{Releases, Script, Rush}
+use Rattle.command_line.specs.declared.calls.OfNumber.TheVariants.{Releases, Rush}
 use Rattle.command_line.specs.declared.calls.Verb.{Verb}
 use Rattle.command_line.specs.declared.calls.Verb.TheVariants.{One, Two, Number}
 use Rattle.command_line.specs.declared.calls.Choice.{Choice}
-use Rattle.command_line.specs.declared.calls.Choice.TheVariants.{Prefer, Strict, Task, Base, Room, LowerIsHigher, Seed, Tasks, Tolerance, Jobless, Keep, At, All, From, To, Width, Title, Rows}
+use Rattle.command_line.specs.declared.calls.Choice.TheVariants.{Prefer, Strict, Task, Base, Room, LowerIsHigher, Seed, Tasks, Tolerance, Jobless, Keep, At, All, From, To, Width, Title, Rows, Team}
 use Rattle.command_line.specs.declared.calls.Takes.{Takes}
 use Rattle.command_line.specs.declared.calls.Takes.TheVariants as takes
 use Rattle.command_line.specs.declared.calls.TheConstants.{MOST_WORKERS, MOST_TEAM, MOST_PRIORITY, MOST_ROOM, MOST_SEED, MOST_TOLERANCE, LEAST_WIDTH, MOST_WIDTH, LATEST_END}
@@ -35,7 +35,7 @@ commands =
     ∷ (codes "simulate", Two Simulate, Prefer ∷ Strict ∷ Tasks ∷ [])
     ∷ (codes "draw", Two Draw, Prefer ∷ Strict ∷ From ∷ To ∷ Width ∷ Title ∷ Rows ∷ [])
     ∷ (codes "observe", Two Observe, Prefer ∷ Strict ∷ Tolerance ∷ Jobless ∷ [])
-    ∷ (codes "script", Number Script, Prefer ∷ Strict ∷ [])
+    ∷ (codes "script", One Script, Prefer ∷ Strict ∷ Team ∷ [])
     ∷ (codes "play", One Play, [])
     ∷ (codes "rush", Number Rush, [])
     ∷ []
@@ -73,22 +73,19 @@ by_file _ = None
 -- the name of the number of a command that takes one
 abbrev pub number_name : OfNumber → Text
 number_name Releases = codes "UNTIL"
-number_name Script = codes "TEAM"
 number_name Rush = codes "WORKERS"
 
 -- the least number that it takes
 abbrev pub least_of : OfNumber → ℕ
 least_of Releases = 0
-least_of Script = 1
 least_of Rush = 1
 
 -- the greatest number that it takes
 abbrev pub most_of : OfNumber → ℕ
 most_of Releases = LATEST_END
-most_of Script = MOST_TEAM
 most_of Rush = MOST_WORKERS
 
--- the word of an option, behind its dashes
+-- the word of an option
 abbrev pub choice_name : Choice → Text
 choice_name Prefer = codes "prefer"
 choice_name Strict = codes "strict"
@@ -108,6 +105,12 @@ choice_name To = codes "to"
 choice_name Width = codes "width"
 choice_name Title = codes "title"
 choice_name Rows = codes "tasks"
+choice_name Team = codes "TEAM"
+
+-- the word behind two dashes; none where it stands behind the inputs without one
+abbrev pub long_of : Choice → Option Text
+long_of Team = None
+long_of c = Some (choice_name c)
 
 -- the id under which `clap` keeps what an option is given: its word, but where that is another option's, too
 abbrev pub choice_id : Choice → Text
@@ -134,7 +137,8 @@ takes_of To = takes.Number 0 LATEST_END
 takes_of Width = takes.Number LEAST_WIDTH MOST_WIDTH
 takes_of Title = takes.Word
 takes_of Rows = takes.Word
+takes_of Team = takes.Number 1 MOST_TEAM
 
 -- the options that take a number
 abbrev pub number_choices : List Choice
-number_choices = Base ∷ Room ∷ Seed ∷ Tolerance ∷ From ∷ To ∷ Width ∷ []
+number_choices = Base ∷ Room ∷ Seed ∷ Tolerance ∷ From ∷ To ∷ Width ∷ Team ∷ []

@@ -1,8 +1,8 @@
 //! The calls of `desk`.
-ghost use Rattle.std.specs.Prelude.{◌≡◌, pos};
+ghost use Rattle.std.specs.Prelude.{◌≡◌, option_map, pos};
 ghost use Rattle.command_line.specs.Calls.{is_standard, is_twice};
 ghost use Rattle.command_line.specs.Calls.{no_options};
-ghost use Rattle.command_line.specs.Commands.{by_file, choice_id, choice_name, input_of, least_of, most_of, number_name, second_of, takes_of};
+ghost use Rattle.command_line.specs.Commands.{by_file, choice_id, choice_name, input_of, least_of, long_of, most_of, number_name, second_of, takes_of};
 
 /// The most threads that test the set of a commit.
 pub const MOST_WORKERS: usize = 8;
@@ -55,6 +55,8 @@ pub enum OfOne {
     Explain,
     /// `worst SET`
     Worst,
+    /// `script SET`
+    Script,
     /// `play SCRIPT`
     Play,
 }
@@ -89,8 +91,6 @@ pub enum OfTwo {
 pub enum OfNumber {
     /// `releases SET UNTIL`
     Releases,
-    /// `script SET TEAM`
-    Script,
     /// `rush SCRIPT WORKERS`
     Rush,
 }
@@ -151,6 +151,8 @@ pub(crate) enum Choice {
     Title,
     // `--tasks NAMES`
     Rows,
+    // TEAM, behind the input
+    Team,
 }
 
 // What an option takes: a word, a number from the least to the most, or nothing.
@@ -204,8 +206,10 @@ pub struct Options<'a> {
     pub width: Option<usize>,
     /// `--title TEXT`: what stands behind its verdict.
     pub title: Option<&'a str>,
-    /// `--tasks NAMES`: the tasks that have rows in it, a comma between two.
+    /// `--tasks NAMES`: the tasks that have rows in it, a comma between two, or all.
     pub rows: Option<&'a str>,
+    /// The number of the team whose script it is.
+    pub team: Option<usize>,
 }
 
 /// A command with its inputs, and what its words choose.
@@ -283,12 +287,6 @@ impl OfNumber {
                 least: 0,
                 most: LATEST_END as i64,
             },
-            OfNumber::Script => Number {
-                name: "TEAM",
-                help: "The number of the team whose script it is, from 1 to 8",
-                least: 1,
-                most: MOST_TEAM as i64,
-            },
             OfNumber::Rush => Number {
                 name: "WORKERS",
                 help: "How many threads may test the set of a commit, from 1 to 8",
@@ -300,7 +298,7 @@ impl OfNumber {
 }
 
 impl Choice {
-    // Its word, behind the dashes.
+    // Its word.
     pub(crate) fn name<'a>(self) -> &'a str
         ensures { result.now ≡ choice_name self }
     {
@@ -323,6 +321,17 @@ impl Choice {
             Choice::Width => "width",
             Choice::Title => "title",
             Choice::Rows => "tasks",
+            Choice::Team => "TEAM",
+        }
+    }
+
+    // Its word behind two dashes; none where it stands behind the inputs without one.
+    pub(crate) fn long<'a>(self) -> Option<&'a str>
+        ensures { option_map (λ s. s.now) result ≡ long_of self }
+    {
+        match self {
+            Choice::Team => None,
+            _ => Some(self.name()),
         }
     }
 
@@ -371,6 +380,10 @@ impl Choice {
                 least: LEAST_WIDTH as u32,
                 most: MOST_WIDTH as u32,
             },
+            Choice::Team => Takes::Number {
+                least: 1,
+                most: MOST_TEAM as u32,
+            },
             Choice::Strict
             | Choice::LowerIsHigher
             | Choice::Tasks
@@ -388,6 +401,7 @@ impl Choice {
             Choice::From | Choice::To => "T",
             Choice::Title => "TEXT",
             Choice::Rows => "NAMES",
+            Choice::Team => "TEAM",
             Choice::Base
             | Choice::Room
             | Choice::Seed
@@ -423,7 +437,11 @@ impl Choice {
             Choice::To => "Where the picture ends, in microseconds, if not with the run",
             Choice::Width => "How wide the picture is, in pixels, from 960 to 16000",
             Choice::Title => "What stands behind its verdict",
-            Choice::Rows => "The tasks that have rows, a comma between two; else all",
+            Choice::Rows =>
+                "The tasks that have rows, a comma between two, or all; else the list's",
+            Choice::Team => {
+                "The number of the team whose script it is, from 1 to 8, if not each team has a draft"
+            }
         }
     }
 }
@@ -450,6 +468,7 @@ impl<'a> Options<'a> {
             width: None,
             title: None,
             rows: None,
+            team: None,
         }
     }
 }

@@ -198,10 +198,10 @@ const COMMANDS: [Listed; 16] = [
         ),
     },
     Listed {
-        verb: Verb::Number(OfNumber::Script),
+        verb: Verb::One(OfOne::Script),
         word: "script",
-        options: &[Choice::Prefer, Choice::Strict],
-        about: "Prints a task set as the script of a team, for play and rush",
+        options: &[Choice::Prefer, Choice::Strict, Choice::Team],
+        about: "Prints a task set as the script of a team, or of its teams, for play and rush",
         example: example!(
             "script examples/shared-lock.toml 1",
             "0 printed, 4 the set is refused"
@@ -283,9 +283,11 @@ fn choice_arg<'a>(alloc: Global, choice: Choice) -> Arg<'a>
     ensures rule { rule_of result ≡ choice_rule choice }
     ensures local { result.global ≡ false }
 {
-    let named = Arg::new(alloc, choice.id())
-        .long(choice.name())
-        .help(choice.help());
+    let arg = Arg::new(alloc, choice.id()).help(choice.help());
+    let named = match choice.long() {
+        Some(word) => arg.long(word),
+        None => arg,
+    };
     match choice.takes() {
         Takes::Word => named.action(ArgAction::Set).value_name(choice.value_name()),
         Takes::Number { least, most } => named

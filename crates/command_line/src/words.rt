@@ -100,6 +100,7 @@ fn options_at<'a>(matches: &ArgMatches<'a>) -> Option<Options<'a>>
         title: matches.get_str("title"),
         rows: matches.get_str("rows"),
         room: number_chosen(matches, Choice::Room),
+        team: number_chosen(matches, Choice::Team),
     })
 }
 

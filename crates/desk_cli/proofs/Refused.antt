@@ -2,15 +2,17 @@
 use Rattle.std.proofs.Common.{◌≡◌, ℕ, true, false, List, Option, Some, None, Err, inl, refl}
 use Rattle.std.specs.Io.KnownBytes.{Appends}
 use Rattle.command_line.specs.declared.calls.OfOne.{OfOne}
-use Rattle.command_line.specs.declared.calls.OfOne.TheVariants.{Limits, Explain, Worst, Play}
+use Rattle.command_line.specs.declared.calls.OfOne.TheVariants.{Limits, Explain, Worst, Script, Play}
 use Rattle.command_line.specs.declared.calls.OfTwo.{OfTwo}
 use Rattle.command_line.specs.declared.calls.OfTwo.TheVariants.{Simulate, Diff, ExplainAt}
 use Rattle.command_line.specs.declared.calls.Options.{Options}
 use Rattle.preferences.specs.declared.asking.Asking.{Asking}
 use Rattle.task_sheet.specs.declared.prefer.Preference.TheVariants.{Weights}
 use Rattle.desk_cli.specs.Commands.{OneSays, TwoSay, first_asking}
-use Rattle.answering.specs.Chosen.{asking_of, task_of}
+use Rattle.answering.specs.Chosen.{asking_of, task_of, team_chosen}
 use Rattle.set_commands.specs.OneTask.{AnswersOfTask, SaysPart}
+use Rattle.set_commands.specs.Script.{SaysScript}
+use Rattle.set_commands.proofs.ScriptLaws.{no_parts}
 use Rattle.set_commands.specs.declared.one_task.TaskPart.{TaskPart}
 use Rattle.set_commands.specs.declared.one_task.TaskPart.TheVariants as part
 use Rattle.two_input_commands.specs.Simulate.{SaysSimulation}
@@ -37,6 +39,11 @@ module _ (before after : Option (List ℕ)) (s : Status) (r : CommandRefusal)
   part_refused part.Limits None asking known why = (Err r, why, wrote, is)
   part_refused _ None asking known why = (Err r, why, wrote, is)
 
+  script_refused : (team : Option ℕ) (asking : Asking) (known : Option (List ℕ))
+      → HasNoSet asking known r → SaysScript asking team known before after s
+  script_refused (Some team) asking known why = (Err r, why, wrote, is)
+  script_refused None asking known why = (Err r, no_parts asking known r why, wrote, is)
+
   pub one_refused : (c : OfOne) (options : Options) (known : Option (List ℕ))
       → IsRefusalOf c options known r → OneSays c options known before after s
   one_refused Limits options known why =
@@ -45,6 +52,8 @@ module _ (before after : Option (List ℕ)) (s : Status) (r : CommandRefusal)
       part_refused (part.Reasons options.all) (task_of options) (asking_of options) known why
   one_refused Worst options known why =
       part_refused part.Worst (task_of options) (asking_of options) known why
+  one_refused Script options known why =
+      script_refused (team_chosen options) (asking_of options) known why
   one_refused Play options known why = (refusal_line r, wrote, inl (r, why, refl, is))
   one_refused _ options known why = (Err r, why, wrote, is)
 

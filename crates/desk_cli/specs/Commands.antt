@@ -2,7 +2,7 @@
 use Rattle.std.specs.Prelude.{ℕ, List, Option}
 use Rattle.command_line.specs.declared.calls.Options.{Options}
 use Rattle.command_line.specs.declared.calls.OfOne.{OfOne}
-use Rattle.command_line.specs.declared.calls.OfOne.TheVariants.{Admit, Certify, Limits, Settings, Explain, Worst, Play}
+use Rattle.command_line.specs.declared.calls.OfOne.TheVariants.{Admit, Certify, Limits, Settings, Explain, Worst, Script, Play}
 use Rattle.command_line.specs.declared.calls.OfTwo.{OfTwo}
 use Rattle.command_line.specs.declared.calls.OfTwo.TheVariants.{Check, Judge, Diff, Simulate, Draw, Observe, Keep, WorstAt, ExplainAt, LimitsAt}
 use Rattle.set_commands.specs.Admit.{SaysPlacing}
@@ -16,13 +16,14 @@ use Rattle.two_input_commands.specs.LimitsAt.{SaysLimitsAt}
 use Rattle.two_input_commands.specs.Observe.{SaysObserved, leeway_of}
 use Rattle.two_input_commands.specs.Keep.{SaysKeeping}
 use Rattle.set_commands.specs.OneTask.{SaysPart}
+use Rattle.set_commands.specs.Script.{SaysScript}
 use Rattle.script_commands.specs.Play.{SaysPlayed}
 use Rattle.two_input_commands.specs.Simulate.{SaysSimulation}
 use Rattle.two_input_commands.specs.WorstAt.{SaysWorstAt}
 use Rattle.set_commands.specs.declared.one_task.TaskPart.TheVariants as part
 use Rattle.answering.specs.declared.answer.OrderPart.TheVariants as order
 use Rattle.answering.specs.declared.status.Status.{Status}
-use Rattle.answering.specs.Chosen.{asking_of, base_of, room_of, task_of}
+use Rattle.answering.specs.Chosen.{asking_of, base_of, room_of, task_of, team_chosen}
 use Rattle.preferences.specs.ReadsAsked.{lenient}
 use Rattle.preferences.specs.declared.asking.Asking.{Asking}
 
@@ -37,6 +38,7 @@ OneSays Settings options =
     SaysPlacing (order.Settings (base_of options) (room_of options)) (asking_of options)
 OneSays Explain options = SaysPart (part.Reasons options.all) (task_of options) (asking_of options)
 OneSays Worst options = SaysPart part.Worst (task_of options) (asking_of options)
+OneSays Script options = SaysScript (asking_of options) (team_chosen options)
 OneSays Play options = SaysPlayed
 
 -- what a call of a command of two inputs asks of its set: of the old one of `diff` no doubt is told

@@ -5,7 +5,7 @@ use Rattle.task_sheet.specs.Sheet.{Task}
 use Rattle.task_sheet.specs.declared.prefer.Preference.{Preference}
 use Rattle.owners.specs.declared.owner.Owner.{Owner}
 use Rattle.command_line.specs.declared.calls.OfOne.{OfOne}
-use Rattle.command_line.specs.declared.calls.OfOne.TheVariants.{Certify, Play}
+use Rattle.command_line.specs.declared.calls.OfOne.TheVariants.{Certify, Script, Play}
 use Rattle.command_line.specs.declared.calls.OfTwo.{OfTwo}
 use Rattle.desk_cli.specs.Commands.{OneSays, TwoSay, first_asking}
 use Rattle.answering.specs.Chosen.{asking_of}
@@ -23,6 +23,7 @@ IsRefusalOf _ options known r = HasNoSet (asking_of options) known r
 -- the command speaks of what becomes of a set's tasks, with nothing that shows it
 abbrev pub IsOfPlacing : OfOne → Type 0
 IsOfPlacing Certify = ⊥
+IsOfPlacing Script = ⊥
 IsOfPlacing Play = ⊥
 IsOfPlacing _ = Unit {0}
 

@@ -11,4 +11,4 @@ pub use answering::{
 pub use of_one::carry_out;
 pub use of_two::carry_out_on_both;
 pub use script_commands::run_rush;
-pub use set_commands::{run_releases, run_script};
+pub use set_commands::run_releases;

@@ -12,7 +12,7 @@ use assignment::Placing;
 use command_line::{OfOne, Options};
 use owners::Owner;
 use script_commands::{lines_of, play};
-use set_commands::{TaskPart, decide, place, print_verdict, say_part};
+use set_commands::{TaskPart, decide, place, print_verdict, run_script, say_part};
 use std::alloc::Global;
 use std::io::{Read, Write};
 use streams::Watched;
@@ -75,6 +75,7 @@ fn say_placing<W: Write + Drop>(
             output,
         ),
         OfOne::Certify => unreachable!(),
+        OfOne::Script => unreachable!(),
         OfOne::Play => unreachable!(),
     }
 }
@@ -98,6 +99,7 @@ pub fn carry_out<R: Read + Drop, W: Write + Drop, P: Audience>(
             Ok(verdict) => print_verdict(alloc, &verdict, output),
             Err(refusal) => refuse(refusal, output),
         },
+        OfOne::Script => run_script(alloc, options, input, output, people),
         OfOne::Play => match lines_of(alloc, input, people) {
             Ok(lines) => play(alloc, lines, output),
             Err(refusal) => refuse(refusal, output),

@@ -5,7 +5,7 @@ use Rattle.command_line.specs.declared.calls.OfOne.{OfOne}
 use Rattle.command_line.specs.declared.calls.OfOne.TheVariants.{Play}
 use Rattle.command_line.specs.declared.calls.OfTwo.{OfTwo}
 use Rattle.command_line.specs.declared.calls.OfNumber.{OfNumber}
-use Rattle.command_line.specs.declared.calls.OfNumber.TheVariants.{Releases, Script, Rush}
+use Rattle.command_line.specs.declared.calls.OfNumber.TheVariants.{Releases, Rush}
 use Rattle.command_line.specs.declared.calls.Options.{Options}
 use Rattle.streams.specs.Watching.{WatchedData}
 use Rattle.desk_cli.specs.Commands.{OneSays, TwoSay}
@@ -38,6 +38,5 @@ module _ (before after : Option (List ℕ)) (s : Status)
       (known : Option (List ℕ)) (told : E → Option (List ℕ)) (w : WatchedData E)
       → NumberSays c options number known before after told w w s
   number_unopened Releases options number known told w = (Err failed_read, inl tt, says, is)
-  number_unopened Script options number known told w = (Err failed_read, tt, says, is)
   number_unopened Rush options number known told w =
       (refusal_line failed_read, says, inl ((failed_read, tt, refl, is), refl))

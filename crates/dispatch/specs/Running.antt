@@ -3,14 +3,13 @@ use Rattle.std.specs.Prelude.{ℕ, List, Option}
 use Rattle.desk_cli.specs.Commands.{OneSays, TwoSay}
 use Rattle.answering.specs.Chosen.{asking_of}
 use Rattle.set_commands.specs.Releases.{SaysList}
-use Rattle.set_commands.specs.Script.{SaysScript}
 use Rattle.script_commands.specs.Rush.{SaysRushed}
 use Rattle.streams.specs.Watching.{WatchedData}
 use Rattle.answering.specs.declared.status.Status.{Status}
 use Rattle.command_line.specs.declared.calls.Input.{Input}
 use Rattle.command_line.specs.declared.calls.Options.{Options}
 use Rattle.command_line.specs.declared.calls.OfNumber.{OfNumber}
-use Rattle.command_line.specs.declared.calls.OfNumber.TheVariants.{Releases, Script, Rush}
+use Rattle.command_line.specs.declared.calls.OfNumber.TheVariants.{Releases, Rush}
 use Rattle.command_line.specs.declared.calls.Call.{Call}
 use Rattle.command_line.specs.declared.calls.Call.TheVariants.{One, Two, Number}
 
@@ -22,8 +21,6 @@ abbrev pub NumberSays :
     → (E → Option (List ℕ)) → (old new : WatchedData E) → Status → Type 0
 NumberSays Releases options until known before after told old new s =
     SaysList (asking_of options) options.seed until known before after s
-NumberSays Script options team known before after told old new s =
-    SaysScript (asking_of options) team known before after s
 NumberSays Rush options workers known before after told old new s =
     SaysRushed known workers before after told old new s
 
@@ -43,7 +40,6 @@ CallSays has (Number command input number options) before after told old new s =
 -- a command with a number may write to the errors
 abbrev pub NumberTells : OfNumber → Type 0
 NumberTells Releases = ⊥
-NumberTells Script = ⊥
 NumberTells Rush = Unit {0}
 
 -- the call's command may write to the errors

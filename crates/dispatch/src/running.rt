@@ -12,7 +12,7 @@ ghost use Rattle.dispatch.specs.Opened.{AreOpened, AreUnread, HasFailed};
 use command_line::{Call, Input, OfNumber, OfOne, OfTwo, Options};
 use desk_cli::{
     Audience, CommandRefusal, Status, Which, carry_out, carry_out_on_both, refuse, run_releases,
-    run_rush, run_script,
+    run_rush,
 };
 use std::alloc::Global;
 use std::io::{Read, Write};
@@ -168,7 +168,6 @@ fn run_number<
 {
     match command {
         OfNumber::Releases => run_releases(alloc, options, input, number as u64, output, people),
-        OfNumber::Script => run_script(alloc, options, input, number as u64, output, people),
         OfNumber::Rush => run_rush(rt, alloc, input, number, output, errors, people),
     }
 }

@@ -2,6 +2,7 @@
 use Rattle.std.specs.Prelude.{ℕ, zero, suc, ◌+◌, ◌-◌, max, Bool, true, false, ◌&&◌, nat_le, nat_lt, if◌then◌else◌, Option, Some, None, List, [], ◌∷◌, ◌++◌, length, codes}
 use Rattle.std.specs.Fmt.{decimal}
 use Rattle.std.specs.List.{concat, count_by}
+use Rattle.task_sheet.specs.Demand.{greatest_of}
 use Rattle.task_sheet.specs.Sheet.{same_bytes}
 use Rattle.ceiling_kernel.specs.declared.trace.JobRecord.{JobRecord}
 use Rattle.frames.specs.declared.rows.TaskRow.{TaskRow}
@@ -26,6 +27,22 @@ misses_in f row job = same_bytes job.name row.sheet.name && is_late f row job
 -- how many jobs of a row's task do
 abbrev pub missed_in : Frame → TaskRow → List JobRecord → ℕ
 missed_in f row jobs = count_by (misses_in f row) jobs
+
+-- how long after a deadline a job is done; 0 where it isn't done later
+abbrev pub done_behind : (arrival deadline : ℕ) → Option ℕ → ℕ
+done_behind arrival deadline (Some finish) = finish - arrival - deadline
+done_behind arrival deadline None = 0
+
+-- the same of a job of a row's task
+abbrev pub late_by : TaskRow → JobRecord → ℕ
+late_by row job =
+    if same_bytes job.name row.sheet.name
+    then done_behind job.release row.sheet.deadline job.finish
+    else 0
+
+-- the longest of a row's task
+abbrev pub latest_in : TaskRow → List JobRecord → ℕ
+latest_in row jobs = greatest_of (late_by row) jobs
 
 -- a job of the task of a row, if there is one
 abbrev pub is_late_at : Frame → List TaskRow → JobRecord → Option ℕ → Bool

@@ -17,5 +17,5 @@ pub use bars::put_slices;
 pub use jobs::put_jobs;
 pub use lane::{put_lane_head, put_lane_line, put_lanes};
 pub use marks::put_all_marks;
-pub use misses::{all_missed, missed_in, put_badge, put_misses};
+pub use misses::{all_missed, latest_in, missed_in, put_badge, put_misses};
 pub use stripes::{locks_high, put_locks_group};

@@ -1,7 +1,7 @@
 //! Jobs that miss their deadlines.
 ghost use Rattle.std.specs.Prelude.{◌+◌, ◌≡◌};
 ghost use Rattle.frames.specs.Page.{Adds};
-ghost use Rattle.drawn_jobs.specs.Misses.{all_missed, badge_after, badge_text, due_badge, has_badge, hatch_path, hatch_text, is_late, is_seen_miss, miss_text, missed_in, misses, misses_in, misses_text, row_misses};
+ghost use Rattle.drawn_jobs.specs.Misses.{all_missed, badge_after, badge_text, due_badge, has_badge, hatch_path, hatch_text, is_late, is_seen_miss, late_by, latest_in, miss_text, missed_in, misses, misses_in, misses_text, row_misses};
 
 use crate::jobs::{limit_of, put_job_signs, put_told};
 use ceiling_kernel::JobRecord;
@@ -37,6 +37,33 @@ pub fn missed_in(frame: Frame, row: &TaskRow, jobs: &[JobRecord]) -> usize
         count += misses_in(frame, row, job) as usize;
     }
     count
+}
+
+// How long after its deadline a job of a row's task is done; 0 where it isn't done later.
+fn late_by(row: &TaskRow, job: &JobRecord) -> u64
+    ensures { result ≡ late_by row.now job.now }
+{
+    if job.name != row.sheet.name() {
+        return 0;
+    }
+    match job.finish {
+        Some(finish) => {
+            let response = finish.saturating_sub(job.release);
+            response.saturating_sub(row.sheet.deadline())
+        }
+        None => 0,
+    }
+}
+
+/// How long after its deadline the latest job of a row's task is done, in microseconds; 0 where none is done later.
+pub fn latest_in(row: &TaskRow, jobs: &[JobRecord]) -> u64
+    ensures { result ≡ latest_in row.now jobs.now }
+{
+    let mut latest = 0;
+    for job in jobs {
+        latest = late_by(row, job).max(latest);
+    }
+    latest
 }
 
 // Whether a job misses its deadline.

@@ -41,7 +41,7 @@ module _ {U : List Task} {places : List PlaceData} {rs : List Release} {until : 
       let upto : end_of_run until ≤ until = omega (arith, arrives_in run j is_job) in
       let named = sym (ap (λ (t : Task). t.name) of.2) ∙ sym
       (same_is (record_at jobs j).name row.sheet.name own) in
-      subst (λ (t : Task). is_late frame (record { sheet = t; bound = row.bound })
+      subst (λ (t : Task). is_late frame (record { sheet = t; bound = row.bound; number = row.number })
       (record_at jobs j) ≡ false) (sym of.2)
       (not_late run of.0 j (end_of_run until) of.1 is_job upto named)
 
@@ -71,14 +71,14 @@ module _ {U : List Task} {places : List PlaceData} {rs : List Release} {until : 
   none_missed = none_counts (misses frame rows) jobs no_record not_missed
 
 -- ---- the rows of the best order
-rows_in : (U : List Task) (places : List PlaceData) → AreInTime U places
-    → All (IsRowOf U) (rows_of U (bounds_of places))
-rows_in U [] each = All-nil (IsRowOf U)
-rows_in U (p ∷ places) each =
-    All-push (IsRowOf U) (rows_of U (bounds_of places))
-    (drawn_row U (record { task = p.task; bound = Some p.response })) (rows_in U places each.1)
-    (p.task, each.0.in_set, refl)
+rows_in : (U : List Task) (places : List PlaceData) (number : List ℕ → Option ℕ)
+    → AreInTime U places → All (IsRowOf U) (rows_of U number (bounds_of places))
+rows_in U [] number each = All-nil (IsRowOf U)
+rows_in U (p ∷ places) number each =
+    All-push (IsRowOf U) (rows_of U number (bounds_of places))
+    (drawn_row U number (record { task = p.task; bound = Some p.response }))
+    (rows_in U places number each.1) (p.task, each.0.in_set, refl)
 
-pub best_rows : (U : List Task) (places : List PlaceData) → IsTaskSet U → IsBestPlacing U places
-    → All (IsRowOf U) (rows_of U (bounds_of places))
-best_rows U places set best = rows_in U places (best-in_time U places set best)
+pub best_rows : (U : List Task) (places : List PlaceData) (number : List ℕ → Option ℕ)
+    → IsTaskSet U → IsBestPlacing U places → All (IsRowOf U) (rows_of U number (bounds_of places))
+best_rows U places number set best = rows_in U places number (best-in_time U places set best)

@@ -1,5 +1,5 @@
 //! Laws of the pictures of runs. Each is the contract of a function that does nothing.
-ghost use Rattle.std.specs.Prelude.{◌≡◌, ℕ, List, All, Ok, length};
+ghost use Rattle.std.specs.Prelude.{◌≡◌, ℕ, List, All, Ok, Option, length};
 ghost use Rattle.task_sheet.specs.Sheet.{Task};
 ghost use Rattle.task_sheet.specs.TaskSet.{IsTaskSet};
 ghost use Rattle.assignment.specs.Places.{PlaceData};
@@ -29,8 +29,8 @@ pub fn none_is_missed()
     ensures counted { (U : List Task) (places : List PlaceData) (rs : List Release) (until : ℕ) (trace : Trace)
         (rows : List TaskRow) (v : View) → IsBestRun U places rs until trace rows
         → all_missed (frame_of rows v until) rows trace.jobs.items ≡ 0 }
-    ensures rows { (U : List Task) (places : List PlaceData) → IsTaskSet U → IsBestPlacing U places
-        → All (IsRowOf U) (rows_of U (bounds_of places)) }
+    ensures rows { (U : List Task) (places : List PlaceData) (number : List ℕ → Option ℕ) → IsTaskSet U
+        → IsBestPlacing U places → All (IsRowOf U) (rows_of U number (bounds_of places)) }
 {}
 
 /// Each job of the window whose task's row is shown stands in exactly one place, alone or in one band; the box of that place

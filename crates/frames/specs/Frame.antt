@@ -70,11 +70,16 @@ letters_of millis deadline None = 12 + time_letters millis deadline
 abbrev pub limits_letters : (millis : Bool) → TaskRow → ℕ
 limits_letters millis row = letters_of millis row.sheet.deadline row.bound
 
+-- how wide the number of a thread is behind a name, where there is one
+abbrev pub number_room : Option ℕ → ℕ
+number_room None = 0
+number_room (Some number) = if nat_lt number 1000 then 250 else 500
+
 -- how wide the margin is to be for a row
 abbrev pub margin_of : (millis : Bool) → TaskRow → ℕ
 margin_of millis row =
-    min (max (700 + 78 * length row.sheet.name) (560 + 62 * limits_letters millis row))
-    WIDEST_MARGIN
+    min (max (700 + 78 * length row.sheet.name + number_room row.number)
+    (640 + 62 * limits_letters millis row)) WIDEST_MARGIN
 
 -- the widest for some rows, or one that was found before
 abbrev pub widest_margin : (millis : Bool) → ℕ → List TaskRow → ℕ

@@ -13,7 +13,7 @@ each (suc n) text = each n text ++ text n
 
 -- stands past the end of some rows
 abbrev pub no_row : TaskRow
-no_row = record { sheet = no_task; bound = None }
+no_row = record { sheet = no_task; bound = None; number = None }
 
 -- the row at a place, from 0
 abbrev pub row_at : List TaskRow → ℕ → TaskRow

@@ -1,9 +1,10 @@
 -- What part of a run is drawn, and how.
-use Rattle.std.specs.Prelude.{ℕ, min, max, Bool, ◌||◌, ◌==◌, nat_le, if◌then◌else◌, List, [], ◌∷◌, ◌++◌, length}
+use Rattle.std.specs.Prelude.{ℕ, min, max, Bool, ◌==◌, nat_le, if◌then◌else◌, List, [], ◌∷◌, ◌++◌, length}
 use Rattle.std.specs.List.{list_any, filter, range_with_len}
 use Rattle.std.specs.Option.{unwrap_or}
 use Rattle.task_sheet.specs.Sheet.{same_bytes}
 use Rattle.ceiling_kernel.specs.declared.accept.TheConstants.{HORIZON}
+use Rattle.ceiling_kernel.specs.declared.trace.Release.{Release}
 use Rattle.frames.specs.declared.rows.TaskRow.{TaskRow}
 use Rattle.frames.specs.declared.view.View.{View}
 use Rattle.frames.specs.Rows.{name_in}
@@ -26,15 +27,20 @@ is_empty v until = nat_le (window_end v until) v.from
 abbrev pub is_among : List (List ℕ) → List ℕ → Bool
 is_among names name = list_any (λ n. same_bytes n name) names
 
--- a task has a row: it is named, or none is
-abbrev pub is_chosen : List (List ℕ) → List ℕ → Bool
-is_chosen names name = (length names == 0) || is_among names name
+-- a task has a release in a list
+abbrev pub is_released : List Release → List ℕ → Bool
+is_released rs name = list_any (λ (r : Release). same_bytes r.name name) rs
+
+-- a task has a row: it is named; where none is, the list has a release of it
+abbrev pub is_chosen : List (List ℕ) → List Release → List ℕ → Bool
+is_chosen names rs name =
+    if length names == 0 then is_released rs name else is_among names name
 
 -- some ranks, and one more where its row is shown
 abbrev pub noted_rank : List ℕ → (rank : ℕ) → Bool → List ℕ
 noted_rank ranks rank shown = if shown then ranks ++ rank ∷ [] else ranks
 
 -- the rows that are shown, by their ranks from 0
-abbrev pub shown_of : List (List ℕ) → List TaskRow → List ℕ
-shown_of names rows =
-    filter (λ rank. is_chosen names (name_in rows rank)) (range_with_len 0 (length rows))
+abbrev pub shown_of : List (List ℕ) → List Release → List TaskRow → List ℕ
+shown_of names rs rows =
+    filter (λ rank. is_chosen names rs (name_in rows rank)) (range_with_len 0 (length rows))

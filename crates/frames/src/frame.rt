@@ -3,7 +3,7 @@ ghost use Rattle.std.specs.Prelude.{◌+◌, ◌<◌, ◌≡◌, ◌≤◌, leng
 ghost use Rattle.ceiling_kernel.specs.declared.accept.TheConstants.{HORIZON};
 ghost use Rattle.task_sheet.specs.declared.set.TheConstants.{TASK_LIMIT};
 ghost use Rattle.task_sheet.specs.declared.sheet.TheConstants.{PERIOD_TO};
-ghost use Rattle.frames.specs.Frame.{Frame, IsFrame, decade_of, ended, frame_end, frame_of, in_millis, is_in_millis, is_wide, least_period, left_of, level_of, limits_letters, margin_of, millis_letters, sees, span_of, step_of, steps_before, time_letters, tone_of, top_of, whole_digits, x_of};
+ghost use Rattle.frames.specs.Frame.{Frame, IsFrame, decade_of, ended, frame_end, frame_of, in_millis, is_in_millis, is_wide, least_period, left_of, level_of, limits_letters, margin_of, millis_letters, number_room, sees, span_of, step_of, steps_before, time_letters, tone_of, top_of, whole_digits, x_of};
 ghost use Rattle.frames.specs.declared.frame.TheConstants.{LOWEST_TOP, NARROWEST, RIGHTMOST, WIDEST_DECADE, WIDEST_MARGIN, WIDEST_STEP};
 
 use crate::rows::TaskRow;
@@ -135,13 +135,24 @@ fn limits_letters(millis: bool, row: &TaskRow) -> u64
     }
 }
 
+// How wide the number of a thread is behind a name, where there is one.
+fn number_room(number: Option<u64>) -> u64
+    ensures value { result ≡ number_room number }
+    ensures few { result ≤ 500 }
+{
+    match number {
+        Some(number) => if number < 1_000 { 250 } else { 500 },
+        None => 0,
+    }
+}
+
 // How wide the margin is to be for a row.
 fn margin_of(millis: bool, row: &TaskRow) -> u64
     ensures { result ≡ margin_of millis row.now }
 {
     let letters = (row.sheet.name().bytes().len() as u64).min(WIDEST_MARGIN);
-    (700 + 78 * letters)
-        .max(560 + 62 * limits_letters(millis, row))
+    (700 + 78 * letters + number_room(row.number))
+        .max(640 + 62 * limits_letters(millis, row))
         .min(WIDEST_MARGIN)
 }
 

@@ -5,11 +5,13 @@ ghost use Rattle.frames.specs.Rows.{name_in, place_in, record_at, row_named};
 use ceiling_kernel::JobRecord;
 use task_sheet::{Name, Sheet};
 
-/// A row: a task, and how long after its arrival each of its jobs is done at the latest, where that is known; in microseconds.
+/// A row: a task, and how long after its arrival each of its jobs is done at the latest, where that is known; in microseconds;
+/// and the number of its thread, where settings say it.
 #[derive(Drop)]
 pub struct TaskRow {
     pub sheet: Sheet,
     pub bound: Option<u64>,
+    pub number: Option<u64>,
 }
 
 /// Where a row stands that is shown: its rank among all, and its place in the picture, each from 0, the highest first.

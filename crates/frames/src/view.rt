@@ -1,10 +1,10 @@
 //! What part of a run is drawn, and how.
 ghost use Rattle.std.specs.Prelude.{◌<◌, ◌≡◌, ◌≤◌, All, IfOk, None, OnOk, [], length};
 ghost use Rattle.ceiling_kernel.specs.declared.accept.TheConstants.{HORIZON};
-ghost use Rattle.frames.specs.View.{end_of_run, is_chosen, is_empty, noted_rank, shown_of, window_end};
+ghost use Rattle.frames.specs.View.{end_of_run, is_chosen, is_empty, is_released, noted_rank, shown_of, window_end};
 
 use crate::rows::{TaskRow, name_in};
-use ceiling_kernel::HORIZON;
+use ceiling_kernel::{HORIZON, Release};
 use std::alloc::{AllocError, Global};
 use task_sheet::Name;
 
@@ -19,7 +19,7 @@ pub struct View {
     pub width: Option<u64>,
     /// What stands before the verdict, in UTF-8; nothing where it is empty.
     pub title: Vec<u8>,
-    /// The tasks that have rows; all where none is named.
+    /// The tasks that have rows; where none is named, those of which the list has a release.
     pub tasks: Vec<Name>,
 }
 
@@ -58,11 +58,27 @@ pub(crate) fn window_end(view: &View, until: u64) -> u64
     view.to.unwrap_or(end).min(end)
 }
 
-// Whether a task has a row.
-fn is_chosen(names: &[Name], name: Name) -> bool
-    ensures { result ≡ is_chosen names.now name }
+// Whether a task has a release in a list.
+fn is_released(releases: &[Release], name: Name) -> bool
+    ensures { result ≡ is_released releases.now name }
 {
-    names.is_empty() || names.contains(&name)
+    for release in releases {
+        if release.name == name {
+            return true;
+        }
+    }
+    false
+}
+
+// Whether a task has a row.
+fn is_chosen(names: &[Name], releases: &[Release], name: Name) -> bool
+    ensures { result ≡ is_chosen names.now releases.now name }
+{
+    if names.is_empty() {
+        is_released(releases, name)
+    } else {
+        names.contains(&name)
+    }
 }
 
 // Notes a row that is shown.
@@ -75,15 +91,22 @@ fn note(shown: &mut Vec<usize>, rank: usize, is_shown: bool) -> Result<(), Alloc
     Ok(())
 }
 
-/// The rows that are shown, by their ranks.
-pub fn shown_of(alloc: Global, names: &[Name], rows: &[TaskRow]) -> Result<Vec<usize>, AllocError>
-    ensures shown { IfOk result (λ shown. shown.items ≡ shown_of names.now rows.now) }
+/// The rows that are shown, by their ranks: those that are named, or where none is, those of which a list has a release.
+pub fn shown_of(
+    alloc: Global,
+    names: &[Name],
+    releases: &[Release],
+    rows: &[TaskRow],
+) -> Result<Vec<usize>, AllocError>
+    ensures shown { IfOk result (λ shown. shown.items
+        ≡ shown_of names.now releases.now rows.now) }
     ensures within { IfOk result (λ shown. All (λ rank. rank < length rows.now) shown.items) }
     ensures few { IfOk result (λ shown. length shown.items ≤ length rows.now) }
 {
     let mut shown = Vec::new(alloc);
     for rank in 0..rows.len() {
-        note(&mut shown, rank, is_chosen(names, name_in(rows, rank)))?;
+        let is_shown = is_chosen(names, releases, name_in(rows, rank));
+        note(&mut shown, rank, is_shown)?;
     }
     Ok(shown)
 }

@@ -1,2 +1,3 @@
 pub mod OwnerLaws
 pub mod FollowerLaws
+pub mod PartLaws

@@ -1,3 +1,4 @@
 pub mod Followers
 pub mod Owners
 pub mod NamedLines
+pub mod Parts

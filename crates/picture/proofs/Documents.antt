@@ -21,7 +21,7 @@ pub document_of : (rows : List TaskRow) (v : View) (until : ℕ) (rs : List Rele
     (f : Frame) (title : List ℕ) (locks : List (List ℕ)) (shown : List ℕ) (jobs : List JobRecord)
     (slices : List Slice)
     → f ≡ frame_of rows v until → title ≡ v.title.items → locks ≡ locks_of rows → shown
-    ≡ shown_of v.tasks.items rows → jobs ≡ trace.jobs.items → slices ≡ trace.slices.items
+    ≡ shown_of v.tasks.items rs rows → jobs ≡ trace.jobs.items → slices ≡ trace.slices.items
     → framed f title locks rows shown until rs jobs slices ≡ document rows v until rs trace
 document_of rows v until rs trace f title locks shown jobs slices frame titled locked chosen
     job slice =

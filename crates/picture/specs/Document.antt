@@ -126,5 +126,5 @@ framed f title locks rows shown until rs jobs slices =
 -- THE DOCUMENT: the picture of a trace below a time, as a view has it
 abbrev pub document : List TaskRow → View → ℕ → List Release → Trace → List ℕ
 document rows v until rs trace =
-    framed (frame_of rows v until) v.title.items (locks_of rows) rows (shown_of v.tasks.items rows)
+    framed (frame_of rows v until) v.title.items (locks_of rows) rows (shown_of v.tasks.items rs rows)
     until rs trace.jobs.items trace.slices.items

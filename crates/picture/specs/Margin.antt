@@ -10,7 +10,7 @@ use Rattle.frames.specs.declared.rows.TaskRow.{TaskRow}
 use Rattle.frames.specs.declared.rows.Spot.{Spot}
 use Rattle.frames.specs.Frame.{Frame, in_millis, top_of, level_of, tone_of}
 use Rattle.frames.specs.Numbers.{known_text, time_text, unit_text}
-use Rattle.drawn_jobs.specs.Misses.{missed_in}
+use Rattle.drawn_jobs.specs.Misses.{latest_in, missed_in}
 
 -- a row's level, and the tone of its task
 abbrev pub level_text : Frame → Spot → List ℕ
@@ -25,10 +25,17 @@ level_text f spot =
 abbrev pub name_class : (missed : ℕ) → List ℕ
 name_class missed = if missed == 0 then codes "n" else codes "n q"
 
--- the name of a row, with what its jobs came to as its title: how many are done, the greatest response among them, and the
+-- the number of a row's thread, where settings say it, and it isn't the row's level
+abbrev pub number_words : (level : ℕ) → Option ℕ → List ℕ
+number_words level None = []
+number_words level (Some number) =
+    if number == level then []
+    else concat (codes "<tspan class=\"nn\" dx=\"45\">" ∷ decimal number ∷ codes "</tspan>" ∷ [])
+
+-- the name of a row, and the number, with what its jobs came to as its title: how many are done, the greatest response among them, and the
 -- row's bound
-abbrev pub name_text : (missed : ℕ) → List JobRecord → ℕ → TaskRow → List ℕ
-name_text missed jobs k row =
+abbrev pub name_text : (missed : ℕ) → List JobRecord → (k level : ℕ) → TaskRow → List ℕ
+name_text missed jobs k level row =
     concat (codes "<text class=\"" ∷ name_class missed ∷ codes "\" x=\"500\" y=\""
     ∷ decimal (top_of k + 230)
     ∷ codes "\"><title>done: " ∷ decimal (length (done_of row.sheet.name jobs))
@@ -36,7 +43,7 @@ name_text missed jobs k row =
     ++ greatest_words (length (done_of row.sheet.name jobs))
     (greatest_of response_of (done_of row.sheet.name jobs))
     ++ concat (codes ", bound: " ∷ known_text row.bound ∷ codes " us</title>" ∷ row.sheet.name
-    ∷ codes "</text>\n" ∷ [])
+    ∷ number_words level row.number ∷ codes "</text>\n" ∷ [])
 
 -- the bound and the deadline, in the picture's unit; without a bound the deadline
 abbrev pub limits_text : (millis : Bool) → ℕ → TaskRow → Option ℕ → List ℕ
@@ -50,17 +57,23 @@ limits_text millis k row None =
     ∷ time_text millis row.sheet.deadline
     ∷ unit_text millis ∷ codes "</text>\n" ∷ [])
 
--- below them how many deadlines are missed, where some are
-abbrev pub missed_line : (missed : ℕ) → ℕ → List ℕ
-missed_line missed k =
+-- by how much, where a job is done late
+abbrev pub late_words : (millis : Bool) → (late : ℕ) → List ℕ
+late_words millis late =
+    if late == 0 then []
+    else concat (codes ", " ∷ time_text millis late ∷ unit_text millis ∷ codes " late" ∷ [])
+
+-- below them how many deadlines are missed, where some are, and by how much at most
+abbrev pub missed_line : (millis : Bool) → (missed late : ℕ) → ℕ → List ℕ
+missed_line millis missed late k =
     if missed == 0 then []
-    else concat (codes "<text class=\"q\" x=\"500\" y=\"" ∷ decimal (top_of k + 460)
-    ∷ codes "\">deadlines missed: " ∷ decimal missed
+    else concat (codes "<text class=\"qn\" x=\"500\" y=\"" ∷ decimal (top_of k + 460) ∷ codes "\">missed: "
+    ∷ decimal missed ∷ late_words millis late
     ∷ codes "</text>\n" ∷ [])
 
 -- a row's part of the margin
 abbrev pub margin_text : Frame → List JobRecord → Spot → TaskRow → List ℕ
 margin_text f jobs spot row =
-    level_text f spot ++ name_text (missed_in f row jobs) jobs spot.k row
+    level_text f spot ++ name_text (missed_in f row jobs) jobs spot.k (level_of f spot.rank) row
     ++ limits_text (in_millis f) spot.k row row.bound
-    ++ missed_line (missed_in f row jobs) spot.k
+    ++ missed_line (in_millis f) (missed_in f row jobs) (latest_in row jobs) spot.k

@@ -45,7 +45,7 @@ pub fn draw(
     ensures { IfOk result (λ text. text.items ≡ document rows.now view.now until releases.now
         trace.now) }
 {
-    let shown = shown_of(alloc, &view.tasks, rows)?;
+    let shown = shown_of(alloc, &view.tasks, releases, rows)?;
     let locks = locks_of(alloc, rows)?;
     let slices: &[Slice] = &trace.slices;
     let chart = Chart {

@@ -1,12 +1,12 @@
 //! The margin: each row's level, tone and name, and how long its jobs take at most.
 ghost use Rattle.std.specs.Prelude.{◌≡◌, ◌++◌, codes};
-ghost use Rattle.frames.specs.Frame.{in_millis};
+ghost use Rattle.frames.specs.Frame.{in_millis, level_of};
 ghost use Rattle.frames.specs.Page.{Adds};
 ghost use Rattle.picture.specs.Document.{margin_group, margins_text};
-ghost use Rattle.picture.specs.Margin.{level_text, limits_text, margin_text, missed_line, name_class, name_text};
+ghost use Rattle.picture.specs.Margin.{late_words, level_text, limits_text, margin_text, missed_line, name_class, name_text, number_words};
 
 use ceiling_kernel::JobRecord;
-use drawn_jobs::{missed_in, put_greatest, put_lane_head};
+use drawn_jobs::{latest_in, missed_in, put_greatest, put_lane_head};
 use frames::{
     Chart, Lane, Page, in_millis, level_of, put_known, put_time, put_unit, tone_of, top_of,
 };
@@ -35,9 +35,24 @@ fn put_level(lane: &Lane<'_>, page: &mut Page)
     page.put(b"\" width=\"100\" height=\"100\" rx=\"20\"/>\n")
 }
 
-// The name of a row, with what its jobs came to.
+// The number of a row's thread, where settings say it, and it isn't the row's level.
+fn put_number(level: u64, number: Option<u64>, page: &mut Page)
+    ensures { Adds page.old page.new (number_words level number) }
+{
+    let Some(number) = number else {
+        return;
+    };
+    if number == level {
+        return;
+    }
+    page.number(b"<tspan class=\"nn\" dx=\"45\">", number);
+    page.put(b"</tspan>")
+}
+
+// The name of a row, and the number, with what its jobs came to.
 fn put_row_name(missed: usize, lane: &Lane<'_>, jobs: &[JobRecord], page: &mut Page)
-    ensures { Adds page.old page.new (name_text missed jobs.now lane.now.spot.k lane.now.row.now) }
+    ensures { Adds page.old page.new (name_text missed jobs.now lane.now.spot.k (level_of
+        lane.now.frame lane.now.spot.rank) lane.now.row.now) }
 {
     let name = lane.row.sheet.name();
     let outcome = outcome_of(jobs, name);
@@ -47,6 +62,7 @@ fn put_row_name(missed: usize, lane: &Lane<'_>, jobs: &[JobRecord], page: &mut P
     put_greatest(outcome, page);
     put_known(b", bound: ", lane.row.bound, page);
     page.name(b" us</title>", name);
+    put_number(level_of(lane.frame, lane.spot.rank), lane.row.number, page);
     page.put(b"</text>\n")
 }
 
@@ -74,18 +90,32 @@ fn put_limits(lane: &Lane<'_>, page: &mut Page)
     }
 }
 
-// Below them how many deadlines are missed, where some are.
-fn put_missed_line(missed: usize, lane: &Lane<'_>, page: &mut Page)
-    ensures { Adds page.old page.new (missed_line missed lane.now.spot.k) }
+// By how much, where a job is done late.
+fn put_late(millis: bool, late: u64, page: &mut Page)
+    ensures { Adds page.old page.new (late_words millis late) }
+{
+    if late == 0 {
+        return;
+    }
+    put_time(b", ", millis, late, page);
+    put_unit(millis, page);
+    page.put(b" late")
+}
+
+// Below them how many deadlines are missed, where some are, and by how much at most.
+fn put_missed_line(missed: usize, late: u64, lane: &Lane<'_>, page: &mut Page)
+    ensures { Adds page.old page.new (missed_line (in_millis lane.now.frame) missed late
+        lane.now.spot.k) }
 {
     if missed == 0 {
         return;
     }
     page.number(
-        b"<text class=\"q\" x=\"500\" y=\"",
+        b"<text class=\"qn\" x=\"500\" y=\"",
         top_of(lane.spot.k) + 460,
     );
-    page.number(b"\">deadlines missed: ", missed as u64);
+    page.number(b"\">missed: ", missed as u64);
+    put_late(in_millis(lane.frame), late, page);
     page.put(b"</text>\n")
 }
 
@@ -98,7 +128,7 @@ fn put_margin(lane: &Lane<'_>, jobs: &[JobRecord], page: &mut Page)
     put_level(lane, page);
     put_row_name(missed, lane, jobs, page);
     put_limits(lane, page);
-    put_missed_line(missed, lane, page)
+    put_missed_line(missed, latest_in(lane.row, jobs), lane, page)
 }
 
 // The rows' parts.

@@ -9,6 +9,8 @@ pub(crate) const STYLE: &str = concat!(
     ".t{font:bold 150px sans-serif;fill:#111}",
     // names of rows
     ".n{font:bold 130px monospace;fill:#111}",
+    // numbers of threads, behind them
+    ".nn{font:110px monospace}",
     // levels
     ".v{font-size:110px;text-anchor:end}",
     // the scale's numbers
@@ -46,6 +48,7 @@ pub(crate) const STYLE: &str = concat!(
     ".z{fill:url(#m);stroke:#c40000;stroke-width:14}",
     ".i{stroke:#c40000;stroke-width:22;fill:none}",
     ".q{fill:#c40000;font-weight:bold}",
+    ".qn{fill:#c40000}",
     // tasks, by tone
     ".f0{fill:#7fb2e5}",
     ".f1{fill:#f3dd7c}",
@@ -140,7 +143,7 @@ pub(crate) const STYLE: &str = concat!(
     ".y{stroke:#14181d}",
     ".z{stroke:#ff5c5c}",
     ".i{stroke:#ff5c5c}",
-    ".q{fill:#ff7b7b}",
+    ".q,.qn{fill:#ff7b7b}",
     // tasks, by tone
     ".f0{fill:#3b6ea3}",
     ".f1{fill:#8f7a1e}",

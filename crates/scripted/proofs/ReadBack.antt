@@ -1,7 +1,7 @@
 -- The script of a set says the set.
 use Rattle.std.proofs.Common.{◌≡◌, ◌∙◌, ◌==◌, ◌+◌, ◌<◌, ◌≤◌, ◌^◌, ℕ, zero, suc, Bool, true, false}
 use Rattle.std.proofs.Common.{List, [], ◌∷◌, ◌++◌, map, length, codes, bytes_eq, Option, Some, None}
-use Rattle.std.proofs.Common.{Ok, if◌then◌else◌, refl, sym, ap, subst, arith, append_assoc}
+use Rattle.std.proofs.Common.{All, Ok, if◌then◌else◌, refl, sym, ap, subst, arith, append_assoc}
 use Rattle.std.specs.List.{slice_split, join_with_byte, AllByRecursion}
 use Rattle.std.specs.Char.{is_ascii_digit}
 use Rattle.std.specs.Fmt.{decimal}
@@ -35,9 +35,12 @@ use Rattle.scripts.specs.Rows.{value_or_zero, word_names}
 use Rattle.scripts.specs.Script.{script_from, script_in}
 use Rattle.scripts.proofs.Nodes.{overheads_tested, interrupts_tested}
 use Rattle.scripts.specs.declared.line.Row.TheVariants.{Open, Put, Commit}
-use Rattle.scripted.specs.Scripted.{delay_words, interrupt_word, interrupt_words, lines_from}
-use Rattle.scripted.specs.Scripted.{lines_of_set, node_numbers, node_words, over_words, plus_names}
-use Rattle.scripted.specs.Scripted.{put_line, put_lines, script_of, section_word, section_words}
+use Rattle.scripts.specs.declared.line.Line.{Line}
+use Rattle.scripted.specs.Scripted.{commit_line, delay_words, draft_of, drafts_from, interrupt_word}
+use Rattle.scripted.specs.Scripted.{interrupt_words, lines_from, lines_of_draft, lines_of_drafts}
+use Rattle.scripted.specs.Scripted.{lines_of_set, lines_of_teams, node_numbers, node_words}
+use Rattle.scripted.specs.Scripted.{number_behind, over_words, plus_names, put_line, put_lines}
+use Rattle.scripted.specs.Scripted.{script_of, script_of_teams, section_word, section_words}
 use Rattle.scripted.specs.Scripted.{spaced, value_words}
 
 -- ---- first words
@@ -50,12 +53,11 @@ name_next : (name : List ℕ) (ws : List (List ℕ)) → IsName name
 unfolding next_name
 name_next name ws is = rw is refl
 
-number_one : number_in (codes "1") ≡ Some 1
-number_one = ap number_in (sym (decimal_digit 1 (omega arith))) ∙ number_again 1 (omega arith)
-
-draft_next : (ws : List (List ℕ)) → next_draft 1 (codes "1" ∷ ws) ≡ Ok (1, ws)
+draft_next : (opened draft : ℕ) (ws : List (List ℕ)) → 1 ≤ draft → draft ≤ opened → draft < 10 ^ 10
+    → next_draft opened (decimal draft ∷ ws) ≡ Ok (draft, ws)
 unfolding next_draft
-draft_next ws = ap (λ (o : Option ℕ). or_bad (up_to 1 o) >>= λ k. Ok (k, ws)) number_one
+draft_next opened draft ws from to short =
+    rw (number_again draft short, le-leb 1 draft from, le-leb draft opened to) refl
 
 -- ---- names
 names_each : (names : List (List ℕ)) → AllByRecursion IsName names → word_names names ≡ Ok names
@@ -470,8 +472,8 @@ abbrev more_words : Task → List (List ℕ)
 more_words t = field_words (codes "j") (delay_value t.jitter) ++ over_rest t
 
 -- the words behind `put`
-abbrev put_words : Task → List (List ℕ)
-put_words t = codes "1" ∷ t.name ∷ decimal t.weight ∷ decimal t.period ∷ decimal t.deadline
+abbrev put_words : ℕ → Task → List (List ℕ)
+put_words draft t = decimal draft ∷ t.name ∷ decimal t.weight ∷ decimal t.period ∷ decimal t.deadline
     ∷ decimal t.cost ∷ more_words t
 
 spaced_append : (vs ws : List (List ℕ)) → spaced (vs ++ ws) ≡ spaced vs ++ spaced ws
@@ -503,15 +505,15 @@ spaced_joined : (w : List ℕ) (ws : List (List ℕ)) → w ++ spaced ws ≡ joi
 spaced_joined w [] = append-nil w
 spaced_joined w (v ∷ ws) = ap (λ (l : List ℕ). w ++ 32 ∷ l) (spaced_joined v ws)
 
-put_shape : (t : Task) → put_line t ≡ join_with_byte 32 (codes "put" ∷ put_words t)
-put_shape t =
-    let V : List (List ℕ) = value_words t in
+put_shape : (draft : ℕ) (t : Task) → put_line draft t ≡ join_with_byte 32 (codes "put" ∷ put_words draft t)
+put_shape draft t =
+    let V : List (List ℕ) = value_words draft t in
     regroup (codes "put") (spaced V) (spaced (delay_words t.jitter))
     (spaced (over_words t.outranks)) (spaced (node_words t.node))
     (spaced (interrupt_words t.interrupts)) (spaced (section_words t.sections))
     ∙ ap (λ (l : List ℕ). codes "put" ++ l)
     (sym (spaced_append V (more_words t) ∙ ap (λ (l : List ℕ). spaced V ++ l) (more_spaced t)))
-    ∙ spaced_joined (codes "put") (put_words t)
+    ∙ spaced_joined (codes "put") (put_words draft t)
   where
     regroup : (p v d o n i s : List ℕ)
         → ((p ++ v) ++ (((d ++ o) ++ n) ++ i)) ++ s ≡ p ++ (v ++ (d ++ (o ++ (n ++ (i ++ s)))))
@@ -604,8 +606,9 @@ module _ (c : ℕ) (apart : IsApart c) (equals : (61 == c) ≡ false) where
   field_apart key (Some value) ws lacks none each =
       (lacks_append c key (61 ∷ value) lacks (record { none = (equals, none.none) }), each)
 
-  put_apart : (t : Task) → IsValidSheet t → AllByRecursion (λ v. Lacks c v) (put_words t)
-  put_apart t is =
+  put_apart : (draft : ℕ) (t : Task) → draft < 10 ^ 10 → IsValidSheet t
+      → AllByRecursion (λ v. Lacks c v) (put_words draft t)
+  put_apart draft t few is =
       let short = short_sheet t is in
       let key = λ (key : List ℕ) (named : IsName key). name_lacks c key apart.name named in
       let irq = field_apart (codes "irq") (interrupt_value t.interrupts)
@@ -617,8 +620,7 @@ module _ (c : ℕ) (apart : IsApart c) (equals : (61 == c) ≡ false) where
       (key (codes "over") refl) (over_lacks c t.outranks apart short.names) node in
       let more = field_apart (codes "j") (delay_value t.jitter) (over_rest t)
       (key (codes "j") refl) (delay_lacks c t.jitter apart short.jitter) over in (
-        subst (λ (w : List ℕ). Lacks c w) (decimal_digit 1 (omega arith))
-            (number_apart 1 (omega arith)),
+        number_apart draft few,
         (
           name_lacks c t.name apart.name is.named,
           (
@@ -639,72 +641,130 @@ end_apart : IsApart 10
 end_apart =
     record { name = refl; digit = refl; plus = refl; sign = refl; colon = refl; star = refl }
 
-put_again : (ws : List (List ℕ)) (t : Task) → sheet_in ws ≡ Ok t
-    → row_in 1 (codes "put" ∷ codes "1" ∷ ws) ≡ Ok (Put 1 t)
-unfolding row_in put_in
-put_again ws t is = rw (draft_next ws, is) refl
+-- a line of a draft, of which so many were opened
+record IsOpen (opened draft : ℕ) : Type 0 where
+  from : 1 ≤ draft
+  to : draft ≤ opened
+  few : draft < 10 ^ 10
 
-line_again : (t : Task) → IsValidSheet t → row_in 1 (words (put_line t)) ≡ Ok (Put 1 t)
-line_again t is =
-    ap (λ (l : List ℕ). row_in 1 (words l)) (put_shape t)
-    ∙ ap (row_in 1) (joined_again 32 (codes "put") (put_words t)
-    (name_lacks 32 (codes "put") refl refl) (put_apart 32 space_apart refl t is))
-    ∙ put_again _ t (sheet_again t is)
+module _ (opened draft : ℕ) (held : IsOpen opened draft) where
+  put_again : (ws : List (List ℕ)) (t : Task) → sheet_in ws ≡ Ok t
+      → row_in opened (codes "put" ∷ decimal draft ∷ ws) ≡ Ok (Put draft t)
+  unfolding row_in put_in
+  put_again ws t is = rw (draft_next opened draft ws held.from held.to held.few, is) refl
 
-put_ends : (t : Task) → IsValidSheet t → Lacks 10 (put_line t)
-put_ends t is = subst (λ (l : List ℕ). Lacks 10 l) (sym (put_shape t))
-    (joined_lacks 32 10 (codes "put" ∷ put_words t) refl
-    (name_lacks 10 (codes "put") refl refl, put_apart 10 end_apart refl t is))
+  line_again : (t : Task) → IsValidSheet t
+      → row_in opened (words (put_line draft t)) ≡ Ok (Put draft t)
+  line_again t is =
+      ap (λ (l : List ℕ). row_in opened (words l)) (put_shape draft t)
+      ∙ ap (row_in opened) (joined_again 32 (codes "put") (put_words draft t)
+      (name_lacks 32 (codes "put") refl refl) (put_apart 32 space_apart refl draft t held.few is))
+      ∙ put_again _ t (sheet_again t is)
 
-commit_again : row_in 1 (words (codes "commit 1")) ≡ Ok (Commit 1)
-unfolding row_in only_draft
-commit_again = rw (draft_next []) refl
+  put_ends : (t : Task) → IsValidSheet t → Lacks 10 (put_line draft t)
+  put_ends t is = subst (λ (l : List ℕ). Lacks 10 l) (sym (put_shape draft t))
+      (joined_lacks 32 10 (codes "put" ∷ put_words draft t) refl
+      (name_lacks 10 (codes "put") refl refl, put_apart 10 end_apart refl draft t held.few is))
 
-open_again : (team : ℕ) → 1 ≤ team → team ≤ TEAM_LIMIT
-    → row_in 0 (codes "open" ∷ decimal team ∷ []) ≡ Ok (Open team)
+  commit_row : row_in opened (codes "commit" ∷ decimal draft ∷ []) ≡ Ok (Commit draft)
+  unfolding row_in only_draft
+  commit_row = rw (draft_next opened draft [] held.from held.to held.few) refl
+
+  commit_again : row_in opened (words (commit_line draft)) ≡ Ok (Commit draft)
+  commit_again =
+      ap (row_in opened) (joined_again 32 (codes "commit") (decimal draft ∷ [])
+      (name_lacks 32 (codes "commit") refl refl) (number_lacks 32 draft refl (omega (arith, held.few)), tt))
+      ∙ commit_row
+
+  commit_ends : Lacks 10 (commit_line draft)
+  commit_ends = joined_lacks 32 10 (codes "commit" ∷ decimal draft ∷ []) refl
+      (name_lacks 10 (codes "commit") refl refl, (number_lacks 10 draft refl (omega (arith, held.few)), tt))
+
+  -- ---- all lines of a draft
+  put_texts : List Task → List (List ℕ)
+  put_texts [] = commit_line draft ∷ []
+  put_texts (t ∷ U) = put_line draft t ∷ put_texts U
+
+  texts_again : (U : List Task) (rest : List ℕ) → AllByRecursion IsValidSheet U
+      → lines_of (put_lines draft U ++ (commit_line draft ++ 10 ∷ rest)) ≡ put_texts U ++ lines_of rest
+  unfolding put_texts
+  texts_again [] rest each = one_more (commit_line draft) rest commit_ends
+  texts_again (t ∷ U) rest each =
+      ap lines_of (regroup (put_line draft t) (codes "\n") (put_lines draft U) (commit_line draft ++ 10 ∷ rest))
+      ∙ one_more (put_line draft t) (put_lines draft U ++ (commit_line draft ++ 10 ∷ rest)) (put_ends t each.0)
+      ∙ ap (λ (l : List (List ℕ)). put_line draft t ∷ l) (texts_again U rest each.1)
+    where
+      regroup : (line end more last : List ℕ)
+          → ((line ++ end) ++ more) ++ last ≡ line ++ (end ++ (more ++ last))
+      regroup line end more last = simp append_assoc
+
+  rows_again : (U : List Task) (number : ℕ) (more : List (List ℕ)) (ls : List Line)
+      → AllByRecursion IsValidSheet U
+      → script_from opened (kept_from (number_behind number U) more) ≡ Ok ls
+      → script_from opened (kept_from number (put_texts U ++ more)) ≡ Ok (lines_from number draft U ++ ls)
+  unfolding script_from put_texts
+  rows_again [] number more ls each behind = rw (commit_again, behind) refl
+  rows_again (t ∷ U) number more ls each behind =
+      rw (line_again t each.0, rows_again U (number + 1) more ls each.1 behind) refl
+
+open_again : (opened team : ℕ) → 1 ≤ team → team ≤ TEAM_LIMIT
+    → row_in opened (codes "open" ∷ decimal team ∷ []) ≡ Ok (Open team)
 unfolding row_in open_in
-open_again team from to =
+open_again opened team from to =
     rw (number_again team (omega (arith, to)), le-leb 1 team from, le-leb team TEAM_LIMIT to) refl
 
--- ---- all lines
-put_texts : List Task → List (List ℕ)
-put_texts [] = codes "commit 1" ∷ []
-put_texts (t ∷ U) = put_line t ∷ put_texts U
-
-texts_again : (U : List Task) → AllByRecursion IsValidSheet U
-    → lines_of (put_lines U ++ codes "commit 1\n") ≡ put_texts U
-unfolding put_texts
-texts_again [] each = refl
-texts_again (t ∷ U) each =
-    ap lines_of (regroup (put_line t) (codes "\n") (put_lines U) (codes "commit 1\n"))
-    ∙ one_more (put_line t) (put_lines U ++ codes "commit 1\n") (put_ends t each.0)
-    ∙ ap (λ (l : List (List ℕ)). put_line t ∷ l) (texts_again U each.1)
+-- a team's draft, and what stands behind it
+draft_again : (opened team number : ℕ) (U : List Task) (rest : List ℕ) (ls : List Line) → 1 ≤ team
+    → team ≤ TEAM_LIMIT → opened < TEAM_LIMIT → AllByRecursion IsValidSheet U
+    → script_from (opened + 1) (kept_from (number_behind (number + 1) U) (lines_of rest)) ≡ Ok ls
+    → script_from opened (kept_from number (lines_of (draft_of (opened + 1) team U ++ rest)))
+    ≡ Ok (lines_of_draft number (opened + 1) team U ++ ls)
+unfolding script_from
+draft_again opened team number U rest ls from to few each behind =
+    let draft : ℕ = opened + 1 in
+    let held : IsOpen (opened + 1) draft =
+    record { from = omega arith; to = omega arith; few = omega (arith, few) } in
+    let first : List ℕ = join_with_byte 32 (codes "open" ∷ decimal team ∷ []) in
+    let last : List ℕ = put_lines draft U ++ (commit_line draft ++ 10 ∷ rest) in
+    let shape : draft_of draft team U ++ rest ≡ first ++ 10 ∷ last =
+    regroup (codes "open ") (decimal team) (put_lines draft U) (commit_line draft) rest in
+    let line = joined_lacks 32 10 (codes "open" ∷ decimal team ∷ []) refl
+    (name_lacks 10 (codes "open") refl refl, (number_lacks 10 team refl (omega (arith, to)), tt)) in
+    let texts = ap lines_of shape ∙ one_more first last line
+    ∙ ap (λ (l : List (List ℕ)). first ∷ l) (texts_again draft draft held U rest each) in
+    let row = ap (row_in opened) (joined_again 32 (codes "open") (decimal team ∷ [])
+    (name_lacks 32 (codes "open") refl refl) (number_lacks 32 team refl (omega (arith, to)), tt))
+    ∙ open_again opened team from to in
+    ap (λ (ls : List (List ℕ)). script_from opened (kept_from number ls)) texts
+    ∙ rw (row, rows_again draft draft held U (number + 1) (lines_of rest) ls each behind) refl
   where
-    regroup : (line end more last : List ℕ)
-        → ((line ++ end) ++ more) ++ last ≡ line ++ (end ++ (more ++ last))
-    regroup line end more last = simp append_assoc
-
-rows_again : (U : List Task) (number : ℕ) → AllByRecursion IsValidSheet U
-    → script_from 1 (kept_from number (put_texts U)) ≡ Ok (lines_from number U)
-unfolding script_from put_texts
-rows_again [] number each = rw commit_again refl
-rows_again (t ∷ U) number each = rw (line_again t each.0, rows_again U (number + 1) each.1) refl
+    regroup : (o team puts commit rest : List ℕ)
+        → (((((o ++ team) ++ codes "\n") ++ puts) ++ commit) ++ codes "\n") ++ rest
+        ≡ (o ++ team) ++ (codes "\n" ++ (puts ++ (commit ++ (codes "\n" ++ rest))))
+    regroup o team puts commit rest = simp append_assoc
 
 pub script_again : (team : ℕ) (U : List Task) → 1 ≤ team → team ≤ TEAM_LIMIT → IsTaskSet U
     → script_in (script_of team U) ≡ Ok (lines_of_set team U)
 unfolding script_from
 script_again team U from to set =
     let each : AllByRecursion IsValidSheet U = recursion_from_All IsValidSheet U set.valid in
-    let number : Lacks 10 (decimal team) = number_lacks 10 team refl (omega (arith, to)) in
-    let space : Lacks 32 (decimal team) = number_lacks 32 team refl (omega (arith, to)) in
-    let first : List ℕ = join_with_byte 32 (codes "open" ∷ decimal team ∷ []) in
-    let shape : script_of team U ≡ first ++ 10 ∷ (put_lines U ++ codes "commit 1\n") =
-    simp append_assoc in
-    let line = joined_lacks 32 10 (codes "open" ∷ decimal team ∷ []) refl
-    (name_lacks 10 (codes "open") refl refl, (number, tt)) in
-    let texts = ap lines_of shape ∙ one_more first (put_lines U ++ codes "commit 1\n") line
-    ∙ ap (λ (l : List (List ℕ)). first ∷ l) (texts_again U each) in
-    let row = ap (row_in 0) (joined_again 32 (codes "open") (decimal team ∷ [])
-    (name_lacks 32 (codes "open") refl refl) (space, tt)) ∙ open_again team from to in
-    ap (λ (ls : List (List ℕ)). script_from 0 (kept_from 1 ls)) texts
-    ∙ rw (row, rows_again U 2 each) refl
+    ap script_in (sym (append-nil (script_of team U)))
+    ∙ draft_again 0 team 1 U [] [] from to (omega arith) each refl
+    ∙ ap Ok (append-nil (lines_of_set team U))
+
+drafts_again : (opened number : ℕ) (parts : List (List Task)) → opened + length parts ≤ TEAM_LIMIT
+    → AllByRecursion (λ U. All IsValidSheet U) parts
+    → script_from opened (kept_from number (lines_of (drafts_from (opened + 1) parts)))
+    ≡ Ok (lines_of_drafts number (opened + 1) parts)
+unfolding script_from
+drafts_again opened number [] few all = refl
+drafts_again opened number (U ∷ parts) few all =
+    draft_again opened (opened + 1) number U (drafts_from (opened + 1 + 1) parts)
+    (lines_of_drafts (number_behind (number + 1) U) (opened + 1 + 1) parts) (omega arith)
+    (omega (arith, few)) (omega (arith, few)) (recursion_from_All IsValidSheet U all.0)
+    (drafts_again (opened + 1) (number_behind (number + 1) U) parts (omega (arith, few)) all.1)
+
+pub teams_again : (parts : List (List Task)) → length parts ≤ TEAM_LIMIT
+    → AllByRecursion (λ U. All IsValidSheet U) parts
+    → script_in (script_of_teams parts) ≡ Ok (lines_of_teams parts)
+teams_again parts few all = drafts_again 0 1 parts (omega (arith, few)) all

@@ -62,9 +62,9 @@ interrupt_words [] = []
 interrupt_words (x ∷ xs) = (codes "irq=" ++ plus_names (map interrupt_word (x ∷ xs))) ∷ []
 
 -- the draft, and what stands in each sheet
-abbrev pub value_words : Task → List (List ℕ)
-value_words t =
-    codes "1" ∷ t.name ∷ decimal t.weight ∷ decimal t.period ∷ decimal t.deadline ∷ decimal t.cost
+abbrev pub value_words : (draft : ℕ) → Task → List (List ℕ)
+value_words draft t =
+    decimal draft ∷ t.name ∷ decimal t.weight ∷ decimal t.period ∷ decimal t.deadline ∷ decimal t.cost
     ∷ []
 
 -- what may be left out, each behind a space
@@ -74,25 +74,64 @@ fields_of t =
     ++ spaced (node_words t.node) ++ spaced (interrupt_words t.interrupts)
 
 -- ---- lines
--- the line that puts a task
-abbrev pub put_line : Task → List ℕ
-put_line t =
-    codes "put" ++ spaced (value_words t) ++ fields_of t ++ spaced (section_words t.sections)
+-- the line that puts a task into a draft
+abbrev pub put_line : (draft : ℕ) → Task → List ℕ
+put_line draft t =
+    codes "put" ++ spaced (value_words draft t) ++ fields_of t ++ spaced (section_words t.sections)
 
 -- those of tasks, each ended by LF
-abbrev pub put_lines : List Task → List ℕ
-put_lines [] = []
-put_lines (t ∷ U) = put_line t ++ codes "\n" ++ put_lines U
+abbrev pub put_lines : (draft : ℕ) → List Task → List ℕ
+put_lines draft [] = []
+put_lines draft (t ∷ U) = put_line draft t ++ codes "\n" ++ put_lines draft U
+
+-- the line that commits a draft
+abbrev pub commit_line : (draft : ℕ) → List ℕ
+commit_line draft = codes "commit " ++ decimal draft
+
+-- a team opens a draft, puts tasks, and commits it
+abbrev pub draft_of : (draft team : ℕ) → List Task → List ℕ
+draft_of draft team U =
+    codes "open " ++ decimal team ++ codes "\n" ++ put_lines draft U ++ commit_line draft
+    ++ codes "\n"
 
 -- a team opens the draft 1, puts all tasks by rank, and commits it
 abbrev pub script_of : ℕ → List Task → List ℕ
-script_of team U = codes "open " ++ decimal team ++ codes "\n" ++ put_lines U ++ codes "commit 1\n"
+script_of team U = draft_of 1 team U
+
+-- the teams from this number on do so, each with its part of the tasks, in the draft of its number
+abbrev pub drafts_from : ℕ → List (List Task) → List ℕ
+drafts_from number [] = []
+drafts_from number (U ∷ parts) = draft_of number number U ++ drafts_from (number + 1) parts
+
+abbrev pub script_of_teams : List (List Task) → List ℕ
+script_of_teams parts = drafts_from 1 parts
 
 -- ---- what they say
--- tasks are put, from the line with this number on, and the draft is committed
-abbrev pub lines_from : ℕ → List Task → List Line
-lines_from number [] = record { number = number; row = Commit 1 } ∷ []
-lines_from number (t ∷ U) = record { number = number; row = Put 1 t } ∷ lines_from (number + 1) U
+-- tasks are put into a draft, from the line with this number on, and it is committed
+abbrev pub lines_from : ℕ → (draft : ℕ) → List Task → List Line
+lines_from number draft [] = record { number = number; row = Commit draft } ∷ []
+lines_from number draft (t ∷ U) =
+    record { number = number; row = Put draft t } ∷ lines_from (number + 1) draft U
+
+-- the number of the line behind those
+abbrev pub number_behind : ℕ → List Task → ℕ
+number_behind number [] = number + 1
+number_behind number (t ∷ U) = number_behind (number + 1) U
+
+-- a team opens the draft before
+abbrev pub lines_of_draft : ℕ → (draft team : ℕ) → List Task → List Line
+lines_of_draft number draft team U =
+    record { number = number; row = Open team } ∷ lines_from (number + 1) draft U
 
 abbrev pub lines_of_set : ℕ → List Task → List Line
-lines_of_set team U = record { number = 1; row = Open team } ∷ lines_from 2 U
+lines_of_set team U = lines_of_draft 1 1 team U
+
+-- the teams from this number on do so, each with its part of the tasks
+abbrev pub lines_of_drafts : ℕ → (team : ℕ) → List (List Task) → List Line
+lines_of_drafts number team [] = []
+lines_of_drafts number team (U ∷ parts) =
+    lines_of_draft number team team U
+    ++ lines_of_drafts (number_behind (number + 1) U) (team + 1) parts
+
+abbrev pub lines_of_teams : List (List Task) → List Line
+lines_of_teams parts = lines_of_drafts 1 1 parts

@@ -1,7 +1,8 @@
 //! The text of a set as a script.
-ghost use Rattle.std.specs.Prelude.{◌≡◌, ◌++◌, OnOk, IfOk, map, string_bytes, codes};
+ghost use Rattle.std.specs.Prelude.{◌≡◌, ◌≤◌, ◌++◌, OnOk, IfOk, length, map, string_bytes, codes};
 ghost use Rattle.task_sheet.specs.SheetFields.{outranks_of};
-ghost use Rattle.scripted.specs.Scripted.{delay_words, fields_of, interrupt_word, interrupt_words, node_words, over_words, plus_names, plus_rest, put_line, put_lines, script_of, section_word, section_words, spaced};
+ghost use Rattle.drafts.specs.declared.team.TheConstants.{TEAM_LIMIT};
+ghost use Rattle.scripted.specs.Scripted.{delay_words, draft_of, fields_of, interrupt_word, interrupt_words, node_words, over_words, plus_names, plus_rest, put_line, put_lines, script_of, script_of_teams, section_word, section_words, spaced};
 
 use drafts::Team;
 use std::alloc::{AllocError, Global};
@@ -132,39 +133,82 @@ fn push_fields(text: &mut String, sheet: &Sheet) -> Result<(), AllocError>
     push_interrupts(text, sheet.interrupts())
 }
 
-// The line that puts a task into the first draft.
-fn push_task(text: &mut String, sheet: &Sheet) -> Result<(), AllocError>
+// The line that puts a task into a draft.
+fn push_task(text: &mut String, draft: u64, sheet: &Sheet) -> Result<(), AllocError>
     ensures { OnOk result (string_bytes text.new
-        ≡ string_bytes text.old ++ put_line sheet.now ++ codes "\n") }
+        ≡ string_bytes text.old ++ put_line draft sheet.now ++ codes "\n") }
 {
     let name = sheet.name();
     let weight = sheet.weight();
     let period = sheet.period();
     let deadline = sheet.deadline();
     let cost = sheet.cost();
-    write!(text, "put 1 {name} {weight} {period} {deadline} {cost}")?;
+    write!(
+        text,
+        "put {draft} {name} {weight} {period} {deadline} {cost}"
+    )?;
     push_fields(text, sheet)?;
     push_sections(text, sheet.sections())?;
     text.push_str("\n")
 }
 
-// Those of all tasks, by rank.
-fn push_tasks(text: &mut String, sheets: &[Sheet]) -> Result<(), AllocError>
-    ensures { OnOk result (string_bytes text.new ≡ string_bytes text.old ++ put_lines sheets.now) }
+// Those of tasks, by rank.
+fn push_tasks(text: &mut String, draft: u64, sheets: &[Sheet]) -> Result<(), AllocError>
+    ensures { OnOk result (string_bytes text.new
+        ≡ string_bytes text.old ++ put_lines draft sheets.now) }
 {
     for sheet in sheets {
-        push_task(text, sheet)?;
+        push_task(text, draft, sheet)?;
     }
     Ok(())
+}
+
+// The draft of a team: it is opened, each task is put, and it is committed.
+fn push_draft(text: &mut String, draft: u64, team: Team, sheets: &[Sheet]) -> Result<(), AllocError>
+    ensures { OnOk result (string_bytes text.new
+        ≡ string_bytes text.old ++ draft_of draft team sheets.now) }
+{
+    let number = team.number();
+    write!(text, "open {number}\n")?;
+    push_tasks(text, draft, sheets)?;
+    write!(text, "commit {draft}\n")
 }
 
 /// The set as a script: a team opens a draft, puts each task by rank, and commits. The error is out of memory.
 pub fn script_text(alloc: Global, team: Team, set: &TaskSet) -> Result<String, AllocError>
     ensures { IfOk result (λ text. string_bytes text ≡ script_of team set.now) }
 {
-    let number = team.number();
-    let mut text = format!(in alloc; "open {number}\n")?;
-    push_tasks(&mut text, set.sheets())?;
-    text.push_str("commit 1\n")?;
+    let mut text = String::new(alloc);
+    push_draft(&mut text, 1, team, set.sheets())?;
+    Ok(text)
+}
+
+// The draft of the team with a number, which is the draft's, too.
+fn push_team(text: &mut String, number: usize, sheets: &[Sheet]) -> Result<(), AllocError>
+    requires from { 1 ≤ number }
+    requires to { number ≤ TEAM_LIMIT }
+    ensures { OnOk result (string_bytes text.new
+        ≡ string_bytes text.old ++ draft_of number number sheets.now) }
+{
+    let number = number as u64;
+    match Team::new(number) {
+        Some(team) => push_draft(text, number, team, sheets),
+        None => unreachable!(),
+    }
+}
+
+/// The parts of a set as a script: one team after the other, from 1, opens a draft, puts each task of its part, and
+/// commits. The error is out of memory.
+pub fn teams_text(alloc: Global, parts: &[Vec<Sheet>]) -> Result<String, AllocError>
+    requires { length parts.now ≤ TEAM_LIMIT }
+    ensures { IfOk result (λ text. string_bytes text
+        ≡ script_of_teams (map (λ part. part.items) parts.now)) }
+{
+    let mut text = String::new(alloc);
+    let mut number = 1;
+    for part in parts {
+        push_team(&mut text, number, part)?;
+        number += 1;
+    }
     Ok(text)
 }

@@ -1,1 +1,2 @@
 pub mod ListedLimits
+pub mod ScriptLaws

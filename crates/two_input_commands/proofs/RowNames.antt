@@ -1,5 +1,5 @@
 -- The names of tasks that have rows in a picture.
-use Rattle.std.proofs.Common.{◌≡◌, ◌∙◌, ℕ, List, [], ◌∷◌, ◌++◌, Option, Some, None, ap, refl, sym}
+use Rattle.std.proofs.Common.{◌≡◌, ◌∙◌, ℕ, List, [], ◌∷◌, ◌++◌, Option, Some, None, false, ap, refl, sym}
 use Rattle.std.proofs.Common.{append_assoc}
 use Rattle.std.specs.Option.{option_or}
 use Rattle.std.proofs.lemmas.List.Folds.{find-append}
@@ -7,7 +7,7 @@ use Rattle.task_sheet.specs.Sheet.{Task}
 use Rattle.std.specs.Prelude.{Err}
 use Rattle.answering.specs.declared.refusal.CommandRefusal.{CommandRefusal}
 use Rattle.answering.specs.declared.refusal.CommandRefusal.TheVariants as refusal
-use Rattle.two_input_commands.specs.View.{AsksRows, Notes, first_unknown, is_nameless, known_name}
+use Rattle.two_input_commands.specs.View.{AsksRows, Notes, first_unknown, is_all, is_nameless, known_name}
 use Rattle.two_input_commands.specs.View.{parts_of}
 
 -- behind names that are known the first that isn't is the first of those that follow
@@ -42,13 +42,16 @@ parts_more part all old new rest all_is new_is =
 
 -- a part that names no task is the first one
 pub refused_row : (U : List Task) (text part : List ℕ) (old new rest : List (List ℕ))
-    (r : CommandRefusal) → parts_of text ≡ old ++ part ∷ rest → first_unknown U old ≡ None
-    → Notes U part old new (Err r) → AsksRows U (Some text) (Err r)
-refused_row U text part old new rest (refusal.NoSuchTask name) parts known why = (
-  part,
-  ap (first_unknown U) parts ∙ unknown_behind U old (part ∷ rest) known
-      ∙ unknown_first U part rest why.0,
-  why.1,
+    (r : CommandRefusal) → is_all text ≡ false → parts_of text ≡ old ++ part ∷ rest
+    → first_unknown U old ≡ None → Notes U part old new (Err r) → AsksRows U (Some text) (Err r)
+refused_row U text part old new rest (refusal.NoSuchTask name) all parts known why = (
+  all,
+  (
+    part,
+    ap (first_unknown U) parts ∙ unknown_behind U old (part ∷ rest) known
+        ∙ unknown_first U part rest why.0,
+    why.1,
+  ),
 )
-refused_row U text part old new rest refusal.OutOfMemory parts known why = tt
-refused_row U text part old new rest _ parts known why = absurd why
+refused_row U text part old new rest refusal.OutOfMemory all parts known why = tt
+refused_row U text part old new rest _ all parts known why = absurd why

@@ -1,12 +1,16 @@
 -- What `desk draw` answers and prints: the answer of `desk simulate`, as a picture.
-use Rattle.std.specs.Prelude.{◌≡◌, ℕ, true, false, List, length, Result, Ok, Err}
-use Rattle.task_sheet.specs.Sheet.{Task}
+use Rattle.std.specs.Prelude.{◌≡◌, ℕ, true, false, if◌then◌else◌, Option, Some, None, List, [], ◌∷◌, length, Result, Ok, Err}
+use Rattle.task_sheet.specs.Sheet.{Task, same_bytes}
 use Rattle.task_sheet.specs.Indexes.{indexes_of, listed_below}
 use Rattle.ceiling_kernel.specs.declared.trace.Release.{Release}
 use Rattle.ceiling_kernel.specs.declared.trace.Trace.{Trace}
 use Rattle.picture.specs.Document.{document}
 use Rattle.frames.specs.declared.view.View.{View}
 use Rattle.command_line.specs.declared.calls.Options.{Options}
+use Rattle.judge.specs.Faults.{IsRowsFault}
+use Rattle.judge.specs.Front.{settings_in}
+use Rattle.judge.specs.declared.rows.SettingRow.{SettingRow}
+use Rattle.judge.specs.declared.rows.SettingRow.TheVariants.{Mutex, Thread}
 use Rattle.run_lines.specs.TaskBounds.{bounds_of}
 use Rattle.run_lines.specs.declared.bounds.TaskBound.{TaskBound}
 use Rattle.drawn_runs.specs.Rows.{rows_of}
@@ -20,28 +24,42 @@ use Rattle.answering.specs.declared.refusal.CommandRefusal.TheVariants as refusa
 use Rattle.two_input_commands.specs.declared.simulate.Simulated.{Simulated}
 use Rattle.two_input_commands.specs.declared.simulate.Simulated.TheVariants.{Infeasible, Ordered, Ran}
 
--- the picture of a run in an order of a set, as a view has it
-abbrev pub picture_of : List Task → List TaskBound → View → ℕ → List Release → Trace → List ℕ
-picture_of U bounds v until rs trace = document (rows_of U bounds) v until rs trace
+-- the number that settings give to the thread of a name, the first one, if there is one
+abbrev pub number_named : List SettingRow → List ℕ → Option ℕ
+number_named [] name = None
+number_named (Thread s ∷ rows) name =
+    if same_bytes s.name name then Some s.number else number_named rows name
+number_named (Mutex s ∷ rows) name = number_named rows name
+
+-- the picture of a run in an order of a set, with the numbers that settings give, as a view has it
+abbrev pub picture_of : List Task → List SettingRow → List TaskBound → View → ℕ → List Release → Trace → List ℕ
+picture_of U settings bounds v until rs trace =
+    document (rows_of U (number_named settings) bounds) v until rs trace
 
 -- what is printed of what came of a set
-abbrev pub answer_said : List Task → View → Simulated → List ℕ
-answer_said U v (Ran run) =
-    picture_of U (bounds_of run.places.items) v run.until run.releases.items run.trace
-answer_said U v (Ordered run) =
-    picture_of U (bounds_judged run.judged.items) v run.until run.releases.items run.trace
-answer_said U v (Infeasible left) = infeasible_line U (listed_below (length U) (indexes_of left))
+abbrev pub answer_said : List Task → List SettingRow → View → Simulated → List ℕ
+answer_said U settings v (Ran run) =
+    picture_of U settings (bounds_of run.places.items) v run.until run.releases.items run.trace
+answer_said U settings v (Ordered run) =
+    picture_of U settings (bounds_judged run.judged.items) v run.until run.releases.items run.trace
+answer_said U settings v (Infeasible left) =
+    infeasible_line U (listed_below (length U) (indexes_of left))
 
--- the same of that and a view
+-- the same of that, the settings and a view
 abbrev pub drawing_said : List Task → Drawing → List ℕ
-drawing_said U d = answer_said U d.view d.answer
+drawing_said U d = answer_said U d.settings.items d.view d.answer
+
+-- why the settings in front of a list aren't read: a faulty line, or memory
+abbrev pub IsUnread : List ℕ → CommandRefusal → Type 0
+IsUnread text (refusal.Settings fault) = IsRowsFault fault (settings_in text)
+IsUnread text _ = ⊥
 
 -- the answer on a set and the text of a release list, by what the words choose: that of `desk simulate`, with a view in
 -- whose window something lies. The list is refused first, then a name, and then the window
 abbrev pub DrawsText : Options → List Task → List ℕ → Result Drawing CommandRefusal → Type 0
 DrawsText options U text (Ok d) =
-    SimulatesText U text (Ok d.answer) × IsViewOf U options d.view
-    × (is_unseen d.view d.answer ≡ false)
+    SimulatesText U text (Ok d.answer) × (settings_in text ≡ Ok d.settings.items)
+    × IsViewOf U options d.view × (is_unseen d.view d.answer ≡ false)
 DrawsText options U text (Err (refusal.NoSuchTask name)) =
     (answer : Simulated) × SimulatesText U text (Ok answer)
     × AsksRows U (rows_word options) (Err (refusal.NoSuchTask name))

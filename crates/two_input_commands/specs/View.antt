@@ -1,5 +1,5 @@
 -- The view that the words of `desk draw` choose.
-use Rattle.std.specs.Prelude.{◌≡◌, ⊤, ℕ, Bool, true, false, ◌==◌, List, [], ◌∷◌, ◌++◌, Option, Some, None, Result, Ok, Err, option_map}
+use Rattle.std.specs.Prelude.{◌≡◌, ⊤, ℕ, Bool, true, false, ◌==◌, List, [], ◌∷◌, ◌++◌, bytes_eq, codes, map, Option, Some, None, Result, Ok, Err, option_map}
 use Rattle.std.specs.List.{find, slice_split}
 use Rattle.std.specs.Option.{unwrap_or}
 use Rattle.task_sheet.specs.Sheet.{Task}
@@ -43,16 +43,31 @@ is_nameless (Some name) = false
 abbrev pub first_unknown : List Task → List (List ℕ) → Option (List ℕ)
 first_unknown U words = find (λ word. is_nameless (known_name U word)) words
 
--- the tasks that have rows: those that the parts of a word name, where there is a word
+-- the word for all tasks
+abbrev pub is_all : List ℕ → Bool
+is_all word = bytes_eq word (codes "all")
+
+-- the names of a set's tasks
+abbrev pub names_of : List Task → List (List ℕ)
+names_of U = map (λ (t : Task). t.name) U
+
+-- the tasks that a word names: all, or those of its parts
+abbrev pub AreRowsIn : List Task → (all : Bool) → List ℕ → List (List ℕ) → Type 0
+AreRowsIn U true word names = names ≡ names_of U
+AreRowsIn U false word names =
+    (first_unknown U (parts_of word) ≡ None) × (names ≡ parts_of word)
+
+-- the tasks that are named, where there is a word
 abbrev pub AreRowsOf : List Task → Option (List ℕ) → List (List ℕ) → Type 0
 AreRowsOf U None names = names ≡ []
-AreRowsOf U (Some word) names = (first_unknown U (parts_of word) ≡ None) × (names ≡ parts_of word)
+AreRowsOf U (Some word) names = AreRowsIn U (is_all word) word names
 
 -- there is none of a name: the first part that names none
 abbrev pub IsNoRow : List Task → Option (List ℕ) → Option (List ℕ) → Type 0
 IsNoRow U None name = ⊥
 IsNoRow U (Some word) name =
-    (part : List ℕ) × (first_unknown U (parts_of word) ≡ Some part) × (name ≡ name_in part)
+    (is_all word ≡ false)
+    × ((part : List ℕ) × (first_unknown U (parts_of word) ≡ Some part) × (name ≡ name_in part))
 
 -- the tasks that have rows, or that there is none of a name
 abbrev pub AsksRows : List Task → Option (List ℕ) → Result (List (List ℕ)) CommandRefusal → Type 0

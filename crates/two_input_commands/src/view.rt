@@ -1,7 +1,7 @@
 //! The view that the words of `desk draw` choose.
-ghost use Rattle.std.specs.Prelude.{◌≡◌, [], Ok, Err, Some, IfOk, option_map, MatchResult};
+ghost use Rattle.std.specs.Prelude.{◌≡◌, [], Ok, Err, Some, false, IfOk, option_map, MatchResult};
 ghost use Rattle.std.specs.Option.{unwrap_or};
-ghost use Rattle.two_input_commands.specs.View.{AsksRows, IsViewOf, Notes, is_unseen, known_name, rows_word};
+ghost use Rattle.two_input_commands.specs.View.{AsksRows, IsViewOf, Notes, is_all, is_unseen, known_name, names_of, rows_word};
 
 use crate::simulate::Simulated;
 use answering::CommandRefusal;
@@ -9,7 +9,7 @@ use command_line::Options;
 use frames::View;
 use lines::{cut, name_of};
 use std::alloc::{AllocError, Global};
-use task_sheet::{Name, TaskSet};
+use task_sheet::{Name, Sheet, TaskSet};
 
 // The name of a task that a part of a word is.
 fn known_name(tasks: &TaskSet, part: &[u8]) -> Option<Name>
@@ -37,8 +37,27 @@ fn note_name(names: &mut Vec<Name>, tasks: &TaskSet, part: &[u8]) -> Result<(), 
     }
 }
 
+// Whether a text is the word for all tasks.
+fn is_all(text: &[u8]) -> bool
+    ensures { result ≡ is_all text.now }
+{
+    text == b"all".as_slice()
+}
+
+// The names of all tasks.
+fn names_of(alloc: Global, sheets: &[Sheet]) -> Result<Vec<Name>, AllocError>
+    ensures { IfOk result (λ names. names.items ≡ names_of sheets.now) }
+{
+    let mut names = Vec::with_capacity(alloc, sheets.len())?;
+    for sheet in sheets {
+        names.push(sheet.name())?;
+    }
+    Ok(names)
+}
+
 // The names of the tasks that the parts of a text name, or that there is none of a name.
 fn names_in(alloc: Global, tasks: &TaskSet, text: &[u8]) -> Result<Vec<Name>, CommandRefusal>
+    requires { is_all text.now ≡ false }
     ensures { MatchResult result (λ names. AsksRows tasks.now (Some text.now) (Ok names.items))
         (λ r. AsksRows tasks.now (Some text.now) (Err r)) }
 {
@@ -59,6 +78,18 @@ fn names_in(alloc: Global, tasks: &TaskSet, text: &[u8]) -> Result<Vec<Name>, Co
     unreachable!()
 }
 
+// The names of the tasks that a text names.
+fn names_said(alloc: Global, tasks: &TaskSet, text: &[u8]) -> Result<Vec<Name>, CommandRefusal>
+    ensures { MatchResult result (λ names. AsksRows tasks.now (Some text.now) (Ok names.items))
+        (λ r. AsksRows tasks.now (Some text.now) (Err r)) }
+{
+    if is_all(text) {
+        Ok(names_of(alloc, tasks.sheets())?)
+    } else {
+        names_in(alloc, tasks, text)
+    }
+}
+
 // The same, where there is a word.
 fn rows_of(alloc: Global, tasks: &TaskSet, word: Option<&str>) -> Result<Vec<Name>, CommandRefusal>
     ensures { MatchResult result
@@ -67,7 +98,7 @@ fn rows_of(alloc: Global, tasks: &TaskSet, word: Option<&str>) -> Result<Vec<Nam
 {
     match word {
         None => Ok(Vec::new(alloc)),
-        Some(word) => names_in(alloc, tasks, word.as_bytes()),
+        Some(word) => names_said(alloc, tasks, word.as_bytes()),
     }
 }
 

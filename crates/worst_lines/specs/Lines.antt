@@ -7,9 +7,10 @@ use Rattle.lines.specs.Naming.{name_at}
 use Rattle.assignment.specs.declared.placing.Placing.{Placing}
 use Rattle.assignment.specs.declared.placing.Placing.TheVariants.{Best, Stuck}
 use Rattle.ceiling_kernel.specs.Releases.{release_at}
-use Rattle.ceiling_kernel.specs.Tick.{node_in}
+use Rattle.ceiling_kernel.specs.Tick.{Node, node_in}
 use Rattle.judge.specs.Judgements.{AllJudged, order_judged}
 use Rattle.judge.specs.declared.judging.JudgedTask.{JudgedTask}
+use Rattle.miss.specs.Going.{GoesOnUntil}
 use Rattle.miss.specs.Shown.{IsCaseOf}
 use Rattle.miss.specs.declared.worst.Run.{Run}
 use Rattle.miss.specs.declared.reaching.Reached.{Reached}
@@ -68,26 +69,33 @@ reached_lines U front listed j bound reached.TooMany =
 reached_lines U front listed j bound reached.Stopped =
     comment U j.task (codes "below-a-miss") ++ front ++ listed
 
--- what is printed of a task that may not stand in its place; a task that stands isn't such a one
-abbrev pub shown_lines : List Task → (front listed : List ℕ) → JudgedTask → Shown → List ℕ
-shown_lines U front listed j (shown.Misses m) =
+-- what is printed of a task that may not stand in its place, whose run goes on up to an end; a task that stands isn't such
+-- a one
+abbrev pub shown_lines : List Task → (front listed : List ℕ) → JudgedTask → (end : ℕ) → Shown → List ℕ
+shown_lines U front listed j end (shown.Misses m) =
     comment U j.task (codes "misses " ++ decimal (task_at U j.task).deadline) ++ front
-    ++ list_lines m.until m.releases.items
-shown_lines U front listed j (shown.NoRun reason) =
+    ++ list_lines end m.releases.items
+shown_lines U front listed j end (shown.NoRun reason) =
     comment U j.task (reason_words U reason) ++ front ++ listed
-shown_lines U front listed j shown.Stands = []
+shown_lines U front listed j end shown.Stands = []
 
 -- what is printed of a worst case
-abbrev pub worst_lines : List Task → (front listed : List ℕ) → JudgedTask → Worst → List ℕ
-worst_lines U front listed j (Comes bound reached) = reached_lines U front listed j bound reached
-worst_lines U front listed j (Fails shown) = shown_lines U front listed j shown
+abbrev pub worst_lines : List Task → (front listed : List ℕ) → JudgedTask → (end : ℕ) → Worst → List ℕ
+worst_lines U front listed j end (Comes bound reached) =
+    reached_lines U front listed j bound reached
+worst_lines U front listed j end (Fails shown) = shown_lines U front listed j end shown
+
+-- a run in which a deadline is missed goes on up to this end
+abbrev pub EndsAt : Node → Worst → (end : ℕ) → Type 0
+EndsAt node (Fails (shown.Misses m)) end = GoesOnUntil node m end
+EndsAt node worst end = Unit {0}
 
 -- the text is what is printed of a task of an order, with this in front of the list
 abbrev pub IsSaidOf : List Task → (front order : List ℕ) → JudgedTask → List ℕ → Type 0
 IsSaidOf U front order j text =
-    (worst : Worst) × (case : Option Run) × IsWorstOf U order j worst
-    × IsCaseOf (node_in U order) j.task case
-    × (text ≡ worst_lines U front (case_lines case) j worst)
+    (worst : Worst) × (case : Option Run) × (end : ℕ) × IsWorstOf U order j worst
+    × IsCaseOf (node_in U order) j.task case × EndsAt (node_in U order) worst end
+    × (text ≡ worst_lines U front (case_lines case) j end worst)
 
 -- a text is what is printed of the worst case of a task that was chosen, with this in front of the list; of a set without
 -- tasks the list of no releases

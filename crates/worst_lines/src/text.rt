@@ -6,12 +6,13 @@ ghost use Rattle.task_sheet.specs.Indexes.{indexes_of};
 ghost use Rattle.task_sheet.specs.Orders.{IsOrder};
 ghost use Rattle.assignment.specs.Placings.{IsPlacingOf, tasks_of_places};
 ghost use Rattle.ceiling_kernel.specs.Releases.{release_at};
+ghost use Rattle.ceiling_kernel.specs.Tick.{node_in};
 ghost use Rattle.release_list.specs.Text.{list_lines};
 ghost use Rattle.settings.specs.Settings.{settings_from};
 ghost use Rattle.explain.specs.Conflict.{IsLeastConflict};
 ghost use Rattle.judge.specs.Judgements.{order_judged};
 ghost use Rattle.worst_lines.specs.Worst.{IsLookedAtIn, IsOrderFor};
-ghost use Rattle.worst_lines.specs.Lines.{AreLinesOf, AreWorstLines, AreWorstLinesIn, IsSaidOf, case_lines, comes_words, comment, front_of, reached_lines, reason_words, response_words, shown_lines, worst_lines};
+ghost use Rattle.worst_lines.specs.Lines.{AreLinesOf, AreWorstLines, AreWorstLinesIn, EndsAt, IsSaidOf, case_lines, comes_words, comment, front_of, reached_lines, reason_words, response_words, shown_lines, worst_lines};
 
 use crate::asked::{chosen, chosen_in};
 use crate::below::order_below;
@@ -23,7 +24,7 @@ use ceilings::{LockTable, Tabled};
 use explain::least_conflict;
 use judge::{JudgedTask, judge_order};
 use lines::push_name;
-use miss::{NoRun, Reached, Run, Shown, WorstRun, case_of};
+use miss::{NoRun, Reached, Run, Shown, WorstRun, case_of, end_of};
 use release_list::list_text;
 use settings::settings_text;
 use std::alloc::{AllocError, Global};
@@ -201,25 +202,18 @@ fn shown_text(
     front: &str,
     listed: &str,
     entry: JudgedTask,
+    end: u64,
     shown: &Shown,
 ) -> Result<String, AllocError>
     requires { entry.task < length set.now }
     ensures { IfOk result (λ text. string_bytes text
-        ≡ shown_lines set.now front.now listed.now entry shown.now) }
+        ≡ shown_lines set.now front.now listed.now entry end shown.now) }
 {
     match shown {
         Shown::Misses(miss) => {
             let words = misses_text(alloc, set, entry.task)?;
             let words = words.as_str();
-            commented_list(
-                alloc,
-                set,
-                entry.task,
-                words,
-                front,
-                miss.until,
-                &miss.releases,
-            )
+            commented_list(alloc, set, entry.task, words, front, end, &miss.releases)
         }
         Shown::NoRun(reason) => {
             let words = reason_text(alloc, set, *reason)?;
@@ -236,17 +230,18 @@ fn lines_text(
     front: &str,
     listed: &str,
     entry: JudgedTask,
+    end: u64,
     worst: &Worst,
 ) -> Result<String, AllocError>
     requires { entry.task < length set.now }
     ensures { IfOk result (λ text. string_bytes text
-        ≡ worst_lines set.now front.now listed.now entry worst.now) }
+        ≡ worst_lines set.now front.now listed.now entry end worst.now) }
 {
     match worst {
         Worst::Comes { bound, reached } => {
             reached_text(alloc, set, front, listed, entry, *bound, reached)
         }
-        Worst::Fails(shown) => shown_text(alloc, set, front, listed, entry, shown),
+        Worst::Fails(shown) => shown_text(alloc, set, front, listed, entry, end, shown),
     }
 }
 
@@ -332,6 +327,22 @@ fn order_of(
     }
 }
 
+// Up to which end a run in which a deadline is missed goes on; no other run is asked.
+fn end_of_worst(
+    alloc: Global,
+    set: &TaskSet,
+    order: &[usize],
+    worst: &Worst,
+) -> Result<u64, AllocError>
+    requires { IsOrder set.now order.now }
+    ensures { IfOk result (EndsAt (node_in set.now order.now) worst.now) }
+{
+    match worst {
+        Worst::Fails(Shown::Misses(miss)) => end_of(alloc, set, order, miss),
+        _ => Ok(0),
+    }
+}
+
 // What is printed of a task of an order.
 fn entry_text(
     alloc: Global,
@@ -347,7 +358,8 @@ fn entry_text(
     let worst = worst_of(alloc, set, order, entry)?;
     let case = case_of(alloc, set, order, entry.task)?;
     let listed = case_text(alloc, &case)?;
-    lines_text(alloc, set, front, listed.as_str(), entry, &worst)
+    let end = end_of_worst(alloc, set, order, &worst)?;
+    lines_text(alloc, set, front, listed.as_str(), entry, end, &worst)
 }
 
 // What is printed of the task of an order that was chosen.

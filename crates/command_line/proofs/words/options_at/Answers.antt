@@ -21,4 +21,5 @@ returns-clause-known c = record {
   width = c.number_chosen-6.ensures;
   title = c.get_str-2.ensures ∙ first_value-rows (found_of c.args.matches.now) _;
   rows = c.get_str-3.ensures ∙ first_value-rows (found_of c.args.matches.now) _;
+  team = c.number_chosen-8.ensures;
 }

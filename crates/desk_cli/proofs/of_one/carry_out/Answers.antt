@@ -1,6 +1,6 @@
 use Rattle.std.proofs.Common.{◌≡◌, Ok, Err, inl, inr, refl}
 use Rattle.command_line.specs.declared.calls.OfOne.{OfOne}
-use Rattle.command_line.specs.declared.calls.OfOne.TheVariants.{Certify, Play}
+use Rattle.command_line.specs.declared.calls.OfOne.TheVariants.{Certify, Script, Play}
 use Rattle.desk_cli.specs.Saying.{IsOfPlacing}
 use Rattle.answering.specs.declared.refusal.CommandRefusal.TheVariants as refusal
 use Rattle.answering.proofs.CarriedOut.{carried_out, refused, said_as}
@@ -8,14 +8,18 @@ use Rattle.desk_cli.proofs.Refused.{one_refused, placed_refused}
 use Rattle.desk_cli.proofs.of_one.carry_out.Goals as goal
 
 -- the commands that are left
-of_placing : (c : OfOne) → (c ≡ Certify → ⊥) → (c ≡ Play → ⊥) → IsOfPlacing c
-of_placing Certify one other = absurd (one refl)
-of_placing Play one other = absurd (other refl)
-of_placing _ one other = tt
+of_placing : (c : OfOne) → (c ≡ Certify → ⊥) → (c ≡ Script → ⊥) → (c ≡ Play → ⊥) → IsOfPlacing c
+of_placing Certify one two three = absurd (one refl)
+of_placing Script one two three = absurd (two refl)
+of_placing Play one two three = absurd (three refl)
+of_placing _ one two three = tt
 
 pub say_placing-requires-clause-command : goal.say_placing-requires-clause-command
 say_placing-requires-clause-command g c =
-    of_placing c.args.command c.in_default.not-Certify c.in_default.not-Play
+    of_placing c.args.command c.in_default.not-Certify c.in_default.not-Script c.in_default.not-Play
+
+pub returns-in-Script : goal.returns-in-Script
+returns-in-Script g c = rw c.in-Script.is c.run_script.ensures
 
 -- out of memory for what is printed is an answer of its own
 pub returns-in-Ok : goal.returns-in-Ok

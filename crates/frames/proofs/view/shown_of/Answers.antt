@@ -11,23 +11,25 @@ use Rattle.frames.proofs.view.shown_of.Goals as goal
 
 pub loop-rank-preserved : goal.loop-rank-preserved
 loop-rank-preserved c =
-    let p : ℕ → Bool = λ rank. is_chosen c.args.names.now (name_in c.args.rows.now rank) in
+    let p : ℕ → Bool = λ rank. is_chosen c.args.names.now c.args.releases.now (name_in c.args.rows.now rank) in
     let n = c.loop-rank.rank in
-    let chosen = c.is_chosen.ensures
-    ∙ ap (λ (name : List ℕ). is_chosen c.args.names.now name) c.name_in.ensures in
+    let chosen = c.is_chosen-is_shown.ensures
+    ∙ ap (λ (name : List ℕ). is_chosen c.args.names.now c.args.releases.now name)
+    c.name_in.ensures in
     c.in_ok-note.ensures ∙ ap (λ (b : Bool). noted_rank c.loop-rank.shown.items n b) chosen
     ∙ ap (λ (ranks : List ℕ). noted_rank ranks n (p n)) c.loop-rank.invariant ∙ sym (shown_more p n)
 
 pub returns : goal.returns
 returns c =
     let names = c.args.names.now in
+    let rs = c.args.releases.now in
     let rows = c.args.rows.now in
-    let p : ℕ → Bool = λ rank. is_chosen names (name_in rows rank) in
+    let p : ℕ → Bool = λ rank. is_chosen names rs (name_in rows rank) in
     let all = range_with_len 0 (length rows) in
     let count = length-range_with_len 0 (length rows) in
     let end : c.loop-rank.rank ≡ length rows =
     omega (arith, c.loop-rank.auto.rank-end, c.loop-rank-test.false) in
-    let shown : c.loop-rank.shown.items ≡ shown_of names rows = c.loop-rank.invariant
+    let shown : c.loop-rank.shown.items ≡ shown_of names rs rows = c.loop-rank.invariant
     ∙ ap (λ (n : ℕ). filter p (range_with_len 0 n)) end in
     record {
       shown = shown;

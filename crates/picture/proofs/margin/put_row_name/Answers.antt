@@ -3,7 +3,7 @@ use Rattle.std.specs.Prelude.{codes}
 use Rattle.std.specs.Fmt.{decimal}
 use Rattle.task_sheet.specs.Demand.{greatest_of}
 use Rattle.run_lines.specs.Reached.{done_of, response_of}
-use Rattle.frames.proofs.Adds.{adds_both, adds_same, adds_parts, adds_3}
+use Rattle.frames.proofs.Adds.{adds_both, adds_same, adds_parts, adds_4}
 use Rattle.picture.specs.Margin.{name_class}
 use Rattle.picture.proofs.margin.put_row_name.Goals as goal
 
@@ -24,5 +24,6 @@ returns c =
     (append_assoc class place y) (rw c.name_head.ensures at c.number.ensures) in
     rw (← c.top_of.ensures.value, ← done, ← greatest)
     (adds_both (adds_both (adds_parts (codes "<text class=\"" ++ class) (place ++ y) head
-    (adds_both c.number-2.ensures c.put.ensures)) c.put_greatest.ensures) (adds_3
-    c.put_known.ensures (rw named at c.name.ensures) c.put-2.ensures))
+    (adds_both c.number-2.ensures c.put.ensures)) c.put_greatest.ensures) (adds_4
+    c.put_known.ensures (rw named at c.name.ensures)
+    (rw c.level_of.ensures at c.put_number.ensures) c.put-2.ensures))

@@ -1,19 +1,6 @@
-use Rattle.std.proofs.Common.{◌∙◌, ℕ, Ok, Err, refl, ap}
-use Rattle.scripted.specs.Scripted.{script_of}
-use Rattle.answering.proofs.CarriedOut.{carried_out, done_ends, refused, shown}
+use Rattle.std.proofs.Common.{◌∙◌, sym}
 use Rattle.set_commands.proofs.script.run_script.Goals as goal
 
-pub returns-in-Ok : goal.returns-in-Ok
-returns-in-Ok g c =
-    let script = c.in-Ok.ensures.answer in
-    let has = rw c.asking_of-asking.ensures at script.has in
-    let same = ap (λ (team : ℕ). script_of team script.set) c.in-Some.ensures.some.0 in
-    let lines = c.as_bytes.ensures.value ∙ script.says ∙ same in
-    carried_out c.in-Ok.ensures.read
-    (shown c.print.ensures lines refl done_ends (λ wrote is. (Ok script.set, has, wrote, is)))
-
-pub returns-in-Err : goal.returns-in-Err
-returns-in-Err g c =
-    let answer = rw c.asking_of-asking.ensures at c.in-Err.ensures.answer in
-    refused c.in-Err.ensures.read c.refuse.ensures
-    (λ wrote is. (Err c.in-Err.refusal, answer, wrote, is))
+pub returns-in-Some : goal.returns-in-Some
+returns-in-Some g c = rw (sym c.team_chosen.ensures ∙ c.in-Some.is)
+    (rw c.asking_of-asking.ensures at c.run_of_team.ensures)

@@ -1,7 +1,14 @@
 use Rattle.std.proofs.Common.{◌∙◌, sym}
 use Rattle.std.proofs.lemmas.Result.{err_from_is_err_and}
-use Rattle.two_input_commands.proofs.Drawings.{unseen}
+use Rattle.two_input_commands.proofs.Drawings.{unread, unseen}
 use Rattle.two_input_commands.proofs.draw.draw_text.Goals as goal
+
+pub returns-in_err-settings-clause-answer : goal.returns-in_err-settings-clause-answer
+returns-in_err-settings-clause-answer c =
+    let p = err_from_is_err_and c.from_residual-in_err-settings.result
+    c.from_residual-in_err-settings.ensures.1 in
+    rw (p.1, p.2) (unread c.args.options c.args.tasks.now c.args.text.now
+    c.in_err-settings.field-0.0 c.in_err-settings.ensures)
 
 pub returns-in_err-view-clause-answer : goal.returns-in_err-view-clause-answer
 returns-in_err-view-clause-answer c =

@@ -14,7 +14,7 @@ returns c =
     let bounds = c.deref-2.ensures.value ∙ c.in_ok-bounds.ensures.bounds
     ∙ ap (λ (them : List JudgedTask). bounds_judged them) c.deref.ensures.value in
     let listed = subst (λ (rs : List Release). IfOk c.picture_of.result (λ text. text.items
-    ≡ picture_of U c.deref-2.result.now v run.until rs run.trace)) c.deref-3.ensures.value
+    ≡ picture_of U c.args.settings.now c.deref-2.result.now v run.until rs run.trace)) c.deref-3.ensures.value
     c.picture_of.ensures in
     subst (λ (bs : List TaskBound). IfOk c.picture_of.result (λ text. text.items
-    ≡ picture_of U bs v run.until run.releases.items run.trace)) bounds listed
+    ≡ picture_of U c.args.settings.now bs v run.until run.releases.items run.trace)) bounds listed

@@ -1,4 +1,4 @@
-use Rattle.std.proofs.Common.{◌≡◌, ◌<◌, List, [], ◌∷◌, length, slice_index_or, ap, refl, sym, subst}
+use Rattle.std.proofs.Common.{◌≡◌, ◌<◌, ℕ, Option, List, [], ◌∷◌, length, slice_index_or, ap, refl, sym, subst}
 use Rattle.std.proofs.Common.{arith, length-append}
 use Rattle.std.proofs.lemmas.Result.{IfOk-weaker}
 use Rattle.task_sheet.specs.Sheet.{Task}
@@ -7,14 +7,18 @@ use Rattle.run_lines.specs.declared.bounds.TaskBound.{TaskBound}
 use Rattle.ceiling_kernel.proofs.OrderLaws.{order_iff, order_length}
 use Rattle.frames.specs.declared.rows.TaskRow.{TaskRow}
 use Rattle.drawn_runs.specs.Rows.{drawn_row, rows_of}
+use Rattle.two_input_commands.specs.Draw.{number_named}
 use Rattle.two_input_commands.proofs.draw.rows_in.Goals as goal
 
 -- as many rows as tasks
-count_of : (U : List Task) (bounds : List TaskBound)
-    → length (rows_of U bounds) ≡ length (tasks_of_bounds bounds)
-count_of U [] = refl
-count_of U (b ∷ bounds) =
-    omega (arith, count_of U bounds, length-append (rows_of U bounds) (drawn_row U b ∷ []))
+count_of : (U : List Task) (number : List ℕ → Option ℕ) (bounds : List TaskBound)
+    → length (rows_of U number bounds) ≡ length (tasks_of_bounds bounds)
+count_of U number [] = refl
+count_of U number (b ∷ bounds) = omega (
+  arith,
+  count_of U number bounds,
+  length-append (rows_of U number bounds) (drawn_row U number b ∷ []),
+)
 
 pub rows_of-requires : goal.rows_of-requires
 rows_of-requires c = λ k d lt.
@@ -34,7 +38,7 @@ returns-clause-few c =
       arith,
       c.sheets.ensures.kept.few,
       all,
-      count_of V bounds,
+      count_of V (number_named c.args.settings.now) bounds,
       ap (λ (rs : List TaskRow). length rs) is,
     ))
     c.rows_of.ensures

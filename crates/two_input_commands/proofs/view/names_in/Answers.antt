@@ -11,7 +11,7 @@ returns-in_err-note_name-in-None c =
     let parts = c.loop.invariant.parts
     ∙ ap (λ (l : List (List ℕ)). old ++ l) c.in-None.ensures.parts in
     rw (p.1, p.2) (refused_row c.args.tasks.now c.args.text.now c.loop.rest.now old
-    c.note_name.new.names.items [] c.in_err-note_name-in-None.field-0.0 parts
+    c.note_name.new.names.items [] c.in_err-note_name-in-None.field-0.0 c.requires parts
     c.loop.invariant.known c.in_err-note_name-in-None.ensures)
 
 pub returns-in-None : goal.returns-in-None
@@ -22,7 +22,8 @@ returns-in-None c =
     let noted = c.in_ok-note_name-in-None.ensures in
     let parts = c.loop.invariant.parts
     ∙ ap (λ (l : List (List ℕ)). old ++ l) c.in-None.ensures.parts in
-    let all : new ≡ parts_of c.args.text.now = noted.1 ∙ sym parts in (
+    let all : new ≡ parts_of c.args.text.now = noted.1 ∙ sym parts in
+    rw c.requires (
       ap (first_unknown U) (sym all)
           ∙ one_more U c.loop.rest.now old new c.loop.invariant.known noted.0 noted.1,
       all,
@@ -37,7 +38,7 @@ returns-in_err-note_name-in-Some c =
     ∙ ap (λ (l : List (List ℕ)). old ++ l) c.in-Some.ensures.parts in
     rw (p.1, p.2) (refused_row c.args.tasks.now c.args.text.now c.in-Some.part.now old
     c.note_name-in-Some.new.names.items (parts_of c.in-Some.after.now)
-    c.in_err-note_name-in-Some.field-0.0 parts c.loop.invariant.known
+    c.in_err-note_name-in-Some.field-0.0 c.requires parts c.loop.invariant.known
     c.in_err-note_name-in-Some.ensures)
 
 pub loop-preserved : goal.loop-preserved
