@@ -53,6 +53,7 @@ from __future__ import annotations
 import ctypes
 import json
 import os
+import re
 from collections.abc import Iterable, Mapping, Sequence
 from dataclasses import dataclass, field, replace
 from pathlib import Path
@@ -101,6 +102,17 @@ class Task:
     outranks: Sequence[str] = ()  # names, or "all"
 
 
+@dataclass(frozen=True)
+class Chain:
+    """A chain of a set: its tasks by name, the first one first, and the longest age and reaction in
+    microseconds."""
+
+    name: str
+    tasks: Sequence[str]
+    age: int | None = None
+    reaction: int | None = None
+
+
 @dataclass(frozen=True, kw_only=True)
 class _Answer:
     text: str = field(default="", repr=False, compare=False)
@@ -124,10 +136,40 @@ class Level:
 
 
 @dataclass(frozen=True)
+class ChainPart:
+    """A part of a chain's bound: `kind` is wait, jitter or response, of a `task`; a response may be
+    `less` the cost of the next one."""
+
+    kind: str
+    task: str
+    time: int
+    less: str | None = None
+
+
+@dataclass(frozen=True)
+class Bound:
+    """The bound of a chain, None where a task of it misses its deadline, beside its limit, if it has one;
+    and, of `explain`, the parts that it is the sum of."""
+
+    chain: str
+    bound: int | None
+    limit: int | None
+    parts: tuple[ChainPart, ...] = ()
+
+    @property
+    def met(self) -> bool:
+        return self.limit is None or (self.bound is not None and self.bound <= self.limit)
+
+
+@dataclass(frozen=True)
 class Admitted(_Answer):
-    """The best order, the lowest level first."""
+    """The best order, the lowest level first, and the set's chains in it."""
 
     levels: tuple[Level, ...]
+    chains: tuple[Bound, ...] = ()
+
+    def __bool__(self) -> bool:
+        return all(it.met for it in self.chains)
 
 
 @dataclass(frozen=True)
@@ -190,10 +232,14 @@ class Response:
 
 @dataclass(frozen=True)
 class Explained(_Answer):
-    """What each bound is made of; the load in millionths."""
+    """What each bound is made of, those of chains, too; the load in millionths."""
 
     levels: tuple[Response, ...]
     load: int
+    chains: tuple[Bound, ...] = ()
+
+    def __bool__(self) -> bool:
+        return all(it.met for it in self.chains)
 
 
 @dataclass(frozen=True)
@@ -270,13 +316,14 @@ class Settings(_Answer):
 
 @dataclass(frozen=True)
 class Judged(_Answer):
-    """Which tasks miss their deadlines at priorities that are there."""
+    """Which tasks miss their deadlines at priorities that are there, and the set's chains."""
 
     misses: tuple[str, ...]
     levels: tuple[Response, ...]
+    chains: tuple[Bound, ...] = ()
 
     def __bool__(self) -> bool:
-        return not self.misses
+        return not self.misses and all(it.met for it in self.chains)
 
 
 @dataclass(frozen=True)
@@ -474,8 +521,10 @@ def toml(
     prefer: str | None = None,
     node: Node | None = None,
     interrupts: Iterable[Interrupt] = (),
+    chains: Iterable[Chain] = (),
 ) -> str:
-    """The tasks as a document that the other functions read, what it prefers, its node and interrupts."""
+    """The tasks as a document that the other functions read, what it prefers, its node, interrupts and
+    chains."""
 
     def word(name: str) -> str:
         return json.dumps(name, ensure_ascii=False)
@@ -505,12 +554,18 @@ def toml(
         head += ["[node]", *(f"{key} = {getattr(node, key)}" for key in keys)]
     for it in interrupts:
         head += ["[[interrupt]]", f"period = {it.period}", f"cost = {it.cost}"]
-    return "".join(line + "\n" for line in [*head, *(line for it in tasks for line in lines(it))])
+    said = [*head, *(line for it in tasks for line in lines(it))]
+    for it in chains:
+        said += ["[[chain]]", f"name = {word(it.name)}", f"tasks = {words(it.tasks)}"]
+        said += [f"{key} = {value}" for key in ("age", "reaction") if (value := getattr(it, key)) is not None]
+    return "".join(line + "\n" for line in said)
 
 
 # The commands of include/desk.h, each at its number less 1, and those that take a second input.
 _COMMANDS = ("admit", "certify", "check", "limits", "settings", "explain")
 _COMMANDS += ("judge", "diff", "releases", "simulate", "draw", "play", "observe", "worst")
+# A line of a chain: behind those of all levels, and no level's has such words.
+_CHAIN = re.compile(r"chain \S+ (-|[0-9]+)( (of|misses) [0-9]+)?")
 _SECOND = ("check", "judge", "diff", "simulate", "draw", "observe", "worst")
 
 
@@ -602,17 +657,35 @@ def _no(said: str) -> Infeasible:
     return Infeasible(tuple(said.splitlines()[0].split()[1:]), text=said)
 
 
+def _chained(lines: Sequence[str]) -> tuple[Sequence[str], tuple[Bound, ...]]:
+    """The lines in front of those of chains, and what these say."""
+    end = next((k for k, it in enumerate(lines) if _CHAIN.fullmatch(it)), len(lines))
+    found: list[tuple[list[str], list[ChainPart]]] = []
+    for words in map(str.split, lines[end:]):
+        if words[0] == "chain":
+            found.append((words, []))
+        else:
+            less = words[4] if words[2] == "less" else None
+            found[-1][1].append(ChainPart(words[0], words[1], int(words[-1]), less))
+    bounds = (
+        Bound(name, _time(bound), int(limit[-1]) if limit else None, tuple(parts))
+        for (_, name, bound, *limit), parts in found
+    )
+    return lines[:end], tuple(bounds)
+
+
 def admit(tasks: Sheets) -> Admitted | Infeasible:
     """The best order, or the tasks in the way of all.
 
     >>> admit([Task("a", 10_000, 10_000, 6000)])
-    Admitted(levels=(Level(level=1, task='a', response=6000),))
+    Admitted(levels=(Level(level=1, task='a', response=6000),), chains=())
     """
-    status, said = _ask("admit", tasks)
-    if status:
+    said = _ask("admit", tasks)[1]
+    if said.startswith("infeasible"):
         return _no(said)
-    rows = [it.split() for it in said.splitlines()[1:]]
-    return Admitted(tuple(Level(int(k), name, int(time)) for k, name, time in rows), text=said)
+    lines, chains = _chained(said.splitlines()[1:])
+    levels = (Level(int(k), name, int(time)) for k, name, time in map(str.split, lines))
+    return Admitted(tuple(levels), chains, text=said)
 
 
 def certify(tasks: Sheets) -> Certificate:
@@ -700,12 +773,12 @@ def explain(tasks: Sheets) -> Explained | Conflict:
     >>> explained.load, [(it.kind, it.task, it.time) for it in explained.levels[0].parts]
     (800000, [('cost', None, 6000), ('above', 'b', 2000)])
     """
-    status, said = _ask("explain", tasks)
+    said = _ask("explain", tasks)[1]
     first, *lines = said.splitlines()
     end = next(k for k, it in enumerate(lines) if it.startswith("load ") and len(it.split()) == 2)
     load = int(lines[end].split()[1])
-    if not status:
-        return Explained(_responses(lines[:end]), load, text=said)
+    if first.startswith("admitted"):
+        return Explained(_responses(lines[:end]), load, _chained(lines[end + 1 :])[1], text=said)
     tasks_left, *needs = lines[:end]
     order = tuple(_in_order(words, parts) for words, parts in _parted(lines[end + 1 :]))
     conflict = tuple(tasks_left.split()[1:])
@@ -782,9 +855,10 @@ def settings(tasks: Sheets) -> Settings | Infeasible:
 
 def _judged(said: str) -> Judged:
     first, *lines = said.splitlines()
+    lines, chains = _chained(lines)
     levels = tuple(_in_order(it.split()) for it in lines)
     misses = tuple(first.split()[1:]) if first.startswith("misses") else ()
-    return Judged(misses, levels, text=said)
+    return Judged(misses, levels, chains, text=said)
 
 
 def judge(tasks: Sheets, settings: Text | Settings) -> Judged:

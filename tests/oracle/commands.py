@@ -6,6 +6,7 @@ from typing import NamedTuple
 import analysis
 import calls
 import certificate
+import chains
 import desk
 import differences
 import kernel
@@ -50,11 +51,19 @@ def with_order(command):
     return on_set
 
 
-@with_order
-def admit(tasks, order):
-    levels = analysis.levels_of(order)
-    responses = [f"{level} {tasks[i].name} {analysis.response_of(tasks, i, above)}\n" for level, i, above in levels]
-    return admitted(tasks, order) + "".join(responses)
+def admit(tasks):
+    order = analysis.best_order(tasks)
+    if order is None:
+        return admitted(tasks, None), INFEASIBLE
+    bounds = bounds_of(tasks, order)
+    levels = [f"{level} {tasks[i].name} {bounds[i]}\n" for level, i, _ in analysis.levels_of(order)]
+    return with_chains((admitted(tasks, order) + "".join(levels), 0), tasks, order, bounds)
+
+
+def with_chains(answer, tasks, order, responses, tell_parts=False):
+    """An answer, and behind it the lines of chains; where one misses its limit, the status says so."""
+    lines, all_met = chains.lines_of(tasks, order, responses, tell_parts)
+    return answer[0] + lines, answer[1] if all_met else INFEASIBLE
 
 
 def certify(tasks):
@@ -125,7 +134,9 @@ def explain_all(tasks, task):
         text.append(f"load {analysis.load(tasks)}\n")
     if order is None:
         text += decided(tasks, task)
-    return "".join(text), 0 if order is not None else INFEASIBLE
+    if order is None or task is not None:
+        return "".join(text), 0 if order is not None else INFEASIBLE
+    return with_chains(("".join(text), 0), tasks, order, bounds_of(tasks, order), tell_parts=True)
 
 
 def conflict_line(tasks, conflict):
@@ -141,7 +152,8 @@ def explain_in(tasks, order, rows, task):
     """The same of an order that is given, passing or not."""
     first, status = settings.first_judged(tasks, order)
     load = [f"load {analysis.load(tasks)}\n"] if task is None else []
-    return "".join([first, *accounts(tasks, order, task), *load]), status
+    answer = "".join([first, *accounts(tasks, order, task), *load]), status
+    return answer if task is not None else with_chains(answer, tasks, order, settings.bounds_in(tasks, order), tell_parts=True)
 
 
 def accounts(tasks, order, task):
@@ -324,7 +336,8 @@ def judge(tasks, rows, lower_is_higher=False):
     if lower_is_higher:
         heights = [(line, kind, name, -number) for line, kind, name, number in rows]
     order = settings.node_order(tasks, heights, may_raise=True)
-    return settings.judge(tasks, order, rows, settings.blocked_by(heights))
+    blocked = settings.blocked_by(heights)
+    return with_chains(settings.judge(tasks, order, rows, blocked), tasks, order, settings.bounds_in(tasks, order, blocked))
 
 
 def simulate(tasks, said, of_tasks=False):

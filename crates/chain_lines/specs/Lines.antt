@@ -1,0 +1,99 @@
+-- The lines of chains in an order whose levels have responses.
+use Rattle.std.specs.Prelude.{◌≡◌, ℕ, ◌==◌, nat_le, Bool, true, false, is_some, List, [], ◌∷◌, ◌++◌, codes, sum_by, Option, Some, None, if◌then◌else◌}
+use Rattle.std.specs.Fmt.{decimal}
+use Rattle.std.specs.List.{list_all}
+use Rattle.task_sheet.specs.Sheet.{Task}
+use Rattle.lines.specs.Naming.{name_at}
+use Rattle.ceiling_kernel.specs.Tick.{node_in}
+use Rattle.chains.specs.Bounds.{bound_of}
+use Rattle.chains.specs.Parts.{after_of, bound_in, order_of, parts_of, time_in, wait_of}
+use Rattle.chains.specs.declared.bounds.Level.{Level}
+use Rattle.chains.specs.declared.bounds.BoundPart.{BoundPart}
+use Rattle.chains.specs.declared.bounds.PartKind.{PartKind}
+use Rattle.chains.specs.declared.bounds.PartKind.TheVariants.{Wait, Jitter, Handover, Response}
+use Rattle.chain_tables.specs.Chains.{ChainData}
+use Rattle.chain_lines.specs.declared.text.Telling.{Telling}
+use Rattle.chain_lines.specs.declared.text.Telling.TheVariants.{Bound, Parts}
+
+-- ---- parts
+-- what a part is, and of which task
+abbrev pub kind_words : List Task → ℕ → PartKind → List ℕ
+kind_words U task Wait = codes "  wait " ++ name_at U task
+kind_words U task Jitter = codes "  jitter " ++ name_at U task
+kind_words U task (Handover next) =
+    codes "  response " ++ name_at U task ++ codes " less cost " ++ name_at U next
+kind_words U task Response = codes "  response " ++ name_at U task
+
+-- the line of a part; nothing where it is 0
+abbrev pub part_line : List Task → BoundPart → List ℕ
+part_line U p =
+    if p.time == 0 then [] else kind_words U p.task p.kind ++ codes " " ++ decimal p.time ++ codes "\n"
+
+abbrev pub part_lines : List Task → List BoundPart → List ℕ
+part_lines U [] = []
+part_lines U (p ∷ parts) = part_line U p ++ part_lines U parts
+
+-- those of both parts of a task that stands in front of these others
+abbrev pub both_lines : List Task → List Level → ℕ → (others : List ℕ) → List ℕ
+both_lines U levels task others =
+    part_line U (wait_of U task)
+    ++ part_line U (after_of (node_in U (order_of levels)) (time_in levels) task others)
+
+-- ---- a chain
+-- a bound is within a limit, where there is one: no bound is within none
+abbrev pub is_met : (bound limit : Option ℕ) → Bool
+is_met bound None = true
+is_met None (Some limit) = false
+is_met (Some bound) (Some limit) = nat_le bound limit
+
+abbrev pub bound_words : Option ℕ → List ℕ
+bound_words (Some bound) = codes " " ++ decimal bound
+bound_words None = codes " -"
+
+abbrev pub met_word : Bool → List ℕ
+met_word true = codes " of "
+met_word false = codes " misses "
+
+abbrev pub limit_words : (bound limit : Option ℕ) → List ℕ
+limit_words bound None = []
+limit_words bound (Some limit) = met_word (is_met bound (Some limit)) ++ decimal limit
+
+-- the line of a chain of this bound: it, beside the chain's limit
+abbrev pub chain_line : ChainData → (bound : Option ℕ) → List ℕ
+chain_line chain bound =
+    codes "chain " ++ chain.name ++ bound_words bound ++ limit_words bound chain.limit ++ codes "\n"
+
+-- the parts are told, where they are asked for and all tasks of the chain have a response
+abbrev pub is_told : Telling → (bound : Option ℕ) → Bool
+is_told Bound bound = false
+is_told Parts bound = is_some bound
+
+abbrev pub parts_said : Bool → List Task → List Level → (tasks : List ℕ) → List ℕ
+parts_said false U levels tasks = []
+parts_said true U levels tasks =
+    part_lines U (parts_of (node_in U (order_of levels)) (time_in levels) tasks)
+
+-- the lines of a chain in an order whose levels have these responses: its bound, and where that is told, the parts
+abbrev pub chain_said : Telling → List Task → List Level → ChainData → List ℕ
+chain_said telling U levels chain =
+    chain_line chain (bound_in U levels chain.tasks)
+    ++ parts_said (is_told telling (bound_in U levels chain.tasks)) U levels chain.tasks
+
+-- ---- all chains
+abbrev pub chains_said : Telling → List Task → List Level → List ChainData → List ℕ
+chains_said telling U levels [] = []
+chains_said telling U levels (chain ∷ chains) =
+    chain_said telling U levels chain ++ chains_said telling U levels chains
+
+-- the bound of each chain is within its limit, where it has one
+abbrev pub all_met : List Task → List Level → List ChainData → Bool
+all_met U levels chains =
+    list_all (λ (chain : ChainData). is_met (bound_in U levels chain.tasks) chain.limit) chains
+
+-- a bound that is printed is what the parts come to, and the bound of the laws of chains, by the responses of the levels
+abbrev pub PartsAreTheBound : Type 0
+PartsAreTheBound =
+    (U : List Task) (levels : List Level) (first : ℕ) (others : List ℕ) (bound : ℕ)
+    → bound_in U levels (first ∷ others) ≡ Some bound
+    → (sum_by (λ p. p.time) (parts_of (node_in U (order_of levels)) (time_in levels) (first ∷ others)) ≡ bound)
+    × (bound ≡ bound_of (node_in U (order_of levels)) (time_in levels) first others)

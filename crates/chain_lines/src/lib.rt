@@ -1,0 +1,7 @@
+//! The lines of a set's chains in an order: each bound beside its limit, and the parts that it is the sum of.
+#![tactic(auto)]
+
+pub mod laws;
+mod text;
+
+pub use text::{Telling, all_met, chains_text};
