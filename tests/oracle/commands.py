@@ -542,7 +542,7 @@ def notes_of(call, tasks, others, text, status):
     if command == "keep":
         return strange_threads(tasks, others[0]) + parted(text)
     if command in OF_THE_ORDER:
-        if status != INFEASIBLE:
+        if status != INFEASIBLE or text.startswith("admitted "):
             return names_decide(call, tasks)
         return conflict(tasks) if command in ("admit", "settings") else []
     if command in ("simulate", "draw"):

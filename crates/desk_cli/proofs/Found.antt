@@ -14,7 +14,8 @@ use Rattle.answering.specs.Printed.{IsPrinted}
 use Rattle.answering.specs.Refusals.{refusal_line, status_of}
 use Rattle.desk_cli.specs.Saying.{SaysOfBoth}
 use Rattle.answering.specs.Chosen.{asking_of}
-use Rattle.answering.specs.Owning.{HaveOwned}
+use Rattle.answering.specs.Owning.{HasChained, HaveOwned}
+use Rattle.chain_tables.specs.Chains.{ChainData}
 use Rattle.answering.specs.Sets.{HaveBoth}
 use Rattle.two_input_commands.specs.Simulate.{SaysSimulation}
 use Rattle.desk_cli.specs.declared.of_two.Found.{Found}
@@ -28,66 +29,69 @@ use Rattle.desk_cli.proofs.Refused.{two_refused}
 
 -- no text is refused as an input that was not read
 pub never_unread : (c : OfTwo) (options : Options) (by : Preference) (owners : List Owner)
-    (U : List Task) (text : List ℕ) → FindsIn c options by owners U text (Err failed_read) → ⊥
-never_unread command.Check options by owners U text never = never
-never_unread _ options by owners U text never = never
+    (chains : List ChainData) (U : List Task) (text : List ℕ)
+    → FindsIn c options by owners chains U text (Err failed_read) → ⊥
+never_unread command.Check options by owners chains U text never = never
+never_unread _ options by owners chains U text never = never
 
-module _ (options : Options) (by : Preference) (owners : List Owner) (U : List Task) (text : List ℕ)
-    (before after : Option (List ℕ)) (s : Status) where
+module _ (options : Options) (by : Preference) (owners : List Owner) (chains : List ChainData)
+    (U : List Task) (text : List ℕ) (before after : Option (List ℕ)) (s : Status) where
   both : (asking : Asking) (set other : Option (List ℕ)) → HaveOwned asking set other by U owners text
       → HaveBoth asking set other U text
   both asking set other has = ((has.0.0, has.0.1, has.0.2.set), has.1)
 
   -- a refusal was printed
-  pub refused_in : (c : OfTwo) (r : CommandRefusal) → FindsIn c options by owners U text (Err r)
+  pub refused_in : (c : OfTwo) (r : CommandRefusal) → FindsIn c options by owners chains U text (Err r)
       → Appends before after (refusal_line r) → s ≡ status_of r
-      → SaysOfBoth c options by owners U text before after s
+      → SaysOfBoth c options by owners chains U text before after s
   refused_in command.Simulate r why wrote is =
       elim options.by_task as (λ b. (set other : Option (List ℕ))
-      → HaveOwned (asking_of options) set other by U owners text
+      → HaveOwned (asking_of options) set other by U owners text → HasChained set U chains
       → SaysSimulation b (asking_of options) set other before after s) [
-        | true ↦ λ set other has. (Err r, inr (U, text, both _ set other has, why), wrote, is)
-        | false ↦ λ set other has. (Err r, inr (U, text, both _ set other has, why), wrote, is)
+        | true ↦ λ set other has said. (Err r, inr (U, text, both _ set other has, why), wrote, is)
+        | false ↦ λ set other has said. (Err r, inr (U, text, both _ set other has, why), wrote, is)
       ]
   refused_in command.Diff r why wrote is =
-      λ set other has. (Err r, (by, inr (U, text, both _ set other has, why)), wrote, is)
+      λ set other has said. (Err r, (by, inr (U, text, both _ set other has, why)), wrote, is)
   refused_in command.ExplainAt r why wrote is =
-      λ set other has. (Err r, (by, inr (U, text, both _ set other has, why)), wrote, is)
+      λ set other has said. (Err r, (chains, inr (U, text, both _ set other has, why)), wrote, is)
+  refused_in command.Judge r why wrote is =
+      λ set other has said. (Err r, (chains, inr (U, text, both _ set other has, why)), wrote, is)
   refused_in _ r why wrote is =
-      λ set other has. (Err r, inr (U, text, both _ set other has, why), wrote, is)
+      λ set other has said. (Err r, inr (U, text, both _ set other has, why), wrote, is)
 
   -- what was found was printed
-  said_in : (c : OfTwo) (found : Found) → FindsIn c options by owners U text (Ok found)
+  said_in : (c : OfTwo) (found : Found) → FindsIn c options by owners chains U text (Ok found)
       → Appends before after (found_said owners U found) → s ≡ found_status found
-      → SaysOfBoth c options by owners U text before after s
+      → SaysOfBoth c options by owners chains U text before after s
   said_in command.Check (Shown kind) finds wrote is =
-      λ set other has. (Ok kind, (U, text, both _ set other has, finds), wrote, is)
+      λ set other has said. (Ok kind, (U, text, both _ set other has, finds), wrote, is)
   said_in command.Diff (Compared c) finds wrote is =
-      λ set other has. (Ok (U, owners, c), (by, text, has, finds), wrote, is)
-  said_in command.Judge (Judged judged) finds wrote is =
-      λ set other has. (Ok (U, judged), (text, both _ set other has, finds), wrote, is)
+      λ set other has said. (Ok (U, owners, c), (by, text, has, finds), wrote, is)
+  said_in command.Judge (Judged node told) finds wrote is = λ set other has said.
+      (Ok (U, owners, chains, (node, told)), (by, text, has, said, finds), wrote, is)
   said_in command.Simulate (Simulated answer) finds wrote is =
-      λ set other has. rw finds.0 (Ok (U, answer), (text, both _ set other has, finds.1), wrote, is)
+      λ set other has said. rw finds.0 (Ok (U, answer), (text, both _ set other has, finds.1), wrote, is)
   said_in command.Simulate (Reached answer) finds wrote is =
-      λ set other has. rw finds.0 (Ok (U, answer), (text, both _ set other has, finds.1), wrote, is)
+      λ set other has said. rw finds.0 (Ok (U, answer), (text, both _ set other has, finds.1), wrote, is)
   said_in command.Draw (Drawn drawing) finds wrote is =
-      λ set other has. (Ok (U, drawing), (text, both _ set other has, finds), wrote, is)
+      λ set other has said. (Ok (U, drawing), (text, both _ set other has, finds), wrote, is)
   said_in command.Observe (Observed leeway sight) finds wrote is = λ set other has.
       rw (← finds.0) (Ok (U, sight), (text, both _ set other has, finds.1), wrote, is)
   said_in command.Keep (Keeping node base room) finds wrote is = λ set other has.
       rw (← finds.0, ← finds.1) (Ok (U, node), (text, both _ set other has, finds.2), wrote, is)
   said_in command.WorstAt (WorstAt worst) finds wrote is =
-      λ set other has. (Ok (U, worst), (text, both _ set other has, finds), wrote, is)
+      λ set other has said. (Ok (U, worst), (text, both _ set other has, finds), wrote, is)
   said_in command.LimitsAt (LimitedAt found) finds wrote is =
-      λ set other has. (Ok (U, owners, found), (by, text, has, finds), wrote, is)
-  said_in command.ExplainAt (ExplainedAt found) finds wrote is =
-      λ set other has. (Ok (U, owners, found), (by, text, has, finds), wrote, is)
+      λ set other has said. (Ok (U, owners, found), (by, text, has, finds), wrote, is)
+  said_in command.ExplainAt (ExplainedAt found told) finds wrote is = λ set other has said.
+      (Ok (U, owners, chains, (found, told)), (by, text, has, said, finds), wrote, is)
   said_in _ _ finds wrote is = absurd finds
 
   -- the same; or that memory ran out for it, which is an answer of its own
-  pub printed_in : (c : OfTwo) (found : Found) → FindsIn c options by owners U text (Ok found)
+  pub printed_in : (c : OfTwo) (found : Found) → FindsIn c options by owners chains U text (Ok found)
       → IsPrinted before after (found_said owners U found) (found_status found) s
-      → SaysOfBoth c options by owners U text before after s
+      → SaysOfBoth c options by owners chains U text before after s
   printed_in c found finds (inl wrote) = said_in c found finds wrote.0 wrote.1
-  printed_in c found finds (inr want) = λ set other has. two_refused before after s
+  printed_in c found finds (inr want) = λ set other has said. two_refused before after s
       refusal.OutOfMemory want.0 want.1 c options set other tt

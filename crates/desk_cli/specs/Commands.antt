@@ -5,7 +5,7 @@ use Rattle.command_line.specs.declared.calls.OfOne.{OfOne}
 use Rattle.command_line.specs.declared.calls.OfOne.TheVariants.{Admit, Certify, Limits, Settings, Explain, Worst, Script, Play}
 use Rattle.command_line.specs.declared.calls.OfTwo.{OfTwo}
 use Rattle.command_line.specs.declared.calls.OfTwo.TheVariants.{Check, Judge, Diff, Simulate, Draw, Observe, Keep, WorstAt, ExplainAt, LimitsAt}
-use Rattle.set_commands.specs.Admit.{SaysPlacing}
+use Rattle.set_commands.specs.Admit.{SaysAdmitted, SaysPlacing}
 use Rattle.set_commands.specs.Certify.{SaysCertified}
 use Rattle.two_input_commands.specs.Check.{SaysChecked}
 use Rattle.two_input_commands.specs.Diff.{SaysCompared}
@@ -31,7 +31,7 @@ use Rattle.preferences.specs.declared.asking.Asking.{Asking}
 -- what the words choose
 abbrev pub OneSays : OfOne → Options → Option (List ℕ) → (before after : Option (List ℕ))
     → Status → Type 0
-OneSays Admit options = SaysPlacing order.Levels (asking_of options)
+OneSays Admit options = SaysAdmitted (asking_of options)
 OneSays Certify options = SaysCertified (asking_of options)
 OneSays Limits options = SaysPart part.Limits (task_of options) (asking_of options)
 OneSays Settings options =

@@ -11,7 +11,9 @@ use Rattle.desk_cli.specs.Commands.{OneSays, TwoSay, first_asking}
 use Rattle.answering.specs.Chosen.{asking_of}
 use Rattle.script_commands.specs.Play.{Scripts}
 use Rattle.answering.specs.Sets.{HasNoSet}
-use Rattle.answering.specs.Owning.{HasOwned, HaveOwned}
+use Rattle.answering.specs.Owning.{HasChained, HasOwned, HaveOwned}
+use Rattle.chain_tables.specs.Chains.{ChainData}
+use Rattle.set_commands.specs.declared.chained.Placed.{Placed}
 use Rattle.answering.specs.declared.refusal.CommandRefusal.{CommandRefusal}
 use Rattle.answering.specs.declared.status.Status.{Status}
 
@@ -27,19 +29,21 @@ IsOfPlacing Script = ⊥
 IsOfPlacing Play = ⊥
 IsOfPlacing _ = Unit {0}
 
--- what a command says of each reader that has this set, whose tasks these have, by what the words choose
+-- what a command says of each reader that has this set, which was placed, whose tasks these have, and its chains, by what the
+-- words choose
 abbrev pub SaysOfSet :
-    OfOne → Options → List Owner → List Task → (before after : Option (List ℕ)) → Status → Type 0
-SaysOfSet command options owners U before after s =
-    (known : Option (List ℕ)) → HasOwned (asking_of options) known U owners
+    OfOne → Options → Placed → (before after : Option (List ℕ)) → Status → Type 0
+SaysOfSet command options placed before after s =
+    (known : Option (List ℕ)) → HasOwned (asking_of options) known placed.tasks placed.owners.items
+    → HasChained known placed.tasks placed.chains.items
     → OneSays command options known before after s
 
--- what a command says of each two readers that have this set, taken by this preference, and this text, by what the words
--- choose
+-- what a command says of each two readers that have this set, taken by this preference, with its chains, and this text, by what
+-- the words choose
 abbrev pub SaysOfBoth :
-    OfTwo → Options → Preference → List Owner → List Task → List ℕ
+    OfTwo → Options → Preference → List Owner → List ChainData → List Task → List ℕ
     → (before after : Option (List ℕ)) → Status → Type 0
-SaysOfBoth command options by owners U text before after s =
+SaysOfBoth command options by owners chains U text before after s =
     (set other : Option (List ℕ))
-    → HaveOwned (first_asking command options) set other by U owners text
+    → HaveOwned (first_asking command options) set other by U owners text → HasChained set U chains
     → TwoSay command options set other before after s

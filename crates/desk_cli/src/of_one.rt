@@ -2,7 +2,13 @@
 ghost use Rattle.assignment.specs.Placings.{IsPlacingOf};
 ghost use Rattle.desk_cli.specs.Commands.{OneSays};
 ghost use Rattle.desk_cli.specs.Saying.{IsOfPlacing, SaysOfSet};
+ghost use Rattle.set_commands.specs.Chained.{IsPlaced};
+ghost use Rattle.answering.specs.Chosen.{base_of, room_of};
+ghost use Rattle.answering.specs.OrderParts.{placing_said};
 ghost use Rattle.answering.specs.Outcomes.{IsCarriedOut, IsSaidOn};
+ghost use Rattle.answering.specs.Printed.{IsPrinted};
+ghost use Rattle.answering.specs.Statuses.{placing_status};
+ghost use Rattle.answering.specs.declared.answer.OrderPart.TheVariants.{Settings};
 
 use answering::{
     Audience, OrderPart, Status, asking_of, base_of, placing_status, placing_text, print_made,
@@ -10,70 +16,62 @@ use answering::{
 };
 use assignment::Placing;
 use command_line::{OfOne, Options};
-use owners::Owner;
 use script_commands::{lines_of, play};
-use set_commands::{TaskPart, decide, place, print_verdict, run_script, say_part};
+use set_commands::{
+    Placed, TaskPart, decide, place, print_verdict, run_script, say_admitted, say_part,
+};
 use std::alloc::Global;
 use std::io::{Read, Write};
 use streams::Watched;
 use task_sheet::TaskSet;
 
-// Prints what a command says of a set's placing.
-fn say_placing<W: Write + Drop>(
+// Prints what a node is set to for the order of a placing.
+fn say_settings<W: Write + Drop>(
     alloc: Global,
-    command: OfOne,
     options: Options<'_>,
-    owners: &[Owner],
     set: &TaskSet,
     placing: &Placing,
     output: &mut Watched<W>,
 ) -> Status
+    requires { IsPlacingOf set.now placing.now }
+    ensures { IsSaidOn (λ before after s. IsPrinted before after
+        (placing_said (Settings (base_of options.entry) (room_of options.entry)) set.now placing.now)
+        (placing_status placing.now) s) W.contents output.old output.new result }
+{
+    let part = OrderPart::Settings {
+        base: base_of(options),
+        room: room_of(options),
+    };
+    print_made(
+        placing_text(alloc, part, set, placing),
+        placing_status(placing),
+        output,
+    )
+}
+
+// Prints what a command says of a set that was placed.
+fn say_placing<W: Write + Drop>(
+    alloc: Global,
+    command: OfOne,
+    options: Options<'_>,
+    placed: &Placed,
+    output: &mut Watched<W>,
+) -> Status
     requires command { IsOfPlacing command }
-    requires placing { IsPlacingOf set.now placing.now }
-    ensures { IsSaidOn (SaysOfSet command options.entry owners.now set.now)
+    requires placed { IsPlaced placed.now }
+    ensures { IsSaidOn (SaysOfSet command options.entry placed.now)
         W.contents output.old output.new result }
 {
-    let status = placing_status(placing);
+    let task = options.task;
     match command {
-        OfOne::Admit => {
-            let text = placing_text(alloc, OrderPart::Levels, set, placing);
-            print_made(text, status, output)
+        OfOne::Admit => say_admitted(alloc, placed, output),
+        OfOne::Limits => say_part(alloc, TaskPart::Limits, task, placed, output),
+        OfOne::Settings => say_settings(alloc, options, &placed.tasks, &placed.placing, output),
+        OfOne::Explain => {
+            let part = TaskPart::Reasons { all: options.all };
+            say_part(alloc, part, task, placed, output)
         }
-        OfOne::Limits => say_part(
-            alloc,
-            TaskPart::Limits,
-            options.task,
-            owners,
-            set,
-            placing,
-            output,
-        ),
-        OfOne::Settings => {
-            let part = OrderPart::Settings {
-                base: base_of(options),
-                room: room_of(options),
-            };
-            let text = placing_text(alloc, part, set, placing);
-            print_made(text, status, output)
-        }
-        OfOne::Explain => say_part(
-            alloc,
-            TaskPart::Reasons { all: options.all },
-            options.task,
-            owners,
-            set,
-            placing,
-            output,
-        ),
-        OfOne::Worst => say_part(
-            alloc,
-            TaskPart::Worst,
-            options.task,
-            owners,
-            set,
-            placing,
-            output,
-        ),
+        OfOne::Worst => say_part(alloc, TaskPart::Worst, task, placed, output),
         OfOne::Certify => unreachable!(),
         OfOne::Script => unreachable!(),
         OfOne::Play => unreachable!(),
@@ -105,9 +103,7 @@ pub fn carry_out<R: Read + Drop, W: Write + Drop, P: Audience>(
             Err(refusal) => refuse(refusal, output),
         },
         _ => match place(alloc, asking, input, people) {
-            Ok((tasks, owners, placing)) => {
-                say_placing(alloc, command, options, &owners, &tasks, &placing, output)
-            }
+            Ok(placed) => say_placing(alloc, command, options, &placed, output),
             Err(refusal) => refuse(refusal, output),
         },
     }

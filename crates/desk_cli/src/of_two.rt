@@ -11,7 +11,7 @@ use answering::{
 };
 use cert_checker::Checked;
 use command_line::{OfTwo, Options};
-use judge::{JudgedNode, judged_text};
+use judge::JudgedNode;
 use kept_order::Keeping;
 use observed::{Seen, Sight};
 use observed_lines::Leeway;
@@ -20,11 +20,11 @@ use preferences::Asking;
 use std::alloc::Global;
 use std::io::{Read, Write};
 use streams::Watched;
-use task_sheet::{Members, Name, Preference, TaskSet};
+use task_sheet::{Members, Name, TaskSet};
 use two_input_commands::{
-    Compared, Drawing, InOrder, KeptNode, Observation, Simulated, check_text, checked_line,
+    ChainsTold, Compared, Drawing, InOrder, KeptNode, Observation, Simulated, chained_status, check_text, checked_line,
     compare_text, compared_text, draw_text, explain_at, explained_at_text, judge_text,
-    judged_status, keep_text, keeping_status, keeping_text, leeway_of, limits_at, observe_text,
+    judged_said, judged_status, keep_text, keeping_status, keeping_text, leeway_of, limits_at, observe_text,
     print_drawing, print_observation, print_reached, print_simulated, simulate_text, worst_at,
 };
 
@@ -35,8 +35,8 @@ pub enum Found {
     Shown(Checked),
     /// What becomes of a set and of a new one.
     Compared(Compared),
-    /// What becomes of the tasks in the order that settings give.
-    Judged(JudgedNode),
+    /// What becomes of the tasks in the order that settings give, and what is told of the chains.
+    Judged(JudgedNode, ChainsTold),
     /// What comes of a release list, to be shown as the lines of its trace.
     Simulated(Simulated),
     /// The same, to be shown as the lines of what the tasks came to.
@@ -53,35 +53,38 @@ pub enum Found {
     },
     /// The worst case of a task in the order that settings give.
     WorstAt(InOrder),
-    /// What explains the order that settings give, without the teams of its tasks.
-    ExplainedAt(InOrder),
+    /// What explains the order that settings give, without the teams of its tasks, and what is told of the chains.
+    ExplainedAt(InOrder, ChainsTold),
     /// How far the numbers of a set may go in the order that settings give.
     LimitedAt(InOrder),
 }
 
-// What a command finds of a set, which was taken by a preference, whose tasks these have, and a text.
+// What a command finds of what two inputs have.
 fn find(
     alloc: Global,
     command: OfTwo,
     options: Options<'_>,
-    by: Preference,
-    owners: &[Owner],
-    tasks: &TaskSet,
-    text: &[u8],
+    both: &Both,
 ) -> Result<Found, CommandRefusal>
-    ensures answer { FindsIn command options.entry by owners.now tasks.now text.now result }
-    ensures found { IfOk result (IsFoundOf tasks.now) }
+    ensures answer { FindsIn command options.entry both.now.by both.now.owners.items both.now.chains.items
+        both.now.tasks both.now.text.items result }
+    ensures found { IfOk result (IsFoundOf both.now.tasks) }
 {
+    let (tasks, text) = (&both.tasks, &both.text);
     match command {
         OfTwo::Check => Ok(Found::Shown(check_text(alloc, tasks, text)?)),
         OfTwo::Diff => Ok(Found::Compared(compare_text(
             alloc,
             asking_of(options),
-            by,
+            both.by,
             tasks,
             text,
         )?)),
-        OfTwo::Judge => Ok(Found::Judged(judge_text(alloc, options.lower_is_higher, tasks, text)?)),
+        OfTwo::Judge => {
+            let lower = options.lower_is_higher;
+            let (node, told) = judge_text(alloc, lower, &both.chains, tasks, text)?;
+            Ok(Found::Judged(node, told))
+        }
         OfTwo::Simulate => {
             let answer = simulate_text(alloc, tasks, text)?;
             if options.by_task {
@@ -104,11 +107,14 @@ fn find(
         OfTwo::LimitsAt => Ok(Found::LimitedAt(limits_at(
             alloc,
             options.task,
-            owners,
+            &both.owners,
             tasks,
             text,
         )?)),
-        OfTwo::ExplainAt => Ok(Found::ExplainedAt(explain_at(alloc, options.task, tasks, text)?)),
+        OfTwo::ExplainAt => {
+            let (found, told) = explain_at(alloc, options.task, &both.chains, tasks, text)?;
+            Ok(Found::ExplainedAt(found, told))
+        }
     }
 }
 
@@ -130,9 +136,9 @@ fn print_found<W: Write + Drop>(
             placing_status(&compared.is),
             output,
         ),
-        Found::Judged(node) => print_made(
-            judged_text(alloc, tasks, &node.judged, &node.numbers),
-            judged_status(&node.judged),
+        Found::Judged(node, told) => print_made(
+            judged_said(alloc, tasks, node, told),
+            chained_status(&node.judged, told.are_met),
             output,
         ),
         Found::Simulated(answer) => print_simulated(alloc, tasks, answer, output),
@@ -156,9 +162,9 @@ fn print_found<W: Write + Drop>(
             judged_status(&found.node.judged),
             output,
         ),
-        Found::ExplainedAt(found) => print_bytes(
-            explained_at_text(alloc, owners, tasks, found),
-            judged_status(&found.node.judged),
+        Found::ExplainedAt(found, told) => print_bytes(
+            explained_at_text(alloc, owners, tasks, found, told),
+            chained_status(&found.node.judged, told.are_met),
             output,
         ),
     }
@@ -257,18 +263,10 @@ fn say_both<W: Write + Drop, P: Audience>(
     people: &mut P,
 ) -> Status
     ensures { IsSaidOn (SaysOfBoth command options.entry both.now.by both.now.owners.items
-        both.now.tasks both.now.text.items) W.contents output.old output.new result }
+        both.now.chains.items both.now.tasks both.now.text.items) W.contents output.old output.new result }
 {
     let tasks = &both.tasks;
-    let answer = find(
-        alloc,
-        command,
-        options,
-        both.by,
-        &both.owners,
-        tasks,
-        &both.text,
-    );
+    let answer = find(alloc, command, options, both);
     tell(&answer, tasks, Which::Second, &both.text, people);
     tell_found(&answer, tasks, &both.text, people);
     match answer {

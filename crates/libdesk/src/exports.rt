@@ -1,6 +1,6 @@
 //! The functions that a program in C calls: a command each, and what a person is told.
 ghost use Rattle.std.specs.Prelude.{◌≡◌, length, IfSome, None, Some, false, true};
-ghost use Rattle.set_commands.specs.Admit.{SaysPlacing};
+ghost use Rattle.set_commands.specs.Admit.{SaysAdmitted, SaysPlacing};
 ghost use Rattle.set_commands.specs.Certify.{SaysCertified};
 ghost use Rattle.two_input_commands.specs.Check.{SaysChecked};
 ghost use Rattle.two_input_commands.specs.Diff.{SaysCompared};
@@ -15,7 +15,7 @@ ghost use Rattle.set_commands.specs.Releases.{SaysList};
 ghost use Rattle.two_input_commands.specs.Simulate.{SaysSimulated};
 ghost use Rattle.answering.specs.Chosen.{asking_of};
 ghost use Rattle.answering.specs.Statuses.{code_of};
-ghost use Rattle.answering.specs.declared.answer.OrderPart.TheVariants.{Levels, Settings};
+ghost use Rattle.answering.specs.declared.answer.OrderPart.TheVariants.{Settings};
 ghost use Rattle.libdesk.specs.Answers.{AnswersCall, TellsCall};
 ghost use Rattle.libdesk.specs.Asked.{AskedSays, SaysWorstAsked};
 ghost use Rattle.libdesk.specs.Numbers.{command_of};
@@ -30,7 +30,7 @@ use std::alloc::Global;
 #[unsafe(no_mangle)]
 pub extern "C" fn desk_admit(alloc: Global, set: &[u8], room: &mut [u8], status: &mut u8) -> usize
     ensures room { length room.new ≡ length room.old }
-    ensures answer { AnswersCall (SaysPlacing Levels (asking_of no_options)
+    ensures answer { AnswersCall (SaysAdmitted (asking_of no_options)
         (Some set.now)) room.old room.new result status.new }
 {
     answer(alloc, Asked::One(OfOne::Admit, set), room, status)

@@ -1,5 +1,5 @@
--- What `desk admit` and `desk settings` answer and print.
-use Rattle.std.specs.Prelude.{ℕ, List, Option, Result, Ok, Err, Vec}
+-- What becomes of the set that a reader has; what `desk admit` and `desk settings` answer and print.
+use Rattle.std.specs.Prelude.{ℕ, List, ◌++◌, Option, Result, Ok, Err}
 use Rattle.task_sheet.specs.Sheet.{Task}
 use Rattle.preferences.specs.declared.asking.Asking.{Asking}
 use Rattle.assignment.specs.Placings.{IsPlacingOf}
@@ -11,9 +11,12 @@ use Rattle.answering.specs.Statuses.{placing_status}
 use Rattle.answering.specs.declared.answer.OrderPart.{OrderPart}
 use Rattle.answering.specs.declared.refusal.CommandRefusal.{CommandRefusal}
 use Rattle.answering.specs.declared.status.Status.{Status}
-use Rattle.std.specs.declared.alloc.Global.{Global}
-use Rattle.owners.specs.declared.owner.Owner.{Owner}
-use Rattle.answering.specs.Owning.{HasOwned}
+use Rattle.answering.specs.declared.answer.OrderPart.TheVariants.{Levels}
+use Rattle.chain_tables.specs.Chains.{ChainData}
+use Rattle.chain_lines.specs.declared.text.Telling.TheVariants as telling
+use Rattle.set_commands.specs.Chained.{IsPlaced, chained_said, chained_status}
+use Rattle.set_commands.specs.declared.chained.Placed.{Placed}
+use Rattle.answering.specs.Owning.{HasChained, HasOwned}
 
 -- what is said of a reader, by what the call prefers: what the writer held, what it holds then, and the status
 abbrev pub OfOneSays : Type 1
@@ -32,9 +35,41 @@ SaysPlacing part asking known before after s =
     Prints (Places asking known) (λ placed. placing_said part placed.0 placed.1)
     (λ placed. placing_status placed.1) before after s
 
--- the answer on what a reader has: a set, whose its tasks are, and its placing; or why there is none
-abbrev pub PlacesOwned : Asking → Option (List ℕ)
-    → Result (List Task × Vec Owner Global × Placing) CommandRefusal → Type 0
+-- the answer on what a reader has: a set that is placed, whose its tasks are, and its chains; or why there is none
+abbrev pub PlacesOwned : Asking → Option (List ℕ) → Result Placed CommandRefusal → Type 0
 PlacesOwned asking known (Ok placed) =
-    HasOwned asking known placed.0 placed.1.items × IsPlacingOf placed.0 placed.2
+    HasOwned asking known placed.tasks placed.owners.items
+    × HasChained known placed.tasks placed.chains.items × IsPlaced placed
 PlacesOwned asking known (Err r) = HasNoSet asking known r
+
+-- this is said of each reader that has a set that was placed, with these chains, whose tasks these have
+abbrev pub OfPlaced : OfOneSays → Placed → (before after : Option (List ℕ)) → Status → Type 0
+OfPlaced says placed before after s =
+    (asking : Asking) → (known : Option (List ℕ))
+    → HasOwned asking known placed.tasks placed.owners.items
+    → HasChained known placed.tasks placed.chains.items
+    → says asking known before after s
+
+-- ---- desk admit
+-- a set with its chains, and its placing
+pub record AdmittedData : Type 0 where
+  pub set : List Task
+  pub chains : List ChainData
+  pub placing : Placing
+
+-- the answer on what a reader has
+abbrev pub AnswersAdmitted : Asking → Option (List ℕ) → Result AdmittedData CommandRefusal → Type 0
+AnswersAdmitted asking known (Ok a) =
+    HasSet asking known a.set × HasChained known a.set a.chains × IsPlacingOf a.set a.placing
+AnswersAdmitted asking known (Err r) = HasNoSet asking known r
+
+-- what is printed of a placing: each level of its order, the lowest first, and each chain in it; or the line of its obstruction
+abbrev pub admitted_said : List Task → List ChainData → Placing → List ℕ
+admitted_said U chains placing =
+    placing_said Levels U placing ++ chained_said telling.Bound U chains placing
+
+-- the answer on what the reader had is printed after what the writer held, and the status is the answer's
+abbrev pub SaysAdmitted : OfOneSays
+SaysAdmitted asking known before after s =
+    Prints (AnswersAdmitted asking known) (λ a. admitted_said a.set a.chains a.placing)
+    (λ a. chained_status a.set a.chains a.placing) before after s

@@ -20,10 +20,12 @@ use Rattle.owners.specs.declared.owner.Owner.{Owner}
 use Rattle.owners.specs.declared.words.Naming.TheVariants.{Reasons}
 use Rattle.worst_lines.specs.Deciding.{IsDeciding}
 use Rattle.set_commands.specs.Admit.{OfOneSays, Places}
-use Rattle.answering.specs.Statuses.{placing_status}
+use Rattle.chain_tables.specs.Chains.{ChainData}
+use Rattle.chain_lines.specs.declared.text.Telling.TheVariants as telling
+use Rattle.set_commands.specs.Chained.{chained_said, chained_status}
 use Rattle.answering.specs.OrderParts.{placing_first}
 use Rattle.answering.specs.Printed.{Prints}
-use Rattle.answering.specs.Owning.{HasOwned}
+use Rattle.answering.specs.Owning.{HasChained, HasOwned}
 use Rattle.answering.specs.declared.refusal.CommandRefusal.{CommandRefusal}
 
 -- a conflict of more than three tasks is told in short, unless all is asked for
@@ -45,10 +47,11 @@ AreDecided parted U asked (Stuck left) text =
     (judged : List JudgedTask) × IsDeciding U (order_judged judged) × AllJudged U judged
     × AreLevels parted U asked 1 judged text
 
--- a set, whose its tasks are, its placing, what explains the placing, and the lines of an order that decides
+-- a set, whose its tasks are, its chains, its placing, what explains the placing, and the lines of an order that decides
 pub record ExplainedData : Type 0 where
   pub set : List Task
   pub owners : List Owner
+  pub chains : List ChainData
   pub placing : Placing
   pub explanation : Explanation
   pub decided : List ℕ
@@ -57,7 +60,7 @@ pub record ExplainedData : Type 0 where
 abbrev pub AnswersExplained : (all : Bool) → Asking → Option (List ℕ)
     → Result ExplainedData CommandRefusal → Type 0
 AnswersExplained all asking known (Ok e) =
-    HasOwned asking known e.set e.owners × IsPlacingOf e.set e.placing
+    HasOwned asking known e.set e.owners × HasChained known e.set e.chains × IsPlacingOf e.set e.placing
     × Explains e.set e.placing e.explanation
     × AreDecided (parted_of (is_short all e.explanation)) e.set None e.placing e.decided
 AnswersExplained all asking known (Err r) = Places asking known (Err r)
@@ -79,16 +82,17 @@ abbrev pub reasons_said :
 reasons_said owners U all e decided =
     named_lines Reasons owners (whole_lines (is_short all e) U e decided)
 
--- what is printed of an explained placing: its first line, and then that
+-- what is printed of an explained placing: its first line, then that, and each chain with the parts of its bound
 abbrev pub explained_output : (all : Bool) → ExplainedData → List ℕ
 explained_output all e =
-    placing_first e.set e.placing ++ reasons_said e.owners e.set all e.explanation e.decided
+    (placing_first e.set e.placing ++ reasons_said e.owners e.set all e.explanation e.decided)
+    ++ chained_said telling.Parts e.set e.chains e.placing
 
 -- the answer on what the reader had is printed after what the writer held, and the status is the answer's
 abbrev pub SaysExplained : (all : Bool) → OfOneSays
 SaysExplained all asking known before after s =
     Prints (AnswersExplained all asking known) (explained_output all)
-    (λ e. placing_status e.placing) before after s
+    (λ e. chained_status e.set e.chains e.placing) before after s
 
 -- WITH ALL nothing is told in short: the lines are those of the explanation with what each task of a conflict needs, and
 -- those of an order that decides, with the parts of what misses

@@ -1,3 +1,4 @@
+pub mod Chained
 pub mod Admit
 pub mod Certify
 pub mod Explain

@@ -85,10 +85,3 @@ SaysAll Worst = SaysWorst
 abbrev pub SaysPart : TaskPart → Option (List ℕ) → OfOneSays
 SaysPart part None = SaysAll part
 SaysPart part (Some word) = SaysTask part word
-
--- this is said of each reader that has a set, whose tasks these have
-abbrev pub OfPlaced :
-    OfOneSays → List Owner → List Task → (before after : Option (List ℕ)) → Status → Type 0
-OfPlaced says owners U before after s =
-    (asking : Asking) → (known : Option (List ℕ)) → HasOwned asking known U owners
-    → says asking known before after s

@@ -1,32 +1,68 @@
-//! What becomes of the tasks of a set.
-ghost use Rattle.set_commands.specs.Admit.{PlacesOwned};
-ghost use Rattle.answering.specs.Outcomes.{IsRead, failed_read};
+//! What becomes of the tasks of a set, and `desk admit`.
+ghost use Rattle.std.specs.Prelude.{◌≡◌, IfOk};
+ghost use Rattle.set_commands.specs.Admit.{OfPlaced, PlacesOwned, SaysAdmitted, admitted_said};
+ghost use Rattle.set_commands.specs.Chained.{IsPlaced};
+ghost use Rattle.answering.specs.Outcomes.{IsRead, IsSaidOn, failed_read};
 
-use answering::{Audience, CommandRefusal, read_owned};
-use assignment::{Placing, place_all};
+use crate::chained::{Placed, chained_status, chained_text, levels_of};
+use answering::{
+    Audience, CommandRefusal, OrderPart, Status, joined, placing_text, print_bytes, read_owned,
+};
+use assignment::place_all;
 use ceilings::{LockTable, Tabled};
-use owners::Owner;
+use chain_lines::Telling;
 use preferences::Asking;
-use std::alloc::Global;
-use std::io::Read;
+use std::alloc::{AllocError, Global};
+use std::io::{Read, Write};
 use streams::Watched;
-use task_sheet::TaskSet;
 
-/// The set that the reader has, whose its tasks are, and what becomes of them, with nothing that shows it; or why
+/// The set that the reader has, whose its tasks are, what becomes of them, with nothing that shows it, and its chains; or why
 /// there is none.
 pub fn place<R: Read + Drop, P: Audience>(
     alloc: Global,
     asking: Asking,
     set: &mut Watched<R>,
     people: &mut P,
-) -> Result<(TaskSet, Vec<Owner>, Placing), CommandRefusal>
+) -> Result<Placed, CommandRefusal>
     ensures answer { PlacesOwned asking (R.remaining set.old.inner) result }
     ensures read { IsRead failed_read set.old set.new result }
 {
-    let (tasks, owners) = read_owned(alloc, asking, set, people)?;
+    let (tasks, owners, chains) = read_owned(alloc, asking, set, people)?;
     let table = LockTable::new(alloc, &tasks)?;
     let placing = place_all(alloc, &Tabled::of(&tasks, &table))?;
+    let levels = levels_of(alloc, &placing)?;
     people.read(&tasks);
     people.placed(&tasks, &placing);
-    Ok((tasks, owners, placing))
+    Ok(Placed {
+        tasks,
+        owners,
+        chains,
+        placing,
+        levels,
+    })
+}
+
+// The levels of the order of a placing, and the chains in it; or the line of its obstruction.
+fn admitted_text(alloc: Global, placed: &Placed) -> Result<Vec<u8>, AllocError>
+    requires { IsPlaced placed.now }
+    ensures { IfOk result (λ text. text.items
+        ≡ admitted_said placed.now.tasks placed.now.chains.items placed.now.placing) }
+{
+    let lines = placing_text(alloc, OrderPart::Levels, &placed.tasks, &placed.placing)?;
+    let chains = chained_text(alloc, Telling::Bound, placed)?;
+    let text = joined(alloc, lines.as_bytes(), chains.as_bytes())?;
+    Ok(text)
+}
+
+/// Prints what `desk admit` says of a set that was placed, or that there was no memory for it.
+pub fn say_admitted<W: Write + Drop>(
+    alloc: Global,
+    placed: &Placed,
+    output: &mut Watched<W>,
+) -> Status
+    requires { IsPlaced placed.now }
+    ensures { IsSaidOn (OfPlaced SaysAdmitted placed.now) W.contents output.old output.new result }
+{
+    let status = chained_status(placed);
+    print_bytes(admitted_text(alloc, placed), status, output)
 }

@@ -9,10 +9,14 @@ ghost use Rattle.owners.specs.NamedLines.{named_lines};
 ghost use Rattle.owners.specs.declared.words.Naming.TheVariants.{Reasons};
 ghost use Rattle.set_commands.specs.Explain.{AreDecided, conflict_said, is_short, parted_of, reasons_said, whole_lines};
 ghost use Rattle.answering.specs.OrderParts.{placing_first};
+ghost use Rattle.chain_lines.specs.declared.text.Telling.TheVariants.{Parts};
+ghost use Rattle.set_commands.specs.Chained.{IsPlaced, chained_said};
 
+use crate::chained::{Placed, chained_text};
 use answering::{OrderPart, joined, placing_text};
 use assignment::Placing;
 use ceilings::{LockTable, Tabled};
+use chain_lines::Telling;
 use explain::{Explanation, explain, explanation_text, push_conflict, push_load, task_text};
 use judge::{Parted, levels_text};
 use owners::{Naming, Owner, named_text};
@@ -166,7 +170,7 @@ pub(crate) fn reasons_text(
 }
 
 // The first line of a placing, and then the lines of what explains it.
-pub(crate) fn explained_text(
+fn whole_reasons_text(
     alloc: Global,
     all: bool,
     owners: &[Owner],
@@ -183,5 +187,31 @@ pub(crate) fn explained_text(
     let lines = all_reasons_text(alloc, all, owners, set, placing)?;
     let first = placing_text(alloc, OrderPart::Count, set, placing)?;
     let text = joined(alloc, first.as_bytes(), &lines)?;
+    Ok(text)
+}
+
+// The same of a set that was placed, and then each chain with the parts of its bound.
+pub(crate) fn explained_text(
+    alloc: Global,
+    all: bool,
+    placed: &Placed,
+) -> Result<Vec<u8>, AllocError>
+    requires { IsPlaced placed.now }
+    ensures { IfOk result (λ text. (explanation : Explanation) × (decided : List ℕ)
+        × Explains placed.now.tasks placed.now.placing explanation
+        × AreDecided (parted_of (is_short all explanation)) placed.now.tasks None placed.now.placing decided
+        × (text.items ≡ (placing_first placed.now.tasks placed.now.placing
+        ++ reasons_said placed.now.owners.items placed.now.tasks all explanation decided)
+        ++ chained_said Parts placed.now.tasks placed.now.chains.items placed.now.placing)) }
+{
+    let lines = whole_reasons_text(
+        alloc,
+        all,
+        &placed.owners,
+        &placed.tasks,
+        &placed.placing,
+    )?;
+    let chains = chained_text(alloc, Telling::Parts, placed)?;
+    let text = joined(alloc, &lines, chains.as_bytes())?;
     Ok(text)
 }

@@ -3,6 +3,7 @@
 
 mod admit;
 mod certify;
+mod chained;
 mod explain_lines;
 pub mod laws;
 mod limits_lines;
@@ -10,8 +11,9 @@ mod one_task;
 mod releases;
 mod script;
 
-pub use admit::place;
+pub use admit::{place, say_admitted};
 pub use certify::{decide, print_verdict};
+pub use chained::Placed;
 pub use one_task::{TaskPart, say_part};
 pub use releases::run_releases;
 pub use script::run_script;

@@ -3,9 +3,12 @@ ghost use Rattle.std.specs.Prelude.{◌≡◌, ◌++◌, ◌<◌, length, IfOk, 
 ghost use Rattle.assignment.specs.Placings.{IsPlacingOf};
 ghost use Rattle.limit_lines.specs.Lines.{AreTaskLines, order_given, places_in};
 ghost use Rattle.worst_lines.specs.Lines.{AreWorstLines};
-ghost use Rattle.set_commands.specs.OneTask.{AreLinesOf, OfPlaced, SaysAll, SaysPart, SaysTask, first_said};
+ghost use Rattle.set_commands.specs.Admit.{OfPlaced};
+ghost use Rattle.set_commands.specs.Chained.{IsPlaced};
+ghost use Rattle.set_commands.specs.OneTask.{AreLinesOf, SaysAll, SaysPart, SaysTask, first_said};
 ghost use Rattle.answering.specs.Outcomes.{IsSaidOn};
 
+use crate::chained::{Placed, chained_status};
 use crate::explain_lines::{explained_text, reasons_text};
 use crate::limits_lines::{order_of, print_placing};
 use answering::{
@@ -138,20 +141,25 @@ fn say_task<W: Write + Drop>(
     alloc: Global,
     part: TaskPart,
     word: &str,
-    owners: &[Owner],
-    set: &TaskSet,
-    placing: &Placing,
+    placed: &Placed,
     output: &mut Watched<W>,
 ) -> Status
-    requires { IsPlacingOf set.now placing.now }
-    ensures { IsSaidOn (OfPlaced (SaysTask part word.now) owners.now set.now)
+    requires { IsPlaced placed.now }
+    ensures { IsSaidOn (OfPlaced (SaysTask part word.now) placed.now)
         W.contents output.old output.new result }
 {
-    match find_task(set, word) {
+    match find_task(&placed.tasks, word) {
         Some(task) => {
-            let status = placing_status(placing);
+            let status = placing_status(&placed.placing);
             print_bytes(
-                task_text(alloc, part, owners, set, placing, task),
+                task_text(
+                    alloc,
+                    part,
+                    &placed.owners,
+                    &placed.tasks,
+                    &placed.placing,
+                    task,
+                ),
                 status,
                 output,
             )
@@ -164,24 +172,31 @@ fn say_task<W: Write + Drop>(
 fn say_all<W: Write + Drop>(
     alloc: Global,
     part: TaskPart,
-    owners: &[Owner],
-    set: &TaskSet,
-    placing: &Placing,
+    placed: &Placed,
     output: &mut Watched<W>,
 ) -> Status
-    requires { IsPlacingOf set.now placing.now }
-    ensures { IsSaidOn (OfPlaced (SaysAll part) owners.now set.now)
+    requires { IsPlaced placed.now }
+    ensures { IsSaidOn (OfPlaced (SaysAll part) placed.now)
         W.contents output.old output.new result }
 {
-    let status = placing_status(placing);
     match part {
-        TaskPart::Limits => print_placing(alloc, owners, set, placing, output),
-        TaskPart::Reasons { all } => print_bytes(
-            explained_text(alloc, all, owners, set, placing),
-            status,
+        TaskPart::Limits => print_placing(
+            alloc,
+            &placed.owners,
+            &placed.tasks,
+            &placed.placing,
             output,
         ),
-        TaskPart::Worst => print_made(worst_text(alloc, set, placing, None), status, output),
+        TaskPart::Reasons { all } => print_bytes(
+            explained_text(alloc, all, placed),
+            chained_status(placed),
+            output,
+        ),
+        TaskPart::Worst => print_made(
+            worst_text(alloc, &placed.tasks, &placed.placing, None),
+            placing_status(&placed.placing),
+            output,
+        ),
     }
 }
 
@@ -190,17 +205,15 @@ pub fn say_part<W: Write + Drop>(
     alloc: Global,
     part: TaskPart,
     word: Option<&str>,
-    owners: &[Owner],
-    set: &TaskSet,
-    placing: &Placing,
+    placed: &Placed,
     output: &mut Watched<W>,
 ) -> Status
-    requires { IsPlacingOf set.now placing.now }
+    requires { IsPlaced placed.now }
     ensures { IsSaidOn (OfPlaced (SaysPart part (option_map (λ w. w.now) word.entry))
-        owners.now set.now) W.contents output.old output.new result }
+        placed.now) W.contents output.old output.new result }
 {
     match word {
-        Some(word) => say_task(alloc, part, word, owners, set, placing, output),
-        None => say_all(alloc, part, owners, set, placing, output),
+        Some(word) => say_task(alloc, part, word, placed, output),
+        None => say_all(alloc, part, placed, output),
     }
 }

@@ -1,5 +1,5 @@
 -- What `desk judge` answers and prints.
-use Rattle.std.specs.Prelude.{ℕ, Bool, List, Result, Ok, Err, if◌then◌else◌}
+use Rattle.std.specs.Prelude.{ℕ, Bool, List, ◌++◌, string_bytes, Result, Ok, Err, if◌then◌else◌}
 use Rattle.task_sheet.specs.Sheet.{Task}
 use Rattle.judge.specs.Ceilings.{IsTextJudgement}
 use Rattle.judge.specs.Faults.{IsSettingsFault, given_fault_by}
@@ -8,7 +8,11 @@ use Rattle.judge.specs.Lines.{judged_lines}
 use Rattle.judge.specs.Node.{AreNumbersIn}
 use Rattle.judge.specs.declared.judging.JudgedTask.{JudgedTask}
 use Rattle.judge.specs.declared.node.JudgedNode.{JudgedNode}
-use Rattle.two_input_commands.specs.OnBoth.{OfTwoSays, SaysOnBoth}
+use Rattle.chain_tables.specs.Chains.{ChainData}
+use Rattle.chain_lines.specs.declared.text.Telling.TheVariants as telling
+use Rattle.two_input_commands.specs.Chained.{AreTold, chained_status}
+use Rattle.two_input_commands.specs.OnBoth.{OfTwoSays, SaysOnBothChained}
+use Rattle.two_input_commands.specs.declared.chained.ChainsTold.{ChainsTold}
 use Rattle.answering.specs.declared.refusal.CommandRefusal.{CommandRefusal}
 use Rattle.answering.specs.declared.refusal.CommandRefusal.TheVariants as refusal
 use Rattle.answering.specs.declared.status.Status.{Status}
@@ -21,18 +25,33 @@ pub record IsJudgement (lower : Bool) (U : List Task) (text : List ℕ) (node : 
   pub numbers : AreNumbersIn U text (order_judged node.judged.items) node.numbers.items
 
 -- the answer on a set and the text of settings
-abbrev pub JudgesText : (lower : Bool) → List Task → List ℕ → Result JudgedNode CommandRefusal → Type 0
-JudgesText lower U text (Ok node) = IsJudgement lower U text node
-JudgesText lower U text (Err (refusal.Settings fault)) =
+abbrev pub JudgesNode : (lower : Bool) → List Task → List ℕ → Result JudgedNode CommandRefusal → Type 0
+JudgesNode lower U text (Ok node) = IsJudgement lower U text node
+JudgesNode lower U text (Err (refusal.Settings fault)) =
     IsSettingsFault fault (given_fault_by lower U text)
-JudgesText lower U text _ = ⊥
+JudgesNode lower U text _ = ⊥
+
+-- the same with what is told of the set's chains in that order
+abbrev pub JudgesText : (lower : Bool) → List ChainData → List Task → List ℕ
+    → Result (JudgedNode × ChainsTold) CommandRefusal → Type 0
+JudgesText lower chains U text (Ok found) =
+    IsJudgement lower U text found.0 × AreTold telling.Bound U chains found.0.judged.items found.1
+JudgesText lower chains U text (Err (refusal.Settings fault)) =
+    IsSettingsFault fault (given_fault_by lower U text)
+JudgesText lower chains U text (Err refusal.OutOfMemory) = Unit {0}
+JudgesText lower chains U text _ = ⊥
 
 -- the exit status of an order
 abbrev pub judged_status : List JudgedTask → Status
 judged_status judged = if all_meet judged then status.Done else status.Infeasible
 
+-- what is printed: whether all tasks meet their deadlines, what becomes of each, and then the chains
+abbrev pub judged_said : List Task → JudgedNode → ChainsTold → List ℕ
+judged_said U node told =
+    judged_lines U node.judged.items node.numbers.items ++ string_bytes told.text
+
 -- the answer on what the readers had is printed after what the writer held, and the status is the answer's
 abbrev pub SaysJudged : (lower : Bool) → OfTwoSays
 SaysJudged lower =
-    SaysOnBoth (JudgesText lower) (λ U node. judged_lines U node.judged.items node.numbers.items)
-    (λ node. judged_status node.judged.items)
+    SaysOnBothChained (JudgesText lower) (λ owners U found. judged_said U found.0 found.1)
+    (λ found. chained_status found.0.judged.items found.1.are_met)

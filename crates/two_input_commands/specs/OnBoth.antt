@@ -4,7 +4,8 @@ use Rattle.task_sheet.specs.Sheet.{Task}
 use Rattle.task_sheet.specs.declared.prefer.Preference.{Preference}
 use Rattle.preferences.specs.declared.asking.Asking.{Asking}
 use Rattle.owners.specs.declared.owner.Owner.{Owner}
-use Rattle.answering.specs.Owning.{HaveOwned}
+use Rattle.chain_tables.specs.Chains.{ChainData}
+use Rattle.answering.specs.Owning.{HasChained, HaveOwned}
 use Rattle.answering.specs.Printed.{Prints}
 use Rattle.answering.specs.Sets.{HaveBoth, OnBoth}
 use Rattle.answering.specs.declared.refusal.CommandRefusal.{CommandRefusal}
@@ -34,6 +35,17 @@ WithOwners answers asking set other (Ok found) =
 WithOwners answers asking set other (Err r) =
     (by : Preference) × OnBoth (answers by) asking set other (Err r)
 
+-- the same with its chains, on which the answers rest
+abbrev pub WithChains :
+    {X : Type 0} → (List ChainData → List Task → List ℕ → Result X CommandRefusal → Type 0) → Asking
+    → (set other : Option (List ℕ))
+    → Result (List Task × List Owner × List ChainData × X) CommandRefusal → Type 0
+WithChains answers asking set other (Ok found) =
+    (by : Preference) × (text : List ℕ) × HaveOwned asking set other by found.0 found.1 text
+    × HasChained set found.0 found.2 × answers found.2 found.0 text (Ok found.3)
+WithChains answers asking set other (Err r) =
+    (chains : List ChainData) × OnBoth (answers chains) asking set other (Err r)
+
 -- the answer on what the readers had is printed after what the writer held, and the status is the answer's
 abbrev pub SaysOnBoth :
     {X : Type 0} → (List Task → List ℕ → Result X CommandRefusal → Type 0) → (List Task → X → List ℕ)
@@ -49,3 +61,11 @@ abbrev pub SaysOnBothOwned :
 SaysOnBothOwned answers lines done asking set other before after s =
     Prints (WithOwners answers asking set other) (λ found. lines found.1 found.0 found.2)
     (λ found. done found.2) before after s
+
+-- the same, where its chains are printed, too
+abbrev pub SaysOnBothChained :
+    {X : Type 0} → (List ChainData → List Task → List ℕ → Result X CommandRefusal → Type 0)
+    → (List Owner → List Task → X → List ℕ) → (X → Status) → OfTwoSays
+SaysOnBothChained answers lines done asking set other before after s =
+    Prints (WithChains answers asking set other) (λ found. lines found.1 found.0 found.3)
+    (λ found. done found.3) before after s

@@ -1,6 +1,7 @@
 //! The commands of `desk` on a task set and a second input: what they find, and what is printed of it.
 #![tactic(auto)]
 
+mod chained;
 mod check;
 mod diff_lines;
 mod draw;
@@ -15,12 +16,13 @@ mod simulate;
 mod view;
 mod worst_at_lines;
 
+pub use chained::{ChainsTold, chained_status};
 pub use check::{check_text, checked_line};
 pub use diff_lines::{Compared, compare_text, compared_text};
 pub use draw::{Drawing, draw_text, print_drawing};
 pub use explain_at_lines::{explain_at, explained_at_text};
 pub use in_order::InOrder;
-pub use judge_lines::{judge_text, judged_status};
+pub use judge_lines::{judge_text, judged_said, judged_status};
 pub use keep_lines::{KeptNode, keep_text, keeping_status, keeping_text};
 pub use limits_at_lines::limits_at;
 pub use observe_lines::{Observation, leeway_of, observe_text, print_observation};

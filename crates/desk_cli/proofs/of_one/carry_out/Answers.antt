@@ -54,7 +54,7 @@ returns-in-Ok-place g c =
     let placed = rw c.asking_of-asking.ensures at c.in-Ok-place.ensures.answer in
     carried_out c.in-Ok-place.ensures.read (said_as c.say_placing.ensures
     (λ told.
-    told (g.R.Read.remaining c.args.input.now.inner) (rw c.deref.ensures.value placed.0)))
+    told (g.R.Read.remaining c.args.input.now.inner) placed.0 placed.1))
 
 pub returns-in-Err-place : goal.returns-in-Err-place
 returns-in-Err-place g c =

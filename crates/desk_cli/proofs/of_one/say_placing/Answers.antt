@@ -1,4 +1,4 @@
-use Rattle.std.proofs.Common.{ℕ, List, Option, Ok, Err, inl, inr, string_bytes}
+use Rattle.std.proofs.Common.{ℕ, List, Option, Ok, Err, inl, inr}
 use Rattle.task_sheet.specs.Sheet.{Task}
 use Rattle.preferences.specs.declared.asking.Asking.{Asking}
 use Rattle.assignment.specs.declared.placing.Placing.{Placing}
@@ -8,10 +8,10 @@ use Rattle.answering.specs.OrderParts.{placing_said}
 use Rattle.answering.specs.Printed.{IsPrinted}
 use Rattle.answering.specs.Statuses.{placing_status}
 use Rattle.answering.specs.declared.answer.OrderPart.{OrderPart}
-use Rattle.answering.specs.declared.answer.OrderPart.TheVariants.{Levels, Settings}
+use Rattle.answering.specs.declared.answer.OrderPart.TheVariants.{Settings}
 use Rattle.answering.specs.declared.refusal.CommandRefusal.TheVariants as refusal
 use Rattle.answering.specs.declared.status.Status.{Status}
-use Rattle.answering.proofs.CarriedOut.{made_printed, said_as}
+use Rattle.answering.proofs.CarriedOut.{said_as}
 use Rattle.desk_cli.proofs.of_one.say_placing.Goals as goal
 
 -- what is printed of a placing is the answer on what a reader has; out of memory for it is an answer of its own
@@ -26,30 +26,22 @@ printed_says part asking known before after U p s placed (inr want) =
     (Err refusal.OutOfMemory, tt, want.0, want.1)
 
 pub returns-in-Admit : goal.returns-in-Admit
-returns-in-Admit g c =
-    rw c.in-Admit.is (said_as (made_printed c.placing_text-text.result (λ t. string_bytes t) _ _
-    c.placing_text-text.ensures c.print_made.ensures) (λ told. λ known has.
-    printed_says Levels (asking_of c.args.options) known _ _ c.args.set.now
-    c.args.placing.now _ ((has.0, has.1, has.2.set), c.requires.placing)
-    (rw c.placing_status-status.ensures at told)))
+returns-in-Admit g c = rw c.in-Admit.is
+    (said_as c.say_admitted.ensures (λ told. λ known has said. told _ known has said))
 
 pub returns-in-Settings : goal.returns-in-Settings
-returns-in-Settings g c =
-    rw c.in-Settings.is (said_as (made_printed c.placing_text-text-in-Settings.result
-    (λ t. string_bytes t) _ _ c.placing_text-text-in-Settings.ensures
-    c.print_made-in-Settings.ensures) (λ told. λ known has.
+returns-in-Settings g c = rw c.in-Settings.is (said_as c.say_settings.ensures (λ told. λ known has said.
     printed_says (Settings (base_of c.args.options) (room_of c.args.options)) (asking_of c.args.options) known _ _
-    c.args.set.now c.args.placing.now _ ((has.0, has.1, has.2.set), c.requires.placing)
-    (rw (c.base_of.ensures, c.room_of.ensures, c.placing_status-status.ensures) at told)))
+    c.args.placed.now.tasks c.args.placed.now.placing _ ((has.0, has.1, has.2.set), c.requires.placed.placing) told))
 
 pub returns-in-Explain : goal.returns-in-Explain
 returns-in-Explain g c = rw c.in-Explain.is
-    (said_as c.say_part-in-Explain.ensures (λ told. λ known has. told _ known has))
+    (said_as c.say_part-in-Explain.ensures (λ told. λ known has said. told _ known has said))
 
 pub returns-in-Limits : goal.returns-in-Limits
 returns-in-Limits g c =
-    rw c.in-Limits.is (said_as c.say_part.ensures (λ told. λ known has. told _ known has))
+    rw c.in-Limits.is (said_as c.say_part.ensures (λ told. λ known has said. told _ known has said))
 
 pub returns-in-Worst : goal.returns-in-Worst
 returns-in-Worst g c =
-    rw c.in-Worst.is (said_as c.say_part-in-Worst.ensures (λ told. λ known has. told _ known has))
+    rw c.in-Worst.is (said_as c.say_part-in-Worst.ensures (λ told. λ known has said. told _ known has said))

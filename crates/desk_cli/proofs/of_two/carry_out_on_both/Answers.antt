@@ -7,7 +7,7 @@ returns-in-Ok g c =
     let answer = rw c.first_asking-asking.ensures at c.in-Ok.ensures.answer in
     carried_out_on_both c.in-Ok.ensures.read (said_as c.say_both.ensures (λ told.
     told (g.R.Read.remaining c.args.set.now.inner) (g.S.Read.remaining c.args.other.now.inner)
-    answer))
+    answer c.in-Ok.ensures.chains))
 
 pub returns-in-Err : goal.returns-in-Err
 returns-in-Err g c =

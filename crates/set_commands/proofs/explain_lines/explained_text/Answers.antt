@@ -7,6 +7,6 @@ returns c =
       found.1,
       found.2,
       found.3,
-      rw (c.as_bytes.ensures.value, c.in_ok-first.ensures, c.deref.ensures.value, found.4) at
+      rw (c.as_bytes.ensures.value, c.in_ok-chains.ensures, c.deref.ensures.value, found.4) at
           c.in_ok-text.ensures,
     )

@@ -5,16 +5,16 @@ use Rattle.set_commands.proofs.one_task.say_all.Goals as goal
 
 pub returns-in-Limits : goal.returns-in-Limits
 returns-in-Limits g c =
-    rw c.in-Limits.is (said_as c.print_placing.ensures (λ told. λ asking known has. elim told [
+    rw c.in-Limits.is (said_as c.print_placing.ensures (λ told. λ asking known has said. elim told [
       | inl listed ↦ (
         Ok (record {
-          set = c.args.set.now;
-          owners = c.args.owners.now;
-          placing = c.args.placing.now;
+          set = c.args.placed.now.tasks;
+          owners = c.args.placed.now.owners.items;
+          placing = c.args.placed.now.placing;
           lines = listed.0;
           status = c.print_placing.result;
         }),
-        (has, c.requires, listed.1),
+        (has, c.requires.placing, listed.1),
         listed.2,
         refl,
       )
@@ -26,28 +26,29 @@ pub returns-in-Reasons : goal.returns-in-Reasons
 returns-in-Reasons g c =
     rw c.in-Reasons.is (made_said c.explained_text.result (λ t. t.items) _ c.explained_text.ensures
     c.print_bytes.ensures
-    (λ text found wrote is. λ asking known has. (
+    (λ text found wrote is. λ asking known has said. (
       Ok (record {
-        set = c.args.set.now;
-        owners = c.args.owners.now;
-        placing = c.args.placing.now;
+        set = c.args.placed.now.tasks;
+        owners = c.args.placed.now.owners.items;
+        chains = c.args.placed.now.chains.items;
+        placing = c.args.placed.now.placing;
         explanation = found.0;
         decided = found.1;
       }),
-      (has, c.requires, found.2, found.3),
+      (has, said, c.requires.placing, found.2, found.3),
       rw found.4 at wrote,
-      is ∙ c.placing_status-status.ensures,
+      is ∙ c.chained_status.ensures,
     ))
-    (λ wrote is. λ asking known has. (Err refusal.OutOfMemory, tt, wrote, is)))
+    (λ wrote is. λ asking known has said. (Err refusal.OutOfMemory, tt, wrote, is)))
 
 pub returns-in-Worst : goal.returns-in-Worst
 returns-in-Worst g c =
     rw c.in-Worst.is (made_said c.worst_text.result (λ t. string_bytes t) _ c.worst_text.ensures
     c.print_made.ensures
-    (λ text lines wrote is. λ asking known has. (
-      Ok (record { set = c.args.set.now; placing = c.args.placing.now; lines = string_bytes text }),
-      (((has.0, has.1, has.2.set), c.requires), lines),
+    (λ text lines wrote is. λ asking known has said. (
+      Ok (record { set = c.args.placed.now.tasks; placing = c.args.placed.now.placing; lines = string_bytes text }),
+      (((has.0, has.1, has.2.set), c.requires.placing), lines),
       wrote,
-      is ∙ c.placing_status-status.ensures,
+      is ∙ c.placing_status.ensures,
     ))
-    (λ wrote is. λ asking known has. (Err refusal.OutOfMemory, tt, wrote, is)))
+    (λ wrote is. λ asking known has said. (Err refusal.OutOfMemory, tt, wrote, is)))

@@ -1,4 +1,4 @@
-use Rattle.two_input_commands.proofs.explain_at_lines.explained_at_text.Goals as goal
+use Rattle.two_input_commands.proofs.explain_at_lines.front_text.Goals as goal
 
 pub returns : goal.returns
 returns c = rw (

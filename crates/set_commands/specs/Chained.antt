@@ -1,0 +1,42 @@
+-- What is said of a set's chains in its best order.
+use Rattle.std.specs.Prelude.{◌≡◌, ℕ, List, [], map, Some, if◌then◌else◌}
+use Rattle.task_sheet.specs.Sheet.{Task}
+use Rattle.assignment.specs.Places.{PlaceData}
+use Rattle.assignment.specs.Placings.{IsPlacingOf}
+use Rattle.assignment.specs.declared.placing.Placing.{Placing}
+use Rattle.assignment.specs.declared.placing.Placing.TheVariants.{Best, Stuck}
+use Rattle.chains.specs.declared.bounds.Level.{Level}
+use Rattle.chain_tables.specs.Chains.{ChainData}
+use Rattle.chain_lines.specs.Lines.{all_met, chains_said}
+use Rattle.chain_lines.specs.declared.text.Telling.{Telling}
+use Rattle.set_commands.specs.declared.chained.Placed.{Placed}
+use Rattle.answering.specs.declared.status.Status.{Status}
+use Rattle.answering.specs.declared.status.Status.TheVariants as status
+
+-- the levels of an order's places: each task with its response
+abbrev pub levels_at : List PlaceData → List Level
+levels_at places = map (λ p. record { task = p.task; response = Some p.response }) places
+
+-- those of the order of a placing; none where no order passes
+abbrev pub levels_of : Placing → List Level
+levels_of (Best places) = levels_at places.items
+levels_of (Stuck left) = []
+
+-- the lines of chains in the order of a placing; nothing where no order passes
+abbrev pub chained_said : Telling → List Task → List ChainData → Placing → List ℕ
+chained_said telling U chains (Best places) = chains_said telling U (levels_at places.items) chains
+chained_said telling U chains (Stuck left) = []
+
+-- the exit status of chains in an order: a bound past its limit has that of a deadline that isn't met
+abbrev pub met_status : List Task → List Level → List ChainData → Status
+met_status U levels chains = if all_met U levels chains then status.Done else status.Infeasible
+
+-- that of a placing and the chains in its order
+abbrev pub chained_status : List Task → List ChainData → Placing → Status
+chained_status U chains (Best places) = met_status U (levels_at places.items) chains
+chained_status U chains (Stuck left) = status.Infeasible
+
+-- a set was placed: this becomes of its tasks, and these are the levels
+pub record IsPlaced (placed : Placed) : Type 0 where
+  pub placing : IsPlacingOf placed.tasks placed.placing
+  pub levels : placed.levels.items ≡ levels_of placed.placing

@@ -1,0 +1,89 @@
+//! The chains of a set in its best order.
+ghost use Rattle.std.specs.Prelude.{◌≡◌, IfOk, string_bytes};
+ghost use Rattle.set_commands.specs.Chained.{IsPlaced, chained_said, chained_status, levels_at, levels_of, met_status};
+
+use answering::Status;
+use assignment::{Place, Placing};
+use chain_lines::{Telling, all_met, chains_text};
+use chain_tables::Chain;
+use chains::Level;
+use owners::Owner;
+use std::alloc::{AllocError, Global};
+use task_sheet::TaskSet;
+
+/// A set, whose its tasks are, its chains, what becomes of them all, and the levels of its best order; none where no order
+/// passes.
+#[derive(Drop)]
+pub struct Placed {
+    pub tasks: TaskSet,
+    pub owners: Vec<Owner>,
+    pub chains: Vec<Chain>,
+    pub placing: Placing,
+    pub levels: Vec<Level>,
+}
+
+// The levels of places.
+fn levels_at(alloc: Global, places: &[Place]) -> Result<Vec<Level>, AllocError>
+    ensures { IfOk result (λ levels. levels.items ≡ levels_at places.now) }
+{
+    let mut levels = Vec::with_capacity(alloc, places.len())?;
+    for place in places {
+        let (task, response) = (place.task, Some(place.response));
+        levels.push(Level { task, response })?;
+    }
+    Ok(levels)
+}
+
+/// The levels of the order of a placing; none where no order passes. The error is out of memory.
+pub(crate) fn levels_of(alloc: Global, placing: &Placing) -> Result<Vec<Level>, AllocError>
+    ensures { IfOk result (λ levels. levels.items ≡ levels_of placing.now) }
+{
+    match placing {
+        Placing::Best(places) => levels_at(alloc, places),
+        Placing::Stuck(_) => Ok(Vec::new(alloc)),
+    }
+}
+
+/// The lines of a set's chains in its best order; nothing where no order passes. The error is out of memory.
+pub(crate) fn chained_text(
+    alloc: Global,
+    telling: Telling,
+    placed: &Placed,
+) -> Result<String, AllocError>
+    requires { IsPlaced placed.now }
+    ensures { IfOk result (λ text. string_bytes text
+        ≡ chained_said telling placed.now.tasks placed.now.chains.items placed.now.placing) }
+{
+    match &placed.placing {
+        Placing::Best(_) => chains_text(
+            alloc,
+            telling,
+            &placed.tasks,
+            &placed.levels,
+            &placed.chains,
+        ),
+        Placing::Stuck(_) => Ok(String::new(alloc)),
+    }
+}
+
+// Whether each chain of a set is met in an order whose levels these are, as a status.
+fn met_status(set: &TaskSet, levels: &[Level], chains: &[Chain]) -> Status
+    ensures { result ≡ met_status set.now levels.now chains.now }
+{
+    if all_met(set, levels, chains) {
+        Status::Done
+    } else {
+        Status::Infeasible
+    }
+}
+
+/// The exit status of a placing and the chains in its order.
+pub(crate) fn chained_status(placed: &Placed) -> Status
+    requires { IsPlaced placed.now }
+    ensures { result ≡ chained_status placed.now.tasks placed.now.chains.items placed.now.placing }
+{
+    match &placed.placing {
+        Placing::Best(_) => met_status(&placed.tasks, &placed.levels, &placed.chains),
+        Placing::Stuck(_) => Status::Infeasible,
+    }
+}

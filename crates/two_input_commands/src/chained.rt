@@ -1,0 +1,68 @@
+//! The chains of a set in an order that settings give.
+ghost use Rattle.std.specs.Prelude.{◌≡◌, IfOk};
+ghost use Rattle.two_input_commands.specs.Chained.{AreTold, chained_status, levels_judged, response_judged};
+
+use answering::Status;
+use chain_lines::{Telling, all_met, chains_text};
+use chain_tables::Chain;
+use chains::Level;
+use judge::{JudgedTask, Judgement, all_meet};
+use std::alloc::{AllocError, Global};
+use task_sheet::TaskSet;
+
+/// What is printed of a set's chains in an order, and whether the bound of each is within its limit.
+#[derive(Drop)]
+pub struct ChainsTold {
+    pub text: String,
+    pub are_met: bool,
+}
+
+// The response of a task that meets its deadline.
+fn response_judged(judgement: Judgement) -> Option<u64>
+    ensures { result ≡ response_judged judgement }
+{
+    match judgement {
+        Judgement::Meets { response } => Some(response),
+        Judgement::Misses { .. } => None,
+        Judgement::Below { .. } => None,
+    }
+}
+
+// The levels of an order that was judged.
+fn levels_judged(alloc: Global, judged: &[JudgedTask]) -> Result<Vec<Level>, AllocError>
+    ensures { IfOk result (λ levels. levels.items ≡ levels_judged judged.now) }
+{
+    let mut levels = Vec::with_capacity(alloc, judged.len())?;
+    for entry in judged {
+        let (task, response) = (entry.task, response_judged(entry.judgement));
+        levels.push(Level { task, response })?;
+    }
+    Ok(levels)
+}
+
+/// The lines of a set's chains in an order that was judged, and whether each is met. The error is out of memory.
+pub(crate) fn tell_chains(
+    alloc: Global,
+    telling: Telling,
+    set: &TaskSet,
+    chains: &[Chain],
+    judged: &[JudgedTask],
+) -> Result<ChainsTold, AllocError>
+    ensures { IfOk result (AreTold telling set.now chains.now judged.now) }
+{
+    let levels = levels_judged(alloc, judged)?;
+    let text = chains_text(alloc, telling, set, &levels, chains)?;
+    let are_met = all_met(set, &levels, chains);
+    Ok(ChainsTold { text, are_met })
+}
+
+/// The exit status of an order and the chains in it.
+pub fn chained_status(judged: &[JudgedTask], are_met: bool) -> Status
+    ensures { result ≡ chained_status judged.now are_met }
+{
+    if all_meet(judged) && are_met {
+        Status::Done
+    } else {
+        Status::Infeasible
+    }
+}
