@@ -23,7 +23,7 @@ pub fn place<R: Read + Drop, P: Audience>(
     ensures answer { PlacesOwned asking (R.remaining set.old.inner) result }
     ensures read { IsRead failed_read set.old set.new result }
 {
-    let (tasks, owners) = read_owned(alloc, asking, set, people)?;
+    let (tasks, owners, _chains) = read_owned(alloc, asking, set, people)?;
     let table = LockTable::new(alloc, &tasks)?;
     let placing = place_all(alloc, &Tabled::of(&tasks, &table))?;
     people.read(&tasks);
