@@ -6,6 +6,7 @@ from typing import NamedTuple
 import analysis
 import calls
 import certificate
+import chains
 import desk
 import differences
 import kernel
@@ -514,12 +515,16 @@ def doubts(call, tasks):
 
 
 def strictly(call, reader, tasks):
-    """The set; or the refusal of its first doubt, where the call or the node's document asks for none, but for the old set
-    of `diff`."""
+    """The set with its chains; or the refusal of its first doubt, where the call or the node's document asks for none, but
+    for the old set of `diff`, or of its chains."""
     is_old = call.command is COMMANDS["diff"] and reader is teams.read_set
     is_strict = "strict" in call.options or tasks.is_strict
     for doubt in doubts(call, tasks) if is_strict and not is_old else ():
         raise Refused(4, *["new"] * (reader is read_change), *doubt)
+    try:
+        tasks.chains = chains.read_chains(tasks.documents, tasks)
+    except Refused as refusal:
+        raise refusal.behind(*["new"] * (reader is read_change)) from None
     return tasks
 
 
