@@ -9,7 +9,7 @@ ghost use Rattle.chain_tables.specs.Documents.{IsFaulty, ReadsIf, ReadsTeams, Re
 use crate::fault::{ChainCause, ChainFault, Whose};
 use crate::judging::CHAIN_LIMIT;
 use crate::table::{Written, read_table};
-use std::alloc::{AllocError, Global};
+use std::alloc::Global;
 use task_sheet::{Key, Name, tables_at};
 use teams::{Part, first_part, is_gathered, node_part};
 use toml::{Table, Value};
@@ -116,16 +116,6 @@ fn read_document(alloc: Global, whose: Whose, text: &[u8]) -> Result<Vec<Written
     }
 }
 
-// Adds chains behind others.
-fn push_all(chains: &mut Vec<Written>, own: Vec<Written>) -> Result<(), AllocError>
-    ensures { OnOk result (chains.new.items ≡ chains.old.items ++ own.items) }
-{
-    for chain in own {
-        chains.push(chain)?;
-    }
-    Ok(())
-}
-
 // Adds those of a team's document.
 fn push_part(alloc: Global, chains: &mut Vec<Written>, part: &Part<'_>) -> Result<(), ChainFault>
     ensures ok { IfOk result (λ _. (own : List WrittenData) × Says (Whose.Team part.now.team) part.now.text.now own
@@ -134,8 +124,8 @@ fn push_part(alloc: Global, chains: &mut Vec<Written>, part: &Part<'_>) -> Resul
         → IsFaulty (Whose.Team part.now.team) part.now.text.now e) }
 {
     let team = part.team;
-    let own = read_document(alloc, Whose::Team { team }, part.text)?;
-    push_all(chains, own)?;
+    let mut own = read_document(alloc, Whose::Team { team }, part.text)?;
+    chains.append(&mut own)?;
     Ok(())
 }
 

@@ -3,7 +3,6 @@ ghost use Rattle.std.specs.Prelude.{◌≡◌, ◌≢◌, true, false, None, Som
 ghost use Rattle.std.specs.List.{list_all};
 ghost use Rattle.toml.specs.View.{table_view};
 ghost use Rattle.task_sheet.specs.Name.{is_name};
-ghost use Rattle.task_sheet.specs.Sheet.{repeats};
 ghost use Rattle.task_sheet.specs.Tree.{number_at, number_or_zero, value_at};
 ghost use Rattle.chain_tables.specs.Tables.{chain_at, is_within, keys_fault, kinds_fault, lesser, name_said, table_fault, tasks_said, values_fault};
 
@@ -11,8 +10,8 @@ use crate::fault::{ChainCause, ChainFault, Whose};
 use std::alloc::{AllocError, Global};
 use std::marker::Model;
 use task_sheet::{
-    CHAIN_KEYS, Key, NEEDED_CHAIN_KEYS, Name, first_missing, number_at, number_of, only_keys,
-    read_names, strings_at, text_at, value_at,
+    CHAIN_KEYS, Key, NEEDED_CHAIN_KEYS, Name, first_missing, has_repeat, number_at, number_of,
+    only_keys, read_names, strings_at, text_at, value_at,
 };
 use toml::Table;
 
@@ -93,18 +92,6 @@ fn is_within(limit: Option<u64>) -> bool
         Some(limit) => 1 <= limit && limit <= LONGEST_LIMIT,
         None => true,
     }
-}
-
-// Some name stands twice.
-fn has_repeat(names: &[Name]) -> bool
-    ensures { result ≡ repeats names.now }
-{
-    for (i, name) in names.iter().enumerate() {
-        if names[i + 1..].contains(name) {
-            return true;
-        }
-    }
-    false
 }
 
 // The first of what a chain of these tasks may not say.
