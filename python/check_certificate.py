@@ -26,9 +26,10 @@ from types import SimpleNamespace
 
 NAME = "[A-Za-z][A-Za-z0-9_-]{0,23}"
 NUMBER = "(?:0|[1-9][0-9]{0,9})"
-SET = {"task": list, "prefer": str, "node": dict, "interrupt": list}
+SET = {"task": list, "prefer": str, "node": dict, "interrupt": list, "chain": list}
 NODE = {"job": int, "lock": int, "release": int, "late": int}
 INTERRUPT = {"period": int, "cost": int}
+CHAIN = {"name": str, "tasks": list, "age": int, "reaction": int}
 TASK = {"name": str, "weight": int, "period": int, "deadline": int, "cost": int, "jitter": int,
         "section": list, "outranks": list}
 SECTION = {"locks": list, "at": int, "len": int}
@@ -100,11 +101,22 @@ def check_task(it):
         raise ValueError
 
 
+def are_chains(tables, tasks):
+    """Whether these say chains of the tasks, of which no certificate speaks."""
+    chains = [values(table, CHAIN, age=1, reaction=1) for table in tables]
+    names = {it.name for it in tasks}
+    return are_names([it.name for it in chains], 16) and all(
+        it.tasks and are_names(it.tasks, 8) and names.issuperset(it.tasks)
+        and 1 <= it.age <= 1_000_000_000 and 1 <= it.reaction <= 1_000_000_000
+        for it in chains
+    )  # fmt: skip
+
+
 def read_set(text):
     """The tasks by rank, which is by weight and then by name, each with what the node takes, if the
     set says it; and the interrupts. Where deadlines are preferred, a task's weight is the number of
     tasks of a longer limit."""
-    left_out = {"task": [], "prefer": "weight", "node": {}, "interrupt": []}
+    left_out = {"task": [], "prefer": "weight", "node": {}, "interrupt": [], "chain": []}
     root = values(tomllib.loads(text.decode("utf-8-sig")), SET, **left_out)
     node = values(root.node, NODE, job=0, lock=0, release=0, late=0)
     interrupts = [values(table, INTERRUPT) for table in root.interrupt]
@@ -114,7 +126,7 @@ def read_set(text):
         raise ValueError
     tasks = [task_of(table, node) for table in root.task]
     if text.startswith(b"#% ") or root.prefer not in ("weight", "deadline") \
-            or not are_names([it.name for it in tasks], 32):
+            or not are_names([it.name for it in tasks], 32) or not are_chains(root.chain, tasks):
         raise ValueError
     if root.prefer == "deadline":
         for it in tasks:

@@ -100,7 +100,7 @@ Keys
 ----
 
   $ document 'tasks = []'
-  standard input: unknown key tasks; a set has tasks, each headed by [[task]], and may have prefer in front of them, [node] and [[interrupt]]
+  standard input: unknown key tasks; a set has tasks, each headed by [[task]], and may have prefer in front of them, [node], [[interrupt]] and [[chain]]
   [4]
   $ document '[[section]]\nlocks = ["m"]\nlen = 10\n'
   standard input: unknown key section; a section is headed [[task.section]]

@@ -203,7 +203,7 @@ Also where the status would be another one:
   $ desk simulate examples/blocked-out.toml $list > /dev/full
   [7]
   $ echo 'x = 1' | desk admit - > /dev/full
-  (on standard error) standard input: unknown key x; a set has tasks, each headed by [[task]], and may have prefer in front of them, [node] and [[interrupt]]
+  (on standard error) standard input: unknown key x; a set has tasks, each headed by [[task]], and may have prefer in front of them, [node], [[interrupt]] and [[chain]]
   [7]
   $ desk check empty $cert > /dev/full
   (on standard error) examples/three-tasks.cert: its levels don't name each task of the set once, or a member is no task or named twice

@@ -213,7 +213,7 @@ In any other document `strict` is no key, nor is it by itself:
   [4]
   $ desk admit node/cam.toml
   refused: UnknownKey 0 0
-  (on standard error) node/cam.toml: unknown key strict; a set has tasks, each headed by [[task]], and may have prefer in front of them, [node] and [[interrupt]]
+  (on standard error) node/cam.toml: unknown key strict; a set has tasks, each headed by [[task]], and may have prefer in front of them, [node], [[interrupt]] and [[chain]]
   [4]
 
 `play` and `rush` read no set; the option is a flag:

@@ -287,7 +287,7 @@ What is no such document, in the order of its refusals:
   refused: node Syntax
   [4]
   $ told '[[task]]\nname = "a"\n[team]\ncam = 1\n'
-  kept: node.toml: unknown key task; it may have prefer and strict in front, [node], [[interrupt]], [locks], and for each team [team.NAME]; a task stands in its team's document
+  kept: node.toml: unknown key task; it may have prefer and strict in front, [node], [[interrupt]], [[chain]], [locks], and for each team [team.NAME]; a task stands in its team's document
   refused: node UnknownKey
   [4]
   $ told '[[team]]\nload = 1\n'

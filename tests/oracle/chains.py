@@ -1,36 +1,82 @@
-"""The bounds of a set's chains in an order, and the lines that say them: DEFINITIONS.md, Chains; FORMATS.md, Chains."""
+"""The chains of a set: FORMATS.md, Chains."""
+
+from typing import NamedTuple, Optional
+
+from refusals import Refused
+from sets import are, is_name, is_number
+from toml_tree import tree_of
+
+# what has to stand at each key, and which of them have to be there
+KINDS = {
+    "name": lambda value: isinstance(value, str),
+    "tasks": lambda value: are(value, str),
+    "age": is_number,
+    "reaction": is_number,
+}
+NEEDED, LIMITS = ("name", "tasks"), ("age", "reaction")
+CHAINS_MOST, TASKS_MOST, LIMIT_MOST = 16, 8, 1_000_000_000
 
 
-def lines_of(tasks, order, responses, tell_parts=False):
-    """The lines of all chains of a set in an order, by the response of each task, none where it misses its deadline; and whether
-    each bound is within its limit."""
-    text, all_met = [], True
-    for chain in tasks.chains:
-        indexes = [next(i for i, task in enumerate(tasks) if task.name == name) for name in chain.tasks]
-        found = None
-        if all(responses[i] is not None for i in indexes):
-            found = parts(tasks, order, responses, indexes)
-        bound = None if found is None else sum(time for _, time in found)
-        is_met = chain.limit is None or (bound is not None and bound <= chain.limit)
-        limit = [] if chain.limit is None else ["of" if is_met else "misses", chain.limit]
-        text.append(" ".join(map(str, ["chain", chain.name, "-" if bound is None else bound, *limit])) + "\n")
-        if tell_parts:
-            text += [f"  {words} {time}\n" for words, time in found or [] if time]
-        all_met = all_met and is_met
-    return "".join(text), all_met
+class Chain(NamedTuple):
+    name: str
+    tasks: tuple  # names, the first one first
+    limit: Optional[int]
 
 
-def parts(tasks, order, responses, indexes):
-    """What a chain's bound is the sum of, as words and a time: before each task the wait for its next job, behind each but the
-    last what is handed over to the next, and at last the response."""
-    found = []
-    for i, c in zip(indexes, [*indexes[1:], None]):
-        name = tasks[i].name
-        found.append((f"wait {name}", tasks[i].period))
-        if c is None:
-            found.append((f"response {name}", responses[i]))
-        elif order.index(c) < order.index(i):
-            found.append((f"jitter {name}", tasks[i].jitter))
-        else:
-            found.append((f"response {name} less cost {tasks[c].name}", responses[i] - tasks[c].cost))
-    return found
+def read_chain(table, place):
+    """The chain that a table says; or its first fault."""
+    if set(table) - set(KINDS):
+        raise Refused(4, "ChainUnknownKey", place)
+    for key in NEEDED:
+        if key not in table:
+            raise Refused(4, "ChainMissingKey", place, key)
+    for key, is_right in KINDS.items():
+        if key in table and not is_right(table[key]):
+            raise Refused(4, "ChainWrongKind", place, key)
+    tasks = tuple(table["tasks"])
+    if not all(map(is_name, (table["name"], *tasks))):
+        raise Refused(4, "BadChainName", place)
+    if not 1 <= len(tasks) <= TASKS_MOST:
+        raise Refused(4, "ChainLength", place)
+    if len(set(tasks)) < len(tasks):
+        raise Refused(4, "ChainTaskTwice", place)
+    for key in LIMITS:
+        if key in table and not 1 <= table[key] <= LIMIT_MOST:
+            raise Refused(4, "BadLimit", place, key)
+    return Chain(table["name"], tasks, min((table[key] for key in LIMITS if key in table), default=None))
+
+
+def document_chains(tree):
+    """Those of a document's tree."""
+    chains = [read_chain(table, place) for place, table in enumerate(tree.get("chain", []), 1)]
+    if len(chains) > CHAINS_MOST:
+        raise Refused(4, "TooManyChains")
+    names = set()
+    for place, chain in enumerate(chains, 1):
+        if chain.name in names:
+            raise Refused(4, "SameChain", place)
+        names.add(chain.name)
+    return chains
+
+
+def read_chains(documents, tasks):
+    """Those of a set's documents: each with the words that say whose it is, and what stands for it in place of a team."""
+    owned = []
+    for words, team, text in documents:
+        try:
+            owned += [(team, chain) for chain in document_chains(tree_of(text))]
+        except Refused as refusal:
+            raise refusal.behind(*words) from None
+    if len(owned) > CHAINS_MOST:
+        raise Refused(4, "TooManyChains")
+    holders = {}
+    for team, chain in owned:
+        if chain.name in holders:
+            raise Refused(4, "TakenChain", team, chain.name, holders[chain.name])
+        holders[chain.name] = team
+    names = {task.name for task in tasks}
+    for _, chain in owned:
+        for task in chain.tasks:
+            if task not in names:
+                raise Refused(4, "ChainTask", chain.name, task)
+    return tuple(chain for _, chain in owned)

@@ -6,6 +6,7 @@ from typing import NamedTuple
 import analysis
 import calls
 import certificate
+import chain_bounds
 import chains
 import desk
 import differences
@@ -62,7 +63,7 @@ def admit(tasks):
 
 def with_chains(answer, tasks, order, responses, tell_parts=False):
     """An answer, and behind it the lines of chains; where one misses its limit, the status says so."""
-    lines, all_met = chains.lines_of(tasks, order, responses, tell_parts)
+    lines, all_met = chain_bounds.lines_of(tasks, order, responses, tell_parts)
     return answer[0] + lines, answer[1] if all_met else INFEASIBLE
 
 
@@ -527,12 +528,16 @@ def doubts(call, tasks):
 
 
 def strictly(call, reader, tasks):
-    """The set; or the refusal of its first doubt, where the call or the node's document asks for none, but for the old set
-    of `diff`."""
+    """The set with its chains; or the refusal of its first doubt, where the call or the node's document asks for none, but
+    for the old set of `diff`, or of its chains."""
     is_old = call.command is COMMANDS["diff"] and reader is teams.read_set
     is_strict = "strict" in call.options or tasks.is_strict
     for doubt in doubts(call, tasks) if is_strict and not is_old else ():
         raise Refused(4, *["new"] * (reader is read_change), *doubt)
+    try:
+        tasks.chains = chains.read_chains(tasks.documents, tasks)
+    except Refused as refusal:
+        raise refusal.behind(*["new"] * (reader is read_change)) from None
     return tasks
 
 

@@ -216,14 +216,17 @@ def read_whole(tree):
     if prefer is not None and prefer not in PREFERENCES:
         raise Refused(4, "BadPreference")
     node = read_node(tree["node"]) if "node" in tree else None
-    return prefer, node, read_interrupts(tree.get("interrupt", []))
+    interrupts = read_interrupts(tree.get("interrupt", []))
+    if not are(tree.get("chain", []), dict):
+        raise Refused(4, "WrongKind", 0, 0, "chain")
+    return prefer, node, interrupts
 
 
 def read_document(data):
     """What a document prefers, and its node, if it says so, its interrupts, and its sheets, as they stand; or the first
     refusal."""
     tree = tree_of(data)
-    if set(tree) - {"task", "prefer", "node", "interrupt"}:
+    if set(tree) - {"task", "prefer", "node", "interrupt", "chain"}:
         raise Refused(4, "UnknownKey", 0, 0)
     tables = tree.get("task", [])
     if not are(tables, dict):

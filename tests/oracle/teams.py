@@ -22,10 +22,11 @@ ENDING = ".toml"
 
 class Ranked(tuple):
     """The tasks of a set by rank, what its own text prefers, if it says so, whether that asks for a set without doubts, the
-    team of each name that has one, what the documents say without what the node takes, and the team, if any, and the place
-    of each interrupt."""
+    team of each name that has one, what the documents say without what the node takes, the team, if any, and the place of
+    each interrupt, the documents, each with the words that say whose it is, and what stands for it in place of a team; and
+    the chains, once they are read."""
 
-    own, is_strict, owners, written, sources = None, False, {}, None, ()
+    own, is_strict, owners, written, sources, documents, chains = None, False, {}, None, (), (), ()
 
     def beside(self, name):
         """The words that name the team of a task, behind the words of a line."""
@@ -43,8 +44,20 @@ def read_set(data, preference=None):
     sheets = padded(*written)
     tasks = Ranked(by_limits(sheets) if (preference or own) == "deadline" else by_rank(sheets))
     tasks.own, tasks.by, tasks.is_strict, tasks.owners = own, preference or own or "weight", is_strict, owners
-    tasks.written, tasks.sources = written, sources
+    tasks.written, tasks.sources, tasks.documents = written, sources, documents_of(data)
     return tasks
+
+
+def documents_of(data):
+    """The documents of a set's text."""
+    if not data.startswith(MARK):
+        return [((), NODE, data)]
+    document, data = node_document(data)
+    out = [] if document is None else [((NODE,), NODE, document)]
+    while data:
+        team, text, data = next_document(data, len(out))
+        out.append((("team", team), team, text))
+    return out
 
 
 def read_teams(data):
@@ -107,7 +120,7 @@ def read_node_document(data):
     name."""
     try:
         root = tree_of(data)
-        if set(root) - {"team", "strict", "locks", *OWN}:
+        if set(root) - {"team", "strict", "locks", "chain", *OWN}:
             raise Refused(4, "UnknownKey")
         own = read_whole(root)
         if type(root.get("strict", False)) is not bool:

@@ -5,7 +5,7 @@ use ceiling_kernel::RunFault;
 use command_line::Options;
 use desk_cli::{CommandRefusal, TextFault};
 use sentences::{
-    of_certificate, of_check, of_density, of_doubt, of_release_line, of_run, of_script,
+    of_certificate, of_chains, of_check, of_density, of_doubt, of_release_line, of_run, of_script,
     of_set_text, of_settings, of_trace, of_window,
 };
 use std::alloc::{AllocError, Global};
@@ -73,6 +73,9 @@ pub(crate) fn sentence_of(
         CommandRefusal::Set(fault) | CommandRefusal::New(fault) => of_set_text(alloc, bytes, fault),
         CommandRefusal::Doubtful(doubt) | CommandRefusal::NewDoubtful(doubt) => {
             of_doubt(alloc, bytes, doubt)
+        }
+        CommandRefusal::Chain(fault) | CommandRefusal::NewChain(fault) => {
+            of_chains(alloc, bytes, fault)
         }
         CommandRefusal::Certificate(fault) => of_certificate(alloc, bytes, fault),
         CommandRefusal::Check(fault) => of_check(

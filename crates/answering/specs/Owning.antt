@@ -10,6 +10,7 @@ use Rattle.preferences.specs.ReadsPreferred.{chosen}
 use Rattle.owners.specs.Owners.{AreOwners}
 use Rattle.owners.specs.declared.owner.Owner.{Owner}
 use Rattle.streams.specs.Inputs.{IsReadFrom}
+use Rattle.chain_tables.specs.Chains.{ChainData, HasChains}
 
 -- bytes say a set as the call asks for it, and whose its tasks are
 pub record SaysOwned (asking : Asking) (bytes : List ℕ) (U : List Task) (owners : List Owner) : Type 0 where
@@ -20,6 +21,10 @@ pub record SaysOwned (asking : Asking) (bytes : List ℕ) (U : List Task) (owner
 abbrev pub HasOwned : Asking → Option (List ℕ) → List Task → List Owner → Type 0
 HasOwned asking known U owners =
     (bytes : List ℕ) × IsReadFrom known bytes × SaysOwned asking bytes U owners
+
+-- they say these chains of a set
+abbrev pub HasChained : Option (List ℕ) → List Task → List ChainData → Type 0
+HasChained known U chains = (bytes : List ℕ) × IsReadFrom known bytes × HasChains bytes U chains
 
 -- by this preference a set is taken that bytes say
 abbrev pub IsTakenBy : Asking → List ℕ → Preference → Type 0

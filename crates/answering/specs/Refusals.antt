@@ -1,6 +1,6 @@
 -- The line that a refused command prints: the name of the fault and then its fields, each after one space.
 -- A task or a section is its place, from 1; the root of a document is 0.
-use Rattle.std.specs.Prelude.{ℕ, List, ◌++◌, Some, None, codes}
+use Rattle.std.specs.Prelude.{ℕ, List, [], ◌++◌, Some, None, codes}
 use Rattle.std.specs.Fmt.{decimal}
 use Rattle.task_sheet.specs.declared.sheet.SheetCause.{SheetCause}
 use Rattle.task_sheet.specs.declared.sheet.SheetCause.TheVariants as cause
@@ -19,6 +19,12 @@ use Rattle.teams.specs.declared.fault.TeamsFault.{TeamsFault}
 use Rattle.teams.specs.declared.fault.TeamsFault.TheVariants as teams
 use Rattle.doubts.specs.declared.doubt.Doubt.{Doubt}
 use Rattle.doubts.specs.declared.doubt.Doubt.TheVariants as doubt
+use Rattle.chain_tables.specs.declared.fault.ChainCause.{ChainCause}
+use Rattle.chain_tables.specs.declared.fault.ChainCause.TheVariants as chains
+use Rattle.chain_tables.specs.declared.fault.Whose.{Whose}
+use Rattle.chain_tables.specs.declared.fault.Whose.TheVariants as whose
+use Rattle.chain_tables.specs.declared.fault.ChainFault.{ChainFault}
+use Rattle.chain_tables.specs.declared.fault.ChainFault.TheVariants as chain
 use Rattle.certificate.specs.declared.fault.CertFault.{CertFault}
 use Rattle.certificate.specs.declared.fault.CertFault.TheVariants as text
 use Rattle.cert_checker.specs.declared.fault.CheckFault.{CheckFault}
@@ -172,6 +178,35 @@ doubt_words (doubt.NoSuchName task name) = codes "NoSuchName " ++ task ++ codes 
 doubt_words (doubt.NamesDecide lower higher) =
     codes "NamesDecide " ++ lower ++ codes " " ++ higher
 
+-- the fault of a document's chains: the place of a chain, from 1, and the key
+abbrev pub chain_cause_words : ChainCause → List ℕ
+chain_cause_words (chains.UnknownKey place) = at_task (codes "ChainUnknownKey") place
+chain_cause_words (chains.MissingKey place key) =
+    at_task (codes "ChainMissingKey") place ++ codes " " ++ word_of key
+chain_cause_words (chains.WrongKind place key) =
+    at_task (codes "ChainWrongKind") place ++ codes " " ++ word_of key
+chain_cause_words (chains.BadName place) = at_task (codes "BadChainName") place
+chain_cause_words (chains.Length place) = at_task (codes "ChainLength") place
+chain_cause_words (chains.TaskTwice place) = at_task (codes "ChainTaskTwice") place
+chain_cause_words (chains.BadLimit place key) = at_task (codes "BadLimit") place ++ codes " " ++ word_of key
+chain_cause_words chains.TooManyChains = codes "TooManyChains"
+chain_cause_words (chains.SameName place) = at_task (codes "SameChain") place
+
+-- that of one of several documents stands behind whose it is
+abbrev pub whose_words : Whose → List ℕ
+whose_words whose.Alone = []
+whose_words whose.Node = codes "node "
+whose_words (whose.Team team) = codes "team " ++ team ++ codes " "
+
+-- the fault of a set's chains
+abbrev pub chain_words : ChainFault → List ℕ
+chain_words (chain.Document whose cause) = whose_words whose ++ chain_cause_words cause
+chain_words (chain.Taken team name other) =
+    codes "TakenChain " ++ team ++ codes " " ++ name ++ codes " " ++ other
+chain_words chain.TooManyChains = codes "TooManyChains"
+chain_words (chain.NoSuchTask name task) = codes "ChainTask " ++ name ++ codes " " ++ task
+chain_words chain.OutOfMemory = codes "OutOfMemory"
+
 -- the fault of a certificate's text
 abbrev pub certificate_words : CertFault → List ℕ
 certificate_words text.BadHead = codes "BadHead"
@@ -259,6 +294,9 @@ words_of (refusal.New teams.OutOfMemory) = codes "OutOfMemory"
 words_of (refusal.New fault) = codes "new " ++ teams_words fault
 words_of (refusal.Doubtful doubt) = doubt_words doubt
 words_of (refusal.NewDoubtful doubt) = codes "new " ++ doubt_words doubt
+words_of (refusal.Chain fault) = chain_words fault
+words_of (refusal.NewChain chain.OutOfMemory) = codes "OutOfMemory"
+words_of (refusal.NewChain fault) = codes "new " ++ chain_words fault
 words_of (refusal.Certificate fault) = certificate_words fault
 words_of (refusal.Check fault) = check_words fault
 words_of (refusal.Text fault) = text_words fault
@@ -288,6 +326,10 @@ status_of (refusal.New teams.OutOfMemory) = status.OutOfMemory
 status_of (refusal.New _) = status.BadInput
 status_of (refusal.Doubtful _) = status.BadInput
 status_of (refusal.NewDoubtful _) = status.BadInput
+status_of (refusal.Chain chain.OutOfMemory) = status.OutOfMemory
+status_of (refusal.Chain _) = status.BadInput
+status_of (refusal.NewChain chain.OutOfMemory) = status.OutOfMemory
+status_of (refusal.NewChain _) = status.BadInput
 status_of (refusal.Certificate text.OutOfMemory) = status.OutOfMemory
 status_of (refusal.Certificate _) = status.BadCertificate
 status_of (refusal.Check _) = status.BadCertificate

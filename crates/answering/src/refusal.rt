@@ -2,12 +2,13 @@
 ghost use Rattle.std.specs.Prelude.{◌≡◌, Some};
 ghost use Rattle.std.specs.Fmt.{DisplaysOnOk};
 ghost use Rattle.answering.specs.declared.refusal.CommandRefusal.TheVariants.{OutOfMemory};
-ghost use Rattle.answering.specs.Refusals.{cause_words, certificate_words, check_words, doubt_words, fault_words, lone_cause_words, node_words, outranks_words, padding_words, refusal_line, run_words, rush_words, script_words, settings_words, status_of, teams_words, text_words, trace_words, words_of};
+ghost use Rattle.answering.specs.Refusals.{cause_words, certificate_words, chain_cause_words, chain_words, check_words, doubt_words, fault_words, lone_cause_words, node_words, outranks_words, padding_words, refusal_line, run_words, rush_words, script_words, settings_words, status_of, teams_words, text_words, trace_words, whose_words, words_of};
 
 use crate::status::Status;
 use ceiling_kernel::RunFault;
 use cert_checker::CheckFault;
 use certificate::CertFault;
+use chain_tables::{ChainCause, ChainFault, Whose};
 use judge::SettingsFault;
 use overheads::PadFault;
 use preferences::Doubt;
@@ -33,6 +34,10 @@ pub enum CommandRefusal {
     Doubtful(Doubt),
     /// The same of the new set.
     NewDoubtful(Doubt),
+    /// The set's chains are none.
+    Chain(ChainFault),
+    /// The same of the new set.
+    NewChain(ChainFault),
     /// The certificate's input is no certificate.
     Certificate(CertFault),
     /// The certificate does not show what it says.
@@ -81,6 +86,10 @@ impl CommandRefusal {
             CommandRefusal::New(TeamsFault::OutOfMemory) => Status::OutOfMemory,
             CommandRefusal::New(_) => Status::BadInput,
             CommandRefusal::Doubtful(_) | CommandRefusal::NewDoubtful(_) => Status::BadInput,
+            CommandRefusal::Chain(ChainFault::OutOfMemory) => Status::OutOfMemory,
+            CommandRefusal::Chain(_) => Status::BadInput,
+            CommandRefusal::NewChain(ChainFault::OutOfMemory) => Status::OutOfMemory,
+            CommandRefusal::NewChain(_) => Status::BadInput,
             CommandRefusal::Certificate(CertFault::OutOfMemory) => Status::OutOfMemory,
             CommandRefusal::Certificate(_) => Status::BadCertificate,
             CommandRefusal::Check(_) => Status::BadCertificate,
@@ -363,6 +372,73 @@ fn write_new_doubt<W: fmt::Write>(doubt: Doubt, f: &mut fmt::Formatter<W>) -> fm
     write_doubt(doubt, f)
 }
 
+// The name of the fault of a document's chains, with the chain's place and the key.
+fn write_chain_cause<W: fmt::Write>(cause: ChainCause, f: &mut fmt::Formatter<W>) -> fmt::Result
+    ensures { DisplaysOnOk W.write_str_gives f.old result (Some (chain_cause_words cause)) f.new }
+{
+    match cause {
+        ChainCause::UnknownKey { chain } => write!(f, "ChainUnknownKey {chain}"),
+        ChainCause::MissingKey { chain, key } => {
+            let word = key.word();
+            write!(f, "ChainMissingKey {chain} {word}")
+        }
+        ChainCause::WrongKind { chain, key } => {
+            let word = key.word();
+            write!(f, "ChainWrongKind {chain} {word}")
+        }
+        ChainCause::BadName { chain } => write!(f, "BadChainName {chain}"),
+        ChainCause::Length { chain } => write!(f, "ChainLength {chain}"),
+        ChainCause::TaskTwice { chain } => write!(f, "ChainTaskTwice {chain}"),
+        ChainCause::BadLimit { chain, key } => {
+            let word = key.word();
+            write!(f, "BadLimit {chain} {word}")
+        }
+        ChainCause::TooManyChains => f.write_str("TooManyChains"),
+        ChainCause::SameName { chain } => write!(f, "SameChain {chain}"),
+    }
+}
+
+// Whose document has the chains, where there are several.
+fn write_whose<W: fmt::Write>(whose: Whose, f: &mut fmt::Formatter<W>) -> fmt::Result
+    ensures { DisplaysOnOk W.write_str_gives f.old result (Some (whose_words whose)) f.new }
+{
+    match whose {
+        Whose::Alone => f.write_str(""),
+        Whose::Node => f.write_str("node "),
+        Whose::Team { team } => write!(f, "team {team} "),
+    }
+}
+
+// The name of the fault of a set's chains, with its fields.
+fn write_chain_fault<W: fmt::Write>(fault: ChainFault, f: &mut fmt::Formatter<W>) -> fmt::Result
+    ensures { DisplaysOnOk W.write_str_gives f.old result (Some (chain_words fault)) f.new }
+{
+    match fault {
+        ChainFault::Document { whose, cause } => {
+            write_whose(whose, f)?;
+            write_chain_cause(cause, f)
+        }
+        ChainFault::Taken { team, chain, other } => write!(f, "TakenChain {team} {chain} {other}"),
+        ChainFault::TooManyChains => f.write_str("TooManyChains"),
+        ChainFault::NoSuchTask { chain, task } => write!(f, "ChainTask {chain} {task}"),
+        ChainFault::OutOfMemory => f.write_str("OutOfMemory"),
+    }
+}
+
+// The same of the new set's chains, which the line says; out of memory stands alone.
+fn write_new_chain<W: fmt::Write>(fault: ChainFault, f: &mut fmt::Formatter<W>) -> fmt::Result
+    ensures { DisplaysOnOk W.write_str_gives f.old result
+        (Some (words_of (CommandRefusal.NewChain fault))) f.new }
+{
+    match fault {
+        ChainFault::OutOfMemory => f.write_str("OutOfMemory"),
+        _ => {
+            f.write_str("new ")?;
+            write_chain_fault(fault, f)
+        }
+    }
+}
+
 // The name of a fault of a certificate's text, with its line.
 fn write_certificate_fault<W: fmt::Write>(
     fault: CertFault,
@@ -480,6 +556,8 @@ fn write_words<W: fmt::Write>(refusal: CommandRefusal, f: &mut fmt::Formatter<W>
         CommandRefusal::New(fault) => write_new_fault(fault, f),
         CommandRefusal::Doubtful(doubt) => write_doubt(doubt, f),
         CommandRefusal::NewDoubtful(doubt) => write_new_doubt(doubt, f),
+        CommandRefusal::Chain(fault) => write_chain_fault(fault, f),
+        CommandRefusal::NewChain(fault) => write_new_chain(fault, f),
         CommandRefusal::Certificate(fault) => write_certificate_fault(fault, f),
         CommandRefusal::Check(fault) => write_check_fault(fault, f),
         CommandRefusal::Text(fault) => write_text_fault(fault, f),

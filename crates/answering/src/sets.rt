@@ -2,13 +2,15 @@
 ghost use Rattle.std.specs.Prelude.{◌≡◌, Err, IfOk, MatchResult};
 ghost use Rattle.preferences.specs.ReadsAsked.{SaysAsked};
 ghost use Rattle.answering.specs.Chosen.{asking_of, base_of, room_of, team_chosen};
-ghost use Rattle.answering.specs.Owning.{HasOwned, HaveOwned, IsTakenBy, SaysOwned};
+ghost use Rattle.answering.specs.Owning.{HasChained, HasOwned, HaveOwned, IsTakenBy, SaysOwned};
+ghost use Rattle.chain_tables.specs.Chains.{HasChains};
 ghost use Rattle.answering.specs.Sets.{HasNoSet, HasSet, HaveNotBoth, IsNoSet, asked_refusal};
 ghost use Rattle.answering.specs.Outcomes.{AreRead, IsRead, failed_read};
 ghost use Rattle.streams.specs.Inputs.{IsReadFrom, IsTooLong};
 
 use crate::audience::{Audience, Which};
 use crate::refusal::CommandRefusal;
+use chain_tables::Chain;
 use command_line::{MOST_PRIORITY, MOST_ROOM, MOST_TEAM, Options, Preferred};
 use owners::{Owner, read_owners};
 use preferences::{AskedFault, Asking, Preference, Strictness, read_asked};
@@ -17,21 +19,23 @@ use std::io::Read;
 use streams::{InputFault, Watched, read_input};
 use task_sheet::TaskSet;
 
-/// A set, by what it was taken, and whose its tasks are, and all that a second input has.
+/// A set, by what it was taken, whose its tasks are, its chains, and all that a second input has.
 #[derive(Drop)]
 pub struct Both {
     pub by: Preference,
     pub tasks: TaskSet,
     pub owners: Vec<Owner>,
+    pub chains: Vec<Chain>,
     pub text: Vec<u8>,
 }
 
-// A set, by what it was taken, and whose its tasks are.
+// A set, by what it was taken, whose its tasks are, and its chains.
 #[derive(Drop)]
 struct Taken {
     by: Preference,
     tasks: TaskSet,
     owners: Vec<Owner>,
+    chains: Vec<Chain>,
 }
 
 /// All that an input has; or why it was not read, which the audience is told.
@@ -76,6 +80,7 @@ fn asked_refusal(fault: AskedFault) -> CommandRefusal
     match fault {
         AskedFault::Text(fault) => CommandRefusal::Set(fault),
         AskedFault::Doubt(doubt) => CommandRefusal::Doubtful(doubt),
+        AskedFault::Chain(fault) => CommandRefusal::Chain(fault),
     }
 }
 
@@ -107,17 +112,17 @@ pub fn team_chosen(options: Options<'_>) -> Option<u64>
     Some(team.min(MOST_TEAM).max(1) as u64)
 }
 
-// The set that bytes say, as the call asks for it, and by what it is taken; or why there is none. The audience is told
-// either.
+// The set that bytes say, as the call asks for it, by what it is taken, and its chains; or why there is none. The
+// audience is told either.
 #[tactic(auto, using(crate::proofs::SetRefusals::refused_as))]
 fn set_told<P: Audience>(
     alloc: Global,
     asking: Asking,
     bytes: &[u8],
     people: &mut P,
-) -> Result<(TaskSet, Preference), CommandRefusal>
+) -> Result<(TaskSet, Preference, Vec<Chain>), CommandRefusal>
     ensures { MatchResult result (λ taken. SaysAsked asking bytes.now taken.0
-        × IsTakenBy asking bytes.now taken.1)
+        × IsTakenBy asking bytes.now taken.1 × HasChains bytes.now taken.0 taken.2.items)
         (λ r. IsNoSet asking bytes.now r) }
 {
     let read = read_asked(alloc, bytes, asking);
@@ -128,7 +133,7 @@ fn set_told<P: Audience>(
     match read {
         Ok(preferred) => {
             let by = preferred.choice.preference();
-            Ok((preferred.set, by))
+            Ok((preferred.set, by, preferred.chains))
         }
         Err(fault) => Err(asked_refusal(fault)),
     }
@@ -143,15 +148,20 @@ fn taken_told<P: Audience>(
 ) -> Result<Taken, CommandRefusal>
     ensures { MatchResult result
         (λ taken. SaysOwned asking bytes.now taken.tasks taken.owners.items
-        × IsTakenBy asking bytes.now taken.by)
+        × IsTakenBy asking bytes.now taken.by × HasChains bytes.now taken.tasks taken.chains.items)
         (λ r. IsNoSet asking bytes.now r) }
 {
-    let (tasks, by) = match set_told(alloc, asking, bytes, people) {
+    let (tasks, by, chains) = match set_told(alloc, asking, bytes, people) {
         Ok(taken) => taken,
         Err(refusal) => return Err(refusal),
     };
     match read_owners(alloc, bytes) {
-        Ok(owners) => Ok(Taken { by, tasks, owners }),
+        Ok(owners) => Ok(Taken {
+            by,
+            tasks,
+            owners,
+            chains,
+        }),
         Err(_) => Err(CommandRefusal::OutOfMemory),
     }
 }
@@ -171,34 +181,43 @@ pub fn read_one<R: Read + Drop, P: Audience>(
 {
     let bytes = read_told(alloc, Which::First, set, people).map_err(CommandRefusal::Input)?;
     match set_told(alloc, asking, &bytes, people) {
-        Ok((tasks, _by)) => Ok(tasks),
+        Ok((tasks, _by, _chains)) => Ok(tasks),
         Err(refusal) => Err(refusal),
     }
 }
 
-/// The set that the reader has, as the call asks for it, and whose its tasks are; or why there is none, which the audience
-/// is told.
+/// The set that the reader has, as the call asks for it, whose its tasks are, and its chains; or why there is none, which
+/// the audience is told.
 #[tactic(auto, using(crate::proofs::SetRefusals::one_refused))]
 pub fn read_owned<R: Read + Drop, P: Audience>(
     alloc: Global,
     asking: Asking,
     set: &mut Watched<R>,
     people: &mut P,
-) -> Result<(TaskSet, Vec<Owner>), CommandRefusal>
+) -> Result<(TaskSet, Vec<Owner>, Vec<Chain>), CommandRefusal>
     ensures answer { MatchResult result
         (λ owned. HasOwned asking (R.remaining set.old.inner) owned.0 owned.1.items)
         (λ r. HasNoSet asking (R.remaining set.old.inner) r) }
+    ensures chains { IfOk result
+        (λ owned. HasChained (R.remaining set.old.inner) owned.0 owned.2.items) }
     ensures read { IsRead failed_read set.old set.new result }
 {
     let bytes = read_told(alloc, Which::First, set, people).map_err(CommandRefusal::Input)?;
     match taken_told(alloc, asking, &bytes, people) {
-        Ok(Taken { tasks, owners, .. }) => Ok((tasks, owners)),
+        Ok(
+            Taken {
+                tasks,
+                owners,
+                chains,
+                ..
+            },
+        ) => Ok((tasks, owners, chains)),
         Err(refusal) => Err(refusal),
     }
 }
 
-/// The set that the first reader has, as the call asks for it, whose its tasks are, and what the second has; or why there
-/// are not both, which the audience is told. Both are read before the set's bytes are, the first one first: where it
+/// The set that the first reader has, as the call asks for it, whose its tasks are, its chains, and what the second has; or
+/// why there are not both, which the audience is told. Both are read before the set's bytes are, the first one first: where it
 /// is refused, nothing is read of the second.
 pub fn read_two<R: Read + Drop, S: Read + Drop, P: Audience>(
     alloc: Global,
@@ -211,16 +230,26 @@ pub fn read_two<R: Read + Drop, S: Read + Drop, P: Audience>(
         (λ both. HaveOwned asking (R.remaining set.old.inner)
         (S.remaining other.old.inner) both.by both.tasks both.owners.items both.text.items)
         (λ r. HaveNotBoth asking (R.remaining set.old.inner) (S.remaining other.old.inner) r) }
+    ensures chains { IfOk result
+        (λ both. HasChained (R.remaining set.old.inner) both.tasks both.chains.items) }
     ensures read { AreRead failed_read R.remaining set.old set.new other.old other.new
         result }
 {
     let bytes = read_told(alloc, Which::First, set, people).map_err(CommandRefusal::Input)?;
     let text = read_told(alloc, Which::Second, other, people).map_err(CommandRefusal::Input)?;
     match taken_told(alloc, asking, &bytes, people) {
-        Ok(Taken { by, tasks, owners }) => Ok(Both {
+        Ok(
+            Taken {
+                by,
+                tasks,
+                owners,
+                chains,
+            },
+        ) => Ok(Both {
             by,
             tasks,
             owners,
+            chains,
             text,
         }),
         Err(refusal) => Err(refusal),

@@ -1,6 +1,11 @@
-//! The chains that a set's text says.
+//! The chains of a set: `[[chain]]` in its documents, and why they are none.
 #![tactic(auto)]
 
-mod chain;
+mod documents;
+mod fault;
+mod judging;
+mod table;
 
-pub use chain::Chain;
+pub use crate::fault::{ChainCause, ChainFault, Whose};
+pub use crate::judging::{CHAIN_LIMIT, Chain, read_chains};
+pub use crate::table::{CHAIN_TASKS, LONGEST_LIMIT};

@@ -160,7 +160,7 @@ const TOLD: [(u8, &[u8], &[u8], &[u8], u8); 8] = [
         1,
         b"x = 1",
         b"",
-        b"set: unknown key x; a set has tasks, each headed by [[task]], and may have prefer in front of them, [node] and [[interrupt]]\n",
+        b"set: unknown key x; a set has tasks, each headed by [[task]], and may have prefer in front of them, [node], [[interrupt]] and [[chain]]\n",
         4,
     ),
     (

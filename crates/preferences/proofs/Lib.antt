@@ -5,3 +5,4 @@ pub mod MonotonicLaws
 pub mod Renumbering
 pub mod ToldLaws
 pub mod AskedLaws
+pub mod ChainedLaws

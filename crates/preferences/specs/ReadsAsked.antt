@@ -14,8 +14,12 @@ use Rattle.preferences.specs.declared.asking.Asking.{Asking}
 use Rattle.preferences.specs.declared.asking.Strictness.{Strictness}
 use Rattle.preferences.specs.declared.asking.Strictness.TheVariants.{Lenient, AsSaid, Strict}
 use Rattle.preferences.specs.declared.asking.AskedFault.{AskedFault}
-use Rattle.preferences.specs.declared.asking.AskedFault.TheVariants.{Text, Doubt}
-use Rattle.preferences.specs.declared.preferred.Preferred.{Preferred}
+use Rattle.preferences.specs.declared.asking.AskedFault.TheVariants.{Text, Doubt, Chain}
+use Rattle.preferences.specs.declared.asking.Asked.{Asked}
+use Rattle.preferences.specs.declared.choice.Choice.{Choice}
+use Rattle.teams.specs.declared.fault.TeamsFault.TheVariants.{OutOfMemory}
+use Rattle.chain_tables.specs.Chains.{ChainData, HasChains, HasNoChains}
+use Rattle.chain_tables.specs.declared.fault.ChainFault.{ChainFault}
 
 -- the same, and so strict
 abbrev pub asking_so : Strictness → Asking → Asking
@@ -44,11 +48,15 @@ TellsDoubt asking text own U doubt =
     (told : Bool) × IsTold asking.strictness text told
     × (doubt_told told asking.prefer own U ≡ doubt)
 
--- the text says this set by what the call and the set prefer, and it has no doubt, where one is told
+-- the text says chains of the set
+abbrev pub IsChained : List ℕ → List Task → Type 0
+IsChained text U = (chains : List ChainData) × HasChains text U chains
+
+-- the text says this set by what the call and the set prefer, it has no doubt, where one is told, and its chains are some
 abbrev pub SaysAsked : Asking → List ℕ → List Task → Type 0
 SaysAsked asking text U =
     (d : Document) × ReadsText text (Ok d) × IsPreferred (chosen asking.prefer d.prefers) d.set U
-    × TellsDoubt asking text d.prefers U None
+    × TellsDoubt asking text d.prefers U None × IsChained text U
 
 -- the set that the text says so has a doubt that is told: this first
 abbrev pub IsDoubted : Asking → List ℕ → DoubtData → Type 0
@@ -57,8 +65,24 @@ IsDoubted asking text doubt =
     × IsPreferred (chosen asking.prefer d.prefers) d.set U
     × TellsDoubt asking text d.prefers U (Some doubt)
 
--- the set that the text says, as it is asked for; refused are a text that is none, and then a set with a doubt
-abbrev pub ReadsAsked : Asking → List ℕ → Result Preferred AskedFault → Type 0
+-- the set that the text says so has no doubt that is told, but chains that are none, for this reason
+abbrev pub IsUnchained : Asking → List ℕ → ChainFault → Type 0
+IsUnchained asking text fault =
+    (d : Document) × (U : List Task) × ReadsText text (Ok d)
+    × IsPreferred (chosen asking.prefer d.prefers) d.set U
+    × TellsDoubt asking text d.prefers U None × HasNoChains text U fault
+
+-- a set, with the chains that its text says of it; or why they are none
+abbrev pub ReadsChained : List ℕ → List Task → Choice → Result Asked AskedFault → Type 0
+ReadsChained text U choice (Ok a) =
+    (a.set ≡ U) × (a.choice ≡ choice) × HasChains text U a.chains.items
+ReadsChained text U choice (Err (Text OutOfMemory)) = Unit {0}
+ReadsChained text U choice (Err (Chain fault)) = HasNoChains text U fault
+ReadsChained text U choice (Err _) = ⊥
+
+-- the set that the text says, as it is asked for, with its chains; refused are a text that is none, then a set with a
+-- doubt, and then chains that are none
+abbrev pub ReadsAsked : Asking → List ℕ → Result Asked AskedFault → Type 0
 ReadsAsked asking text (Ok p) =
     (d : Document)
     × ReadsText text (Ok d)
@@ -66,5 +90,7 @@ ReadsAsked asking text (Ok p) =
     × (p.choice.own ≡ d.prefers)
     × IsPreferred (chosen asking.prefer d.prefers) d.set p.set
     × TellsDoubt asking text d.prefers p.set None
+    × HasChains text p.set p.chains.items
 ReadsAsked asking text (Err (Text fault)) = ReadsText text (Err fault)
 ReadsAsked asking text (Err (Doubt doubt)) = IsDoubted asking text doubt
+ReadsAsked asking text (Err (Chain fault)) = IsUnchained asking text fault

@@ -1,11 +1,13 @@
 //! What a call asks of the sets that it reads.
 ghost use Rattle.std.specs.Prelude.{◌≡◌, IfOk};
-ghost use Rattle.preferences.specs.ReadsAsked.{IsTold, ReadsAsked, doubt_told, lenient};
+ghost use Rattle.preferences.specs.ReadsAsked.{IsTold, ReadsAsked, ReadsChained, doubt_told, lenient};
 
+use crate::choice::Choice;
 use crate::preferred::{Preferred, read_preferred};
+use chain_tables::{Chain, ChainFault, read_chains};
 use doubts::{Doubt, first_doubt};
 use std::alloc::{AllocError, Global};
-use task_sheet::Preference;
+use task_sheet::{Preference, TaskSet};
 use teams::{TeamsFault, is_strict};
 
 /// Which sets are refused for a doubt.
@@ -45,6 +47,16 @@ pub enum AskedFault {
     Text(TeamsFault),
     /// The set has a doubt, this first.
     Doubt(Doubt),
+    /// The chains that the text says of it are none.
+    Chain(ChainFault),
+}
+
+/// A set as it is asked for, who says by what it is preferred, and the chains of its tasks.
+#[derive(Drop)]
+pub struct Asked {
+    pub set: TaskSet,
+    pub choice: Choice,
+    pub chains: Vec<Chain>,
 }
 
 // Whether the set that a text says is refused for a doubt.
@@ -70,9 +82,25 @@ fn doubt_told(is_told: bool, read: &Preferred) -> Option<Doubt>
     }
 }
 
-/// Reads a task set from a text as `read_preferred` does. Refused behind all that `read_preferred` refuses: where the call
-/// is strict, or as it lets the text say the text is, the set's first doubt.
-pub fn read_asked(alloc: Global, text: &[u8], asking: Asking) -> Result<Preferred, AskedFault>
+// A set with the chains that its text says.
+fn chained(alloc: Global, text: &[u8], read: Preferred) -> Result<Asked, AskedFault>
+    ensures { ReadsChained text.now read.set read.choice result }
+{
+    match read_chains(alloc, text, &read.set) {
+        Ok(chains) => Ok(Asked {
+            set: read.set,
+            choice: read.choice,
+            chains,
+        }),
+        Err(ChainFault::OutOfMemory) => Err(AskedFault::Text(TeamsFault::OutOfMemory)),
+        Err(fault) => Err(AskedFault::Chain(fault)),
+    }
+}
+
+/// Reads a task set from a text as `read_preferred` does, with the chains that the text says. Refused behind all that
+/// `read_preferred` refuses: where the call is strict, or as it lets the text say the text is, the set's first doubt; and
+/// then as `read_chains` refuses.
+pub fn read_asked(alloc: Global, text: &[u8], asking: Asking) -> Result<Asked, AskedFault>
     ensures { ReadsAsked asking text.now result }
 {
     let read = match read_preferred(alloc, text, asking.prefer) {
@@ -84,7 +112,7 @@ pub fn read_asked(alloc: Global, text: &[u8], asking: Asking) -> Result<Preferre
         Err(_) => return Err(AskedFault::Text(TeamsFault::OutOfMemory)),
     };
     match doubt_told(is_told, &read) {
-        None => Ok(read),
+        None => chained(alloc, text, read),
         Some(doubt) => Err(AskedFault::Doubt(doubt)),
     }
 }

@@ -7,7 +7,8 @@ mod choice;
 pub mod laws;
 mod preferred;
 
-pub use asking::{AskedFault, Asking, Strictness, read_asked};
+pub use asking::{Asked, AskedFault, Asking, Strictness, read_asked};
+pub use chain_tables::{Chain, ChainFault};
 pub use choice::Choice;
 pub use doubts::Doubt;
 pub use preferred::{Preferred, prefer, read_preferred};

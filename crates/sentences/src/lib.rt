@@ -3,6 +3,7 @@
 
 mod asked;
 mod causes;
+mod chains;
 mod choices;
 mod conflicts;
 mod density;
@@ -27,6 +28,7 @@ mod tree;
 mod values;
 
 pub use asked::{of_task, of_tasks, of_window};
+pub use chains::of_chains;
 pub use choices::{put_names_decide, put_override, put_past_priorities};
 pub use conflicts::{put_conflict, put_parted};
 pub use density::{greatest_until, of_density};

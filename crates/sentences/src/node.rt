@@ -60,7 +60,15 @@ fn tell_found(told: &mut Told, value: Option<&Value>) {
 }
 
 // The keys of the document.
-const ROOT_WORDS: [&str; 6] = ["prefer", "strict", "node", "interrupt", "locks", "team"];
+const ROOT_WORDS: [&str; 7] = [
+    "prefer",
+    "strict",
+    "node",
+    "interrupt",
+    "chain",
+    "locks",
+    "team",
+];
 
 // The keys of a team's table.
 const TEAM_WORDS: [&str; 3] = ["load", "section", "node"];
@@ -71,7 +79,7 @@ fn tell_unknown_root(told: &mut Told, root: &Table) {
     told.shown(
         "node.toml: unknown key ",
         key,
-        "; it may have prefer and strict in front, [node], [[interrupt]], [locks], and for each team [team.NAME]",
+        "; it may have prefer and strict in front, [node], [[interrupt]], [[chain]], [locks], and for each team [team.NAME]",
     );
     if key == "task" {
         told.words("; a task stands in its team's document");

@@ -101,8 +101,8 @@ pub(crate) fn tell_fault(told: &mut Told, root: &Table, fault: SetFault) {
 
 // ---- keys
 
-// The words of keys, with commas, behind other words.
-fn tell_keys(told: &mut Told, words: &str, keys: &[Key]) {
+/// The words of keys, with commas, behind other words.
+pub(crate) fn tell_keys(told: &mut Told, words: &str, keys: &[Key]) {
     told.words(words);
     for (i, key) in keys.iter().enumerate() {
         told.words(between(i));
@@ -110,8 +110,12 @@ fn tell_keys(told: &mut Told, words: &str, keys: &[Key]) {
     }
 }
 
-// The first key of a table, where there is one, that is none of these.
-fn tell_unknown_key<'a>(told: &mut Told, keys: &[Key], table: Option<&'a Table>) -> &'a str {
+/// The first key of a table, where there is one, that is none of these.
+pub(crate) fn tell_unknown_key<'a>(
+    told: &mut Told,
+    keys: &[Key],
+    table: Option<&'a Table>,
+) -> &'a str {
     let key = match table {
         Some(table) => unknown_key(Known::Keys(keys), table).unwrap_or(""),
         None => "",
@@ -128,7 +132,7 @@ fn tell_unknown(told: &mut Told, root: &Table, task: usize, section: usize) {
         told.words(if key == Key::Section.word() {
             "; a section is headed [[task.section]]"
         } else {
-            "; a set has tasks, each headed by [[task]], and may have prefer in front of them, [node] and [[interrupt]]"
+            "; a set has tasks, each headed by [[task]], and may have prefer in front of them, [node], [[interrupt]] and [[chain]]"
         });
     } else if section > 0 {
         tell_unknown_key(told, &SECTION_KEYS, table);
@@ -235,10 +239,11 @@ fn kind_of(key: Key) -> &'static str {
         Key::Task => "an array of tables, each headed by [[task]]",
         Key::Section => "an array of tables, each headed by [[task.section]]",
         Key::Interrupt => "an array of tables, each headed by [[interrupt]]",
+        Key::Chain => "an array of tables, each headed by [[chain]]",
         Key::Name => "a string, in quotes",
         Key::Prefer => "\"deadline\" or \"weight\"",
         Key::Node => "a table, headed by [node]",
-        Key::Locks => "an array of strings, as [\"a\", \"b\"]",
+        Key::Locks | Key::Tasks => "an array of strings, as [\"a\", \"b\"]",
         Key::Outranks => "an array of strings, as [\"a\", \"b\"], or the string \"all\"",
         Key::Weight => "a whole number from 0",
         Key::Period
@@ -250,7 +255,9 @@ fn kind_of(key: Key) -> &'static str {
         | Key::Job
         | Key::Lock
         | Key::Release
-        | Key::Late => "a whole number of microseconds from 0, without quotes",
+        | Key::Late
+        | Key::Age
+        | Key::Reaction => "a whole number of microseconds from 0, without quotes",
     }
 }
 
@@ -271,7 +278,7 @@ pub(crate) fn tell_value(told: &mut Told, words: &str, value: &Value) {
 
 // The first value that an array at a key may not hold.
 fn stranger<'a>(key: Key, items: &'a [Value]) -> Option<&'a Value> {
-    let holds_tables = matches!(key, Key::Task | Key::Section | Key::Interrupt);
+    let holds_tables = matches!(key, Key::Task | Key::Section | Key::Interrupt | Key::Chain);
     for item in items {
         if !item.is_table() && holds_tables || !item.is_str() && !holds_tables {
             return Some(item);
@@ -299,8 +306,8 @@ fn tell_kind(told: &mut Told, root: &Table, task: usize, section: usize, key: Ke
     tell_kind_in(told, table, key);
 }
 
-// The same, in a table.
-fn tell_kind_in(told: &mut Told, table: Option<&Table>, key: Key) {
+/// The same, in a table.
+pub(crate) fn tell_kind_in(told: &mut Told, table: Option<&Table>, key: Key) {
     told.words(key.word());
     told.words(" has to be ");
     told.words(kind_of(key));
@@ -322,8 +329,8 @@ fn bad_name_at<'a>(key: Key, table: &'a Table) -> Option<&'a str> {
     }
 }
 
-// The first string at a key that is no name, with the key; whether there is one.
-fn tell_no_name(told: &mut Told, key: Key, table: &Table) -> bool {
+/// The first string at a key that is no name, with the key; whether there is one.
+pub(crate) fn tell_no_name(told: &mut Told, key: Key, table: &Table) -> bool {
     let Some(name) = bad_name_at(key, table) else {
         return false;
     };
@@ -331,6 +338,10 @@ fn tell_no_name(told: &mut Told, key: Key, table: &Table) -> bool {
     told.shown(": \"", name, "\" is no name; ");
     true
 }
+
+/// What a name is, of so many letters at most.
+pub(crate) const NAME_RULE: &str =
+    "a name is 1 to {} of the letters a to z and A to Z, digits, _ and -, a letter first";
 
 // A string that is no name.
 fn tell_bad_name(told: &mut Told, root: &Table, task: usize, section: usize) {
@@ -341,10 +352,7 @@ fn tell_bad_name(told: &mut Told, root: &Table, task: usize, section: usize) {
             tell_no_name(told, Key::Outranks, table);
         }
     }
-    told.numbers(
-        "a name is 1 to {} of the letters a to z and A to Z, digits, _ and -, a letter first",
-        &[NAME_LIMIT as u64],
-    );
+    told.numbers(NAME_RULE, &[NAME_LIMIT as u64]);
 }
 
 // The name of a task before it.
@@ -376,8 +384,8 @@ fn tell_sheet(told: &mut Told, root: &Table, task: usize, cause: SheetCause) {
     }
 }
 
-// The name that stands twice in an array.
-fn tell_twice(told: &mut Told, items: &[Value]) {
+/// The name that stands twice in an array.
+pub(crate) fn tell_twice(told: &mut Told, items: &[Value]) {
     if let Some(name) = repeated_in(items) {
         told.shown(": ", name, "");
     }

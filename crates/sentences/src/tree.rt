@@ -54,7 +54,7 @@ pub(crate) fn tell_place(
     if task == 0 {
         return;
     }
-    match line_of_task(alloc, bytes, task) {
+    match line_of(alloc, bytes, Key::Task, task) {
         Ok(Some(line)) => told.numbers("line {}, ", &[line]),
         Ok(None) => {}
         Err(_) => told.give_up(),
@@ -87,21 +87,21 @@ pub(crate) fn head_in<'a>(line: &'a [u8], opens: &str, closes: &str) -> &'a str 
     }
 }
 
-// Whether a line heads a task.
-fn heads_task(line: &[u8]) -> bool {
+// Whether a line heads a table of the array at a key.
+fn heads(line: &[u8], key: Key) -> bool {
     let bare = line.strip_prefix(MARK).unwrap_or(line);
-    head_in(bare, "[[", "]]").trim() == Key::Task.word()
+    head_in(bare, "[[", "]]").trim() == key.word()
 }
 
-// Where the line ends that heads a task of a place, from 1, and its number, where no such line stands elsewhere.
-fn header_of(bytes: &[u8], task: usize) -> Option<(u64, usize)> {
-    let mut left = task;
+// Where the line ends that heads such a table of a place, from 1, and its number, where no such line stands elsewhere.
+fn header_of(bytes: &[u8], key: Key, place: usize) -> Option<(u64, usize)> {
+    let mut left = place;
     let mut number = 0u64;
     let mut end = 0usize;
     for line in bytes.split(is_line_end) {
         number = number.saturating_add(1);
         end = end.saturating_add(line.len());
-        if heads_task(line) {
+        if heads(line, key) {
             left = left.saturating_sub(1);
             if left == 0 {
                 return Some((number, end));
@@ -112,24 +112,29 @@ fn header_of(bytes: &[u8], task: usize) -> Option<(u64, usize)> {
     None
 }
 
-// Whether a table has so many tasks, the last of them without a key.
-fn has_begun(root: &Table, task: usize) -> bool {
-    match table_at(Key::Task, task, root) {
-        Some(own) => items_at(Key::Task, root).len() == task && own.is_empty(),
+// Whether a table has so many tables in the array at a key, the last of them without a key.
+fn has_begun(root: &Table, key: Key, place: usize) -> bool {
+    match table_at(key, place, root) {
+        Some(own) => items_at(key, root).len() == place && own.is_empty(),
         None => false,
     }
 }
 
-// The number of the line that heads a task, where the document up to that line says so: none heads a task that stands
-// in an array, and no line inside a string heads one.
-fn line_of_task(alloc: Global, bytes: &[u8], task: usize) -> Result<Option<u64>, AllocError> {
-    let Some((number, end)) = header_of(bytes, task) else {
+/// The number of the line that heads a table of the array at a key, where the document up to that line says so: none heads a
+/// table that stands in an array, and no line inside a string heads one.
+pub(crate) fn line_of(
+    alloc: Global,
+    bytes: &[u8],
+    key: Key,
+    place: usize,
+) -> Result<Option<u64>, AllocError> {
+    let Some((number, end)) = header_of(bytes, key, place) else {
         return Ok(None);
     };
     // With the line's LF, which a CR needs behind it.
     let head = bytes.get(..end.saturating_add(1)).unwrap_or(bytes);
     match toml::table_from_slice(alloc, head) {
-        Ok(root) if has_begun(&root, task) => Ok(Some(number)),
+        Ok(root) if has_begun(&root, key, place) => Ok(Some(number)),
         Err(error) if error.is_memory() => Err(AllocError),
         _ => Ok(None),
     }

@@ -100,7 +100,7 @@ fn all_script<R: Read + Drop, P: Audience>(
         (λ r. HasNoParts asking (R.remaining set.old.inner) r) }
     ensures read { IsRead failed_read set.old set.new result }
 {
-    let (tasks, owners) = read_owned(alloc, asking, set, people)?;
+    let (tasks, owners, _chains) = read_owned(alloc, asking, set, people)?;
     let text = script_of_all(alloc, &owners, &tasks);
     tell(&text, &tasks, Which::First, b"", people);
     text

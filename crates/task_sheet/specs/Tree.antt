@@ -25,6 +25,7 @@ word_of key.Lock = codes "lock"
 word_of key.Release = codes "release"
 word_of key.Late = codes "late"
 word_of key.Interrupt = codes "interrupt"
+word_of key.Chain = codes "chain"
 word_of key.Name = codes "name"
 word_of key.Weight = codes "weight"
 word_of key.Period = codes "period"
@@ -36,10 +37,13 @@ word_of key.Outranks = codes "outranks"
 word_of key.Locks = codes "locks"
 word_of key.At = codes "at"
 word_of key.Len = codes "len"
+word_of key.Tasks = codes "tasks"
+word_of key.Age = codes "age"
+word_of key.Reaction = codes "reaction"
 
 -- the keys that may stand in the root
 abbrev pub root_keys : List Key
-root_keys = key.Task ∷ key.Prefer ∷ key.Node ∷ key.Interrupt ∷ []
+root_keys = key.Task ∷ key.Prefer ∷ key.Node ∷ key.Interrupt ∷ key.Chain ∷ []
 
 -- the keys of the node's table
 abbrev pub node_keys : List Key
@@ -48,6 +52,14 @@ node_keys = key.Job ∷ key.Lock ∷ key.Release ∷ key.Late ∷ []
 -- the keys of an interrupt's table
 abbrev pub interrupt_keys : List Key
 interrupt_keys = key.Period ∷ key.Cost ∷ []
+
+-- the keys of a chain's table
+abbrev pub chain_keys : List Key
+chain_keys = key.Name ∷ key.Tasks ∷ key.Age ∷ key.Reaction ∷ []
+
+-- those that it needs
+abbrev pub needed_chain_keys : List Key
+needed_chain_keys = key.Name ∷ key.Tasks ∷ []
 
 -- the keys of a task's table
 abbrev pub task_keys : List Key

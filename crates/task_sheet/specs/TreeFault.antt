@@ -175,8 +175,12 @@ interrupts_fault (Some mss) =
     option_or (option_map fault.BadInterrupt (bad_interrupt 1 mss))
     (unless (nat_le (length mss) INTERRUPT_LIMIT) fault.TooManyInterrupts)
 
--- the root's keys and the kind of `task`, its preference, the node, the interrupts, each task, and then what
--- `TaskSet::new` refuses
+-- the fault of the chains' tables: a value of another kind
+abbrev pub chains_fault : Option (List Members) → Option SetFault
+chains_fault mss = unless (is_some mss) (fault.WrongKind 0 0 key.Chain)
+
+-- the root's keys and the kind of `task`, its preference, the node, the interrupts, the kind of `chain`, each task, and
+-- then what `TaskSet::new` refuses
 abbrev pub tree_fault : Members → Option SetFault
 tree_fault ms = first (
     unless (only_keys root_keys ms) (fault.UnknownKey 0 0)
@@ -184,6 +188,7 @@ tree_fault ms = first (
     ∷ prefer_fault (value_at key.Prefer ms)
     ∷ overheads_fault (value_at key.Node ms)
     ∷ interrupts_fault (tables_at key.Interrupt ms)
+    ∷ chains_fault (tables_at key.Chain ms)
     ∷ tasks_fault 1 (unwrap_or (tables_at key.Task ms) [])
     ∷ option_map of_set (sheets_fault (tree_sheets ms))
     ∷ [])

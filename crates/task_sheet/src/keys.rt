@@ -24,7 +24,9 @@ pub enum Key {
     Late,
     /// `interrupt` of the root: an array of tables, none where it is absent.
     Interrupt,
-    /// `name` of a task: a string.
+    /// `chain` of the root: an array of tables, none where it is absent.
+    Chain,
+    /// `name` of a task or a chain: a string.
     Name,
     /// `weight` of a task: a number, 0 where it is absent.
     Weight,
@@ -46,6 +48,12 @@ pub enum Key {
     At,
     /// `len` of a section: a number of microseconds.
     Len,
+    /// `tasks` of a chain: an array of strings.
+    Tasks,
+    /// `age` of a chain: a number of microseconds, no limit where it is absent.
+    Age,
+    /// `reaction` of a chain: a number of microseconds, no limit where it is absent.
+    Reaction,
 }
 
 impl Key {
@@ -62,6 +70,7 @@ impl Key {
             Key::Release => "release",
             Key::Late => "late",
             Key::Interrupt => "interrupt",
+            Key::Chain => "chain",
             Key::Name => "name",
             Key::Weight => "weight",
             Key::Period => "period",
@@ -73,18 +82,33 @@ impl Key {
             Key::Locks => "locks",
             Key::At => "at",
             Key::Len => "len",
+            Key::Tasks => "tasks",
+            Key::Age => "age",
+            Key::Reaction => "reaction",
         }
     }
 }
 
 /// The keys of the root.
-pub const ROOT_KEYS: [Key; 4] = [Key::Task, Key::Prefer, Key::Node, Key::Interrupt];
+pub const ROOT_KEYS: [Key; 5] = [
+    Key::Task,
+    Key::Prefer,
+    Key::Node,
+    Key::Interrupt,
+    Key::Chain,
+];
 
 /// The keys of the node.
 pub const NODE_KEYS: [Key; 4] = [Key::Job, Key::Lock, Key::Release, Key::Late];
 
 /// The keys of an interrupt.
 pub const INTERRUPT_KEYS: [Key; 2] = [Key::Period, Key::Cost];
+
+/// The keys of a chain.
+pub const CHAIN_KEYS: [Key; 4] = [Key::Name, Key::Tasks, Key::Age, Key::Reaction];
+
+/// Those that it needs.
+pub const NEEDED_CHAIN_KEYS: [Key; 2] = [Key::Name, Key::Tasks];
 
 /// The keys of a task.
 pub const TASK_KEYS: [Key; 8] = [
@@ -112,8 +136,8 @@ fn is_word_of(keys: &[Key], text: &str) -> bool
     keys.iter().any(|key| key.word() == text)
 }
 
-// The table has these keys alone.
-pub(crate) fn only_keys(keys: &[Key], table: &Table) -> bool
+/// Whether the table has these keys alone.
+pub fn only_keys(keys: &[Key], table: &Table) -> bool
     ensures { result ≡ only_keys keys.now (table_view table.now) }
 {
     for (key, _) in table.iter() {
@@ -124,15 +148,15 @@ pub(crate) fn only_keys(keys: &[Key], table: &Table) -> bool
     true
 }
 
-// The value at a key.
-pub(crate) fn value_at<'a>(key: Key, table: &'a Table) -> Option<&'a Value>
+/// The value at a key.
+pub fn value_at<'a>(key: Key, table: &'a Table) -> Option<&'a Value>
     ensures { option_map (λ v. view v.now) result ≡ value_at key (table_view table.now) }
 {
     table.get(key.word())
 }
 
-// The first of the keys that the table lacks.
-pub(crate) fn first_missing(keys: &[Key], table: &Table) -> Option<Key>
+/// The first of the keys that the table lacks.
+pub fn first_missing(keys: &[Key], table: &Table) -> Option<Key>
     ensures { result ≡ first_missing keys.now (table_view table.now) }
 {
     for key in keys {

@@ -239,8 +239,8 @@ fn copy_sections(alloc: Global, sections: &[Section]) -> Result<Vec<Section>, Al
     Ok(copies)
 }
 
-// Some name stands twice.
-fn has_repeat(names: &[Name]) -> bool
+/// Whether some name stands twice.
+pub fn has_repeat(names: &[Name]) -> bool
     ensures value { result ≡ repeats names.now }
     ensures named { OnFalse result (All IsName names.now) }
 {

@@ -6,8 +6,8 @@ ghost use Rattle.task_sheet.specs.Tree.{value_at, number_of, number_at, number_o
 use crate::keys::{Key, value_at};
 use toml::{Table, Value};
 
-// An integer that is not negative.
-fn number_of(value: &Value) -> Option<u64>
+/// An integer that is not negative.
+pub fn number_of(value: &Value) -> Option<u64>
     ensures { result ≡ number_of (view value.now) }
 {
     match value.as_integer() {
@@ -16,8 +16,8 @@ fn number_of(value: &Value) -> Option<u64>
     }
 }
 
-// The number at a key.
-pub(crate) fn number_at(key: Key, table: &Table) -> Option<u64>
+/// The number at a key.
+pub fn number_at(key: Key, table: &Table) -> Option<u64>
     ensures { result ≡ number_at key (table_view table.now) }
 {
     number_of(value_at(key, table)?)
@@ -41,8 +41,8 @@ pub(crate) fn number_or_zero(key: Key, table: &Table) -> Option<u64>
     number_or(0, key, table)
 }
 
-// The text at a key.
-pub(crate) fn text_at<'a>(key: Key, table: &'a Table) -> Option<&'a str>
+/// The text at a key.
+pub fn text_at<'a>(key: Key, table: &'a Table) -> Option<&'a str>
     ensures { option_map (λ s. s.now) result ≡ text_at key (table_view table.now) }
 {
     value_at(key, table)?.as_str()
@@ -84,8 +84,8 @@ fn strings_of<'a>(value: &'a Value) -> Option<&'a [Value]>
     }
 }
 
-// The array of strings at a key.
-pub(crate) fn strings_at<'a>(key: Key, table: &'a Table) -> Option<&'a [Value]>
+/// The array of strings at a key.
+pub fn strings_at<'a>(key: Key, table: &'a Table) -> Option<&'a [Value]>
     ensures { MatchOption result (strings_at key (table_view table.now) ≡ None)
         (λ s. (all_strings (items_view s.now) ≡ true)
         × (strings_at key (table_view table.now) ≡ Some (strings_in (items_view s.now)))) }
@@ -126,8 +126,8 @@ pub(crate) fn said_or_none<'a>(key: Key, table: &'a Table) -> Option<Said<'a>>
     }
 }
 
-// The array of tables at a key, which is empty where it is absent.
-pub(crate) fn tables_at<'a>(key: Key, table: &'a Table) -> Option<&'a [Value]>
+/// The array of tables at a key, which is empty where it is absent.
+pub fn tables_at<'a>(key: Key, table: &'a Table) -> Option<&'a [Value]>
     ensures { MatchOption result (tables_at key (table_view table.now) ≡ None)
         (λ s. (all_tables (items_view s.now) ≡ true)
         × (tables_at key (table_view table.now) ≡ Some (tables_in (items_view s.now)))) }

@@ -14,7 +14,7 @@ use Rattle.task_sheet.specs.declared.node.Interrupt.{Interrupt}
 use Rattle.task_sheet.specs.declared.read.Document.{Document}
 use Rattle.toml.specs.Data.{Members}
 use Rattle.task_sheet.specs.Tree.{tables_at, value_at}
-use Rattle.task_sheet.specs.TreeFault.{overheads_fault, prefer_fault}
+use Rattle.task_sheet.specs.TreeFault.{interrupts_fault, overheads_fault, prefer_fault}
 use Rattle.task_sheet.specs.declared.keys.Key.TheVariants as key
 use Rattle.task_sheet.specs.declared.read.SetFault.{SetFault}
 use Rattle.task_sheet.proofs.WithinLimits.{overheads_within, says_within, tables_within}
@@ -97,7 +97,7 @@ none_said (Some f) e = cc
 
 root_none : (tree : Members) → node_fault tree ≡ None → own_fault tree ≡ None
 root_none tree none = elim (cases_Bool (only_keys
-    (Said key.Prefer ∷ Said key.Node ∷ Said key.Interrupt ∷ Strict ∷ Locks ∷ Team ∷ []) tree)) [
+    (Said key.Prefer ∷ Said key.Node ∷ Said key.Interrupt ∷ Said key.Chain ∷ Strict ∷ Locks ∷ Team ∷ []) tree)) [
       | inl known ↦ none_said _ (no_node_fault _ _ (rw known at none))
       | inr other ↦
           let some : Some node.UnknownRoot ≡ None = (rw other at none) in
@@ -111,9 +111,10 @@ node_bounds document n (tree, is, none, says) =
     let first = root_none tree none in
     let prefers = no_fault (prefer_fault (value_at key.Prefer tree)) _ first in
     let node = no_fault (overheads_fault (value_at key.Node tree)) _ prefers.1 in
+    let rest = no_fault (interrupts_fault (tables_at key.Interrupt tree)) _ node.1 in
     rw says (record {
       node = overheads_within (value_at key.Node tree) node.0;
-      interrupts = tables_within (tables_at key.Interrupt tree) node.1;
+      interrupts = tables_within (tables_at key.Interrupt tree) rest.0;
     })
 
 -- and teams' documents with locks by their own names say as much as they are

@@ -6,7 +6,7 @@ use Rattle.toml.specs.Data.{Data, Members, no_members, member, get_member, as_bo
 use Rattle.task_sheet.specs.Name.{is_name}
 use Rattle.task_sheet.specs.Sheet.{same_bytes}
 use Rattle.task_sheet.specs.Tree.{number_of, tables_at, tree_interrupts, tree_node, tree_prefers, value_at, word_of}
-use Rattle.task_sheet.specs.TreeFault.{interrupts_fault, overheads_fault, prefer_fault}
+use Rattle.task_sheet.specs.TreeFault.{chains_fault, interrupts_fault, overheads_fault, prefer_fault}
 use Rattle.task_sheet.specs.declared.keys.Key.TheVariants as key
 use Rattle.task_sheet.specs.declared.read.SetFault.{SetFault}
 use Rattle.task_sheet.specs.ReadsSet.{IsDocument}
@@ -193,12 +193,14 @@ own_of root = record {
   interrupts = tree_interrupts root;
 }
 
--- its first fault: that of the preference, the node, and then the interrupts, each as a set's document has it
+-- its first fault: that of the preference, the node, the interrupts, and then the kind of `chain`, each as a set's document
+-- has it
 abbrev pub own_fault : Members → Option SetFault
 own_fault root =
     option_or (prefer_fault (value_at key.Prefer root))
     (option_or (overheads_fault (value_at key.Node root))
-    (interrupts_fault (tables_at key.Interrupt root)))
+    (option_or (interrupts_fault (tables_at key.Interrupt root))
+    (chains_fault (tables_at key.Chain root))))
 
 -- ---- doubts
 -- the value at `strict` is neither true nor false
@@ -229,7 +231,7 @@ node_of root = record {
 -- the first fault of a node's document: its keys, what is said for all teams, `strict`, its locks, and then the teams
 abbrev pub node_fault : Members → Option NodeFault
 node_fault root =
-    if only_keys (Said key.Prefer ∷ Said key.Node ∷ Said key.Interrupt ∷ Strict ∷ Locks ∷ Team ∷ []) root
+    if only_keys (Said key.Prefer ∷ Said key.Node ∷ Said key.Interrupt ∷ Said key.Chain ∷ Strict ∷ Locks ∷ Team ∷ []) root
     then option_or (option_map fault.Says (own_fault root))
     (option_or (strict_fault root)
     (option_or (locks_fault (get_member (key_word Locks) root))

@@ -11,7 +11,7 @@ use crate::naming::Lock;
 use crate::uniting::TeamSet;
 use std::alloc::{AllocError, Global};
 use std::marker::Model;
-use task_sheet::{Key, Name, SetFault, read_interrupts, read_node, read_preference};
+use task_sheet::{Key, Name, SetFault, check_chains, read_interrupts, read_node, read_preference};
 use thiserror::Error;
 use toml::{Table, Value};
 
@@ -413,6 +413,7 @@ fn read_own(alloc: Global, root: &Table) -> Result<TeamSet, SetFault>
     let prefers = read_preference(root)?;
     let node = read_node(root)?;
     let interrupts = read_interrupts(alloc, root)?;
+    check_chains(root)?;
     Ok(TeamSet {
         team: node_name(),
         set: Vec::new(alloc),
@@ -447,6 +448,7 @@ fn read_root(alloc: Global, root: &Table) -> Result<NodeDocument, NodeFault>
         NodeKey::Said(Key::Prefer),
         NodeKey::Said(Key::Node),
         NodeKey::Said(Key::Interrupt),
+        NodeKey::Said(Key::Chain),
         NodeKey::Strict,
         NodeKey::Locks,
         NodeKey::Team,
@@ -470,7 +472,7 @@ fn read_root(alloc: Global, root: &Table) -> Result<NodeDocument, NodeFault>
     })
 }
 
-// What the node's document says, in TOML: `prefer`, `node` and `interrupt` as a set's document has them; true or false at `strict`;
+// What the node's document says, in TOML: `prefer`, `node`, `interrupt` and `chain` as a set's document has them; true or false at `strict`;
 // a table `locks`; and for a team a table `team.NAME`, with a number at `load` and `section`, and true or false at
 // `node`. Refused in this order: `Syntax`; `UnknownRoot`; `Says`; `BadStrict`; `NoLocks`; for each name of a lock `BadLockName`, `BadLock`; `TooManyLocks`; `NoTeams`; for each team by its name: `BadName`, `NoBudget`, `UnknownKey`, `NoNumber`, `NoRight`.
 pub(crate) fn read_document(alloc: Global, text: &[u8]) -> Result<NodeDocument, NodeFault>

@@ -5,7 +5,7 @@ use Rattle.task_sheet.specs.declared.prefer.Preference.{Preference}
 use Rattle.preferences.specs.ReadsAsked.{ReadsAsked}
 use Rattle.preferences.specs.declared.asking.Asking.{Asking}
 use Rattle.preferences.specs.declared.asking.AskedFault.{AskedFault}
-use Rattle.preferences.specs.declared.asking.AskedFault.TheVariants.{Text, Doubt}
+use Rattle.preferences.specs.declared.asking.AskedFault.TheVariants.{Text, Doubt, Chain}
 use Rattle.answering.specs.declared.refusal.CommandRefusal.{CommandRefusal}
 use Rattle.answering.specs.declared.refusal.CommandRefusal.TheVariants as refusal
 use Rattle.two_input_commands.specs.Diff.{ComparesText, IsNoNew, new_refusal}
@@ -15,10 +15,12 @@ pub new_refused_as : (asking : Asking) (text : List ℕ) (fault : AskedFault)
     → ReadsAsked asking text (Err fault) → IsNoNew asking text (new_refusal fault)
 new_refused_as asking text (Text fault) reads = reads
 new_refused_as asking text (Doubt doubt) reads = reads
+new_refused_as asking text (Chain fault) reads = reads
 
 -- it is the answer
 pub new_refused : (asking : Asking) (by : Preference) (U : List Task) (text : List ℕ)
     (r : CommandRefusal) → IsNoNew asking text r → ComparesText asking by U text (Err r)
 new_refused asking by U text (refusal.New fault) reads = reads
 new_refused asking by U text (refusal.NewDoubtful doubt) reads = reads
+new_refused asking by U text (refusal.NewChain fault) reads = reads
 new_refused asking by U text _ reads = absurd reads

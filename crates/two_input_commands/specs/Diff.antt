@@ -5,7 +5,7 @@ use Rattle.preferences.specs.declared.asking.Asking.{Asking}
 use Rattle.task_sheet.specs.declared.read.Document.{Document}
 use Rattle.preferences.specs.Preferences.{IsPreferred}
 use Rattle.preferences.specs.ReadsPreferred.{chosen}
-use Rattle.preferences.specs.ReadsAsked.{IsDoubted, TellsDoubt, lenient}
+use Rattle.preferences.specs.ReadsAsked.{IsChained, IsDoubted, IsUnchained, TellsDoubt, lenient}
 use Rattle.preferences.specs.declared.asking.AskedFault.{AskedFault}
 use Rattle.preferences.specs.declared.asking.AskedFault.TheVariants as asked
 use Rattle.task_sheet.specs.Sheet.{Task}
@@ -25,22 +25,25 @@ use Rattle.two_input_commands.specs.declared.diff_lines.Compared.{Compared}
 use Rattle.answering.specs.declared.refusal.CommandRefusal.{CommandRefusal}
 use Rattle.answering.specs.declared.refusal.CommandRefusal.TheVariants as refusal
 
--- the text says this set, as the call asks for it, taken by this preference
+-- the text says this set and its chains, as the call asks for it, taken by this preference
 abbrev pub IsNew : Asking → List ℕ → List Task → Preference → Type 0
 IsNew asking text V by =
     (d : Document) × ReadsText text (Ok d) × IsPreferred (chosen asking.prefer d.prefers) d.set V
     × (by ≡ chosen asking.prefer d.prefers)
-    × TellsDoubt asking text d.prefers V None
+    × TellsDoubt asking text d.prefers V None × IsChained text V
 
 -- why a text says no new set as it is asked for, as a refusal
 abbrev pub new_refusal : AskedFault → CommandRefusal
 new_refusal (asked.Text fault) = refusal.New fault
 new_refusal (asked.Doubt doubt) = refusal.NewDoubtful doubt
+new_refusal (asked.Chain fault) = refusal.NewChain fault
 
--- a text says no new set as the call asks for it: its first fault, or the first doubt of the set
+-- a text says no new set as the call asks for it: its first fault, the first doubt of the set, or the first
+-- fault of its chains
 abbrev pub IsNoNew : Asking → List ℕ → CommandRefusal → Type 0
 IsNoNew asking text (refusal.New fault) = ReadsText text (Err fault)
 IsNoNew asking text (refusal.NewDoubtful doubt) = IsDoubted asking text doubt
+IsNoNew asking text (refusal.NewChain fault) = IsUnchained asking text fault
 IsNoNew asking text _ = ⊥
 
 -- the text says the new set, and this becomes of both, of which the old one was taken by a preference
@@ -57,6 +60,7 @@ abbrev pub ComparesText :
 ComparesText asking by U text (Ok c) = IsComparison asking by U text c
 ComparesText asking by U text (Err (refusal.New fault)) = ReadsText text (Err fault)
 ComparesText asking by U text (Err (refusal.NewDoubtful doubt)) = IsDoubted asking text doubt
+ComparesText asking by U text (Err (refusal.NewChain fault)) = IsUnchained asking text fault
 ComparesText asking by U text (Err refusal.OutOfMemory) = Unit {0}
 ComparesText asking by U text _ = ⊥
 

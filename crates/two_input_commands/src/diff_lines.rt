@@ -44,6 +44,7 @@ fn new_refusal(fault: AskedFault) -> CommandRefusal
     match fault {
         AskedFault::Text(fault) => CommandRefusal::New(fault),
         AskedFault::Doubt(doubt) => CommandRefusal::NewDoubtful(doubt),
+        AskedFault::Chain(fault) => CommandRefusal::NewChain(fault),
     }
 }
 

@@ -1,5 +1,6 @@
 use Rattle.std.proofs.Common.{ℕ, List, Result, MatchResult, rules, subst}
 use Rattle.streams.specs.Inputs.{IsReadFrom}
+use Rattle.chain_tables.specs.Chains.{HasChains}
 use Rattle.preferences.specs.declared.asking.Asking.{Asking}
 use Rattle.answering.specs.Owning.{IsTakenBy, SaysOwned}
 use Rattle.answering.specs.Sets.{IsNoSet}
@@ -12,7 +13,7 @@ use Rattle.answering.proofs.sets.read_two.Goals as goal
 abbrev SaysOrRefuses : Asking → List ℕ → Result Taken CommandRefusal → Type 0
 SaysOrRefuses asking bytes answer =
     MatchResult answer (λ taken. SaysOwned asking bytes taken.tasks taken.owners.items
-    × IsTakenBy asking bytes taken.by)
+    × IsTakenBy asking bytes taken.by × HasChains bytes taken.tasks taken.chains.items)
     (λ r. IsNoSet asking bytes r)
 
 pub returns-clause-answer : goal.returns-clause-answer

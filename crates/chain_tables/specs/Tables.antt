@@ -1,0 +1,120 @@
+-- What the tables of chains in a document's tree say, and the first reason for which they say none.
+use Rattle.std.specs.Prelude.{ℕ, ◌+◌, min, nat_le, ◌&&◌, Bool, true, List, [], ◌∷◌, ◌++◌, map, length, find, Option, Some, None, is_some, unwrap_or, option_map, if◌then◌else◌, not}
+use Rattle.std.specs.Option.{option_or}
+use Rattle.std.specs.List.{list_all}
+use Rattle.toml.specs.Data.{Members}
+use Rattle.task_sheet.specs.Name.{is_name}
+use Rattle.task_sheet.specs.Sheet.{repeats, same_bytes}
+use Rattle.task_sheet.specs.Tree.{chain_keys, first_missing, needed_chain_keys, number_at, number_or_zero, only_keys, strings_at, tables_at, text_at, value_at}
+use Rattle.task_sheet.specs.declared.keys.Key.TheVariants as key
+use Rattle.chain_tables.specs.declared.judging.TheConstants.{CHAIN_LIMIT}
+use Rattle.chain_tables.specs.declared.table.TheConstants.{CHAIN_TASKS, LONGEST_LIMIT}
+use Rattle.chain_tables.specs.declared.fault.ChainCause.{ChainCause}
+use Rattle.chain_tables.specs.declared.fault.ChainCause.TheVariants as cause
+use Rattle.chain_tables.specs.declared.fault.Whose.{Whose}
+use Rattle.chain_tables.specs.declared.documents.Repeat.{Repeat}
+
+-- a chain as a document says it: its tasks by their names, the first one first
+pub record WrittenData : Type 0 where
+  pub whose : Whose
+  pub name : List ℕ
+  pub tasks : List (List ℕ)
+  pub limit : Option ℕ
+
+-- the lesser of two limits, of which either may be absent
+abbrev pub lesser : Option ℕ → Option ℕ → Option ℕ
+lesser (Some a) (Some b) = Some (min a b)
+lesser (Some a) None = Some a
+lesser None b = b
+
+abbrev pub name_said : Members → List ℕ
+name_said ms = unwrap_or (text_at key.Name ms) []
+
+abbrev pub tasks_said : Members → List (List ℕ)
+tasks_said ms = unwrap_or (strings_at key.Tasks ms) []
+
+-- the chain that a table says; its limit is the lesser of those of its age and its reaction
+abbrev pub chain_at : Whose → Members → WrittenData
+chain_at whose ms = record {
+  whose = whose;
+  name = name_said ms;
+  tasks = tasks_said ms;
+  limit = lesser (number_at key.Age ms) (number_at key.Reaction ms);
+}
+
+-- ---- why a table says none
+-- the fault, where the test fails
+abbrev pub unless : Bool → ChainCause → Option ChainCause
+unless ok f = if ok then None else Some f
+
+-- a key that is not known, and then the first that is missing
+abbrev pub keys_fault : ℕ → Members → Option ChainCause
+keys_fault chain ms =
+    option_or (unless (only_keys chain_keys ms) (cause.UnknownKey chain))
+    (option_map (cause.MissingKey chain) (first_missing needed_chain_keys ms))
+
+-- the kinds of the values
+abbrev pub kinds_fault : ℕ → Members → Option ChainCause
+kinds_fault chain ms =
+    option_or (unless (is_some (text_at key.Name ms)) (cause.WrongKind chain key.Name))
+    (option_or (unless (is_some (strings_at key.Tasks ms)) (cause.WrongKind chain key.Tasks))
+    (option_or (unless (is_some (number_or_zero (value_at key.Age ms))) (cause.WrongKind chain key.Age))
+    (unless (is_some (number_or_zero (value_at key.Reaction ms))) (cause.WrongKind chain key.Reaction))))
+
+-- a limit, where one is there, is from 1 to the longest
+abbrev pub is_within : Option ℕ → Bool
+is_within None = true
+is_within (Some limit) = nat_le 1 limit && nat_le limit LONGEST_LIMIT
+
+-- how many tasks there are, that none stands twice, and the limits
+abbrev pub values_fault : ℕ → List (List ℕ) → Members → Option ChainCause
+values_fault chain tasks ms =
+    option_or (unless (nat_le 1 (length tasks) && nat_le (length tasks) CHAIN_TASKS) (cause.Length chain))
+    (option_or (unless (not (repeats tasks)) (cause.TaskTwice chain))
+    (option_or (unless (is_within (number_at key.Age ms)) (cause.BadLimit chain key.Age))
+    (unless (is_within (number_at key.Reaction ms)) (cause.BadLimit chain key.Reaction))))
+
+-- a table's keys, the kinds of its values, its names, and then the values
+abbrev pub table_fault : ℕ → Members → Option ChainCause
+table_fault chain ms =
+    option_or (keys_fault chain ms)
+    (option_or (kinds_fault chain ms)
+    (option_or (unless (is_name (name_said ms) && list_all is_name (tasks_said ms)) (cause.BadName chain))
+    (values_fault chain (tasks_said ms) ms)))
+
+-- the first fault of tables, of which the first stands at a place
+abbrev pub tables_fault : ℕ → List Members → Option ChainCause
+tables_fault place [] = None
+tables_fault place (ms ∷ more) = option_or (table_fault place ms) (tables_fault (place + 1) more)
+
+-- ---- names that stand twice
+-- whose the first chain with a name is
+abbrev pub holder_of : List WrittenData → List ℕ → Option Whose
+holder_of ws name = option_map (λ w. w.whose) (find (λ w. same_bytes w.name name) ws)
+
+-- the first such chain behind those that were seen, where it would stand at a place
+abbrev pub first_repeat : List WrittenData → ℕ → List WrittenData → Option Repeat
+first_repeat seen place [] = None
+first_repeat seen place (w ∷ ws) =
+    option_or (option_map (λ other. record { place = place; whose = w.whose; name = w.name; other = other })
+    (holder_of seen w.name)) (first_repeat (seen ++ w ∷ []) (place + 1) ws)
+
+-- ---- a document's tree
+-- the tables of its chains; none where there is no array of tables
+abbrev pub tables_of : Members → List Members
+tables_of tree = unwrap_or (tables_at key.Chain tree) []
+
+-- the chains that it says
+abbrev pub chains_in : Whose → Members → List WrittenData
+chains_in whose tree = map (chain_at whose) (tables_of tree)
+
+-- why chains of a document are none by their number and their names
+abbrev pub names_fault : List WrittenData → Option ChainCause
+names_fault ws =
+    option_or (unless (nat_le (length ws) CHAIN_LIMIT) cause.TooManyChains)
+    (option_map (λ r. cause.SameName r.place) (first_repeat [] 1 ws))
+
+-- each table, how many there are, and then their names
+abbrev pub document_fault : Whose → Members → Option ChainCause
+document_fault whose tree =
+    option_or (tables_fault 1 (tables_of tree)) (names_fault (chains_in whose tree))

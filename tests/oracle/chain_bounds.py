@@ -1,0 +1,36 @@
+"""The bounds of a set's chains in an order, and the lines that say them: DEFINITIONS.md, Chains; FORMATS.md, Chains."""
+
+
+def lines_of(tasks, order, responses, tell_parts=False):
+    """The lines of all chains of a set in an order, by the response of each task, none where it misses its deadline; and whether
+    each bound is within its limit."""
+    text, all_met = [], True
+    for chain in tasks.chains:
+        indexes = [next(i for i, task in enumerate(tasks) if task.name == name) for name in chain.tasks]
+        found = None
+        if all(responses[i] is not None for i in indexes):
+            found = parts(tasks, order, responses, indexes)
+        bound = None if found is None else sum(time for _, time in found)
+        is_met = chain.limit is None or (bound is not None and bound <= chain.limit)
+        limit = [] if chain.limit is None else ["of" if is_met else "misses", chain.limit]
+        text.append(" ".join(map(str, ["chain", chain.name, "-" if bound is None else bound, *limit])) + "\n")
+        if tell_parts:
+            text += [f"  {words} {time}\n" for words, time in found or [] if time]
+        all_met = all_met and is_met
+    return "".join(text), all_met
+
+
+def parts(tasks, order, responses, indexes):
+    """What a chain's bound is the sum of, as words and a time: before each task the wait for its next job, behind each but the
+    last what is handed over to the next, and at last the response."""
+    found = []
+    for i, c in zip(indexes, [*indexes[1:], None]):
+        name = tasks[i].name
+        found.append((f"wait {name}", tasks[i].period))
+        if c is None:
+            found.append((f"response {name}", responses[i]))
+        elif order.index(c) < order.index(i):
+            found.append((f"jitter {name}", tasks[i].jitter))
+        else:
+            found.append((f"response {name} less cost {tasks[c].name}", responses[i] - tasks[c].cost))
+    return found
