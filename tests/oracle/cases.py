@@ -54,6 +54,10 @@ SECOND_INPUTS = {
 }
 
 
+# commands whose answers have lines of chains
+OF_CHAINS = ("admit", "explain", "judge")
+
+
 def of_set(rng, subject):
     sheets = sheets_for(rng, subject)
     prefer = rng.choice([None] * 12 + ["deadline"] * 3 + ["weight"])  # what the words say
@@ -62,8 +66,9 @@ def of_set(rng, subject):
     interrupts = make_sets.interrupts(rng) if rng.random() < 0.25 else []
     if sheets and (node or interrupts) and rng.random() < 0.4:
         sheets, interrupts = make_sets.padded_edge(rng, sheets, interrupts, lambda own, tables: taken(own, node, tables))
-    inputs = [set_input(rng, sheets, 0.08 if subject in SECOND_INPUTS else 0.3, own, node, interrupts)]
     tasks = taken(sheets, node, interrupts, prefer or own)
+    chains = make_sets.chains(rng, tasks) if rng.random() < (0.5 if subject in OF_CHAINS else 0.1) else []
+    inputs = [set_input(rng, sheets, 0.08 if subject in SECOND_INPUTS else 0.3, own, node, interrupts, chains)]
     if subject in SECOND_INPUTS:
         inputs.append(SECOND_INPUTS[subject](rng, tasks))
     if subject == "diff":
@@ -144,34 +149,37 @@ def sheets_for(rng, subject):
     return sheets
 
 
-def set_input(rng, sheets, damaged, own=None, overheads=None, interrupts=()):
+def set_input(rng, sheets, damaged, own=None, overheads=None, interrupts=(), chains=()):
     """The set as one document, as several of teams, or as a folder's files by their names; some are damaged."""
     if rng.random() < 0.88:
-        return set_text(rng, sheets, damaged, own, overheads, interrupts)
+        return set_text(rng, sheets, damaged, own, overheads, interrupts, chains)
     owns = [None, own, own, own, rng.choice([None, "weight"])]
     nodes = [None, *[overheads] * 5, rng.choice([None, {"job": 1}, {}])]
     cut = rng.randint(0, len(interrupts))
     hands = [interrupts[:cut], interrupts[cut:]]
     hand = lambda: hands.pop(0) if hands and rng.random() < 0.6 else rng.choice([[]] * 9 + [interrupts])
+    links = [[it] for it in chains]
+    link = lambda: links.pop(0) if links and rng.random() < 0.7 else rng.choice([[]] * 9 + [list(chains[:2])])
     is_kept, said = rng.random() < 0.5, b""
     if is_kept and rng.random() < 0.7:
-        said = set_text(rng, None, damaged, rng.choice(owns), rng.choice(nodes), hand())
+        said = set_text(rng, None, damaged, rng.choice(owns), rng.choice(nodes), hand(), link())
         if rng.random() < 0.7:
             owns, nodes, hands, interrupts = [None], [None], [], []
-    parts = make_sets.teams_of(rng, sheets, lambda part: set_text(rng, part, damaged / 3, rng.choice(owns), rng.choice(nodes), hand()))
+    parts = make_sets.teams_of(rng, sheets, lambda part: set_text(rng, part, damaged / 3, rng.choice(owns), rng.choice(nodes), hand(), link()))
     node = make_sets.node_of(rng, parts, sheets, said) if is_kept else None
     if rng.random() < 0.5:
         return make_sets.gathered(rng, parts, node)
     return make_sets.folder(rng, parts, node)
 
 
-def set_text(rng, sheets, damaged, own=None, overheads=None, interrupts=()):
-    """The set as TOML with what it prefers, and its node and interrupts, if any; one of two ways of damage at the given
-    rate. Without sheets what else is said stands alone."""
+def set_text(rng, sheets, damaged, own=None, overheads=None, interrupts=(), chains=()):
+    """The set as TOML with what it prefers, and its node, interrupts and chains, if any; one of two ways of damage at the
+    given rate. Without sheets what else is said stands alone."""
     tables = [make_sets.table_of(rng, sheet) for sheet in sheets or []]
     prefers = {} if own is None else {"prefer": own}
     node = {} if overheads is None else {"node": overheads}
     more = {"interrupt": list(interrupts)} if interrupts or rng.random() < 0.01 else {}
+    linked = {"chain": list(chains)} if chains or rng.random() < 0.01 else {}
     kind = rng.random()
     if kind < damaged / 2:
         if own is not None and rng.random() < 0.3:
@@ -180,8 +188,12 @@ def set_text(rng, sheets, damaged, own=None, overheads=None, interrupts=()):
             node = {"node": make_sets.wrong_overheads(rng, overheads)}
         if interrupts and rng.random() < 0.5:
             more = {"interrupt": make_sets.wrong_interrupts(rng, list(interrupts))}
-        return make_sets.toml(rng, prefers | ({} if sheets is None else make_sets.with_faults(rng, tables)) | node | more)
-    text = make_sets.toml(rng, prefers | ({} if sheets is None else {"task": tables}) | node | more)
+        if chains:
+            linked = {"chain": make_sets.wrong_chains(rng, list(chains))}
+        if chains and rng.random() < 0.7:
+            return make_sets.toml(rng, prefers | ({} if sheets is None else {"task": tables}) | node | more | linked)
+        return make_sets.toml(rng, prefers | ({} if sheets is None else make_sets.with_faults(rng, tables)) | node | more | linked)
+    text = make_sets.toml(rng, prefers | ({} if sheets is None else {"task": tables}) | node | more | linked)
     return make_sets.damaged_bytes(rng, text) if kind < damaged else text
 
 

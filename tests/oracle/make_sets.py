@@ -3,6 +3,7 @@
 import copy
 
 import analysis
+import chain_bounds
 import limits
 from sets import ALL, Section, Sheet, by_rank, sheet_fault
 
@@ -123,6 +124,49 @@ def interrupts(rng):
         most = min(period, rng.choice([0, 1, 20, period // 20, period // 20, period // 4]))
         out.append({"period": period, "cost": period if rng.random() < 0.02 else rng.randint(min(1, most), most)})
     return out
+
+
+def chains(rng, tasks):
+    """Tables of chains of a set's tasks, with limits that are near their bounds in its best order, if it has one."""
+    names, order = [task.name for task in tasks], analysis.best_order(tasks)
+    bounds = {} if order is None else {i: analysis.response_of(tasks, i, above) for _, i, above in analysis.levels_of(order)}
+    out = []
+    for name in rng.sample([*NAMES, "steer", "chain"], rng.choice([1, 1, 1, 2, 3, 16])):
+        own = rng.sample(range(len(tasks)), min(len(tasks), rng.choice([1, 2, 2, 3, 3, 4, 8])))
+        bound = 10 ** rng.uniform(3, 9)
+        if order is not None:
+            bound = sum(time for _, time in chain_bounds.parts(tasks, order, bounds, own))
+        table = {"name": name, "tasks": [names[i] for i in own]}
+        for key in ("age", "reaction"):
+            if rng.random() < 0.5:
+                table[key] = min(1_000_000_000, max(1, int(bound) + rng.choice([-1, 0, 1, 500, -500, 10_000])))
+        out.append(table)
+    return [table for table in out if table["tasks"] or rng.random() < 0.1]
+
+
+def wrong_chains(rng, tables):
+    """One fault or two in the tables of chains."""
+    tables = copy.deepcopy(tables)
+    for _ in range(rng.choice([1, 1, 2])):
+        table = rng.choice(tables)
+        key = rng.choice(["name", "tasks", "age", "reaction", "offsets", "task"])
+        kind = rng.randrange(7)
+        if kind == 0:
+            table.pop(key, None)
+        elif kind == 1:
+            table[key] = copy.deepcopy(rng.choice(VALUES))
+        elif kind == 2:
+            table[rng.choice(["age", "reaction"])] = rng.choice([0, 1, 1_000_000_000, 1_000_000_001, -1, 2**63 - 1])
+        elif kind == 3 and isinstance(table.get("tasks"), list):
+            more = rng.choice([["absent"], ["1"], table["tasks"][:1], [f"t{k}" for k in range(9)], [1]])
+            table["tasks"] = rng.choice([[], more, table["tasks"] + more])
+        elif kind == 4:
+            table["name"] = rng.choice(tables).get("name", "a")
+        elif kind == 5:
+            tables += [{**copy.deepcopy(table), "name": f"c{k}"} for k in range(rng.choice([14, 15, 16]))]
+        else:
+            tables += [copy.deepcopy(table)]
+    return tables
 
 
 def wrong_interrupts(rng, tables):
@@ -413,6 +457,8 @@ def toml(rng, root):
                 heads.append("[node]\n" + "".join(lines))
         elif key == "interrupt" and isinstance(value, list) and value and all(isinstance(it, dict) for it in value) and rng.random() < 0.8:
             heads += [block(rng, it, plain, "interrupt") for it in value]
+        elif key == "chain" and isinstance(value, list) and value and all(isinstance(it, dict) for it in value) and rng.random() < 0.8:
+            heads += [block(rng, it, plain, "chain") for it in value]
         elif key != "task" or not blocks:
             text += f"{spelled_key(rng, key, plain)} = {spelled(rng, value, plain)}\n"
     last = rng.random() < 0.3
