@@ -102,3 +102,12 @@ Each document of a folder has chains, of all teams' tasks; no two of one name:
   refused: new BadLimit 1 age
   (on standard error) new.toml: line 11, chain 1 (a): age has to be from 1 to 1000000000; it is 0
   [4]
+
+A script has no chains:
+
+  $ { cat tasks.toml; printf '[[chain]]\nname = "a"\ntasks = ["plan"]\n'; } > set.toml; desk script set.toml 1
+  open 1
+  put 1 camera 0 10000 10000 1000
+  put 1 plan 0 20000 20000 2000
+  commit 1
+  (on standard error) note: a script has no chains: those of the set are left out
