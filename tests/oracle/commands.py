@@ -554,6 +554,8 @@ def notes_of(call, tasks, others, text, status):
         if status == INFEASIBLE:
             return ["no order passes, so there is no run: desk explain says why"]
         return ([] if others[0][0] else names_decide(call, tasks)) + left_out(tasks) + overran(picture.cut(tasks, *others[0])[2])
+    if command == "script":
+        return ["a script has no chains: those of the set are left out"] * bool(tasks.chains)
     if command == "observe":
         seen = {line.split()[1]: int(line.split()[2]) for line in text.splitlines() if line.startswith("task ")}
         unseen = [task.name for task in tasks if seen.get(task.name) == 0]

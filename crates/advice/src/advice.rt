@@ -10,8 +10,8 @@ use desk_cli::{Audience, CommandRefusal, Status, Which, base_of};
 use explain::least_conflict;
 use preferences::Choice;
 use sentences::{
-    greatest_until, of_task, of_tasks, push_clean, put_conflict, put_empty, put_left_out,
-    put_names_decide, put_notes, put_overload, put_overran, put_override, put_parted,
+    greatest_until, of_task, of_tasks, push_clean, put_chains_left_out, put_conflict, put_empty,
+    put_left_out, put_names_decide, put_notes, put_overload, put_overran, put_override, put_parted,
     put_past_priorities, put_strange_threads, put_strangers, put_unrun, put_unseen,
 };
 use std::alloc::{AllocError, Global};
@@ -32,6 +32,8 @@ pub struct Advice<'a, W: Write + Drop> {
     no_task: Option<String>,
     // Whether nobody says by what the set is preferred.
     is_unpreferred: bool,
+    // Whether the set has chains.
+    has_chains: bool,
     // The set of a call that runs a list or checks a certificate, for what these break.
     set: Option<TaskSet>,
     errors: Watched<W>,
@@ -56,6 +58,18 @@ fn is_run(call: Call<'_>) -> bool {
             OfTwo::Simulate | OfTwo::Draw => true,
             OfTwo::Check | OfTwo::Diff | OfTwo::Judge | OfTwo::Observe => false,
             OfTwo::Keep | OfTwo::WorstAt | OfTwo::ExplainAt | OfTwo::LimitsAt => false,
+        },
+        _ => false,
+    }
+}
+
+// Whether a call prints a set as a script.
+fn is_script(call: Call<'_>) -> bool {
+    match call {
+        Call::One { command, .. } => match command {
+            OfOne::Script => true,
+            OfOne::Admit | OfOne::Settings | OfOne::Play => false,
+            OfOne::Limits | OfOne::Explain | OfOne::Worst | OfOne::Certify => false,
         },
         _ => false,
     }
@@ -181,6 +195,7 @@ impl<'a, W: Write + Drop> Advice<'a, W> {
             greatest_until: None,
             no_task: None,
             is_unpreferred: false,
+            has_chains: false,
             set: None,
             errors,
         }
@@ -198,10 +213,13 @@ impl<'a, W: Write + Drop> Advice<'a, W> {
         put_overload(set, &mut self.errors)
     }
 
-    // What is odd in the set of a call, and in the priority that its words choose.
+    // What is odd in the set of a call, what of it a script leaves out, and what is odd in the priority that its words choose.
     fn put_all(&mut self, set: &TaskSet) -> Result<(), WriteFailed> {
         put_empty(set, &mut self.errors)?;
         self.put_oddities(set)?;
+        if self.has_chains && is_script(self.call) {
+            put_chains_left_out(&mut self.errors)?;
+        }
         match options_of(self.call).base {
             Some(_) => put_past_priorities(base_of(options_of(self.call)), set, &mut self.errors),
             None => Ok(()),
@@ -303,6 +321,10 @@ impl<'a, W: Write + Drop> Audience for Advice<'a, W> {
             (None, None) => self.is_unpreferred = true,
             _ => {}
         }
+    }
+
+    fn chained(&mut self, has_chains: bool) {
+        self.has_chains = has_chains;
     }
 
     fn refused(&mut self, which: Which, bytes: &[u8], refusal: CommandRefusal) {

@@ -47,6 +47,9 @@ pub trait Audience {
     /// A set was read by a preference, and who says so; it may still be refused for what is read beside it.
     fn preferred(&mut self, set: &TaskSet, choice: Choice);
 
+    /// That set has chains, or none.
+    fn chained(&mut self, has_chains: bool);
+
     /// An input was refused; its bytes are empty where it was not read, and where the number beside it was refused.
     fn refused(&mut self, which: Which, bytes: &[u8], refusal: CommandRefusal);
 }
@@ -75,6 +78,8 @@ impl Audience for Nobody {
     fn parted(&mut self, _set: &TaskSet, _low: usize, _high: usize) {}
 
     fn preferred(&mut self, _set: &TaskSet, _choice: Choice) {}
+
+    fn chained(&mut self, _has_chains: bool) {}
 
     fn refused(&mut self, _which: Which, _bytes: &[u8], _refusal: CommandRefusal) {}
 }

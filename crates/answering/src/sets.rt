@@ -127,7 +127,10 @@ fn set_told<P: Audience>(
 {
     let read = read_asked(alloc, bytes, asking);
     match &read {
-        Ok(preferred) => people.preferred(&preferred.set, preferred.choice),
+        Ok(preferred) => {
+            people.preferred(&preferred.set, preferred.choice);
+            people.chained(!preferred.chains.is_empty());
+        }
         Err(fault) => people.refused(Which::First, bytes, asked_refusal(*fault)),
     }
     match read {

@@ -1,0 +1,113 @@
+Which chains documents say, and why they say none. Each command on a set reads them; those that say none are refused behind
+all else.
+
+  $ cat > tasks.toml << END
+  > [[task]]
+  > name = "camera"
+  > period = 10000
+  > deadline = 10000
+  > cost = 1000
+  > [[task]]
+  > name = "plan"
+  > period = 20000
+  > deadline = 20000
+  > cost = 2000
+  > END
+  $ refusal() { { cat tasks.toml; printf "$1"; } > set.toml; desk "${2:-certify}" set.toml; }
+  $ refusal '[[chain]]\nname = "steer"\ntasks = ["camera", "plan"]\nage = 45000\n' | head -n 2
+  desk-certificate 1
+  best 2
+
+Of a document, for each chain in turn: its keys, the kinds of its values, names, how many tasks, and limits:
+
+  $ { echo 'chain = [1]'; cat tasks.toml; } > set.toml; desk admit set.toml
+  refused: WrongKind 0 0 chain
+  (on standard error) set.toml: chain has to be an array of tables, each headed by [[chain]]; it is an array with 1
+  [4]
+  $ refusal '[[chain]]\nname = "steer"\ntasks = ["plan"]\n[[chain]]\nlimit = 1\n'
+  refused: ChainUnknownKey 2
+  (on standard error) set.toml: line 14, chain 2: unknown key limit; a chain has name, tasks, age, reaction
+  [4]
+  $ refusal '[[chain]]\nname = "steer"\n'
+  refused: ChainMissingKey 1 tasks
+  (on standard error) set.toml: line 11, chain 1 (steer): no key tasks; a chain needs name, tasks
+  [4]
+  $ refusal '[[chain]]\nname = "steer"\ntasks = "plan"\n'
+  refused: ChainWrongKind 1 tasks
+  (on standard error) set.toml: line 11, chain 1 (steer): tasks has to be an array of strings, as ["a", "b"]; it is the string "plan"
+  [4]
+  $ refusal '[[chain]]\nname = "steer"\ntasks = ["plan"]\nage = -1\n'
+  refused: ChainWrongKind 1 age
+  (on standard error) set.toml: line 11, chain 1 (steer): age has to be a whole number of microseconds from 0, without quotes; it is -1
+  [4]
+  $ refusal '[[chain]]\nname = "steer"\ntasks = ["plan", "9"]\n'
+  refused: BadChainName 1
+  (on standard error) set.toml: line 11, chain 1 (steer): tasks: "9" is no name; a name is 1 to 24 of the letters a to z and A to Z, digits, _ and -, a letter first
+  [4]
+  $ refusal '[[chain]]\nname = "steer"\ntasks = []\n'
+  refused: ChainLength 1
+  (on standard error) set.toml: line 11, chain 1 (steer): a chain has 1 to 8 tasks; it has 0
+  [4]
+  $ refusal '[[chain]]\nname = "steer"\ntasks = ["plan", "camera", "plan"]\n'
+  refused: ChainTaskTwice 1
+  (on standard error) set.toml: line 11, chain 1 (steer): a task stands twice in it: plan
+  [4]
+  $ refusal '[[chain]]\nname = "steer"\ntasks = ["plan"]\nage = 1\nreaction = 1000000001\n'
+  refused: BadLimit 1 reaction
+  (on standard error) set.toml: line 11, chain 1 (steer): reaction has to be from 1 to 1000000000; it is 1000000001
+  [4]
+
+Then how many there are, and their names; of a chain that stands twice the second:
+
+  $ for k in 1 2 3 4 5 6 7 8 9 10 11 12 13 14 15 16 17; do printf '[[chain]]\nname = "c%s"\ntasks = ["plan"]\n' $k; done > many
+  $ refusal "$(cat many)"
+  refused: TooManyChains
+  (on standard error) set.toml: more than 16 chains: there are 17
+  [4]
+  $ refusal '[[chain]]\nname = "a"\ntasks = ["none"]\n[[chain]]\nname = "a"\ntasks = ["plan"]\n'
+  refused: SameChain 2
+  (on standard error) set.toml: line 14, chain 2 (a): a chain before it has its name
+  [4]
+  $ refusal '[[chain]]\nname = "a"\ntasks = ["camera", "none"]\n' settings
+  refused: ChainTask a none
+  (on standard error) set.toml: chain a: the set has no task none; a chain's tasks are names of tasks, of any team
+  [4]
+
+Each document of a folder has chains, of all teams' tasks; no two of one name:
+
+  $ mkdir node; printf '[[chain]]\nname = "all"\ntasks = ["camera", "wheel"]\n' > node/node.toml
+  $ { cat tasks.toml; printf '[[chain]]\nname = "steer"\ntasks = ["plan", "wheel"]\n'; } > node/cam.toml
+  $ printf '[[task]]\nname = "wheel"\nperiod = 5000\ndeadline = 5000\ncost = 600\n[[chain]]\nname = "steer"\ntasks = ["wheel"]\n' > node/drive.toml
+  $ desk certify node
+  refused: TakenChain drive steer cam
+  (on standard error) node: drive.toml: steer is the name of a chain of cam.toml, too; give one of them another name
+  [4]
+  $ sed -i 's/"steer"/"all"/' node/drive.toml; desk certify node
+  refused: TakenChain drive all node
+  (on standard error) node: drive.toml: all is the name of a chain of node.toml, too; give one of them another name
+  [4]
+  $ sed -i 's/"all"/"9"/' node/drive.toml; desk certify node
+  refused: team drive BadChainName 1
+  (on standard error) node: drive.toml: line 6, chain 1 (9): name: "9" is no name; a name is 1 to 24 of the letters a to z and A to Z, digits, _ and -, a letter first
+  [4]
+  $ sed -i 's/"9"/"wheels"/' node/drive.toml; desk certify node | head -n 2
+  desk-certificate 1
+  best 3
+  $ printf 'age = 0\n' >> node/node.toml; desk certify node
+  refused: node BadLimit 1 age
+  (on standard error) node: node.toml: line 1, chain 1 (all): age has to be from 1 to 1000000000; it is 0
+  [4]
+  $ printf '[[chain]]\nname = "a"\ntasks = ["plan"]\nage = 0\n' > chain; cat tasks.toml chain > new.toml
+  $ desk diff tasks.toml new.toml
+  refused: new BadLimit 1 age
+  (on standard error) new.toml: line 11, chain 1 (a): age has to be from 1 to 1000000000; it is 0
+  [4]
+
+A script has no chains:
+
+  $ { cat tasks.toml; printf '[[chain]]\nname = "a"\ntasks = ["plan"]\n'; } > set.toml; desk script set.toml 1
+  open 1
+  put 1 camera 0 10000 10000 1000
+  put 1 plan 0 20000 20000 2000
+  commit 1
+  (on standard error) note: a script has no chains: those of the set are left out
