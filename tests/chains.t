@@ -1,0 +1,119 @@
+`desk admit`, `judge` and `explain` end with a line for each chain of the set: its bound in their order, beside its limit.
+
+  $ desk admit examples/steer.toml
+  admitted 4
+  1 log 17400
+  2 plan 9200
+  3 camera 2600
+  4 wheel 600
+  chain steer 44200 of 45000
+  $ desk explain examples/steer.toml | sed '1,/^load/d'
+  chain steer 44200 of 45000
+    wait camera 10000
+    wait plan 20000
+    response plan less cost wheel 8600
+    wait wheel 5000
+    response wheel 600
+  $ desk settings examples/steer.toml > now
+  $ desk judge examples/steer.toml now
+  meets 4
+  1 log 17400 of 100000 at 1
+  2 plan 9200 of 20000 at 2
+  3 camera 2600 of 10000 at 3
+  4 wheel 600 of 5000 at 4
+  chain steer 44200 of 45000
+  $ desk explain examples/steer.toml --at now | sed '1,/^load/d'
+  chain steer 44200 of 45000
+    wait camera 10000
+    wait plan 20000
+    response plan less cost wheel 8600
+    wait wheel 5000
+    response wheel 600
+
+The bound is within its limit up to the microsecond; the lesser of both limits counts, and without one nothing is missed:
+
+  $ sed 's/45000/44200/' examples/steer.toml | desk admit - | tail -n 1
+  chain steer 44200 of 44200
+  $ sed 's/45000/44199/' examples/steer.toml > tight.toml
+  $ desk admit tight.toml
+  admitted 4
+  1 log 17400
+  2 plan 9200
+  3 camera 2600
+  4 wheel 600
+  chain steer 44200 misses 44199
+  [3]
+  $ desk explain tight.toml > said
+  [3]
+  $ head -n 1 said; grep chain said
+  admitted 4
+  chain steer 44200 misses 44199
+  $ desk judge tight.toml now > said
+  [3]
+  $ head -n 1 said; tail -n 1 said
+  meets 4
+  chain steer 44200 misses 44199
+  $ desk explain tight.toml --at now > said
+  [3]
+  $ { cat examples/steer.toml; echo 'age = 44199'; } | desk admit - | tail -n 1
+  chain steer 44200 misses 44199
+  $ grep -v reaction examples/steer.toml | desk admit - | tail -n 1
+  chain steer 44200
+
+Of one task no chain is said, and none makes a no:
+
+  $ desk explain tight.toml --task wheel
+  admitted 4
+  4 wheel 600 of 5000
+    cost 600
+  $ desk explain tight.toml --task wheel --at now
+  meets 4
+  4 wheel 600 of 5000
+    cost 600
+
+In an order in which a task of it misses its deadline a chain has no bound. Where no order passes, none has a line:
+
+  $ printf 'thread wheel 1\nthread log 2\nthread plan 3\nthread camera 4\n' > turned
+  $ desk judge examples/steer.toml turned
+  misses wheel
+  1 wheel misses 5000 needs 13600 at 1
+  2 log 15000 of 100000 at 2
+  3 plan 8000 of 20000 at 3
+  4 camera 2000 of 10000 at 4
+  chain steer - misses 45000
+  [3]
+  $ grep -v reaction examples/steer.toml | desk explain - --at turned | tail -n 1
+  chain steer -
+  $ { cat examples/steer.toml; printf '[[task]]\nname = "more"\nperiod = 5000\ndeadline = 500\ncost = 501\n'; } | desk explain - > said
+  [3]
+  $ grep chain said
+  [1]
+
+A handover to a task below takes the jitter; parts of 0 have no line. With what the node takes, in a folder of two teams:
+
+  $ mkdir teams
+  $ printf 'prefer = "deadline"\n[node]\njob = 20\nlate = 15\n' > teams/node.toml
+  $ printf '[[task]]\nname = "a"\nperiod = 5000\ndeadline = 5000\ncost = 1000\n' > teams/arm.toml
+  $ printf '[[task]]\nname = "b"\nperiod = 10000\ndeadline = 10000\ncost = 1000\n[[chain]]\nname = "down"\ntasks = ["a", "b"]\n[[chain]]\nname = "up"\ntasks = ["b", "a"]\nage = 20000\n' > teams/base.toml
+  $ desk explain teams
+  admitted 2
+  1 b 2055 of 10000 team base
+    cost 1000
+    node 20
+    jitter 15
+    above a 1 jobs 1020 team arm
+  2 a 1035 of 5000 team arm
+    cost 1000
+    node 20
+    jitter 15
+  load 306000
+  chain down 17070
+    wait a 5000
+    jitter a 15
+    wait b 10000
+    response b 2055
+  chain up 17070 of 20000
+    wait b 10000
+    response b less cost a 1035
+    wait a 5000
+    response a 1035
