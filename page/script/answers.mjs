@@ -21,11 +21,15 @@ export function notes_of({ told }) {
   return { notes: all.filter(it => !it.endsWith(WHY)), conflict };
 }
 
+// The chains whose bounds are past their limits, or have none.
+const missed_in = lines => lines.filter(it => /^chain \S+ (-|\d+) misses \d+$/.test(it));
+
 // `admit`: how many tasks, or the names that stand in the way, or a refusal. (`explain` has the
 // levels.)
 export function read_admit({ text, status, told = '' }) {
-  const [first = ''] = lines_of(text), words = first.split(' ');
-  if (status === 0) return { kind: 'admitted', count: Number(words[1]) };
+  const [first = '', ...lines] = lines_of(text), words = first.split(' ');
+  if (words[0] === 'admitted')
+    return { kind: 'admitted', count: Number(words[1]), missed: missed_in(lines) };
   if (status === 3) return { kind: 'infeasible', names: words.slice(1) };
   return { kind: 'refused', sentence: text ? sentence_of({ text, told }, 'set') : 'no answer',
     refusal: read_refusal(text) };
@@ -45,11 +49,13 @@ function read_part(line) {
 
 // `explain`: the account of each task from the lowest level up, or of each of the minimal conflict;
 // the load; and behind it, of a conflict, what becomes of each task in an order that decides, with
-// the parts of what it needs where it misses its deadline.
+// the parts of what it needs where it misses its deadline. Chains aren't shown.
 export function read_explain({ text, status }) {
   if (status !== 0 && status !== 3) return null;
   const found = { accounts: [], conflict: null, load: null, order: [] };
-  for (const line of lines_of(text).slice(1)) {
+  const [first, ...lines] = lines_of(text), is_admitted = first?.startsWith('admitted ');
+  for (const line of lines) {
+    if (is_admitted && found.load !== null) break;
     const words = line.split(' ');
     if (line.startsWith('  '))
       (found.load === null ? found.accounts : found.order).at(-1)?.parts.push(read_part(line));
@@ -60,7 +66,7 @@ export function read_explain({ text, status }) {
     else if (words[1] === 'must')
       found.accounts.push({ name: words[0], over: words[4], parts: [] });
     else {
-      const [level, name, time, , deadline] = status === 0 ? words : [null, ...words];
+      const [level, name, time, , deadline] = is_admitted ? words : [null, ...words];
       found.accounts.push(
         { level: number(level ?? '-'), name, time: Number(time), deadline: Number(deadline),
         parts: [] });
@@ -118,10 +124,10 @@ function read_fate(line) {
 }
 export function read_judge({ text, status, told }) {
   if (status !== 0 && status !== 3)
-    return { refused: sentence_of({ text, told }, 'settings'), misses: [], rows: [] };
-  const [first = '', ...rows] = lines_of(text);
-  return { refused: null, misses: status === 3 ? first.split(' ').slice(1) : [],
-    rows: rows.map(read_fate) };
+    return { refused: sentence_of({ text, told }, 'settings'), misses: [], missed: [], rows: [] };
+  const [first = '', ...lines] = lines_of(text), misses = first.startsWith('misses ');
+  return { refused: null, misses: misses ? first.split(' ').slice(1) : [],
+    missed: missed_in(lines), rows: lines.filter(it => /^\d/.test(it)).map(read_fate) };
 }
 
 // `diff`: each task of which there is something to say, with its level, its bound and what that

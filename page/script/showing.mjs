@@ -67,8 +67,8 @@ export function show_verdict(admit) {
   state.admit = admit;
   if (!lanes.set.waiting) state.is_waiting = false;
   write(at('verdict'), verdict_told(admit));
-  at('strip').className =
-    `verdict ${admit.kind === 'admitted' ? 'is-yes' : admit.kind === 'infeasible' ? 'is-no' : ''}`;
+  const is_yes = admit.kind === 'admitted' && !admit.missed.length;
+  at('strip').className = `verdict ${is_yes ? 'is-yes' : admit.kind === 'refused' ? '' : 'is-no'}`;
   state.is_stale = admit.kind === 'refused';
   const wrong = admit.refusal ? cell_refused(admit.refusal) : null;
   const of_node = admit.refusal ? node_refused(admit.refusal) : null;

@@ -4,7 +4,8 @@ import { element, grouped, plural, thousandths, us } from './dom.mjs';
 import { fate_told } from './judging.mjs';
 
 export function verdict_told(admit) {
-  if (admit.kind === 'admitted') return `Admitted: ${plural(admit.count, 'task')}`;
+  if (admit.kind === 'admitted')
+    return [`Admitted: ${plural(admit.count, 'task')}`, ...admit.missed].join('; ');
   if (admit.kind === 'infeasible') return `No order passes: ${admit.names.join(', ')}`;
   return admit.sentence;
 }

@@ -98,7 +98,7 @@ const SAY = {
     const certificate = ask('certify', { set });
     if (certificate.bytes && certificate.status !== 4)
       ask('check', { set, certificate: certificate.bytes });
-    if (explained.status === 0) {
+    if (explained.text?.startsWith('admitted ')) {
       // With no word of the user, until the first job of each task is done: by its bound, from when
       // it may arrive.
       const most = pattern => Math.max(
