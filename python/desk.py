@@ -826,8 +826,8 @@ def limits(tasks: Sheets) -> Limits:
     interrupts: dict[str, tuple[Limit, ...]] = {}
     node, slack, factor = (), {}, None
     for name, *words in (it.split() for it in lines):
-        if name == "all" and len(words) == 3:
-            factor = Factor(_time(words[0]), _time(words[1]), None if words[2] == "-" else words[2])
+        if name == "all" and (len(words) == 3 or words == ["-", "-"]):
+            factor = Factor(_time(words[0]), _time(words[1]), words[2] if words[2:] else None)
         elif len(words) == 2 and words[0] == "slack":
             slack[name] = int(words[1])
         elif whose := _interrupt(name, words):
@@ -937,7 +937,7 @@ def worst(tasks: Sheets, task: str = "") -> Worst:
     times = {}
     if kind == "misses":
         times = {"limit": int(more.pop())}
-    elif more[:1] == ["of"]:
+    elif more[:1] == ["of"] and more[1:]:
         times = {"response": _time(kind), "limit": int(more[1])}
         kind, more = "comes", []
     first = next((k for k, it in enumerate(lines) if it.startswith("until ")), None)
@@ -1000,7 +1000,8 @@ def observe(tasks: Sheets, trace: Text | Run) -> Observed | Judged | Infeasible:
 
 
 def _broken(kind: str, name: str, words: list[str]) -> Broken:
-    place = words.index("after") if "after" in words else len(words)
+    # (a task may be named `after`, but behind its name stands a time)
+    place = len(words) - 4 if words[-4:-3] == ["after"] and words[-3].isalpha() else len(words)
     words, cause = words[:place], words[place + 1 :]
     arrival, *time = words[:2]
     more = dict(zip(words[2::2], words[3::2]))

@@ -104,6 +104,13 @@ What the node gives to a team, and whose a lock becomes:
   [team.bsae] in teams/node.toml is of no document; the teams are arm, base and cam: nora or root may change it
   refused: COMMIT "mistyped"
 
+  $ fresh root && rm root/teams/arm.toml root/teams/base.toml root/teams/cam.toml && save root 'no team' && push root | sed 1,2d
+  teams/base.toml is gone; [team.base] in teams/node.toml has to go, too, first or in the same commit: nora or root may change it
+  refused: COMMIT "no team"
+  $ sed -i s/base/bsae/ root/teams/node.toml && git -C root commit -q -a --amend -m 'mistyped' && push root | sed 1,2d
+  [team.bsae] in teams/node.toml is of no document; no team has one: nora or root may change it
+  refused: COMMIT "mistyped"
+
 What only the node's document may say:
 
   $ fresh ann && printf '[node]\njob = 10\n' >> ann/teams/arm.toml && save ann 'what a job takes' && push ann
@@ -231,6 +238,29 @@ A branch that is not admitted, or can't be read, as one from before the hook, is
   the set before can't be read (teams/cam.toml is no team's document: it is a symbolic link; the document itself has to stand there): the new one is judged alone
   all - -> 1000
   warning: nothing is left: if all takes a thousandth longer, arm of team arm (ann or root) misses its deadline
+
+A lock of two names is one; what mends a set is told of whoever says it, and what all have to lessen:
+
+  $ node() { fresh nora && printf "$1" > nora/teams/node.toml && save nora node && push nora; }
+  $ node '[locks]\nbus = true\neye = true\n"lens" = "eye"\n' | grep '^all'
+  all 1000 -> 1000
+  $ fresh cy && locked pan 30000 100 eye 100 > cy/teams/cam.toml && save cy 'the eye' && push cy | grep '^all'
+  all 1000 -> 1000
+  $ fresh ann && locked look 50000 100 lens 10 >> ann/teams/arm.toml && save ann 'the eye' && push ann | grep '^lock'
+  lock eye is shared from this push on, by teams arm and cam: arm came second
+  $ node 'locks = { bus = true, eye = true, lens = "eye" }\n[node]\njob = 600\n' | sed -n '/^one/,/^or/p'
+  one of these changes mends it, all else as it is:
+  team node (yours), teams/node.toml: node job = 0, now 600
+  team arm (ann or root), teams/arm.toml: arm cost = 900, now 1500
+  team arm (ann or root), teams/arm.toml: arm deadline = 5600 with period = 5600, now 5000
+  team base (bob or root), teams/base.toml: roll section 1 len = 2900, now 3500
+  or all teams together: each cost and section, and what the node takes, at most 892 thousandths of what it is
+  $ node 'locks = { bus = true, eye = true, "lens" = "eye" }\n[[interrupt]]\nperiod = 2000\ncost = 500\n' | sed -n '/^one/,/^or/p'
+  one of these changes mends it, all else as it is:
+  team node (yours), teams/node.toml: interrupt 1 cost = 0, now 500
+  team arm (ann or root), teams/arm.toml: arm deadline = 7000 with period = 7000, now 5000
+  team base (bob or root), teams/base.toml: roll section 1 len = 2000, now 3500
+  or all teams together: each cost, section and interrupt at most 769 thousandths of what it is
 
 What the server fails in is told as that:
 
