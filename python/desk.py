@@ -292,13 +292,14 @@ class Factor:
 @dataclass(frozen=True)
 class Limits(_Answer):
     """How far each number may go. Of a refused set (`answer` is a no) those that mend it are here
-    alone, each with the least that does; `slack` is empty then. `interrupts` are by `interrupt K`,
-    in a folder's behind their team."""
+    alone, each with the least that does; `slack` is empty then, and `locks` have the most that each
+    section of a lock may take. `interrupts` are by `interrupt K`, in a folder's behind their team."""
 
     answer: Infeasible | None
     tasks: Mapping[str, tuple[Limit, ...]]
     interrupts: Mapping[str, tuple[Limit, ...]]
     node: tuple[Limit, ...]
+    locks: Mapping[str, Limit]
     slack: Mapping[str, int]
     factor: Factor | None
 
@@ -819,17 +820,23 @@ def limits(tasks: Sheets) -> Limits:
     >>> found = limits(toml([Task("a", 10_000, 10_000, 9000)], interrupts=[Interrupt(1000, 200)]))
     >>> [(it.number, it.most) for it in found.interrupts["interrupt 1"]]
     [('cost', 100), ('period', 2000)]
+    >>> low = Task("low", 9000, 9000, 900, sections=[Section(["m"], 0, 400), Section(["m"], 400, 400)])
+    >>> found = limits([Task("top", 1000, 1000, 700, sections=[Section(["m"], 0, 9)]), low])
+    >>> found.locks["m"]
+    Limit(number='len', value=400, in_order=None, most=300, along=None, held_by=None)
     """
     status, said = _ask("limits", tasks)
     _, *lines = said.splitlines()
     rows: dict[str, tuple[Limit, ...]] = {}
     interrupts: dict[str, tuple[Limit, ...]] = {}
-    node, slack, factor = (), {}, None
+    node, locks, slack, factor = (), {}, {}, None
     for name, *words in (it.split() for it in lines):
         if name == "all" and (len(words) == 3 or words == ["-", "-"]):
             factor = Factor(_time(words[0]), _time(words[1]), words[2] if words[2:] else None)
         elif len(words) == 2 and words[0] == "slack":
             slack[name] = int(words[1])
+        elif name == "lock" and words[1] == "len":
+            locks[words[0]] = _limit(words[1:])
         elif whose := _interrupt(name, words):
             words = words[len(whose.split()) - 1 :]
             interrupts[whose] = (*interrupts.get(whose, ()), _limit(words))
@@ -838,7 +845,7 @@ def limits(tasks: Sheets) -> Limits:
         elif len(words) >= 4:
             rows[name] = (*rows.get(name, ()), _limit(words))
     answer = _no(said) if status else None
-    return Limits(answer, rows, interrupts, node, slack, factor, text=said)
+    return Limits(answer, rows, interrupts, node, locks, slack, factor, text=said)
 
 
 def settings(tasks: Sheets) -> Settings | Infeasible:

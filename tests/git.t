@@ -29,6 +29,7 @@ the conflict. He takes the one that is his, and reads what this leaves to all:
   team base (yours), teams/base.toml: roll section 1 len = 3500, now 4000
   team arm (ann or root), teams/arm.toml: arm cost = 1000, now 1500
   team arm (ann or root), teams/arm.toml: arm deadline = 5500 with period = 5500, now 5000
+  of arm and base: lock bus len = 3500, now 4000
   or all teams together: each cost and section at most 909 thousandths of what it is
   conflict arm
   arm 5500 of 5000 team arm

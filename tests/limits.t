@@ -92,6 +92,7 @@ section stays as long, and above hi it takes 3500 at least.
   hi cost 2000 - 1900
   hi deadline 4400 - 4500
   lo section 1 len 2500 - 2400
+  lock m len 2500 - 2400
   all - 977 hi
   [3]
 
@@ -109,6 +110,7 @@ With such a value some order passes, with one less none does:
   hi cost 2000 - 1999
   hi deadline 4400 - 4401
   lo section 1 len 2401 - 2400
+  lock m len 2401 - 2400
   all - 999 hi
   [3]
 
@@ -241,6 +243,85 @@ That, typed in, is admitted, and one more isn't a set; where the second says tha
   arm section 1 len 5 5 5 by section 2
   arm section 2 len 7 25 25 by section 3
   arm section 3 len 5 70 70 by cost
+
+Of two sections of a lock that are too long each none alone mends the set. Then the lock has a line: top has 1000 and takes
+600, so that 400 are left for each of them.
+
+  $ cat > twice.toml << END
+  > [[task]]
+  > name = "top"
+  > period = 1000
+  > deadline = 1000
+  > cost = 600
+  > section = [{ locks = ["m"], len = 10 }]
+  > [[task]]
+  > name = "low"
+  > period = 10000
+  > deadline = 10000
+  > cost = 1500
+  > section = [{ locks = ["m"], len = 700 }, { locks = ["m"], len = 600 }]
+  > END
+  $ desk limits twice.toml
+  infeasible top
+  top cost 600 - 300
+  top deadline 1000 - 1300 with period 1300
+  lock m len 700 - 400
+  all - 769 top
+  [3]
+  $ sed 's/len = [67]00/len = 400/g' twice.toml | desk admit - | head -n 1
+  admitted 2
+  $ sed 's/len = [67]00/len = 401/g' twice.toml | desk admit - | head -n 1
+  infeasible top
+  $ sed 's/len = 700/len = 400/' twice.toml | desk admit - | head -n 1
+  infeasible top
+
+The same where they are of two tasks, of which one takes another lock, too; a lock with one user has no line, unless a section
+takes it beside another one.
+
+  $ cat > nested.toml << END
+  > [[task]]
+  > name = "top"
+  > period = 1000
+  > deadline = 1000
+  > cost = 600
+  > section = [{ locks = ["m"], len = 10 }]
+  > [[task]]
+  > name = "one"
+  > period = 10000
+  > deadline = 10000
+  > cost = 700
+  > section = [{ locks = ["m", "n"], len = 700 }]
+  > [[task]]
+  > name = "two"
+  > period = 20000
+  > deadline = 20000
+  > cost = 700
+  > section = [{ locks = ["m"], len = 401 }, { locks = ["alone"], len = 50 }]
+  > END
+  $ desk limits nested.toml 2> notes | grep lock
+  lock m len 700 - 400
+  $ sed 's/len = 401/len = 400/' nested.toml | desk limits - 2> notes | grep -e section -e lock
+  one section 1 len 700 - 400
+  lock m len 700 - 400
+  lock n len 700 - 400
+
+In an order that fails only what mends it has a line, with the most that some order leaves. Below low top misses whatever the
+lock takes:
+
+  $ printf 'thread low 1\nthread top 2\n' > up-to-top
+  $ desk limits twice.toml --at up-to-top | grep lock
+  lock m len 700 400 400
+  $ printf 'thread low 2\nthread top 1\n' | desk limits twice.toml --at - | grep lock
+  [1]
+  $ desk limits twice.toml --at up-to-top --task low
+  misses top
+  [3]
+
+Five of what is left are the node's where it takes as much of each lock, and five of top's cost:
+
+  $ { cat twice.toml; printf '[node]\nlock = 5\n'; } > calls.toml
+  $ desk limits calls.toml | grep lock
+  lock m len 700 - 390
 
 A refused set prints as in `admit`:
 

@@ -26,6 +26,7 @@ From a no to the node: nine tasks of a robot that share three mutexes. What stan
   infeasible motor
   battery section 1 len 900 - 850
   motor deadline 1000 - 1050 with period 1050
+  lock bus len 900 - 850
   all - 952 motor
   [3]
 

@@ -98,6 +98,7 @@ export function read_limits({ text, status }) {
     const [name, word] = words;
     if (name === 'all' && (words.length === 4 || word === '-'))
       Object.assign(found, { all: number(words[2]), in_order: number(word), first: words[3] });
+    else if (words[2] === 'len') found.common.push(read_common(words)); // (of a lock)
     else if (/^(cost|period|deadline|jitter|section)$/.test(word) && words.length > 4)
       found.tasks.set(name, [...found.tasks.get(name) ?? [], read_limit(words)]);
     else if (words.length > 4) found.common.push(read_common(words));

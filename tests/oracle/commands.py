@@ -272,6 +272,12 @@ def limits_in(tasks, order, task):
                     continue
                 held = number.held(most)
                 text.append(f"{number.words} {number.value} {or_dash(own)} {most}{'' if held is None else f' by {held}'}\n")
+    if not is_passing and task is None:
+        for lock in limits.first_sights(tasks):
+            longest, most = limits.longest_on(tasks, lock), limits.most_on(tasks, lock)
+            own = limits.most_on(tasks, lock, in_order)
+            if (most if order is None else own) is not None:
+                text.append(f"lock {lock} len {longest} {or_dash(own)} {most}\n")
     if not is_passing and task is None and not text:
         text.append("no single change\n")
     if tasks and task is None:

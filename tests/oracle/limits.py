@@ -177,6 +177,39 @@ def furthest_common(tasks, number, does_pass):
     return last_that(number.easiest_first, passes)
 
 
+# All sections of a lock at once
+
+
+def first_sights(tasks):
+    """The locks, each once, by tasks, sections and as written."""
+    return list(dict.fromkeys(lock for task in tasks for section in task.sections for lock in section.locks))
+
+
+def longest_on(tasks, lock):
+    """What the longest section of a lock takes of its own; 0 where none takes anything."""
+    own = [part.len - task.calls(part) for task in tasks for part in task.sections if lock in part.locks]
+    return max([0, *own])
+
+
+def cut(tasks, lock, most):
+    """The set, with no section of a lock longer of its own; those that don't say where they begin move along."""
+    return tuple(task._replace(sections=tuple(shortened(task, lock, most))) for task in tasks)
+
+
+def shortened(task, lock, most):
+    less = 0
+    for place, part in enumerate(task.sections):
+        less = less if place in task.following else 0
+        length = min(part.len, most + task.calls(part)) if lock in part.locks else part.len
+        yield part._replace(at=max(0, part.at - less), len=length)
+        less += part.len - length
+
+
+def most_on(tasks, lock, does_pass=is_feasible):
+    """The most that each section of a lock may take for the set to pass, up to what the longest takes; or None."""
+    return last_that(range(1, longest_on(tasks, lock) + 1), lambda most: does_pass(cut(tasks, lock, most)))
+
+
 # All execution at once
 
 

@@ -1,4 +1,4 @@
--- The lines of numbers that are no task's own: of the interrupts, and of what the node takes.
+-- The lines that are of no one task: of the interrupts, of what the node takes, and of the locks.
 use Rattle.std.specs.Prelude.{◌≡◌, ◌⊎◌, ℕ, zero, suc, ◌+◌, ◌==◌, Bool, true, false, nat_lt, List, [], ◌++◌, length, codes, Option, Some, None, if◌then◌else◌}
 use Rattle.std.specs.Fmt.{decimal}
 use Rattle.task_sheet.specs.declared.node.Node.{Node}
@@ -15,6 +15,7 @@ use Rattle.limits.specs.declared.shared.Shared.TheVariants.{Job, Lock, Release, 
 use Rattle.limits.specs.Shared.{AnswersShared, most_shared, shared_of, with_shared}
 use Rattle.limits.specs.Written.{node_of, written}
 use Rattle.limit_lines.specs.Lines.{IsNumberLine, values_words}
+use Rattle.limit_lines.specs.Locks.{AreLockLines}
 
 -- ---- interrupts
 -- the lines of the interrupt at a place on the account of task i: its cost and its period
@@ -132,10 +133,11 @@ AreNodeLinesOf U order text =
     (IsTaskSet (written U) × AreNodeLines (written U) (node_of U) order text)
     ⊎ (¬ IsTaskSet (written U) × (text ≡ []))
 
--- ---- both
+-- ---- all of them
 abbrev pub AreCommonLines : List Owner → List Task → Option (List ℕ) → List ℕ → Type 0
 AreCommonLines owners U order text =
-    (interrupts : List ℕ) × (node : List ℕ)
+    (interrupts : List ℕ) × (node : List ℕ) × (locks : List ℕ)
     × AreInterruptsLines owners U order (length U) interrupts
     × AreNodeLinesOf U order node
-    × (text ≡ interrupts ++ node)
+    × AreLockLines owners U order locks
+    × (text ≡ interrupts ++ node ++ locks)

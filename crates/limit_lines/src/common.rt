@@ -1,4 +1,4 @@
-//! The lines of numbers that are no task's own: of the interrupts, and of what the node takes.
+//! The lines that are of no one task: of the interrupts, of what the node takes, and of the locks.
 ghost use Rattle.std.specs.Prelude.{◌≡◌, ◌++◌, ◌<◌, ◌≤◌, length, codes, option_map, IfOk, IfSome, OnOk, string_bytes};
 ghost use Rattle.task_sheet.specs.declared.node.TheConstants.{INTERRUPT_LIMIT};
 ghost use Rattle.task_sheet.specs.Sheet.{AreOverheads, task_at};
@@ -7,6 +7,7 @@ ghost use Rattle.limits.specs.Shared.{most_shared};
 ghost use Rattle.limits.specs.Written.{node_of, written};
 ghost use Rattle.limit_lines.specs.Common.{AnswersSharedIn, AreAccountLines, AreCommonLines, AreInterruptLines, AreInterruptsLines, AreNodeLines, AreNodeLinesOf, IsNodeLine, IsSharedLine, fault_words, is_shared_told, is_whole, room_words, shared_held, shared_label, shared_line};
 
+use crate::locks::locks_text;
 use crate::text::{number_text, push_some};
 use ceilings::Tabled;
 use limits::{
@@ -305,8 +306,9 @@ fn node_text(alloc: Global, set: &TaskSet, order: Option<&[usize]>) -> Result<St
     }
 }
 
-/// The lines of numbers that are no task's own: of each interrupt its cost and its period, and of what the node takes each
-/// number above 0; in an order that is given, the lowest first, only of what helps it. The error is out of memory.
+/// The lines that are of no one task: of each interrupt its cost and its period, of what the node takes each number above 0,
+/// and of each lock the most that its sections may take where they have to be shorter; in an order that is given, the
+/// lowest first, only of what helps it. The error is out of memory.
 pub fn common_text(
     alloc: Global,
     owners: &[Owner],
@@ -319,6 +321,8 @@ pub fn common_text(
 {
     let mut text = interrupts_text(alloc, owners, set, order)?;
     let node = node_text(alloc, set.tasks(), order)?;
+    let locks = locks_text(alloc, owners, set, order)?;
     text.push_str(node.as_str())?;
+    text.push_str(locks.as_str())?;
     Ok(text)
 }

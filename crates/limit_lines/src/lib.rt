@@ -1,9 +1,10 @@
-//! The lines that say how far the numbers of a set may go: of each task its numbers and its slack, of the interrupts and of
-//! what the node takes, and the factor on all execution.
+//! The lines that say how far the numbers of a set may go: of each task its numbers and its slack, of the interrupts, of what
+//! the node takes and of the locks, and the factor on all execution.
 #![tactic(auto)]
 
 mod common;
 mod given;
+mod locks;
 mod text;
 
 pub use crate::common::common_text;

@@ -10,3 +10,4 @@ pub mod Answered
 pub mod NodeLaws
 pub mod SharedLaws
 pub mod WrittenLaws
+pub mod CutLaws

@@ -4,3 +4,4 @@ pub mod Rooms
 pub mod InOrder
 pub mod Shared
 pub mod Written
+pub mod Cuts

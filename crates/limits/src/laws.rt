@@ -16,6 +16,7 @@ ghost use Rattle.limits.specs.InOrder.{IsFurthestIn, NoneHelpsIn};
 ghost use Rattle.limits.specs.declared.shared.Shared.{Shared};
 ghost use Rattle.limits.specs.Shared.{IsFurthestShared, MayTake, PassesIn, with_shared};
 ghost use Rattle.limits.specs.Written.{node_of, written};
+ghost use Rattle.limits.specs.Cuts.{AnswersMostOn, Following, IsMostOn, cut, longest_on};
 
 /// To ask less takes no order away: with no cost, no jitter and no section longer, no timer or interrupt that takes
 /// more, no period shorter and no deadline earlier, no blocking and no demand is greater, no limit is less, and an order
@@ -101,6 +102,29 @@ pub fn furthest_shared_decides()
         → IsFurthestShared W node number order first
         → IsFurthestShared W node number order second
         → first ≡ second }
+{}
+
+/// The answer says all of the sections of a lock: with none of them longer of its own than a value, up to what the longest
+/// takes, the order passes exactly where that is no more than the most, and so with all of them as they are. There is one
+/// at most, whichever sections move along, and what is left is a set.
+pub fn most_on_decides()
+    ensures each { (follows : Following) (U : List Task) (lock : List ℕ) (order : Option (List ℕ)) (most value : ℕ)
+        → IsTaskSet U → IsMostOn follows U lock order most
+        → value ≤ longest_on lock U
+        → PassesIn order (cut follows lock value U) ↔ (value ≤ most) }
+    ensures own { (follows : Following) (U : List Task) (lock : List ℕ) (order : Option (List ℕ)) (most : ℕ)
+        → IsTaskSet U → IsMostOn follows U lock order most
+        → PassesIn order U ↔ (longest_on lock U ≤ most) }
+    ensures one { (follows goes : Following) (U : List Task) (lock : List ℕ) (order : Option (List ℕ))
+        (first second : ℕ) → IsTaskSet U
+        → IsMostOn follows U lock order first
+        → IsMostOn goes U lock order second
+        → first ≡ second }
+    ensures none { (follows : Following) (U : List Task) (lock : List ℕ) (order : Option (List ℕ)) → IsTaskSet U
+        → AnswersMostOn follows U lock order None
+        → ¬ PassesIn order U }
+    ensures set { (follows : Following) (U : List Task) (lock : List ℕ) (most : ℕ) → IsTaskSet U → 1 ≤ most
+        → IsTaskSet (cut follows lock most U) }
 {}
 
 /// What documents say is what is left of it once it is padded: their tasks, with the interrupts, and their node; and with

@@ -8,6 +8,7 @@ ghost use Rattle.task_sheet.specs.TaskSet.{IsTaskSet};
 ghost use Rattle.task_sheet.specs.Orders.{IsFeasible};
 ghost use Rattle.limits.specs.Numbers.{HasNumber, IsSpan, at_distance, numbered, MayHave, IsFurthest, AnswersFurthest};
 
+mod cuts;
 mod in_order;
 pub mod laws;
 mod number;
@@ -16,6 +17,7 @@ mod shared;
 mod spans;
 mod unpadded;
 
+pub use crate::cuts::{longest_on, most_on};
 pub use crate::in_order::{furthest_in_order, order_passes};
 pub use crate::number::Number;
 use crate::numbered::{keeps_sections, numbered};

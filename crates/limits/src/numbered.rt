@@ -120,8 +120,8 @@ fn with_interrupt_period(
     Ok(others)
 }
 
-// The sheet with these times and sections.
-fn with_parts(
+/// The sheet with these times and sections.
+pub(crate) fn with_parts(
     alloc: Global,
     sheet: &Sheet,
     times: Times,

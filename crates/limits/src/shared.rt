@@ -83,8 +83,8 @@ fn is_node(node: Node) -> bool
         && node.release <= node.job
 }
 
-// Whether this order of a set passes, or some order where none is given.
-fn passes_in(set: &Tabled<'_>, order: Option<&[usize]>) -> bool
+/// Whether this order of a set passes, or some order where none is given.
+pub(crate) fn passes_in(set: &Tabled<'_>, order: Option<&[usize]>) -> bool
     requires { IfSome (option_map (λ o. o.now) order) (IsOrder set.now) }
     ensures { IsTrue result ↔ PassesIn (option_map (λ o. o.now) order.entry) set.now }
 {
