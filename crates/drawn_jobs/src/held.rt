@@ -1,12 +1,10 @@
 //! The locks that a picture shows as held.
 ghost use Rattle.std.specs.List.{filter};
-ghost use Rattle.std.specs.Prelude.{◌≡◌, ◌≤◌, IfOk, OnOk, length, slice_index};
+ghost use Rattle.std.specs.Prelude.{◌≡◌, ◌≤◌, IfOk, OnOk, [], length};
 ghost use Rattle.frames.specs.declared.locks.TheConstants.{LOCKS_LIMIT};
-ghost use Rattle.frames.specs.Rows.{spot_named};
-ghost use Rattle.ceiling_kernel.specs.declared.trace.Slice.{Slice};
 ghost use Rattle.std.specs.Prelude.{slice_get};
 ghost use Rattle.drawn_jobs.specs.Held.{held_before, held_by, held_inside, held_locks, held_with, holds_in, is_held};
-ghost use Rattle.drawn_jobs.specs.Sections.{counted};
+ghost use Rattle.drawn_jobs.specs.Sections.{AreUncounted};
 
 use crate::bars::count_slice;
 use crate::ticks::{dark_from, dark_to};
@@ -84,6 +82,25 @@ fn note_held(
     note_sections(chart.frame, executed, slice, row.sheet.sections(), held)
 }
 
+// Notes those of each slice. The ticks that each job has executed are counted; none were before, and no lock was noted.
+fn note_slices(
+    chart: &Chart<'_>,
+    executed: &mut [u64],
+    held: &mut Vec<Name>,
+) -> Result<(), AllocError>
+    requires counts { AreUncounted executed.old (length chart.now.jobs.now) }
+    requires none { held.old.items ≡ [] }
+    ensures { OnOk result (held.new.items ≡ held_before chart.now.frame chart.now.rows.now
+        chart.now.shown.now chart.now.jobs.now chart.now.slices.now
+        (length chart.now.slices.now)) }
+{
+    for slice in chart.slices {
+        let before = count_slice(executed, *slice);
+        note_held(chart, before, *slice, held)?;
+    }
+    Ok(())
+}
+
 // The locks that are held in the window. Memory is taken for them, and for one count of each job.
 fn held_names(alloc: Global, chart: &Chart<'_>) -> Result<Vec<Name>, AllocError>
     ensures { IfOk result (λ held. held.items ≡ held_before chart.now.frame chart.now.rows.now
@@ -92,10 +109,7 @@ fn held_names(alloc: Global, chart: &Chart<'_>) -> Result<Vec<Name>, AllocError>
 {
     let mut executed = vec![in alloc; 0; chart.jobs.len()]?;
     let mut held = Vec::new(alloc);
-    for slice in chart.slices {
-        let before = count_slice(&mut executed, *slice);
-        note_held(chart, before, *slice, &mut held)?;
-    }
+    note_slices(chart, &mut executed, &mut held)?;
     Ok(held)
 }
 
