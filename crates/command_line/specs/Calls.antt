@@ -4,9 +4,9 @@ use Rattle.std.specs.Str.Parse.{digits_value, without_leading_plus}
 use Rattle.clap.specs.Words.{HasKind, IsUnsignedIn, Row, Text, fault_of, first_of, one_of, subcommand_of}
 use Rattle.command_line.specs.App.{desk_app}
 use Rattle.command_line.specs.Commands.{choice_id, input_of, least_of, most_of, number_choices, number_name, second_of, takes_of, verb_of, by_file}
-use Rattle.command_line.specs.declared.calls.TheConstants.{MOST_PRIORITY, MOST_ROOM, MOST_SEED, MOST_TEAM, MOST_TOLERANCE, LATEST_END, LEAST_WIDTH, MOST_WIDTH}
+use Rattle.command_line.specs.declared.calls.TheConstants.{MOST_PRIORITY, MOST_ROOM, MOST_SEED, MOST_TEAM, MOST_TOLERANCE, LATEST_END, LEAST_WIDTH, MOST_WIDTH, LEAST_PAPER, MOST_PAPER}
 use Rattle.command_line.specs.declared.calls.Choice.{Choice}
-use Rattle.command_line.specs.declared.calls.Choice.TheVariants.{All, Strict, Base, Room, LowerIsHigher, Seed, Tasks, Tolerance, Jobless, From, To, Width, Team}
+use Rattle.command_line.specs.declared.calls.Choice.TheVariants.{All, Strict, Base, Room, LowerIsHigher, Seed, Tasks, Tolerance, Jobless, From, To, Width, Print, Team}
 use Rattle.command_line.specs.declared.calls.Takes.{Takes}
 use Rattle.command_line.specs.declared.calls.Takes.TheVariants as takes
 use Rattle.command_line.specs.declared.calls.Preferred.{Preferred}
@@ -133,6 +133,7 @@ pub record AreOptions (given : List Row) (options : OptionsData) : Type 0 where
   pub from : IsNumberOf From given options.from
   pub to : IsNumberOf To given options.to
   pub width : IsNumberOf Width given options.width
+  pub print : IsNumberOf Print given options.print
   pub title : option_map (λ s. s.now) options.title ≡ first_of (codes "title") given
   pub rows : option_map (λ s. s.now) options.rows ≡ first_of (codes "rows") given
   pub team : IsNumberOf Team given options.team
@@ -155,6 +156,7 @@ no_options =
       from = None;
       to = None;
       width = None;
+      print = None;
       title = None;
       rows = None;
       team = None;
@@ -170,6 +172,7 @@ HaveNumbers options =
     × IfSome options.from (λ from. (0 ≤ from) × (from ≤ LATEST_END))
     × IfSome options.to (λ to. (0 ≤ to) × (to ≤ LATEST_END))
     × IfSome options.width (λ width. (LEAST_WIDTH ≤ width) × (width ≤ MOST_WIDTH))
+    × IfSome options.print (λ print. (LEAST_PAPER ≤ print) × (print ≤ MOST_PAPER))
     × IfSome options.team (λ team. (1 ≤ team) × (team ≤ MOST_TEAM))
 
 -- the word of the option that names a command of one input a second one

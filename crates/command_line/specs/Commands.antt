@@ -13,10 +13,10 @@ use Rattle.command_line.specs.declared.calls.OfNumber.TheVariants.{Releases, Rus
 use Rattle.command_line.specs.declared.calls.Verb.{Verb}
 use Rattle.command_line.specs.declared.calls.Verb.TheVariants.{One, Two, Number}
 use Rattle.command_line.specs.declared.calls.Choice.{Choice}
-use Rattle.command_line.specs.declared.calls.Choice.TheVariants.{Prefer, Strict, Task, Base, Room, LowerIsHigher, Seed, Tasks, Tolerance, Jobless, Keep, At, All, From, To, Width, Title, Rows, Team}
+use Rattle.command_line.specs.declared.calls.Choice.TheVariants.{Prefer, Strict, Task, Base, Room, LowerIsHigher, Seed, Tasks, Tolerance, Jobless, Keep, At, All, From, To, Width, Print, Title, Rows, Team}
 use Rattle.command_line.specs.declared.calls.Takes.{Takes}
 use Rattle.command_line.specs.declared.calls.Takes.TheVariants as takes
-use Rattle.command_line.specs.declared.calls.TheConstants.{MOST_WORKERS, MOST_TEAM, MOST_PRIORITY, MOST_ROOM, MOST_SEED, MOST_TOLERANCE, LEAST_WIDTH, MOST_WIDTH, LATEST_END}
+use Rattle.command_line.specs.declared.calls.TheConstants.{MOST_WORKERS, MOST_TEAM, MOST_PRIORITY, MOST_ROOM, MOST_SEED, MOST_TOLERANCE, LEAST_WIDTH, MOST_WIDTH, LEAST_PAPER, MOST_PAPER, LATEST_END}
 
 -- the commands with their words and the options that they take, as help lists them: those that answer on a task set,
 -- those for certificates and runs, those for scripts
@@ -33,7 +33,7 @@ commands =
     ∷ (codes "releases", Number Releases, Prefer ∷ Strict ∷ Seed ∷ [])
     ∷ (codes "worst", One Worst, Prefer ∷ Strict ∷ Task ∷ At ∷ [])
     ∷ (codes "simulate", Two Simulate, Prefer ∷ Strict ∷ Tasks ∷ [])
-    ∷ (codes "draw", Two Draw, Prefer ∷ Strict ∷ From ∷ To ∷ Width ∷ Title ∷ Rows ∷ [])
+    ∷ (codes "draw", Two Draw, Prefer ∷ Strict ∷ From ∷ To ∷ Width ∷ Print ∷ Title ∷ Rows ∷ [])
     ∷ (codes "observe", Two Observe, Prefer ∷ Strict ∷ Tolerance ∷ Jobless ∷ [])
     ∷ (codes "script", One Script, Prefer ∷ Strict ∷ Team ∷ [])
     ∷ (codes "play", One Play, [])
@@ -103,6 +103,7 @@ choice_name All = codes "all"
 choice_name From = codes "from"
 choice_name To = codes "to"
 choice_name Width = codes "width"
+choice_name Print = codes "print"
 choice_name Title = codes "title"
 choice_name Rows = codes "tasks"
 choice_name Team = codes "TEAM"
@@ -135,10 +136,11 @@ takes_of All = takes.Flag
 takes_of From = takes.Number 0 LATEST_END
 takes_of To = takes.Number 0 LATEST_END
 takes_of Width = takes.Number LEAST_WIDTH MOST_WIDTH
+takes_of Print = takes.Number LEAST_PAPER MOST_PAPER
 takes_of Title = takes.Word
 takes_of Rows = takes.Word
 takes_of Team = takes.Number 1 MOST_TEAM
 
 -- the options that take a number
 abbrev pub number_choices : List Choice
-number_choices = Base ∷ Room ∷ Seed ∷ Tolerance ∷ From ∷ To ∷ Width ∷ Team ∷ []
+number_choices = Base ∷ Room ∷ Seed ∷ Tolerance ∷ From ∷ To ∷ Width ∷ Print ∷ Team ∷ []

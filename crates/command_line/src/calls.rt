@@ -28,6 +28,12 @@ pub const LEAST_WIDTH: usize = 960;
 /// The greatest width of a picture, in pixels.
 pub const MOST_WIDTH: usize = 16_000;
 
+/// The least number of an A size of paper.
+pub const LEAST_PAPER: usize = 3;
+
+/// The greatest number of one.
+pub const MOST_PAPER: usize = 4;
+
 /// The greatest seed of a random release list.
 pub const MOST_SEED: usize = 4_294_967_295;
 
@@ -147,6 +153,8 @@ pub(crate) enum Choice {
     To,
     // `--width N`
     Width,
+    // `--print N`
+    Print,
     // `--title TEXT`
     Title,
     // `--tasks NAMES`
@@ -204,6 +212,8 @@ pub struct Options<'a> {
     pub to: Option<usize>,
     /// `--width N`: how wide it is, in pixels.
     pub width: Option<usize>,
+    /// `--print N`: the number of the A size of the paper that it is printed on.
+    pub print: Option<usize>,
     /// `--title TEXT`: what stands behind its verdict.
     pub title: Option<&'a str>,
     /// `--tasks NAMES`: the tasks that have rows in it, a comma between two, or all.
@@ -319,6 +329,7 @@ impl Choice {
             Choice::From => "from",
             Choice::To => "to",
             Choice::Width => "width",
+            Choice::Print => "print",
             Choice::Title => "title",
             Choice::Rows => "tasks",
             Choice::Team => "TEAM",
@@ -380,6 +391,10 @@ impl Choice {
                 least: LEAST_WIDTH as u32,
                 most: MOST_WIDTH as u32,
             },
+            Choice::Print => Takes::Number {
+                least: LEAST_PAPER as u32,
+                most: MOST_PAPER as u32,
+            },
             Choice::Team => Takes::Number {
                 least: 1,
                 most: MOST_TEAM as u32,
@@ -411,6 +426,7 @@ impl Choice {
             | Choice::All
             | Choice::Tolerance
             | Choice::Jobless
+            | Choice::Print
             | Choice::Width => "N",
         }
     }
@@ -436,6 +452,7 @@ impl Choice {
             Choice::From => "Where the picture begins, in microseconds",
             Choice::To => "Where the picture ends, in microseconds, if not with the run",
             Choice::Width => "How wide the picture is, in pixels, from 960 to 16000",
+            Choice::Print => "For paper of size A3 or A4, across: 3 or 4",
             Choice::Title => "What stands behind its verdict",
             Choice::Rows =>
                 "The tasks that have rows, a comma between two, or all; else the list's",
@@ -466,6 +483,7 @@ impl<'a> Options<'a> {
             from: None,
             to: None,
             width: None,
+            print: None,
             title: None,
             rows: None,
             team: None,

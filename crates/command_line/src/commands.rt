@@ -173,6 +173,7 @@ const COMMANDS: [Listed; 16] = [
             Choice::From,
             Choice::To,
             Choice::Width,
+            Choice::Print,
             Choice::Title,
             Choice::Rows,
         ],

@@ -97,6 +97,7 @@ fn options_at<'a>(matches: &ArgMatches<'a>) -> Option<Options<'a>>
         from: number_chosen(matches, Choice::From),
         to: number_chosen(matches, Choice::To),
         width: number_chosen(matches, Choice::Width),
+        print: number_chosen(matches, Choice::Print),
         title: matches.get_str("title"),
         rows: matches.get_str("rows"),
         room: number_chosen(matches, Choice::Room),

@@ -1,7 +1,7 @@
 -- The counts of the ticks that jobs have executed.
 use Rattle.std.proofs.Common.{◌≡◌, inl, inr, ℕ, ◌+◌, ◌<◌, List, [], length, sym, ap, ◌∙◌, subst}
-use Rattle.std.proofs.Common.{arith, min}
-use Rattle.std.specs.Prelude.{slice_index}
+use Rattle.std.proofs.Common.{add-one, arith, min, refl}
+use Rattle.std.specs.Prelude.{slice_get, slice_index}
 use Rattle.std.proofs.lemmas.Bool.{cases_lt, cases_eq, eq-eqb, ne_eqb}
 use Rattle.std.proofs.lemmas.List.{length-set, get_or-set_same, get_or-set_other}
 use Rattle.std.proofs.lemmas.Option.{slice_get_past}
@@ -9,10 +9,12 @@ use Rattle.ceiling_kernel.specs.declared.trace.JobRecord.{JobRecord}
 use Rattle.ceiling_kernel.specs.declared.trace.Slice.{Slice}
 use Rattle.frames.specs.Frame.{Frame}
 use Rattle.frames.specs.declared.rows.TaskRow.{TaskRow}
+use Rattle.frames.specs.declared.tones.Toned.{Toned}
 use Rattle.frames.specs.Slices.{slice_at, executed_in, executed_with, ticks_of}
 use Rattle.drawn_jobs.specs.Sections.{counted, AreUncounted}
 use Rattle.frames.specs.Rows.{on_spot, of_job}
 use Rattle.drawn_jobs.specs.Bars.{slice_text, slice_by, slice_in}
+use Rattle.drawn_jobs.specs.Held.{held_before, held_by}
 use Rattle.frames.proofs.Executed.{executed_more}
 
 -- a job's count after a slice
@@ -56,7 +58,7 @@ one_counted ticks jobs slices n counts =
     }
 
 -- with these counts, a slice has its text: one of no job has none, whatever was executed before it
-pub counted_text : (f : Frame) (locks : List (List ℕ)) (rows : List TaskRow) (shown : List ℕ)
+pub counted_text : (f : Frame) (locks : List Toned) (rows : List TaskRow) (shown : List ℕ)
     (jobs : List JobRecord) (slices : List Slice) (ticks : List ℕ) (n : ℕ)
     → AreCounts ticks jobs slices n
     → slice_by f locks rows shown jobs (slice_index ticks (slice_at slices n).job)
@@ -71,3 +73,24 @@ counted_text f locks rows shown jobs slices ticks n counts =
           (slice_get_past jobs s.job past) in
           none (slice_index ticks s.job) ∙ sym (none (executed_in slices n s.job))
     ]
+
+-- and the locks that are held before the next one
+pub counted_held : (f : Frame) (rows : List TaskRow) (shown : List ℕ) (jobs : List JobRecord)
+    (slices : List Slice) (ticks : List ℕ) (n : ℕ) (held : List (List ℕ))
+    → AreCounts ticks jobs slices n → held ≡ held_before f rows shown jobs slices n
+    → held_by f rows shown (slice_index ticks (slice_at slices n).job) (slice_at slices n) held
+    (slice_get jobs (slice_at slices n).job) ≡ held_before f rows shown jobs slices (n + 1)
+unfolding held_before
+counted_held f rows shown jobs slices ticks n held counts same =
+    let s = slice_at slices n in
+    rw (add-one n, same) (elim (cases_lt s.job (length jobs)) [
+      | inl lt ↦ ap (λ (e : ℕ). held_by f rows shown e s (held_before f rows shown jobs slices n)
+          (slice_get jobs s.job)) (counts.each_job s.job lt)
+      | inr past ↦ rw (slice_get_past jobs s.job past) refl
+    ])
+
+-- before the first one none is
+pub none_held : (f : Frame) (rows : List TaskRow) (shown : List ℕ) (jobs : List JobRecord)
+    (slices : List Slice) → [] ≡ held_before f rows shown jobs slices 0
+unfolding held_before
+none_held f rows shown jobs slices = refl

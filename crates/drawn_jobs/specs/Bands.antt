@@ -11,7 +11,7 @@ use Rattle.frames.specs.declared.rows.TaskRow.{TaskRow}
 use Rattle.frames.specs.Frame.{Frame, x_of, in_millis, is_in, sees, right_of, top_of}
 use Rattle.frames.specs.Rows.{record_at, each, on_spot}
 use Rattle.frames.specs.Numbers.{known_text, time_text, unit_text}
-use Rattle.drawn_jobs.specs.Jobs.{limit_of, limit_path, goes_on, sign_text, signs_text, job_text}
+use Rattle.drawn_jobs.specs.Jobs.{limit_of, limit_path, goes_on, sign_text, signs_text, job_text, unrun_text}
 
 -- how many microseconds 20 pixels are: arrivals of a task that are less apart are too close
 abbrev pub gap_of : Frame → ℕ
@@ -61,7 +61,8 @@ seen_band f k row first jobs count latest done greatest =
     band_box (limit_path f k row first.release latest) first count latest
     ++ band_words done greatest row.bound row.sheet.deadline
     ++ band_label (in_millis f) (x_of f first.release)
-    (right_of f first.release (latest + limit_of row)) k count done greatest ++ last_bound f k latest row.bound
+    (right_of f first.release (latest + limit_of row)) k count done greatest
+    ++ unrun_text f k row latest ++ last_bound f k latest row.bound
     ++ signs_text f k (nat_lt first.release f.from) (any_on f first.name jobs)
 
 -- the same of any band

@@ -7,7 +7,8 @@ use Rattle.ceiling_kernel.specs.declared.trace.JobRecord.{JobRecord}
 use Rattle.ceiling_kernel.specs.declared.trace.Slice.{Slice}
 use Rattle.frames.specs.declared.rows.TaskRow.{TaskRow}
 use Rattle.frames.specs.declared.rows.Spot.{Spot}
-use Rattle.frames.specs.Frame.{Frame, x_of, sees, right_of, top_of, tone_of}
+use Rattle.frames.specs.declared.tones.Toned.{Toned}
+use Rattle.frames.specs.Frame.{Frame, x_of, sees, right_of, top_of}
 use Rattle.frames.specs.Rows.{each, on_spot, of_job}
 use Rattle.frames.specs.Boxes.{box_path, span_text}
 use Rattle.drawn_jobs.specs.Stripes.{stripes_text}
@@ -15,10 +16,10 @@ use Rattle.drawn_jobs.specs.Sections.{dark_from, dark_to, nth_section, fits}
 use Rattle.frames.specs.Slices.{slice_at, executed_in}
 
 -- a slice
-abbrev pub bar_text : Frame → Slice → Spot → TaskRow → List ℕ
-bar_text f s spot row =
-    concat (codes "<path class=\"e f" ∷ decimal (tone_of spot.rank) ∷ codes "\" d=\""
-    ∷ span_text f spot.k s.start s.stop
+abbrev pub bar_text : Frame → Slice → ℕ → TaskRow → List ℕ
+bar_text f s k row =
+    concat (codes "<path class=\"e f" ∷ decimal row.tone ∷ codes "\" d=\""
+    ∷ span_text f k s.start s.stop
     ∷ codes "\"><title>" ∷ row.sheet.name ∷ codes " " ∷ decimal s.start ∷ codes " to "
     ∷ decimal s.stop ∷ codes " us</title></path>\n" ∷ [])
 
@@ -61,44 +62,44 @@ part_box k row locks start stop x right =
     ∷ decimal start ∷ codes " to " ∷ decimal stop ∷ codes " us</title></path>\n" ∷ [])
 
 -- the same with stripes and names, from a place up to another
-abbrev pub seen_part : List (List ℕ) → ℕ → TaskRow → List (List ℕ) → (start stop x right : ℕ) → List ℕ
+abbrev pub seen_part : List Toned → ℕ → TaskRow → List (List ℕ) → (start stop x right : ℕ) → List ℕ
 seen_part all k row locks start stop x right =
     part_box k row locks start stop x right ++ stripes_text all x right k locks
     ++ label_text x right k locks
 
 -- the same of a slice, where it is in the window
-abbrev pub part_text : Frame → List (List ℕ) → Slice → ℕ → TaskRow → List (List ℕ) → (start stop : ℕ) → List ℕ
+abbrev pub part_text : Frame → List Toned → Slice → ℕ → TaskRow → List (List ℕ) → (start stop : ℕ) → List ℕ
 part_text f all s k row locks start stop =
     if sees f start stop
     then seen_part all k row locks start stop (part_left f s start) (part_right f s start stop)
     else []
 
 -- the darker part of a slice for a section, if there is one
-abbrev pub dark_text : Frame → List (List ℕ) → (e : ℕ) → Slice → ℕ → TaskRow → CriticalSection → List ℕ
+abbrev pub dark_text : Frame → List Toned → (e : ℕ) → Slice → ℕ → TaskRow → CriticalSection → List ℕ
 dark_text f all e s k row x =
     if nat_lt (dark_from x e) (dark_to x e s)
     then part_text f all s k row x.locks (s.start + dark_from x e) (s.start + dark_to x e s)
     else []
 
 -- a slice and its darker parts, of a job that has executed e ticks before it, where it is in the window
-abbrev pub slice_text : Frame → List (List ℕ) → (e : ℕ) → Slice → Spot → TaskRow → List ℕ
+abbrev pub slice_text : Frame → List Toned → (e : ℕ) → Slice → Spot → TaskRow → List ℕ
 slice_text f all e s spot row =
     if sees f s.start s.stop
-    then bar_text f s spot row ++ each (length row.sheet.sections)
+    then bar_text f s spot.k row ++ each (length row.sheet.sections)
     (λ i. dark_text f all e s spot.k row (nth_section row.sheet.sections i))
     else []
 
 -- a slice in the row of its job's task, of a job that has executed e ticks before it
-abbrev pub slice_by : Frame → List (List ℕ) → List TaskRow → (shown : List ℕ) → List JobRecord → (e : ℕ) → Slice → List ℕ
+abbrev pub slice_by : Frame → List Toned → List TaskRow → (shown : List ℕ) → List JobRecord → (e : ℕ) → Slice → List ℕ
 slice_by f locks rows shown jobs e s =
     of_job (λ job. on_spot rows shown job.name (slice_text f locks e s)) (slice_get jobs s.job)
 
 -- slice n
-abbrev pub slice_in : Frame → List (List ℕ) → List TaskRow → (shown : List ℕ) → List JobRecord → List Slice → ℕ → List ℕ
+abbrev pub slice_in : Frame → List Toned → List TaskRow → (shown : List ℕ) → List JobRecord → List Slice → ℕ → List ℕ
 slice_in f locks rows shown jobs slices n =
     slice_by f locks rows shown jobs (executed_in slices n (slice_at slices n).job) (slice_at slices n)
 
 -- each slice, by time
-abbrev pub slices_text : Frame → List (List ℕ) → List TaskRow → (shown : List ℕ) → List JobRecord → List Slice → List ℕ
+abbrev pub slices_text : Frame → List Toned → List TaskRow → (shown : List ℕ) → List JobRecord → List Slice → List ℕ
 slices_text f locks rows shown jobs slices =
     each (length slices) (slice_in f locks rows shown jobs slices)

@@ -61,11 +61,31 @@ signs_text f k back on =
 abbrev pub job_signs : Frame → (k : ℕ) → JobRecord → List ℕ
 job_signs f k job = signs_text f k (goes_back f job) (goes_on f job.finish)
 
+-- how long after its arrival a job is done at the latest in a run, which has no timers and no interrupts
+abbrev pub run_limit : TaskRow → ℕ
+run_limit row = limit_of row - row.unrun
+
+-- the end of a box up to the bound of a job that arrives then, from there on, with how long that is: what timers and
+-- interrupts take of the bound
+abbrev pub unrun_box : Frame → (k : ℕ) → TaskRow → (arrival : ℕ) → List ℕ
+unrun_box f k row arrival =
+    concat (codes "<path class=\"wt\" d=\""
+    ∷ span_text f k (arrival + run_limit row) (arrival + limit_of row)
+    ∷ codes "\"><title>timers and interrupts, not in this run: " ∷ decimal row.unrun
+    ∷ codes " us</title></path>\n" ∷ [])
+
+-- the same, where they take some of it, and that is in the window
+abbrev pub unrun_text : Frame → (k : ℕ) → TaskRow → (arrival : ℕ) → List ℕ
+unrun_text f k row arrival =
+    if nat_lt 0 row.unrun && sees f (arrival + run_limit row) (arrival + limit_of row)
+    then unrun_box f k row arrival
+    else []
+
 -- a job whose box is in the window
 abbrev pub seen_job : Frame → JobRecord → ℕ → TaskRow → List ℕ
 seen_job f job k row =
     job_box (limit_path f k row job.release job.release) row.bound row.sheet.deadline job
-    ++ job_signs f k job
+    ++ unrun_text f k row job.release ++ job_signs f k job
 
 -- a job
 abbrev pub job_text : Frame → JobRecord → ℕ → TaskRow → List ℕ

@@ -4,7 +4,7 @@ use Rattle.std.specs.Fmt.{decimal}
 use Rattle.std.specs.List.{concat}
 use Rattle.ceiling_kernel.specs.declared.trace.Slice.{Slice}
 use Rattle.frames.specs.declared.rows.TaskRow.{TaskRow}
-use Rattle.frames.specs.Frame.{Frame, x_of, sees, frame_end, level_of, tone_of}
+use Rattle.frames.specs.Frame.{Frame, x_of, sees, frame_end, level_of}
 use Rattle.pieces.specs.Pieces.{clipped}
 use Rattle.frames.specs.Slices.{ticks_of, slice_at}
 use Rattle.frames.specs.Boxes.{box_path}
@@ -47,9 +47,9 @@ abbrev pub edge_class : ℕ → List ℕ
 edge_class wide = if nat_lt wide 60 then [] else codes " o"
 
 -- the bar of a slice of a row's task
-abbrev pub lane_bar : Frame → Slice → ℕ → TaskRow → List ℕ
-lane_bar f s k row =
-    concat (codes "<path class=\"f" ∷ decimal (tone_of k) ∷ edge_class (lane_right f s - x_of f s.start)
+abbrev pub lane_bar : Frame → Slice → TaskRow → List ℕ
+lane_bar f s row =
+    concat (codes "<path class=\"f" ∷ decimal row.tone ∷ edge_class (lane_right f s - x_of f s.start)
     ∷ codes "\" d=\"" ∷ box_path (x_of f s.start) (lane_right f s) 1350 220
     ∷ codes "\"><title>" ∷ row.sheet.name ∷ codes " executes " ∷ decimal s.start ∷ codes " to "
     ∷ decimal s.stop ∷ codes " us</title></path>\n" ∷ [])
@@ -74,7 +74,7 @@ lane_label x right level row =
 abbrev pub lane_text : Frame → Slice → ℕ → TaskRow → List ℕ
 lane_text f s k row =
     if sees f s.start s.stop
-    then lane_bar f s k row ++ lane_label (x_of f s.start) (lane_right f s) (level_of f k) row
+    then lane_bar f s row ++ lane_label (x_of f s.start) (lane_right f s) (level_of f k) row
     else []
 
 -- a slice in the lane of the processor, of a job

@@ -6,3 +6,4 @@ pub mod Jobs
 pub mod Bands
 pub mod Marks
 pub mod Misses
+pub mod Held

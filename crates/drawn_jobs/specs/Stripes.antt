@@ -5,7 +5,8 @@ use Rattle.std.specs.List.{concat}
 use Rattle.frames.specs.Frame.{Frame, frame_end, top_of}
 use Rattle.frames.specs.Rows.{each}
 use Rattle.frames.specs.Boxes.{box_path}
-use Rattle.frames.specs.Locks.{lock_tone}
+use Rattle.frames.specs.Tones.{tone_named}
+use Rattle.frames.specs.declared.tones.Toned.{Toned}
 
 -- where stripe i of n begins, in a bar
 abbrev pub stripe_top : (n i : ℕ) → ℕ
@@ -17,14 +18,14 @@ stripe_path x right k n i =
     box_path x right (top_of k + 165 + stripe_top n i) (stripe_top n (i + 1) - stripe_top n i)
 
 -- the stripe of a lock, number i of n, over a part of a bar
-abbrev pub stripe_text : List (List ℕ) → (x right k n i : ℕ) → List ℕ → List ℕ
+abbrev pub stripe_text : List Toned → (x right k n i : ℕ) → List ℕ → List ℕ
 stripe_text locks x right k n i name =
-    concat (codes "<path class=\"k" ∷ decimal (lock_tone locks name) ∷ codes "\" d=\""
+    concat (codes "<path class=\"k" ∷ decimal (tone_named locks name) ∷ codes "\" d=\""
     ∷ stripe_path x right k n i
     ∷ codes "\"/>\n" ∷ [])
 
 -- the stripes of some locks
-abbrev pub stripes_text : List (List ℕ) → (x right k : ℕ) → List (List ℕ) → List ℕ
+abbrev pub stripes_text : List Toned → (x right k : ℕ) → List (List ℕ) → List ℕ
 stripes_text locks x right k names =
     each (length names) (λ i. stripe_text locks x right k (length names) i (slice_index_or names i []))
 
@@ -45,17 +46,22 @@ abbrev pub lock_upper : Frame → (bottom i : ℕ) → ℕ
 lock_upper f bottom i = bottom + 250 * (i / per_line f)
 
 -- lock i in it
-abbrev pub lock_text : Frame → (bottom i : ℕ) → List ℕ → List ℕ
-lock_text f bottom i name =
-    concat (codes "<path class=\"k" ∷ decimal (i % 6) ∷ codes "\" d=\""
+abbrev pub lock_text : Frame → (bottom i : ℕ) → Toned → List ℕ
+lock_text f bottom i lock =
+    concat (codes "<path class=\"k" ∷ decimal lock.tone ∷ codes "\" d=\""
     ∷ box_path (lock_left f i) (lock_left f i + 200) (lock_upper f bottom i) 180
     ∷ codes "\"/><text class=\"c\" x=\"" ∷ decimal (lock_left f i + 250) ∷ codes "\" y=\""
     ∷ decimal (lock_upper f bottom i + 128)
-    ∷ codes "\">" ∷ name ∷ codes "</text>\n" ∷ [])
+    ∷ codes "\">" ∷ lock.name ∷ codes "</text>\n" ∷ [])
 
--- the locks, each once
-abbrev pub lock_texts : Frame → (bottom : ℕ) → List (List ℕ) → List ℕ
-lock_texts f bottom locks = each (length locks) (λ i. lock_text f bottom i (slice_index_or locks i []))
+-- stands past the end of some locks
+abbrev pub no_lock : Toned
+no_lock = record { name = []; tone = 0 }
+
+-- some locks
+abbrev pub lock_texts : Frame → (bottom : ℕ) → List Toned → List ℕ
+lock_texts f bottom locks =
+    each (length locks) (λ i. lock_text f bottom i (slice_index_or locks i no_lock))
 
 -- what stands before them, where there are some
 abbrev pub locks_head : (bottom n : ℕ) → List ℕ
@@ -63,8 +69,8 @@ locks_head bottom n =
     if n == 0 then []
     else concat (codes "<text x=\"100\" y=\"" ∷ decimal (bottom + 128) ∷ codes "\">holds a lock:</text>\n" ∷ [])
 
--- the legend of the locks, as a group
-abbrev pub locks_group : Frame → (rows : ℕ) → List (List ℕ) → List ℕ
+-- the legend of some locks below so many rows, as a group
+abbrev pub locks_group : Frame → (rows : ℕ) → List Toned → List ℕ
 locks_group f rows locks =
     codes "<g id=\"k\">\n" ++ locks_head (top_of rows + 120) (length locks)
     ++ lock_texts f (top_of rows + 120) locks ++ codes "</g>\n"

@@ -7,7 +7,7 @@ ghost use Rattle.task_sheet.specs.declared.set.TheConstants.{TASK_LIMIT};
 ghost use Rattle.frames.specs.declared.frame.TheConstants.{RIGHTMOST};
 ghost use Rattle.drawn_jobs.specs.Bands.{any_on, band_box, band_label, band_with, band_words, gap_of, last_bound, place_text, wide_words};
 
-use crate::jobs::{goes_on, limit_box, limit_of, put_job_in, put_sign, put_signs};
+use crate::jobs::{goes_on, limit_box, limit_of, put_job_in, put_sign, put_signs, put_unrun};
 use crate::marks::is_shown;
 use ceiling_kernel::JobRecord;
 use frames::{
@@ -142,6 +142,7 @@ fn put_band(
         outcome,
         page,
     );
+    put_unrun(lane, band.latest, page);
     put_last_bound(lane, band.latest, page);
     let back = is_before(lane.frame, first.release);
     put_signs(lane, back, any_on(lane.frame, first.name, jobs), page)

@@ -6,10 +6,10 @@ ghost use Rattle.drawn_jobs.specs.Sections.{AreUncounted, counted};
 
 use crate::parts::put_dark;
 use ceiling_kernel::Slice;
-use frames::{Chart, Lane, Page, bar_of, executed_after, put_bar, put_times, sees, tone_of, x_of};
+use frames::{Chart, Lane, Page, bar_of, executed_after, put_bar, put_times, sees, x_of};
 
 // Counts the ticks of a slice, and says how many its job executed before; none where there is no such job.
-fn count_slice(executed: &mut [u64], slice: Slice) -> u64
+pub(crate) fn count_slice(executed: &mut [u64], slice: Slice) -> u64
     ensures before { result ≡ slice_index executed.old slice.job }
     ensures counted { executed.new ≡ counted executed.old slice }
 {
@@ -23,11 +23,11 @@ fn count_slice(executed: &mut [u64], slice: Slice) -> u64
 
 // A slice.
 fn put_slice_bar(slice: Slice, lane: &Lane<'_>, page: &mut Page)
-    ensures { Adds page.old page.new (bar_text lane.now.frame slice lane.now.spot lane.now.row.now) }
+    ensures { Adds page.old page.new (bar_text lane.now.frame slice lane.now.spot.k lane.now.row.now) }
 {
     let start = x_of(lane.frame, slice.start);
     let stop = x_of(lane.frame, slice.stop);
-    page.number(b"<path class=\"e f", tone_of(lane.spot.rank));
+    page.number(b"<path class=\"e f", lane.row.tone);
     put_bar(b"\" d=\"", bar_of(start, stop, lane.spot.k), page);
     page.name(b"\"><title>", lane.row.sheet.name());
     put_times(b" ", slice.start, slice.stop, page)

@@ -8,13 +8,13 @@ ghost use Rattle.frames.specs.declared.frame.TheConstants.{RIGHTMOST};
 ghost use Rattle.frames.specs.Page.{Adds};
 ghost use Rattle.frames.specs.Rows.{on_spot, record_at};
 ghost use Rattle.drawn_jobs.specs.Bands.{jobs_text, place_text};
-ghost use Rattle.drawn_jobs.specs.Jobs.{goes_back, goes_on, job_signs, job_text, job_words, limit_of, limit_path, signs_text};
+ghost use Rattle.drawn_jobs.specs.Jobs.{goes_back, goes_on, job_signs, job_text, job_words, limit_of, limit_path, signs_text, unrun_text};
 
 use crate::band::put_place;
 use ceiling_kernel::JobRecord;
 use frames::{
     Bar, Chart, Frame, Lane, Page, TaskRow, bar_of, end_of, ended, name_of, put_bar, put_known,
-    sees_from, start_of, top_of, x_after, x_of,
+    sees_between, sees_from, start_of, top_of, x_after, x_of,
 };
 
 // How long after its arrival a job of a row's task is done at the latest, or without a bound has to be.
@@ -107,6 +107,25 @@ pub(crate) fn put_job_signs(lane: &Lane<'_>, job: &JobRecord, page: &mut Page)
     )
 }
 
+// The end of a box up to the bound of a job that arrives then, where that is in the window: what timers and interrupts take
+// of the bound, up to which no run comes.
+pub(crate) fn put_unrun(lane: &Lane<'_>, arrival: u64, page: &mut Page)
+    ensures { Adds page.old page.new (unrun_text lane.now.frame lane.now.spot.k lane.now.row.now
+        arrival) }
+{
+    let limit = limit_of(lane.row);
+    let unrun = lane.row.unrun;
+    let kept = limit.saturating_sub(unrun);
+    if unrun == 0 || !sees_between(lane.frame, arrival, kept, limit) {
+        return;
+    }
+    let x = x_after(lane.frame, arrival, kept);
+    let right = x_after(lane.frame, arrival, limit);
+    put_bar(b"<path class=\"wt\" d=\"", bar_of(x, right, lane.spot.k), page);
+    page.number(b"\"><title>timers and interrupts, not in this run: ", unrun);
+    page.put(b" us</title></path>\n")
+}
+
 // A job in a row, where its box is in the window.
 pub(crate) fn put_job_in(lane: &Lane<'_>, job: &JobRecord, page: &mut Page)
     ensures { Adds page.old page.new (job_text lane.now.frame job.now lane.now.spot.k
@@ -121,6 +140,7 @@ pub(crate) fn put_job_in(lane: &Lane<'_>, job: &JobRecord, page: &mut Page)
     put_known(b", bound ", lane.row.bound, page);
     page.number(b", deadline ", lane.row.sheet.deadline());
     page.put(b" us</title></path>\n");
+    put_unrun(lane, job.release, page);
     put_job_signs(lane, job, page)
 }
 

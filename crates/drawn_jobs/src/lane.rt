@@ -7,7 +7,7 @@ ghost use Rattle.frames.specs.declared.frame.TheConstants.{RIGHTMOST};
 use ceiling_kernel::Slice;
 use frames::{
     Bar, Chart, Frame, Lane, Page, Spot, TaskRow, end_of, find_row, has_room, level_of, put_bar,
-    put_times, sees, tone_of, x_of,
+    put_times, sees, x_of,
 };
 
 // For how long slices execute in the window.
@@ -79,8 +79,7 @@ pub fn put_lane_line(frame: Frame, page: &mut Page)
 
 // The bar of a slice.
 fn put_lane_bar(slice: Slice, lane: &Lane<'_>, page: &mut Page)
-    ensures { Adds page.old page.new (lane_bar lane.now.frame slice lane.now.spot.rank
-        lane.now.row.now) }
+    ensures { Adds page.old page.new (lane_bar lane.now.frame slice lane.now.row.now) }
 {
     let x = x_of(lane.frame, slice.start);
     let right = lane_right(lane.frame, slice);
@@ -90,7 +89,7 @@ fn put_lane_bar(slice: Slice, lane: &Lane<'_>, page: &mut Page)
         y: 1_350,
         high: 220,
     };
-    page.number(b"<path class=\"f", tone_of(lane.spot.rank));
+    page.number(b"<path class=\"f", lane.row.tone);
     put_edge(right.saturating_sub(x), page);
     put_bar(b"\" d=\"", bar, page);
     page.name(b"\"><title>", lane.row.sheet.name());

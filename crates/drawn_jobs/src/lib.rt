@@ -4,6 +4,7 @@
 
 mod band;
 mod bars;
+mod held;
 mod jobs;
 mod lane;
 mod marks;
@@ -14,6 +15,7 @@ mod ticks;
 
 pub use band::put_greatest;
 pub use bars::put_slices;
+pub use held::held_locks;
 pub use jobs::put_jobs;
 pub use lane::{put_lane_head, put_lane_line, put_lanes};
 pub use marks::put_all_marks;

@@ -6,7 +6,7 @@ ghost use Rattle.drawn_jobs.specs.Stripes.{lock_text, lock_texts, locks_group, l
 ghost use Rattle.frames.specs.declared.frame.TheConstants.{RIGHTMOST};
 ghost use Rattle.frames.specs.declared.locks.TheConstants.{LOCKS_LIMIT};
 
-use frames::{Bar, Chart, Frame, Page, end_of, lock_tone, put_bar, top_of};
+use frames::{Bar, Frame, Page, Toned, end_of, tone_named, put_bar, top_of};
 use task_sheet::Name;
 
 // Where stripe i of n begins, in a bar.
@@ -40,7 +40,7 @@ pub fn locks_high(frame: Frame, n: usize) -> u64
 
 // The stripe of a lock, number i of n, over a part of a bar.
 fn put_stripe(
-    locks: &[Name],
+    locks: &[Toned],
     x: u64,
     right: u64,
     k: usize,
@@ -60,14 +60,14 @@ fn put_stripe(
         y: top_of(k) + 165 + start,
         high: stripe_top(n, i + 1).saturating_sub(start),
     };
-    page.number(b"<path class=\"k", lock_tone(locks, name));
+    page.number(b"<path class=\"k", tone_named(locks, name));
     put_bar(b"\" d=\"", stripe, page);
     page.put(b"\"/>\n")
 }
 
 // The stripes of some locks.
 pub(crate) fn put_stripes(
-    locks: &[Name],
+    locks: &[Toned],
     x: u64,
     right: u64,
     k: usize,
@@ -83,30 +83,30 @@ pub(crate) fn put_stripes(
 }
 
 // Lock i in the legend.
-fn put_lock(frame: Frame, bottom: u64, i: usize, name: Name, page: &mut Page)
+fn put_lock(frame: Frame, bottom: u64, i: usize, lock: Toned, page: &mut Page)
     requires place { i ≤ LOCKS_LIMIT }
     requires row { bottom ≤ 2 * RIGHTMOST }
-    ensures { Adds page.old page.new (lock_text frame bottom i name) }
+    ensures { Adds page.old page.new (lock_text frame bottom i lock) }
 {
     let each = per_line(frame);
     let x = 900 + 2_000 * (i as u64 % each);
     let y = bottom + 250 * (i as u64 / each);
-    let lock = Bar {
+    let bar = Bar {
         x,
         right: x + 200,
         y,
         high: 180,
     };
-    page.number(b"<path class=\"k", i as u64 % 6);
-    put_bar(b"\" d=\"", lock, page);
+    page.number(b"<path class=\"k", lock.tone);
+    put_bar(b"\" d=\"", bar, page);
     page.number(b"\"/><text class=\"c\" x=\"", x + 250);
     page.number(b"\" y=\"", y + 128);
-    page.name(b"\">", name);
+    page.name(b"\">", lock.name);
     page.put(b"</text>\n")
 }
 
 // The locks, each once.
-fn put_lock_texts(frame: Frame, bottom: u64, locks: &[Name], page: &mut Page)
+fn put_lock_texts(frame: Frame, bottom: u64, locks: &[Toned], page: &mut Page)
     requires few { length locks.now ≤ LOCKS_LIMIT }
     requires row { bottom ≤ 2 * RIGHTMOST }
     ensures { Adds page.old page.new (lock_texts frame bottom locks.now) }
@@ -128,14 +128,15 @@ fn put_locks_head(bottom: u64, n: usize, page: &mut Page)
     page.put(b"\">holds a lock:</text>\n")
 }
 
-/// Puts the legend of the locks, as a group.
-pub fn put_locks_group(chart: &Chart<'_>, page: &mut Page)
-    ensures { Adds page.old page.new (locks_group chart.now.frame (length chart.now.shown.now)
-        chart.now.locks.now) }
+/// Puts the legend of some locks below so many rows, as a group.
+pub fn put_locks_group(frame: Frame, rows: usize, locks: &[Toned], page: &mut Page)
+    requires rows { rows ≤ TASK_LIMIT }
+    requires few { length locks.now ≤ LOCKS_LIMIT }
+    ensures { Adds page.old page.new (locks_group frame rows locks.now) }
 {
-    let bottom = top_of(chart.shown.len()) + 120;
+    let bottom = top_of(rows) + 120;
     page.put(b"<g id=\"k\">\n");
-    put_locks_head(bottom, chart.locks.len(), page);
-    put_lock_texts(chart.frame, bottom, chart.locks, page);
+    put_locks_head(bottom, locks.len(), page);
+    put_lock_texts(frame, bottom, locks, page);
     page.put(b"</g>\n")
 }

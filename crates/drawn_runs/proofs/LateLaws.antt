@@ -21,7 +21,7 @@ use Rattle.drawn_jobs.specs.Misses.{all_missed, is_late, is_late_at, misses}
 use Rattle.frames.specs.Rows.{no_row, record_at, row_at, row_named}
 use Rattle.frames.specs.View.{end_of_run}
 use Rattle.drawn_runs.specs.Late.{IsBestRun, IsRowOf, NoneIsLate}
-use Rattle.drawn_runs.specs.Rows.{drawn_row, rows_of}
+use Rattle.drawn_runs.specs.Rows.{Looks, drawn_row, rows_of}
 use Rattle.drawn_runs.proofs.ListLaws.{none_counts}
 use Rattle.drawn_runs.proofs.RunLaws.{arrives_in, long, not_late}
 
@@ -41,7 +41,13 @@ module _ {U : List Task} {places : List PlaceData} {rs : List Release} {until : 
       let upto : end_of_run until ≤ until = omega (arith, arrives_in run j is_job) in
       let named = sym (ap (λ (t : Task). t.name) of.2) ∙ sym
       (same_is (record_at jobs j).name row.sheet.name own) in
-      subst (λ (t : Task). is_late frame (record { sheet = t; bound = row.bound; number = row.number })
+      subst (λ (t : Task). is_late frame (record {
+      sheet = t;
+      bound = row.bound;
+      number = row.number;
+      tone = row.tone;
+      unrun = row.unrun;
+    })
       (record_at jobs j) ≡ false) (sym of.2)
       (not_late run of.0 j (end_of_run until) of.1 is_job upto named)
 
@@ -71,14 +77,15 @@ module _ {U : List Task} {places : List PlaceData} {rs : List Release} {until : 
   none_missed = none_counts (misses frame rows) jobs no_record not_missed
 
 -- ---- the rows of the best order
-rows_in : (U : List Task) (places : List PlaceData) (number : List ℕ → Option ℕ)
-    → AreInTime U places → All (IsRowOf U) (rows_of U number (bounds_of places))
-rows_in U [] number each = All-nil (IsRowOf U)
-rows_in U (p ∷ places) number each =
-    All-push (IsRowOf U) (rows_of U number (bounds_of places))
-    (drawn_row U number (record { task = p.task; bound = Some p.response }))
-    (rows_in U places number each.1) (p.task, each.0.in_set, refl)
+rows_in : (U : List Task) (places : List PlaceData) (looks : Looks)
+    → AreInTime U places → All (IsRowOf U) (rows_of U looks (bounds_of places))
+rows_in U [] looks each = All-nil (IsRowOf U)
+rows_in U (p ∷ places) looks each =
+    let rows = rows_of U looks (bounds_of places) in
+    All-push (IsRowOf U) rows
+    (drawn_row U looks rows (record { task = p.task; bound = Some p.response }))
+    (rows_in U places looks each.1) (p.task, each.0.in_set, refl)
 
-pub best_rows : (U : List Task) (places : List PlaceData) (number : List ℕ → Option ℕ)
-    → IsTaskSet U → IsBestPlacing U places → All (IsRowOf U) (rows_of U number (bounds_of places))
-best_rows U places number set best = rows_in U places number (best-in_time U places set best)
+pub best_rows : (U : List Task) (places : List PlaceData) (looks : Looks)
+    → IsTaskSet U → IsBestPlacing U places → All (IsRowOf U) (rows_of U looks (bounds_of places))
+best_rows U places looks set best = rows_in U places looks (best-in_time U places set best)

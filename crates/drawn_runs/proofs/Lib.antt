@@ -2,3 +2,4 @@ pub mod ListLaws
 pub mod RunLaws
 pub mod LateLaws
 pub mod StandLaws
+pub mod ApartLaws

@@ -1,3 +1,4 @@
 pub mod Rows
 pub mod Late
 pub mod Stand
+pub mod Apart

@@ -1,5 +1,5 @@
 //! Laws of the pictures of runs. Each is the contract of a function that does nothing.
-ghost use Rattle.std.specs.Prelude.{◌≡◌, ℕ, List, All, Ok, Option, length};
+ghost use Rattle.std.specs.Prelude.{◌≡◌, ℕ, List, All, Ok, length, true};
 ghost use Rattle.task_sheet.specs.Sheet.{Task};
 ghost use Rattle.task_sheet.specs.TaskSet.{IsTaskSet};
 ghost use Rattle.assignment.specs.Places.{PlaceData};
@@ -10,6 +10,7 @@ ghost use Rattle.ceiling_kernel.specs.declared.trace.JobRecord.{JobRecord};
 ghost use Rattle.ceiling_kernel.specs.declared.trace.Release.{Release};
 ghost use Rattle.ceiling_kernel.specs.declared.trace.Trace.{Trace};
 ghost use Rattle.run_lines.specs.TaskBounds.{bounds_of};
+ghost use Rattle.run_lines.specs.declared.bounds.TaskBound.{TaskBound};
 ghost use Rattle.frames.specs.declared.rows.TaskRow.{TaskRow};
 ghost use Rattle.frames.specs.declared.view.View.{View};
 ghost use Rattle.frames.specs.Frame.{Frame, frame_of};
@@ -17,7 +18,8 @@ ghost use Rattle.drawn_jobs.specs.Misses.{all_missed};
 ghost use Rattle.drawn_jobs.specs.Bands.{jobs_text};
 ghost use Rattle.frames.specs.Rows.{each};
 ghost use Rattle.drawn_runs.specs.Late.{IsBestRun, IsRowOf, NoneIsLate};
-ghost use Rattle.drawn_runs.specs.Rows.{rows_of};
+ghost use Rattle.drawn_runs.specs.Rows.{Looks, rows_of};
+ghost use Rattle.drawn_runs.specs.Apart.{are_apart};
 ghost use Rattle.drawn_runs.specs.Stand.{AreByArrival, IsSeenAt, StandsOnce, text_at};
 
 /// Of an admitted set in its best order no job is drawn as missed, in whatever view: none is late in the row of its task,
@@ -29,8 +31,8 @@ pub fn none_is_missed()
     ensures counted { (U : List Task) (places : List PlaceData) (rs : List Release) (until : ℕ) (trace : Trace)
         (rows : List TaskRow) (v : View) → IsBestRun U places rs until trace rows
         → all_missed (frame_of rows v until) rows trace.jobs.items ≡ 0 }
-    ensures rows { (U : List Task) (places : List PlaceData) (number : List ℕ → Option ℕ) → IsTaskSet U
-        → IsBestPlacing U places → All (IsRowOf U) (rows_of U number (bounds_of places)) }
+    ensures rows { (U : List Task) (places : List PlaceData) (looks : Looks) → IsTaskSet U
+        → IsBestPlacing U places → All (IsRowOf U) (rows_of U looks (bounds_of places)) }
 {}
 
 /// Each job of the window whose task's row is shown stands in exactly one place, alone or in one band; the box of that place
@@ -44,4 +46,10 @@ pub fn each_job_stands_once()
         → jobs_text f rows shown jobs ≡ each (length jobs) (text_at f rows shown jobs) }
     ensures arrivals { (node : Node) (rs : List Release) (until : ℕ) (trace : Trace)
         → Runs node rs until (Ok trace) → AreByArrival trace.jobs.items }
+{}
+
+/// Of the rows that are shown none has the tone of the one above it, whatever the set and the order.
+pub fn rows_are_apart()
+    ensures { (U : List Task) (looks : Looks) (bounds : List TaskBound)
+        → are_apart looks (rows_of U looks bounds) ≡ true }
 {}

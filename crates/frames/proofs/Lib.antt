@@ -5,3 +5,4 @@ pub mod Executed
 pub mod Folds
 mod Finds
 mod Shown
+pub mod Tonings

@@ -10,8 +10,8 @@ use Rattle.frames.specs.View.{end_of_run, window_end}
 use Rattle.std.specs.Option.{unwrap_or}
 use Rattle.ceiling_kernel.specs.declared.trace.JobRecord.{JobRecord}
 
--- when a run ends, and the window of it, in microseconds; where the window begins and how wide it is, and how many
--- tasks there are
+-- when a run ends, and the window of it, in microseconds; where the window begins and how wide it is, how many tasks there
+-- are, and the number of the A size of the paper, if it is printed
 pub record Frame : Type 0 where
   pub until : ℕ
   pub from : ℕ
@@ -19,6 +19,7 @@ pub record Frame : Type 0 where
   pub left : ℕ
   pub span : ℕ
   pub count : ℕ
+  pub paper : Option ℕ
 
 -- there is some time in the window, which ends with the run, within the horizon, and the picture's width is within its
 -- limits
@@ -98,14 +99,15 @@ span_of None left least time = max (min (240 * time / least) (WIDEST - left)) (N
 span_of (Some width) left least time = max (min (10 * width - 200) RIGHTMOST) NARROWEST - left
 
 -- the frame of a run up to a time, and of a window of it
-abbrev pub frame_in : (width : Option ℕ) → (count left least until from to : ℕ) → Frame
-frame_in width count left least until from to = record {
+abbrev pub frame_in : (width paper : Option ℕ) → (count left least until from to : ℕ) → Frame
+frame_in width paper count left least until from to = record {
   until = until;
   from = from;
   to = to;
   left = left;
   span = span_of width left least (to - from);
   count = count;
+  paper = paper;
 }
 
 -- where the window ends, and where it begins: there is some time between
@@ -118,7 +120,7 @@ frame_from v until = min v.from (frame_to v until - 1)
 -- the frame of a view of a run of these rows
 abbrev pub frame_of : List TaskRow → View → (until : ℕ) → Frame
 frame_of rows v until =
-    frame_in v.width (length rows)
+    frame_in v.width v.paper (length rows)
     (left_of (is_in_millis (frame_to v until - frame_from v until)) rows)
     (max (least_period PERIOD_TO rows) 1) (end_of_run until) (frame_from v until)
     (frame_to v until)
@@ -154,10 +156,6 @@ top_of k = 1690 + 480 * k
 -- the level of a task by its rank, from the highest level down
 abbrev pub level_of : Frame → (rank : ℕ) → ℕ
 level_of f rank = f.count - rank
-
--- its tone, of ten
-abbrev pub tone_of : (rank : ℕ) → ℕ
-tone_of rank = rank % 10
 
 -- ---- the scale
 -- a step is at least 80 pixels wide

@@ -6,3 +6,4 @@ pub mod Numbers
 pub mod Boxes
 pub mod Page
 pub mod Locks
+pub mod Tones

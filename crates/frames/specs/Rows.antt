@@ -13,7 +13,7 @@ each (suc n) text = each n text ++ text n
 
 -- stands past the end of some rows
 abbrev pub no_row : TaskRow
-no_row = record { sheet = no_task; bound = None; number = None }
+no_row = record { sheet = no_task; bound = None; number = None; tone = 0; unrun = 0 }
 
 -- the row at a place, from 0
 abbrev pub row_at : List TaskRow → ℕ → TaskRow
@@ -22,6 +22,10 @@ row_at rows k = slice_index_or rows k no_row
 -- the name of the task of a row
 abbrev pub name_in : List TaskRow → ℕ → List ℕ
 name_in rows k = (row_at rows k).sheet.name
+
+-- the tone of a row
+abbrev pub tone_in : List TaskRow → ℕ → ℕ
+tone_in rows k = (row_at rows k).tone
 
 -- the job at a place, from 0
 abbrev pub record_at : List JobRecord → ℕ → JobRecord

@@ -22,6 +22,10 @@ window_end v until = min (unwrap_or v.to (end_of_run until)) (end_of_run until)
 abbrev pub is_empty : View → (until : ℕ) → Bool
 is_empty v until = nat_le (window_end v until) v.from
 
+-- how many pixels a picture is wide on paper of an A size, where that isn't said
+abbrev pub paper_width : (size : ℕ) → ℕ
+paper_width size = if size == 3 then 2080 else 1470
+
 -- ---- the rows
 -- some names have one among them
 abbrev pub is_among : List (List ℕ) → List ℕ → Bool

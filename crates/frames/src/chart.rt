@@ -7,6 +7,7 @@ ghost use Rattle.frames.specs.declared.locks.TheConstants.{LOCKS_LIMIT};
 
 use crate::frame::Frame;
 use crate::rows::{Spot, TaskRow, find_row, job_at, place_in};
+use crate::tones::Toned;
 use ceiling_kernel::{JobRecord, Release, Slice};
 use task_sheet::Name;
 
@@ -24,7 +25,7 @@ pub struct Chart<'a> {
     pub slices: &'a [Slice],
     /// Whether slices begin one after the other.
     pub rising: bool,
-    pub locks: &'a [Name],
+    pub locks: &'a [Toned],
     ghost few: { length rows.now ≤ TASK_LIMIT },
     ghost few_shown: { length shown.now ≤ TASK_LIMIT },
     ghost ranks: { All (λ rank. rank < length rows.now) shown.now },
@@ -38,7 +39,7 @@ pub struct Lane<'a> {
     pub frame: Frame,
     pub spot: Spot,
     pub row: &'a TaskRow,
-    pub locks: &'a [Name],
+    pub locks: &'a [Toned],
     ghost within: { spot.k ≤ TASK_LIMIT },
 }
 

@@ -3,7 +3,7 @@ ghost use Rattle.std.specs.Prelude.{◌+◌, ◌<◌, ◌≡◌, ◌≤◌, leng
 ghost use Rattle.ceiling_kernel.specs.declared.accept.TheConstants.{HORIZON};
 ghost use Rattle.task_sheet.specs.declared.set.TheConstants.{TASK_LIMIT};
 ghost use Rattle.task_sheet.specs.declared.sheet.TheConstants.{PERIOD_TO};
-ghost use Rattle.frames.specs.Frame.{Frame, IsFrame, decade_of, ended, frame_end, frame_of, in_millis, is_in_millis, is_wide, least_period, left_of, level_of, limits_letters, margin_of, millis_letters, number_room, sees, span_of, step_of, steps_before, time_letters, tone_of, top_of, whole_digits, x_of};
+ghost use Rattle.frames.specs.Frame.{Frame, IsFrame, decade_of, ended, frame_end, frame_of, in_millis, is_in_millis, is_wide, least_period, left_of, level_of, limits_letters, margin_of, millis_letters, number_room, sees, span_of, step_of, steps_before, time_letters, top_of, whole_digits, x_of};
 ghost use Rattle.frames.specs.declared.frame.TheConstants.{LOWEST_TOP, NARROWEST, RIGHTMOST, WIDEST_DECADE, WIDEST_MARGIN, WIDEST_STEP};
 
 use crate::rows::TaskRow;
@@ -36,8 +36,8 @@ const WIDEST_DECADE: u64 = 1_000_000;
 /// The widest step of the scale, in microseconds.
 pub const WIDEST_STEP: u64 = 5 * WIDEST_DECADE;
 
-/// When a run ends, and the window of it, in microseconds; where the window begins and how wide it is, and how many tasks
-/// there are.
+/// When a run ends, and the window of it, in microseconds; where the window begins and how wide it is, how many tasks there
+/// are, and the number of the A size of the paper, if it is printed.
 #[derive(Clone, Copy)]
 pub struct Frame {
     pub until: u64,
@@ -46,16 +46,17 @@ pub struct Frame {
     pub left: u64,
     pub span: u64,
     pub count: u64,
+    pub paper: Option<u64>,
 }
 
 impl Model for Frame {
     ghost Value = { Frame };
 
-    ghost view = { λ f. record { until = f.until; from = f.from; to = f.to; left = f.left; span = f.span; count = f.count } };
+    ghost view = { λ f. record { until = f.until; from = f.from; to = f.to; left = f.left; span = f.span; count = f.count; paper = f.paper } };
 
-    ghost inverse = { λ f. record { until = f.until; from = f.from; to = f.to; left = f.left; span = f.span; count = f.count } };
+    ghost inverse = { λ f. record { until = f.until; from = f.from; to = f.to; left = f.left; span = f.span; count = f.count; paper = f.paper } };
 
-    ghost invariant = { λ f. IsFrame (record { until = f.until; from = f.from; to = f.to; left = f.left; span = f.span; count = f.count }) };
+    ghost invariant = { λ f. IsFrame (record { until = f.until; from = f.from; to = f.to; left = f.left; span = f.span; count = f.count; paper = f.paper }) };
 }
 
 // The shortest period of the rows.
@@ -206,6 +207,7 @@ pub fn frame_of(rows: &[TaskRow], view: &View, until: u64) -> Frame
         left,
         span,
         count,
+        paper: view.paper,
     }
 }
 
@@ -245,6 +247,14 @@ pub fn sees_up_to(frame: Frame, start: u64, time: u64, len: u64) -> bool
     ensures { result ≡ sees frame start (time + len) }
 {
     start < frame.to && (frame.from < time || frame.from - time < len)
+}
+
+/// Whether a span is that begins and ends so long after a time.
+pub fn sees_between(frame: Frame, time: u64, start: u64, stop: u64) -> bool
+    ensures { result ≡ sees frame (time + start) (time + stop) }
+{
+    let begins = time < frame.to && start < frame.to - time;
+    begins && (frame.from < time || frame.from - time < stop)
 }
 
 /// Whether the span of a time and so much more is.
@@ -307,13 +317,6 @@ pub fn level_of(frame: Frame, rank: usize) -> u64
     ensures { result ≡ level_of frame rank }
 {
     frame.count.saturating_sub(rank as u64)
-}
-
-/// The tone of a task by its rank.
-pub fn tone_of(rank: usize) -> u64
-    ensures { result ≡ tone_of rank }
-{
-    rank as u64 % 10
 }
 
 // Whether a step is wide enough.

@@ -1,9 +1,10 @@
-//! Locks: those of the rows, each once, and their tones.
+//! Locks: those of the rows, each once, by name, and their tones.
 ghost use Rattle.std.specs.Prelude.{◌≡◌, ◌≤◌, IfOk, OnOk, length};
-ghost use Rattle.frames.specs.Locks.{lock_place, lock_tone, locks_of, noted, noted_names, noted_sections};
+ghost use Rattle.frames.specs.Locks.{lock_names, locks_of, name_place, noted, noted_names, noted_sections, place_of};
 ghost use Rattle.frames.specs.declared.locks.TheConstants.{LOCKS_LIMIT};
 
 use crate::rows::TaskRow;
+use crate::tones::{LOCK_TONES, Toned, tones_of};
 use std::alloc::{AllocError, Global};
 use task_sheet::{Name, Section};
 
@@ -11,8 +12,8 @@ use task_sheet::{Name, Section};
 pub const LOCKS_LIMIT: usize = 1_024;
 
 // The place of a lock among some.
-fn lock_place(locks: &[Name], name: Name) -> Option<usize>
-    ensures { result ≡ lock_place locks.now name }
+fn name_place(locks: &[Name], name: Name) -> Option<usize>
+    ensures { result ≡ name_place locks.now name }
 {
     for k in 0..locks.len() {
         if locks[k] == name {
@@ -22,25 +23,39 @@ fn lock_place(locks: &[Name], name: Name) -> Option<usize>
     None
 }
 
+// Where a lock's name stands among some: before the first one behind it.
+fn place_of(locks: &[Name], name: Name) -> usize
+    ensures value { result ≡ place_of locks.now name }
+    ensures within { result ≤ length locks.now }
+{
+    for k in 0..locks.len() {
+        if name < locks[k] {
+            return k;
+        }
+    }
+    locks.len()
+}
+
 // Notes a lock, where it isn't among some.
 fn note(locks: &mut Vec<Name>, name: Name) -> Result<(), AllocError>
     requires { length locks.old.items ≤ LOCKS_LIMIT }
     ensures noted { OnOk result (locks.new.items ≡ noted locks.old.items name) }
     ensures few { OnOk result (length locks.new.items ≤ LOCKS_LIMIT) }
 {
-    match lock_place(locks, name) {
+    match name_place(locks, name) {
         Some(_) => Ok(()),
         None => {
             if locks.len() < LOCKS_LIMIT {
-                locks.push(name)?;
+                let place = place_of(locks, name);
+                locks.insert(place, name)?;
             }
             Ok(())
         }
     }
 }
 
-// Notes those of some names.
-fn note_names(locks: &mut Vec<Name>, names: &[Name]) -> Result<(), AllocError>
+/// Notes some names among those of locks, each once, the least first.
+pub fn note_names(locks: &mut Vec<Name>, names: &[Name]) -> Result<(), AllocError>
     requires { length locks.old.items ≤ LOCKS_LIMIT }
     ensures noted { OnOk result (locks.new.items ≡ noted_names locks.old.items names.now) }
     ensures few { OnOk result (length locks.new.items ≤ LOCKS_LIMIT) }
@@ -63,9 +78,9 @@ fn note_sections(locks: &mut Vec<Name>, sections: &[Section]) -> Result<(), Allo
     Ok(())
 }
 
-/// The locks of the rows, from the highest level down, each once.
-pub fn locks_of(alloc: Global, rows: &[TaskRow]) -> Result<Vec<Name>, AllocError>
-    ensures value { IfOk result (λ locks. locks.items ≡ locks_of rows.now) }
+// The names of the rows' locks, each once, the least first.
+fn lock_names(alloc: Global, rows: &[TaskRow]) -> Result<Vec<Name>, AllocError>
+    ensures value { IfOk result (λ locks. locks.items ≡ lock_names rows.now) }
     ensures few { IfOk result (λ locks. length locks.items ≤ LOCKS_LIMIT) }
 {
     let mut locks = Vec::new(alloc);
@@ -75,12 +90,11 @@ pub fn locks_of(alloc: Global, rows: &[TaskRow]) -> Result<Vec<Name>, AllocError
     Ok(locks)
 }
 
-/// The tone of a lock.
-pub fn lock_tone(locks: &[Name], name: Name) -> u64
-    ensures { result ≡ lock_tone locks.now name }
+/// The locks of the rows, each once, by name, and their tones.
+pub fn locks_of(alloc: Global, rows: &[TaskRow]) -> Result<Vec<Toned>, AllocError>
+    ensures value { IfOk result (λ locks. locks.items ≡ locks_of rows.now) }
+    ensures few { IfOk result (λ locks. length locks.items ≤ LOCKS_LIMIT) }
 {
-    match lock_place(locks, name) {
-        None => 0,
-        Some(k) => k as u64 % 6,
-    }
+    let names = lock_names(alloc, rows)?;
+    tones_of(alloc, &names, LOCK_TONES)
 }

@@ -1,17 +1,20 @@
 //! Rows.
 ghost use Rattle.std.specs.Prelude.{◌<◌, ◌≡◌, IfSome, length};
-ghost use Rattle.frames.specs.Rows.{name_in, place_in, record_at, row_named};
+ghost use Rattle.frames.specs.Rows.{name_in, place_in, record_at, row_named, tone_in};
 
 use ceiling_kernel::JobRecord;
 use task_sheet::{Name, Sheet};
 
-/// A row: a task, and how long after its arrival each of its jobs is done at the latest, where that is known; in microseconds;
-/// and the number of its thread, where settings say it.
+/// A row: a task, and how long after its arrival each of its jobs is done at the latest, where that is known; the number of
+/// its thread, where settings say it; its tone; and how much of the bound is what timers and interrupts take, which no run
+/// has. Times are in microseconds.
 #[derive(Drop)]
 pub struct TaskRow {
     pub sheet: Sheet,
     pub bound: Option<u64>,
     pub number: Option<u64>,
+    pub tone: u64,
+    pub unrun: u64,
 }
 
 /// Where a row stands that is shown: its rank among all, and its place in the picture, each from 0, the highest first.
@@ -27,6 +30,14 @@ pub fn name_in(rows: &[TaskRow], k: usize) -> Name
     ensures { result ≡ name_in rows.now k }
 {
     rows[k].sheet.name()
+}
+
+/// The tone of a row.
+pub fn tone_in(rows: &[TaskRow], k: usize) -> u64
+    requires { k < length rows.now }
+    ensures { result ≡ tone_in rows.now k }
+{
+    rows[k].tone
 }
 
 /// The name of the task of job j.

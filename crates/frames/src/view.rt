@@ -1,7 +1,7 @@
 //! What part of a run is drawn, and how.
 ghost use Rattle.std.specs.Prelude.{◌<◌, ◌≡◌, ◌≤◌, All, IfOk, None, OnOk, [], length};
 ghost use Rattle.ceiling_kernel.specs.declared.accept.TheConstants.{HORIZON};
-ghost use Rattle.frames.specs.View.{end_of_run, is_chosen, is_empty, is_released, noted_rank, shown_of, window_end};
+ghost use Rattle.frames.specs.View.{end_of_run, is_chosen, is_empty, is_released, noted_rank, paper_width, shown_of, window_end};
 
 use crate::rows::{TaskRow, name_in};
 use ceiling_kernel::{HORIZON, Release};
@@ -17,6 +17,8 @@ pub struct View {
     pub to: Option<u64>,
     /// How wide it is, in pixels, from 960 to 16,000; where this isn't said, from 960 to 1,600.
     pub width: Option<u64>,
+    /// The number of the A size of the paper that it is printed on, across, 3 or 4; none for a screen.
+    pub paper: Option<u64>,
     /// What stands before the verdict, in UTF-8; nothing where it is empty.
     pub title: Vec<u8>,
     /// The tasks that have rows; where none is named, those of which the list has a release.
@@ -29,6 +31,7 @@ impl View {
         ensures from { result.from ≡ 0 }
         ensures to { result.to ≡ None }
         ensures width { result.width ≡ None }
+        ensures paper { result.paper ≡ None }
         ensures title { result.title.items ≡ [] }
         ensures tasks { result.tasks.items ≡ [] }
     {
@@ -36,6 +39,7 @@ impl View {
             from: 0,
             to: None,
             width: None,
+            paper: None,
             title: Vec::new(alloc),
             tasks: Vec::new(alloc),
         }
@@ -47,6 +51,13 @@ impl View {
     {
         window_end(self, until) <= self.from
     }
+}
+
+/// How many pixels a picture is wide on paper of an A size where that isn't said, so that its least type is 6 points high.
+pub fn paper_width(size: u64) -> u64
+    ensures { result ≡ paper_width size }
+{
+    if size == 3 { 2_080 } else { 1_470 }
 }
 
 // Where the window of a view of a run up to a time ends.
@@ -71,7 +82,7 @@ fn is_released(releases: &[Release], name: Name) -> bool
 }
 
 // Whether a task has a row.
-fn is_chosen(names: &[Name], releases: &[Release], name: Name) -> bool
+pub(crate) fn is_chosen(names: &[Name], releases: &[Release], name: Name) -> bool
     ensures { result ≡ is_chosen names.now releases.now name }
 {
     if names.is_empty() {

@@ -31,8 +31,8 @@ fn interrupts_of(sheet: &Sheet, time: u64) -> u128
     taken
 }
 
-// What those of all tasks of the set take of a time.
-pub(crate) fn interrupts_within(set: &Tabled<'_>, time: u64) -> u128
+/// What those of all tasks of the set take of a time.
+pub fn interrupts_within(set: &Tabled<'_>, time: u64) -> u128
     ensures is { result ≡ interrupts_within set.now time }
     ensures fits { result ≤ 11805916207177313034240 }
 {

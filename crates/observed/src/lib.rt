@@ -17,6 +17,7 @@ mod strangers;
 mod sweeps;
 
 pub use crate::culprits::Culprit;
+pub use crate::interrupts::interrupts_within;
 pub use crate::observing::observe;
 pub use crate::pieces::Piece;
 pub use crate::promises::{Promise, levels_of, promises_of};

@@ -9,6 +9,7 @@ use Rattle.ceiling_kernel.specs.declared.trace.JobRecord.{JobRecord}
 use Rattle.ceiling_kernel.specs.declared.trace.Slice.{Slice}
 use Rattle.ceiling_kernel.specs.declared.trace.Trace.{Trace}
 use Rattle.frames.specs.declared.rows.TaskRow.{TaskRow}
+use Rattle.frames.specs.declared.tones.Toned.{Toned}
 use Rattle.frames.specs.declared.view.View.{View}
 use Rattle.frames.specs.Frame.{Frame, frame_of}
 use Rattle.frames.specs.Locks.{locks_of}
@@ -18,7 +19,7 @@ use Rattle.frames.specs.declared.page.Page.{Page}
 use Rattle.picture.specs.Document.{document, framed}
 
 pub document_of : (rows : List TaskRow) (v : View) (until : ℕ) (rs : List Release) (trace : Trace)
-    (f : Frame) (title : List ℕ) (locks : List (List ℕ)) (shown : List ℕ) (jobs : List JobRecord)
+    (f : Frame) (title : List ℕ) (locks : List Toned) (shown : List ℕ) (jobs : List JobRecord)
     (slices : List Slice)
     → f ≡ frame_of rows v until → title ≡ v.title.items → locks ≡ locks_of rows → shown
     ≡ shown_of v.tasks.items rs rows → jobs ≡ trace.jobs.items → slices ≡ trace.slices.items

@@ -1,5 +1,5 @@
 -- The document: what stands still, the jobs, the slices by time, and the marks of the releases.
-use Rattle.std.specs.Prelude.{ℕ, ◌+◌, ◌-◌, ◌*◌, ◌/◌, Bool, ◌&&◌, ◌==◌, if◌then◌else◌, List, [], ◌∷◌, ◌++◌, length, codes}
+use Rattle.std.specs.Prelude.{ℕ, ◌+◌, ◌-◌, ◌*◌, ◌/◌, Bool, ◌&&◌, ◌==◌, nat_lt, if◌then◌else◌, Option, Some, None, List, [], ◌∷◌, ◌++◌, length, codes}
 use Rattle.std.specs.Fmt.{decimal}
 use Rattle.std.specs.List.{concat, list_any}
 use Rattle.ceiling_kernel.specs.declared.trace.Release.{Release}
@@ -8,17 +8,19 @@ use Rattle.ceiling_kernel.specs.declared.trace.Slice.{Slice}
 use Rattle.ceiling_kernel.specs.declared.trace.Trace.{Trace}
 use Rattle.task_sheet.specs.Demand.{interrupts_some}
 use Rattle.frames.specs.declared.rows.TaskRow.{TaskRow}
+use Rattle.frames.specs.declared.tones.Toned.{Toned}
 use Rattle.frames.specs.declared.view.View.{View}
 use Rattle.frames.specs.View.{shown_of}
 use Rattle.picture.specs.Titles.{title_tail}
 use Rattle.picture.specs.declared.style.TheConstants.{STYLE}
-use Rattle.picture.specs.declared.legend.TheConstants.{LEGEND}
+use Rattle.picture.specs.declared.legend.TheConstants.{LEGEND, UNRUN}
 use Rattle.frames.specs.Frame.{Frame, frame_of, frame_end, in_millis, step_of, steps_before, top_of}
 use Rattle.frames.specs.Rows.{each, row_at, spot_in}
 use Rattle.frames.specs.Numbers.{time_text, unit_text}
 use Rattle.drawn_jobs.specs.Misses.{all_missed, badge_text, misses_text}
 use Rattle.picture.specs.Margin.{margin_text}
 use Rattle.frames.specs.Locks.{locks_of}
+use Rattle.drawn_jobs.specs.Held.{held_locks}
 use Rattle.drawn_jobs.specs.Stripes.{locks_high, locks_group}
 use Rattle.picture.specs.WaitTexts.{waits_text}
 use Rattle.drawn_jobs.specs.Lane.{lane_head, lane_line, lanes_text}
@@ -35,12 +37,34 @@ width_of f = frame_end f + 200
 abbrev pub high_of : Frame → (rows locks : ℕ) → ℕ
 high_of f rows locks = top_of rows + 120 + locks_high f locks
 
+-- how wide paper of an A size is across, in millimetres: A3, or A4 [ISO 216]
+abbrev pub paper_wide : (size : ℕ) → ℕ
+paper_wide size = if size == 3 then 420 else 297
+
+-- how high what is so high is in millimetres, rounded up, where what is so wide is as wide as the paper
+abbrev pub paper_high : (size wide high : ℕ) → ℕ
+paper_high size wide high = (paper_wide size * high + wide - 1) / wide
+
+-- its width and height, in pixels, of which each has ten units, or on paper in millimetres
+abbrev pub size_words : (paper : Option ℕ) → (wide high : ℕ) → List ℕ
+size_words None wide high =
+    concat (codes " width=\"" ∷ decimal (wide / 10) ∷ codes "\" height=\"" ∷ decimal (high / 10) ∷ [])
+size_words (Some size) wide high =
+    concat (codes " width=\"" ∷ decimal (paper_wide size) ∷ codes "mm\" height=\""
+    ∷ decimal (paper_high size wide high) ∷ codes "mm" ∷ [])
+
+-- the first line, and how wide and high the picture is
+abbrev pub size_head : (paper : Option ℕ) → (wide high : ℕ) → List ℕ
+size_head paper wide high =
+    codes "<?xml version=\"1.0\" encoding=\"UTF-8\"?>\n<svg xmlns=\"http://www.w3.org/2000/svg\" version=\"1.1\""
+    ++ size_words paper wide high
+
 -- the first lines, and the title, with what was given behind it
 abbrev pub document_head : Frame → List ℕ → (locks shown rows jobs until : ℕ) → List ℕ
 document_head f title locks shown rows jobs until =
-    concat (codes "<?xml version=\"1.0\" encoding=\"UTF-8\"?>\n<svg xmlns=\"http://www.w3.org/2000/svg\" version=\"1.1\" width=\""
-    ∷ decimal (width_of f / 10) ∷ codes "\" height=\"" ∷ decimal (high_of f shown locks / 10)
-    ∷ codes "\" viewBox=\"0 0 " ∷ decimal (width_of f) ∷ codes " " ∷ decimal (high_of f shown locks)
+    size_head f.paper (width_of f) (high_of f shown locks)
+    ++ concat (codes "\" viewBox=\"0 0 " ∷ decimal (width_of f) ∷ codes " "
+    ∷ decimal (high_of f shown locks)
     ∷ codes "\">\n<title>tasks: " ∷ decimal rows ∷ codes ", jobs: " ∷ decimal jobs
     ∷ codes ", until " ∷ decimal until
     ∷ codes " us" ∷ [])
@@ -105,20 +129,29 @@ what_text f rows jobs until =
     ∷ unit_text (in_millis f) ∷ [])
     ++ unrun_words rows ++ window_words (in_millis f) f ++ codes "</text>\n"
 
+-- of some row that is shown timers and interrupts take some of the bound
+abbrev pub are_unrun : List TaskRow → (shown : List ℕ) → Bool
+are_unrun rows shown = list_any (λ rank. nat_lt 0 (row_at rows rank).unrun) shown
+
+-- what the signs mean: all of them, or those but that of what timers and interrupts take
+abbrev pub legend_text : (unrun : Bool) → List ℕ
+legend_text unrun = LEGEND.now ++ (if unrun then UNRUN.now else [])
+
 -- what stands still: how the elements look, whether a deadline is missed, what is drawn, what the signs mean, the scale, the
 -- lines of the lane and of the rows, the margin, and the locks
-abbrev pub ground_text : Frame → List ℕ → List (List ℕ) → List TaskRow → (shown : List ℕ) → List JobRecord → List Slice → (until : ℕ) → List ℕ
-ground_text f title locks rows shown jobs slices until =
-    document_head f title (length locks) (length shown) (length rows) (length jobs) until
+abbrev pub ground_text : Frame → List ℕ → (held : List Toned) → List TaskRow → (shown : List ℕ) → List JobRecord → List Slice → (until : ℕ) → List ℕ
+ground_text f title held rows shown jobs slices until =
+    document_head f title (length held) (length shown) (length rows) (length jobs) until
     ++ STYLE.now ++ verdict_text title (all_missed f rows jobs)
-    ++ what_text f rows (length jobs) until ++ LEGEND.now
+    ++ what_text f rows (length jobs) until ++ legend_text (are_unrun rows shown)
     ++ ticks_text f (top_of (length shown)) (step_of f) ++ lane_line f ++ lines_text f (length shown)
-    ++ margin_group f rows shown jobs slices ++ locks_group f (length shown) locks
+    ++ margin_group f rows shown jobs slices ++ locks_group f (length shown) held
 
--- the document in a frame: what stands still, the lane, the jobs, the marks, what is missed, why jobs wait, and the slices
-abbrev pub framed : Frame → List ℕ → List (List ℕ) → List TaskRow → (shown : List ℕ) → ℕ → List Release → List JobRecord → List Slice → List ℕ
+-- the document in a frame: what stands still, with the locks that are held in it, the lane, the jobs, the marks, what is missed, why jobs wait, and the slices
+abbrev pub framed : Frame → List ℕ → List Toned → List TaskRow → (shown : List ℕ) → ℕ → List Release → List JobRecord → List Slice → List ℕ
 framed f title locks rows shown until rs jobs slices =
-    ground_text f title locks rows shown jobs slices until ++ lanes_text f rows jobs slices
+    ground_text f title (held_locks f locks rows shown jobs slices) rows shown jobs slices until
+    ++ lanes_text f rows jobs slices
     ++ jobs_text f rows shown jobs ++ all_marks f rows shown jobs rs
     ++ misses_text f rows shown jobs ++ waits_text f locks rows shown rs jobs slices
     ++ slices_text f locks rows shown jobs slices ++ codes "</svg>\n"

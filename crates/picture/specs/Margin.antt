@@ -8,16 +8,16 @@ use Rattle.run_lines.specs.Reached.{done_of, response_of}
 use Rattle.ceiling_kernel.specs.declared.trace.JobRecord.{JobRecord}
 use Rattle.frames.specs.declared.rows.TaskRow.{TaskRow}
 use Rattle.frames.specs.declared.rows.Spot.{Spot}
-use Rattle.frames.specs.Frame.{Frame, in_millis, top_of, level_of, tone_of}
+use Rattle.frames.specs.Frame.{Frame, in_millis, top_of, level_of}
 use Rattle.frames.specs.Numbers.{known_text, time_text, unit_text}
 use Rattle.drawn_jobs.specs.Misses.{latest_in, missed_in}
 
 -- a row's level, and the tone of its task
-abbrev pub level_text : Frame → Spot → List ℕ
-level_text f spot =
+abbrev pub level_text : Frame → Spot → TaskRow → List ℕ
+level_text f spot row =
     concat (codes "<text class=\"v\" x=\"300\" y=\"" ∷ decimal (top_of spot.k + 230) ∷ codes "\">"
     ∷ decimal (level_of f spot.rank)
-    ∷ codes "</text><rect class=\"f" ∷ decimal (tone_of spot.rank) ∷ codes "\" x=\"350\" y=\""
+    ∷ codes "</text><rect class=\"f" ∷ decimal row.tone ∷ codes "\" x=\"350\" y=\""
     ∷ decimal (top_of spot.k + 130)
     ∷ codes "\" width=\"100\" height=\"100\" rx=\"20\"/>\n" ∷ [])
 
@@ -74,6 +74,6 @@ missed_line millis missed late k =
 -- a row's part of the margin
 abbrev pub margin_text : Frame → List JobRecord → Spot → TaskRow → List ℕ
 margin_text f jobs spot row =
-    level_text f spot ++ name_text (missed_in f row jobs) jobs spot.k (level_of f spot.rank) row
+    level_text f spot row ++ name_text (missed_in f row jobs) jobs spot.k (level_of f spot.rank) row
     ++ limits_text (in_millis f) spot.k row row.bound
     ++ missed_line (in_millis f) (missed_in f row jobs) (latest_in row jobs) spot.k

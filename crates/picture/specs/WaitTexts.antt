@@ -7,11 +7,12 @@ use Rattle.ceiling_kernel.specs.declared.trace.JobRecord.{JobRecord}
 use Rattle.ceiling_kernel.specs.declared.trace.Slice.{Slice}
 use Rattle.frames.specs.declared.rows.TaskRow.{TaskRow}
 use Rattle.frames.specs.declared.rows.Spot.{Spot}
+use Rattle.frames.specs.declared.tones.Toned.{Toned}
 use Rattle.picture.specs.declared.waits.Stay.{Stay}
 use Rattle.picture.specs.declared.waits.Wait.{Wait}
-use Rattle.frames.specs.Frame.{Frame, x_of, sees, top_of, tone_of}
-use Rattle.frames.specs.Rows.{each, name_in, record_at, on_spot, place_in}
-use Rattle.frames.specs.Locks.{lock_tone}
+use Rattle.frames.specs.Frame.{Frame, x_of, sees, top_of}
+use Rattle.frames.specs.Rows.{each, name_in, record_at, on_spot, place_in, tone_in}
+use Rattle.frames.specs.Tones.{tone_named}
 use Rattle.picture.specs.Blocking.{blocking_lock}
 use Rattle.picture.specs.Waits.{Scene, stay_of, wait_at, is_gathered}
 
@@ -35,9 +36,9 @@ lock_words None = []
 lock_words (Some lock) = concat (codes "with " ∷ lock ∷ codes " " ∷ [])
 
 -- its tone
-abbrev pub tone_of_lock : List (List ℕ) → Option (List ℕ) → ℕ
+abbrev pub tone_of_lock : List Toned → Option (List ℕ) → ℕ
 tone_of_lock locks None = 0
-tone_of_lock locks (Some lock) = lock_tone locks lock
+tone_of_lock locks (Some lock) = tone_named locks lock
 
 -- the title: who waits for whom, and by which lock, from when to when
 abbrev pub wait_title : List TaskRow → (k : ℕ) → Wait → (how : List ℕ) → Option (List ℕ) → List ℕ
@@ -49,7 +50,7 @@ wait_title rows k w how lock =
 -- a wait of a row for a task above: a line in the ink of who executes, or neutral, where it is one line with others
 abbrev pub above_text : Scene → Spot → Wait → (gathered : Bool) → List ℕ
 above_text c spot w gathered =
-    wait_path (codes "wa i") (ink_text gathered (tone_of w.row)) (x_of c.frame w.start)
+    wait_path (codes "wa i") (ink_text gathered (tone_in c.rows w.row)) (x_of c.frame w.start)
     (max (x_of c.frame w.stop) (x_of c.frame w.start + 1)) spot.k
     ++ wait_title c.rows spot.rank w (codes " waits for ") None
 
@@ -115,7 +116,7 @@ job_waits c j =
     on_spot c.rows c.shown (record_at c.jobs j).name (λ spot row. stay_text c (stay_of c j) spot)
 
 -- the waits of each job
-abbrev pub waits_text : Frame → List (List ℕ) → List TaskRow → (shown : List ℕ) → List Release → List JobRecord → List Slice → List ℕ
+abbrev pub waits_text : Frame → List Toned → List TaskRow → (shown : List ℕ) → List Release → List JobRecord → List Slice → List ℕ
 waits_text f locks rows shown rs jobs slices =
     each (length jobs)
     (job_waits (record {

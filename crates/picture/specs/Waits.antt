@@ -7,6 +7,7 @@ use Rattle.ceiling_kernel.specs.declared.trace.Slice.{Slice}
 use Rattle.pieces.specs.Pieces.{wait_in}
 use Rattle.frames.specs.declared.chart.Chart.{Chart}
 use Rattle.frames.specs.declared.rows.TaskRow.{TaskRow}
+use Rattle.frames.specs.declared.tones.Toned.{Toned}
 use Rattle.picture.specs.declared.waits.Stay.{Stay}
 use Rattle.picture.specs.declared.waits.Wait.{Wait}
 use Rattle.frames.specs.Frame.{Frame, x_of, ended}
@@ -16,7 +17,7 @@ use Rattle.frames.specs.Slices.{slice_at}
 -- what waits are drawn from: how time lies, the locks, the rows and which of them are shown, and what happened in the run
 pub record Scene : Type 0 where
   pub frame : Frame
-  pub locks : List (List ℕ)
+  pub locks : List Toned
   pub rows : List TaskRow
   pub shown : List ℕ
   pub releases : List Release

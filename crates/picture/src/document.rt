@@ -6,20 +6,21 @@ ghost use Rattle.picture.specs.Document.{document, framed};
 use crate::ground::put_ground;
 use crate::why::put_waits;
 use ceiling_kernel::{Release, Slice, Trace};
-use drawn_jobs::{put_all_marks, put_jobs, put_lanes, put_misses, put_slices};
+use drawn_jobs::{held_locks, put_all_marks, put_jobs, put_lanes, put_misses, put_slices};
 use frames::{Chart, Page, TaskRow, View, frame_of, locks_of, shown_of, starts_rise};
 use std::alloc::{AllocError, Global};
 
-// The document of a chart. Memory is taken for it, and for one count of each job.
+// The document of a chart. Memory is taken for it, for two counts of each job, and for two names of each lock.
 fn draw_chart(alloc: Global, chart: &Chart<'_>) -> Result<Vec<u8>, AllocError>
     ensures { IfOk result (λ text. text.items
         ≡ framed chart.now.frame chart.now.title.now chart.now.locks.now chart.now.rows.now
         chart.now.shown.now chart.now.until chart.now.releases.now chart.now.jobs.now
         chart.now.slices.now) }
 {
+    let held = held_locks(alloc, chart)?;
     let mut executed = vec![in alloc; 0; chart.jobs.len()]?;
     let mut page = Page::new(alloc);
-    put_ground(chart, &mut page);
+    put_ground(chart, &held, &mut page);
     put_lanes(chart, &mut page);
     put_jobs(chart, &mut page);
     put_all_marks(chart, &mut page);
@@ -32,7 +33,7 @@ fn draw_chart(alloc: Global, chart: &Chart<'_>) -> Result<Vec<u8>, AllocError>
 
 /// Returns the picture of a run of these rows, the highest level first, whose trace ends at `until`, in microseconds, as a
 /// view has it: an SVG 1.1 document. A window in which nothing lies is one of a microsecond. Memory is taken for the
-/// document, and for one count of each job, one name of each lock and one number of each row.
+/// document, and for two counts of each job, four names of each lock and one number of each row.
 pub fn draw(
     alloc: Global,
     rows: &[TaskRow],

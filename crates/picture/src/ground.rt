@@ -1,18 +1,19 @@
 //! What stands still.
-ghost use Rattle.std.specs.Prelude.{◌<◌, ◌≡◌, ◌≤◌, length};
+ghost use Rattle.std.specs.Prelude.{◌*◌, ◌<◌, ◌≡◌, ◌≤◌, All, length};
 ghost use Rattle.frames.specs.Page.{Adds};
 ghost use Rattle.task_sheet.specs.declared.set.TheConstants.{TASK_LIMIT};
-ghost use Rattle.frames.specs.declared.frame.TheConstants.{WIDEST_STEP};
-ghost use Rattle.picture.specs.Document.{are_interrupted, document_head, ground_text, lines_text, ticks_text, unrun_words, verdict_head, verdict_text, what_text, window_words};
+ghost use Rattle.frames.specs.declared.frame.TheConstants.{RIGHTMOST, WIDEST_STEP};
+ghost use Rattle.frames.specs.declared.locks.TheConstants.{LOCKS_LIMIT};
+ghost use Rattle.picture.specs.Document.{are_interrupted, are_unrun, document_head, ground_text, legend_text, lines_text, paper_wide, size_head, size_words, ticks_text, unrun_words, verdict_head, verdict_text, what_text, window_words};
 ghost use Rattle.picture.specs.Scale.{line_text, number_x, tick_text};
 
-use crate::legend::LEGEND;
+use crate::legend::{LEGEND, UNRUN};
 use crate::margin::put_group;
 use crate::style::STYLE;
 use crate::title::put_title_tail;
 use drawn_jobs::{all_missed, locks_high, put_badge, put_lane_line, put_locks_group};
 use frames::{
-    Chart, Frame, Page, TaskRow, end_of, in_millis, put_time, put_unit, start_of, step_of,
+    Chart, Frame, Page, TaskRow, Toned, end_of, in_millis, put_time, put_unit, start_of, step_of,
     steps_before, time_letters, top_of, x_of,
 };
 
@@ -28,21 +29,59 @@ fn number_x(frame: Frame, time: u64) -> u64
     }
 }
 
+// How wide paper of an A size is across, in millimetres.
+fn paper_wide(size: u64) -> u64
+    ensures value { result ≡ paper_wide size }
+    ensures within { result ≤ 420 }
+{
+    if size == 3 { 420 } else { 297 }
+}
+
+// How wide and high the picture is, in pixels, or on paper in millimetres.
+fn put_size(paper: Option<u64>, wide: u64, high: u64, page: &mut Page)
+    requires some { 0 < wide }
+    requires wide { wide ≤ 2 * RIGHTMOST }
+    requires high { high ≤ 2000000 }
+    ensures { Adds page.old page.new (size_words paper wide high) }
+{
+    match paper {
+        None => {
+            page.number(b" width=\"", wide / 10);
+            page.number(b"\" height=\"", high / 10)
+        }
+        Some(size) => {
+            let across = paper_wide(size);
+            page.number(b" width=\"", across);
+            page.number(b"mm\" height=\"", (across * high + wide - 1) / wide);
+            page.put(b"mm")
+        }
+    }
+}
+
+// The first line, and that.
+fn put_size_head(paper: Option<u64>, wide: u64, high: u64, page: &mut Page)
+    requires some { 0 < wide }
+    requires wide { wide ≤ 2 * RIGHTMOST }
+    requires high { high ≤ 2000000 }
+    ensures { Adds page.old page.new (size_head paper wide high) }
+{
+    page.put(
+        b"<?xml version=\"1.0\" encoding=\"UTF-8\"?>\n<svg xmlns=\"http://www.w3.org/2000/svg\" \
+        version=\"1.1\"",
+    );
+    put_size(paper, wide, high, page)
+}
+
 // The first lines, and the title, with what was given behind it.
-fn put_head(chart: &Chart<'_>, page: &mut Page)
-    ensures { Adds page.old page.new (document_head chart.now.frame chart.now.title.now (length
-        chart.now.locks.now)
+fn put_head(chart: &Chart<'_>, locks: usize, page: &mut Page)
+    requires { locks ≤ LOCKS_LIMIT }
+    ensures { Adds page.old page.new (document_head chart.now.frame chart.now.title.now locks
         (length chart.now.shown.now) (length chart.now.rows.now)
         (length chart.now.jobs.now) chart.now.until) }
 {
-    let high = top_of(chart.shown.len()) + 120 + locks_high(chart.frame, chart.locks.len());
+    let high = top_of(chart.shown.len()) + 120 + locks_high(chart.frame, locks);
     let wide = end_of(chart.frame) + 200;
-    page.number(
-        b"<?xml version=\"1.0\" encoding=\"UTF-8\"?>\n<svg xmlns=\"http://www.w3.org/2000/svg\" \
-        version=\"1.1\" width=\"",
-        wide / 10,
-    );
-    page.number(b"\" height=\"", high / 10);
+    put_size_head(chart.frame.paper, wide, high, page);
     page.number(b"\" viewBox=\"0 0 ", wide);
     page.number(b" ", high);
     page.number(b"\">\n<title>tasks: ", chart.rows.len() as u64);
@@ -172,23 +211,47 @@ fn put_what(frame: Frame, rows: &[TaskRow], jobs: usize, until: u64, page: &mut 
     page.put(b"</text>\n")
 }
 
+// Whether timers and interrupts take some of the bound of a row that is shown.
+fn are_unrun(rows: &[TaskRow], shown: &[usize]) -> bool
+    requires { All (λ rank. rank < length rows.now) shown.now }
+    ensures { result ≡ are_unrun rows.now shown.now }
+{
+    for rank in shown {
+        if rows[*rank].unrun > 0 {
+            return true;
+        }
+    }
+    false
+}
+
+// What the signs mean.
+fn put_legend(unrun: bool, page: &mut Page)
+    ensures { Adds page.old page.new (legend_text unrun) }
+{
+    page.put(LEGEND.as_bytes());
+    if unrun {
+        page.put(UNRUN.as_bytes())
+    }
+}
+
 // What stands still: how the elements look, whether a deadline is missed, what is drawn, what the signs mean, the scale, the
-// lines of the lane and of the rows, the margin, and the locks.
-pub(crate) fn put_ground(chart: &Chart<'_>, page: &mut Page)
+// lines of the lane and of the rows, the margin, and the locks that are held.
+pub(crate) fn put_ground(chart: &Chart<'_>, held: &[Toned], page: &mut Page)
+    requires { length held.now ≤ LOCKS_LIMIT }
     ensures { Adds page.old page.new (ground_text chart.now.frame chart.now.title.now
-        chart.now.locks.now chart.now.rows.now
+        held.now chart.now.rows.now
         chart.now.shown.now chart.now.jobs.now chart.now.slices.now chart.now.until) }
 {
     let frame = chart.frame;
-    put_head(chart, page);
+    put_head(chart, held.len(), page);
     page.put(STYLE.as_bytes());
     let missed = all_missed(frame, chart.rows, chart.jobs);
     put_verdict(chart.title, missed, page);
     put_what(frame, chart.rows, chart.jobs.len(), chart.until, page);
-    page.put(LEGEND.as_bytes());
+    put_legend(are_unrun(chart.rows, chart.shown), page);
     put_ticks(frame, top_of(chart.shown.len()), step_of(frame), page);
     put_lane_line(frame, page);
     put_lines(chart, page);
     put_group(chart, page);
-    put_locks_group(chart, page)
+    put_locks_group(frame, chart.shown.len(), held, page)
 }

@@ -25,3 +25,10 @@ pub(crate) const LEGEND: &str = concat!(
     "<path class=\"y\" d=\"M4330 880m-38-38l76 76m0-76l-76 76\"/>",
     "<text x=\"4450\" y=\"918\">missed</text>\n",
 );
+
+// The sign of what timers and interrupts take, behind them.
+pub(crate) const UNRUN: &str = concat!(
+    "<path class=\"w\" d=\"M5230 790h260v180h-260z\"/>",
+    "<path class=\"wt\" d=\"M5230 790h260v180h-260z\"/>",
+    "<text x=\"5550\" y=\"918\">timers and interrupts, not in this run</text>\n",
+);

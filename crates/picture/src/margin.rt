@@ -8,7 +8,7 @@ ghost use Rattle.picture.specs.Margin.{late_words, level_text, limits_text, marg
 use ceiling_kernel::JobRecord;
 use drawn_jobs::{latest_in, missed_in, put_greatest, put_lane_head};
 use frames::{
-    Chart, Lane, Page, in_millis, level_of, put_known, put_time, put_unit, tone_of, top_of,
+    Chart, Lane, Page, in_millis, level_of, put_known, put_time, put_unit, top_of,
 };
 use run_lines::outcome_of;
 
@@ -25,12 +25,12 @@ fn name_head(missed: usize) -> &'static [u8]
 
 // A row's level, and the tone of its task.
 fn put_level(lane: &Lane<'_>, page: &mut Page)
-    ensures { Adds page.old page.new (level_text lane.now.frame lane.now.spot) }
+    ensures { Adds page.old page.new (level_text lane.now.frame lane.now.spot lane.now.row.now) }
 {
     let top = top_of(lane.spot.k);
     page.number(b"<text class=\"v\" x=\"300\" y=\"", top + 230);
     page.number(b"\">", level_of(lane.frame, lane.spot.rank));
-    page.number(b"</text><rect class=\"f", tone_of(lane.spot.rank));
+    page.number(b"</text><rect class=\"f", lane.row.tone);
     page.number(b"\" x=\"350\" y=\"", top + 130);
     page.put(b"\" width=\"100\" height=\"100\" rx=\"20\"/>\n")
 }

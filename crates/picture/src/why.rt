@@ -8,18 +8,18 @@ ghost use Rattle.picture.specs.Waits.{EndBy, scene_of, stay_of};
 use crate::blocker::blocking_lock;
 use crate::waits::{Past, Stay, Wait, is_behind, is_gathered, past_before, stay_of, wait_at};
 use frames::{
-    Chart, Frame, Page, Spot, has_room, lock_tone, name_in, name_of, place_in, put_times, sees,
-    tone_of, top_of, x_of,
+    Chart, Frame, Page, Spot, Toned, has_room, tone_named, name_in, name_of, place_in, put_times, sees,
+    tone_in, top_of, x_of,
 };
 use task_sheet::Name;
 
 // The tone of a lock, if there is one.
-fn tone_of_lock(locks: &[Name], lock: &Option<Name>) -> u64
+fn tone_of_lock(locks: &[Toned], lock: &Option<Name>) -> u64
     ensures { result ≡ tone_of_lock locks.now lock.now }
 {
     match lock {
         None => 0,
-        Some(lock) => lock_tone(locks, *lock),
+        Some(lock) => tone_named(locks, *lock),
     }
 }
 
@@ -84,7 +84,7 @@ fn put_above(chart: &Chart<'_>, spot: Spot, wait: Wait, gathered: bool, page: &m
 {
     let x = x_of(chart.frame, wait.start);
     let right = x_of(chart.frame, wait.stop).max(x + 1);
-    put_ink(gathered, tone_of(wait.row), page);
+    put_ink(gathered, tone_in(chart.rows, wait.row), page);
     put_line(x, right, spot.k, page);
     put_title(chart, spot.rank, wait, b" waits for ", &None, page)
 }

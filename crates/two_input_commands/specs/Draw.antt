@@ -13,11 +13,16 @@ use Rattle.judge.specs.declared.rows.SettingRow.{SettingRow}
 use Rattle.judge.specs.declared.rows.SettingRow.TheVariants.{Mutex, Thread}
 use Rattle.run_lines.specs.TaskBounds.{bounds_of}
 use Rattle.run_lines.specs.declared.bounds.TaskBound.{TaskBound}
-use Rattle.drawn_runs.specs.Rows.{rows_of}
+use Rattle.drawn_runs.specs.Rows.{Looks, rows_of}
+use Rattle.frames.specs.Locks.{noted_names}
+use Rattle.frames.specs.Tones.{tones_of}
+use Rattle.frames.specs.declared.tones.TheConstants.{TASK_TONES}
+use Rattle.frames.specs.declared.tones.Toned.{Toned}
+use Rattle.two_input_commands.specs.declared.draw.Looks.{Looks as LooksData}
 use Rattle.answering.specs.Lines.{infeasible_line}
 use Rattle.two_input_commands.specs.OnBoth.{OfTwoSays, SaysOnBoth}
 use Rattle.two_input_commands.specs.Simulate.{SimulatesText, bounds_judged, simulation_status}
-use Rattle.two_input_commands.specs.View.{AsksRows, IsViewOf, is_unseen, rows_word}
+use Rattle.two_input_commands.specs.View.{AsksRows, IsViewOf, is_unseen, names_of, rows_word}
 use Rattle.two_input_commands.specs.declared.draw.Drawing.{Drawing}
 use Rattle.answering.specs.declared.refusal.CommandRefusal.{CommandRefusal}
 use Rattle.answering.specs.declared.refusal.CommandRefusal.TheVariants as refusal
@@ -31,10 +36,32 @@ number_named (Thread s ∷ rows) name =
     if same_bytes s.name name then Some s.number else number_named rows name
 number_named (Mutex s ∷ rows) name = number_named rows name
 
+-- the tones of a set's tasks, by their names, the least first
+abbrev pub task_tones : List Task → List Toned
+task_tones U = tones_of TASK_TONES (noted_names [] (names_of U))
+
+-- what rows have beside tasks and bounds, with the numbers that settings give
+abbrev pub looks_of : LooksData → Looks
+looks_of looks = record {
+  number = number_named looks.settings.now;
+  tones = looks.tones.now;
+  names = looks.names.now;
+  releases = looks.releases.now;
+}
+
+-- the same of a set, in a view
+abbrev pub looks_in : List Task → List SettingRow → View → List Release → Looks
+looks_in U settings v rs = record {
+  number = number_named settings;
+  tones = task_tones U;
+  names = v.tasks.items;
+  releases = rs;
+}
+
 -- the picture of a run in an order of a set, with the numbers that settings give, as a view has it
 abbrev pub picture_of : List Task → List SettingRow → List TaskBound → View → ℕ → List Release → Trace → List ℕ
 picture_of U settings bounds v until rs trace =
-    document (rows_of U (number_named settings) bounds) v until rs trace
+    document (rows_of U (looks_in U settings v rs) bounds) v until rs trace
 
 -- what is printed of what came of a set
 abbrev pub answer_said : List Task → List SettingRow → View → Simulated → List ℕ

@@ -5,7 +5,7 @@ use Rattle.std.specs.Option.{unwrap_or}
 use Rattle.task_sheet.specs.Sheet.{Task}
 use Rattle.lines.specs.Words.{name_in}
 use Rattle.command_line.specs.declared.calls.Options.{Options}
-use Rattle.frames.specs.View.{is_empty}
+use Rattle.frames.specs.View.{is_empty, paper_width}
 use Rattle.frames.specs.declared.view.View.{View}
 use Rattle.answering.specs.Asked.{asked_task}
 use Rattle.answering.specs.declared.refusal.CommandRefusal.{CommandRefusal}
@@ -85,11 +85,17 @@ rows_word options = option_map (λ word. word.now) options.rows
 abbrev pub title_word : Options → List ℕ
 title_word options = unwrap_or (option_map (λ word. word.now) options.title) []
 
+-- how wide it is: as words say, else on paper of an A size so wide that its type can be read
+abbrev pub width_said : (width print : Option ℕ) → Option ℕ
+width_said (Some width) print = Some width
+width_said None print = option_map paper_width print
+
 -- a view is what words choose of a set
 pub record IsViewOf (U : List Task) (options : Options) (v : View) : Type 0 where
   pub from : v.from ≡ unwrap_or options.from 0
   pub to : v.to ≡ options.to
-  pub width : v.width ≡ options.width
+  pub width : v.width ≡ width_said options.width options.print
+  pub paper : v.paper ≡ options.print
   pub title : v.title.items ≡ title_word options
   pub rows : AsksRows U (rows_word options) (Ok v.tasks.items)
 

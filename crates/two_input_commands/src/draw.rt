@@ -5,20 +5,23 @@ ghost use Rattle.task_sheet.specs.Orders.{IsOrder};
 ghost use Rattle.task_sheet.specs.declared.set.TheConstants.{TASK_LIMIT};
 ghost use Rattle.answering.specs.Printed.{IsPrinted};
 ghost use Rattle.run_lines.specs.TaskBounds.{tasks_of_bounds};
-ghost use Rattle.drawn_runs.specs.Rows.{drawn_row, rows_of};
-ghost use Rattle.two_input_commands.specs.Draw.{DrawsText, IsUnread, answer_said, drawing_said, number_named, picture_of};
+ghost use Rattle.drawn_runs.specs.Rows.{drawn_row, rows_of, toned_in, unrun_of};
+ghost use Rattle.frames.specs.Tones.{fitted_tone};
+ghost use Rattle.two_input_commands.specs.Draw.{DrawsText, IsUnread, answer_said, drawing_said, looks_of, number_named, picture_of, task_tones};
 ghost use Rattle.two_input_commands.specs.declared.simulate.Simulated.TheVariants.{Ordered, Ran};
 ghost use Rattle.answering.specs.Outcomes.{IsSaidOn};
 ghost use Rattle.two_input_commands.specs.Simulate.{IsInOrder, simulation_status};
 
 use crate::simulate::{OrderedRun, Run, Simulated, bounds_judged, simulate_text};
-use crate::view::{is_unseen, view_of};
+use crate::view::{is_unseen, names_of, view_of};
 use answering::{CommandRefusal, Status, print_bytes, print_stuck};
 use ceiling_kernel::{Release, Trace};
 use command_line::Options;
-use frames::{TaskRow, View};
+use ceilings::{LockTable, Tabled};
+use frames::{TASK_TONES, TaskRow, Toned, View, fitted_tone, note_names, tone_named, tones_of};
 use judge::{SettingRow, read_front};
 use lines::TextPlace;
+use observed::interrupts_within;
 use picture::draw;
 use run_lines::{TaskBound, bounds_of};
 use std::alloc::{AllocError, Global};
@@ -51,40 +54,84 @@ fn number_named(settings: &[SettingRow], name: Name) -> Option<u64>
     None
 }
 
-// The row of a level.
+// What rows have beside tasks and bounds: the numbers that settings give, the tones of names, which tasks have rows that are
+// shown, if that is said, and a list's releases.
+#[derive(Clone, Copy)]
+struct Looks<'a> {
+    settings: &'a [SettingRow],
+    tones: &'a [Toned],
+    names: &'a [Name],
+    releases: &'a [Release],
+}
+
+// The tones of a set's tasks, by their names.
+fn task_tones(alloc: Global, set: &TaskSet) -> Result<Vec<Toned>, AllocError>
+    ensures { IfOk result (λ tones. tones.items ≡ task_tones set.now) }
+{
+    let names = names_of(alloc, set.sheets())?;
+    let mut sorted = Vec::new(alloc);
+    note_names(&mut sorted, &names)?;
+    tones_of(alloc, &sorted, TASK_TONES)
+}
+
+// How much of a task's bound is what timers and interrupts take in it.
+fn unrun_of(set: &Tabled<'_>, sheet: &Sheet, bound: Option<u64>) -> u64
+    ensures { result ≡ unrun_of set.now sheet.now bound }
+{
+    let Some(bound) = bound else {
+        return 0;
+    };
+    let taken = interrupts_within(set, bound.saturating_sub(sheet.jitter()));
+    taken.min(u128::from(bound)) as u64
+}
+
+// The tone of a task's row below some rows.
+fn tone_of(looks: &Looks<'_>, above: &[TaskRow], name: Name) -> u64
+    ensures { result ≡ fitted_tone looks.now.names.now looks.now.releases.now above.now
+        (toned_in looks.now.tones.now name) }
+{
+    let tone = tone_named(looks.tones, name);
+    fitted_tone(looks.names, looks.releases, above, Toned { name, tone })
+}
+
+// The row of a level, below some rows.
 fn row_of(
     alloc: Global,
-    sheets: &[Sheet],
-    settings: &[SettingRow],
+    set: &Tabled<'_>,
+    looks: &Looks<'_>,
+    above: &[TaskRow],
     bound: TaskBound,
 ) -> Result<TaskRow, AllocError>
-    requires { bound.task < length sheets.now }
-    ensures { IfOk result (λ row. row ≡ drawn_row sheets.now (number_named settings.now) bound) }
+    requires { bound.task < length set.now }
+    ensures { IfOk result (λ row. row ≡ drawn_row set.now (looks_of looks.now) above.now bound) }
 {
-    let sheet = sheets[bound.task].copy(alloc)?;
-    let number = number_named(settings, sheet.name());
+    let sheet = set.sheets()[bound.task].copy(alloc)?;
+    let name = sheet.name();
+    let unrun = unrun_of(set, &sheet, bound.bound);
     Ok(TaskRow {
         sheet,
         bound: bound.bound,
-        number,
+        number: number_named(looks.settings, name),
+        tone: tone_of(looks, above, name),
+        unrun,
     })
 }
 
 // The rows of bounds, the last one first.
 fn rows_of(
     alloc: Global,
-    sheets: &[Sheet],
-    settings: &[SettingRow],
+    set: &Tabled<'_>,
+    looks: &Looks<'_>,
     bounds: &[TaskBound],
 ) -> Result<Vec<TaskRow>, AllocError>
-    requires { All (λ task. task < length sheets.now) (tasks_of_bounds bounds.now) }
-    ensures { IfOk result (λ rows. rows.items
-        ≡ rows_of sheets.now (number_named settings.now) bounds.now) }
+    requires { All (λ task. task < length set.now) (tasks_of_bounds bounds.now) }
+    ensures { IfOk result (λ rows. rows.items ≡ rows_of set.now (looks_of looks.now) bounds.now) }
 {
     let mut rows = Vec::with_capacity(alloc, bounds.len())?;
     for i in 0..bounds.len() {
         let bound = bounds[bounds.len() - 1 - i];
-        rows.push(row_of(alloc, sheets, settings, bound)?)?;
+        let row = row_of(alloc, set, looks, &rows, bound)?;
+        rows.push(row)?;
     }
     Ok(rows)
 }
@@ -93,15 +140,18 @@ fn rows_of(
 fn rows_in(
     alloc: Global,
     set: &TaskSet,
-    settings: &[SettingRow],
+    looks: &Looks<'_>,
     bounds: &[TaskBound],
 ) -> Result<Vec<TaskRow>, AllocError>
     requires { IsOrder set.now (tasks_of_bounds bounds.now) }
     ensures rows { IfOk result (λ rows. rows.items
-        ≡ rows_of set.now (number_named settings.now) bounds.now) }
+        ≡ rows_of set.now (looks_of looks.now) bounds.now) }
     ensures few { IfOk result (λ rows. length rows.items ≤ TASK_LIMIT) }
 {
-    rows_of(alloc, set.sheets(), settings, bounds)
+    // The set is valid: the proof has it from its sheets.
+    let _ = set.sheets();
+    let table = LockTable::new(alloc, set)?;
+    rows_of(alloc, &Tabled::of(set, &table), looks, bounds)
 }
 
 // The picture of a run in an order of a set.
@@ -119,7 +169,14 @@ fn picture_of(
     ensures { IfOk result (λ text. text.items
         ≡ picture_of set.now settings.now bounds.now view.now until releases.now trace.now) }
 {
-    let rows = rows_in(alloc, set, settings, bounds)?;
+    let tones = task_tones(alloc, set)?;
+    let looks = Looks {
+        settings,
+        tones: &tones,
+        names: &view.tasks,
+        releases,
+    };
+    let rows = rows_in(alloc, set, &looks, bounds)?;
     draw(alloc, &rows, view, until, releases, trace)
 }
 

@@ -1,12 +1,12 @@
 //! The view that the words of `desk draw` choose.
 ghost use Rattle.std.specs.Prelude.{◌≡◌, [], Ok, Err, Some, false, IfOk, option_map, MatchResult};
 ghost use Rattle.std.specs.Option.{unwrap_or};
-ghost use Rattle.two_input_commands.specs.View.{AsksRows, IsViewOf, Notes, is_all, is_unseen, known_name, names_of, rows_word};
+ghost use Rattle.two_input_commands.specs.View.{AsksRows, IsViewOf, Notes, is_all, is_unseen, known_name, names_of, rows_word, width_said};
 
 use crate::simulate::Simulated;
 use answering::CommandRefusal;
 use command_line::Options;
-use frames::View;
+use frames::{View, paper_width};
 use lines::{cut, name_of};
 use std::alloc::{AllocError, Global};
 use task_sheet::{Name, Sheet, TaskSet};
@@ -45,7 +45,7 @@ fn is_all(text: &[u8]) -> bool
 }
 
 // The names of all tasks.
-fn names_of(alloc: Global, sheets: &[Sheet]) -> Result<Vec<Name>, AllocError>
+pub(crate) fn names_of(alloc: Global, sheets: &[Sheet]) -> Result<Vec<Name>, AllocError>
     ensures { IfOk result (λ names. names.items ≡ names_of sheets.now) }
 {
     let mut names = Vec::with_capacity(alloc, sheets.len())?;
@@ -123,6 +123,19 @@ fn number_said(number: Option<usize>) -> Option<u64>
     }
 }
 
+// How wide it is: as words say, else on paper of an A size so wide that its type can be read.
+fn width_said(width: Option<usize>, print: Option<usize>) -> Option<u64>
+    ensures { result ≡ width_said width print }
+{
+    match width {
+        Some(width) => Some(width as u64),
+        None => match print {
+            Some(size) => Some(paper_width(size as u64)),
+            None => None,
+        },
+    }
+}
+
 // The view that words choose.
 pub(crate) fn view_of(
     alloc: Global,
@@ -137,7 +150,8 @@ pub(crate) fn view_of(
     Ok(View {
         from: options.from.unwrap_or(0) as u64,
         to: number_said(options.to),
-        width: number_said(options.width),
+        width: width_said(options.width, options.print),
+        paper: number_said(options.print),
         title,
         tasks,
     })

@@ -12,5 +12,5 @@ returns c =
     let words = rw c.deadline.ensures at c.put_band_words.ensures in
     let label = rw (bar.x, bar.right, c.in_millis-millis.ensures) at c.put_label.ensures in
     let signs = rw (c.is_before-back.ensures, c.any_on.ensures) at c.put_signs.ensures in
-    rw seen (adds_both (adds_both (adds_both (adds_both box words) label) c.put_last_bound.ensures)
-    signs)
+    rw seen (adds_both (adds_both (adds_both (adds_both (adds_both box words) label)
+    c.put_unrun.ensures) c.put_last_bound.ensures) signs)

@@ -11,5 +11,5 @@ returns c =
       c.x_of-stop.ensures.value,
       c.x_of-start.ensures.value,
     ) at c.put_bar.ensures in
-    adds_4 (rw c.tone_of.ensures at c.number.ensures) bar (rw c.name.ensures.same
+    adds_4 c.number.ensures bar (rw c.name.ensures.same
     at c.name-2.ensures) c.put_times.ensures

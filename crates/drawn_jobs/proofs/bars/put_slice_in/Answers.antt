@@ -17,7 +17,7 @@ loop-section-preserved c =
     let lane = c.args.lane.now in
     let row = lane.row.now in
     let sections = c.sections-section-items.ensures in
-    adds_item_behind (bar_text lane.frame c.args.slice lane.spot row)
+    adds_item_behind (bar_text lane.frame c.args.slice lane.spot.k row)
     (λ (i : ℕ) (x : CriticalSection). dark_text lane.frame lane.locks.now c.args.executed
     c.args.slice lane.spot.k row x) row.sheet.sections no_section
     c.loop-section.section-index c.section-item.result (rw sections at c.loop-section-test.true)
@@ -39,4 +39,4 @@ returns c =
     ) in
     rw (sym c.sees.ensures ∙ c.if-not-sees.false)
     (subst (λ (n : ℕ). Adds c.args.page.now c.loop-section.page
-    (bar_text lane.frame c.args.slice lane.spot row ++ each n dark)) all c.loop-section.invariant)
+    (bar_text lane.frame c.args.slice lane.spot.k row ++ each n dark)) all c.loop-section.invariant)

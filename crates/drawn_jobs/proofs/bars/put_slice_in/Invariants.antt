@@ -7,6 +7,6 @@ use Rattle.drawn_jobs.proofs.bars.put_slice_in.Given as goal
 
 abbrev pub invariant-loop-section : goal.invariant-loop-section
 invariant-loop-section l = Adds l.fn.page l.page
-    (bar_text l.fn.lane.frame l.fn.slice l.fn.lane.spot l.fn.lane.row.now
+    (bar_text l.fn.lane.frame l.fn.slice l.fn.lane.spot.k l.fn.lane.row.now
     ++ each l.section-index (λ i. dark_text l.fn.lane.frame l.fn.lane.locks.now l.fn.executed
     l.fn.slice l.fn.lane.spot.k l.fn.lane.row.now (nth_section l.fn.lane.row.now.sheet.sections i)))

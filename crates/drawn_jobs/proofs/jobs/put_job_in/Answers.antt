@@ -7,5 +7,5 @@ returns c =
     let seen = rw c.limit_of.ensures at (sym c.sees_from.ensures ∙ c.if-not-sees_from.false) in
     let path = rw c.limit_box-bar.ensures.path at c.put_bar.ensures in
     let deadline = rw c.deadline.ensures at c.number.ensures in
-    rw seen (adds_both (adds_5 path c.put_told.ensures c.put_known.ensures deadline c.put.ensures)
-    c.put_job_signs.ensures)
+    rw seen (adds_both (adds_both (adds_5 path c.put_told.ensures c.put_known.ensures deadline
+    c.put.ensures) c.put_unrun.ensures) c.put_job_signs.ensures)

@@ -9,5 +9,5 @@ returns c =
       c.x_of-x.ensures.value,
     ) at c.put_edge.ensures in
     let bar = rw (c.lane_right-right.ensures.value, c.x_of-x.ensures.value) at c.put_bar.ensures in
-    adds_5 (rw c.tone_of.ensures at c.number.ensures) edge bar (rw c.name.ensures.same
+    adds_5 c.number.ensures edge bar (rw c.name.ensures.same
     at c.name-2.ensures) c.put_times.ensures

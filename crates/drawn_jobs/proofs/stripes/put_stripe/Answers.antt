@@ -9,4 +9,4 @@ returns c =
       c.stripe_top-start.ensures.value,
       c.top_of.ensures.value,
     ) at c.put_bar.ensures in
-    adds_3 (rw c.lock_tone.ensures at c.number.ensures) bar c.put.ensures
+    adds_3 (rw c.tone_named.ensures at c.number.ensures) bar c.put.ensures

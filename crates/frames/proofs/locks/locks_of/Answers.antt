@@ -1,29 +1,16 @@
-use Rattle.std.proofs.Common.{◌∙◌, ◌≤◌, List, ap, arith, length, refl, sym}
-use Rattle.std.proofs.lemmas.List.{at_drop_all}
-use Rattle.task_sheet.specs.Sheet.{CriticalSection}
-use Rattle.frames.specs.Locks.{noted_rows, noted_sections}
-use Rattle.frames.proofs.Folds.{fold_more}
+use Rattle.std.proofs.Common.{List, [], ℕ, ap, arith, length}
+use Rattle.std.proofs.lemmas.Result.{IfOk-weaker}
+use Rattle.frames.specs.declared.tones.Toned.{Toned}
+use Rattle.frames.specs.declared.tones.TheConstants.{LOCK_TONES}
+use Rattle.frames.proofs.Tonings.{toned_count}
 use Rattle.frames.proofs.locks.locks_of.Goals as goal
 
-pub loop-row-preserved : goal.loop-row-preserved
-loop-row-preserved c =
-    let locks = c.loop-row.locks.items in
-    record {
-      noted = fold_more noted_rows (λ locks row. noted_sections locks row.sheet.sections)
-          (λ locks row rows. refl) c.args.rows.now c.loop-row.row-index c.row-item.result locks
-          c.note_sections.new.locks.items c.loop-row-test.true c.row-item.is
-          (c.in_ok-note_sections.ensures.noted
-          ∙ ap (λ (sections : List CriticalSection). noted_sections locks sections)
-          c.sections.ensures) ∙ c.loop-row.invariant.noted;
-      few = c.in_ok-note_sections.ensures.few;
-    }
-
-pub returns : goal.returns
-returns c =
-    let rows = c.args.rows.now in
-    let all : length rows ≤ c.loop-row.row-index = omega (arith, c.loop-row-test.false) in
-    record {
-      value = sym (at_drop_all (noted_rows c.loop-row.locks.items) rows c.loop-row.row-index all)
-          ∙ c.loop-row.invariant.noted;
-      few = c.loop-row.invariant.few;
-    }
+pub returns-clause-few : goal.returns-clause-few
+returns-clause-few c = IfOk-weaker c.tones_of.result _ _
+    (λ locks is. omega (
+      arith,
+      ap (λ (them : List Toned). length them) is,
+      toned_count LOCK_TONES [] c.deref.result.now,
+      ap (λ (names : List (List ℕ)). length names) c.deref.ensures.value,
+      c.in_ok-names.ensures.few,
+    )) c.tones_of.ensures

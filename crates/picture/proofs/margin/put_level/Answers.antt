@@ -5,4 +5,4 @@ pub returns : goal.returns
 returns c =
     let top = c.top_of-top.ensures.value in
     adds_5 (rw top at c.number.ensures) (rw c.level_of.ensures at c.number-2.ensures)
-    (rw c.tone_of.ensures at c.number-3.ensures) (rw top at c.number-4.ensures) c.put.ensures
+    c.number-3.ensures (rw top at c.number-4.ensures) c.put.ensures

@@ -6,5 +6,5 @@ returns c = rw (
   ← c.x_of-x.ensures.value,
   ← c.x_of.ensures.value,
   ← c.max-right.ensures,
-  ← c.tone_of.ensures,
+  ← c.tone_in.ensures,
 ) (adds_both (adds_both c.put_ink.ensures c.put_line.ensures) c.put_title.ensures)

@@ -11,5 +11,5 @@ row_of-requires c =
     let same = length-map bounds (λ (p : TaskBound). p.task) in
     let lt : k < length bounds = omega (arith, c.loop-i-test.true) in
     let within : k < length (tasks_of_bounds bounds) = omega (arith, lt, same) in
-    subst (λ task. task < length c.args.sheets.now)
+    subst (λ task. task < length c.args.set.now)
     (get_or-map (λ (p : TaskBound). p.task) bounds k _ 0 lt) (c.requires k 0 within)

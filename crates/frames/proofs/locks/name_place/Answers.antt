@@ -1,7 +1,7 @@
 use Rattle.std.proofs.Common.{◌∙◌, sym}
 use Rattle.task_sheet.specs.Sheet.{same_bytes}
 use Rattle.frames.proofs.Finds.{finds_none, finds_here, finds_later, finds_nowhere}
-use Rattle.frames.proofs.locks.lock_place.Goals as goal
+use Rattle.frames.proofs.locks.name_place.Goals as goal
 
 pub loop-k-init : goal.loop-k-init
 loop-k-init c = finds_none (λ n. same_bytes n c.args.name) c.args.locks.now
