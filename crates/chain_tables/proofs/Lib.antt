@@ -1,1 +1,3 @@
 pub mod TableLaws
+pub mod DocumentLaws
+pub mod TaskLaws

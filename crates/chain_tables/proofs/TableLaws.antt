@@ -32,15 +32,14 @@ tables_all h = (sym h.fault, sym (append-nil _) ∙ h.chains)
 
 -- one is refused
 pub table_fails : {whose : Whose} {all rest : List Members} {place : ℕ} {ms : Members}
-    {done : List WrittenData} {f : ChainCause → ChainFault} {e : ChainFault}
+    {done : List WrittenData} {e : ChainFault} (f : ChainCause → ChainFault)
     → AreReadTables whose all place (ms ∷ rest) done
     → option_map f (table_fault place ms) ≡ Some e
     → option_map f (tables_fault 1 all) ≡ Some e
-table_fails {rest = rest} {place = place} {ms = ms} {f = f} h fails =
+table_fails {rest = rest} {place = place} {ms = ms} {e = e} f h fails =
     ap (option_map f) (sym h.fault) ∙ by (table_fault place ms) (tables_fault (place + 1) rest) fails
   where
-    by : {f : ChainCause → ChainFault} {e : ChainFault} (o p : Option ChainCause)
-        → option_map f o ≡ Some e → option_map f (option_or o p) ≡ Some e
+    by : (o p : Option ChainCause) → option_map f o ≡ Some e → option_map f (option_or o p) ≡ Some e
     by None p is = cc
     by (Some cause) p is = is
 

@@ -1,5 +1,5 @@
 -- The chains of a set.
-use Rattle.std.specs.Prelude.{◌≡◌, ◌⊎◌, ℕ, nat_le, List, [], ◌∷◌, map, length, position, Option, Some, None, is_some, unwrap_or, option_map, Unit, Ok, Err, if◌then◌else◌}
+use Rattle.std.specs.Prelude.{◌≡◌, ◌⊎◌, ℕ, nat_le, List, [], ◌∷◌, map, length, position, Option, Some, None, is_some, unwrap_or, option_map, Ok, Err, if◌then◌else◌}
 use Rattle.std.specs.Option.{option_or}
 use Rattle.task_sheet.specs.Sheet.{Task, same_bytes}
 use Rattle.teams.specs.NodeDocument.{node_word}

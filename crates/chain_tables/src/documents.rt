@@ -1,9 +1,9 @@
 //! The chains of documents.
-ghost use Rattle.std.specs.Prelude.{◌≡◌, ◌≢◌, true, [], ◌++◌, map, None, Some, Ok, Err, IfOk, IfErr, OnOk, option_map};
+ghost use Rattle.std.specs.Prelude.{◌≡◌, ◌≢◌, true, List, [], ◌++◌, map, None, Some, Ok, Err, IfOk, IfErr, OnOk, option_map};
 ghost use Rattle.toml.specs.View.{items_view, table_view};
 ghost use Rattle.task_sheet.specs.Tree.{all_tables, tables_in};
 ghost use Rattle.teams.specs.ReadsText.{is_gathered};
-ghost use Rattle.chain_tables.specs.Tables.{chain_at, chains_in, document_fault, first_repeat, holder_of, names_fault, tables_fault};
+ghost use Rattle.chain_tables.specs.Tables.{WrittenData, chain_at, chains_in, document_fault, first_repeat, holder_of, names_fault, tables_fault};
 ghost use Rattle.chain_tables.specs.Documents.{IsFaulty, ReadsIf, ReadsTeams, ReadsThen, ReadsWritten, Says};
 
 use crate::fault::{ChainCause, ChainFault, Whose};
@@ -53,12 +53,12 @@ pub(crate) fn first_repeat(chains: &[Written]) -> Option<Repeat>
 // ---- documents
 
 // The chains of tables.
-fn read_tables(alloc: Global, whose: Whose, items: &[Value]) -> Result<Vec<Written>, ChainFault>
+fn read_tables(alloc: Global, whose: &Whose, items: &[Value]) -> Result<Vec<Written>, ChainFault>
     requires { all_tables (items_view items.now) ≡ true }
     ensures ok { IfOk result (λ ws. (tables_fault 1 (tables_in (items_view items.now)) ≡ None)
-        × (ws.items ≡ map (chain_at whose) (tables_in (items_view items.now)))) }
+        × (ws.items ≡ map (chain_at whose.now) (tables_in (items_view items.now)))) }
     ensures err { IfErr result (λ e. e ≢ ChainFault.OutOfMemory
-        → option_map (ChainFault.Document whose)
+        → option_map (ChainFault.Document whose.now)
         (tables_fault 1 (tables_in (items_view items.now))) ≡ Some e) }
 {
     let mut chains = Vec::new(alloc);
@@ -87,11 +87,11 @@ fn names_fault(chains: &[Written]) -> Option<ChainCause>
 }
 
 // The chains of a document's tree.
-fn read_tree(alloc: Global, whose: Whose, root: &Table) -> Result<Vec<Written>, ChainFault>
-    ensures ok { IfOk result (λ ws. (document_fault whose (table_view root.now) ≡ None)
-        × (ws.items ≡ chains_in whose (table_view root.now))) }
+fn read_tree(alloc: Global, whose: &Whose, root: &Table) -> Result<Vec<Written>, ChainFault>
+    ensures ok { IfOk result (λ ws. (document_fault whose.now (table_view root.now) ≡ None)
+        × (ws.items ≡ chains_in whose.now (table_view root.now))) }
     ensures err { IfErr result (λ e. e ≢ ChainFault.OutOfMemory
-        → option_map (ChainFault.Document whose) (document_fault whose (table_view root.now))
+        → option_map (ChainFault.Document whose.now) (document_fault whose.now (table_view root.now))
         ≡ Some e) }
 {
     let Some(items) = tables_at(Key::Chain, root) else {
@@ -100,14 +100,17 @@ fn read_tree(alloc: Global, whose: Whose, root: &Table) -> Result<Vec<Written>, 
     let chains = read_tables(alloc, whose, items)?;
     match names_fault(&chains) {
         None => Ok(chains),
-        Some(cause) => Err(ChainFault::Document { whose, cause }),
+        Some(cause) => {
+            let whose = *whose;
+            Err(ChainFault::Document { whose, cause })
+        }
     }
 }
 
 // The chains of a document; none where it is no document.
-fn read_document(alloc: Global, whose: Whose, text: &[u8]) -> Result<Vec<Written>, ChainFault>
-    ensures ok { IfOk result (λ ws. Says whose text.now ws.items) }
-    ensures err { IfErr result (λ e. e ≢ ChainFault.OutOfMemory → IsFaulty whose text.now e) }
+fn read_document(alloc: Global, whose: &Whose, text: &[u8]) -> Result<Vec<Written>, ChainFault>
+    ensures ok { IfOk result (λ ws. Says whose.now text.now ws.items) }
+    ensures err { IfErr result (λ e. e ≢ ChainFault.OutOfMemory → IsFaulty whose.now text.now e) }
 {
     match toml::table_from_slice(alloc, text) {
         Ok(root) => read_tree(alloc, whose, &root),
@@ -124,7 +127,7 @@ fn push_part(alloc: Global, chains: &mut Vec<Written>, part: &Part<'_>) -> Resul
         → IsFaulty (Whose.Team part.now.team) part.now.text.now e) }
 {
     let team = part.team;
-    let mut own = read_document(alloc, Whose::Team { team }, part.text)?;
+    let mut own = read_document(alloc, &Whose::Team { team }, part.text)?;
     chains.append(&mut own)?;
     Ok(())
 }
@@ -150,11 +153,11 @@ pub(crate) fn read_written(alloc: Global, text: &[u8]) -> Result<Vec<Written>, C
     ensures err { IfErr result (λ e. e ≢ ChainFault.OutOfMemory → ReadsWritten text.now (Err e)) }
 {
     if !is_gathered(text) {
-        return read_document(alloc, Whose::Alone, text);
+        return read_document(alloc, &Whose::Alone, text);
     }
     match node_part(text) {
         Some((node, rest)) => {
-            let own = read_document(alloc, Whose::Node, node)?;
+            let own = read_document(alloc, &Whose::Node, node)?;
             read_teams(alloc, own, rest)
         }
         None => read_teams(alloc, Vec::new(alloc), text),

@@ -1,4 +1,6 @@
 //! Why chains are none.
+ghost use Rattle.std.specs.Prelude.{◌≡◌};
+
 use std::alloc::{AllocError, AllocFailed};
 use task_sheet::{Key, Name};
 

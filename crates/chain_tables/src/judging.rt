@@ -1,5 +1,6 @@
 //! The chains of a set.
 ghost use Rattle.std.specs.Prelude.{◌≡◌, map, IfOk, MatchResult};
+ghost use Rattle.teams.specs.NodeDocument.{node_word};
 ghost use Rattle.chain_tables.specs.Chains.{HasChains, HasNoChains, chain_of, index_of, strange, strange_in, taken, team_word, written_fault};
 
 use crate::documents::{Repeat, first_repeat, read_written};

@@ -1,5 +1,5 @@
 //! A chain's table.
-ghost use Rattle.std.specs.Prelude.{◌≡◌, ◌≢◌, true, false, None, Some, IfOk, IfErr, MatchOption, is_some, option_map};
+ghost use Rattle.std.specs.Prelude.{◌≡◌, ◌≢◌, true, false, None, Some, IfOk, IfErr, MatchOption, MatchResult, is_some, option_map};
 ghost use Rattle.std.specs.List.{list_all};
 ghost use Rattle.toml.specs.View.{table_view};
 ghost use Rattle.task_sheet.specs.Name.{is_name};
@@ -153,13 +153,13 @@ fn lesser(one: Option<u64>, other: Option<u64>) -> Option<u64>
 // The chain that a table says, or the first fault of it.
 fn read_chain(
     alloc: Global,
-    whose: Whose,
+    whose: &Whose,
     chain: usize,
     table: &Table,
 ) -> Result<Result<Written, ChainCause>, AllocError>
     ensures { IfOk result (λ r. MatchResult r
         (λ w. (table_fault chain (table_view table.now) ≡ None)
-        × (w ≡ chain_at whose (table_view table.now)))
+        × (w ≡ chain_at whose.now (table_view table.now)))
         (λ cause. table_fault chain (table_view table.now) ≡ Some cause)) }
 {
     if let Some(cause) = keys_fault(chain, table) {
@@ -180,7 +180,7 @@ fn read_chain(
     }
     let limit = lesser(number_at(Key::Age, table), number_at(Key::Reaction, table));
     Ok(Ok(Written {
-        whose,
+        whose: *whose,
         name,
         tasks,
         limit,
@@ -190,17 +190,20 @@ fn read_chain(
 // The same, a fault with its document.
 pub(crate) fn read_table(
     alloc: Global,
-    whose: Whose,
+    whose: &Whose,
     chain: usize,
     table: &Table,
 ) -> Result<Written, ChainFault>
     ensures ok { IfOk result (λ w. (table_fault chain (table_view table.now) ≡ None)
-        × (w ≡ chain_at whose (table_view table.now))) }
+        × (w ≡ chain_at whose.now (table_view table.now))) }
     ensures err { IfErr result (λ e. e ≢ ChainFault.OutOfMemory
-        → option_map (ChainFault.Document whose) (table_fault chain (table_view table.now)) ≡ Some e) }
+        → option_map (ChainFault.Document whose.now) (table_fault chain (table_view table.now)) ≡ Some e) }
 {
     match read_chain(alloc, whose, chain, table)? {
         Ok(written) => Ok(written),
-        Err(cause) => Err(ChainFault::Document { whose, cause }),
+        Err(cause) => {
+            let whose = *whose;
+            Err(ChainFault::Document { whose, cause })
+        }
     }
 }

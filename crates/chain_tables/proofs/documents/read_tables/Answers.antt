@@ -3,6 +3,7 @@ use Rattle.std.proofs.Common.{refl}
 use Rattle.std.proofs.Math.ListN.{drop_of_length-le}
 use Rattle.std.proofs.lemmas.Bool.{false≢true}
 use Rattle.task_sheet.proofs.TreeLaws.{at_exit, table_step}
+use Rattle.chain_tables.specs.declared.fault.ChainFault.TheVariants.{Document}
 use Rattle.chain_tables.proofs.TableLaws.{table_fails, tables_all, tables_more}
 use Rattle.chain_tables.proofs.documents.read_tables.Goals as goal
 use Rattle.chain_tables.proofs.documents.read_tables.Goals.{in-Some+in_ok-chain+in_ok-push, in_default}
@@ -26,7 +27,7 @@ returns-in_err-chain-clause-err c =
     let next = table_step c.args.items.now c.loop-i.i c.index-items-i.result c.loop-i-test.true
     c.index-items-i.is c.loop-i.invariant.tables in
     at_exit _ c.from_residual.result c.from_residual.ensures.1
-    (λ e same other. rw same (table_fails
+    (λ e same other. rw same (table_fails (Document c.args.whose.now)
     (rw (next.2, ← c.in-Some.ensures) at c.loop-i.invariant.read)
     (c.in_err-chain.ensures.err (rw same at other))))
 
