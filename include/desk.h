@@ -36,7 +36,7 @@ extern "C" {
 enum {
     DESK_DONE = 0,
     DESK_BAD_ARGUMENTS = 2,   /* desk_tell alone: no command has the number */
-    DESK_INFEASIBLE = 3,      /* no order passes, or the one that was given does not; a promise is broken */
+    DESK_INFEASIBLE = 3,      /* no order passes, or the one that was given does not; a chain is late, a promise broken */
     DESK_BAD_INPUT = 4,       /* an input was refused */
     DESK_BAD_CERTIFICATE = 5, /* a certificate was refused */
     DESK_OUT_OF_MEMORY = 6,

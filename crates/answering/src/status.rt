@@ -11,7 +11,7 @@ pub enum Status {
     Done,
     /// The words of the command line were refused.
     BadArguments,
-    /// No order of the set passes, or the one that was given doesn't.
+    /// No order of the set passes, or the one that was given doesn't, or a chain in it misses its limit.
     Infeasible,
     /// An input was refused.
     BadInput,
