@@ -263,6 +263,27 @@ A lock of two names is one; what mends a set is told of whoever says it, and wha
   team base (bob or root), teams/base.toml: roll section 1 len = 2000, now 3500
   or all teams together: each cost, section and interrupt at most 769 thousandths of what it is
 
+What the node takes past a task's own numbers, and chains, of which each says whose it is:
+
+  $ node '[node]\njob = 4000\n'
+  arm.toml: line 1, task 1 (arm): with job and lock of [node] the cost is past the period: cost 1500, job 4000 and 1 times lock 0 make 5500, period 5000
+  refused: PaddedCost arm
+  arm of team arm (ann or root) has to have less cost, or teams/node.toml to say less of what the node takes
+  refused: COMMIT "node"
+  $ fresh cy && printf '[[chain]]\nname = "see"\ntasks = ["pan", "tilt"]\n' >> cy/teams/cam.toml && save cy 'a chain' && push cy
+  chain see: the set has no task tilt; a chain's tasks are names of tasks, of any team
+  refused: ChainTask see tilt
+  no team has a task tilt: the chain see of team cam (yours) has to have another one
+  refused: COMMIT "a chain"
+  $ fresh cy && printf '[[chain]]\nname = "see"\ntasks = ["pan", "arm"]\n' >> cy/teams/cam.toml && save cy 'a chain' && push cy | head -n 1
+  admitted 4
+  $ fresh ann && printf '[[chain]]\nname = "see"\ntasks = ["arm"]\n' >> ann/teams/arm.toml && save ann 'a chain' && push ann
+  cam.toml: see is the name of a chain of arm.toml, too; give one of them another name
+  refused: TakenChain cam see arm
+  team cam (cy or root) or team arm (yours) has to call its chain see by another name
+  refused: COMMIT "a chain"
+  $ fresh cy && sed -i '$a age = 100' cy/teams/cam.toml && save cy 'too short' && push cy
+
 What the server fails in is told as that:
 
   $ fresh cy && git -C cy commit -q --allow-empty -m 'once more'; printf 'bob: base\n' >> node.git/desk-teams && push cy
