@@ -1,5 +1,5 @@
 -- What is answered of the documents of teams behind the node's.
-use Rattle.std.proofs.Common.{◌≡◌, ◌≢◌, ℕ, Bool, true, List, Result, Ok, Err, IfErr, sym, subst}
+use Rattle.std.proofs.Common.{◌≡◌, ◌≢◌, ℕ, Bool, true, List, Result, Ok, Err, IfErr, inl, sym, subst}
 use Rattle.teams.specs.Gathering.{IsNodePart}
 use Rattle.teams.specs.ReadsText.{is_gathered}
 use Rattle.chain_tables.specs.Tables.{WrittenData}

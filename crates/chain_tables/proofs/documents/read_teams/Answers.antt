@@ -1,4 +1,4 @@
-use Rattle.std.proofs.Common.{[], ◌∷◌, Err, List, refl, subst}
+use Rattle.std.proofs.Common.{[], ◌∷◌, Err, List, inl, inr, refl, subst}
 use Rattle.task_sheet.proofs.TreeLaws.{at_exit}
 use Rattle.chain_tables.specs.Tables.{WrittenData}
 use Rattle.chain_tables.specs.Documents.{ReadsParts}
