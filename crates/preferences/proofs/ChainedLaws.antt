@@ -28,7 +28,7 @@ asked_by asking text d U choice reads call own is tells (Ok a) (set, chooses, ha
   subst (λ (V : List Task). TellsDoubt asking text d.prefers V None) (sym set) tells,
   subst (λ (V : List Task). HasChains text V a.chains.items) (sym set) has,
 )
-asked_by asking text d U choice reads call own is tells (Err (Text OutOfMemory)) no = tt
-asked_by asking text d U choice reads call own is tells (Err (Chain fault)) no =
-    (d, U, reads, is, tells, no)
-asked_by asking text d U choice reads call own is tells (Err _) no = absurd no
+asked_by asking text d U choice reads call own is tells (Err (Text OutOfMemory)) refused = tt
+asked_by asking text d U choice reads call own is tells (Err (Chain fault)) refused =
+    (d, U, reads, is, tells, refused)
+asked_by asking text d U choice reads call own is tells (Err _) refused = absurd refused

@@ -1,4 +1,5 @@
-use Rattle.std.proofs.Common.{◌∙◌, sym}
+use Rattle.std.proofs.Common.{◌∙◌, None, sym}
+use Rattle.preferences.specs.ReadsAsked.{TellsDoubt}
 use Rattle.preferences.proofs.ChainedLaws.{asked_by}
 use Rattle.preferences.proofs.ToldLaws.{told_as}
 use Rattle.preferences.proofs.asking.read_asked.Goals as goal
@@ -6,7 +7,7 @@ use Rattle.preferences.proofs.asking.read_asked.Goals as goal
 pub returns-in-None : goal.returns-in-None
 returns-in-None c =
     let read = c.in-Ok.ensures in
-    let tells = (
+    let tells : TellsDoubt c.args.asking c.args.text.now read.0.prefers c.in-Ok.read.set None = (
       c.in-Ok-is_told.is_told,
       c.in-Ok-is_told.ensures,
       told_as c.in-Ok-is_told.is_told _ _ _ _ c.in-Ok.read.set _ read.2 read.3
