@@ -13,9 +13,13 @@ use Rattle.set_commands.specs.declared.chained.Placed.{Placed}
 use Rattle.answering.specs.declared.status.Status.{Status}
 use Rattle.answering.specs.declared.status.Status.TheVariants as status
 
--- the levels of an order's places: each task with its response
+-- the level of a place: its task with its response
+abbrev pub level_at : PlaceData → Level
+level_at p = record { task = p.task; response = Some p.response }
+
+-- the levels of an order's places
 abbrev pub levels_at : List PlaceData → List Level
-levels_at places = map (λ p. record { task = p.task; response = Some p.response }) places
+levels_at places = map level_at places
 
 -- those of the order of a placing; none where no order passes
 abbrev pub levels_of : Placing → List Level

@@ -1,6 +1,6 @@
 //! The chains of a set in its best order.
 ghost use Rattle.std.specs.Prelude.{◌≡◌, IfOk, string_bytes};
-ghost use Rattle.set_commands.specs.Chained.{IsPlaced, chained_said, chained_status, levels_at, levels_of, met_status};
+ghost use Rattle.set_commands.specs.Chained.{IsPlaced, chained_said, chained_status, level_at, levels_at, levels_of, met_status};
 
 use answering::Status;
 use assignment::{Place, Placing};
@@ -22,14 +22,23 @@ pub struct Placed {
     pub levels: Vec<Level>,
 }
 
+// The level of a place.
+fn level_at(place: &Place) -> Level
+    ensures { result ≡ level_at place.now }
+{
+    Level {
+        task: place.task,
+        response: Some(place.response),
+    }
+}
+
 // The levels of places.
 fn levels_at(alloc: Global, places: &[Place]) -> Result<Vec<Level>, AllocError>
     ensures { IfOk result (λ levels. levels.items ≡ levels_at places.now) }
 {
     let mut levels = Vec::with_capacity(alloc, places.len())?;
     for place in places {
-        let (task, response) = (place.task, Some(place.response));
-        levels.push(Level { task, response })?;
+        levels.push(level_at(place))?;
     }
     Ok(levels)
 }

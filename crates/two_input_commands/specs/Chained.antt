@@ -19,9 +19,13 @@ response_judged (Meets response) = Some response
 response_judged (Misses needs) = None
 response_judged (Below other) = None
 
--- the levels of an order that was judged
+-- the level of a task that was judged
+abbrev pub level_judged : JudgedTask → Level
+level_judged j = record { task = j.task; response = response_judged j.judgement }
+
+-- the levels of an order
 abbrev pub levels_judged : List JudgedTask → List Level
-levels_judged judged = map (λ j. record { task = j.task; response = response_judged j.judgement }) judged
+levels_judged judged = map level_judged judged
 
 -- these are the lines of chains in that order, and whether the bound of each is within its limit
 pub record AreTold (telling : Telling) (U : List Task) (chains : List ChainData)

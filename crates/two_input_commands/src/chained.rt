@@ -1,6 +1,6 @@
 //! The chains of a set in an order that settings give.
 ghost use Rattle.std.specs.Prelude.{◌≡◌, IfOk};
-ghost use Rattle.two_input_commands.specs.Chained.{AreTold, chained_status, levels_judged, response_judged};
+ghost use Rattle.two_input_commands.specs.Chained.{AreTold, chained_status, level_judged, levels_judged, response_judged};
 
 use answering::Status;
 use chain_lines::{Telling, all_met, chains_text};
@@ -28,14 +28,23 @@ fn response_judged(judgement: Judgement) -> Option<u64>
     }
 }
 
+// The level of a task that was judged.
+fn level_judged(entry: JudgedTask) -> Level
+    ensures { result ≡ level_judged entry }
+{
+    Level {
+        task: entry.task,
+        response: response_judged(entry.judgement),
+    }
+}
+
 // The levels of an order that was judged.
 fn levels_judged(alloc: Global, judged: &[JudgedTask]) -> Result<Vec<Level>, AllocError>
     ensures { IfOk result (λ levels. levels.items ≡ levels_judged judged.now) }
 {
     let mut levels = Vec::with_capacity(alloc, judged.len())?;
     for entry in judged {
-        let (task, response) = (entry.task, response_judged(entry.judgement));
-        levels.push(Level { task, response })?;
+        levels.push(level_judged(*entry))?;
     }
     Ok(levels)
 }

@@ -9,7 +9,8 @@ use Rattle.set_commands.proofs.one_task.say_task.Goals as goal
 pub returns-in-Some : goal.returns-in-Some
 returns-in-Some g c =
     let named = sym c.find_task.ensures.found ∙ c.in-Some.is in
-    made_said c.task_text.result (λ t. t.items) _ c.task_text.ensures c.print_bytes.ensures
+    made_said c.task_text.result (λ t. t.items) _ (rw c.deref.ensures.value at c.task_text.ensures)
+    c.print_bytes.ensures
     (λ text found wrote is. λ asking known has said. (
       Ok (record {
         set = c.args.placed.now.tasks;

@@ -1,0 +1,20 @@
+use Rattle.std.proofs.Common.{◌∙◌, Ok, Err}
+use Rattle.answering.specs.declared.refusal.CommandRefusal.TheVariants as refusal
+use Rattle.answering.proofs.CarriedOut.{made_said}
+use Rattle.set_commands.proofs.admit.say_admitted.Goals as goal
+
+-- out of memory for the lines is an answer of its own
+pub returns : goal.returns
+returns g c =
+    made_said c.admitted_text.result (λ t. t.items) _ c.admitted_text.ensures c.print_bytes.ensures
+    (λ text lines wrote is. λ asking known has said. (
+      Ok (record {
+        set = c.args.placed.now.tasks;
+        chains = c.args.placed.now.chains.items;
+        placing = c.args.placed.now.placing;
+      }),
+      ((has.0, has.1, has.2.set), said, c.requires.placing),
+      rw lines at wrote,
+      is ∙ c.chained_status-status.ensures,
+    ))
+    (λ wrote is. λ asking known has said. (Err refusal.OutOfMemory, tt, wrote, is))
