@@ -1,4 +1,4 @@
-use Rattle.std.proofs.Common.{◌≡◌, ◌∙◌, ◌++◌, ◌==◌, ◌&&◌, ℕ, Bool, List, length, sym, ap, subst}
+use Rattle.std.proofs.Common.{◌≡◌, ◌∙◌, ◌++◌, ◌==◌, ◌&&◌, ℕ, Bool, List, length, ap, subst}
 use Rattle.std.proofs.Common.{string_bytes}
 use Rattle.limit_lines.proofs.LineLaws.{given_orders}
 use Rattle.set_commands.specs.Limits.{alone_line}

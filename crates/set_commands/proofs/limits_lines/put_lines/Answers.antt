@@ -1,5 +1,5 @@
 use Rattle.std.proofs.Common.{◌≡◌, ◌∙◌, ◌++◌, ◌==◌, ◌&&◌, ℕ, Bool, List, [], length, add-one}
-use Rattle.std.proofs.Common.{refl, sym, ap, subst, arith, append_assoc, append-nil, string_bytes}
+use Rattle.std.proofs.Common.{refl, sym, subst, arith, append_assoc, append-nil, string_bytes}
 use Rattle.std.specs.Io.KnownBytes.{Appends, append_known}
 use Rattle.std.proofs.KnownBytes.{Appends-trans}
 use Rattle.limit_lines.specs.Lines.{order_given, places_in}
