@@ -32,7 +32,7 @@ Why a job waits, for a task above or for one below that blocks it by a lock:
 
 Both waits for one section end at one instant, from which a link goes down to the bar of the task that held it:
 
-  $ desk draw examples/shared-lock.toml examples/shared-lock.releases | grep -c 'class="wj d0"'
+  $ desk draw examples/shared-lock.toml examples/shared-lock.releases | grep -c 'class="wj d1"'
   2
 
 The pictures of README.md and docs/FORMATS.md are those of the commands beside them:
@@ -103,20 +103,21 @@ Where nothing of the run lies in it:
   refused: EmptyWindow
   [4]
 
-Without a word only tasks of the list have rows; `all` gives one to each, with its level and tone as ever:
+Without a word only tasks of the list have rows; `all` gives one to each, with its level and tone as ever. A tone goes by the
+name: where hi and lo would have one, lo, which stands behind hi by its bytes, has the next that is free:
 
   $ rows() { sed -nE 's/.*class="v"[^>]*>([0-9]+)<.text><rect class="(f[0-9])".*/\1 \2/p; s/.*<title>done: .*<.title>(.*)<.text>/\1/p' | paste -sd ' '; }
   $ printf 'until 3000\n0 lo\n' | desk draw examples/shared-lock.toml - | rows
-  1 f2 lo
+  1 f0 lo
   $ printf 'until 3000\n0 lo\n' | desk draw examples/shared-lock.toml - --tasks all | rows
-  3 f0 hi 2 f1 mid 1 f2 lo
+  3 f9 hi 2 f3 mid 1 f0 lo
   $ wide --tasks all | cmp - run.svg
   $ echo 'until 3000' | desk draw examples/shared-lock.toml - | rows
   
   $ printf "task = [\n{ name = 'all', period = 9000, deadline = 9000, cost = 1000 },\n{ name = 'b', period = 9000, deadline = 9000, cost = 1000 },\n]\n" > all.toml
   $ for some in all all,all; do echo 'until 9000' | desk draw all.toml - --tasks $some | rows; done
-  2 f0 b 1 f1 all
-  1 f1 all
+  2 f8 b 1 f2 all
+  1 f2 all
 
 The worst case of a deadline that is missed has its tasks alone, and goes on until that job is done, so that it shows how late:
 
@@ -127,19 +128,19 @@ The worst case of a deadline that is missed has its tasks alone, and goes on unt
   101 motor
   $ desk worst examples/robot.toml | desk draw examples/robot.toml - > run.svg
   $ rows < run.svg
-  9 f0 motor 3 f6 battery
+  9 f4 motor 3 f8 battery
   $ grep -o 'missed: .*<' run.svg
   missed: 1<
   missed: 1, 49 us late<
   $ desk worst examples/robot.toml | desk draw examples/robot.toml - --tasks all | rows
-  9 f0 motor 8 f1 imu 7 f2 balance 6 f3 lidar 5 f4 camera 4 f5 planner 3 f6 battery 2 f7 diagnostics 1 f8 upload
+  9 f4 motor 8 f0 imu 7 f6 balance 6 f3 lidar 5 f2 camera 4 f9 planner 3 f8 battery 2 f7 diagnostics 1 f5 upload
 
 Rows that are chosen keep their order, their levels and their tones; the lane stays whole, and the link needs both rows:
 
   $ wide --tasks lo,hi > run.svg
   $ grep -o '<text class="v".*class="f[0-9]"' run.svg
-  <text class="v" x="300" y="1920">3</text><rect class="f0"
-  <text class="v" x="300" y="2400">1</text><rect class="f2"
+  <text class="v" x="300" y="1920">3</text><rect class="f9"
+  <text class="v" x="300" y="2400">1</text><rect class="f0"
   $ lane run.svg
   4
   $ slices run.svg
@@ -328,14 +329,86 @@ The names of several locks stand below the bar, and one name on its stripe; wait
 
 A stripe isn't wider than its lock is held, and the last number of the scale stays in the picture:
 
-  $ printf 'until 10000000\n0 hi\n' | desk draw examples/shared-lock.toml - | grep -oE '^<path class="(e f0|h|k0)" d="M1960 18[^"]*"'
-  <path class="e f0" d="M1960 1855H1965v180H1960z"
+  $ printf 'until 10000000\n0 hi\n' | desk draw examples/shared-lock.toml - | grep -oE '^<path class="(e f9|h|k1)" d="M1960 18[^"]*"'
+  <path class="e f9" d="M1960 1855H1965v180H1960z"
   <path class="h" d="M1960 1855H1961v180H1960z"
-  <path class="k0" d="M1960 1855H1961v180H1960z"
+  <path class="k1" d="M1960 1855H1961v180H1960z"
   $ printf 'until 60000000\n0 hi\n' | desk draw examples/shared-lock.toml - --from 59000000 --to 59003000 | sed -nE 's/.*x="([0-9]*)" y="1200">(.*)<.text>/\1 \2/p' | tail -n 3
   8188 59002500
   9310 59003000
   500 time in us
+
+What timers and interrupts take of a bound is hatched, behind where a run can end, with how long that is, and the legend says
+so; also of a band. Without them it doesn't:
+
+  $ cat > timed.toml << END
+  > [[interrupt]]
+  > period = 5000
+  > cost = 200
+  > [[task]]
+  > name = "a"
+  > period = 20000
+  > deadline = 10000
+  > cost = 1000
+  > END
+  $ desk admit timed.toml
+  admitted 1
+  1 a 1200
+  $ unrun() { sed -nE 's/.*class="wt" d="(M[^"]*)"><title>(timers [^<]*)<.*/\1 \2/p; s/.*>(timers and interrupts, not in this run)<.text>/\1/p'; }
+  $ printf 'until 3720\n0 a\n' | desk draw timed.toml - 2> note | unrun
+  timers and interrupts, not in this run
+  M3992 1855H4389v180H3992z timers and interrupts, not in this run: 200 us
+  $ printf 'until 3720\n0 a\n' | desk draw timed.toml - --to 1000 2> note | unrun
+  timers and interrupts, not in this run
+  $ printf 'until 10000000\n0 a\n20000 a\n' | desk draw timed.toml - 2> note | unrun
+  timers and interrupts, not in this run
+  M1989 1855H1994v180H1989z timers and interrupts, not in this run: 200 us
+  $ desk draw examples/shared-lock.toml examples/shared-lock.releases | unrun
+
+The same tasks and locks keep their tones in a set with other numbers, another order and other tasks:
+
+  $ tones() { grep -oE '<rect class="f[0-9]"|</title>[a-z]+<' | paste - - | sed -E 's/.*(f[0-9]).*>([a-z]+)</\2 \1/' | sort; }
+  $ echo 'until 9000' > none.releases
+  $ desk worst examples/robot.toml | desk draw examples/robot.toml - --tasks all | tones > before
+  $ wc -l < before
+  9
+  $ desk draw examples/robot-mended.toml none.releases --tasks all | tones | cmp - before
+  $ sed 's/period = 25000/period = 90000/' examples/robot-mended.toml | desk draw - none.releases --tasks all | tones | cmp - before
+  $ { cat examples/robot-mended.toml; printf '[[task]]\nname = "zzz"\nperiod = 900000\ndeadline = 900000\ncost = 1\n'; } > more.toml
+  $ desk draw more.toml none.releases --tasks all | tones | grep -v zzz | cmp - before
+
+Of more than ten tasks some have one tone, as a and k, but no row has that of the one above it:
+
+  $ for name in a b c d e f g h i j k o; do printf '[[task]]\nname = "%s"\nperiod = 90000\ndeadline = 90000\ncost = 1\n' $name; done > twelve.toml
+  $ desk draw twelve.toml none.releases --tasks all | rows
+  12 f1 o 11 f7 k 10 f6 j 9 f5 i 8 f4 h 7 f3 g 6 f2 f 5 f1 e 4 f0 d 3 f9 c 2 f8 b 1 f7 a
+  $ desk draw twelve.toml none.releases --tasks a,k | rows
+  11 f7 k 1 f8 a
+
+The legend has the locks that are held in what is drawn, by their names, and no others; twelve of one task are all different:
+
+  $ legend() { sed -nE 's/.*class="(k[0-9]+)".*class="c"[^>]*>(.*)<.text>/\1 \2/p' | paste -sd ' '; }
+  $ desk draw examples/shared-lock.toml examples/shared-lock.releases | legend
+  k1 m
+  $ desk draw examples/shared-lock.toml examples/shared-lock.releases --from 6000 | legend
+  
+  $ desk draw examples/shared-lock.toml examples/shared-lock.releases --tasks mid | legend
+  
+  $ { printf '[[task]]\nname = "a"\nperiod = 90000\ndeadline = 90000\ncost = 9000\nsection = [\n'; for i in 0 1 2; do printf "{ locks = ['l%s', 'm%s', 'n%s', 'o%s'], at = %s, len = 500 },\n" $i $i $i $i $((i * 1000)); done; echo ']'; } > locks.toml
+  $ printf 'until 9000\n0 a\n' | desk draw locks.toml - 2> note | legend
+  k12 l0 k13 l1 k14 l2 k7 m0 k8 m1 k9 m2 k2 n0 k3 n1 k4 n2 k33 o0 k34 o1 k35 o2
+
+On paper it is as wide as that is across, and unless a width is said so many pixels that its least type, of 10.5, is 6 points
+high:
+
+  $ wide --print 4 | sed -n 2p
+  <svg xmlns="http://www.w3.org/2000/svg" version="1.1" width="297mm" height="73mm" viewBox="0 0 14700 3600">
+  $ wide --print 3 | sed -n 2p
+  <svg xmlns="http://www.w3.org/2000/svg" version="1.1" width="420mm" height="73mm" viewBox="0 0 20800 3600">
+  $ wide --print 3 --width 960 | sed -n 2p
+  <svg xmlns="http://www.w3.org/2000/svg" version="1.1" width="420mm" height="158mm" viewBox="0 0 9600 3600">
+  $ wide --print 2 2> note
+  [2]
 
 What it draws stands alone:
 

@@ -669,24 +669,24 @@ second job isn't done at the end:
   <g id="n">
   <text x="500" y="1200">time in us</text>
   <text class="n" x="500" y="1460">processor</text><text x="500" y="1580">busy 88.4 %</text>
-  <text class="v" x="300" y="1920">2</text><rect class="f0" x="350" y="1820" width="100" height="100" rx="20"/>
+  <text class="v" x="300" y="1920">2</text><rect class="f7" x="350" y="1820" width="100" height="100" rx="20"/>
   <text class="n" x="500" y="1920"><title>done: 1, greatest response: 450, bound: 550 us</title>a</text>
   <text x="500" y="2045">bound 550 of 900 us</text>
-  <text class="v" x="300" y="2400">1</text><rect class="f1" x="350" y="2300" width="100" height="100" rx="20"/>
+  <text class="v" x="300" y="2400">1</text><rect class="f8" x="350" y="2300" width="100" height="100" rx="20"/>
   <text class="n" x="500" y="2400"><title>done: 1, greatest response: 900, bound: 900 us</title>b</text>
   <text x="500" y="2525">bound 900 of 2000 us</text>
   </g>
   <g id="k">
   <text x="100" y="2898">holds a lock:</text>
-  <path class="k0" d="M900 2770H1100v180H900z"/><text class="c" x="1150" y="2898">m</text>
+  <path class="k1" d="M900 2770H1100v180H900z"/><text class="c" x="1150" y="2898">m</text>
   </g>
-  <path class="f1 o" d="M1960 1350H3104v220H1960z"><title>b executes 0 to 200 us</title></path>
+  <path class="f8 o" d="M1960 1350H3104v220H1960z"><title>b executes 0 to 200 us</title></path>
   <text class="u" x="2532" y="1498">b</text>
-  <path class="f0 o" d="M3104 1350H4821v220H3104z"><title>a executes 200 to 500 us</title></path>
+  <path class="f7 o" d="M3104 1350H4821v220H3104z"><title>a executes 200 to 500 us</title></path>
   <text class="u" x="3962" y="1498">a</text>
-  <path class="f1 o" d="M4821 1350H7110v220H4821z"><title>b executes 500 to 900 us</title></path>
+  <path class="f8 o" d="M4821 1350H7110v220H4821z"><title>b executes 500 to 900 us</title></path>
   <text class="u" x="5965" y="1498">b</text>
-  <path class="f0 o" d="M7969 1350H9400v220H7969z"><title>a executes 1050 to 1300 us</title></path>
+  <path class="f7 o" d="M7969 1350H9400v220H7969z"><title>a executes 1050 to 1300 us</title></path>
   <text class="u" x="8684" y="1498">a</text>
   <path class="w" d="M1960 2335H7110v180H1960z"><title>b: arrival 0, done 900, response 900, bound 900, deadline 2000 us</title></path>
   <path class="w" d="M2246 1855H5393v180H2246z"><title>a: arrival 50, done 500, response 450, bound 550, deadline 900 us</title></path>
@@ -707,23 +707,23 @@ second job isn't done at the end:
   <path class="d" d="
   M7396 1750v100m0 0l-35-50h70z
   "/>
-  <path class="wa i0" d="M3104 2425H4821"><title>b waits for a 200 to 500 us</title></path>
+  <path class="wa i7" d="M3104 2425H4821"><title>b waits for a 200 to 500 us</title></path>
   <text class="wl" x="3962" y="2375">a</text>
-  <path class="wb d0" d="M2562 1945H3074"><title>a is blocked by b with m 100 to 200 us</title></path>
-  <path class="wj d0" d="M3104 1945V2335"/>
+  <path class="wb d1" d="M2562 1945H3074"><title>a is blocked by b with m 100 to 200 us</title></path>
+  <path class="wj d1" d="M3104 1945V2335"/>
   <text class="wl" x="2818" y="1895">b</text>
-  <path class="e f1" d="M1960 2335H3104v180H1960z"><title>b 0 to 200 us</title></path>
+  <path class="e f8" d="M1960 2335H3104v180H1960z"><title>b 0 to 200 us</title></path>
   <path class="h" d="M1960 2335H3104v180H1960z"><title>b holds m 0 to 200 us</title></path>
-  <path class="k0" d="M1960 2335H3104v180H1960z"/>
+  <path class="k1" d="M1960 2335H3104v180H1960z"/>
   <text class="k" x="2532" y="2463"> m</text>
-  <path class="e f0" d="M3104 1855H4821v180H3104z"><title>a 200 to 500 us</title></path>
+  <path class="e f7" d="M3104 1855H4821v180H3104z"><title>a 200 to 500 us</title></path>
   <path class="h" d="M3676 1855H4249v180H3676z"><title>a holds m 300 to 400 us</title></path>
-  <path class="k0" d="M3676 1855H4249v180H3676z"/>
+  <path class="k1" d="M3676 1855H4249v180H3676z"/>
   <text class="k" x="3962" y="1983"> m</text>
-  <path class="e f1" d="M4821 2335H7110v180H4821z"><title>b 500 to 900 us</title></path>
-  <path class="e f0" d="M7969 1855H9400v180H7969z"><title>a 1050 to 1300 us</title></path>
+  <path class="e f8" d="M4821 2335H7110v180H4821z"><title>b 500 to 900 us</title></path>
+  <path class="e f7" d="M7969 1855H9400v180H7969z"><title>a 1050 to 1300 us</title></path>
   <path class="h" d="M8541 1855H9113v180H8541z"><title>a holds m 1150 to 1250 us</title></path>
-  <path class="k0" d="M8541 1855H9113v180H8541z"/>
+  <path class="k1" d="M8541 1855H9113v180H8541z"/>
   <text class="k" x="8827" y="1983"> m</text>
   </svg>
 
@@ -750,21 +750,21 @@ a below b misses its deadline:
   <g id="n">
   <text x="500" y="1200">time in us</text>
   <text class="n" x="500" y="1460">processor</text><text x="500" y="1580">busy 92.0 %</text>
-  <text class="v" x="300" y="1920">2</text><rect class="f0" x="350" y="1820" width="100" height="100" rx="20"/>
+  <text class="v" x="300" y="1920">2</text><rect class="f8" x="350" y="1820" width="100" height="100" rx="20"/>
   <text class="n" x="500" y="1920"><title>done: 1, greatest response: 600, bound: 600 us</title>b</text>
   <text x="500" y="2045">bound 600 of 2000 us</text>
-  <text class="v" x="300" y="2400">1</text><rect class="f1" x="350" y="2300" width="100" height="100" rx="20"/>
+  <text class="v" x="300" y="2400">1</text><rect class="f7" x="350" y="2300" width="100" height="100" rx="20"/>
   <text class="n q" x="500" y="2400"><title>done: 1, greatest response: 900, bound: - us</title>a</text>
   <text x="500" y="2525">deadline 500 us</text>
   <text class="qn" x="500" y="2630">missed: 1, 400 us late</text>
   </g>
   <g id="k">
   </g>
-  <path class="f0 o" d="M1960 1350H5531v220H1960z"><title>b executes 0 to 600 us</title></path>
+  <path class="f8 o" d="M1960 1350H5531v220H1960z"><title>b executes 0 to 600 us</title></path>
   <text class="u" x="3745" y="1498">b</text>
-  <path class="f1 o" d="M5531 1350H7316v220H5531z"><title>a executes 600 to 900 us</title></path>
+  <path class="f7 o" d="M5531 1350H7316v220H5531z"><title>a executes 600 to 900 us</title></path>
   <text class="u" x="6423" y="1498">a</text>
-  <path class="f1 o" d="M7912 1350H9400v220H7912z"><title>a executes 1000 to 1250 us</title></path>
+  <path class="f7 o" d="M7912 1350H9400v220H7912z"><title>a executes 1000 to 1250 us</title></path>
   <text class="u" x="8656" y="1498">a</text>
   <path class="w" d="M1960 2335H4936v180H1960z"><title>a: arrival 0, done 900, response 900, bound -, deadline 500 us</title></path>
   <path class="w" d="M1960 1855H5531v180H1960z"><title>b: arrival 0, done 600, response 600, bound 600, deadline 2000 us</title></path>
@@ -785,11 +785,11 @@ a below b misses its deadline:
   "/>
   <path class="z" d="M4936 2315H7316v220H4936z"><title>a: arrival 0, done 900, response 900, deadline 500 us missed</title></path>
   <path class="x" d="M4936 2255h1"/><path class="y" d="M4936 2255m-38-38l76 76m0-76l-76 76"/>
-  <path class="wa i0" d="M1960 2425H5531"><title>a waits for b 0 to 600 us</title></path>
+  <path class="wa i8" d="M1960 2425H5531"><title>a waits for b 0 to 600 us</title></path>
   <text class="wl" x="3745" y="2375">b</text>
-  <path class="e f0" d="M1960 1855H5531v180H1960z"><title>b 0 to 600 us</title></path>
-  <path class="e f1" d="M5531 2335H7316v180H5531z"><title>a 600 to 900 us</title></path>
-  <path class="e f1" d="M7912 2335H9400v180H7912z"><title>a 1000 to 1250 us</title></path>
+  <path class="e f8" d="M1960 1855H5531v180H1960z"><title>b 0 to 600 us</title></path>
+  <path class="e f7" d="M5531 2335H7316v180H5531z"><title>a 600 to 900 us</title></path>
+  <path class="e f7" d="M7912 2335H9400v180H7912z"><title>a 1000 to 1250 us</title></path>
   </svg>
 
 No task, and no time:

@@ -17,7 +17,7 @@ const drawn = () => browser.run(() => {
 const both = () => browser.run(() => ['traced', 'arrivals'].map(id => {
   const host = document.getElementById(id), all = host.shadowRoot;
   const looks = ['.p', '.g', '.l', '.w', '.a', '.b', '.x', '.y', '.n', '.v', '.s', '.t', '.f0',
-    '.f1', '.f2'].map(it => {
+    '.f3', '.f9'].map(it => {
     const { fill, stroke, strokeWidth, fontSize } = getComputedStyle(all.querySelector(it));
     // (the title of what is broken is red)
     return it === '.t' ? fontSize : [fill, stroke, strokeWidth, fontSize].join(' ');

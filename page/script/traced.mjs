@@ -75,24 +75,50 @@ function box(kind, start, stop, top, high, title) {
   return `<path class="${kind}" d="M${start} ${top}H${stop}v${high}H${start}z"${told}`;
 }
 
+// ---- tones
+
+// Of names in their order each has its own, or the next that is free: those of a set by their bytes.
+function tones_of(names) {
+  const given = new Map();
+  for (const name of names) {
+    const own = [...new TextEncoder().encode(name)].reduce(
+      (sum, byte) => (31 * sum + byte) % 65521, 0) % 10;
+    const taken = new Set(given.values());
+    const free = INKS.map((_, next) => (own + next) % 10).find(it => !taken.has(it));
+    given.set(name, free ?? own);
+  }
+  return given;
+}
+// Of rows none has that of the one above.
+function with_tones(rows) {
+  const given = tones_of([...rows.filter(it => it.bound !== null).map(it => it.name).sort(),
+    ...rows.filter(it => it.bound === null).map(it => it.name)]);
+  let above = null;
+  return rows.map(it => {
+    const own = given.get(it.name), tone = own === above ? (own + 1) % 10 : own;
+    above = tone;
+    return { ...it, tone };
+  });
+}
+
 // ---- the margin, and the lane of the processor
 
-function margin_row({ name, level, bound }, row, count) {
-  const y = top_of(row), tone = `<rect class="f${row % 10}" x="350" y="${y + 130}" width="100" ` +
+function margin_row({ name, level, bound, tone }, row, count) {
+  const y = top_of(row), mark = `<rect class="f${tone}" x="350" y="${y + 130}" width="100" ` +
     'height="100" rx="20"/>';
   const second = count ? `<text class="q" x="500" y="${y + 355}">broken: ${count}</text>` :
     bound === null ? `<text x="500" y="${y + 355}">not of the set</text>` :
       `<text x="500" y="${y + 355}">bound ${millis(bound)} ms</text>`;
-  return `<text class="v" x="300" y="${y + 230}">${level ?? ''}</text>${tone}` +
+  return `<text class="v" x="300" y="${y + 230}">${level ?? ''}</text>${mark}` +
     `<text class="${count ? 'n q' : 'n'}" x="500" y="${y + 230}">${escaped(name)}</text>${second}`;
 }
-function lane_slice({ name, start, stop }, row, level, { x }) {
+function lane_slice({ name, start, stop }, { level, tone }, { x }) {
   const left = x(start), right = Math.max(x(stop), left + 1), room = right - left;
   const word = 66 * name.length + 60 <= room ? name :
     level !== null && (level < 10 ? 106 : 172) <= room ? String(level) : '';
   const middle = Math.floor((left + right) / 2);
   const said = word && `<text class="u" x="${middle}" y="1498">${escaped(word)}</text>`;
-  return box(`f${row % 10}${room < 60 ? '' : ' o'}`, left, right, 1350, 220,
+  return box(`f${tone}${room < 60 ? '' : ' o'}`, left, right, 1350, 220,
     `${name} executes ${start} to ${stop} us`) + said;
 }
 
@@ -129,8 +155,9 @@ function marks_of(jobs, { x, until }) {
 export function picture_of(trace, { rows, breaks }) {
   const { slices } = trace, strangers = new Set(slices.map(it => it.name));
   for (const it of rows) strangers.delete(it.name);
-  const all = [...rows].reverse().map((it, at) => ({ ...it, level: rows.length - at }));
-  for (const name of strangers) all.push({ name, level: null, bound: null });
+  const levels = [...rows].reverse().map((it, at) => ({ ...it, level: rows.length - at }));
+  const all = with_tones([...levels,
+    ...[...strangers].map(name => ({ name, level: null, bound: null }))]);
   const frame = frame_of(trace, rows, all.map(it => it.name)), { x, left, end } = frame;
   const row_of = new Map(all.map((it, row) => [it.name, row]));
   const high = top_of(all.length) + 120, bottom = top_of(all.length);
@@ -157,9 +184,9 @@ export function picture_of(trace, { rows, breaks }) {
     `${Math.floor(thousandths / 10)}.${thousandths % 10} %</text>`,
   ...all.map((it, row) => margin_row(it, row, breaks.filter(one => one.name === it.name).length)),
   '</g>',
-  ...slices.map(it => lane_slice(it, row_of.get(it.name), all[row_of.get(it.name)].level, frame)),
+  ...slices.map(it => lane_slice(it, all[row_of.get(it.name)], frame)),
   ...jobs.map(it => job_box(it, it, it.top, frame)), ...marks_of(jobs, frame),
-  ...slices.map(({ name, start, stop }) => box(`e f${row_of.get(name) % 10}`, x(start),
+  ...slices.map(({ name, start, stop }) => box(`e f${all[row_of.get(name)].tone}`, x(start),
     Math.max(x(stop), x(start) + 5), top_of(row_of.get(name)) + 165, 180,
     `${name} ${start} to ${stop} us`)),
   ...jobs.filter(it => it.breaks.length).map(it => broken_job(it, it, it.breaks, it.top, frame)),

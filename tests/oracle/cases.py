@@ -123,6 +123,7 @@ def view_of(rng, sheets):
         "from": time(),
         "to": time(),
         "width": str(rng.choice([959, 960, 16_000, 16_001] if rng.random() < 0.2 else [rng.randint(960, 16_000)])),
+        "print": rng.choice(["3", "4", "4", "+4", "2", "5"]),
         "title": rng.choice(["", "x", "R&D <hi>", "a  b\t\r\n", '"\u00e9\u20ac\x7f', "]]>", "\uffff\ufffea\ufffd\ufffe", "\uff5f\U0001ffff"]),
         "tasks": rng.choice([",".join(some)] * 4 + ["all"]),
     }
@@ -230,7 +231,7 @@ def called(rng, subject, inputs, options=(), number=None, by=None):
 
 
 WORDS = ["-", "--", "set", "set", "none", "folder", "--prefer", "deadline", "--prefer=deadline", "--prefer=weight", "--prefer=name", "--prefer=",
-         "--task", "--task=a", "--task=", "--seed", "--seed=8", "--seed=4294967296", "--tasks", "--tasks=", "--tasks=a,a", "--from", "--from=8", "--to=60000001", "--width=959", "--width=960", "--title", "--title=x", "--tolerance", "--tolerance=8", "--jobless", "--jobless=1", "--base=1", "--base=0", "--base", "--room", "--room=1", "--lower-is-higher", "--lower-is-higher=1", "--keep", "--keep=set", "--keep=-", "--at", "--at=set", "--at=-", "-x", "--x",
+         "--task", "--task=a", "--task=", "--seed", "--seed=8", "--seed=4294967296", "--tasks", "--tasks=", "--tasks=a,a", "--from", "--from=8", "--to=60000001", "--width=959", "--width=960", "--print=4", "--print=5", "--print", "--title", "--title=x", "--tolerance", "--tolerance=8", "--jobless", "--jobless=1", "--base=1", "--base=0", "--base", "--room", "--room=1", "--lower-is-higher", "--lower-is-higher=1", "--keep", "--keep=set", "--keep=-", "--at", "--at=set", "--at=-", "-x", "--x",
          "", "0", "1", "8", "9", "+8", "007", "+", "++8", "0x8", "-8", " 8", "8_0", "60000000", "60000001", "1" * 25]  # fmt: skip
 
 

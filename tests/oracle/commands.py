@@ -446,7 +446,7 @@ OF_ALL = {**OF_TASK, "all": calls.FLAG}
 EXPLAIN_AT = on_set(explain_at, settings.read_settings, options=OF_ALL)
 AT = {**OF_TASK, "at": calls.any_word}
 TIME = calls.number_within(0, kernel.HORIZON)
-VIEW = {"from": TIME, "to": TIME, "width": calls.number_within(960, 16_000), "title": calls.any_word, "tasks": calls.any_word}
+VIEW = {"from": TIME, "to": TIME, "width": calls.number_within(960, 16_000), "print": calls.number_within(3, 4), "title": calls.any_word, "tasks": calls.any_word}
 
 LEEWAY = {"tolerance": calls.number_within(0, observed.TOLERANCE_MOST), "jobless": calls.FLAG}
 
@@ -469,7 +469,7 @@ COMMANDS = {
     "play": calls.Command(play, (scripts.read_script,)),
     "rush": calls.Command(rush, (scripts.read_script,), (1, scripts.TEAMS)),
 }
-KEYWORDS = {"all": "tell_all", "tasks": "of_tasks", "lower-is-higher": "lower_is_higher", "from": "start", "to": "stop", "jobless": "is_jobless"}  # options by another name
+KEYWORDS = {"all": "tell_all", "tasks": "of_tasks", "lower-is-higher": "lower_is_higher", "from": "start", "to": "stop", "print": "paper", "jobless": "is_jobless"}  # options by another name
 OF_THE_ORDER = ("admit", "explain", "limits", "settings", "worst")  # commands whose answer speaks of the order alone
 OF_A_PREFERENCE = (teams.read_set, read_change)  # readers that are told it
 HELP = {(word,) for word in ("help", "-h", "--help", "-V", "--version")}

@@ -9,7 +9,7 @@ use Rattle.clap.specs.declared.parser.matches.ArgMatches.TheViews.{out-ArgMatche
 use Rattle.command_line.specs.Calls.{AreOptions, CountsWithin, HasNumber, HaveNumbers, IsCall}
 use Rattle.command_line.specs.Calls.{IsTaken}
 use Rattle.command_line.specs.declared.calls.TheConstants.{MOST_PRIORITY, MOST_ROOM, MOST_SEED, MOST_TOLERANCE}
-use Rattle.command_line.specs.declared.calls.TheConstants.{LATEST_END, LEAST_WIDTH, MOST_TEAM, MOST_WIDTH}
+use Rattle.command_line.specs.declared.calls.TheConstants.{LATEST_END, LEAST_PAPER, LEAST_WIDTH, MOST_PAPER, MOST_TEAM, MOST_WIDTH}
 use Rattle.command_line.specs.declared.calls.Takes.TheVariants as takes
 use Rattle.command_line.specs.declared.calls.Options.{Options}
 use Rattle.command_line.specs.Commands.{least_of, most_of}
@@ -51,6 +51,7 @@ have_numbers rows options are = (
   number_within 0 LATEST_END _ options.from are.from,
   number_within 0 LATEST_END _ options.to are.to,
   number_within LEAST_WIDTH MOST_WIDTH _ options.width are.width,
+  number_within LEAST_PAPER MOST_PAPER _ options.print are.print,
   number_within 1 MOST_TEAM _ options.team are.team,
 )
 

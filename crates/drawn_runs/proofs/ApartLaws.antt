@@ -38,7 +38,8 @@ one_more names rs above [] row so_far last = elim (cases_Bool (is_chosen names r
 one_more names rs above (first ∷ rows) row so_far last =
     elim (cases_Bool (is_chosen names rs first.sheet.name)) [
       | inl chosen ↦
-          let parts = and_parts _ _ (rw chosen at so_far) in
+          let parts = and_parts (differs above first.tone)
+          (are_apart_below names rs (Some first.tone) rows) (rw chosen at so_far) in
           rw (chosen, parts.0) (one_more names rs (Some first.tone) rows row parts.1
           (λ shown. rw chosen at last shown))
       | inr hidden ↦ rw hidden (one_more names rs above rows row (rw hidden at so_far)

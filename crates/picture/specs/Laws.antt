@@ -1,5 +1,5 @@
 -- What the darker ticks and the missed deadlines mean, how wide a picture is, and that names stand in it as they are.
-use Rattle.std.specs.Prelude.{◌≡◌, ℕ, ◌+◌, ◌*◌, ◌<◌, ◌≤◌, ◌↔◌, Bool, false, Some, None, not, ◌&&◌, ◌==◌, nat_le, nat_lt, List, IsTrue}
+use Rattle.std.specs.Prelude.{◌≡◌, ℕ, ◌+◌, ◌*◌, ◌<◌, ◌≤◌, ◌↔◌, Bool, true, false, Some, None, not, ◌&&◌, ◌==◌, nat_le, nat_lt, List, IsTrue}
 use Rattle.std.specs.List.{list_all}
 use Rattle.task_sheet.specs.Sheet.{CriticalSection}
 use Rattle.task_sheet.specs.Name.{IsName}
@@ -12,7 +12,10 @@ use Rattle.frames.specs.Frame.{Frame, frame_of}
 use Rattle.frames.specs.Slices.{ticks_of}
 use Rattle.drawn_jobs.specs.Sections.{dark_from, dark_to}
 use Rattle.drawn_jobs.specs.Misses.{is_late}
-use Rattle.picture.specs.Document.{width_of}
+use Rattle.frames.specs.Tones.{free_tone, has_tone}
+use Rattle.frames.specs.View.{paper_width}
+use Rattle.frames.specs.declared.tones.Toned.{Toned}
+use Rattle.picture.specs.Document.{paper_wide, width_of}
 
 -- a job's tick number e, from 0, is executed inside a section
 abbrev pub executes_inside : CriticalSection → ℕ → Bool
@@ -57,3 +60,20 @@ is_plain c = not (c == 38) && not (c == 60) && not (c == 62) && not (c == 34) &&
 -- all bytes of a name do
 abbrev pub AreNamesPlain : Type 0
 AreNamesPlain = (name : List ℕ) → IsName name → IsTrue (list_all is_plain name)
+
+-- a tone that is given while some are has been free, unless each of so many is one of theirs
+abbrev pub AreTonesFree : Type 0
+AreTonesFree =
+    (given : List Toned) (own count : ℕ) → own < count
+    → has_tone given (free_tone given own count) ≡ true
+    → (tone : ℕ) → tone < count → has_tone given tone ≡ true
+
+-- how high the least type is, in units of the picture
+abbrev pub LEAST_TYPE : ℕ
+LEAST_TYPE = 105
+
+-- where a picture has the width in pixels of paper of an A size, of ten units each, so much of the paper's width is 6 points
+-- or more; 72 points are 25.4 millimetres
+abbrev pub IsTypeReadable : Type 0
+IsTypeReadable =
+    (size : ℕ) → 6 * 254 * (10 * paper_width size) ≤ LEAST_TYPE * paper_wide size * 720

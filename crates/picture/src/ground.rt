@@ -59,17 +59,17 @@ fn put_size(paper: Option<u64>, wide: u64, high: u64, page: &mut Page)
 }
 
 // The first line, and that.
-fn put_size_head(paper: Option<u64>, wide: u64, high: u64, page: &mut Page)
+fn put_size_head(frame: Frame, wide: u64, high: u64, page: &mut Page)
     requires some { 0 < wide }
     requires wide { wide ≤ 2 * RIGHTMOST }
     requires high { high ≤ 2000000 }
-    ensures { Adds page.old page.new (size_head paper wide high) }
+    ensures { Adds page.old page.new (size_head frame.paper wide high) }
 {
     page.put(
         b"<?xml version=\"1.0\" encoding=\"UTF-8\"?>\n<svg xmlns=\"http://www.w3.org/2000/svg\" \
         version=\"1.1\"",
     );
-    put_size(paper, wide, high, page)
+    put_size(frame.paper, wide, high, page)
 }
 
 // The first lines, and the title, with what was given behind it.
@@ -81,7 +81,7 @@ fn put_head(chart: &Chart<'_>, locks: usize, page: &mut Page)
 {
     let high = top_of(chart.shown.len()) + 120 + locks_high(chart.frame, locks);
     let wide = end_of(chart.frame) + 200;
-    put_size_head(chart.frame.paper, wide, high, page);
+    put_size_head(chart.frame, wide, high, page);
     page.number(b"\" viewBox=\"0 0 ", wide);
     page.number(b" ", high);
     page.number(b"\">\n<title>tasks: ", chart.rows.len() as u64);

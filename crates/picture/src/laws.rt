@@ -1,5 +1,5 @@
 //! Laws of the picture.
-ghost use Rattle.picture.specs.Laws.{AreMissesShown, AreNamesPlain, AreTicksDark, HasWidth, IsHeldBetween};
+ghost use Rattle.picture.specs.Laws.{AreMissesShown, AreNamesPlain, AreTicksDark, AreTonesFree, HasWidth, IsHeldBetween, IsTypeReadable};
 
 /// The darker ticks of a slice are those that its job executes inside the section.
 pub fn ticks_are_dark()
@@ -25,4 +25,14 @@ pub fn widths_are_held()
 /// Names have no byte that a document would have to escape.
 pub fn names_are_plain()
     ensures { AreNamesPlain }
+{}
+
+/// A name has the tone of one before it only where each tone is taken.
+pub fn tones_are_free()
+    ensures { AreTonesFree }
+{}
+
+/// On paper the least type is at least 6 points high, where no width is said.
+pub fn type_is_readable()
+    ensures { IsTypeReadable }
 {}

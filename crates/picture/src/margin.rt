@@ -7,9 +7,7 @@ ghost use Rattle.picture.specs.Margin.{late_words, level_text, limits_text, marg
 
 use ceiling_kernel::JobRecord;
 use drawn_jobs::{latest_in, missed_in, put_greatest, put_lane_head};
-use frames::{
-    Chart, Lane, Page, in_millis, level_of, put_known, put_time, put_unit, top_of,
-};
+use frames::{Chart, Lane, Page, in_millis, level_of, put_known, put_time, put_unit, top_of};
 use run_lines::outcome_of;
 
 // Where the name of a row stands; it is red where a deadline is missed.

@@ -8,8 +8,8 @@ ghost use Rattle.picture.specs.Waits.{EndBy, scene_of, stay_of};
 use crate::blocker::blocking_lock;
 use crate::waits::{Past, Stay, Wait, is_behind, is_gathered, past_before, stay_of, wait_at};
 use frames::{
-    Chart, Frame, Page, Spot, Toned, has_room, tone_named, name_in, name_of, place_in, put_times, sees,
-    tone_in, top_of, x_of,
+    Chart, Frame, Page, Spot, Toned, has_room, name_in, name_of, place_in, put_times, sees,
+    tone_in, tone_named, top_of, x_of,
 };
 use task_sheet::Name;
 
