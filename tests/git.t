@@ -255,12 +255,14 @@ A lock of two names is one; what mends a set is told of whoever says it, and wha
   team arm (ann or root), teams/arm.toml: arm cost = 900, now 1500
   team arm (ann or root), teams/arm.toml: arm deadline = 5600 with period = 5600, now 5000
   team base (bob or root), teams/base.toml: roll section 1 len = 2900, now 3500
+  of arm and base: lock bus len = 2900, now 3500
   or all teams together: each cost and section, and what the node takes, at most 892 thousandths of what it is
   $ node 'locks = { bus = true, eye = true, "lens" = "eye" }\n[[interrupt]]\nperiod = 2000\ncost = 500\n' | sed -n '/^one/,/^or/p'
   one of these changes mends it, all else as it is:
   team node (yours), teams/node.toml: interrupt 1 cost = 0, now 500
   team arm (ann or root), teams/arm.toml: arm deadline = 7000 with period = 7000, now 5000
   team base (bob or root), teams/base.toml: roll section 1 len = 2000, now 3500
+  of arm and base: lock bus len = 2000, now 3500
   or all teams together: each cost, section and interrupt at most 769 thousandths of what it is
 
 What the node takes past a task's own numbers, and chains, of which each says whose it is:
@@ -283,6 +285,11 @@ What the node takes past a task's own numbers, and chains, of which each says wh
   team cam (cy or root) or team arm (yours) has to call its chain see by another name
   refused: COMMIT "a chain"
   $ fresh cy && sed -i '$a age = 100' cy/teams/cam.toml && save cy 'too short' && push cy
+  admitted 4
+  was admitted 4
+  chain see 47610 misses 100
+  what a bound is the sum of: desk explain, on these documents
+  refused: COMMIT "too short" is not admitted
 
 What the server fails in is told as that:
 
