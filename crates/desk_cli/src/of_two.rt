@@ -22,10 +22,11 @@ use std::io::{Read, Write};
 use streams::Watched;
 use task_sheet::{Members, Name, TaskSet};
 use two_input_commands::{
-    ChainsTold, Compared, Drawing, InOrder, KeptNode, Observation, Simulated, chained_status, check_text, checked_line,
-    compare_text, compared_text, draw_text, explain_at, explained_at_text, judge_text,
-    judged_said, judged_status, keep_text, keeping_status, keeping_text, leeway_of, limits_at, observe_text,
-    print_drawing, print_observation, print_reached, print_simulated, simulate_text, worst_at,
+    ChainsTold, Compared, Drawing, InOrder, KeptNode, Observation, Simulated, chained_status,
+    check_text, checked_line, compare_text, compared_text, draw_text, explain_at,
+    explained_at_text, judge_text, judged_said, judged_status, keep_text, keeping_status,
+    keeping_text, leeway_of, limits_at, observe_text, print_drawing, print_observation,
+    print_reached, print_simulated, simulate_text, worst_at,
 };
 
 /// What a command finds of a set and a text.
