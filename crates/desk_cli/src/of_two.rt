@@ -60,18 +60,19 @@ pub enum Found {
     LimitedAt(InOrder),
 }
 
-// What a command finds of what two inputs have.
+// What a command finds of a set that was read and of a text.
 fn find(
     alloc: Global,
     command: OfTwo,
     options: Options<'_>,
     both: &Both,
+    text: &[u8],
 ) -> Result<Found, CommandRefusal>
     ensures answer { FindsIn command options.entry both.now.by both.now.owners.items both.now.chains.items
-        both.now.tasks both.now.text.items result }
+        both.now.tasks text.now result }
     ensures found { IfOk result (IsFoundOf both.now.tasks) }
 {
-    let (tasks, text) = (&both.tasks, &both.text);
+    let tasks = &both.tasks;
     match command {
         OfTwo::Check => Ok(Found::Shown(check_text(alloc, tasks, text)?)),
         OfTwo::Diff => Ok(Found::Compared(compare_text(
@@ -267,7 +268,7 @@ fn say_both<W: Write + Drop, P: Audience>(
         both.now.chains.items both.now.tasks both.now.text.items) W.contents output.old output.new result }
 {
     let tasks = &both.tasks;
-    let answer = find(alloc, command, options, both);
+    let answer = find(alloc, command, options, both, &both.text);
     tell(&answer, tasks, Which::Second, &both.text, people);
     tell_found(&answer, tasks, &both.text, people);
     match answer {
