@@ -119,11 +119,7 @@ fn met_word(is_met: bool) -> &'static str
 }
 
 // The limit of a bound, and whether it is within it.
-fn push_limit(
-    text: &mut String,
-    bound: Option<u128>,
-    limit: Option<u64>,
-) -> Result<(), AllocError>
+fn push_limit(text: &mut String, bound: Option<u128>, limit: Option<u64>) -> Result<(), AllocError>
     ensures { OnOk result (string_bytes text.new ≡ string_bytes text.old ++ limit_words bound limit) }
 {
     let Some(most) = limit else {

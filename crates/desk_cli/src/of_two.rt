@@ -22,10 +22,11 @@ use std::io::{Read, Write};
 use streams::Watched;
 use task_sheet::{Members, Name, TaskSet};
 use two_input_commands::{
-    ChainsTold, Compared, Drawing, InOrder, KeptNode, Observation, Simulated, chained_status, check_text, checked_line,
-    compare_text, compared_text, draw_text, explain_at, explained_at_text, judge_text,
-    judged_said, judged_status, keep_text, keeping_status, keeping_text, leeway_of, limits_at, observe_text,
-    print_drawing, print_observation, print_reached, print_simulated, simulate_text, worst_at,
+    ChainsTold, Compared, Drawing, InOrder, KeptNode, Observation, Simulated, chained_status,
+    check_text, checked_line, compare_text, compared_text, draw_text, explain_at,
+    explained_at_text, judge_text, judged_said, judged_status, keep_text, keeping_status,
+    keeping_text, leeway_of, limits_at, observe_text, print_drawing, print_observation,
+    print_reached, print_simulated, simulate_text, worst_at,
 };
 
 /// What a command finds of a set and a text.
@@ -59,18 +60,19 @@ pub enum Found {
     LimitedAt(InOrder),
 }
 
-// What a command finds of what two inputs have.
+// What a command finds of a set that was read and of a text.
 fn find(
     alloc: Global,
     command: OfTwo,
     options: Options<'_>,
     both: &Both,
+    text: &[u8],
 ) -> Result<Found, CommandRefusal>
     ensures answer { FindsIn command options.entry both.now.by both.now.owners.items both.now.chains.items
-        both.now.tasks both.now.text.items result }
+        both.now.tasks text.now result }
     ensures found { IfOk result (IsFoundOf both.now.tasks) }
 {
-    let (tasks, text) = (&both.tasks, &both.text);
+    let tasks = &both.tasks;
     match command {
         OfTwo::Check => Ok(Found::Shown(check_text(alloc, tasks, text)?)),
         OfTwo::Diff => Ok(Found::Compared(compare_text(
@@ -266,7 +268,7 @@ fn say_both<W: Write + Drop, P: Audience>(
         both.now.chains.items both.now.tasks both.now.text.items) W.contents output.old output.new result }
 {
     let tasks = &both.tasks;
-    let answer = find(alloc, command, options, both);
+    let answer = find(alloc, command, options, both, &both.text);
     tell(&answer, tasks, Which::Second, &both.text, people);
     tell_found(&answer, tasks, &both.text, people);
     match answer {

@@ -204,13 +204,7 @@ pub(crate) fn explained_text(
         ++ reasons_said placed.now.owners.items placed.now.tasks all explanation decided)
         ++ chained_said Parts placed.now.tasks placed.now.chains.items placed.now.placing)) }
 {
-    let lines = whole_reasons_text(
-        alloc,
-        all,
-        &placed.owners,
-        &placed.tasks,
-        &placed.placing,
-    )?;
+    let lines = whole_reasons_text(alloc, all, &placed.owners, &placed.tasks, &placed.placing)?;
     let chains = chained_text(alloc, Telling::Parts, placed)?;
     let text = joined(alloc, &lines, chains.as_bytes())?;
     Ok(text)

@@ -8,7 +8,7 @@ use Rattle.desk_cli.proofs.of_two.say_both.Goals as goal
 pub returns-in-Ok : goal.returns-in-Ok
 returns-in-Ok g c =
     let both = c.args.both.now in
-    let finds = rw (c.in-Ok.is) at c.find-answer.ensures.answer in
+    let finds = rw (c.in-Ok.is, c.deref.ensures.value) at c.find-answer.ensures.answer in
     said_as (rw c.deref-in-Ok.ensures.value at c.print_found.ensures) (λ told. printed_in c.args.options both.by both.owners.items
     both.chains.items both.tasks both.text.items _ _ _ c.args.command c.in-Ok.found finds told)
 
@@ -17,7 +17,7 @@ returns-in-Err g c =
     let both = c.args.both.now in
     let U = both.tasks in
     let text = both.text.items in
-    let why = rw (c.in-Err.is) at c.find-answer.ensures.answer in
+    let why = rw (c.in-Err.is, c.deref.ensures.value) at c.find-answer.ensures.answer in
     refusal_said c.in-Err.refusal (λ (r : CommandRefusal). FindsIn c.args.command c.args.options
     both.by both.owners.items both.chains.items U text (Err r)) why
     (never_unread c.args.command c.args.options both.by both.owners.items both.chains.items U text)
