@@ -121,7 +121,11 @@ pub(crate) fn put_unrun(lane: &Lane<'_>, arrival: u64, page: &mut Page)
     }
     let x = x_after(lane.frame, arrival, kept);
     let right = x_after(lane.frame, arrival, limit);
-    put_bar(b"<path class=\"wt\" d=\"", bar_of(x, right, lane.spot.k), page);
+    put_bar(
+        b"<path class=\"wt\" d=\"",
+        bar_of(x, right, lane.spot.k),
+        page,
+    );
     page.number(b"\"><title>timers and interrupts, not in this run: ", unrun);
     page.put(b" us</title></path>\n")
 }

@@ -6,7 +6,7 @@ ghost use Rattle.drawn_jobs.specs.Stripes.{lock_text, lock_texts, locks_group, l
 ghost use Rattle.frames.specs.declared.frame.TheConstants.{RIGHTMOST};
 ghost use Rattle.frames.specs.declared.locks.TheConstants.{LOCKS_LIMIT};
 
-use frames::{Bar, Frame, Page, Toned, end_of, tone_named, put_bar, top_of};
+use frames::{Bar, Frame, Page, Toned, end_of, put_bar, tone_named, top_of};
 use task_sheet::Name;
 
 // Where stripe i of n begins, in a bar.

@@ -42,12 +42,12 @@ module _ {U : List Task} {places : List PlaceData} {rs : List Release} {until : 
       let named = sym (ap (λ (t : Task). t.name) of.2) ∙ sym
       (same_is (record_at jobs j).name row.sheet.name own) in
       subst (λ (t : Task). is_late frame (record {
-      sheet = t;
-      bound = row.bound;
-      number = row.number;
-      tone = row.tone;
-      unrun = row.unrun;
-    })
+        sheet = t;
+        bound = row.bound;
+        number = row.number;
+        tone = row.tone;
+        unrun = row.unrun;
+      })
       (record_at jobs j) ≡ false) (sym of.2)
       (not_late run of.0 j (end_of_run until) of.1 is_job upto named)
 

@@ -39,7 +39,7 @@ returns-clause-few c =
       arith,
       c.sheets.ensures.kept.few,
       all,
-      count_of U (looks_of c.args.looks.now) bounds,
+      count_of c.of.result (looks_of c.args.looks.now) bounds,
       ap (λ (rs : List TaskRow). length rs) is,
     ))
     c.rows_of.ensures
