@@ -1,8 +1,4 @@
-use Rattle.std.proofs.Common.{◌≡◌, ◌∙◌, ◌≤◌, ◌+◌, ℕ, List, ap, arith, length, subst, sym}
-use Rattle.std.specs.Prelude.{slice_get}
-use Rattle.ceiling_kernel.specs.declared.trace.Slice.{Slice}
-use Rattle.frames.specs.Slices.{slice_at}
-use Rattle.drawn_jobs.specs.Held.{held_before, held_by}
+use Rattle.std.proofs.Common.{◌∙◌, ◌+◌, ℕ, List, ap, arith, length, subst, sym}
 use Rattle.drawn_jobs.proofs.Counts.{AreCounts, counted_held, none_counted, none_held, one_counted}
 use Rattle.drawn_jobs.proofs.held.note_slices.Goals as goal
 
