@@ -2,7 +2,7 @@ use Rattle.std.proofs.Common.{◌≡◌, ◌∙◌, Option, Result, ap, subst}
 use Rattle.task_sheet.specs.declared.prefer.Preference.{Preference}
 use Rattle.preferences.specs.declared.asking.AskedFault.{AskedFault}
 use Rattle.preferences.specs.declared.asking.Asked.{Asked}
-use Rattle.preferences.specs.ReadsAsked.{ReadsAsked}
+use Rattle.preferences.specs.ReadsAsked.{IsChained, ReadsAsked}
 use Rattle.preferences.specs.ReadsPreferred.{chosen}
 use Rattle.answering.proofs.sets.set_told.Goals as goal
 
@@ -15,5 +15,6 @@ returns-in-Ok-read g c =
     c.preference-by.ensures
     ∙ ap (λ (o : Option Preference). chosen o choice.own) read.2
     ∙ ap (λ (o : Option Preference). chosen c.args.asking.prefer o) read.3 in
-    let chained = (c.in-Ok-read.preferred.chains.items, read.6) in
+    let chained : IsChained c.args.bytes.now c.in-Ok-read.preferred.set =
+    (c.in-Ok-read.preferred.chains.items, read.6) in
     ((read.0, read.1, read.4, read.5, chained), (read.0, read.1, taken), read.6)
