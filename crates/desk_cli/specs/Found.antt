@@ -8,14 +8,13 @@ use Rattle.assignment.specs.Placings.{IsPlacingOf}
 use Rattle.owners.specs.declared.owner.Owner.{Owner}
 use Rattle.command_line.specs.declared.calls.OfTwo.{OfTwo}
 use Rattle.command_line.specs.declared.calls.OfTwo.TheVariants as command
-use Rattle.judge.specs.Lines.{judged_lines}
 use Rattle.two_input_commands.specs.Check.{ChecksText, checked_line}
 use Rattle.answering.specs.Statuses.{placing_status}
-use Rattle.answering.specs.Chosen.{asking_of, base_of, room_of, task_of}
+use Rattle.answering.specs.Chosen.{asking_of, base_of, is_sorted, room_of, task_of}
 use Rattle.two_input_commands.specs.Diff.{ComparesText, compared_lines}
 use Rattle.two_input_commands.specs.Draw.{DrawsText, drawing_said}
 use Rattle.two_input_commands.specs.ExplainAt.{ExplainsText, explained_at_lines}
-use Rattle.two_input_commands.specs.Judge.{JudgesText, judged_status}
+use Rattle.two_input_commands.specs.Judge.{JudgesText, judged_said, judged_status}
 use Rattle.two_input_commands.specs.LimitsAt.{LimitsText}
 use Rattle.two_input_commands.specs.Observe.{IsObservationOf, ObservesText, leeway_of, observation_said, observation_status}
 use Rattle.answering.specs.Printed.{IsPrinted}
@@ -35,8 +34,8 @@ FindsIn command.Check options by owners U text (Ok (Shown kind)) = ChecksText U 
 FindsIn command.Check options by owners U text (Err r) = ChecksText U text (Err r)
 FindsIn command.Diff options by owners U text (Ok (Compared c)) = ComparesText (asking_of options) by U text (Ok c)
 FindsIn command.Diff options by owners U text (Err r) = ComparesText (asking_of options) by U text (Err r)
-FindsIn command.Judge options by owners U text (Ok (Judged node)) =
-    JudgesText options.lower_is_higher U text (Ok node)
+FindsIn command.Judge options by owners U text (Ok (Judged sorted node)) =
+    (sorted ≡ is_sorted options) × JudgesText options.lower_is_higher U text (Ok node)
 FindsIn command.Judge options by owners U text (Err r) = JudgesText options.lower_is_higher U text (Err r)
 FindsIn command.Simulate options by owners U text (Ok (Simulated answer)) =
     (options.by_task ≡ false) × SimulatesText U text (Ok answer)
@@ -55,27 +54,27 @@ FindsIn command.WorstAt options by owners U text (Ok (WorstAt found)) = WorstsTe
 FindsIn command.WorstAt options by owners U text (Err r) = WorstsText (task_of options) U text (Err r)
 FindsIn command.LimitsAt options by owners U text (Ok (LimitedAt found)) = LimitsText (task_of options) owners U text (Ok found)
 FindsIn command.LimitsAt options by owners U text (Err r) = LimitsText (task_of options) owners U text (Err r)
-FindsIn command.ExplainAt options by owners U text (Ok (ExplainedAt found)) =
-    ExplainsText (task_of options) U text (Ok found)
+FindsIn command.ExplainAt options by owners U text (Ok (ExplainedAt sorted found)) =
+    (sorted ≡ is_sorted options) × ExplainsText (task_of options) U text (Ok found)
 FindsIn command.ExplainAt options by owners U text (Err r) = ExplainsText (task_of options) U text (Err r)
 FindsIn _ options by owners U text _ = ⊥
 
 -- what was found speaks of tasks that a set may have, and of a run in an order of the set
 abbrev pub IsFoundOf : List Task → Found → Type 0
-IsFoundOf U (Judged node) = All (λ j. j.task < TASK_LIMIT) node.judged.items
+IsFoundOf U (Judged sorted node) = All (λ j. j.task < TASK_LIMIT) node.judged.items
 IsFoundOf U (Compared c) = IsPlacingOf U c.was × IsPlacingOf c.set c.is
 IsFoundOf U (Reached answer) = IsInOrder U answer
 IsFoundOf U (Drawn drawing) = IsInOrder U drawing.answer
 IsFoundOf U (Observed leeway shown) = IsObservationOf shown
 IsFoundOf U (Keeping node base room) = IsKeptIn U node.keeping × IsOldOf node
-IsFoundOf U (ExplainedAt found) = All (λ j. j.task < TASK_LIMIT) found.node.judged.items
+IsFoundOf U (ExplainedAt sorted found) = All (λ j. j.task < TASK_LIMIT) found.node.judged.items
 IsFoundOf U _ = Unit {0}
 
 -- what is printed of what was found of a set whose tasks these have
 abbrev pub found_said : List Owner → List Task → Found → List ℕ
 found_said owners U (Shown kind) = checked_line kind
 found_said owners U (Compared c) = compared_lines owners U c
-found_said owners U (Judged node) = judged_lines U node.judged.items node.numbers.items
+found_said owners U (Judged sorted node) = judged_said sorted U node
 found_said owners U (Simulated answer) = simulation_said U answer
 found_said owners U (Reached answer) = reached_said U answer
 found_said owners U (Drawn drawing) = drawing_said U drawing
@@ -83,13 +82,13 @@ found_said owners U (Observed leeway shown) = observation_said leeway U shown
 found_said owners U (Keeping node base room) = keeping_lines U base room node
 found_said owners U (WorstAt found) = string_bytes found.text
 found_said owners U (LimitedAt found) = string_bytes found.text
-found_said owners U (ExplainedAt found) = explained_at_lines owners U found
+found_said owners U (ExplainedAt sorted found) = explained_at_lines sorted owners U found
 
 -- the exit status of what was found
 abbrev pub found_status : Found → Status
 found_status (Shown kind) = Done
 found_status (Compared c) = placing_status c.is
-found_status (Judged node) = judged_status node.judged.items
+found_status (Judged sorted node) = judged_status node.judged.items
 found_status (Simulated answer) = simulation_status answer
 found_status (Reached answer) = simulation_status answer
 found_status (Drawn drawing) = simulation_status drawing.answer
@@ -97,7 +96,7 @@ found_status (Observed leeway shown) = observation_status leeway shown
 found_status (Keeping node base room) = keeping_status node.keeping
 found_status (WorstAt found) = judged_status found.node.judged.items
 found_status (LimitedAt found) = judged_status found.node.judged.items
-found_status (ExplainedAt found) = judged_status found.node.judged.items
+found_status (ExplainedAt sorted found) = judged_status found.node.judged.items
 
 -- that is printed after what the writer held, with its status; or that there was no memory for it
 abbrev pub PrintsFound : List Owner → List Task → Found → (before after : Option (List ℕ)) → Status → Type 0

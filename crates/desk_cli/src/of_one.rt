@@ -5,14 +5,14 @@ ghost use Rattle.desk_cli.specs.Saying.{IsOfPlacing, SaysOfSet};
 ghost use Rattle.answering.specs.Outcomes.{IsCarriedOut, IsSaidOn};
 
 use answering::{
-    Audience, OrderPart, Status, asking_of, base_of, placing_status, placing_text, print_made,
-    refuse, room_of,
+    Audience, OrderPart, Status, asking_of, base_of, is_sorted, placing_status, placing_text,
+    print_bytes, print_made, refuse, room_of,
 };
 use assignment::Placing;
 use command_line::{OfOne, Options};
 use owners::Owner;
 use script_commands::{lines_of, play};
-use set_commands::{TaskPart, decide, place, print_verdict, run_script, say_part};
+use set_commands::{TaskPart, decide, levels_text, place, print_verdict, run_script, say_part};
 use std::alloc::Global;
 use std::io::{Read, Write};
 use streams::Watched;
@@ -36,8 +36,8 @@ fn say_placing<W: Write + Drop>(
     let status = placing_status(placing);
     match command {
         OfOne::Admit => {
-            let text = placing_text(alloc, OrderPart::Levels, set, placing);
-            print_made(text, status, output)
+            let text = levels_text(alloc, is_sorted(options), set, placing);
+            print_bytes(text, status, output)
         }
         OfOne::Limits => say_part(
             alloc,
@@ -58,7 +58,10 @@ fn say_placing<W: Write + Drop>(
         }
         OfOne::Explain => say_part(
             alloc,
-            TaskPart::Reasons { all: options.all },
+            TaskPart::Reasons {
+                all: options.all,
+                sorted: is_sorted(options),
+            },
             options.task,
             owners,
             set,

@@ -6,12 +6,12 @@ ghost use Rattle.desk_cli.specs.Saying.{SaysOfBoth};
 ghost use Rattle.answering.specs.Outcomes.{IsCarriedOutOnBoth, IsSaidOn};
 
 use answering::{
-    Audience, Both, CommandRefusal, Status, Which, asking_of, base_of, placing_status, print,
-    print_bytes, print_made, read_two, refuse, room_of, tell,
+    Audience, Both, CommandRefusal, Status, Which, asking_of, base_of, is_sorted, placing_status,
+    print, print_bytes, print_made, read_two, refuse, room_of, tell,
 };
 use cert_checker::Checked;
 use command_line::{OfTwo, Options};
-use judge::{JudgedNode, judged_text};
+use judge::JudgedNode;
 use kept_order::Keeping;
 use observed::{Seen, Sight};
 use observed_lines::Leeway;
@@ -23,7 +23,7 @@ use streams::Watched;
 use task_sheet::{Members, Name, Preference, TaskSet};
 use two_input_commands::{
     Compared, Drawing, InOrder, KeptNode, Observation, Simulated, check_text, checked_line,
-    compare_text, compared_text, draw_text, explain_at, explained_at_text, judge_text,
+    compare_text, compared_text, draw_text, explain_at, explained_at_text, judge_text, judged_said,
     judged_status, keep_text, keeping_status, keeping_text, leeway_of, limits_at, observe_text,
     print_drawing, print_observation, print_reached, print_simulated, simulate_text, worst_at,
 };
@@ -35,8 +35,8 @@ pub enum Found {
     Shown(Checked),
     /// What becomes of a set and of a new one.
     Compared(Compared),
-    /// What becomes of the tasks in the order that settings give.
-    Judged(JudgedNode),
+    /// What becomes of the tasks in the order that settings give; whether its lines are to stand by slack.
+    Judged(bool, JudgedNode),
     /// What comes of a release list, to be shown as the lines of its trace.
     Simulated(Simulated),
     /// The same, to be shown as the lines of what the tasks came to.
@@ -53,8 +53,8 @@ pub enum Found {
     },
     /// The worst case of a task in the order that settings give.
     WorstAt(InOrder),
-    /// What explains the order that settings give, without the teams of its tasks.
-    ExplainedAt(InOrder),
+    /// What explains the order that settings give, without the teams of its tasks; whether its lines are to stand by slack.
+    ExplainedAt(bool, InOrder),
     /// How far the numbers of a set may go in the order that settings give.
     LimitedAt(InOrder),
 }
@@ -81,7 +81,10 @@ fn find(
             tasks,
             text,
         )?)),
-        OfTwo::Judge => Ok(Found::Judged(judge_text(alloc, options.lower_is_higher, tasks, text)?)),
+        OfTwo::Judge => Ok(Found::Judged(
+            is_sorted(options),
+            judge_text(alloc, options.lower_is_higher, tasks, text)?,
+        )),
         OfTwo::Simulate => {
             let answer = simulate_text(alloc, tasks, text)?;
             if options.by_task {
@@ -108,7 +111,10 @@ fn find(
             tasks,
             text,
         )?)),
-        OfTwo::ExplainAt => Ok(Found::ExplainedAt(explain_at(alloc, options.task, tasks, text)?)),
+        OfTwo::ExplainAt => Ok(Found::ExplainedAt(
+            is_sorted(options),
+            explain_at(alloc, options.task, tasks, text)?,
+        )),
     }
 }
 
@@ -130,8 +136,8 @@ fn print_found<W: Write + Drop>(
             placing_status(&compared.is),
             output,
         ),
-        Found::Judged(node) => print_made(
-            judged_text(alloc, tasks, &node.judged, &node.numbers),
+        Found::Judged(sorted, node) => print_bytes(
+            judged_said(alloc, *sorted, tasks, node),
             judged_status(&node.judged),
             output,
         ),
@@ -156,8 +162,8 @@ fn print_found<W: Write + Drop>(
             judged_status(&found.node.judged),
             output,
         ),
-        Found::ExplainedAt(found) => print_bytes(
-            explained_at_text(alloc, owners, tasks, found),
+        Found::ExplainedAt(sorted, found) => print_bytes(
+            explained_at_text(alloc, *sorted, owners, tasks, found),
             judged_status(&found.node.judged),
             output,
         ),

@@ -1,5 +1,5 @@
 -- What `desk admit` and `desk settings` answer and print.
-use Rattle.std.specs.Prelude.{ℕ, List, Option, Result, Ok, Err, Vec}
+use Rattle.std.specs.Prelude.{ℕ, Bool, List, Option, Result, Ok, Err, Vec}
 use Rattle.task_sheet.specs.Sheet.{Task}
 use Rattle.preferences.specs.declared.asking.Asking.{Asking}
 use Rattle.assignment.specs.Placings.{IsPlacingOf}
@@ -9,9 +9,11 @@ use Rattle.answering.specs.Printed.{Prints}
 use Rattle.answering.specs.Sets.{HasNoSet, HasSet}
 use Rattle.answering.specs.Statuses.{placing_status}
 use Rattle.answering.specs.declared.answer.OrderPart.{OrderPart}
+use Rattle.answering.specs.declared.answer.OrderPart.TheVariants.{Levels}
 use Rattle.answering.specs.declared.refusal.CommandRefusal.{CommandRefusal}
 use Rattle.answering.specs.declared.status.Status.{Status}
 use Rattle.std.specs.declared.alloc.Global.{Global}
+use Rattle.owners.specs.Slack.{sorted_if}
 use Rattle.owners.specs.declared.owner.Owner.{Owner}
 use Rattle.answering.specs.Owning.{HasOwned}
 
@@ -30,6 +32,13 @@ Places asking known (Err r) = HasNoSet asking known r
 abbrev pub SaysPlacing : OrderPart → OfOneSays
 SaysPlacing part asking known before after s =
     Prints (Places asking known) (λ placed. placing_said part placed.0 placed.1)
+    (λ placed. placing_status placed.1) before after s
+
+-- the levels of that placing, by slack where it is asked for
+abbrev pub SaysLevels : (sorted : Bool) → OfOneSays
+SaysLevels sorted asking known before after s =
+    Prints (Places asking known)
+    (λ placed. sorted_if sorted placed.0 (placing_said Levels placed.0 placed.1))
     (λ placed. placing_status placed.1) before after s
 
 -- the answer on what a reader has: a set, whose its tasks are, and its placing; or why there is none

@@ -10,7 +10,7 @@ mod one_task;
 mod releases;
 mod script;
 
-pub use admit::place;
+pub use admit::{levels_text, place};
 pub use certify::{decide, print_verdict};
 pub use one_task::{TaskPart, say_part};
 pub use releases::run_releases;

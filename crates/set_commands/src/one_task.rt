@@ -28,8 +28,9 @@ pub enum TaskPart {
     /// How far its numbers may go.
     Limits,
     /// What its response is made of; or why it may not stand below the others of a conflict, and what becomes of it in an
-    /// order that decides. Of all tasks a conflict of more than three is told in short, unless all is asked for.
-    Reasons { all: bool },
+    /// order that decides. Of all tasks a conflict of more than three is told in short, unless all is asked for; levels stand
+    /// by slack where it is asked for.
+    Reasons { all: bool, sorted: bool },
     /// Its worst case.
     Worst,
 }
@@ -176,8 +177,8 @@ fn say_all<W: Write + Drop>(
     let status = placing_status(placing);
     match part {
         TaskPart::Limits => print_placing(alloc, owners, set, placing, output),
-        TaskPart::Reasons { all } => print_bytes(
-            explained_text(alloc, all, owners, set, placing),
+        TaskPart::Reasons { all, sorted } => print_bytes(
+            explained_text(alloc, all, sorted, owners, set, placing),
             status,
             output,
         ),

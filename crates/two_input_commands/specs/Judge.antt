@@ -5,6 +5,7 @@ use Rattle.judge.specs.Ceilings.{IsTextJudgement}
 use Rattle.judge.specs.Faults.{IsSettingsFault, given_fault_by}
 use Rattle.judge.specs.Judgements.{all_meet, order_judged}
 use Rattle.judge.specs.Lines.{judged_lines}
+use Rattle.owners.specs.Slack.{sorted_if}
 use Rattle.judge.specs.Node.{AreNumbersIn}
 use Rattle.judge.specs.declared.judging.JudgedTask.{JudgedTask}
 use Rattle.judge.specs.declared.node.JudgedNode.{JudgedNode}
@@ -31,8 +32,12 @@ JudgesText lower U text _ = ⊥
 abbrev pub judged_status : List JudgedTask → Status
 judged_status judged = if all_meet judged then status.Done else status.Infeasible
 
+-- the lines of a node's order, by slack where it is asked for
+abbrev pub judged_said : (sorted : Bool) → List Task → JudgedNode → List ℕ
+judged_said sorted U node = sorted_if sorted U (judged_lines U node.judged.items node.numbers.items)
+
 -- the answer on what the readers had is printed after what the writer held, and the status is the answer's
-abbrev pub SaysJudged : (lower : Bool) → OfTwoSays
-SaysJudged lower =
-    SaysOnBoth (JudgesText lower) (λ U node. judged_lines U node.judged.items node.numbers.items)
+abbrev pub SaysJudged : (lower sorted : Bool) → OfTwoSays
+SaysJudged lower sorted =
+    SaysOnBoth (JudgesText lower) (judged_said sorted)
     (λ node. judged_status node.judged.items)

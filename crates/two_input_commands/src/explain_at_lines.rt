@@ -7,7 +7,7 @@ use crate::in_order::{InOrder, judge_asked};
 use answering::{CommandRefusal, joined};
 use ceilings::{LockTable, Tabled};
 use judge::{explained_text, first_text};
-use owners::{Naming, Owner, named_text};
+use owners::{Naming, Owner, named_text, sorted_if};
 use std::alloc::{AllocError, Global};
 use task_sheet::TaskSet;
 
@@ -28,19 +28,21 @@ pub fn explain_at(
 }
 
 /// What is printed of an explained order: whether all tasks meet their deadlines, and then the lines, each
-/// task with its team.
+/// task with its team, the levels by slack where it is asked for.
 pub fn explained_at_text(
     alloc: Global,
+    sorted: bool,
     owners: &[Owner],
     tasks: &TaskSet,
     found: &InOrder,
 ) -> Result<Vec<u8>, AllocError>
     requires { All (λ j. j.task < TASK_LIMIT) found.now.node.judged.items }
     ensures { IfOk result (λ text. text.items
-        ≡ explained_at_lines owners.now tasks.now found.now) }
+        ≡ explained_at_lines sorted owners.now tasks.now found.now) }
 {
     let first = first_text(alloc, tasks, &found.node.judged)?;
-    let lines = named_text(alloc, Naming::Reasons, owners, found.text.as_bytes())?;
+    let named = named_text(alloc, Naming::Reasons, owners, found.text.as_bytes())?;
+    let lines = sorted_if(alloc, sorted, tasks, named)?;
     let text = joined(alloc, first.as_bytes(), &lines)?;
     Ok(text)
 }

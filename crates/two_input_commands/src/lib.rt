@@ -20,7 +20,7 @@ pub use diff_lines::{Compared, compare_text, compared_text};
 pub use draw::{Drawing, draw_text, print_drawing};
 pub use explain_at_lines::{explain_at, explained_at_text};
 pub use in_order::InOrder;
-pub use judge_lines::{judge_text, judged_status};
+pub use judge_lines::{judge_text, judged_said, judged_status};
 pub use keep_lines::{KeptNode, keep_text, keeping_status, keeping_text};
 pub use limits_at_lines::limits_at;
 pub use observe_lines::{Observation, leeway_of, observe_text, print_observation};

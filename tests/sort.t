@@ -1,0 +1,76 @@
+With `--sort slack` the levels of `desk admit`, `explain` and `judge` stand by what their tasks' responses leave of the
+deadlines, the least first: of these three 73000, 13000 and 5000.
+
+  $ desk admit examples/shared-lock.toml
+  admitted 3
+  1 lo 27000
+  2 mid 7000
+  3 hi 5000
+  $ desk admit examples/shared-lock.toml --sort slack
+  admitted 3
+  3 hi 5000
+  2 mid 7000
+  1 lo 27000
+  $ desk explain --sort=slack examples/shared-lock.toml
+  admitted 3
+  3 hi 5000 of 10000
+    cost 1000
+    blocked 4000 by lo section 1 lock m
+  2 mid 7000 of 20000
+    cost 2000
+    blocked 4000 by lo section 1 lock m, ceiling by hi
+    above hi 1 jobs 1000
+  1 lo 27000 of 100000
+    cost 20000
+    above hi 3 jobs 3000
+    above mid 2 jobs 4000
+  load 400000
+
+A task that misses has less than nothing left; of c on top, b and a the last misses by 1000, the first leaves 15000:
+
+  $ printf 'thread b 10\nthread a 20\nthread c 30\n' > down
+  $ desk judge examples/three-tasks.toml down
+  misses a b
+  1 b misses 12000 needs 14000 at 10
+  2 a misses 7000 needs 8000 at 20
+  3 c 5000 of 20000 at 30
+  $ desk judge examples/three-tasks.toml down --sort slack
+  misses a b
+  1 b misses 12000 needs 14000 at 10
+  2 a misses 7000 needs 8000 at 20
+  3 c 5000 of 20000 at 30
+  [3]
+  $ printf 'thread a 1\nthread b 2\nthread c 3\n' | desk judge examples/three-tasks.toml - --sort slack
+  misses a
+  1 a misses 7000 needs 11000 at 1
+  2 b 8000 of 12000 at 2
+  3 c 5000 of 20000 at 3
+  [3]
+
+A no of `admit` has no levels; that of `explain` ends with some, in an order that decides:
+
+  $ desk admit examples/blocked-out.toml --sort slack
+  infeasible hi
+  [3]
+  $ desk explain examples/blocked-out.toml | tail -n 2
+  $ desk explain examples/blocked-out.toml --sort slack | tail -n 2
+
+Of equal slack the lower level comes first; one that stands below a task that it must outrank comes before all:
+
+  $ task='[[task]]\nname = "%s"\nperiod = %d\ndeadline = %d\ncost = %d\n'
+  $ { printf "$task" a 10000 5000 1000; printf "$task" b 10000 6000 1000; printf "$task" c 10000 7000 1000; } > even.toml
+  $ desk admit even.toml
+  $ desk admit even.toml --sort slack
+  $ { printf "$task" a 10000 5000 1000; printf 'outranks = ["b"]\n'; printf "$task" b 10000 6000 1000; } > over.toml
+  $ printf 'thread b 2\nthread a 1\n' | desk judge over.toml - --sort slack
+  $ printf 'thread b 2\nthread a 1\n' | desk explain over.toml --at - --sort slack
+
+Another word is refused, and other commands don't take it:
+
+  $ desk admit examples/shared-lock.toml --sort level
+  (on standard error) no such order of lines: --sort takes slack
+  [2]
+  $ desk admit examples/shared-lock.toml --sort 2> notes
+  [2]
+  $ desk limits examples/shared-lock.toml --sort slack 2> notes
+  [2]
