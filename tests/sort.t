@@ -34,6 +34,7 @@ A task that misses has less than nothing left; of c on top, b and a the last mis
   1 b misses 12000 needs 14000 at 10
   2 a misses 7000 needs 8000 at 20
   3 c 5000 of 20000 at 30
+  [3]
   $ desk judge examples/three-tasks.toml down --sort slack
   misses a b
   1 b misses 12000 needs 14000 at 10
@@ -52,18 +53,45 @@ A no of `admit` has no levels; that of `explain` ends with some, in an order tha
   $ desk admit examples/blocked-out.toml --sort slack
   infeasible hi
   [3]
-  $ desk explain examples/blocked-out.toml | tail -n 2
-  $ desk explain examples/blocked-out.toml --sort slack | tail -n 2
+  $ desk explain examples/blocked-out.toml | grep '^[0-9]'
+  1 lo 14000 of 50000
+  2 hi misses 4400 needs 4500
+  $ desk explain examples/blocked-out.toml --sort slack | tail -n 4
+  2 hi misses 4400 needs 4500
+    cost 2000
+    blocked 2500 by lo section 1 lock m
+  1 lo 14000 of 50000
 
-Of equal slack the lower level comes first; one that stands below a task that it must outrank comes before all:
+Of equal slack, here 2000 of a, b and c, the lower level comes first; one that stands below a task that it must outrank comes
+before all:
 
-  $ task='[[task]]\nname = "%s"\nperiod = %d\ndeadline = %d\ncost = %d\n'
-  $ { printf "$task" a 10000 5000 1000; printf "$task" b 10000 6000 1000; printf "$task" c 10000 7000 1000; } > even.toml
-  $ desk admit even.toml
+  $ task='[[task]]\nname = "%s"\nperiod = 10000\ndeadline = %d\ncost = 1000\n'
+  $ printf "$task" a 6000 b 5000 c 4000 d 1500 > even.toml
   $ desk admit even.toml --sort slack
-  $ { printf "$task" a 10000 5000 1000; printf 'outranks = ["b"]\n'; printf "$task" b 10000 6000 1000; } > over.toml
-  $ printf 'thread b 2\nthread a 1\n' | desk judge over.toml - --sort slack
-  $ printf 'thread b 2\nthread a 1\n' | desk explain over.toml --at - --sort slack
+  admitted 4
+  4 d 1000
+  1 a 4000
+  2 b 3000
+  3 c 2000
+  $ { printf "$task" a 5000; printf 'outranks = ["c"]\n'; printf "$task" b 5000 c 1000; } > over.toml
+  $ printf 'thread b 1\nthread a 2\nthread c 3\n' > below
+  $ desk judge over.toml below --sort slack
+  misses a
+  2 a below c at 2
+  3 c 1000 of 1000 at 3
+  1 b 3000 of 5000 at 1
+  [3]
+  $ desk explain over.toml --at below --sort slack
+  misses a
+  2 a below c
+  3 c 1000 of 1000
+    cost 1000
+  1 b 3000 of 5000
+    cost 1000
+    above c 1 jobs 1000
+    above a 1 jobs 1000
+  load 300000
+  [3]
 
 Another word is refused, and other commands don't take it:
 
