@@ -1,9 +1,8 @@
 -- What the words of a call choose.
-use Rattle.std.specs.Prelude.{Bool, true, false, Option, Some, None, ℕ, min, max, List, is_some, option_map, if◌then◌else◌}
+use Rattle.std.specs.Prelude.{Bool, Option, Some, None, ℕ, min, max, List, is_some, option_map, if◌then◌else◌}
 use Rattle.task_sheet.specs.declared.prefer.Preference.{Preference}
 use Rattle.task_sheet.specs.declared.prefer.Preference.TheVariants as preference
 use Rattle.preferences.specs.declared.asking.Asking.{Asking}
-use Rattle.preferences.specs.declared.asking.Strictness.{Strictness}
 use Rattle.preferences.specs.declared.asking.Strictness.TheVariants.{AsSaid, Strict}
 use Rattle.command_line.specs.declared.calls.Preferred.{Preferred}
 use Rattle.command_line.specs.declared.calls.Preferred.TheVariants as preferred
