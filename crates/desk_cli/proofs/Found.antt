@@ -64,8 +64,8 @@ module _ (options : Options) (by : Preference) (owners : List Owner) (U : List T
       λ set other has. (Ok kind, (U, text, both _ set other has, finds), wrote, is)
   said_in command.Diff (Compared c) finds wrote is =
       λ set other has. (Ok (U, owners, c), (by, text, has, finds), wrote, is)
-  said_in command.Judge (Judged judged) finds wrote is =
-      λ set other has. (Ok (U, judged), (text, both _ set other has, finds), wrote, is)
+  said_in command.Judge (Judged sorted judged) finds wrote is = λ set other has.
+      rw (← finds.0) (Ok (U, judged), (text, both _ set other has, finds.1), wrote, is)
   said_in command.Simulate (Simulated answer) finds wrote is =
       λ set other has. rw finds.0 (Ok (U, answer), (text, both _ set other has, finds.1), wrote, is)
   said_in command.Simulate (Reached answer) finds wrote is =
@@ -80,8 +80,8 @@ module _ (options : Options) (by : Preference) (owners : List Owner) (U : List T
       λ set other has. (Ok (U, worst), (text, both _ set other has, finds), wrote, is)
   said_in command.LimitsAt (LimitedAt found) finds wrote is =
       λ set other has. (Ok (U, owners, found), (by, text, has, finds), wrote, is)
-  said_in command.ExplainAt (ExplainedAt found) finds wrote is =
-      λ set other has. (Ok (U, owners, found), (by, text, has, finds), wrote, is)
+  said_in command.ExplainAt (ExplainedAt sorted found) finds wrote is = λ set other has.
+      rw (← finds.0) (Ok (U, owners, found), (by, text, has, finds.1), wrote, is)
   said_in _ _ finds wrote is = absurd finds
 
   -- the same; or that memory ran out for it, which is an answer of its own

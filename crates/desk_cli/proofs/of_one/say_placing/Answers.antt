@@ -1,10 +1,11 @@
-use Rattle.std.proofs.Common.{ℕ, List, Option, Ok, Err, inl, inr, string_bytes}
+use Rattle.std.proofs.Common.{ℕ, Bool, List, Option, Ok, Err, inl, inr, string_bytes}
 use Rattle.task_sheet.specs.Sheet.{Task}
 use Rattle.preferences.specs.declared.asking.Asking.{Asking}
 use Rattle.assignment.specs.declared.placing.Placing.{Placing}
-use Rattle.set_commands.specs.Admit.{Places, SaysPlacing}
-use Rattle.answering.specs.Chosen.{asking_of, base_of, room_of}
+use Rattle.set_commands.specs.Admit.{Places, SaysLevels, SaysPlacing}
+use Rattle.answering.specs.Chosen.{asking_of, base_of, is_sorted, room_of}
 use Rattle.answering.specs.OrderParts.{placing_said}
+use Rattle.owners.specs.Slack.{sorted_if}
 use Rattle.answering.specs.Printed.{IsPrinted}
 use Rattle.answering.specs.Statuses.{placing_status}
 use Rattle.answering.specs.declared.answer.OrderPart.{OrderPart}
@@ -25,19 +26,30 @@ printed_says part asking known before after U p s placed (inl wrote) =
 printed_says part asking known before after U p s placed (inr want) =
     (Err refusal.OutOfMemory, tt, want.0, want.1)
 
+-- the same of its levels
+levels_says : (sorted : Bool) (asking : Asking)
+    (known before after : Option (List ℕ)) (U : List Task) (p : Placing) (s : Status)
+    → Places asking known (Ok (U, p))
+    → IsPrinted before after (sorted_if sorted U (placing_said Levels U p)) (placing_status p) s
+    → SaysLevels sorted asking known before after s
+levels_says sorted asking known before after U p s placed (inl wrote) =
+    (Ok (U, p), placed, wrote.0, wrote.1)
+levels_says sorted asking known before after U p s placed (inr want) =
+    (Err refusal.OutOfMemory, tt, want.0, want.1)
+
 pub returns-in-Admit : goal.returns-in-Admit
 returns-in-Admit g c =
-    rw c.in-Admit.is (said_as (made_printed c.placing_text-text.result (λ t. string_bytes t) _ _
-    c.placing_text-text.ensures c.print_made.ensures) (λ told. λ known has.
-    printed_says Levels (asking_of c.args.options) known _ _ c.args.set.now
+    rw c.in-Admit.is (said_as (made_printed c.levels_text-text.result (λ t. t.items) _ _
+    c.levels_text-text.ensures c.print_bytes.ensures) (λ told. λ known has.
+    levels_says (is_sorted c.args.options) (asking_of c.args.options) known _ _ c.args.set.now
     c.args.placing.now _ ((has.0, has.1, has.2.set), c.requires.placing)
-    (rw c.placing_status-status.ensures at told)))
+    (rw (c.is_sorted.ensures, c.placing_status-status.ensures) at told)))
 
 pub returns-in-Settings : goal.returns-in-Settings
 returns-in-Settings g c =
-    rw c.in-Settings.is (said_as (made_printed c.placing_text-text-in-Settings.result
-    (λ t. string_bytes t) _ _ c.placing_text-text-in-Settings.ensures
-    c.print_made-in-Settings.ensures) (λ told. λ known has.
+    rw c.in-Settings.is (said_as (made_printed c.placing_text-text.result
+    (λ t. string_bytes t) _ _ c.placing_text-text.ensures
+    c.print_made.ensures) (λ told. λ known has.
     printed_says (Settings (base_of c.args.options) (room_of c.args.options)) (asking_of c.args.options) known _ _
     c.args.set.now c.args.placing.now _ ((has.0, has.1, has.2.set), c.requires.placing)
     (rw (c.base_of.ensures, c.room_of.ensures, c.placing_status-status.ensures) at told)))
