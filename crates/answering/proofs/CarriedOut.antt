@@ -7,6 +7,7 @@ use Rattle.std.proofs.lemmas.Bool.{true≢false}
 use Rattle.std.specs.Io.KnownBytes.{Appends}
 use Rattle.streams.specs.Watching.{WatchedData}
 use Rattle.teams.specs.declared.fault.TeamsFault.TheVariants as set_fault
+use Rattle.chain_tables.specs.declared.fault.ChainFault.TheVariants as chain_fault
 use Rattle.certificate.specs.declared.fault.CertFault.TheVariants as certificate_fault
 use Rattle.ceiling_kernel.specs.declared.trace.RunFault.TheVariants as run_fault
 use Rattle.judge.specs.declared.fault.SettingsFault.TheVariants as settings_fault
@@ -32,6 +33,8 @@ failed_by : (r : CommandRefusal) → status_of r ≡ InputOrOutputFailed → r �
 failed_by (refusal.Input input_fault.ReadFailed) is = refl
 failed_by (refusal.Set set_fault.OutOfMemory) is = cc
 failed_by (refusal.New set_fault.OutOfMemory) is = cc
+failed_by (refusal.Chain chain_fault.OutOfMemory) is = cc
+failed_by (refusal.NewChain chain_fault.OutOfMemory) is = cc
 failed_by (refusal.Certificate certificate_fault.OutOfMemory) is = cc
 failed_by (refusal.Text text_fault.OutOfMemory) is = cc
 failed_by (refusal.Run run_fault.OutOfMemory) is = cc

@@ -14,6 +14,8 @@ returns-in-Ok-read g c =
     let taken : c.preference-by.result ≡ chosen c.args.asking.prefer read.0.prefers =
     c.preference-by.ensures
     ∙ ap (λ (o : Option Preference). chosen o choice.own) read.2
-    ∙ ap (λ (o : Option Preference). chosen c.args.asking.prefer o) read.3 in
-    let chained = (c.in-Ok-read.preferred.chains.items, read.6) in
-    ((read.0, read.1, read.4, read.5, chained), (read.0, read.1, taken), read.6)
+    ∙ ap (λ (o : Option Preference). chosen c.args.asking.prefer o) read.3 in (
+      (read.0, read.1, read.4, read.5, (c.in-Ok-read.preferred.chains.items, read.6)),
+      (read.0, read.1, taken),
+      read.6,
+    )
