@@ -81,6 +81,8 @@ def of_set(rng, subject):
         options.append(("task", rng.choice([*(sheet.name for sheet in sheets), "none", "0", ""])))
     if subject == "explain" and rng.random() < 0.4:
         options.append(("all", None))
+    if subject in ("admit", "explain", "judge") and rng.random() < 0.3:
+        options.append(("sort", "slack" if rng.random() < 0.95 else rng.choice(["", "level", "Slack", "slack "])))
     number = None
     if subject == "releases":
         seed = rng.choice([0, 1, rng.getrandbits(32), 2**32 - 1, 2**32]) if rng.random() < 0.6 else None

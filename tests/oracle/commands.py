@@ -430,6 +430,38 @@ def rush(rows, workers):
     return RUSHED, 0
 
 
+def by_slack(run):
+    """A command whose levels stand by the slack of their tasks where the words ask for it, the least first."""
+
+    def sorted_run(tasks, *inputs, sort=None, **options):
+        text, status = run(tasks, *inputs, **options)
+        return text if sort is None else sorted_levels(tasks, text), status
+
+    return sorted_run
+
+
+def sorted_levels(tasks, text):
+    """Levels with their parts stand together; of equal slack they stay as they are."""
+    deadlines = {task.name: task.deadline for task in tasks}
+    lines = text.splitlines(True)
+    of_levels = [place for place, line in enumerate(lines) if line[0].isdigit()]
+    if not of_levels:
+        return text
+    end = of_levels[-1] + 1
+    while end < len(lines) and lines[end].startswith(" "):
+        end += 1
+    blocks = [lines[start:stop] for start, stop in zip(of_levels, [*of_levels[1:], end])]
+    blocks.sort(key=lambda block: slack_of(deadlines, block[0].split()))
+    return "".join(lines[: of_levels[0]] + [line for block in blocks for line in block] + lines[end:])
+
+
+def slack_of(deadlines, words):
+    """What a level's line leaves of its task's deadline; below another one nothing at all."""
+    _, name, said, *more = words
+    return float("-inf") if said == "below" else deadlines[name] - int(more[2] if said == "misses" else said)
+
+
+SORT = {"sort": calls.one_of("slack")}
 PREFERS = {"prefer": calls.one_of("weight", "deadline"), "strict": calls.FLAG}
 OF_TASK = {**PREFERS, "task": calls.any_word}
 
@@ -443,7 +475,8 @@ WORST_AT, LIMITS_AT = [
     on_set(at_settings(command), settings.read_settings, options=OF_TASK) for command in (worst.worst_at, limits_at)
 ]
 OF_ALL = {**OF_TASK, "all": calls.FLAG}
-EXPLAIN_AT = on_set(explain_at, settings.read_settings, options=OF_ALL)
+OF_ALL |= SORT
+EXPLAIN_AT = on_set(by_slack(explain_at), settings.read_settings, options=OF_ALL)
 AT = {**OF_TASK, "at": calls.any_word}
 TIME = calls.number_within(0, kernel.HORIZON)
 VIEW = {"from": TIME, "to": TIME, "width": calls.number_within(960, 16_000), "print": calls.number_within(3, 4), "title": calls.any_word, "tasks": calls.any_word}
@@ -452,13 +485,13 @@ LEEWAY = {"tolerance": calls.number_within(0, observed.TOLERANCE_MOST), "jobless
 
 
 COMMANDS = {
-    "admit": on_set(admit),
+    "admit": on_set(by_slack(admit), options={**PREFERS, **SORT}),
     "certify": on_set(certify),
     "check": on_set(check, certificate.read),
-    "explain": on_set(explain, options={**AT, **OF_ALL}, by_file=("at", EXPLAIN_AT)),
+    "explain": on_set(by_slack(explain), options={**AT, **OF_ALL}, by_file=("at", EXPLAIN_AT)),
     "limits": on_set(limits_of, options=AT, by_file=("at", LIMITS_AT)),
     "settings": on_set(settings_of, options={**PREFERS, "keep": calls.any_word, "base": calls.number_within(1, settings.BASE_MOST), "room": calls.number_within(0, settings.ROOM_MOST)}, by_file=("keep", KEEP)),
-    "judge": on_set(judge, settings.read_settings, options={**PREFERS, "lower-is-higher": calls.FLAG}),
+    "judge": on_set(by_slack(judge), settings.read_settings, options={**PREFERS, **SORT, "lower-is-higher": calls.FLAG}),
     "diff": on_set(diff, read_change),
     "simulate": on_set(simulate, kernel.read_releases, options={**PREFERS, "tasks": calls.FLAG}),
     "releases": on_set(releases, number=(0, kernel.HORIZON), options={**PREFERS, "seed": calls.number_within(0, 2**32 - 1)}),

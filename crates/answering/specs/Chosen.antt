@@ -1,9 +1,8 @@
 -- What the words of a call choose.
-use Rattle.std.specs.Prelude.{Bool, true, false, Option, Some, None, ℕ, min, max, List, option_map, if◌then◌else◌}
+use Rattle.std.specs.Prelude.{Bool, Option, Some, None, ℕ, min, max, List, is_some, option_map, if◌then◌else◌}
 use Rattle.task_sheet.specs.declared.prefer.Preference.{Preference}
 use Rattle.task_sheet.specs.declared.prefer.Preference.TheVariants as preference
 use Rattle.preferences.specs.declared.asking.Asking.{Asking}
-use Rattle.preferences.specs.declared.asking.Strictness.{Strictness}
 use Rattle.preferences.specs.declared.asking.Strictness.TheVariants.{AsSaid, Strict}
 use Rattle.command_line.specs.declared.calls.Preferred.{Preferred}
 use Rattle.command_line.specs.declared.calls.Preferred.TheVariants as preferred
@@ -44,6 +43,10 @@ room_of options = room_chosen options.room
 -- the number of a team that words choose; they choose none below the least or above the greatest
 abbrev pub team_chosen : Options → Option ℕ
 team_chosen options = option_map (λ team. max 1 (min team MOST_TEAM)) options.team
+
+-- it is asked for lines of levels by slack
+abbrev pub is_sorted : Options → Bool
+is_sorted options = is_some options.sort
 
 -- the word that names the task that is asked about
 abbrev pub task_of : Options → Option (List ℕ)

@@ -19,6 +19,7 @@ kind_status _ = status.BadArguments
 abbrev pub fault_status : WordsFault → Status
 fault_status (fault.Clap error) = kind_status (kind_of error)
 fault_status fault.NoSuchPreference = status.BadArguments
+fault_status fault.NoSuchSort = status.BadArguments
 fault_status fault.InputTwice = status.BadArguments
 
 -- help, and out of memory, are answered on the output; any mistake is answered on the errors
@@ -32,10 +33,12 @@ kind_goes_out _ = false
 abbrev pub goes_out : WordsFault → Bool
 goes_out (fault.Clap error) = kind_goes_out (kind_of error)
 goes_out fault.NoSuchPreference = false
+goes_out fault.NoSuchSort = false
 goes_out fault.InputTwice = false
 
 -- memory ran out
 abbrev pub IsMemory : WordsFault → Type 0
 IsMemory (fault.Clap error) = kind_of error ≡ kind.OutOfMemory
 IsMemory fault.NoSuchPreference = ⊥
+IsMemory fault.NoSuchSort = ⊥
 IsMemory fault.InputTwice = ⊥

@@ -17,6 +17,7 @@ pub use refusal::CommandRefusal;
 pub use release_list::TextFault;
 pub use scripts::RushFault;
 pub use sets::{
-    Both, asking_of, base_of, read_one, read_owned, read_told, read_two, room_of, team_chosen, tell,
+    Both, asking_of, base_of, is_sorted, read_one, read_owned, read_told, read_two, room_of,
+    team_chosen, tell,
 };
 pub use status::{Status, placing_status};

@@ -97,6 +97,9 @@ pub fn refuse_words<O: Write + Drop, E: Write + Drop>(
     ensures preference { fault.now ≡ WordsFault.NoSuchPreference → errors.new.has_failed ≡ false
         → Appends (E.contents errors.old.inner) (E.contents errors.new.inner)
         (codes "no such preference: --prefer takes weight or deadline\n") }
+    ensures sort { fault.now ≡ WordsFault.NoSuchSort → errors.new.has_failed ≡ false
+        → Appends (E.contents errors.old.inner) (E.contents errors.new.inner)
+        (codes "no such order of lines: --sort takes slack\n") }
     ensures twice { fault.now ≡ WordsFault.InputTwice → errors.new.has_failed ≡ false
         → Appends (E.contents errors.old.inner) (E.contents errors.new.inner)
         (codes "standard input named twice\n") }
@@ -117,6 +120,11 @@ pub fn refuse_words<O: Write + Drop, E: Write + Drop>(
                 errors,
             )
         }
+        WordsFault::NoSuchSort => print(
+            b"no such order of lines: --sort takes slack\n",
+            Status::BadArguments,
+            errors,
+        ),
         WordsFault::InputTwice => print(
             b"standard input named twice\n",
             Status::BadArguments,

@@ -1,7 +1,7 @@
 //! Reading the inputs of a command: a set, or a set and a text.
 ghost use Rattle.std.specs.Prelude.{◌≡◌, Err, IfOk, MatchResult};
 ghost use Rattle.preferences.specs.ReadsAsked.{SaysAsked};
-ghost use Rattle.answering.specs.Chosen.{asking_of, base_of, room_of, team_chosen};
+ghost use Rattle.answering.specs.Chosen.{asking_of, base_of, is_sorted, room_of, team_chosen};
 ghost use Rattle.answering.specs.Owning.{HasChained, HasOwned, HaveOwned, IsTakenBy, SaysOwned};
 ghost use Rattle.chain_tables.specs.Chains.{HasChains};
 ghost use Rattle.answering.specs.Sets.{HasNoSet, HasSet, HaveNotBoth, IsNoSet, asked_refusal};
@@ -92,6 +92,13 @@ pub fn base_of(options: Options<'_>) -> u32
         Some(base) => base.min(MOST_PRIORITY) as u32,
         None => 1,
     }
+}
+
+/// Whether the words ask for lines of levels by slack.
+pub fn is_sorted(options: Options<'_>) -> bool
+    ensures { result ≡ is_sorted options.entry }
+{
+    options.sort.is_some()
 }
 
 /// How much room the words choose beside a number that is given anew.

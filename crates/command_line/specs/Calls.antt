@@ -1,5 +1,6 @@
 -- The call that words name.
-use Rattle.std.specs.Prelude.{◌≡◌, ◌≢◌, ◌⊎◌, ◌≤◌, ℕ, List, [], ◌∷◌, Option, Some, None, Bool, true, false, ◌&&◌, IfSome, codes, option_map}
+use Rattle.std.specs.Prelude.{◌≡◌, ◌≢◌, ◌⊎◌, ◌≤◌, ℕ, List, [], ◌∷◌, Option, Some, None, Bool, true, false, not, ◌&&◌, IfSome, codes, option_map}
+use Rattle.std.specs.Str.{bytes_eq}
 use Rattle.std.specs.Str.Parse.{digits_value, without_leading_plus}
 use Rattle.clap.specs.Words.{HasKind, IsUnsignedIn, Row, Text, fault_of, first_of, one_of, subcommand_of}
 use Rattle.command_line.specs.App.{desk_app}
@@ -123,6 +124,7 @@ pub record AreOptions (given : List Row) (options : OptionsData) : Type 0 where
   pub is_strict : Flags Strict given options.is_strict
   pub task : option_map (λ s. s.now) options.task ≡ first_of (codes "task") given
   pub all : Flags All given options.all
+  pub sort : option_map (λ s. s.now) options.sort ≡ first_of (codes "sort") given
   pub base : IsNumberOf Base given options.base
   pub room : IsNumberOf Room given options.room
   pub lower_is_higher : Flags LowerIsHigher given options.lower_is_higher
@@ -146,6 +148,7 @@ no_options =
       is_strict = false;
       task = None;
       all = false;
+      sort = None;
       base = None;
       room = None;
       lower_is_higher = false;
@@ -222,6 +225,17 @@ abbrev pub is_twice : Call → Bool
 is_twice (Two c first second options) = is_standard first && is_standard second
 is_twice _ = false
 
+-- a word is another than that of the order by slack
+abbrev pub is_other_sort : Option Text → Bool
+is_other_sort None = false
+is_other_sort (Some word) = not (bytes_eq word (codes "slack"))
+
+-- the call asks for another order of lines
+abbrev pub sorts_other : Call → Bool
+sorts_other (One c input options) = is_other_sort (option_map (λ s. s.now) options.sort)
+sorts_other (Two c first second options) = is_other_sort (option_map (λ s. s.now) options.sort)
+sorts_other (Number c input number options) = is_other_sort (option_map (λ s. s.now) options.sort)
+
 -- the numbers of a call are ones that its command and its options take
 abbrev pub HasNumber : Call → Type 0
 HasNumber (One c input options) = HaveNumbers options
@@ -234,10 +248,12 @@ abbrev pub AreTakenWords : List Text → Type 0
 AreTakenWords words = (words ≡ []) ⊎ (fault_of desk_app words ≡ [])
 
 -- `clap` gives an error of a kind that the words have, or one out of memory; or it takes them, and they prefer
--- an order that isn't there, or their call names standard input twice
+-- an order that isn't there, or their call sorts by another word than `slack`, or names standard input twice
 abbrev pub IsWordsFault : List Text → WordsFault → Type 0
 IsWordsFault words (fault.Clap error) = (words ≢ []) × HasKind (fault_of desk_app words) error
 IsWordsFault words fault.NoSuchPreference =
     AreTakenWords words × IfSome (subcommand_of desk_app words) (λ found. PrefersOther found.1)
+IsWordsFault words fault.NoSuchSort =
+    AreTakenWords words × (call : Call) × Calls words call × (sorts_other call ≡ true)
 IsWordsFault words fault.InputTwice =
     AreTakenWords words × (call : Call) × Calls words call × (is_twice call ≡ true)

@@ -13,7 +13,7 @@ use Rattle.command_line.specs.declared.calls.OfNumber.TheVariants.{Releases, Rus
 use Rattle.command_line.specs.declared.calls.Verb.{Verb}
 use Rattle.command_line.specs.declared.calls.Verb.TheVariants.{One, Two, Number}
 use Rattle.command_line.specs.declared.calls.Choice.{Choice}
-use Rattle.command_line.specs.declared.calls.Choice.TheVariants.{Prefer, Strict, Task, Base, Room, LowerIsHigher, Seed, Tasks, Tolerance, Jobless, Keep, At, All, From, To, Width, Print, Title, Rows, Team}
+use Rattle.command_line.specs.declared.calls.Choice.TheVariants.{Prefer, Strict, Task, Base, Room, LowerIsHigher, Seed, Tasks, Tolerance, Jobless, Keep, At, All, Sort, From, To, Width, Print, Title, Rows, Team}
 use Rattle.command_line.specs.declared.calls.Takes.{Takes}
 use Rattle.command_line.specs.declared.calls.Takes.TheVariants as takes
 use Rattle.command_line.specs.declared.calls.TheConstants.{MOST_WORKERS, MOST_TEAM, MOST_PRIORITY, MOST_ROOM, MOST_SEED, MOST_TOLERANCE, LEAST_WIDTH, MOST_WIDTH, LEAST_PAPER, MOST_PAPER, LATEST_END}
@@ -22,11 +22,11 @@ use Rattle.command_line.specs.declared.calls.TheConstants.{MOST_WORKERS, MOST_TE
 -- those for certificates and runs, those for scripts
 abbrev pub commands : List (Text × Verb × List Choice)
 commands =
-    (codes "admit", One Admit, Prefer ∷ Strict ∷ [])
-    ∷ (codes "explain", One Explain, Prefer ∷ Strict ∷ Task ∷ At ∷ All ∷ [])
+    (codes "admit", One Admit, Prefer ∷ Strict ∷ Sort ∷ [])
+    ∷ (codes "explain", One Explain, Prefer ∷ Strict ∷ Task ∷ At ∷ All ∷ Sort ∷ [])
     ∷ (codes "limits", One Limits, Prefer ∷ Strict ∷ Task ∷ At ∷ [])
     ∷ (codes "settings", One Settings, Prefer ∷ Strict ∷ Base ∷ Room ∷ Keep ∷ [])
-    ∷ (codes "judge", Two Judge, Prefer ∷ Strict ∷ LowerIsHigher ∷ [])
+    ∷ (codes "judge", Two Judge, Prefer ∷ Strict ∷ LowerIsHigher ∷ Sort ∷ [])
     ∷ (codes "diff", Two Diff, Prefer ∷ Strict ∷ [])
     ∷ (codes "certify", One Certify, Prefer ∷ Strict ∷ [])
     ∷ (codes "check", Two Check, Prefer ∷ Strict ∷ [])
@@ -100,6 +100,7 @@ choice_name Jobless = codes "jobless"
 choice_name Keep = codes "keep"
 choice_name At = codes "at"
 choice_name All = codes "all"
+choice_name Sort = codes "sort"
 choice_name From = codes "from"
 choice_name To = codes "to"
 choice_name Width = codes "width"
@@ -133,6 +134,7 @@ takes_of Jobless = takes.Flag
 takes_of Keep = takes.Word
 takes_of At = takes.Word
 takes_of All = takes.Flag
+takes_of Sort = takes.Word
 takes_of From = takes.Number 0 LATEST_END
 takes_of To = takes.Number 0 LATEST_END
 takes_of Width = takes.Number LEAST_WIDTH MOST_WIDTH

@@ -1,6 +1,6 @@
 //! The calls of `desk`.
 ghost use Rattle.std.specs.Prelude.{◌≡◌, option_map, pos};
-ghost use Rattle.command_line.specs.Calls.{is_standard, is_twice};
+ghost use Rattle.command_line.specs.Calls.{is_other_sort, is_standard, is_twice, sorts_other};
 ghost use Rattle.command_line.specs.Calls.{no_options};
 ghost use Rattle.command_line.specs.Commands.{by_file, choice_id, choice_name, input_of, least_of, long_of, most_of, number_name, second_of, takes_of};
 
@@ -147,6 +147,8 @@ pub(crate) enum Choice {
     At,
     // `--all`
     All,
+    // `--sort slack`
+    Sort,
     // `--from T`
     From,
     // `--to T`
@@ -192,6 +194,8 @@ pub struct Options<'a> {
     pub task: Option<&'a str>,
     /// `--all`: what each task of a conflict needs, however many there are.
     pub all: bool,
+    /// `--sort slack`: by what the lines of levels stand; no other word where words were read.
+    pub sort: Option<&'a str>,
     /// `--base N`: the priority of level 1.
     pub base: Option<usize>,
     /// `--room N`: how many numbers are to stay free beside one that is given anew.
@@ -326,6 +330,7 @@ impl Choice {
             Choice::Keep => "keep",
             Choice::At => "at",
             Choice::All => "all",
+            Choice::Sort => "sort",
             Choice::From => "from",
             Choice::To => "to",
             Choice::Width => "width",
@@ -366,6 +371,7 @@ impl Choice {
             | Choice::Keep
             | Choice::At
             | Choice::Title
+            | Choice::Sort
             | Choice::Rows => Takes::Word,
             Choice::Base => Takes::Number {
                 least: 1,
@@ -410,7 +416,7 @@ impl Choice {
     // What help calls the word or the number that it takes.
     pub(crate) fn value_name<'a>(self) -> &'a str {
         match self {
-            Choice::Prefer => "ORDER",
+            Choice::Prefer | Choice::Sort => "ORDER",
             Choice::Task => "NAME",
             Choice::Keep | Choice::At => "SETTINGS",
             Choice::From | Choice::To => "T",
@@ -449,6 +455,8 @@ impl Choice {
             Choice::Keep => "Settings of a node whose order stays, and numbers as far as can be",
             Choice::At => "Settings that give the order, in place of the best one",
             Choice::All => "What each task of a conflict needs, also of more than three",
+            Choice::Sort =>
+                "How levels stand: slack, the least first, in place of the lowest first",
             Choice::From => "Where the picture begins, in microseconds",
             Choice::To => "Where the picture ends, in microseconds, if not with the run",
             Choice::Width => "How wide the picture is, in pixels, from 960 to 16000",
@@ -473,6 +481,7 @@ impl<'a> Options<'a> {
             is_strict: false,
             task: None,
             all: false,
+            sort: None,
             base: None,
             room: None,
             lower_is_higher: false,
@@ -491,6 +500,18 @@ impl<'a> Options<'a> {
     }
 }
 
+impl Options<'_> {
+    // It is asked for another order of lines than that by slack.
+    fn sorts_other(&self) -> bool
+        ensures { result ≡ is_other_sort (option_map (λ s. s.now) self.now.sort) }
+    {
+        match self.sort {
+            Some(word) => word != "slack",
+            None => false,
+        }
+    }
+}
+
 impl Verb {
     // The name of its first input.
     pub(crate) fn input<'a>(self) -> &'a str
@@ -504,6 +525,17 @@ impl Verb {
 }
 
 impl Call<'_> {
+    // The call asks for another order of lines than that by slack.
+    pub(crate) fn sorts_other(&self) -> bool
+        ensures { result ≡ sorts_other self.now }
+    {
+        match self {
+            Call::One { options, .. } => options.sorts_other(),
+            Call::Two { options, .. } => options.sorts_other(),
+            Call::Number { options, .. } => options.sorts_other(),
+        }
+    }
+
     // Two inputs of the call are standard input.
     pub(crate) fn is_twice(&self) -> bool
         ensures { result ≡ is_twice self.now }

@@ -45,7 +45,7 @@ const COMMANDS: [Listed; 16] = [
     Listed {
         verb: Verb::One(OfOne::Admit),
         word: "admit",
-        options: &[Choice::Prefer, Choice::Strict],
+        options: &[Choice::Prefer, Choice::Strict, Choice::Sort],
         about: "Prints the best order with its responses, or the tasks that stand in the way of all",
         example: example!(
             "admit examples/shared-lock.toml",
@@ -61,6 +61,7 @@ const COMMANDS: [Listed; 16] = [
             Choice::Task,
             Choice::At,
             Choice::All,
+            Choice::Sort,
         ],
         about: "Prints what each response is made of, or a minimal set of tasks that collide and how one order fails",
         example: example!(
@@ -97,7 +98,12 @@ const COMMANDS: [Listed; 16] = [
     Listed {
         verb: Verb::Two(OfTwo::Judge),
         word: "judge",
-        options: &[Choice::Prefer, Choice::Strict, Choice::LowerIsHigher],
+        options: &[
+            Choice::Prefer,
+            Choice::Strict,
+            Choice::LowerIsHigher,
+            Choice::Sort,
+        ],
         about: "Prints which tasks meet their deadlines at priorities that are given",
         example: example!(
             "settings examples/shared-lock.toml | desk judge examples/shared-lock.toml -",

@@ -4,7 +4,7 @@ ghost use Rattle.clap.specs.Words.{FailsBy, fault_of, first_of, found_of, rows_o
 ghost use Rattle.command_line.specs.App.{desk_app};
 ghost use Rattle.command_line.specs.Commands.{by_file, input_of, number_name, verb_of};
 ghost use Rattle.command_line.specs.declared.calls.Verb.TheVariants.{One};
-ghost use Rattle.command_line.specs.Calls.{AreOptions, Calls, Counts, Flags, HasNumber, IsCall, IsCommand, AreTakenWords, IsWordsFault, MayNumber, file_of, IsNumberOf, Names, NamesFile, Prefers, PrefersOther, SayChoices, TakesNumber, is_twice};
+ghost use Rattle.command_line.specs.Calls.{AreOptions, Calls, Counts, Flags, HasNumber, IsCall, IsCommand, AreTakenWords, IsWordsFault, MayNumber, file_of, IsNumberOf, Names, NamesFile, Prefers, PrefersOther, SayChoices, TakesNumber, is_twice, sorts_other};
 
 use crate::calls::{Call, Choice, Input, OfNumber, OfOne, OfTwo, Options, Preferred, Verb};
 use crate::commands::{desk_command, verb_named};
@@ -18,6 +18,8 @@ pub enum WordsFault {
     Clap(Error),
     /// `--prefer` is given a word other than `weight` and `deadline`.
     NoSuchPreference,
+    /// `--sort` is given a word other than `slack`.
+    NoSuchSort,
     /// Standard input is named twice.
     InputTwice,
 }
@@ -89,6 +91,7 @@ fn options_at<'a>(matches: &ArgMatches<'a>) -> Option<Options<'a>>
         task: matches.get_str("task"),
         base: number_chosen(matches, Choice::Base),
         all: flag_chosen(matches, Choice::All),
+        sort: matches.get_str("sort"),
         lower_is_higher: flag_chosen(matches, Choice::LowerIsHigher),
         seed: number_chosen(matches, Choice::Seed),
         by_task: flag_chosen(matches, Choice::Tasks),
@@ -207,6 +210,7 @@ pub fn read_words<'a>(alloc: Global, words: &'a [&'a str]) -> Result<Call<'a>, W
     ensures call { IfOk result (Calls (map (λ s. s.now) words.entry.now)) }
     ensures taken { IfOk result (λ _. AreTakenWords (map (λ s. s.now) words.entry.now)) }
     ensures once { IfOk result (λ call. is_twice call ≡ false) }
+    ensures sorted { IfOk result (λ call. sorts_other call ≡ false) }
     ensures number { IfOk result HasNumber }
     ensures fault { IfErr result (IsWordsFault (map (λ s. s.now) words.entry.now)) }
 {
@@ -225,6 +229,9 @@ pub fn read_words<'a>(alloc: Global, words: &'a [&'a str]) -> Result<Call<'a>, W
         Some(call) => call,
         None => return Err(WordsFault::NoSuchPreference),
     };
+    if call.sorts_other() {
+        return Err(WordsFault::NoSuchSort);
+    }
     if call.is_twice() {
         return Err(WordsFault::InputTwice);
     }

@@ -68,8 +68,8 @@ module _ (options : Options) (by : Preference) (owners : List Owner) (chains : L
       λ set other has said. (Ok kind, (U, text, both _ set other has, finds), wrote, is)
   said_in command.Diff (Compared c) finds wrote is =
       λ set other has said. (Ok (U, owners, c), (by, text, has, finds), wrote, is)
-  said_in command.Judge (Judged node told) finds wrote is = λ set other has said.
-      (Ok (U, owners, chains, (node, told)), (by, text, has, said, finds), wrote, is)
+  said_in command.Judge (Judged sorted node told) finds wrote is = λ set other has said. rw (← finds.0)
+      (Ok (U, owners, chains, (node, told)), (by, text, has, said, finds.1), wrote, is)
   said_in command.Simulate (Simulated answer) finds wrote is =
       λ set other has said. rw finds.0 (Ok (U, answer), (text, both _ set other has, finds.1), wrote, is)
   said_in command.Simulate (Reached answer) finds wrote is =
@@ -84,8 +84,8 @@ module _ (options : Options) (by : Preference) (owners : List Owner) (chains : L
       λ set other has said. (Ok (U, worst), (text, both _ set other has, finds), wrote, is)
   said_in command.LimitsAt (LimitedAt found) finds wrote is =
       λ set other has said. (Ok (U, owners, found), (by, text, has, finds), wrote, is)
-  said_in command.ExplainAt (ExplainedAt found told) finds wrote is = λ set other has said.
-      (Ok (U, owners, chains, (found, told)), (by, text, has, said, finds), wrote, is)
+  said_in command.ExplainAt (ExplainedAt sorted found told) finds wrote is = λ set other has said. rw (← finds.0)
+      (Ok (U, owners, chains, (found, told)), (by, text, has, said, finds.1), wrote, is)
   said_in _ _ finds wrote is = absurd finds
 
   -- the same; or that memory ran out for it, which is an answer of its own

@@ -23,7 +23,7 @@ use Rattle.two_input_commands.specs.WorstAt.{SaysWorstAt}
 use Rattle.set_commands.specs.declared.one_task.TaskPart.TheVariants as part
 use Rattle.answering.specs.declared.answer.OrderPart.TheVariants as order
 use Rattle.answering.specs.declared.status.Status.{Status}
-use Rattle.answering.specs.Chosen.{asking_of, base_of, room_of, task_of, team_chosen}
+use Rattle.answering.specs.Chosen.{asking_of, base_of, is_sorted, room_of, task_of, team_chosen}
 use Rattle.preferences.specs.ReadsAsked.{lenient}
 use Rattle.preferences.specs.declared.asking.Asking.{Asking}
 
@@ -31,12 +31,13 @@ use Rattle.preferences.specs.declared.asking.Asking.{Asking}
 -- what the words choose
 abbrev pub OneSays : OfOne → Options → Option (List ℕ) → (before after : Option (List ℕ))
     → Status → Type 0
-OneSays Admit options = SaysAdmitted (asking_of options)
+OneSays Admit options = SaysAdmitted (is_sorted options) (asking_of options)
 OneSays Certify options = SaysCertified (asking_of options)
 OneSays Limits options = SaysPart part.Limits (task_of options) (asking_of options)
 OneSays Settings options =
     SaysPlacing (order.Settings (base_of options) (room_of options)) (asking_of options)
-OneSays Explain options = SaysPart (part.Reasons options.all) (task_of options) (asking_of options)
+OneSays Explain options =
+    SaysPart (part.Reasons options.all (is_sorted options)) (task_of options) (asking_of options)
 OneSays Worst options = SaysPart part.Worst (task_of options) (asking_of options)
 OneSays Script options = SaysScript (asking_of options) (team_chosen options)
 OneSays Play options = SaysPlayed
@@ -51,7 +52,7 @@ abbrev pub TwoSay :
     OfTwo → Options → (first second : Option (List ℕ)) → (before after : Option (List ℕ))
     → Status → Type 0
 TwoSay Check options = SaysChecked (asking_of options)
-TwoSay Judge options = SaysJudged options.lower_is_higher (asking_of options)
+TwoSay Judge options = SaysJudged options.lower_is_higher (is_sorted options) (asking_of options)
 TwoSay Diff options = SaysCompared (asking_of options)
 TwoSay Simulate options = SaysSimulation options.by_task (asking_of options)
 TwoSay Draw options = SaysDrawn options (asking_of options)
@@ -59,4 +60,4 @@ TwoSay Observe options = SaysObserved (leeway_of options) (asking_of options)
 TwoSay Keep options = SaysKeeping (base_of options) (room_of options) (asking_of options)
 TwoSay WorstAt options = SaysWorstAt (task_of options) (asking_of options)
 TwoSay LimitsAt options = SaysLimitsAt (task_of options) (asking_of options)
-TwoSay ExplainAt options = SaysExplainedAt (task_of options) (asking_of options)
+TwoSay ExplainAt options = SaysExplainedAt (task_of options) (is_sorted options) (asking_of options)

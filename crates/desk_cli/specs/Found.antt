@@ -11,7 +11,7 @@ use Rattle.command_line.specs.declared.calls.OfTwo.TheVariants as command
 use Rattle.chain_tables.specs.Chains.{ChainData}
 use Rattle.two_input_commands.specs.Check.{ChecksText, checked_line}
 use Rattle.answering.specs.Statuses.{placing_status}
-use Rattle.answering.specs.Chosen.{asking_of, base_of, room_of, task_of}
+use Rattle.answering.specs.Chosen.{asking_of, base_of, is_sorted, room_of, task_of}
 use Rattle.two_input_commands.specs.Diff.{ComparesText, compared_lines}
 use Rattle.two_input_commands.specs.Draw.{DrawsText, drawing_said}
 use Rattle.two_input_commands.specs.ExplainAt.{ExplainsText, explained_at_lines}
@@ -36,8 +36,8 @@ FindsIn command.Check options by owners chains U text (Ok (Shown kind)) = Checks
 FindsIn command.Check options by owners chains U text (Err r) = ChecksText U text (Err r)
 FindsIn command.Diff options by owners chains U text (Ok (Compared c)) = ComparesText (asking_of options) by U text (Ok c)
 FindsIn command.Diff options by owners chains U text (Err r) = ComparesText (asking_of options) by U text (Err r)
-FindsIn command.Judge options by owners chains U text (Ok (Judged node told)) =
-    JudgesText options.lower_is_higher chains U text (Ok (node, told))
+FindsIn command.Judge options by owners chains U text (Ok (Judged sorted node told)) =
+    (sorted ≡ is_sorted options) × JudgesText options.lower_is_higher chains U text (Ok (node, told))
 FindsIn command.Judge options by owners chains U text (Err r) =
     JudgesText options.lower_is_higher chains U text (Err r)
 FindsIn command.Simulate options by owners chains U text (Ok (Simulated answer)) =
@@ -57,28 +57,28 @@ FindsIn command.WorstAt options by owners chains U text (Ok (WorstAt found)) = W
 FindsIn command.WorstAt options by owners chains U text (Err r) = WorstsText (task_of options) U text (Err r)
 FindsIn command.LimitsAt options by owners chains U text (Ok (LimitedAt found)) = LimitsText (task_of options) owners U text (Ok found)
 FindsIn command.LimitsAt options by owners chains U text (Err r) = LimitsText (task_of options) owners U text (Err r)
-FindsIn command.ExplainAt options by owners chains U text (Ok (ExplainedAt found told)) =
-    ExplainsText (task_of options) chains U text (Ok (found, told))
+FindsIn command.ExplainAt options by owners chains U text (Ok (ExplainedAt sorted found told)) =
+    (sorted ≡ is_sorted options) × ExplainsText (task_of options) chains U text (Ok (found, told))
 FindsIn command.ExplainAt options by owners chains U text (Err r) =
     ExplainsText (task_of options) chains U text (Err r)
 FindsIn _ options by owners chains U text _ = ⊥
 
 -- what was found speaks of tasks that a set may have, and of a run in an order of the set
 abbrev pub IsFoundOf : List Task → Found → Type 0
-IsFoundOf U (Judged node told) = All (λ j. j.task < TASK_LIMIT) node.judged.items
+IsFoundOf U (Judged sorted node told) = All (λ j. j.task < TASK_LIMIT) node.judged.items
 IsFoundOf U (Compared c) = IsPlacingOf U c.was × IsPlacingOf c.set c.is
 IsFoundOf U (Reached answer) = IsInOrder U answer
 IsFoundOf U (Drawn drawing) = IsInOrder U drawing.answer
 IsFoundOf U (Observed leeway shown) = IsObservationOf shown
 IsFoundOf U (Keeping node base room) = IsKeptIn U node.keeping × IsOldOf node
-IsFoundOf U (ExplainedAt found told) = All (λ j. j.task < TASK_LIMIT) found.node.judged.items
+IsFoundOf U (ExplainedAt sorted found told) = All (λ j. j.task < TASK_LIMIT) found.node.judged.items
 IsFoundOf U _ = Unit {0}
 
 -- what is printed of what was found of a set whose tasks these have
 abbrev pub found_said : List Owner → List Task → Found → List ℕ
 found_said owners U (Shown kind) = checked_line kind
 found_said owners U (Compared c) = compared_lines owners U c
-found_said owners U (Judged node told) = judged_said U node told
+found_said owners U (Judged sorted node told) = judged_said sorted U node told
 found_said owners U (Simulated answer) = simulation_said U answer
 found_said owners U (Reached answer) = reached_said U answer
 found_said owners U (Drawn drawing) = drawing_said U drawing
@@ -86,13 +86,13 @@ found_said owners U (Observed leeway shown) = observation_said leeway U shown
 found_said owners U (Keeping node base room) = keeping_lines U base room node
 found_said owners U (WorstAt found) = string_bytes found.text
 found_said owners U (LimitedAt found) = string_bytes found.text
-found_said owners U (ExplainedAt found told) = explained_at_lines owners U found told
+found_said owners U (ExplainedAt sorted found told) = explained_at_lines sorted owners U found told
 
 -- the exit status of what was found
 abbrev pub found_status : Found → Status
 found_status (Shown kind) = Done
 found_status (Compared c) = placing_status c.is
-found_status (Judged node told) = chained_status node.judged.items told.are_met
+found_status (Judged sorted node told) = chained_status node.judged.items told.are_met
 found_status (Simulated answer) = simulation_status answer
 found_status (Reached answer) = simulation_status answer
 found_status (Drawn drawing) = simulation_status drawing.answer
@@ -100,7 +100,7 @@ found_status (Observed leeway shown) = observation_status leeway shown
 found_status (Keeping node base room) = keeping_status node.keeping
 found_status (WorstAt found) = judged_status found.node.judged.items
 found_status (LimitedAt found) = judged_status found.node.judged.items
-found_status (ExplainedAt found told) = chained_status found.node.judged.items told.are_met
+found_status (ExplainedAt sorted found told) = chained_status found.node.judged.items told.are_met
 
 -- that is printed after what the writer held, with its status; or that there was no memory for it
 abbrev pub PrintsFound : List Owner → List Task → Found → (before after : Option (List ℕ)) → Status → Type 0

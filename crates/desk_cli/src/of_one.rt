@@ -11,8 +11,8 @@ ghost use Rattle.answering.specs.Statuses.{placing_status};
 ghost use Rattle.answering.specs.declared.answer.OrderPart.TheVariants.{Settings};
 
 use answering::{
-    Audience, OrderPart, Status, asking_of, base_of, placing_status, placing_text, print_made,
-    refuse, room_of,
+    Audience, OrderPart, Status, asking_of, base_of, is_sorted, placing_status, placing_text,
+    print_made, refuse, room_of,
 };
 use assignment::Placing;
 use command_line::{OfOne, Options};
@@ -64,11 +64,14 @@ fn say_placing<W: Write + Drop>(
 {
     let task = options.task;
     match command {
-        OfOne::Admit => say_admitted(alloc, placed, output),
+        OfOne::Admit => say_admitted(alloc, is_sorted(options), placed, output),
         OfOne::Limits => say_part(alloc, TaskPart::Limits, task, placed, output),
         OfOne::Settings => say_settings(alloc, options, &placed.tasks, &placed.placing, output),
         OfOne::Explain => {
-            let part = TaskPart::Reasons { all: options.all };
+            let part = TaskPart::Reasons {
+                all: options.all,
+                sorted: is_sorted(options),
+            };
             say_part(alloc, part, task, placed, output)
         }
         OfOne::Worst => say_part(alloc, TaskPart::Worst, task, placed, output),

@@ -6,8 +6,8 @@ ghost use Rattle.desk_cli.specs.Saying.{SaysOfBoth};
 ghost use Rattle.answering.specs.Outcomes.{IsCarriedOutOnBoth, IsSaidOn};
 
 use answering::{
-    Audience, Both, CommandRefusal, Status, Which, asking_of, base_of, placing_status, print,
-    print_bytes, print_made, read_two, refuse, room_of, tell,
+    Audience, Both, CommandRefusal, Status, Which, asking_of, base_of, is_sorted, placing_status,
+    print, print_bytes, print_made, read_two, refuse, room_of, tell,
 };
 use cert_checker::Checked;
 use command_line::{OfTwo, Options};
@@ -36,8 +36,9 @@ pub enum Found {
     Shown(Checked),
     /// What becomes of a set and of a new one.
     Compared(Compared),
-    /// What becomes of the tasks in the order that settings give, and what is told of the chains.
-    Judged(JudgedNode, ChainsTold),
+    /// What becomes of the tasks in the order that settings give, and what is told of the chains; whether its lines are to
+    /// stand by slack.
+    Judged(bool, JudgedNode, ChainsTold),
     /// What comes of a release list, to be shown as the lines of its trace.
     Simulated(Simulated),
     /// The same, to be shown as the lines of what the tasks came to.
@@ -54,8 +55,9 @@ pub enum Found {
     },
     /// The worst case of a task in the order that settings give.
     WorstAt(InOrder),
-    /// What explains the order that settings give, without the teams of its tasks, and what is told of the chains.
-    ExplainedAt(InOrder, ChainsTold),
+    /// What explains the order that settings give, without the teams of its tasks, and what is told of the chains; whether its
+    /// lines are to stand by slack.
+    ExplainedAt(bool, InOrder, ChainsTold),
     /// How far the numbers of a set may go in the order that settings give.
     LimitedAt(InOrder),
 }
@@ -85,7 +87,7 @@ fn find(
         OfTwo::Judge => {
             let lower = options.lower_is_higher;
             let (node, told) = judge_text(alloc, lower, &both.chains, tasks, text)?;
-            Ok(Found::Judged(node, told))
+            Ok(Found::Judged(is_sorted(options), node, told))
         }
         OfTwo::Simulate => {
             let answer = simulate_text(alloc, tasks, text)?;
@@ -115,7 +117,7 @@ fn find(
         )?)),
         OfTwo::ExplainAt => {
             let (found, told) = explain_at(alloc, options.task, &both.chains, tasks, text)?;
-            Ok(Found::ExplainedAt(found, told))
+            Ok(Found::ExplainedAt(is_sorted(options), found, told))
         }
     }
 }
@@ -138,8 +140,8 @@ fn print_found<W: Write + Drop>(
             placing_status(&compared.is),
             output,
         ),
-        Found::Judged(node, told) => print_made(
-            judged_said(alloc, tasks, node, told),
+        Found::Judged(sorted, node, told) => print_bytes(
+            judged_said(alloc, *sorted, tasks, node, told),
             chained_status(&node.judged, told.are_met),
             output,
         ),
@@ -164,8 +166,8 @@ fn print_found<W: Write + Drop>(
             judged_status(&found.node.judged),
             output,
         ),
-        Found::ExplainedAt(found, told) => print_bytes(
-            explained_at_text(alloc, owners, tasks, found, told),
+        Found::ExplainedAt(sorted, found, told) => print_bytes(
+            explained_at_text(alloc, *sorted, owners, tasks, found, told),
             chained_status(&found.node.judged, told.are_met),
             output,
         ),

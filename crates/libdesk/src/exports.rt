@@ -30,7 +30,7 @@ use std::alloc::Global;
 #[unsafe(no_mangle)]
 pub extern "C" fn desk_admit(alloc: Global, set: &[u8], room: &mut [u8], status: &mut u8) -> usize
     ensures room { length room.new ≡ length room.old }
-    ensures answer { AnswersCall (SaysAdmitted (asking_of no_options)
+    ensures answer { AnswersCall (SaysAdmitted false (asking_of no_options)
         (Some set.now)) room.old room.new result status.new }
 {
     answer(alloc, Asked::One(OfOne::Admit, set), room, status)
@@ -75,7 +75,7 @@ pub extern "C" fn desk_settings(
 #[unsafe(no_mangle)]
 pub extern "C" fn desk_explain(alloc: Global, set: &[u8], room: &mut [u8], status: &mut u8) -> usize
     ensures room { length room.new ≡ length room.old }
-    ensures answer { AnswersCall (SaysExplained true (asking_of no_options)
+    ensures answer { AnswersCall (SaysExplained true false (asking_of no_options)
         (Some set.now)) room.old room.new result status.new }
 {
     answer(alloc, Asked::One(OfOne::Explain, set), room, status)
@@ -153,7 +153,7 @@ pub extern "C" fn desk_judge(
     status: &mut u8,
 ) -> usize
     ensures room { length room.new ≡ length room.old }
-    ensures answer { AnswersCall (SaysJudged false (asking_of no_options) (Some set.now)
+    ensures answer { AnswersCall (SaysJudged false false (asking_of no_options) (Some set.now)
         (Some settings.now)) room.old room.new result status.new }
 {
     answer(alloc, Asked::Two(OfTwo::Judge, set, settings), room, status)

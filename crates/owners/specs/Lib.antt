@@ -1,4 +1,5 @@
 pub mod Followers
 pub mod Owners
 pub mod NamedLines
+pub mod Slack
 pub mod Parts

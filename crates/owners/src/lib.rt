@@ -7,10 +7,12 @@ pub mod laws;
 mod naming;
 mod owner;
 mod parts;
+mod slack;
 mod words;
 
 pub use crate::followers::along;
 pub use crate::naming::named_text;
 pub use crate::owner::{Owner, push_interrupt, read_owners};
 pub use crate::parts::parts_of;
+pub use crate::slack::{by_slack, sorted_if};
 pub use crate::words::Naming;

@@ -14,8 +14,8 @@ pub enum Naming {
     Reasons,
 }
 
-// The word at a place of a line, from 0.
-fn word_at(line: &[u8], place: usize) -> Option<&[u8]>
+/// The word at a place of a line, from 0.
+pub(crate) fn word_at(line: &[u8], place: usize) -> Option<&[u8]>
     ensures { MatchOption result (slice_get (words line.entry.now) place ≡ None)
         (λ word. slice_get (words line.entry.now) place ≡ Some word.now) }
 {
@@ -30,8 +30,8 @@ fn word_at(line: &[u8], place: usize) -> Option<&[u8]>
     None
 }
 
-// Whether the word at a place is this one.
-fn is_at(line: &[u8], place: usize, word: &[u8]) -> bool
+/// Whether the word at a place is this one.
+pub(crate) fn is_at(line: &[u8], place: usize, word: &[u8]) -> bool
     ensures { result ≡ is_at (words line.now) place word.now }
 {
     match word_at(line, place) {
@@ -40,8 +40,8 @@ fn is_at(line: &[u8], place: usize, word: &[u8]) -> bool
     }
 }
 
-// Whether the word at a place is a number: it begins with a digit, as no name does.
-fn number_at(line: &[u8], place: usize) -> bool
+/// Whether the word at a place is a number: it begins with a digit, as no name does.
+pub(crate) fn number_at(line: &[u8], place: usize) -> bool
     ensures { result ≡ number_at (words line.now) place }
 {
     match word_at(line, place) {

@@ -1,5 +1,5 @@
 -- What becomes of the set that a reader has; what `desk admit` and `desk settings` answer and print.
-use Rattle.std.specs.Prelude.{ℕ, List, ◌++◌, Option, Result, Ok, Err}
+use Rattle.std.specs.Prelude.{ℕ, Bool, List, ◌++◌, Option, Result, Ok, Err}
 use Rattle.task_sheet.specs.Sheet.{Task}
 use Rattle.preferences.specs.declared.asking.Asking.{Asking}
 use Rattle.assignment.specs.Placings.{IsPlacingOf}
@@ -9,6 +9,7 @@ use Rattle.answering.specs.Printed.{Prints}
 use Rattle.answering.specs.Sets.{HasNoSet, HasSet}
 use Rattle.answering.specs.Statuses.{placing_status}
 use Rattle.answering.specs.declared.answer.OrderPart.{OrderPart}
+use Rattle.answering.specs.declared.answer.OrderPart.TheVariants.{Levels}
 use Rattle.answering.specs.declared.refusal.CommandRefusal.{CommandRefusal}
 use Rattle.answering.specs.declared.status.Status.{Status}
 use Rattle.answering.specs.declared.answer.OrderPart.TheVariants.{Levels}
@@ -16,6 +17,7 @@ use Rattle.chain_tables.specs.Chains.{ChainData}
 use Rattle.chain_lines.specs.declared.text.Telling.TheVariants as telling
 use Rattle.set_commands.specs.Chained.{IsPlaced, chained_said, chained_status}
 use Rattle.set_commands.specs.declared.chained.Placed.{Placed}
+use Rattle.owners.specs.Slack.{sorted_if}
 use Rattle.answering.specs.Owning.{HasChained, HasOwned}
 
 -- what is said of a reader, by what the call prefers: what the writer held, what it holds then, and the status
@@ -63,13 +65,14 @@ AnswersAdmitted asking known (Ok a) =
     HasSet asking known a.set × HasChained known a.set a.chains × IsPlacingOf a.set a.placing
 AnswersAdmitted asking known (Err r) = HasNoSet asking known r
 
--- what is printed of a placing: each level of its order, the lowest first, and each chain in it; or the line of its obstruction
-abbrev pub admitted_said : List Task → List ChainData → Placing → List ℕ
-admitted_said U chains placing =
-    placing_said Levels U placing ++ chained_said telling.Bound U chains placing
+-- what is printed of a placing: each level of its order, the lowest first, or by slack where it is asked for, and each chain in
+-- it; or the line of its obstruction
+abbrev pub admitted_said : (sorted : Bool) → List Task → List ChainData → Placing → List ℕ
+admitted_said sorted U chains placing =
+    sorted_if sorted U (placing_said Levels U placing) ++ chained_said telling.Bound U chains placing
 
 -- the answer on what the reader had is printed after what the writer held, and the status is the answer's
-abbrev pub SaysAdmitted : OfOneSays
-SaysAdmitted asking known before after s =
-    Prints (AnswersAdmitted asking known) (λ a. admitted_said a.set a.chains a.placing)
+abbrev pub SaysAdmitted : (sorted : Bool) → OfOneSays
+SaysAdmitted sorted asking known before after s =
+    Prints (AnswersAdmitted asking known) (λ a. admitted_said sorted a.set a.chains a.placing)
     (λ a. chained_status a.set a.chains a.placing) before after s

@@ -16,6 +16,7 @@ use Rattle.judge.specs.declared.explained.Parted.{Parted}
 use Rattle.judge.specs.declared.explained.Parted.TheVariants.{Missed, Bare}
 use Rattle.judge.specs.declared.judging.JudgedTask.{JudgedTask}
 use Rattle.owners.specs.NamedLines.{named_lines}
+use Rattle.owners.specs.Slack.{sorted_if}
 use Rattle.owners.specs.declared.owner.Owner.{Owner}
 use Rattle.owners.specs.declared.words.Naming.TheVariants.{Reasons}
 use Rattle.worst_lines.specs.Deciding.{IsDeciding}
@@ -82,16 +83,18 @@ abbrev pub reasons_said :
 reasons_said owners U all e decided =
     named_lines Reasons owners (whole_lines (is_short all e) U e decided)
 
--- what is printed of an explained placing: its first line, then that, and each chain with the parts of its bound
-abbrev pub explained_output : (all : Bool) → ExplainedData → List ℕ
-explained_output all e =
-    (placing_first e.set e.placing ++ reasons_said e.owners e.set all e.explanation e.decided)
+-- what is printed of an explained placing: its first line, then that, the levels by slack where it is asked for, and each chain
+-- with the parts of its bound
+abbrev pub explained_output : (all sorted : Bool) → ExplainedData → List ℕ
+explained_output all sorted e =
+    (placing_first e.set e.placing
+    ++ sorted_if sorted e.set (reasons_said e.owners e.set all e.explanation e.decided))
     ++ chained_said telling.Parts e.set e.chains e.placing
 
 -- the answer on what the reader had is printed after what the writer held, and the status is the answer's
-abbrev pub SaysExplained : (all : Bool) → OfOneSays
-SaysExplained all asking known before after s =
-    Prints (AnswersExplained all asking known) (explained_output all)
+abbrev pub SaysExplained : (all sorted : Bool) → OfOneSays
+SaysExplained all sorted asking known before after s =
+    Prints (AnswersExplained all asking known) (explained_output all sorted)
     (λ e. chained_status e.set e.chains e.placing) before after s
 
 -- WITH ALL nothing is told in short: the lines are those of the explanation with what each task of a conflict needs, and

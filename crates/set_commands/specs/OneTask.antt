@@ -34,7 +34,7 @@ use Rattle.answering.specs.Asked.{asked_task}
 abbrev pub AreLinesOf : TaskPart → List Owner → List Task → Placing → ℕ → List ℕ → Type 0
 AreLinesOf Limits owners U placing task text =
     AreTaskLines owners U (order_given placing) (places_in placing) task text
-AreLinesOf (Reasons all) owners U placing task text =
+AreLinesOf (Reasons all sorted) owners U placing task text =
     (explanation : Explanation) × (decided : List ℕ) × Explains U placing explanation
     × AreDecided Missed U (Some task) placing decided
     × (text ≡ named_lines naming.Reasons owners (task_lines U task explanation ++ decided))
@@ -78,7 +78,7 @@ SaysTask part word asking known before after s =
 -- set's verdict is about
 abbrev pub SaysAll : TaskPart → OfOneSays
 SaysAll Limits = SaysLimits
-SaysAll (Reasons all) = SaysExplained all
+SaysAll (Reasons all sorted) = SaysExplained all sorted
 SaysAll Worst = SaysWorst
 
 -- that, or what is said of the task that the words ask about

@@ -1,20 +1,25 @@
 //! What becomes of the tasks of a set, and `desk admit`.
 ghost use Rattle.std.specs.Prelude.{◌≡◌, IfOk};
+ghost use Rattle.assignment.specs.Placings.{IsPlacingOf};
+ghost use Rattle.owners.specs.Slack.{sorted_if};
 ghost use Rattle.set_commands.specs.Admit.{OfPlaced, PlacesOwned, SaysAdmitted, admitted_said};
 ghost use Rattle.set_commands.specs.Chained.{IsPlaced};
+ghost use Rattle.answering.specs.OrderParts.{placing_said};
 ghost use Rattle.answering.specs.Outcomes.{IsRead, IsSaidOn, failed_read};
 
 use crate::chained::{Placed, chained_status, chained_text, levels_of};
 use answering::{
     Audience, CommandRefusal, OrderPart, Status, joined, placing_text, print_bytes, read_owned,
 };
-use assignment::place_all;
+use assignment::{Placing, place_all};
 use ceilings::{LockTable, Tabled};
 use chain_lines::Telling;
+use owners::sorted_if;
 use preferences::Asking;
 use std::alloc::{AllocError, Global};
 use std::io::{Read, Write};
 use streams::Watched;
+use task_sheet::TaskSet;
 
 /// The set that the reader has, whose its tasks are, what becomes of them, with nothing that shows it, and its chains; or why
 /// there is none.
@@ -42,27 +47,46 @@ pub fn place<R: Read + Drop, P: Audience>(
     })
 }
 
-// The levels of the order of a placing, and the chains in it; or the line of its obstruction.
-fn admitted_text(alloc: Global, placed: &Placed) -> Result<Vec<u8>, AllocError>
+// The levels of the order of a placing, by slack where it is asked for; or the line of its obstruction.
+fn levels_text(
+    alloc: Global,
+    sorted: bool,
+    set: &TaskSet,
+    placing: &Placing,
+) -> Result<Vec<u8>, AllocError>
+    requires { IsPlacingOf set.now placing.now }
+    ensures { IfOk result (λ text. text.items
+        ≡ sorted_if sorted set.now (placing_said OrderPart.Levels set.now placing.now)) }
+{
+    let text = placing_text(alloc, OrderPart::Levels, set, placing)?;
+    let mut lines = Vec::new(alloc);
+    lines.extend_from_slice(text.as_bytes())?;
+    sorted_if(alloc, sorted, set, lines)
+}
+
+// That, and then each chain in the order.
+fn admitted_text(alloc: Global, sorted: bool, placed: &Placed) -> Result<Vec<u8>, AllocError>
     requires { IsPlaced placed.now }
     ensures { IfOk result (λ text. text.items
-        ≡ admitted_said placed.now.tasks placed.now.chains.items placed.now.placing) }
+        ≡ admitted_said sorted placed.now.tasks placed.now.chains.items placed.now.placing) }
 {
-    let lines = placing_text(alloc, OrderPart::Levels, &placed.tasks, &placed.placing)?;
+    let lines = levels_text(alloc, sorted, &placed.tasks, &placed.placing)?;
     let chains = chained_text(alloc, Telling::Bound, placed)?;
-    let text = joined(alloc, lines.as_bytes(), chains.as_bytes())?;
+    let text = joined(alloc, &lines, chains.as_bytes())?;
     Ok(text)
 }
 
-/// Prints what `desk admit` says of a set that was placed, or that there was no memory for it.
+/// Prints what `desk admit` says of a set that was placed, its levels by slack where it is asked for; or that there was no
+/// memory for it.
 pub fn say_admitted<W: Write + Drop>(
     alloc: Global,
+    sorted: bool,
     placed: &Placed,
     output: &mut Watched<W>,
 ) -> Status
     requires { IsPlaced placed.now }
-    ensures { IsSaidOn (OfPlaced SaysAdmitted placed.now) W.contents output.old output.new result }
+    ensures { IsSaidOn (OfPlaced (SaysAdmitted sorted) placed.now) W.contents output.old output.new result }
 {
     let status = chained_status(placed);
-    print_bytes(admitted_text(alloc, placed), status, output)
+    print_bytes(admitted_text(alloc, sorted, placed), status, output)
 }

@@ -6,6 +6,7 @@ ghost use Rattle.explain.specs.Lines.{load_line};
 ghost use Rattle.explain.specs.TaskLines.{task_lines};
 ghost use Rattle.judge.specs.declared.explained.Parted.TheVariants.{Missed};
 ghost use Rattle.owners.specs.NamedLines.{named_lines};
+ghost use Rattle.owners.specs.Slack.{sorted_if};
 ghost use Rattle.owners.specs.declared.words.Naming.TheVariants.{Reasons};
 ghost use Rattle.set_commands.specs.Explain.{AreDecided, conflict_said, is_short, parted_of, reasons_said, whole_lines};
 ghost use Rattle.answering.specs.OrderParts.{placing_first};
@@ -19,7 +20,7 @@ use ceilings::{LockTable, Tabled};
 use chain_lines::Telling;
 use explain::{Explanation, explain, explanation_text, push_conflict, push_load, task_text};
 use judge::{Parted, levels_text};
-use owners::{Naming, Owner, named_text};
+use owners::{Naming, Owner, named_text, sorted_if};
 use std::alloc::{AllocError, Global};
 use task_sheet::TaskSet;
 use worst_lines::judge_deciding;
@@ -169,10 +170,11 @@ pub(crate) fn reasons_text(
     Ok(named)
 }
 
-// The first line of a placing, and then the lines of what explains it.
+// The first line of a placing, and then the lines of what explains it, the levels by slack where it is asked for.
 fn whole_reasons_text(
     alloc: Global,
     all: bool,
+    sorted: bool,
     owners: &[Owner],
     set: &TaskSet,
     placing: &Placing,
@@ -182,9 +184,10 @@ fn whole_reasons_text(
         × Explains set.now placing.now explanation
         × AreDecided (parted_of (is_short all explanation)) set.now None placing.now decided
         × (text.items ≡ placing_first set.now placing.now
-        ++ reasons_said owners.now set.now all explanation decided)) }
+        ++ sorted_if sorted set.now (reasons_said owners.now set.now all explanation decided))) }
 {
-    let lines = all_reasons_text(alloc, all, owners, set, placing)?;
+    let reasons = all_reasons_text(alloc, all, owners, set, placing)?;
+    let lines = sorted_if(alloc, sorted, set, reasons)?;
     let first = placing_text(alloc, OrderPart::Count, set, placing)?;
     let text = joined(alloc, first.as_bytes(), &lines)?;
     Ok(text)
@@ -194,6 +197,7 @@ fn whole_reasons_text(
 pub(crate) fn explained_text(
     alloc: Global,
     all: bool,
+    sorted: bool,
     placed: &Placed,
 ) -> Result<Vec<u8>, AllocError>
     requires { IsPlaced placed.now }
@@ -201,10 +205,18 @@ pub(crate) fn explained_text(
         × Explains placed.now.tasks placed.now.placing explanation
         × AreDecided (parted_of (is_short all explanation)) placed.now.tasks None placed.now.placing decided
         × (text.items ≡ (placing_first placed.now.tasks placed.now.placing
-        ++ reasons_said placed.now.owners.items placed.now.tasks all explanation decided)
+        ++ sorted_if sorted placed.now.tasks
+        (reasons_said placed.now.owners.items placed.now.tasks all explanation decided))
         ++ chained_said Parts placed.now.tasks placed.now.chains.items placed.now.placing)) }
 {
-    let lines = whole_reasons_text(alloc, all, &placed.owners, &placed.tasks, &placed.placing)?;
+    let lines = whole_reasons_text(
+        alloc,
+        all,
+        sorted,
+        &placed.owners,
+        &placed.tasks,
+        &placed.placing,
+    )?;
     let chains = chained_text(alloc, Telling::Parts, placed)?;
     let text = joined(alloc, &lines, chains.as_bytes())?;
     Ok(text)

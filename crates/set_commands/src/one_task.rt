@@ -31,8 +31,9 @@ pub enum TaskPart {
     /// How far its numbers may go.
     Limits,
     /// What its response is made of; or why it may not stand below the others of a conflict, and what becomes of it in an
-    /// order that decides. Of all tasks a conflict of more than three is told in short, unless all is asked for.
-    Reasons { all: bool },
+    /// order that decides. Of all tasks a conflict of more than three is told in short, unless all is asked for; levels stand
+    /// by slack where it is asked for.
+    Reasons { all: bool, sorted: bool },
     /// Its worst case.
     Worst,
 }
@@ -187,8 +188,8 @@ fn say_all<W: Write + Drop>(
             &placed.placing,
             output,
         ),
-        TaskPart::Reasons { all } => print_bytes(
-            explained_text(alloc, all, placed),
+        TaskPart::Reasons { all, sorted } => print_bytes(
+            explained_text(alloc, all, sorted, placed),
             chained_status(placed),
             output,
         ),

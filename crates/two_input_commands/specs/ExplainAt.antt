@@ -1,9 +1,10 @@
 -- What `desk explain SET --at SETTINGS` answers and prints.
-use Rattle.std.specs.Prelude.{◌≡◌, ℕ, true, List, [], ◌++◌, Option, Some, None, Result, Ok, Err, string_bytes}
+use Rattle.std.specs.Prelude.{◌≡◌, ℕ, Bool, true, List, [], ◌++◌, Option, Some, None, Result, Ok, Err, string_bytes}
 use Rattle.task_sheet.specs.Sheet.{Task}
 use Rattle.judge.specs.Explained.{AreExplained}
 use Rattle.judge.specs.Lines.{meets_line}
 use Rattle.owners.specs.NamedLines.{named_lines}
+use Rattle.owners.specs.Slack.{sorted_if}
 use Rattle.owners.specs.declared.owner.Owner.{Owner}
 use Rattle.owners.specs.declared.words.Naming.TheVariants.{Reasons}
 use Rattle.two_input_commands.specs.InOrder.{AsksIn}
@@ -31,14 +32,17 @@ ExplainsText word chains U text (Ok found) =
     × AreToldOf asked U chains found.0.node.judged.items found.1
 ExplainsText word chains U text (Err r) = AsksIn word U text (Err r)
 
--- what is printed: whether all tasks meet their deadlines, then the lines, each task with its team, and the chains
-abbrev pub explained_at_lines : List Owner → List Task → InOrder → ChainsTold → List ℕ
-explained_at_lines owners U found told =
-    (meets_line U found.node.judged.items ++ named_lines Reasons owners (string_bytes found.text))
+-- what is printed: whether all tasks meet their deadlines, then the lines, each task with its team, the levels by slack where
+-- it is asked for, and the chains
+abbrev pub explained_at_lines : (sorted : Bool) → List Owner → List Task → InOrder → ChainsTold → List ℕ
+explained_at_lines sorted owners U found told =
+    (meets_line U found.node.judged.items
+    ++ sorted_if sorted U (named_lines Reasons owners (string_bytes found.text)))
     ++ string_bytes told.text
 
 -- the answer on what the readers had is printed after what the writer held, and the status is the answer's
-abbrev pub SaysExplainedAt : Option (List ℕ) → OfTwoSays
-SaysExplainedAt word =
-    SaysOnBothChained (ExplainsText word) (λ owners U found. explained_at_lines owners U found.0 found.1)
+abbrev pub SaysExplainedAt : Option (List ℕ) → (sorted : Bool) → OfTwoSays
+SaysExplainedAt word sorted =
+    SaysOnBothChained (ExplainsText word)
+    (λ owners U found. explained_at_lines sorted owners U found.0 found.1)
     (λ found. chained_status found.0.node.judged.items found.1.are_met)

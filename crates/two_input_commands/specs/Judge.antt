@@ -5,6 +5,7 @@ use Rattle.judge.specs.Ceilings.{IsTextJudgement}
 use Rattle.judge.specs.Faults.{IsSettingsFault, given_fault_by}
 use Rattle.judge.specs.Judgements.{all_meet, order_judged}
 use Rattle.judge.specs.Lines.{judged_lines}
+use Rattle.owners.specs.Slack.{sorted_if}
 use Rattle.judge.specs.Node.{AreNumbersIn}
 use Rattle.judge.specs.declared.judging.JudgedTask.{JudgedTask}
 use Rattle.judge.specs.declared.node.JudgedNode.{JudgedNode}
@@ -45,13 +46,14 @@ JudgesText lower chains U text _ = ⊥
 abbrev pub judged_status : List JudgedTask → Status
 judged_status judged = if all_meet judged then status.Done else status.Infeasible
 
--- what is printed: whether all tasks meet their deadlines, what becomes of each, and then the chains
-abbrev pub judged_said : List Task → JudgedNode → ChainsTold → List ℕ
-judged_said U node told =
-    judged_lines U node.judged.items node.numbers.items ++ string_bytes told.text
+-- what is printed: whether all tasks meet their deadlines, what becomes of each, by slack where it is asked for, and then the
+-- chains
+abbrev pub judged_said : (sorted : Bool) → List Task → JudgedNode → ChainsTold → List ℕ
+judged_said sorted U node told =
+    sorted_if sorted U (judged_lines U node.judged.items node.numbers.items) ++ string_bytes told.text
 
 -- the answer on what the readers had is printed after what the writer held, and the status is the answer's
-abbrev pub SaysJudged : (lower : Bool) → OfTwoSays
-SaysJudged lower =
-    SaysOnBothChained (JudgesText lower) (λ owners U found. judged_said U found.0 found.1)
+abbrev pub SaysJudged : (lower sorted : Bool) → OfTwoSays
+SaysJudged lower sorted =
+    SaysOnBothChained (JudgesText lower) (λ owners U found. judged_said sorted U found.0 found.1)
     (λ found. chained_status found.0.judged.items found.1.are_met)

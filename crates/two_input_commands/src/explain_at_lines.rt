@@ -4,6 +4,7 @@ ghost use Rattle.task_sheet.specs.declared.set.TheConstants.{TASK_LIMIT};
 ghost use Rattle.two_input_commands.specs.ExplainAt.{AreToldOf, ExplainsText, explained_at_lines};
 ghost use Rattle.judge.specs.Lines.{meets_line};
 ghost use Rattle.owners.specs.NamedLines.{named_lines};
+ghost use Rattle.owners.specs.Slack.{sorted_if};
 ghost use Rattle.owners.specs.declared.words.Naming.TheVariants.{Reasons};
 
 use crate::chained::{ChainsTold, tell_chains};
@@ -13,7 +14,7 @@ use ceilings::{LockTable, Tabled};
 use chain_lines::Telling;
 use chain_tables::Chain;
 use judge::{JudgedTask, explained_text, first_text};
-use owners::{Naming, Owner, named_text};
+use owners::{Naming, Owner, named_text, sorted_if};
 use std::alloc::{AllocError, Global};
 use task_sheet::TaskSet;
 
@@ -54,27 +55,31 @@ pub fn explain_at(
     Ok((InOrder { node, text }, told))
 }
 
-// Whether all tasks of an explained order meet their deadlines, and then the lines, each task with its team.
+// Whether all tasks of an explained order meet their deadlines, and then the lines, each task with its team, the levels by
+// slack where it is asked for.
 fn front_text(
     alloc: Global,
+    sorted: bool,
     owners: &[Owner],
     tasks: &TaskSet,
     found: &InOrder,
 ) -> Result<Vec<u8>, AllocError>
     requires { All (λ j. j.task < TASK_LIMIT) found.now.node.judged.items }
     ensures { IfOk result (λ text. text.items ≡ meets_line tasks.now found.now.node.judged.items
-        ++ named_lines Reasons owners.now (string_bytes found.now.text)) }
+        ++ sorted_if sorted tasks.now (named_lines Reasons owners.now (string_bytes found.now.text))) }
 {
     let first = first_text(alloc, tasks, &found.node.judged)?;
-    let lines = named_text(alloc, Naming::Reasons, owners, found.text.as_bytes())?;
+    let named = named_text(alloc, Naming::Reasons, owners, found.text.as_bytes())?;
+    let lines = sorted_if(alloc, sorted, tasks, named)?;
     let text = joined(alloc, first.as_bytes(), &lines)?;
     Ok(text)
 }
 
 /// What is printed of an explained order and of the chains in it: whether all tasks meet their deadlines, then the lines,
-/// each task with its team, and the chains.
+/// each task with its team, the levels by slack where it is asked for, and the chains.
 pub fn explained_at_text(
     alloc: Global,
+    sorted: bool,
     owners: &[Owner],
     tasks: &TaskSet,
     found: &InOrder,
@@ -82,9 +87,9 @@ pub fn explained_at_text(
 ) -> Result<Vec<u8>, AllocError>
     requires { All (λ j. j.task < TASK_LIMIT) found.now.node.judged.items }
     ensures { IfOk result (λ text. text.items
-        ≡ explained_at_lines owners.now tasks.now found.now told.now) }
+        ≡ explained_at_lines sorted owners.now tasks.now found.now told.now) }
 {
-    let front = front_text(alloc, owners, tasks, found)?;
+    let front = front_text(alloc, sorted, owners, tasks, found)?;
     let text = joined(alloc, &front, told.text.as_bytes())?;
     Ok(text)
 }

@@ -24,6 +24,7 @@ returns-in-Err c = record {
   call = tt;
   taken = tt;
   once = tt;
+  sorted = tt;
   number = tt;
   fault = (
     some_words (λ s. s.now) c.args.words.now (sym c.is_empty.ensures ∙ c.if-is_empty.false),
@@ -36,6 +37,7 @@ returns-in-None c = record {
   call = tt;
   taken = tt;
   once = tt;
+  sorted = tt;
   number = tt;
   fault = (
     inr c.in-Ok.ensures.kinds,
@@ -43,6 +45,26 @@ returns-in-None c = record {
         (λ f. PrefersOther f.1)) c.in-Ok.ensures.ok (c.in-None.ensures.none refl),
   );
 }
+
+pub returns-then-sorts_other : goal.returns-then-sorts_other
+returns-then-sorts_other c =
+    let some =
+    some_words (λ s. s.now) c.args.words.now (sym c.is_empty.ensures ∙ c.if-is_empty.false) in
+    let named = subst (λ (found : Option (Text × List Row)). IsCall found c.in-Some.call)
+    c.in-Ok.ensures.ok c.in-Some.ensures.call in
+    record {
+      call = tt;
+      taken = tt;
+      once = tt;
+      sorted = tt;
+      number = tt;
+      fault = (
+        inr c.in-Ok.ensures.kinds,
+        c.in-Some.call,
+        calls_named _ _ some named,
+        sym c.sorts_other.ensures ∙ c.if-sorts_other.true,
+      );
+    }
 
 pub returns-then-is_twice : goal.returns-then-is_twice
 returns-then-is_twice c =
@@ -54,6 +76,7 @@ returns-then-is_twice c =
       call = tt;
       taken = tt;
       once = tt;
+      sorted = tt;
       number = tt;
       fault = (
         inr c.in-Ok.ensures.kinds,

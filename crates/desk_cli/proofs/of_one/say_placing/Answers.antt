@@ -27,7 +27,7 @@ printed_says part asking known before after U p s placed (inr want) =
 
 pub returns-in-Admit : goal.returns-in-Admit
 returns-in-Admit g c = rw c.in-Admit.is
-    (said_as c.say_admitted.ensures (λ told. λ known has said. told _ known has said))
+    (said_as (rw c.is_sorted.ensures at c.say_admitted.ensures) (λ told. λ known has said. told _ known has said))
 
 pub returns-in-Settings : goal.returns-in-Settings
 returns-in-Settings g c = rw c.in-Settings.is (said_as c.say_settings.ensures (λ told. λ known has said.

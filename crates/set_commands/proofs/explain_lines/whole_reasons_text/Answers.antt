@@ -2,11 +2,17 @@ use Rattle.set_commands.proofs.explain_lines.whole_reasons_text.Goals as goal
 
 pub returns : goal.returns
 returns c =
-    let found = c.in_ok-lines.ensures in (
+    let found = c.in_ok-reasons.ensures in (
       found.0,
       found.1,
       found.2,
       found.3,
-      rw (c.as_bytes.ensures.value, c.in_ok-first.ensures, c.deref.ensures.value, found.4) at
+      rw (
+        c.as_bytes.ensures.value,
+        c.in_ok-first.ensures,
+        c.deref.ensures.value,
+        c.in_ok-lines.ensures,
+        found.4,
+      ) at
           c.in_ok-text.ensures,
     )

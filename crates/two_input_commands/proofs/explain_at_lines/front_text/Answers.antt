@@ -7,6 +7,7 @@ returns c = rw (
   c.deref.ensures.value,
   c.deref-2.ensures.value,
   c.in_ok-lines.ensures,
+  c.in_ok-named.ensures,
   c.as_bytes.ensures.value,
 ) at
     c.in_ok-text.ensures
