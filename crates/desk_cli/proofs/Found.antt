@@ -76,9 +76,9 @@ module _ (options : Options) (by : Preference) (owners : List Owner) (chains : L
       λ set other has said. rw finds.0 (Ok (U, answer), (text, both _ set other has, finds.1), wrote, is)
   said_in command.Draw (Drawn drawing) finds wrote is =
       λ set other has said. (Ok (U, drawing), (text, both _ set other has, finds), wrote, is)
-  said_in command.Observe (Observed leeway sight) finds wrote is = λ set other has.
+  said_in command.Observe (Observed leeway sight) finds wrote is = λ set other has said.
       rw (← finds.0) (Ok (U, sight), (text, both _ set other has, finds.1), wrote, is)
-  said_in command.Keep (Keeping node base room) finds wrote is = λ set other has.
+  said_in command.Keep (Keeping node base room) finds wrote is = λ set other has said.
       rw (← finds.0, ← finds.1) (Ok (U, node), (text, both _ set other has, finds.2), wrote, is)
   said_in command.WorstAt (WorstAt worst) finds wrote is =
       λ set other has said. (Ok (U, worst), (text, both _ set other has, finds), wrote, is)
