@@ -9,7 +9,7 @@ use Rattle.command_line.specs.declared.calls.Options.{Options}
 use Rattle.preferences.specs.declared.asking.Asking.{Asking}
 use Rattle.task_sheet.specs.declared.prefer.Preference.TheVariants.{Weights}
 use Rattle.desk_cli.specs.Commands.{OneSays, TwoSay, first_asking}
-use Rattle.answering.specs.Chosen.{asking_of, task_of, team_chosen}
+use Rattle.answering.specs.Chosen.{asking_of, is_sorted, task_of, team_chosen}
 use Rattle.set_commands.specs.OneTask.{AnswersOfTask, SaysPart}
 use Rattle.set_commands.specs.Script.{SaysScript}
 use Rattle.set_commands.proofs.ScriptLaws.{no_parts}
@@ -49,7 +49,7 @@ module _ (before after : Option (List ℕ)) (s : Status) (r : CommandRefusal)
   one_refused Limits options known why =
       part_refused part.Limits (task_of options) (asking_of options) known why
   one_refused Explain options known why =
-      part_refused (part.Reasons options.all) (task_of options) (asking_of options) known why
+      part_refused (part.Reasons options.all (is_sorted options)) (task_of options) (asking_of options) known why
   one_refused Worst options known why =
       part_refused part.Worst (task_of options) (asking_of options) known why
   one_refused Script options known why =

@@ -36,7 +36,7 @@ returns-in-Settings g c = rw c.in-Settings.is (said_as c.say_settings.ensures (�
 
 pub returns-in-Explain : goal.returns-in-Explain
 returns-in-Explain g c = rw c.in-Explain.is
-    (said_as c.say_part-in-Explain.ensures (λ told. λ known has said. told _ known has said))
+    (said_as (rw c.is_sorted-in-Explain.ensures at c.say_part-in-Explain.ensures) (λ told. λ known has said. told _ known has said))
 
 pub returns-in-Limits : goal.returns-in-Limits
 returns-in-Limits g c =
