@@ -88,8 +88,8 @@ function read_limit(all) {
     in_order: words.length > end + 3 ? Number(words[end + 2]) : null };
   return { key, section, value, in_order, most, along, held };
 }
-// `limits`: for each task its numbers and how far each may go, for what is no task's in the words of
-// its line; and the factor on all execution. Of a refused set these are the changes that mend it.
+// `limits`: for each task its numbers and how far each may go, for what is no task's in the words
+// of its line; and the factor on all execution. Of a refused set these are changes that mend it.
 export function read_limits({ text, status }) {
   if (status !== 0 && status !== 3) return null;
   const found =
@@ -172,7 +172,8 @@ function read_seen([, name, jobs, ...words]) {
   const [executed, cost, gap, period, response, bound] = words.map(number);
   return { name, jobs: Number(jobs), executed, cost, gap, period, response, bound };
 }
-// `KIND NAME AT`, and as the kind has them a time, what was promised, by whom, and what it follows from.
+// `KIND NAME AT`, and as the kind has them a time, what was promised, by whom, and what it follows
+// from.
 function read_break([kind, name, time, value, ...words]) {
   const after = word => words[words.indexOf(word) + 1];
   return { kind, name, time: Number(time), value: number(value),

@@ -1,7 +1,7 @@
 // All execution at once, as on a slower processor: a grip for the factor on it, with how far
-// `limits` lets it go. It scales in thousandths, rounded down, so that what the desk's factor allows
-// passes: each cost, and the begin and the length of each section, and what timers and interrupts
-// take.
+// `limits` lets it go. It scales in thousandths, rounded down, so that what the desk's factor
+// allows passes: each cost, and the begin and the length of each section, and what timers and
+// interrupts take.
 import { element, thousandths } from './dom.mjs';
 import { padded_execution, taken } from './padding.mjs';
 import { name_of, number_in, put_key } from './toml.mjs';

@@ -77,7 +77,7 @@ function box(kind, start, stop, top, high, title) {
 
 // ---- tones
 
-// Of names in their order each has its own, or the next that is free: those of a set by their bytes.
+// Of names in their order each has its own, or the next that is free: those of a set by bytes.
 function tones_of(names) {
   const given = new Map();
   for (const name of names) {
