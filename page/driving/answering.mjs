@@ -86,7 +86,8 @@ export async function conflicts() {
 export async function mending() {
   let seen = await put({ set: example('robot') });
   equal(seen.mends.map(digits).join('|'),
-    'battery: length of section 1 900 → 850|motor: deadline 1000 → 1050', 'what mends the robot');
+    'battery: length of section 1 900 → 850|motor: deadline 1000 → 1050, with period 1050',
+    'what mends the robot');
   await browser.click('#mends li:nth-child(1) button');
   seen = await look();
   equal(lines_changed(seen.set, example('robot')), 2, 'a click changes one line');

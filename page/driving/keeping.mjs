@@ -14,7 +14,9 @@ export async function baseline() {
   const row = seen.bars.find(it => it.name === 'upload');
   expect(/level \d → \d/.test(row.delta), `upload: ${row.delta}`);
   const diff = native('diff', [example('robot-mended'), seen.set]);
-  const changes = diff.text.split('\n').slice(2).filter(it => it).map(it => it.split(' '));
+  // (of tasks: what is preferred has a line of its own)
+  const of_tasks = text => text.split('\n').filter(it => / level /.test(it)).map(it => it.split(' '));
+  const changes = of_tasks(diff.text);
   const rows = () => browser.evaluate(`[...document.querySelectorAll('#changes tbody tr')].map(it =>
     [...it.children].map(cell => cell.textContent))`);
   const arrow = (a, b) => a === b ? a : `${a} → ${b}`, or_none = it => it === '-' ? '–' : it;
@@ -39,8 +41,7 @@ export async function baseline() {
   await browser.write(cell(0, 'cost'), '400');
   seen = await look();
   equal(seen.strip, 'verdict is-no', 'a cost past what it may be');
-  const refused = native('diff', [example('robot-mended'), seen.set]).text.split('\n').slice(2)
-    .filter(it => it).map(it => it.split(' '));
+  const refused = of_tasks(native('diff', [example('robot-mended'), seen.set]).text);
   check('changes to a no', refused, await rows());
   equal((await rows()).find(it => it[0] === 'motor')?.[1], 'cost 150 → 400', 'what differs');
   await browser.click('#restore');

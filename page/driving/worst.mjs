@@ -72,13 +72,14 @@ async function of_a_refused_set(robot) {
   equal(seen.shown.worst, 'motor misses its deadline of 1000 µs in this order.', 'why, in words');
   const { of, head, missed } = await drawn();
   equal(`${of}: ${head}`, 'motor: deadlines missed: 1', 'the miss is seen at once');
-  equal(missed.join(), 'motor: arrival 101, not done, deadline 1000 us missed', 'in red');
+  equal(missed.join(), 'motor: arrival 101, done 1150, response 1049, deadline 1000 us missed',
+    'in red');
   await compare_drawn('the robot that is refused', robot, seen.answers.worst.text);
   await browser.run(() => {
     const it = document.getElementById('picture').shadowRoot.querySelector('.run > .z');
     it.dispatchEvent(new MouseEvent('click', { bubbles: true, composed: true }));
   });
-  equal(digits((await look()).shown.slice), 'motor, job 1, arrived at 101 µs, not done: ' +
+  equal(digits((await look()).shown.slice), 'motor, job 1, arrived at 101 µs, done at 1150 µs: ' +
     'misses its deadline of 1000 µs.', 'a click on what is missed');
   // Another task of it, one of which nothing can be run; then a set that passes.
   for (const name of ['battery', 'imu']) {
