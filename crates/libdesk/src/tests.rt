@@ -141,16 +141,16 @@ fn writes_nothing_into_too_little_room(rt: HostRuntime) {
 
 #[test]
 fn draws(rt: HostRuntime) {
-    let (mut room, mut status) = ([0; 8192], 9);
+    let (mut room, mut status) = ([0; 16384], 9);
     let count = made(
         rt.alloc(),
         Call::Draw(SET, RELEASES),
         &mut room,
         &mut status,
     );
-    assert!(rt; status == 0 && count <= 8192);
+    assert!(rt; status == 0 && count <= 16384);
     assert!(rt; room.starts_with(b"<?xml version=\"1.0\" encoding=\"UTF-8\"?>\n"));
-    assert!(rt; room[..count.min(8192)].ends_with(b"</svg>\n"));
+    assert!(rt; room[..count.min(16384)].ends_with(b"</svg>\n"));
 }
 
 // Numbers of commands with two inputs, with what is told of them and the status.
