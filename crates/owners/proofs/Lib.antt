@@ -1,3 +1,6 @@
 pub mod OwnerLaws
 pub mod FollowerLaws
 pub mod PartLaws
+pub mod StableSort
+pub mod SlackKeys
+pub mod SlackLaws

@@ -2,4 +2,5 @@ pub mod Followers
 pub mod Owners
 pub mod NamedLines
 pub mod Slack
+pub mod Sorting
 pub mod Parts

@@ -1,11 +1,18 @@
-//! A law of the parts of a set: the contract of a function that does nothing.
-ghost use Rattle.std.specs.Prelude.{List};
+//! Laws of the parts of a set and of sorted lines: the contracts of functions that do nothing.
+ghost use Rattle.std.specs.Prelude.{ℕ, List};
 ghost use Rattle.std.specs.List.Sorted.{IsPermutation};
 ghost use Rattle.task_sheet.specs.Sheet.{Task};
 ghost use Rattle.owners.specs.Parts.{all_of, parts_of};
+ghost use Rattle.owners.specs.Slack.{by_slack};
+ghost use Rattle.owners.specs.Sorting.{IsSortedBySlack};
 ghost use Rattle.owners.specs.declared.owner.Owner.{Owner};
 
 /// Whoever has them, the parts of a set together are the set, each task once.
 pub fn parts_are_the_set()
     ensures { (owners : List Owner) (U : List Task) → IsPermutation U (all_of (parts_of owners U)) }
+{}
+
+/// Sorting by slack gives the stable sort of the lines by where they stand: it loses none and doubles none.
+pub fn sorting_keeps_lines()
+    ensures { (U : List Task) (text : List ℕ) → IsSortedBySlack U text (by_slack U text) }
 {}
