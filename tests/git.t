@@ -214,7 +214,7 @@ Of a conflict of more than three tasks the order comes first, and what misses in
   7 c5 7700 of 10000 team cam
   8 arm 5000 of 5000 team arm
   conflict arm c3 c4 c5: each fails as the lowest of these, and none can be left out
-  (what a conflict is: `man desk`, or docs/FORMATS.md, What `explain` prints)
+  (what a conflict is: `man desk`, or docs/FORMATS.md, `explain`)
   refused: COMMIT "many" is not admitted
 
 A branch that is not admitted, or can't be read, as one from before the hook, is mended by a set that is judged alone:

@@ -1,5 +1,5 @@
 // A trace of a node as a picture in the form that the desk's own have: the same frame, signs and
-// looks (docs/FORMATS.md, "What `draw` prints"), so that both can stand beside one another. Red is
+// looks (docs/FORMATS.md, `draw`), so that both can stand beside one another. Red is
 // what the node breaks.
 import { broken_words } from './observing.mjs';
 

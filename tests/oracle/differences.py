@@ -1,4 +1,4 @@
-"""What a change of a set does to each task: FORMATS.md, What diff prints."""
+"""What a change of a set does to each task: FORMATS.md, diff."""
 
 import itertools
 

@@ -1,4 +1,4 @@
-"""Traces, and what they show of a set: DEFINITIONS.md, A node observed; FORMATS.md, Traces, What `observe` prints."""
+"""Traces, and what they show of a set: DEFINITIONS.md, A node observed; FORMATS.md, Traces, observe."""
 
 from typing import NamedTuple
 
