@@ -291,6 +291,11 @@ A document whose chain has other teams' tasks is told about as any other:
 
 And what is wrong with a chain:
 
+  $ fresh ann && sed -i 's/"arm"/"hand"/' ann/teams/arm.toml && save ann 'another name' && push ann
+  chain see: the set has no task arm; a chain's tasks are names of tasks, of any team
+  refused: ChainTask see arm
+  team arm (yours) had the task arm: the chain see of team cam (cy or root) has to do without it, first or in the same commit
+  refused: COMMIT "another name"
   $ fresh ann && printf '[[chain]]\nname = "see"\ntasks = ["arm"]\n' >> ann/teams/arm.toml && save ann 'a chain' && push ann
   cam.toml: see is the name of a chain of arm.toml, too; give one of them another name
   refused: TakenChain cam see arm
