@@ -462,7 +462,7 @@ def slack_of(deadlines, words):
 
 
 SORT = {"sort": calls.one_of("slack")}
-PREFERS = {"prefer": calls.one_of("weight", "deadline"), "strict": calls.FLAG}
+PREFERS = {"prefer": calls.one_of("weight", "deadline", "chains"), "strict": calls.FLAG}
 OF_TASK = {**PREFERS, "task": calls.any_word}
 
 
