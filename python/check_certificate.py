@@ -112,10 +112,16 @@ def are_chains(tables, tasks):
     )  # fmt: skip
 
 
+def place_of(name, chains):
+    """A task's greatest place from the end of a chain, 1 of the last task; 0 where it is in none."""
+    return max((len(names) - names.index(name) for names in chains if name in names), default=0)
+
+
 def read_set(text):
     """The tasks by rank, which is by weight and then by name, each with what the node takes, if the
     set says it; and the interrupts. Where deadlines are preferred, a task's weight is the number of
-    tasks of a longer limit."""
+    tasks of a longer limit; where chains are, of those nearer to the end of one, or as near and of a
+    longer limit."""
     left_out = {"task": [], "prefer": "weight", "node": {}, "interrupt": [], "chain": []}
     root = values(tomllib.loads(text.decode("utf-8-sig")), SET, **left_out)
     node = values(root.node, NODE, job=0, lock=0, release=0, late=0)
@@ -125,12 +131,14 @@ def read_set(text):
             or not all(100 <= it.period <= 10_000_000 and 0 <= it.cost <= it.period for it in interrupts):
         raise ValueError
     tasks = [task_of(table, node) for table in root.task]
-    if text.startswith(b"#% ") or root.prefer not in ("weight", "deadline") \
+    if text.startswith(b"#% ") or root.prefer not in ("weight", "deadline", "chains") \
             or not are_names([it.name for it in tasks], 32) or not are_chains(root.chain, tasks):
         raise ValueError
-    if root.prefer == "deadline":
-        for it in tasks:
-            it.weight = sum(other.limit > it.limit for other in tasks)
+    if root.prefer != "weight":
+        chains = [it["tasks"] for it in root.chain] if root.prefer == "chains" else []
+        wanted = [(place_of(it.name, chains), -it.limit) for it in tasks]
+        for it, own in zip(tasks, wanted):
+            it.weight = sum(other < own for other in wanted)
     return sorted(tasks, key=lambda it: (it.weight, it.name)), interrupts
 
 

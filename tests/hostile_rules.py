@@ -134,7 +134,7 @@ def tasks_of(data):
     prefer = root.get("prefer", "weight")
     if not isinstance(prefer, str):
         refuse("WrongKind", 0, 0, "prefer")
-    if prefer not in ("weight", "deadline"):
+    if prefer not in ("weight", "deadline", "chains"):
         refuse("BadPreference")
     for number, task in enumerate(tasks, 1):
         check_task(number, task)
@@ -144,10 +144,9 @@ def tasks_of(data):
             refuse("SameName", number)
     if len(tasks) > 32:
         refuse("TooManyTasks")
-    weight = {
-        "weight": lambda it: it.get("weight", 0),
-        "deadline": lambda it: it.get("jitter", 0) - it["deadline"],
-    }[prefer]
+    # (without chains the set by them is that by deadlines)
+    by_limit = lambda it: it.get("jitter", 0) - it["deadline"]
+    weight = (lambda it: it.get("weight", 0)) if prefer == "weight" else by_limit
     return sorted(tasks, key=lambda it: (weight(it), it["name"].encode()))
 
 

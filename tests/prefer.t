@@ -79,7 +79,7 @@ A release list names the tasks by rank, and the simulated kernel runs the best o
 Another word is refused before an input is opened:
 
   $ desk admit --prefer names no-such-file 2>&1
-  no such preference: --prefer takes weight or deadline
+  no such preference: --prefer takes weight, deadline or chains
   [2]
 
 The jitter counts. a has the later deadline, 10000, and b 9000; but a may become ready 5000 late, so that 5000 is left. By
@@ -188,4 +188,78 @@ What one team's document says holds for all, whoever has the tasks; another one 
   $ echo 'prefer = "weight"' > node/cam.toml
   $ desk admit node
   refused: OtherPreference main cam
+  [4]
+
+`--prefer chains` has tasks of no chain lowest, and a task the higher, the further it stands from the end of a chain; of one
+place those of longer deadlines, less jitter, come lower. Three tasks, of which log is in no chain, though its deadline is
+the shortest. Only this order meets the chain:
+
+  $ for row in sense:20000:3000 act:10000:1000 log:8000:2000; do IFS=: read name period cost << END
+  > $row
+  > END
+  > printf '[[task]]\nname = "%s"\nperiod = %s\ndeadline = %s\ncost = %s\n' $name $period $period $cost; done > tasks.toml
+  $ { cat tasks.toml; printf '[[chain]]\nname = "turn"\ntasks = ["sense", "act"]\nage = 35000\n'; } > turn.toml
+  $ desk admit --prefer weight turn.toml
+  admitted 3
+  1 act 6000
+  2 log 5000
+  3 sense 3000
+  chain turn 36000 misses 35000
+  [3]
+  $ desk admit --prefer deadline turn.toml
+  admitted 3
+  1 sense 6000
+  2 act 3000
+  3 log 2000
+  chain turn 38000 misses 35000
+  [3]
+  $ desk admit --prefer chains turn.toml
+  admitted 3
+  1 log 6000
+  2 act 4000
+  3 sense 3000
+  chain turn 34000 of 35000
+  $ (echo 'prefer = "chains"'; cat turn.toml) > own.toml
+  $ desk admit own.toml | tail -n 1
+  chain turn 34000 of 35000
+  $ desk settings own.toml | desk judge own.toml - | tail -n 1
+  chain turn 34000 of 35000
+  $ desk diff turn.toml own.toml | grep prefer
+  prefer weight chains
+  $ desk admit --prefer deadline own.toml 2>&1 > /dev/null | grep note
+  note: --prefer deadline overrides the set's prefer = "chains"
+
+Of several chains the greatest place counts; without chains it is the order by deadlines, as where a document's are refused,
+for a doubt comes first:
+
+  $ { cat turn.toml; printf '[[chain]]\nname = "note"\ntasks = ["act", "log"]\n'; } | desk admit --prefer chains - | head -n 4
+  admitted 3
+  1 log 6000
+  2 sense 4000
+  3 act 1000
+  $ for by in chains deadline; do desk admit --prefer $by tasks.toml > $by; done; cmp chains deadline
+  $ sed 's/35000/0/' own.toml | desk admit - 2> /dev/null
+  refused: BadLimit 1 age
+  [4]
+  $ sed 's/"act"\]/"none"]/' own.toml | desk admit - 2> /dev/null
+  refused: ChainTask turn none
+  [4]
+  $ sed 's/35000/0/; s/^cost = 2000/&\nsection = [{ locks = ["m"], len = 1 }]/' own.toml | desk admit --strict - 2> /dev/null
+  refused: LoneLock log m
+  [4]
+
+What one team prefers by chains holds for the chains of all:
+
+  $ mkdir both
+  $ sed 5,99d tasks.toml > both/nose.toml
+  $ sed 1,4d turn.toml > both/wheels.toml
+  $ echo 'prefer = "chains"' > both/node.toml
+  $ desk admit both | tail -n 1
+  chain turn 34000 of 35000
+  $ echo 'prefer = "deadline"' | cat - both/nose.toml > both/arm.toml
+  $ echo '[team.arm]
+  > node = true' >> both/node.toml
+  $ rm both/nose.toml
+  $ desk admit both 2> /dev/null
+  refused: OtherPreference arm node
   [4]

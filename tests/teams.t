@@ -295,7 +295,7 @@ What is no such document, in the order of its refusals:
   refused: node WrongKind
   [4]
   $ told 'prefer = "weights"\nteam = 1\n'
-  kept: node.toml: prefer has to be "deadline" or "weight"; it is the string "weights"
+  kept: node.toml: prefer has to be "chains", "deadline" or "weight"; it is the string "weights"
   refused: node BadPreference
   [4]
   $ told '[node]\nrelease = 3\n'
@@ -311,7 +311,7 @@ What is no such document, in the order of its refusals:
   refused: node WrongKind 0 0 strict
   [4]
   $ told 'strict = 1\nprefer = 1\n'
-  kept: node.toml: prefer has to be "deadline" or "weight"; it is 1
+  kept: node.toml: prefer has to be "chains", "deadline" or "weight"; it is 1
   refused: node WrongKind 0 0 prefer
   [4]
   $ told 'locks = ["a"]\n'

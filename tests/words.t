@@ -61,7 +61,7 @@ Help names each command, and of a command its inputs, an example and its statuse
 
 That of each command that reads a task set names its two options:
 
-  $ for command in admit explain limits settings judge diff certify check releases worst simulate draw observe script; do desk $command --help | grep -q -e '^ *--prefer <ORDER>  *[A-Z].*deadline$' || echo $command; done
+  $ for command in admit explain limits settings judge diff certify check releases worst simulate draw observe script; do desk $command --help | grep -q -e '^ *--prefer <ORDER>  *[A-Z].*chains$' || echo $command; done
   $ for command in admit explain limits settings judge diff certify check releases worst simulate draw observe script; do desk $command --help | grep -q -e '^ *--strict  *[A-Z]' || echo $command; done
   $ for command in play rush; do ! desk $command --help | grep -e --prefer -e --strict; done
 
@@ -144,16 +144,16 @@ The option stands before the inputs or behind them:
 An order that isn't there is refused before any input is opened, also where standard input is named twice:
 
   $ desk admit --prefer weights nowhere 2>&1
-  no such preference: --prefer takes weight or deadline
+  no such preference: --prefer takes weight, deadline or chains
   [2]
   $ desk_says admit --prefer weights nowhere
   errors
   [2]
   $ desk releases examples/three-tasks.toml 1000 --prefer Deadline 2>&1
-  no such preference: --prefer takes weight or deadline
+  no such preference: --prefer takes weight, deadline or chains
   [2]
   $ desk check --prefer= - - 2>&1 < examples/three-tasks.toml
-  no such preference: --prefer takes weight or deadline
+  no such preference: --prefer takes weight, deadline or chains
   [2]
 
 No word to the option, the option twice, before its command, or at a script:

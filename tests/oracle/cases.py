@@ -54,20 +54,23 @@ SECOND_INPUTS = {
 }
 
 
-# commands whose answers have lines of chains
-OF_CHAINS = ("admit", "explain", "judge")
+# commands whose answers speak of chains
+OF_CHAINS = ("admit", "explain", "judge", "settings")
 
 
 def of_set(rng, subject):
     sheets = sheets_for(rng, subject)
-    prefer = rng.choice([None] * 12 + ["deadline"] * 3 + ["weight"])  # what the words say
-    own = rng.choice([None] * 6 + ["deadline"] * 2 + ["weight"])  # what the set says
+    prefer = rng.choice([None] * 12 + ["deadline"] * 3 + ["weight", "chains"])  # what the words say
+    own = rng.choice([None] * 6 + ["deadline"] * 2 + ["weight", "chains"])  # what the set says
     node = make_sets.overheads(rng, sheets) if rng.random() < 0.4 else None
     interrupts = make_sets.interrupts(rng) if rng.random() < 0.25 else []
     if sheets and (node or interrupts) and rng.random() < 0.4:
         sheets, interrupts = make_sets.padded_edge(rng, sheets, interrupts, lambda own, tables: taken(own, node, tables))
     tasks = taken(sheets, node, interrupts, prefer or own)
-    chains = make_sets.chains(rng, tasks) if rng.random() < (0.5 if subject in OF_CHAINS else 0.1) else []
+    is_by_chains = (prefer or own) == "chains"
+    chains = make_sets.chains(rng, tasks) if rng.random() < (0.7 if is_by_chains else 0.5 if subject in OF_CHAINS else 0.1) else []
+    if is_by_chains:
+        tasks = sets.by_chains(tasks, [chain["tasks"] for chain in chains])
     inputs = [set_input(rng, sheets, 0.08 if subject in SECOND_INPUTS else 0.3, own, node, interrupts, chains)]
     if subject in SECOND_INPUTS:
         inputs.append(SECOND_INPUTS[subject](rng, tasks))

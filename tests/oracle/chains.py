@@ -59,14 +59,21 @@ def document_chains(tree):
     return chains
 
 
-def read_chains(documents, tasks):
-    """Those of a set's documents: each with the words that say whose it is, and what stands for it in place of a team."""
+def read_written(documents):
+    """Those that a set's documents say, each behind what stands for the document in place of a team. A document has the words
+    that say whose it is, and that."""
     owned = []
     for words, team, text in documents:
         try:
             owned += [(team, chain) for chain in document_chains(tree_of(text))]
         except Refused as refusal:
             raise refusal.behind(*words) from None
+    return owned
+
+
+def read_chains(documents, tasks):
+    """Those of a set's documents, which have to be of its tasks."""
+    owned = read_written(documents)
     if len(owned) > CHAINS_MOST:
         raise Refused(4, "TooManyChains")
     holders = {}

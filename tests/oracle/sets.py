@@ -145,7 +145,16 @@ def by_limits(tasks):
     return by_rank(sheet._replace(weight=longer(sheet)) for sheet in tasks)
 
 
-PREFERENCES = ("weight", "deadline")
+def by_chains(tasks, chains):
+    """By chains, each the names of its tasks: each weight is the number of tasks of a lesser place from a chain's end, or of the
+    same and a longer limit."""
+    place = lambda sheet: max((len(names) - names.index(sheet.name) for names in chains if sheet.name in names), default=0)
+    wanted = {sheet.name: (place(sheet), -sheet.limit) for sheet in tasks}
+    lower = lambda sheet: sum(wanted[other.name] < wanted[sheet.name] for other in tasks)
+    return by_rank([sheet._replace(weight=lower(sheet)) for sheet in tasks])
+
+
+PREFERENCES = ("weight", "deadline", "chains")
 OVERHEAD_MOST, RELEASE_MOST, PERIOD_MOST, INTERRUPT_LEAST, INTERRUPTS_MOST = 10_000_000, 1000, 10_000_000, 100, 8
 
 

@@ -5,9 +5,10 @@ import math
 import re
 from fractions import Fraction
 
+import chains
 from lines import Faulty, NUMBER
 from refusals import Refused
-from sets import by_limits, by_rank, INTERRUPTS_MOST, is_name, padded, read_document, read_whole, sheet_fault, TASKS_MOST
+from sets import by_chains, by_limits, by_rank, INTERRUPTS_MOST, is_name, padded, read_document, read_whole, sheet_fault, TASKS_MOST
 from toml_tree import tree_of
 
 MARK = b"#% "
@@ -42,10 +43,23 @@ def read_set(data, preference=None):
         is_strict, owners, sources = False, {}, [(None, place) for place, _ in enumerate(interrupts, 1)]
     written = sheets, node, interrupts
     sheets = padded(*written)
-    tasks = Ranked(by_limits(sheets) if (preference or own) == "deadline" else by_rank(sheets))
+    documents = documents_of(data)
+    tasks = Ranked(preferred(sheets, preference or own, documents))
     tasks.own, tasks.by, tasks.is_strict, tasks.owners = own, preference or own or "weight", is_strict, owners
-    tasks.written, tasks.sources, tasks.documents = written, sources, documents_of(data)
+    tasks.written, tasks.sources, tasks.documents = written, sources, documents
     return tasks
+
+
+def preferred(sheets, preference, documents):
+    """The tasks by a preference; by chains those that the documents say, none where one of these is refused for them."""
+    if preference == "deadline":
+        return by_limits(sheets)
+    if preference != "chains":
+        return by_rank(sheets)
+    try:
+        return by_chains(sheets, [chain.tasks for _, chain in chains.read_written(documents)])
+    except Refused:
+        return by_chains(sheets, [])
 
 
 def documents_of(data):

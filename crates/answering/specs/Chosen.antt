@@ -12,6 +12,7 @@ use Rattle.command_line.specs.declared.calls.TheConstants.{MOST_PRIORITY, MOST_R
 -- what a call prefers, where its words say so
 abbrev pub preferred_by : Option Preferred → Option Preference
 preferred_by (Some preferred.Deadline) = Some preference.Deadline
+preferred_by (Some preferred.Chains) = Some preference.Chains
 preferred_by (Some preferred.Weight) = Some preference.Weights
 preferred_by None = None
 

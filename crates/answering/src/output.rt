@@ -96,7 +96,7 @@ pub fn refuse_words<O: Write + Drop, E: Write + Drop>(
         → result ≡ fault_status fault.now }
     ensures preference { fault.now ≡ WordsFault.NoSuchPreference → errors.new.has_failed ≡ false
         → Appends (E.contents errors.old.inner) (E.contents errors.new.inner)
-        (codes "no such preference: --prefer takes weight or deadline\n") }
+        (codes "no such preference: --prefer takes weight, deadline or chains\n") }
     ensures sort { fault.now ≡ WordsFault.NoSuchSort → errors.new.has_failed ≡ false
         → Appends (E.contents errors.old.inner) (E.contents errors.new.inner)
         (codes "no such order of lines: --sort takes slack\n") }
@@ -115,7 +115,7 @@ pub fn refuse_words<O: Write + Drop, E: Write + Drop>(
     match fault {
         WordsFault::NoSuchPreference => {
             print(
-                b"no such preference: --prefer takes weight or deadline\n",
+                b"no such preference: --prefer takes weight, deadline or chains\n",
                 Status::BadArguments,
                 errors,
             )

@@ -62,6 +62,7 @@ pub fn asking_of(options: Options<'_>) -> Asking
 {
     let prefer = match options.prefer {
         Some(Preferred::Deadline) => Some(Preference::Deadline),
+        Some(Preferred::Chains) => Some(Preference::Chains),
         Some(Preferred::Weight) => Some(Preference::Weights),
         None => None,
     };

@@ -147,8 +147,9 @@ fn read_teams(alloc: Global, chains: Vec<Written>, text: &[u8]) -> Result<Vec<Wr
     Ok(chains)
 }
 
-/// The chains that a set's text says, in the order of its documents.
-pub(crate) fn read_written(alloc: Global, text: &[u8]) -> Result<Vec<Written>, ChainFault>
+/// The chains that a set's text says, in the order of its documents, whether the set has their tasks or not; or the first fault
+/// of a document.
+pub fn read_written(alloc: Global, text: &[u8]) -> Result<Vec<Written>, ChainFault>
     ensures ok { IfOk result (λ ws. ReadsWritten text.now (Ok ws.items)) }
     ensures err { IfErr result (λ e. e ≢ ChainFault.OutOfMemory → ReadsWritten text.now (Err e)) }
 {

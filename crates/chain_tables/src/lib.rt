@@ -6,6 +6,7 @@ mod fault;
 mod judging;
 mod table;
 
+pub use crate::documents::read_written;
 pub use crate::fault::{ChainCause, ChainFault, Whose};
 pub use crate::judging::{CHAIN_LIMIT, Chain, read_chains};
-pub use crate::table::{CHAIN_TASKS, LONGEST_LIMIT};
+pub use crate::table::{CHAIN_TASKS, LONGEST_LIMIT, Written};

@@ -21,9 +21,9 @@ pub const CHAIN_TASKS: usize = 8;
 /// The longest limit of a chain, in microseconds.
 pub const LONGEST_LIMIT: u64 = 1_000_000_000;
 
-// A chain as a document says it, its tasks by their names.
+/// A chain as a document says it, its tasks by their names, the first one first.
 #[derive(Drop)]
-pub(crate) struct Written {
+pub struct Written {
     pub whose: Whose,
     pub name: Name,
     pub tasks: Vec<Name>,

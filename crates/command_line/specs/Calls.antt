@@ -11,7 +11,7 @@ use Rattle.command_line.specs.declared.calls.Choice.TheVariants.{All, Strict, Ba
 use Rattle.command_line.specs.declared.calls.Takes.{Takes}
 use Rattle.command_line.specs.declared.calls.Takes.TheVariants as takes
 use Rattle.command_line.specs.declared.calls.Preferred.{Preferred}
-use Rattle.command_line.specs.declared.calls.Preferred.TheVariants.{Weight, Deadline}
+use Rattle.command_line.specs.declared.calls.Preferred.TheVariants.{Weight, Deadline, Chains}
 use Rattle.command_line.specs.declared.calls.Options.{Options as OptionsData}
 use Rattle.command_line.specs.declared.calls.Input.{Input}
 use Rattle.command_line.specs.declared.calls.Input.TheVariants.{Standard, File}
@@ -92,12 +92,13 @@ abbrev pub Prefers : List Row → Option Preferred → Type 0
 Prefers rows None = first_of (codes "prefer") rows ≡ None
 Prefers rows (Some Weight) = first_of (codes "prefer") rows ≡ Some (codes "weight")
 Prefers rows (Some Deadline) = first_of (codes "prefer") rows ≡ Some (codes "deadline")
+Prefers rows (Some Chains) = first_of (codes "prefer") rows ≡ Some (codes "chains")
 
 -- the word of the command's `--prefer` is another
 abbrev pub PrefersOther : List Row → Type 0
 PrefersOther rows =
     (word : Text) × (first_of (codes "prefer") rows ≡ Some word) × (word ≢ codes "weight")
-    × (word ≢ codes "deadline")
+    × (word ≢ codes "deadline") × (word ≢ codes "chains")
 
 -- this is the number of a text, where there is one, and it is from the least to the most
 abbrev pub IsCounted : (least most : ℕ) → Option Text → Option ℕ → Type 0

@@ -121,7 +121,7 @@ pub(crate) enum Verb {
 // An option that commands take.
 #[derive(Clone, Copy)]
 pub(crate) enum Choice {
-    // `--prefer weight|deadline`
+    // `--prefer weight|deadline|chains`
     Prefer,
     // `--strict`
     Strict,
@@ -180,13 +180,15 @@ pub enum Preferred {
     Weight,
     /// Their deadlines, in place of the weights.
     Deadline,
+    /// Their places in chains, and then their deadlines.
+    Chains,
 }
 
 /// What a call's words choose beside its inputs, of which an option may name the second. Where a command does not take
 /// an option, no words choose it.
 #[derive(Clone, Copy)]
 pub struct Options<'a> {
-    /// `--prefer weight|deadline`
+    /// `--prefer weight|deadline|chains`
     pub prefer: Option<Preferred>,
     /// `--strict`: a set is refused for what may be a mistake.
     pub is_strict: bool,
@@ -440,7 +442,7 @@ impl Choice {
     // What it chooses.
     pub(crate) fn help<'a>(self) -> &'a str {
         match self {
-            Choice::Prefer => "What decides among the orders that pass: weight or deadline",
+            Choice::Prefer => "What decides among the orders that pass: weight, deadline or chains",
             Choice::Strict => "Refuses a set that may have a mistake, for what is a note else",
             Choice::Task => "The task that is asked about, alone",
             Choice::Base => "The least priority, from 1 to 999969",

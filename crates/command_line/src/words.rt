@@ -16,7 +16,7 @@ use std::alloc::Global;
 pub enum WordsFault {
     /// `clap`'s error, which help is too, or out of memory.
     Clap(Error),
-    /// `--prefer` is given a word other than `weight` and `deadline`.
+    /// `--prefer` is given a word other than `weight`, `deadline` and `chains`.
     NoSuchPreference,
     /// `--sort` is given a word other than `slack`.
     NoSuchSort,
@@ -55,6 +55,7 @@ fn preference_at(matches: &ArgMatches<'_>) -> Option<Option<Preferred>>
         None => Some(None),
         Some("weight") => Some(Some(Preferred::Weight)),
         Some("deadline") => Some(Some(Preferred::Deadline)),
+        Some("chains") => Some(Some(Preferred::Chains)),
         Some(_) => None,
     }
 }
@@ -78,7 +79,7 @@ fn flag_chosen(matches: &ArgMatches<'_>, choice: Choice) -> bool
     }
 }
 
-// What the words of the command choose. None where they prefer something else than weights or deadlines.
+// What the words of the command choose. None where they prefer something else than weights, deadlines or chains.
 fn options_at<'a>(matches: &ArgMatches<'a>) -> Option<Options<'a>>
     requires { SayChoices (rows_of (found_of matches.now)) }
     ensures known { IfSome result (AreOptions (rows_of (found_of matches.now))) }

@@ -9,7 +9,7 @@ use Rattle.task_sheet.proofs.Common.{Task, CriticalSection, task_at, AreDistinct
 use Rattle.task_sheet.specs.declared.node.Interrupt.{Interrupt}
 use Rattle.task_sheet.specs.declared.node.TheConstants.{INTERRUPT_LIMIT}
 use Rattle.task_sheet.specs.declared.prefer.Preference.{Preference}
-use Rattle.task_sheet.specs.declared.prefer.Preference.TheVariants.{Weights, Deadline}
+use Rattle.task_sheet.specs.declared.prefer.Preference.TheVariants.{Weights, Deadline, Chains}
 use Rattle.task_sheet.specs.declared.sheet.TheConstants.{SECTION_LIMIT}
 use Rattle.task_sheet.specs.Indexes.{some_below}
 use Rattle.task_sheet.specs.Overheads.{own_cost}
@@ -110,6 +110,7 @@ module _ (weighs : Bool) (U : List Task) (P : Placing) (apart : AreDistinct same
 same_preferences : (by : Preference) → preference_line by by ≡ []
 same_preferences Weights = refl
 same_preferences Deadline = refl
+same_preferences Chains = refl
 
 same_nodes : (U : List Task) → node_line U U ≡ []
 same_nodes U = let same = (same_node-Decides (node_of U) (node_of U)).1 refl in rw same refl

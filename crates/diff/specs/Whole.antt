@@ -6,7 +6,7 @@ use Rattle.task_sheet.specs.declared.node.Node.{Node}
 use Rattle.task_sheet.specs.declared.node.Interrupt.{Interrupt}
 use Rattle.task_sheet.specs.declared.node.TheConstants.{INTERRUPT_LIMIT}
 use Rattle.task_sheet.specs.declared.prefer.Preference.{Preference}
-use Rattle.task_sheet.specs.declared.prefer.Preference.TheVariants.{Weights, Deadline}
+use Rattle.task_sheet.specs.declared.prefer.Preference.TheVariants.{Weights, Deadline, Chains}
 use Rattle.task_sheet.specs.Prefer.{preference_word}
 use Rattle.task_sheet.specs.Sheet.{Task, task_at, same_node, same_interrupt}
 use Rattle.diff.specs.Keys.{number_words, pair_words, words_below}
@@ -14,9 +14,9 @@ use Rattle.diff.specs.Keys.{number_words, pair_words, words_below}
 -- ---- the preference
 abbrev pub same_preference : Preference → Preference → Bool
 same_preference Weights Weights = true
-same_preference Weights Deadline = false
-same_preference Deadline Weights = false
 same_preference Deadline Deadline = true
+same_preference Chains Chains = true
+same_preference _ _ = false
 
 -- by what a set was taken, and by what the new one is, where that is another
 abbrev pub preference_line : Preference → Preference → List ℕ

@@ -16,6 +16,7 @@ fn same_preference(old: Preference, new: Preference) -> bool
     match (old, new) {
         (Preference::Weights, Preference::Weights) => true,
         (Preference::Deadline, Preference::Deadline) => true,
+        (Preference::Chains, Preference::Chains) => true,
         _ => false,
     }
 }

@@ -14,9 +14,8 @@ use Rattle.limits.specs.InOrder.{IsFurthestIn}
 use Rattle.limits.proofs.NumberLaws.{in_order-within}
 use Rattle.factor.specs.Factors.{IsPassingAt, IsFeasibleAt, IsFactor}
 use Rattle.factor.proofs.LatestAt.{IsPassingAt-latest}
-use Rattle.preferences.specs.Preferences.{IsPreferred}
+use Rattle.preferences.specs.Preferences.{IsByDeadlines}
 use Rattle.latest_first.specs.LatestFirst.{AllPrompt, AreAlike}
-use Rattle.task_sheet.specs.declared.prefer.Preference.TheVariants.{Deadline}
 use Rattle.latest_first.proofs.OneOrder.{AllPrompt-valid, IsOrder-alike, IsLatestFirst-alike}
 use Rattle.latest_first.proofs.OneOrder.{IsPassingOrder-latest}
 use Rattle.latest_first.proofs.BestLatest.{best-latest}
@@ -49,7 +48,7 @@ keeps-costed of kept (t ∷ ts) (suc i) cost zero = refl
 keeps-costed of kept (t ∷ ts) (suc i) cost (suc k) = keeps-costed of kept ts i cost k
 
 -- ---- by a best order of the preferred set
-module _ (U V : List Task) (order : List ℕ) (preferred : IsPreferred Deadline U V)
+module _ (U V : List Task) (order : List ℕ) (preferred : IsByDeadlines U V)
     (set : IsTaskSet V) (best : IsBest V order) where
   recosted : {W : List Task} → AreRecosted V W → IsPassingOrder W order ↔ IsFeasible W
   recosted {W} are =

@@ -10,24 +10,23 @@ ghost use Rattle.limits.specs.InOrder.{IsFurthestIn};
 ghost use Rattle.factor.specs.Factors.{IsPassingAt, IsFeasibleAt, IsFactor};
 ghost use Rattle.margins.specs.Bearing.{Bears};
 ghost use Rattle.latest_first.specs.LatestFirst.{AllPrompt, IsLatestFirst};
-ghost use Rattle.preferences.specs.Preferences.{IsPreferred};
-ghost use Rattle.task_sheet.specs.declared.prefer.Preference.TheVariants.{Deadline};
+ghost use Rattle.preferences.specs.Preferences.{IsByDeadlines};
 
 /// Of a set by deadlines the best order bears as much as any: at each factor on all execution it passes exactly where some
 /// order does, and so at that of the set; and no cost of one task may grow further with another order.
 pub fn preferred_is_greatest()
-    ensures slower { (U V : List Task) (order : List ℕ) (factor : ℕ) → IsPreferred Deadline U V
+    ensures slower { (U V : List Task) (order : List ℕ) (factor : ℕ) → IsByDeadlines U V
         → IsTaskSet V
         → IsBest V order → IsPassingAt factor V order ↔ IsFeasibleAt factor V }
-    ensures factor { (U V : List Task) (order : List ℕ) (most : ℕ) → IsPreferred Deadline U V
+    ensures factor { (U V : List Task) (order : List ℕ) (most : ℕ) → IsByDeadlines U V
         → IsTaskSet V
         → IsBest V order → IsFactor V most → IsPassingAt most V order }
-    ensures costed { (U V : List Task) (order : List ℕ) (i cost : ℕ) → IsPreferred Deadline U V
+    ensures costed { (U V : List Task) (order : List ℕ) (i cost : ℕ) → IsByDeadlines U V
         → IsTaskSet V
         → IsBest V order → i < length V → MayHave V i Cost cost
         → IsPassingOrder (numbered V i Cost cost) order ↔ IsFeasible (numbered V i Cost cost) }
     ensures headroom { (U V : List Task) (order : List ℕ) (i inside any : ℕ)
-        → IsPreferred Deadline U V → IsTaskSet V
+        → IsByDeadlines U V → IsTaskSet V
         → IsBest V order → i < length V → IsFurthestIn V order i Cost inside
         → IsFurthest V i Cost any
         → inside ≡ any }
@@ -39,7 +38,7 @@ pub fn latest_first_is_robust()
     ensures most { (U : List Task) (extra : ℕ) (order other : List ℕ) → AllTasks U → AllPrompt U
         → IsOrder U order
         → IsLatestFirst U order → Bears U extra other → Bears U extra order }
-    ensures preferred { (U V : List Task) (extra : ℕ) (order other : List ℕ) → IsPreferred Deadline U V
+    ensures preferred { (U V : List Task) (extra : ℕ) (order other : List ℕ) → IsByDeadlines U V
         → IsTaskSet V
         → IsBest V order → Bears V extra other → Bears V extra order }
 {}

@@ -1,5 +1,6 @@
 pub mod WeightLaws
 pub mod LimitLaws
+pub mod ChainLaws
 pub mod FollowLaws
 pub mod MonotonicLaws
 pub mod Renumbering

@@ -12,11 +12,12 @@ use Rattle.task_sheet.proofs.Common.{CriticalSection, Task, task_at, no_task, In
 use Rattle.task_sheet.proofs.Common.{with_index, sum_below, greatest_below, some_below, shares_lock}
 use Rattle.task_sheet.proofs.Common.{reaches, greatest_of, longest_reached, blocking_of}
 use Rattle.task_sheet.proofs.Common.{interference_of, interrupts_of, interrupts_within, demand_of}
-use Rattle.task_sheet.proofs.Common.{limit_of, must_outrank, is_bound, Stands, AllStand}
+use Rattle.task_sheet.proofs.Common.{IsByRank, limit_of, must_outrank, is_bound, Stands, AllStand}
 use Rattle.task_sheet.proofs.Common.{IsPassingOrder, IsFeasible}
 use Rattle.task_sheet.specs.Sheet.{weighing}
-use Rattle.preferences.specs.Preferences.{order_names, KeepsOrders, longer_limits, reweighed_in}
-use Rattle.preferences.specs.Preferences.{reweighed, unweighed, IsPreferred}
+use Rattle.chain_tables.specs.Tables.{WrittenData}
+use Rattle.preferences.specs.Preferences.{order_names, KeepsOrders, longer_limits, lower_tasks}
+use Rattle.preferences.specs.Preferences.{weighed, unweighed, IsPreferred}
 use Rattle.task_sheet.proofs.Below.{greatest_below-le, le-greatest_below, some_below-at}
 use Rattle.task_sheet.proofs.Below.{some_below-witness, some_below-none, sum_below-same}
 use Rattle.task_sheet.proofs.Below.{sum_below-one}
@@ -27,7 +28,7 @@ use Rattle.std.proofs.lemmas.List.Edits.{swap_is, length-swap}
 use Rattle.std.proofs.lemmas.List.Sorted.{IsPermutation-refl, IsPermutation-map}
 use Rattle.std.proofs.lemmas.List.Sorted.{IsPermutation-keeps}
 use Rattle.task_sheet.specs.declared.prefer.Preference.{Preference}
-use Rattle.task_sheet.specs.declared.prefer.Preference.TheVariants.{Weights, Deadline}
+use Rattle.task_sheet.specs.declared.prefer.Preference.TheVariants.{Weights, Deadline, Chains}
 
 -- a renumbering of the tasks below n that turns itself back
 pub record IsRenumbering (n : ℕ) (turn : ℕ → ℕ) : Type 0 where
@@ -340,39 +341,53 @@ ShareOrders-permutation U V =
     (AreRenumbered-exchange xs a b la lb))) V
 
 -- ---- other weights
-task-weighed : (U xs : List Task) (k : ℕ) → (weight : ℕ)
-    × (task_at (map (reweighed_in U) xs) k ≡ weighing (task_at xs k) weight)
-task-weighed U [] k = (0, refl)
-task-weighed U (t ∷ ts) zero = (longer_limits U (limit_of t), refl)
-task-weighed U (t ∷ ts) (suc k) = task-weighed U ts k
+task-weighed : (weight : Task → ℕ) (xs : List Task) (k : ℕ) → (n : ℕ)
+    × (task_at (weighed weight xs) k ≡ weighing (task_at xs k) n)
+task-weighed weight [] k = (0, refl)
+task-weighed weight (t ∷ ts) zero = (weight t, refl)
+task-weighed weight (t ∷ ts) (suc k) = task-weighed weight ts k
 
-AreRenumbered-weighed : (U : List Task) → AreRenumbered (λ k. k) U (reweighed U)
-AreRenumbered-weighed U = record {
+AreRenumbered-weighed : (weight : Task → ℕ) (U : List Task)
+    → AreRenumbered (λ k. k) U (weighed weight U)
+AreRenumbered-weighed weight U = record {
   turns = record { back = λ k. refl; within = λ k lt. lt; sums = λ f. refl };
-  count = length-map U (reweighed_in U);
-  same = task-weighed U U;
+  count = length-map U (λ (t : Task). weighing t (weight t));
+  same = task-weighed weight U;
 }
 
-pub ShareOrders-preferred : (preference : Preference) (U V : List Task) → IsPreferred preference U V
+ShareOrders-weighed : (weight : Task → ℕ) (U V : List Task) → IsByRank (weighed weight U) V
     → ShareOrders U V
-ShareOrders-preferred Weights U V same = rw same (KeepsOrders-self U, KeepsOrders-self U)
-ShareOrders-preferred Deadline U V preferred =
-    ShareOrders-trans U (reweighed U) V (ShareOrders-turned (λ k. k) U (reweighed U)
-    (AreRenumbered-weighed U)) (ShareOrders-permutation (reweighed U) V preferred.permutation)
+ShareOrders-weighed weight U V is =
+    ShareOrders-trans U (weighed weight U) V (ShareOrders-turned (λ k. k) U (weighed weight U)
+    (AreRenumbered-weighed weight U)) (ShareOrders-permutation (weighed weight U) V is.permutation)
 
-pub IsFeasible-preferred : (preference : Preference) (U V : List Task) → IsPreferred preference U V
-    → IsFeasible U ↔ IsFeasible V
-IsFeasible-preferred preference U V preferred =
-    let share = ShareOrders-preferred preference U V preferred in
+pub ShareOrders-preferred : (preference : Preference) (chains : List WrittenData) (U V : List Task)
+    → IsPreferred preference chains U V → ShareOrders U V
+ShareOrders-preferred Weights chains U V same = rw same (KeepsOrders-self U, KeepsOrders-self U)
+ShareOrders-preferred Deadline chains U V is =
+    ShareOrders-weighed (λ t. longer_limits U (limit_of t)) U V is
+ShareOrders-preferred Chains chains U V is = ShareOrders-weighed (lower_tasks chains U) U V is
+
+pub IsFeasible-preferred : (preference : Preference) (chains : List WrittenData) (U V : List Task)
+    → IsPreferred preference chains U V → IsFeasible U ↔ IsFeasible V
+IsFeasible-preferred preference chains U V preferred =
+    let share = ShareOrders-preferred preference chains U V preferred in
     (IsFeasible-kept U V share.0, IsFeasible-kept V U share.1)
 
 -- ---- the same tasks
-unweighed-all : (U xs : List Task) → unweighed (map (reweighed_in U) xs) ≡ unweighed xs
-unweighed-all U [] = refl
-unweighed-all U (t ∷ ts) = ap (λ (us : List Task). weighing t 0 ∷ us) (unweighed-all U ts)
+unweighed-all : (weight : Task → ℕ) (xs : List Task) → unweighed (weighed weight xs) ≡ unweighed xs
+unweighed-all weight [] = refl
+unweighed-all weight (t ∷ ts) =
+    ap (λ (us : List Task). weighing t 0 ∷ us) (unweighed-all weight ts)
 
-pub unweighed-preferred : (preference : Preference) (U V : List Task) → IsPreferred preference U V
+unweighed-weighed : (weight : Task → ℕ) (U V : List Task) → IsByRank (weighed weight U) V
     → IsPermutation (unweighed U) (unweighed V)
-unweighed-preferred Weights U V same = rw same (IsPermutation-refl (unweighed U))
-unweighed-preferred Deadline U V preferred = rw (unweighed-all U U)
-    at (IsPermutation-map (λ (t : Task). weighing t 0) (reweighed U) V preferred.permutation)
+unweighed-weighed weight U V is = rw (unweighed-all weight U)
+    at (IsPermutation-map (λ (t : Task). weighing t 0) (weighed weight U) V is.permutation)
+
+pub unweighed-preferred : (preference : Preference) (chains : List WrittenData) (U V : List Task)
+    → IsPreferred preference chains U V → IsPermutation (unweighed U) (unweighed V)
+unweighed-preferred Weights chains U V same = rw same (IsPermutation-refl (unweighed U))
+unweighed-preferred Deadline chains U V is =
+    unweighed-weighed (λ t. longer_limits U (limit_of t)) U V is
+unweighed-preferred Chains chains U V is = unweighed-weighed (lower_tasks chains U) U V is

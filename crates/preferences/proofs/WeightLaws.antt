@@ -9,30 +9,30 @@ use Rattle.task_sheet.proofs.Common.{Task, IsTask, AllTasks, IsByRank, same_name
 use Rattle.task_sheet.proofs.Common.{IsTaskSet, sheets_fault, limit_of}
 use Rattle.task_sheet.specs.Sheet.{weighing}
 use Rattle.task_sheet.proofs.SetLaws.{no_fault, by_rank_one}
-use Rattle.preferences.specs.Preferences.{longer_limits, reweighed_in, reweighed, IsPreferred}
+use Rattle.chain_tables.specs.Tables.{WrittenData}
+use Rattle.preferences.specs.Preferences.{longer_limits, reweighed, lower_tasks, weighed, weight_by}
+use Rattle.preferences.specs.Preferences.{IsPreferred}
 use Rattle.task_sheet.specs.declared.prefer.Preference.{Preference}
-use Rattle.task_sheet.specs.declared.prefer.Preference.TheVariants.{Weights, Deadline}
+use Rattle.task_sheet.specs.declared.prefer.Preference.TheVariants.{Weights, Deadline, Chains}
 
 -- one sheet more
-pub reweighed_more : (U xs ys : List Task) (i : ℕ) (x y : Task) → i < length U → x ≡ get_or U i x
-    → y ≡ reweighed_in U x → xs ≡ map (reweighed_in U) (take i U)
-    → ys ≡ xs ++ y ∷ [] → ys ≡ map (reweighed_in U) (take (i + 1) U)
-reweighed_more U xs ys i x y lt is weighs before pushed =
-    pushed ∙ rw (before, weighs, is) (sym (map_more (reweighed_in U) U i x lt))
+pub weighed_more : (weight : Task → ℕ) (U xs ys : List Task) (i : ℕ) (x y : Task) → i < length U
+    → x ≡ get_or U i x → y ≡ weighing x (weight x) → xs ≡ weighed weight (take i U)
+    → ys ≡ xs ++ y ∷ [] → ys ≡ weighed weight (take (i + 1) U)
+weighed_more weight U xs ys i x y lt is weighs before pushed =
+    pushed ∙ rw (before, weighs, is)
+    (sym (map_more (λ (t : Task). weighing t (weight t)) U i x lt))
 
 -- ---- weights of any kind
 module _ (weight : Task → ℕ) where
-  abbrev weighed : List Task → List Task
-  weighed xs = map (λ t. weighing t (weight t)) xs
-
   -- what doesn't rest on the weight holds of each task as before
   all-weighed : (P : Task → Type 0) → ((y : Task) (n : ℕ) → P y → P (weighing y n))
-      → (xs : List Task) → AllByRecursion P xs → AllByRecursion P (weighed xs)
+      → (xs : List Task) → AllByRecursion P xs → AllByRecursion P (weighed weight xs)
   all-weighed P kept [] h = tt
   all-weighed P kept (y ∷ ys) h = (kept y (weight y) h.0, all-weighed P kept ys h.1)
 
   distinct-weighed : (xs : List Task) → AreDistinct same_name xs
-      → AreDistinct same_name (weighed xs)
+      → AreDistinct same_name (weighed weight xs)
   distinct-weighed [] h = tt
   distinct-weighed (y ∷ ys) h = (
     all-weighed (λ z. same_name y z ≡ false) (λ z n apart. apart) ys
@@ -41,18 +41,23 @@ module _ (weight : Task → ℕ) where
   )
 
 -- the sheets with these weights are no fault
-pub no_fault_reweighed : (U : List Task) → IsTaskSet U → sheets_fault (reweighed U) ≡ None
-no_fault_reweighed U set =
-    let weight : Task → ℕ = λ t. longer_limits U (limit_of t) in
-    no_fault (reweighed U) (distinct-weighed weight U set.distinct)
+pub no_fault_weighed : (preference : Preference) (chains : List WrittenData) (U : List Task)
+    → IsTaskSet U → sheets_fault (weighed (weight_by preference chains U) U) ≡ None
+no_fault_weighed preference chains U set =
+    let weight : Task → ℕ = weight_by preference chains U in
+    no_fault (weighed weight U) (distinct-weighed weight U set.distinct)
     (omega (arith, set.few, length-map U (λ (t : Task). weighing t (weight t))))
 
 -- ---- one set by each preference
-pub IsPreferred-one : (preference : Preference) (U first second : List Task)
-    → IsPreferred preference U first → IsPreferred preference U second → first ≡ second
-IsPreferred-one Weights U first second one other = one ∙ sym other
-IsPreferred-one Deadline U first second one other = by_rank_one (reweighed U) (reweighed U) first
-    second (IsPermutation-refl (reweighed U)) one other
+pub IsPreferred-one : (preference : Preference) (chains : List WrittenData)
+    (U first second : List Task) → IsPreferred preference chains U first
+    → IsPreferred preference chains U second → first ≡ second
+IsPreferred-one Weights chains U first second one other = one ∙ sym other
+IsPreferred-one Deadline chains U first second one other = by_rank_one (reweighed U) (reweighed U)
+    first second (IsPermutation-refl (reweighed U)) one other
+IsPreferred-one Chains chains U first second one other =
+    let xs = weighed (lower_tasks chains U) U in
+    by_rank_one xs xs first second (IsPermutation-refl xs) one other
 
 -- ---- the laws of the analysis hold of it
 pub AllTasks-preferred : (U V : List Task) → AllTasks U → IsByRank (reweighed U) V → AllTasks V

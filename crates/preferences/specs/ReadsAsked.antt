@@ -8,8 +8,7 @@ use Rattle.teams.specs.ReadsText.{ReadsText}
 use Rattle.teams.specs.Strictness.{SaysStrict}
 use Rattle.doubts.specs.Doubts.{doubts_of, first_of}
 use Rattle.doubts.specs.declared.doubt.Doubt.{Doubt as DoubtData}
-use Rattle.preferences.specs.Preferences.{IsPreferred}
-use Rattle.preferences.specs.ReadsPreferred.{chosen}
+use Rattle.preferences.specs.ReadsPreferred.{IsPreferredIn, chosen}
 use Rattle.preferences.specs.declared.asking.Asking.{Asking}
 use Rattle.preferences.specs.declared.asking.Strictness.{Strictness}
 use Rattle.preferences.specs.declared.asking.Strictness.TheVariants.{Lenient, AsSaid, Strict}
@@ -55,21 +54,21 @@ IsChained text U = (chains : List ChainData) × HasChains text U chains
 -- the text says this set by what the call and the set prefer, it has no doubt, where one is told, and its chains are some
 abbrev pub SaysAsked : Asking → List ℕ → List Task → Type 0
 SaysAsked asking text U =
-    (d : Document) × ReadsText text (Ok d) × IsPreferred (chosen asking.prefer d.prefers) d.set U
+    (d : Document) × ReadsText text (Ok d) × IsPreferredIn (chosen asking.prefer d.prefers) text d.set U
     × TellsDoubt asking text d.prefers U None × IsChained text U
 
 -- the set that the text says so has a doubt that is told: this first
 abbrev pub IsDoubted : Asking → List ℕ → DoubtData → Type 0
 IsDoubted asking text doubt =
     (d : Document) × (U : List Task) × ReadsText text (Ok d)
-    × IsPreferred (chosen asking.prefer d.prefers) d.set U
+    × IsPreferredIn (chosen asking.prefer d.prefers) text d.set U
     × TellsDoubt asking text d.prefers U (Some doubt)
 
 -- the set that the text says so has no doubt that is told, but chains that are none, for this reason
 abbrev pub IsUnchained : Asking → List ℕ → ChainFault → Type 0
 IsUnchained asking text fault =
     (d : Document) × (U : List Task) × ReadsText text (Ok d)
-    × IsPreferred (chosen asking.prefer d.prefers) d.set U
+    × IsPreferredIn (chosen asking.prefer d.prefers) text d.set U
     × TellsDoubt asking text d.prefers U None × HasNoChains text U fault
 
 -- a set, with the chains that its text says of it; or why they are none
@@ -88,7 +87,7 @@ ReadsAsked asking text (Ok p) =
     × ReadsText text (Ok d)
     × (p.choice.call ≡ asking.prefer)
     × (p.choice.own ≡ d.prefers)
-    × IsPreferred (chosen asking.prefer d.prefers) d.set p.set
+    × IsPreferredIn (chosen asking.prefer d.prefers) text d.set p.set
     × TellsDoubt asking text d.prefers p.set None
     × HasChains text p.set p.chains.items
 ReadsAsked asking text (Err (Text fault)) = ReadsText text (Err fault)

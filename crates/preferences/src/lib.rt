@@ -1,5 +1,5 @@
-//! Task sets by a preference: of all passing orders the best is the one by weights, or the one nearest to limit-monotonic,
-//! which bears most.
+//! Task sets by a preference: of all passing orders the best is the one by weights, the one nearest to limit-monotonic,
+//! which bears most, or the one by chains.
 #![tactic(auto)]
 
 mod asking;

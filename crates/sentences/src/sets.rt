@@ -241,7 +241,7 @@ fn kind_of(key: Key) -> &'static str {
         Key::Interrupt => "an array of tables, each headed by [[interrupt]]",
         Key::Chain => "an array of tables, each headed by [[chain]]",
         Key::Name => "a string, in quotes",
-        Key::Prefer => "\"deadline\" or \"weight\"",
+        Key::Prefer => "\"chains\", \"deadline\" or \"weight\"",
         Key::Node => "a table, headed by [node]",
         Key::Locks | Key::Tasks => "an array of strings, as [\"a\", \"b\"]",
         Key::Outranks => "an array of strings, as [\"a\", \"b\"], or the string \"all\"",

@@ -9,6 +9,9 @@ pub enum Preference {
     Weights,
     /// `deadline`: by their limits, which are their deadlines less their jitter, the longest first, then by their names.
     Deadline,
+    /// `chains`: tasks of no chain first, then each by how near it stands to the end of a chain, then by their limits, the
+    /// longest first, and then by their names.
+    Chains,
 }
 
 impl Preference {
@@ -19,6 +22,7 @@ impl Preference {
         match self {
             Preference::Weights => "weight",
             Preference::Deadline => "deadline",
+            Preference::Chains => "chains",
         }
     }
 }
@@ -31,6 +35,8 @@ pub fn preference_of(word: &str) -> Option<Preference>
         Some(Preference::Weights)
     } else if Preference::Deadline.word() == word {
         Some(Preference::Deadline)
+    } else if Preference::Chains.word() == word {
+        Some(Preference::Chains)
     } else {
         None
     }

@@ -2,7 +2,7 @@
 use Rattle.std.proofs.Common.{◌≡◌, ◌∙◌, ℕ, List, [], ◌∷◌, Option, Some, None, Ok, refl, ap, sym, subst}
 use Rattle.task_sheet.specs.Sheet.{Task}
 use Rattle.task_sheet.specs.declared.prefer.Preference.{Preference}
-use Rattle.task_sheet.specs.declared.prefer.Preference.TheVariants.{Weights, Deadline}
+use Rattle.task_sheet.specs.declared.prefer.Preference.TheVariants.{Weights, Deadline, Chains}
 use Rattle.task_sheet.specs.declared.node.Node.{Node}
 use Rattle.task_sheet.specs.declared.node.Interrupt.{Interrupt}
 use Rattle.task_sheet.specs.declared.read.Document.{Document}
@@ -40,6 +40,7 @@ unfolding bare
 same_preference None team sets = refl
 same_preference (Some (t, Weights)) team sets = refl
 same_preference (Some (t, Deadline)) team sets = refl
+same_preference (Some (t, Chains)) team sets = refl
 
 same_node : (said : Option (List ℕ × Node)) (team : List ℕ) (sets : List TeamSetData)
     → disagreement_with says_other_node (λ s. s.node) (λ t other. OtherNode t other) said

@@ -3,7 +3,7 @@
 use Rattle.std.specs.Prelude.{ℕ, Bool, true, false, not, List, [], ◌∷◌, ◌++◌, find, Option, Some, None, option_map}
 use Rattle.std.specs.Option.{option_or}
 use Rattle.task_sheet.specs.declared.prefer.Preference.{Preference}
-use Rattle.task_sheet.specs.declared.prefer.Preference.TheVariants.{Weights, Deadline}
+use Rattle.task_sheet.specs.declared.prefer.Preference.TheVariants.{Weights, Deadline, Chains}
 use Rattle.task_sheet.specs.declared.node.Node.{Node}
 use Rattle.task_sheet.specs.declared.node.Interrupt.{Interrupt}
 use Rattle.task_sheet.specs.Sheet.{same_node}
@@ -46,9 +46,11 @@ preferred_by sets = option_map (λ said. said.1) (first_saying (λ s. s.prefers)
 
 -- a document says another preference than this
 abbrev pub says_other : Preference → Option Preference → Bool
-says_other Weights (Some Deadline) = true
-says_other Deadline (Some Weights) = true
-says_other _ _ = false
+says_other preference None = false
+says_other Weights (Some Weights) = false
+says_other Deadline (Some Deadline) = false
+says_other Chains (Some Chains) = false
+says_other preference (Some other) = true
 
 -- the first document that prefers otherwise than one before it
 abbrev pub disagreement : List TeamSetData → Option TeamsFault

@@ -162,9 +162,11 @@ fn says_other(preference: Preference, said: Option<Preference>) -> bool
     ensures { result ≡ says_other preference said }
 {
     match (preference, said) {
-        (Preference::Weights, Some(Preference::Deadline)) => true,
-        (Preference::Deadline, Some(Preference::Weights)) => true,
-        _ => false,
+        (_, None) => false,
+        (Preference::Weights, Some(Preference::Weights)) => false,
+        (Preference::Deadline, Some(Preference::Deadline)) => false,
+        (Preference::Chains, Some(Preference::Chains)) => false,
+        _ => true,
     }
 }
 

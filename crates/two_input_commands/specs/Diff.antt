@@ -3,8 +3,7 @@ use Rattle.std.specs.Prelude.{◌≡◌, ℕ, List, ◌++◌, codes, Option, Non
 use Rattle.task_sheet.specs.declared.prefer.Preference.{Preference}
 use Rattle.preferences.specs.declared.asking.Asking.{Asking}
 use Rattle.task_sheet.specs.declared.read.Document.{Document}
-use Rattle.preferences.specs.Preferences.{IsPreferred}
-use Rattle.preferences.specs.ReadsPreferred.{chosen}
+use Rattle.preferences.specs.ReadsPreferred.{IsPreferredIn, chosen}
 use Rattle.preferences.specs.ReadsAsked.{IsChained, IsDoubted, IsUnchained, TellsDoubt, lenient}
 use Rattle.preferences.specs.declared.asking.AskedFault.{AskedFault}
 use Rattle.preferences.specs.declared.asking.AskedFault.TheVariants as asked
@@ -28,7 +27,7 @@ use Rattle.answering.specs.declared.refusal.CommandRefusal.TheVariants as refusa
 -- the text says this set and its chains, as the call asks for it, taken by this preference
 abbrev pub IsNew : Asking → List ℕ → List Task → Preference → Type 0
 IsNew asking text V by =
-    (d : Document) × ReadsText text (Ok d) × IsPreferred (chosen asking.prefer d.prefers) d.set V
+    (d : Document) × ReadsText text (Ok d) × IsPreferredIn (chosen asking.prefer d.prefers) text d.set V
     × (by ≡ chosen asking.prefer d.prefers)
     × TellsDoubt asking text d.prefers V None × IsChained text V
 

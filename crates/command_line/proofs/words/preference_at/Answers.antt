@@ -17,10 +17,16 @@ returns-in-Some-deadline-clause-known c =
     sym (rw (c.in-Some-deadline.is, c.in-Some-deadline.is-deadline) at c.get_str.ensures
     ∙ first_value-rows (found_of c.args.matches.now) _)
 
+pub returns-in-Some-chains-clause-known : goal.returns-in-Some-chains-clause-known
+returns-in-Some-chains-clause-known c =
+    sym (rw (c.in-Some-chains.is, c.in-Some-chains.is-chains) at c.get_str.ensures
+    ∙ first_value-rows (found_of c.args.matches.now) _)
+
 pub returns-in-Some-clause-none : goal.returns-in-Some-clause-none
 returns-in-Some-clause-none c _ = (
   c.in-Some.field-0.now,
   sym (rw c.in-Some.is at c.get_str.ensures ∙ first_value-rows (found_of c.args.matches.now) _),
   c.in-Some.not-weight,
   c.in-Some.not-deadline,
+  c.in-Some.not-chains,
 )

@@ -1,7 +1,6 @@
-use Rattle.std.proofs.Common.{Option, None, refl, sym, subst}
+use Rattle.std.proofs.Common.{Option, None, [], refl, sym, subst}
 use Rattle.task_sheet.specs.declared.prefer.Preference.{Preference}
-use Rattle.preferences.specs.Preferences.{IsPreferred}
-use Rattle.preferences.specs.ReadsPreferred.{chosen}
+use Rattle.preferences.specs.ReadsPreferred.{IsPreferredIn, chosen}
 use Rattle.preferences.proofs.laws.call_then_set.Goals as goal
 
 pub returns : goal.returns
@@ -11,13 +10,13 @@ returns c = record {
     d,
     reads,
     subst (λ (o : Option Preference).
-        IsPreferred (chosen None o) d.set U) (sym is) preferred,
+        IsPreferredIn (chosen None o) text d.set U) (sym is) preferred,
   );
   nobody = λ text d reads is. (
     d,
     reads,
     subst (λ (o : Option Preference).
-        IsPreferred (chosen None o) d.set d.set) (sym is) refl,
+        IsPreferredIn (chosen None o) text d.set d.set) (sym is) ([], refl, refl),
   );
-  weights = λ text U. (λ h. h, λ h. h);
+  weights = λ text U. (λ h. (h.0, h.1, h.2.2), λ h. (h.0, h.1, ([], refl, h.2)));
 }
