@@ -55,7 +55,7 @@ SECOND_INPUTS = {
 
 
 # commands whose answers speak of chains
-OF_CHAINS = ("admit", "explain", "judge", "settings")
+OF_CHAINS = ("admit", "explain", "judge", "settings", "simulate")
 
 
 def of_set(rng, subject):
