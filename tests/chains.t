@@ -117,3 +117,9 @@ A handover to a task below takes the jitter; parts of 0 have no line. With what 
     response b less cost a 1035
     wait a 5000
     response a 1035
+
+No other command's status counts chains:
+
+  $ desk limits tight.toml > said && desk worst tight.toml > said && desk diff examples/steer.toml tight.toml
+  admitted 4
+  was admitted 4

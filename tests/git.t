@@ -279,6 +279,23 @@ What the node takes past a task's own numbers, and chains, of which each says wh
   refused: COMMIT "a chain"
   $ fresh cy && printf '[[chain]]\nname = "see"\ntasks = ["pan", "arm"]\n' >> cy/teams/cam.toml && save cy 'a chain' && push cy | head -n 1
   admitted 4
+
+A document whose chain has other teams' tasks is told about as any other:
+
+  $ fresh cy && sed -i 's/^cost = .*/cost = 29000/' cy/teams/cam.toml && save cy 'too long' && push cy | grep ': pan'
+  team cam (yours), teams/cam.toml: pan cost = 8900, now 29000
+  team cam (yours), teams/cam.toml: pan deadline = 77200 with period = 77200, now 30000
+  $ fresh bob && task pan 30000 100 >> bob/teams/base.toml && save bob 'another pan' && push bob | tail -n 2
+  team cam had the name pan first; team base (yours) has to take another one
+  refused: COMMIT "another pan"
+
+And what is wrong with a chain:
+
+  $ fresh ann && sed -i 's/"arm"/"hand"/' ann/teams/arm.toml && save ann 'another name' && push ann
+  chain see: the set has no task arm; a chain's tasks are names of tasks, of any team
+  refused: ChainTask see arm
+  team arm (yours) had the task arm: the chain see of team cam (cy or root) has to do without it, first or in the same commit
+  refused: COMMIT "another name"
   $ fresh ann && printf '[[chain]]\nname = "see"\ntasks = ["arm"]\n' >> ann/teams/arm.toml && save ann 'a chain' && push ann
   cam.toml: see is the name of a chain of arm.toml, too; give one of them another name
   refused: TakenChain cam see arm

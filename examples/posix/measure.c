@@ -331,7 +331,7 @@ static int read_setting(char **words, int count)
 /* Words of a line in front of `until`, or that line. */
 static int read_words(char **words, int count)
 {
-    static const char *const heads[] = {"open", "commit", "admitted", "meets", "misses"};
+    static const char *const heads[] = {"open", "commit", "admitted", "meets", "misses", "chain"};
     if (strcmp(words[0], "put") == 0)
         return read_put(words, count);
     if (strcmp(words[0], "thread") == 0 || strcmp(words[0], "mutex") == 0)
