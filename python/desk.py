@@ -854,8 +854,8 @@ def settings(tasks: Sheets) -> Settings | Infeasible:
     >>> settings([Task("a", 10_000, 10_000, 6000, sections=[Section(["m"], 0, 100)])])
     Settings(threads={'a': 1}, mutexes={'m': 1})
     """
-    status, said = _ask("settings", tasks)
-    if status:
+    said = _ask("settings", tasks)[1]
+    if said.startswith("infeasible"):
         return _no(said)
     return _set_to(said.splitlines())
 

@@ -60,6 +60,16 @@ The bound is within its limit up to the microsecond; the lesser of both limits c
   $ grep -v reaction examples/steer.toml | desk admit - | tail -n 1
   chain steer 44200
 
+`settings` prints what it prints without chains, with the status of `admit`:
+
+  $ desk settings tight.toml > missing
+  [3]
+  $ cmp missing now
+  $ desk settings tight.toml --base 10 --room 1 > said
+  [3]
+  $ wc -l < said
+  4
+
 Of one task no chain is said, and none makes a no:
 
   $ desk explain tight.toml --task wheel

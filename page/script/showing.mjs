@@ -25,7 +25,8 @@ const SHOW = {
   },
   explain: it => show_explained(read_explain(it)),
   limits: it => show_limits(read_limits(it)),
-  settings: ({ text, status }) => show_settings(status === 0 ? text : null),
+  settings: ({ text, status }) =>
+    show_settings(status === 0 || text.startsWith('thread ') ? text : null),
   certify: it => show_certificate(it.status === 0 || it.status === 3 ? it : null),
   check: ({ text }) => write(at('checked'), `desk check: ${text.trim()}`),
   releases: it => {

@@ -54,8 +54,8 @@ SECOND_INPUTS = {
 }
 
 
-# commands whose answers have lines of chains
-OF_CHAINS = ("admit", "explain", "judge")
+# commands whose answers speak of chains
+OF_CHAINS = ("admit", "explain", "judge", "settings")
 
 
 def of_set(rng, subject):

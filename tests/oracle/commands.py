@@ -327,9 +327,12 @@ def read_change(data, preference):
         raise refusal.behind("new") from None
 
 
-@with_order
-def settings_of(tasks, order, base=1, room=0):
-    return settings.settings(tasks, order, base, room)
+def settings_of(tasks, base=1, room=0):
+    order = analysis.best_order(tasks)
+    if order is None:
+        return admitted(tasks, None), INFEASIBLE
+    all_met = chain_bounds.lines_of(tasks, order, bounds_of(tasks, order))[1]
+    return settings.settings(tasks, order, base, room), 0 if all_met else INFEASIBLE
 
 
 def keep(tasks, rows, base=1, room=0):
@@ -586,7 +589,7 @@ def notes_of(call, tasks, others, text, status):
     if command == "keep":
         return strange_threads(tasks, others[0]) + parted(text)
     if command in OF_THE_ORDER:
-        if status != INFEASIBLE or text.startswith("admitted "):
+        if status != INFEASIBLE or text.startswith(("admitted ", "thread ")):
             return names_decide(call, tasks)
         return conflict(tasks) if command in ("admit", "settings") else []
     if command in ("simulate", "draw"):

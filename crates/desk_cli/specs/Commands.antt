@@ -5,7 +5,7 @@ use Rattle.command_line.specs.declared.calls.OfOne.{OfOne}
 use Rattle.command_line.specs.declared.calls.OfOne.TheVariants.{Admit, Certify, Limits, Settings, Explain, Worst, Script, Play}
 use Rattle.command_line.specs.declared.calls.OfTwo.{OfTwo}
 use Rattle.command_line.specs.declared.calls.OfTwo.TheVariants.{Check, Judge, Diff, Simulate, Draw, Observe, Keep, WorstAt, ExplainAt, LimitsAt}
-use Rattle.set_commands.specs.Admit.{SaysAdmitted, SaysPlacing}
+use Rattle.set_commands.specs.Admit.{SaysAdmitted, SaysSettings}
 use Rattle.set_commands.specs.Certify.{SaysCertified}
 use Rattle.two_input_commands.specs.Check.{SaysChecked}
 use Rattle.two_input_commands.specs.Diff.{SaysCompared}
@@ -21,7 +21,6 @@ use Rattle.script_commands.specs.Play.{SaysPlayed}
 use Rattle.two_input_commands.specs.Simulate.{SaysSimulation}
 use Rattle.two_input_commands.specs.WorstAt.{SaysWorstAt}
 use Rattle.set_commands.specs.declared.one_task.TaskPart.TheVariants as part
-use Rattle.answering.specs.declared.answer.OrderPart.TheVariants as order
 use Rattle.answering.specs.declared.status.Status.{Status}
 use Rattle.answering.specs.Chosen.{asking_of, base_of, is_sorted, room_of, task_of, team_chosen}
 use Rattle.preferences.specs.ReadsAsked.{lenient}
@@ -34,8 +33,7 @@ abbrev pub OneSays : OfOne → Options → Option (List ℕ) → (before after :
 OneSays Admit options = SaysAdmitted (is_sorted options) (asking_of options)
 OneSays Certify options = SaysCertified (asking_of options)
 OneSays Limits options = SaysPart part.Limits (task_of options) (asking_of options)
-OneSays Settings options =
-    SaysPlacing (order.Settings (base_of options) (room_of options)) (asking_of options)
+OneSays Settings options = SaysSettings (base_of options) (room_of options) (asking_of options)
 OneSays Explain options =
     SaysPart (part.Reasons options.all (is_sorted options)) (task_of options) (asking_of options)
 OneSays Worst options = SaysPart part.Worst (task_of options) (asking_of options)

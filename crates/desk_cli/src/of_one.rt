@@ -1,53 +1,19 @@
 //! The commands of one input.
-ghost use Rattle.assignment.specs.Placings.{IsPlacingOf};
 ghost use Rattle.desk_cli.specs.Commands.{OneSays};
 ghost use Rattle.desk_cli.specs.Saying.{IsOfPlacing, SaysOfSet};
 ghost use Rattle.set_commands.specs.Chained.{IsPlaced};
-ghost use Rattle.answering.specs.Chosen.{base_of, room_of};
-ghost use Rattle.answering.specs.OrderParts.{placing_said};
 ghost use Rattle.answering.specs.Outcomes.{IsCarriedOut, IsSaidOn};
-ghost use Rattle.answering.specs.Printed.{IsPrinted};
-ghost use Rattle.answering.specs.Statuses.{placing_status};
-ghost use Rattle.answering.specs.declared.answer.OrderPart.TheVariants.{Settings};
 
-use answering::{
-    Audience, OrderPart, Status, asking_of, base_of, is_sorted, placing_status, placing_text,
-    print_made, refuse, room_of,
-};
-use assignment::Placing;
+use answering::{Audience, Status, asking_of, base_of, is_sorted, refuse, room_of};
 use command_line::{OfOne, Options};
 use script_commands::{lines_of, play};
 use set_commands::{
     Placed, TaskPart, decide, place, print_verdict, run_script, say_admitted, say_part,
+    say_settings,
 };
 use std::alloc::Global;
 use std::io::{Read, Write};
 use streams::Watched;
-use task_sheet::TaskSet;
-
-// Prints what a node is set to for the order of a placing.
-fn say_settings<W: Write + Drop>(
-    alloc: Global,
-    options: Options<'_>,
-    set: &TaskSet,
-    placing: &Placing,
-    output: &mut Watched<W>,
-) -> Status
-    requires { IsPlacingOf set.now placing.now }
-    ensures { IsSaidOn (λ before after s. IsPrinted before after
-        (placing_said (Settings (base_of options.entry) (room_of options.entry)) set.now placing.now)
-        (placing_status placing.now) s) W.contents output.old output.new result }
-{
-    let part = OrderPart::Settings {
-        base: base_of(options),
-        room: room_of(options),
-    };
-    print_made(
-        placing_text(alloc, part, set, placing),
-        placing_status(placing),
-        output,
-    )
-}
 
 // Prints what a command says of a set that was placed.
 fn say_placing<W: Write + Drop>(
@@ -66,7 +32,7 @@ fn say_placing<W: Write + Drop>(
     match command {
         OfOne::Admit => say_admitted(alloc, is_sorted(options), placed, output),
         OfOne::Limits => say_part(alloc, TaskPart::Limits, task, placed, output),
-        OfOne::Settings => say_settings(alloc, options, &placed.tasks, &placed.placing, output),
+        OfOne::Settings => say_settings(alloc, base_of(options), room_of(options), placed, output),
         OfOne::Explain => {
             let part = TaskPart::Reasons {
                 all: options.all,

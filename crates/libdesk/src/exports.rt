@@ -1,6 +1,6 @@
 //! The functions that a program in C calls: a command each, and what a person is told.
 ghost use Rattle.std.specs.Prelude.{◌≡◌, length, IfSome, None, Some, false, true};
-ghost use Rattle.set_commands.specs.Admit.{SaysAdmitted, SaysPlacing};
+ghost use Rattle.set_commands.specs.Admit.{SaysAdmitted, SaysSettings};
 ghost use Rattle.set_commands.specs.Certify.{SaysCertified};
 ghost use Rattle.two_input_commands.specs.Check.{SaysChecked};
 ghost use Rattle.two_input_commands.specs.Diff.{SaysCompared};
@@ -15,7 +15,6 @@ ghost use Rattle.set_commands.specs.Releases.{SaysList};
 ghost use Rattle.two_input_commands.specs.Simulate.{SaysSimulated};
 ghost use Rattle.answering.specs.Chosen.{asking_of};
 ghost use Rattle.answering.specs.Statuses.{code_of};
-ghost use Rattle.answering.specs.declared.answer.OrderPart.TheVariants.{Settings};
 ghost use Rattle.libdesk.specs.Answers.{AnswersCall, TellsCall};
 ghost use Rattle.libdesk.specs.Asked.{AskedSays, SaysWorstAsked};
 ghost use Rattle.libdesk.specs.Numbers.{command_of};
@@ -65,7 +64,7 @@ pub extern "C" fn desk_settings(
     status: &mut u8,
 ) -> usize
     ensures room { length room.new ≡ length room.old }
-    ensures answer { AnswersCall (SaysPlacing (Settings 1 0) (asking_of no_options)
+    ensures answer { AnswersCall (SaysSettings 1 0 (asking_of no_options)
         (Some set.now)) room.old room.new result status.new }
 {
     answer(alloc, Asked::One(OfOne::Settings, set), room, status)

@@ -7,12 +7,9 @@ use Rattle.assignment.specs.declared.placing.Placing.{Placing}
 use Rattle.answering.specs.OrderParts.{placing_said}
 use Rattle.answering.specs.Printed.{Prints}
 use Rattle.answering.specs.Sets.{HasNoSet, HasSet}
-use Rattle.answering.specs.Statuses.{placing_status}
-use Rattle.answering.specs.declared.answer.OrderPart.{OrderPart}
-use Rattle.answering.specs.declared.answer.OrderPart.TheVariants.{Levels}
 use Rattle.answering.specs.declared.refusal.CommandRefusal.{CommandRefusal}
 use Rattle.answering.specs.declared.status.Status.{Status}
-use Rattle.answering.specs.declared.answer.OrderPart.TheVariants.{Levels}
+use Rattle.answering.specs.declared.answer.OrderPart.TheVariants.{Levels, Settings}
 use Rattle.chain_tables.specs.Chains.{ChainData}
 use Rattle.chain_lines.specs.declared.text.Telling.TheVariants as telling
 use Rattle.set_commands.specs.Chained.{IsPlaced, chained_said, chained_status}
@@ -31,12 +28,6 @@ Places asking known (Ok placed) =
     HasSet asking known placed.0 × IsPlacingOf placed.0 placed.1
 Places asking known (Err r) = HasNoSet asking known r
 
--- so much of the placing of what the reader had is printed after what the writer held, and the status is the answer's
-abbrev pub SaysPlacing : OrderPart → OfOneSays
-SaysPlacing part asking known before after s =
-    Prints (Places asking known) (λ placed. placing_said part placed.0 placed.1)
-    (λ placed. placing_status placed.1) before after s
-
 -- the answer on what a reader has: a set that is placed, whose its tasks are, and its chains; or why there is none
 abbrev pub PlacesOwned : Asking → Option (List ℕ) → Result Placed CommandRefusal → Type 0
 PlacesOwned asking known (Ok placed) =
@@ -52,7 +43,7 @@ OfPlaced says placed before after s =
     → HasChained known placed.tasks placed.chains.items
     → says asking known before after s
 
--- ---- desk admit
+-- ---- desk admit and desk settings
 -- a set with its chains, and its placing
 pub record AdmittedData : Type 0 where
   pub set : List Task
@@ -75,4 +66,11 @@ admitted_said sorted U chains placing =
 abbrev pub SaysAdmitted : (sorted : Bool) → OfOneSays
 SaysAdmitted sorted asking known before after s =
     Prints (AnswersAdmitted asking known) (λ a. admitted_said sorted a.set a.chains a.placing)
+    (λ a. chained_status a.set a.chains a.placing) before after s
+
+-- what a node is set to for the order, from a base on, with room, or the line of the obstruction, is printed so, with the same
+-- status
+abbrev pub SaysSettings : (base room : ℕ) → OfOneSays
+SaysSettings base room asking known before after s =
+    Prints (AnswersAdmitted asking known) (λ a. placing_said (Settings base room) a.set a.placing)
     (λ a. chained_status a.set a.chains a.placing) before after s

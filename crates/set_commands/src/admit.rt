@@ -1,15 +1,16 @@
-//! What becomes of the tasks of a set, and `desk admit`.
+//! What becomes of the tasks of a set, `desk admit` and `desk settings`.
 ghost use Rattle.std.specs.Prelude.{◌≡◌, IfOk};
 ghost use Rattle.assignment.specs.Placings.{IsPlacingOf};
 ghost use Rattle.owners.specs.Slack.{sorted_if};
-ghost use Rattle.set_commands.specs.Admit.{OfPlaced, PlacesOwned, SaysAdmitted, admitted_said};
+ghost use Rattle.set_commands.specs.Admit.{OfPlaced, PlacesOwned, SaysAdmitted, SaysSettings, admitted_said};
 ghost use Rattle.set_commands.specs.Chained.{IsPlaced};
 ghost use Rattle.answering.specs.OrderParts.{placing_said};
 ghost use Rattle.answering.specs.Outcomes.{IsRead, IsSaidOn, failed_read};
 
 use crate::chained::{Placed, chained_status, chained_text, levels_of};
 use answering::{
-    Audience, CommandRefusal, OrderPart, Status, joined, placing_text, print_bytes, read_owned,
+    Audience, CommandRefusal, OrderPart, Status, joined, placing_text, print_bytes,
+    print_made, read_owned,
 };
 use assignment::{Placing, place_all};
 use ceilings::{LockTable, Tabled};
@@ -89,4 +90,22 @@ pub fn say_admitted<W: Write + Drop>(
 {
     let status = chained_status(placed);
     print_bytes(admitted_text(alloc, sorted, placed), status, output)
+}
+
+/// Prints what a node is set to for the order of a set that was placed, where level 1 has this priority, with so much room beside
+/// each; or that there was no memory for it.
+pub fn say_settings<W: Write + Drop>(
+    alloc: Global,
+    base: u32,
+    room: u32,
+    placed: &Placed,
+    output: &mut Watched<W>,
+) -> Status
+    requires { IsPlaced placed.now }
+    ensures { IsSaidOn (OfPlaced (SaysSettings base room) placed.now) W.contents output.old output.new result }
+{
+    let part = OrderPart::Settings { base, room };
+    let status = chained_status(placed);
+    let text = placing_text(alloc, part, &placed.tasks, &placed.placing);
+    print_made(text, status, output)
 }

@@ -11,7 +11,7 @@ mod one_task;
 mod releases;
 mod script;
 
-pub use admit::{place, say_admitted};
+pub use admit::{place, say_admitted, say_settings};
 pub use certify::{decide, print_verdict};
 pub use chained::Placed;
 pub use one_task::{TaskPart, say_part};
