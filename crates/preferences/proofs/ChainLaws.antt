@@ -18,7 +18,7 @@ module _ (chains : List WrittenData) where
   -- of two tasks that are behind no other, what is behind the first is behind the second
   behind-le : (u x y : Task) → is_behind chains x y ≡ false
       → cond (is_behind chains u y) 1 0 ≤ cond (is_behind chains u x) 1 0
-  behind-le u x y no = grind (arith, nat_tests)
+  behind-le u x y not = grind (arith, nat_tests)
 
   behind-self : (x : Task) → is_behind chains x x ≡ false
   behind-self x = grind (arith, nat_tests)
@@ -32,8 +32,8 @@ module _ (chains : List WrittenData) where
 
   lower-le : (U : List Task) (x y : Task) → is_behind chains x y ≡ false
       → lower_tasks chains U y ≤ lower_tasks chains U x
-  lower-le U x y no = sum_by-le-sum_by (λ (u : Task). cond (is_behind chains u y) 1 0)
-      (λ (u : Task). cond (is_behind chains u x) 1 0) U (λ u. behind-le u x y no)
+  lower-le U x y not = sum_by-le-sum_by (λ (u : Task). cond (is_behind chains u y) 1 0)
+      (λ (u : Task). cond (is_behind chains u x) 1 0) U (λ u. behind-le u x y not)
 
   -- the task that is wanted lower is counted more
   lower-lt : (U : List Task) (x y : Task) (k : ℕ) → is_behind chains x y ≡ true → k < length U
@@ -90,7 +90,7 @@ module _ (chains : List WrittenData) where
         let there = weight-at j within' in (
           λ less. elim (cases_Bool (is_behind chains x y)) [
             | inl so ↦ so
-            | inr no ↦ absurd (omega (arith, here, there, lower-le V x y no))
+            | inr not ↦ absurd (omega (arith, here, there, lower-le V x y not))
           ],
           λ so. omega (arith, here, there, lower-lt V x y i so within (behind-self x) so),
         )
