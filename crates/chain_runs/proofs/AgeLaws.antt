@@ -1,17 +1,14 @@
 -- The greatest age and the greatest reaction of a chain's outputs.
-use Rattle.std.proofs.Common.{ℕ, ◌+◌, ◌-◌, ◌<◌, ◌≤◌, ◌≡◌, inl, inr, refl, sym, ap, ◌∙◌, subst, arith}
-use Rattle.std.proofs.Common.{max, true, false, nat_lt, List, [], ◌∷◌, length, Option, Some, None, Ok}
+use Rattle.std.proofs.Common.{ℕ, ◌+◌, ◌-◌, ◌<◌, ◌≤◌, ◌≡◌, inl, inr, refl, sym, ◌∙◌, subst, arith}
+use Rattle.std.proofs.Common.{max, nat_lt, List, [], ◌∷◌, Option, Some, None}
 use Rattle.std.proofs.lemmas.Bool.{cases_Bool, cases_lt}
 use Rattle.std.proofs.lemmas.Option.{none-some, same_Some}
 use Rattle.ceiling_kernel.specs.Readings.{IsFinishAt}
-use Rattle.ceiling_kernel.specs.declared.trace.Release.{Release}
-use Rattle.ceiling_kernel.specs.declared.trace.Trace.{Trace}
-use Rattle.ceiling_kernel.proofs.Common.{Node, Job, IsNode, Runs, job_at, jobs_of}
+use Rattle.ceiling_kernel.proofs.Common.{Node, Job, job_at, jobs_of}
 use Rattle.ceiling_kernel.proofs.EndLaws.{legal_from}
 use Rattle.chains.specs.Starts.{IsStartAt}
 use Rattle.chains.specs.Paths.{IsNewest, IsSampleOf, LeadsTo, Reads, last_task}
-use Rattle.chains.specs.Gaps.{AreSteady, OthersSteady}
-use Rattle.chains.specs.Bounds.{AllAct, bound_of}
+use Rattle.chains.specs.Bounds.{bound_of}
 use Rattle.chains.proofs.AgeLaws.{ages_law}
 use Rattle.chain_runs.specs.Outputs.{outputs_of}
 use Rattle.chain_runs.specs.Outcomes.{age_by, age_at, ages_of, greater, later_than, next_of}
@@ -141,8 +138,11 @@ module _ (node : Node) (jobs : List Job) where
           → IsOutput node jobs first others after o k → IsSampleOf node jobs first others k s
           → next_of until os ≤ s + bound
       gets after o [] k s are is of =
-          omega (arith, younger until k s (omega arith) (stands_at after o [] k until are is are.1
-          (omega arith) are.3) of)
+          omega (
+            arith,
+            younger until k s (omega arith) (stands_at after o [] k until are is are.1
+                (omega arith) are.3) of,
+          )
       gets after o (o' ∷ os) k s are is of =
           let more : o.finish < o'.finish = are.3.0 in
           let within : o'.finish ≤ until = are.3.1 in
