@@ -15,7 +15,7 @@ use Rattle.chain_runs.specs.Outcomes.{age_by, age_at, ages_of, greater, later_th
 use Rattle.chain_runs.specs.Outcomes.{reaction_by, reaction_at, reactions_of}
 use Rattle.chain_runs.specs.Runs.{AreOutputs, AtMost, IsOutput, IsSampled, NoneIsOlder, RunsAreWithin}
 use Rattle.chain_runs.specs.declared.outputs.ChainOutput.{ChainOutput}
-use Rattle.chain_runs.proofs.TickLaws.{finish_apart, start_once}
+use Rattle.chain_runs.proofs.TickLaws.{finish_apart, start_before, start_once}
 use Rattle.chain_runs.proofs.RunLaws.{outputs_law}
 
 -- ---- the greater of two
@@ -68,6 +68,20 @@ module _ (node : Node) (jobs : List Job) where
   sample_once i others k s u one other =
       let same : one.job ≡ other.job = path_once i others one.job other.job k one.path other.path in
       start_once node jobs other.job s u (subst (λ x. IsStartAt node jobs x s) same one.started) other.started
+
+  -- a sample is older than its output
+  pub sample_before : (i : ℕ) (others : List ℕ) (p k s f : ℕ) → IsStartAt node jobs p s
+      → LeadsTo node jobs i others p k → IsFinishAt node jobs k f → s < f
+  sample_before i [] p k s f start same is =
+      start_before node jobs k s f (subst (λ x. IsStartAt node jobs x s) same start) is
+  sample_before i (c ∷ others) p k s f start leads is =
+      let reads : Reads node jobs c leads.0 i p = leads.1 in
+      let by = reads.newest.in_time in
+      omega (
+        arith,
+        start_before node jobs p s reads.newest.finish start reads.newest.finished,
+        sample_before c others leads.0 k reads.start f reads.started leads.2 is,
+      )
 
   module _ (first : ℕ) (others : List ℕ) (until : ℕ) where
     abbrev last : ℕ
