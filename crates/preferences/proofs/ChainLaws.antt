@@ -1,17 +1,16 @@
 -- In a set by chains the weights follow the places and the limits.
-use Rattle.std.proofs.Common.{◌≡◌, ◌↔◌, ℕ, zero, suc, ◌+◌, ◌<◌, ◌≤◌, ◌⊎◌, inl, inr, Bool, true, false}
-use Rattle.std.proofs.Common.{cond, List, [], ◌∷◌, length, get_or, refl, sym, ◌∙◌, ap, arith}
-use Rattle.std.specs.List.{All, count_by}
+use Rattle.std.proofs.Common.{◌≡◌, ◌↔◌, ℕ, zero, suc, ◌+◌, ◌<◌, ◌≤◌, inl, inr, true, false}
+use Rattle.std.proofs.Common.{cond, List, [], ◌∷◌, length, refl, sym, ◌∙◌, ap, arith}
 use Rattle.std.specs.List.{AllByRecursion}
-use Rattle.std.proofs.lemmas.Bool.{cases_Bool, both_ways}
+use Rattle.std.proofs.lemmas.Bool.{cases_Bool}
 use Rattle.std.proofs.lemmas.Bool.Decides.{nat_tests}
 use Rattle.std.proofs.lemmas.List.Sums.{sum_by-cons, sum_by-le-sum_by}
 use Rattle.std.proofs.lemmas.List.Elements.{All-from_recursion}
 use Rattle.std.proofs.lemmas.List.Sorted.{All-permutation, sum_by-IsPermutation}
-use Rattle.task_sheet.proofs.Common.{Task, no_task, task_at, IsByRank, limit_of}
+use Rattle.task_sheet.proofs.Common.{Task, no_task, task_at, IsByRank}
 use Rattle.task_sheet.specs.Sheet.{weighing}
 use Rattle.chain_tables.specs.Tables.{WrittenData}
-use Rattle.preferences.specs.Preferences.{is_behind, lower_tasks, place_of, weighed}
+use Rattle.preferences.specs.Preferences.{is_behind, lower_tasks, weighed}
 
 -- ---- who is wanted lower
 module _ (chains : List WrittenData) where
