@@ -1,0 +1,5 @@
+pub mod Slices
+pub mod Outputs
+pub mod Outcomes
+pub mod Runs
+pub mod Lines

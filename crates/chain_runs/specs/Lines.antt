@@ -1,0 +1,48 @@
+-- The lines of the chains of a run.
+use Rattle.std.specs.Prelude.{ℕ, List, [], ◌∷◌, ◌++◌, codes, map, Option, Some, None}
+use Rattle.std.specs.Fmt.{decimal}
+use Rattle.task_sheet.specs.Sheet.{Task}
+use Rattle.ceiling_kernel.specs.declared.trace.Trace.{Trace}
+use Rattle.chains.specs.Parts.{bound_in}
+use Rattle.chains.specs.declared.bounds.Level.{Level}
+use Rattle.chain_tables.specs.Chains.{ChainData}
+use Rattle.chain_runs.specs.Slices.{slices_of}
+use Rattle.chain_runs.specs.Outputs.{fresh, outputs_from}
+use Rattle.chain_runs.specs.Outcomes.{outcome_of}
+use Rattle.chain_runs.specs.declared.slices.TaskSlice.{TaskSlice}
+use Rattle.chain_runs.specs.declared.outcome.ChainOutcome.{ChainOutcome}
+
+-- a time, or `-` where there is none
+abbrev pub time_words : Option ℕ → List ℕ
+time_words None = codes "-"
+time_words (Some time) = decimal time
+
+-- how many outputs have a sample, the greatest age and the greatest reaction
+abbrev pub outcome_words : ChainOutcome → List ℕ
+outcome_words o =
+    codes " " ++ decimal o.outputs ++ codes " age " ++ time_words o.age ++ codes " reaction "
+    ++ time_words o.reaction
+
+abbrev pub bound_words : Option ℕ → List ℕ
+bound_words None = codes " bound -\n"
+bound_words (Some bound) = codes " bound " ++ decimal bound ++ codes "\n"
+
+-- the line of a chain
+abbrev pub run_line : ChainData → ChainOutcome → (bound : Option ℕ) → List ℕ
+run_line chain o bound = codes "chain " ++ chain.name ++ outcome_words o ++ bound_words bound
+
+-- that of one in a run of these slices, which ends at a time, in an order whose levels have these responses
+abbrev pub run_chain_line : List Task → List Level → (until : ℕ) → List TaskSlice → ChainData → List ℕ
+run_chain_line U levels until slices chain =
+    run_line chain (outcome_of until (outputs_from (map fresh chain.tasks) slices))
+    (bound_in U levels chain.tasks)
+
+-- those of all
+abbrev pub chain_lines : List Task → List Level → (until : ℕ) → List TaskSlice → List ChainData → List ℕ
+chain_lines U levels until slices [] = []
+chain_lines U levels until slices (chain ∷ chains) =
+    run_chain_line U levels until slices chain ++ chain_lines U levels until slices chains
+
+abbrev pub run_chains_said : List Task → List Level → (until : ℕ) → Trace → List ChainData → List ℕ
+run_chains_said U levels until trace chains =
+    chain_lines U levels until (slices_of U trace) chains

@@ -1,0 +1,26 @@
+//! The laws of a chain's outputs. Each is the contract of a function that does nothing.
+ghost use Rattle.chain_runs.specs.Runs.{AgesAreReached, NoneIsOlder, NoneIsSlower, OutputsAreTheRuns, ReactionsAreReached, RunsAreWithin};
+
+/// The outputs that are found of a chain in a run are the finished jobs of its last task, one after the other, each with the
+/// sample that its path begins with.
+pub fn outputs_are_the_runs()
+    ensures { OutputsAreTheRuns }
+{}
+
+/// What stands of a chain is at no time of a run older than the greatest age that is found, and something gets as old.
+pub fn ages_are_greatest()
+    ensures older { NoneIsOlder }
+    ensures reached { AgesAreReached }
+{}
+
+/// An event just after the sample of an output, where it is acted on in the run, waits for no longer than the greatest reaction
+/// that is found, and one waits for so long.
+pub fn reactions_are_greatest()
+    ensures slower { NoneIsSlower }
+    ensures reached { ReactionsAreReached }
+{}
+
+/// Where each of the chain's tasks passes and is steady, both are within the chain's bound.
+pub fn runs_are_within()
+    ensures { RunsAreWithin }
+{}

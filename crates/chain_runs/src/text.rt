@@ -1,0 +1,100 @@
+//! What is printed of the chains of a run.
+ghost use Rattle.std.specs.Prelude.{◌≡◌, ◌++◌, IfOk, OnOk, map, string_bytes};
+ghost use Rattle.chain_runs.specs.Lines.{bound_words, outcome_words, run_chain_line, run_chains_said, run_line, time_words};
+ghost use Rattle.chain_runs.specs.Outcomes.{outcome_of};
+ghost use Rattle.chain_runs.specs.Outputs.{fresh, outputs_from};
+ghost use Rattle.chain_runs.specs.Slices.{slices_of};
+
+use crate::outcome::{ChainOutcome, outcome_of};
+use crate::outputs::outputs_of;
+use crate::slices::{TaskSlice, slices_of};
+use ceiling_kernel::Trace;
+use chain_tables::Chain;
+use chains::{Level, bound_of};
+use std::alloc::{AllocError, Global};
+use task_sheet::TaskSet;
+
+// A word and a time, or that there is none.
+fn push_time(text: &mut String, word: &str, time: Option<u64>) -> Result<(), AllocError>
+    ensures { OnOk result (string_bytes text.new ≡ string_bytes text.old ++ word.now ++ time_words time) }
+{
+    text.push_str(word)?;
+    match time {
+        Some(time) => write!(text, "{time}"),
+        None => text.push_str("-"),
+    }
+}
+
+// What a chain came to.
+fn push_outcome(text: &mut String, outcome: ChainOutcome) -> Result<(), AllocError>
+    ensures { OnOk result (string_bytes text.new ≡ string_bytes text.old ++ outcome_words outcome) }
+{
+    let count = outcome.outputs;
+    write!(text, " {count}")?;
+    push_time(text, " age ", outcome.age)?;
+    push_time(text, " reaction ", outcome.reaction)
+}
+
+// Its bound, or that there is none.
+fn push_bound(text: &mut String, bound: Option<u128>) -> Result<(), AllocError>
+    ensures { OnOk result (string_bytes text.new ≡ string_bytes text.old ++ bound_words bound) }
+{
+    match bound {
+        Some(bound) => write!(text, " bound {bound}\n"),
+        None => text.push_str(" bound -\n"),
+    }
+}
+
+// The line of a chain.
+fn push_line(
+    text: &mut String,
+    chain: &Chain,
+    outcome: ChainOutcome,
+    bound: Option<u128>,
+) -> Result<(), AllocError>
+    ensures { OnOk result (string_bytes text.new ≡ string_bytes text.old ++ run_line chain.now outcome bound) }
+{
+    let name = chain.name;
+    write!(text, "chain {name}")?;
+    push_outcome(text, outcome)?;
+    push_bound(text, bound)
+}
+
+// The line of a chain in a run of these slices, which ends at `until`.
+fn push_chain(
+    text: &mut String,
+    set: &TaskSet,
+    levels: &[Level],
+    chain: &Chain,
+    until: u64,
+    slices: &[TaskSlice],
+    alloc: Global,
+) -> Result<(), AllocError>
+    ensures { OnOk result (string_bytes text.new ≡ string_bytes text.old
+        ++ run_chain_line set.now levels.now until slices.now chain.now) }
+{
+    let outputs = outputs_of(alloc, slices, &chain.tasks)?;
+    let outcome = outcome_of(until, &outputs);
+    push_line(text, chain, outcome, bound_of(set, levels, &chain.tasks))
+}
+
+/// The lines of chains in a run that ends at `until`, in an order whose levels have these responses: of each how many outputs
+/// came from a sample, the greatest age and the greatest reaction, and the chain's bound. The error is out of memory.
+pub fn run_chains_text(
+    alloc: Global,
+    set: &TaskSet,
+    levels: &[Level],
+    chains: &[Chain],
+    until: u64,
+    trace: &Trace,
+) -> Result<String, AllocError>
+    ensures { IfOk result (λ text. string_bytes text
+        ≡ run_chains_said set.now levels.now until trace.now chains.now) }
+{
+    let slices = slices_of(alloc, set, trace)?;
+    let mut text = String::new(alloc);
+    for chain in chains {
+        push_chain(&mut text, set, levels, chain, until, &slices, alloc)?;
+    }
+    Ok(text)
+}
