@@ -330,7 +330,8 @@ class Judged(_Answer):
 @dataclass(frozen=True)
 class Difference:
     """What was and what is, None where there is none: of `cost`, say, of `section 1`, as `m@0:200`, of
-    `outranks`, as `a+b`; and of a set itself `prefer`, `node job`, `interrupt 1 cost`."""
+    `outranks`, as `a+b`; and of a set itself `prefer`, `node job`, `interrupt 1 cost`, in a folder
+    behind its team."""
 
     key: str
     old: int | str | None
@@ -891,7 +892,7 @@ def diff(tasks: Sheets, new: Sheets) -> Compared:
     whole, changes = (), []
     for words in (it.split() for it in lines):
         if words[2:3] != ["level"]:
-            front = {"node": 1, "interrupt": 2}.get(words[0], 0)
+            front = 3 if words[1] == "interrupt" else {"node": 1, "interrupt": 2}.get(words[0], 0)
             whole += _differences(words[front:], "".join(it + " " for it in words[:front]))
             continue
         level, bound, slack = ((_time(words[k]), _time(words[k + 1])) for k in (3, 6, 9))

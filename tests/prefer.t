@@ -251,8 +251,8 @@ for a doubt comes first:
 What one team prefers by chains holds for the chains of all:
 
   $ mkdir both
-  $ sed 5,99d tasks.toml > both/nose.toml
-  $ sed 1,4d turn.toml > both/wheels.toml
+  $ sed 6,99d tasks.toml > both/nose.toml
+  $ sed 1,5d turn.toml > both/wheels.toml
   $ echo 'prefer = "chains"' > both/node.toml
   $ desk admit both | tail -n 1
   chain turn 34000 of 35000

@@ -401,6 +401,25 @@ line that speaks of one task, but where keys stand:
   faster arm level 1 1 bound 8000 7500 slack 2000 2500 team arm
   faster pan level 2 2 bound 6300 5800 slack 13700 14200 team cam
 
+An interrupt is that of its document, wherever it stands among all: here one comes in front of those of cam, of which one is
+another and one is gone.
+
+  $ interrupt() { printf '[[interrupt]]\nperiod = %d\ncost = %d\n' $1 $2; }
+  $ mkdir was now && for it in was now; do task pan 20000 1000 > $it/cam.toml; task arm 10000 1000 > $it/arm.toml; done
+  $ { interrupt 4000 10; interrupt 5000 20; } >> was/cam.toml
+  $ interrupt 1000 3 >> now/arm.toml; interrupt 4000 11 >> now/cam.toml
+  $ { interrupt 2000 5; printf '[team.arm]\nnode = true\n[team.cam]\nnode = true\n'; } > now/node.toml
+  $ desk diff was now 2> notes | grep interrupt
+  node interrupt 1 period - 2000 cost - 5
+  arm interrupt 1 period - 1000 cost - 3
+  cam interrupt 1 cost 10 11
+  cam interrupt 2 period 5000 - cost 20 -
+  $ desk diff was was 2> notes | sed 1,2d
+  $ sed '/^\[\[interrupt/,/^cost/d' was/cam.toml > now/cam.toml && { cat now/cam.toml; interrupt 5000 20; interrupt 4000 10; } > now/turned
+  $ mv now/turned now/cam.toml; desk diff was now 2> notes | grep cam.inter
+  cam interrupt 1 period 4000 5000 cost 10 20
+  cam interrupt 2 period 5000 4000 cost 20 10
+
 Of a minimal conflict the same, so that its teams know of each other; a task of one document has no team:
 
   $ locked arm 10000 9000 bus 300 > moved/arm.toml

@@ -30,12 +30,24 @@ def whole(old, new):
     was, now = (side.tasks[0].node._asdict() if side.tasks else {} for side in (old, new))
     keys = [words(key, was.get(key, 0), now.get(key, 0)) for key in ("job", "lock", "release", "late")]
     lines += ["node" + "".join(keys)] if any(keys) else []
-    both = (next((it.interrupts for it in side.tasks if it.interrupts), ()) for side in (old, new))
-    for place, pair in enumerate(itertools.zip_longest(*both, fillvalue=("-", "-")), 1):
-        (period, cost), (new_period, new_cost) = pair
-        keys = words("period", period, new_period) + words("cost", cost, new_cost)
-        lines += [f"interrupt {place}{keys}"] if keys else []
-    return lines
+    return lines + interrupt_lines(named(old), named(new))
+
+
+def named(side):
+    """The interrupts of a set, each with its name: by its document and its place there."""
+    interrupts = next((it.interrupts for it in side.tasks if it.interrupts), ())
+    return [(f"{team} interrupt {own}" if team else f"interrupt {own}", it) for it, (team, own) in zip(interrupts, side.tasks.sources)]
+
+
+def interrupt_lines(old, new):
+    """Those that came or are others, by the new set; then those that are gone."""
+    lines, none = [], ("-", "-")
+    for place, (name, is_now) in enumerate(new):
+        was = ([it for other, it in old[place : place + 1] + old if other == name] or [none])[0]
+        keys = words("period", was[0], is_now[0]) + words("cost", was[1], is_now[1])
+        lines += [name + keys] if keys else []
+    gone = [(name, was) for name, was in old if name not in [other for other, _ in new]]
+    return lines + [f"{name} period {was[0]} - cost {was[1]} -" for name, was in gone]
 
 
 def words(key, was, now):

@@ -1,24 +1,21 @@
 -- The greatest age and the greatest reaction of a chain's outputs.
-use Rattle.std.proofs.Common.{ℕ, ◌+◌, ◌-◌, ◌<◌, ◌≤◌, ◌≡◌, inl, inr, refl, sym, ap, ◌∙◌, subst, arith}
-use Rattle.std.proofs.Common.{max, true, false, nat_lt, List, [], ◌∷◌, length, Option, Some, None, Ok}
+use Rattle.std.proofs.Common.{ℕ, ◌+◌, ◌-◌, ◌<◌, ◌≤◌, ◌≡◌, inl, inr, refl, sym, ◌∙◌, subst, arith}
+use Rattle.std.proofs.Common.{max, nat_lt, List, [], ◌∷◌, Option, Some, None}
 use Rattle.std.proofs.lemmas.Bool.{cases_Bool, cases_lt}
 use Rattle.std.proofs.lemmas.Option.{none-some, same_Some}
 use Rattle.ceiling_kernel.specs.Readings.{IsFinishAt}
-use Rattle.ceiling_kernel.specs.declared.trace.Release.{Release}
-use Rattle.ceiling_kernel.specs.declared.trace.Trace.{Trace}
-use Rattle.ceiling_kernel.proofs.Common.{Node, Job, IsNode, Runs, job_at, jobs_of}
+use Rattle.ceiling_kernel.proofs.Common.{Node, Job, job_at, jobs_of}
 use Rattle.ceiling_kernel.proofs.EndLaws.{legal_from}
 use Rattle.chains.specs.Starts.{IsStartAt}
 use Rattle.chains.specs.Paths.{IsNewest, IsSampleOf, LeadsTo, Reads, last_task}
-use Rattle.chains.specs.Gaps.{AreSteady, OthersSteady}
-use Rattle.chains.specs.Bounds.{AllAct, bound_of}
+use Rattle.chains.specs.Bounds.{bound_of}
 use Rattle.chains.proofs.AgeLaws.{ages_law}
 use Rattle.chain_runs.specs.Outputs.{outputs_of}
 use Rattle.chain_runs.specs.Outcomes.{age_by, age_at, ages_of, greater, later_than, next_of}
 use Rattle.chain_runs.specs.Outcomes.{reaction_by, reaction_at, reactions_of}
 use Rattle.chain_runs.specs.Runs.{AreOutputs, AtMost, IsOutput, IsSampled, NoneIsOlder, RunsAreWithin}
 use Rattle.chain_runs.specs.declared.outputs.ChainOutput.{ChainOutput}
-use Rattle.chain_runs.proofs.TickLaws.{finish_apart, start_once}
+use Rattle.chain_runs.proofs.TickLaws.{finish_apart, start_before, start_once}
 use Rattle.chain_runs.proofs.RunLaws.{outputs_law}
 
 -- ---- the greater of two
@@ -71,6 +68,20 @@ module _ (node : Node) (jobs : List Job) where
   sample_once i others k s u one other =
       let same : one.job ≡ other.job = path_once i others one.job other.job k one.path other.path in
       start_once node jobs other.job s u (subst (λ x. IsStartAt node jobs x s) same one.started) other.started
+
+  -- a sample is older than its output
+  pub sample_before : (i : ℕ) (others : List ℕ) (p k s f : ℕ) → IsStartAt node jobs p s
+      → LeadsTo node jobs i others p k → IsFinishAt node jobs k f → s < f
+  sample_before i [] p k s f start same is =
+      start_before node jobs k s f (subst (λ x. IsStartAt node jobs x s) same start) is
+  sample_before i (c ∷ others) p k s f start leads is =
+      let reads : Reads node jobs c leads.0 i p = leads.1 in
+      let by = reads.newest.in_time in
+      omega (
+        arith,
+        start_before node jobs p s reads.newest.finish start reads.newest.finished,
+        sample_before c others leads.0 k reads.start f reads.started leads.2 is,
+      )
 
   module _ (first : ℕ) (others : List ℕ) (until : ℕ) where
     abbrev last : ℕ
@@ -141,8 +152,11 @@ module _ (node : Node) (jobs : List Job) where
           → IsOutput node jobs first others after o k → IsSampleOf node jobs first others k s
           → next_of until os ≤ s + bound
       gets after o [] k s are is of =
-          omega (arith, younger until k s (omega arith) (stands_at after o [] k until are is are.1
-          (omega arith) are.3) of)
+          omega (
+            arith,
+            younger until k s (omega arith) (stands_at after o [] k until are is are.1
+                (omega arith) are.3) of,
+          )
       gets after o (o' ∷ os) k s are is of =
           let more : o.finish < o'.finish = are.3.0 in
           let within : o'.finish ≤ until = are.3.1 in

@@ -1,5 +1,5 @@
 -- The greater of two numbers, of which either may be absent.
-use Rattle.std.proofs.Common.{◌≡◌, ◌∙◌, ℕ, max, Option, Some, None, refl, ap, sym, arith}
+use Rattle.std.proofs.Common.{◌≡◌, ◌∙◌, ℕ, max, Option, Some, None, refl, ap, arith}
 use Rattle.chain_runs.specs.Outcomes.{greater}
 
 assoc : (a b c : Option ℕ) → greater (greater a b) c ≡ greater a (greater b c)

@@ -1,6 +1,6 @@
 -- The greatest reaction of a chain's outputs, and that what is found is reached.
-use Rattle.std.proofs.Common.{ℕ, ◌+◌, ◌-◌, ◌<◌, ◌≤◌, ◌≡◌, ◌⊎◌, inl, inr, refl, sym, ap, ◌∙◌, subst, arith}
-use Rattle.std.proofs.Common.{max, true, false, nat_lt, List, [], ◌∷◌, Option, Some, None}
+use Rattle.std.proofs.Common.{ℕ, ◌+◌, ◌-◌, ◌<◌, ◌≤◌, ◌≡◌, ◌⊎◌, inl, inr, refl, ap, ◌∙◌, subst, arith}
+use Rattle.std.proofs.Common.{max, true, nat_lt, List, [], ◌∷◌, Option, Some, None}
 use Rattle.std.proofs.lemmas.Bool.{cases_Bool, cases_lt, lt-ltb, ltb-true}
 use Rattle.std.proofs.lemmas.Option.{none-some, same_Some}
 use Rattle.ceiling_kernel.specs.Readings.{IsFinishAt}
@@ -16,7 +16,7 @@ use Rattle.chain_runs.specs.Runs.{AgesAreReached, NoneIsSlower, ReactionsAreReac
 use Rattle.chain_runs.specs.declared.outputs.ChainOutput.{ChainOutput}
 use Rattle.chain_runs.proofs.TickLaws.{finish_apart}
 use Rattle.chain_runs.proofs.TurnLaws.{has_sample, never_back}
-use Rattle.chain_runs.proofs.AgeLaws.{NoLess, greater_left, greater_right, sample_once, stands_at}
+use Rattle.chain_runs.proofs.AgeLaws.{sample_before, NoLess, greater_left, greater_right, sample_once, stands_at}
 use Rattle.chain_runs.proofs.RunLaws.{outputs_law}
 
 -- the greater of two is one of them
@@ -35,23 +35,28 @@ module _ (node : Node) (jobs : List Job) (first : ℕ) (others : List ℕ) (unti
   last = last_task first others
 
   -- ---- ages
-  age_of : (k : ℕ) (o : Option ℕ) (end a : ℕ) → IsSampled node jobs first others k o
-      → age_by o end ≡ Some a → (s : ℕ) × IsSampleOf node jobs first others k s × (end - s ≡ a)
-  age_of k None end a sampled e = absurd (none-some a e)
-  age_of k (Some s) end a sampled e = (s, sampled, same_Some (end - s) a e)
+  age_of : (k f : ℕ) (o : Option ℕ) (end a : ℕ) → IsSampled node jobs first others k o
+      → IsFinishAt node jobs k f → f ≤ end → age_by o end ≡ Some a
+      → (s : ℕ) × IsSampleOf node jobs first others k s × (s + a ≡ end)
+  age_of k f None end a sampled is le e = absurd (none-some a e)
+  age_of k f (Some s) end a sampled is le e =
+      let before = sample_before node jobs first others sampled.job k s f sampled.started sampled.path is in
+      let same : end - s ≡ a = same_Some (end - s) a e in
+      (s, sampled, omega arith)
 
   up_to : (after : ℕ) (o : ChainOutput) (os : List ChainOutput) (k : ℕ)
       → AreOutputs node jobs first others after until (o ∷ os)
       → IsOutput node jobs first others after o k
-      → (next_of until os ≤ until) × ((IsNewest node jobs last (next_of until os) k)
+      → (next_of until os ≤ until) × (o.finish ≤ next_of until os) × ((IsNewest node jobs last (next_of until os) k)
       ⊎ (IsNewest node jobs last (next_of until os - 1) k))
   up_to after o [] k are is =
-      (omega arith, inl (stands_at node jobs first others until after o [] k until are is are.1 (omega arith) are.3))
+      (omega arith, are.1, inl (stands_at node jobs first others until after o [] k until are is are.1 (omega arith) are.3))
   up_to after o (o' ∷ os) k are is =
       let more : o.finish < o'.finish = are.3.0 in
       let within : o'.finish ≤ until = are.3.1 in
       let next : (j : ℕ) × IsOutput node jobs first others o.finish o' j = are.3.2 in (
         within,
+        omega arith,
         inr (stands_at node jobs first others until after o (o' ∷ os) k (o'.finish - 1) are is
             (omega arith) (omega arith)
             (λ q g own fin by. elim (cases_lt o.finish g) [
@@ -68,16 +73,16 @@ module _ (node : Node) (jobs : List Job) (first : ℕ) (others : List ℕ) (unti
       elim (one_of (age_at until o os) (ages_of until os) a e) [
         | inr rest ↦ ages_by o.finish os a are.3 rest
         | inl here ↦
-            let of : (s : ℕ) × IsSampleOf node jobs first others k.0 s × (next_of until os - s ≡ a) =
-            age_of k.0 o.sample (next_of until os) a k.1.sampled here in
             let stands = up_to after o os k.0 are k.1 in
+            let of : (s : ℕ) × IsSampleOf node jobs first others k.0 s × (s + a ≡ next_of until os) =
+            age_of k.0 o.finish o.sample (next_of until os) a k.1.sampled k.1.finished stands.1 here in
             record {
               output = k.0;
               sample = of.0;
               sampled = of.1;
               time = next_of until os;
               in_run = stands.0;
-              stands = stands.1;
+              stands = stands.2;
               is = of.2;
             }
       ]
@@ -143,7 +148,12 @@ module _ (node : Node) (jobs : List Job) (first : ℕ) (others : List ℕ) (unti
                           reacts.sample s reacts.own is.own reacts.finished is.finished low reacts.sampled sampled,
                     ))
                   ];
-              is = later.3;
+              is = omega (
+                arith,
+                later.3,
+                are.0,
+                sample_before node jobs first others sampled.job k s o.finish sampled.started sampled.path is.finished,
+              );
             }
 
     reactions_by : (after : ℕ) (os : List ChainOutput) (r : ℕ)

@@ -1,11 +1,9 @@
 -- The outputs that are found in a run are the run's.
 use Rattle.std.proofs.Common.{ℕ, zero, suc, ◌+◌, ◌-◌, ◌<◌, ◌≤◌, ◌≡◌, inl, inr, refl, sym, ap, ◌∙◌, subst, arith}
 use Rattle.std.proofs.Common.{true, false, List, [], ◌∷◌, length, map, Option, Some, None, Ok, slice_get}
-use Rattle.std.proofs.lemmas.Bool.{cases_Bool, cases_eq, cases_lt, eq-eqb, eqb-true, true≢false}
-use Rattle.std.proofs.lemmas.Option.{none-some, same_Some}
+use Rattle.std.proofs.lemmas.Bool.{cases_lt, eq-eqb, eqb-true, true≢false}
+use Rattle.std.proofs.lemmas.Option.{none-some}
 use Rattle.ceiling_kernel.specs.Readings.{IsFinishAt, AreLongestRuns}
-use Rattle.ceiling_kernel.specs.Waits.{NoOverrun}
-use Rattle.ceiling_kernel.specs.Trace.{slices_of}
 use Rattle.ceiling_kernel.specs.declared.trace.JobRecord.{JobRecord}
 use Rattle.ceiling_kernel.specs.declared.trace.Release.{Release}
 use Rattle.ceiling_kernel.specs.declared.trace.Slice.{Slice}
@@ -18,7 +16,7 @@ use Rattle.ceiling_kernel.proofs.ReleaseLaws.{job_is, jobs_length}
 use Rattle.ceiling_kernel.proofs.SliceLaws.{longest_runs}
 use Rattle.chains.specs.Starts.{IsStartAt}
 use Rattle.chains.specs.Paths.{last_task}
-use Rattle.chains.proofs.OrderLaws.{finishes_by, finish_by}
+use Rattle.chains.proofs.OrderLaws.{finishes_by}
 use Rattle.chain_runs.specs.Slices.{is_finish, slice_by, slice_of}
 use Rattle.chain_runs.specs.Outputs.{fresh, along, last_output, outputs_from, with_output}
 use Rattle.chain_runs.specs.Runs.{AreOutputs, IsOutput, OutputsAreTheRuns}

@@ -112,6 +112,18 @@ module _ (node : Node) (jobs : List Job) where
   finish_apart p q f one other =
       same_Some p q (sym (finish_picked p f one) ∙ finish_picked q f other)
 
+  -- and starts before
+  pub start_before : (q s f : ℕ) → IsStartAt node jobs q s → IsFinishAt node jobs q f → s < f
+  start_before q s f start is =
+      elim (cases_lt s f) [
+        | inl before ↦ before
+        | inr by ↦
+            let none = start.first in
+            let lacks = is.before in
+            let after = is.after in
+            absurd (omega (arith, done_grows node jobs q f s by))
+      ]
+
   -- a job starts once
   not_later : (j s t : ℕ) → IsStartAt node jobs j s → IsStartAt node jobs j t → s ≤ t
   not_later j s t first second =

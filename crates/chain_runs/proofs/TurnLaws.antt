@@ -3,7 +3,7 @@ use Rattle.std.proofs.Common.{ℕ, suc, ◌-◌, ◌<◌, ◌≤◌, ◌≡◌, 
 use Rattle.std.proofs.lemmas.Bool.{cases_eq, cases_lt}
 use Rattle.ceiling_kernel.specs.Readings.{IsFinishAt}
 use Rattle.ceiling_kernel.specs.Waits.{NoOverrun}
-use Rattle.ceiling_kernel.proofs.Common.{Node, Job, job_at, executed_before}
+use Rattle.ceiling_kernel.proofs.Common.{Node, Job, job_at}
 use Rattle.ceiling_kernel.proofs.FinishLaws.{done_grows}
 use Rattle.ceiling_kernel.proofs.MachineLaws.{own_of}
 use Rattle.chains.specs.Starts.{IsStartAt}

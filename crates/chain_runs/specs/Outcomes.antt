@@ -1,5 +1,5 @@
 -- What the outputs of a chain come to, by time, in a run that ends at a time.
-use Rattle.std.specs.Prelude.{ℕ, ◌+◌, ◌-◌, max, nat_lt, Bool, is_some, List, [], ◌∷◌, Option, Some, None, if◌then◌else◌}
+use Rattle.std.specs.Prelude.{ℕ, ◌+◌, ◌-◌, max, nat_lt, is_some, List, [], ◌∷◌, Option, Some, None, if◌then◌else◌}
 use Rattle.chain_runs.specs.declared.outputs.ChainOutput.{ChainOutput}
 use Rattle.chain_runs.specs.declared.outcome.ChainOutcome.{ChainOutcome}
 

@@ -1,7 +1,7 @@
 -- The outputs of a chain in a run. Each task has a register that keeps what its last finished job wrote; a job reads the
 -- register of the task before it when it begins, and writes its own when it finishes. Of what is written only the sample
 -- counts that stands behind it.
-use Rattle.std.specs.Prelude.{ℕ, Bool, true, false, not, ◌&&◌, ◌==◌, List, [], ◌∷◌, map, Option, Some, None, if◌then◌else◌}
+use Rattle.std.specs.Prelude.{ℕ, false, not, ◌&&◌, ◌==◌, List, [], ◌∷◌, map, Option, Some, None, if◌then◌else◌}
 use Rattle.task_sheet.specs.Sheet.{Task}
 use Rattle.ceiling_kernel.specs.declared.trace.Trace.{Trace}
 use Rattle.chain_runs.specs.Slices.{slices_of}

@@ -79,7 +79,7 @@ pub record IsAge (node : Node) (jobs : List Job) (first : ℕ) (others : List �
   pub in_run : time ≤ until
   pub stands : IsNewest node jobs (last_task first others) time output
       ⊎ IsNewest node jobs (last_task first others) (time - 1) output
-  pub is : time - sample ≡ age
+  pub is : sample + age ≡ time
 
 -- the greatest age that is found is one
 abbrev pub AgesAreReached : Type 0
@@ -116,7 +116,7 @@ pub record IsReaction (node : Node) (jobs : List Job) (first : ℕ) (others : Li
   pub in_run : time ≤ until
   pub acted : ReactsBy node jobs first others (sample + 1) time
   pub soonest : (by : ℕ) → ReactsBy node jobs first others (sample + 1) by → time ≤ by
-  pub is : time - sample ≡ reaction
+  pub is : sample + reaction ≡ time
 
 -- the greatest reaction that is found is one
 abbrev pub ReactionsAreReached : Type 0

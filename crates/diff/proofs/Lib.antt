@@ -2,3 +2,5 @@ pub mod SameLaws
 pub mod NodeLaws
 pub mod SilentLaws
 pub mod SeatLaws
+pub mod FirstLaws
+pub mod PushLaws

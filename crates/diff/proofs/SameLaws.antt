@@ -20,8 +20,10 @@ use Rattle.task_sheet.proofs.TaskLaws.{place_of_name}
 use Rattle.assignment.specs.declared.placing.Placing.{Placing}
 use Rattle.diff.specs.Own.{own_at, own_len, own_jitter}
 use Rattle.diff.specs.Keys.{is_changed, other_at, other_section, words_below}
-use Rattle.diff.specs.Whole.{interrupt_line, interrupts_of, node_line, node_of, preference_line}
-use Rattle.diff.specs.Whole.{same_some, whole_lines}
+use Rattle.owners.specs.Owners.{interrupt_words}
+use Rattle.owners.specs.declared.owner.Owner.{Owner}
+use Rattle.diff.specs.Whole.{came_at, came_line, gone_at, gone_line as gone_interrupt, interrupts_of}
+use Rattle.diff.specs.Whole.{node_line, node_of, other_of, preference_line, same_some, whole_lines}
 use Rattle.diff.specs.Seats.{seat_of}
 use Rattle.diff.specs.Lines.{change_lines, effect_of, effect_words, edit_from, edit_line, gone_line}
 use Rattle.diff.specs.Lines.{index_in, removed_line, rest_from, rest_line, seats_line}
@@ -119,10 +121,38 @@ same_interrupts : (x : Option Interrupt) → same_some x x ≡ true
 same_interrupts None = refl
 same_interrupts (Some x) = (same_interrupt-Decides x x).1 refl
 
-pub whole_is_silent : (by : Preference) (U : List Task) → whole_lines by U by U ≡ []
-whole_is_silent by U = rw (
+-- the interrupt at a place is found there by what a line calls it
+found_here : (whose : List Owner) (U : List Task) (place : ℕ) (x : Interrupt)
+    → slice_get (interrupts_of U) place ≡ Some x
+    → other_of whose U place (interrupt_words whose place) ≡ Some x
+found_here whose U place x at =
+    let name = interrupt_words whose place in
+    let same : same_bytes name name ≡ true = (bytes_eq-Decides name name).1 refl in
+    rw (at, same) at
+
+none_came : (whose : List Owner) (U : List Task) (place : ℕ) (x : Option Interrupt)
+    → slice_get (interrupts_of U) place ≡ x
+    → came_line whose U place (interrupt_words whose place) x ≡ []
+none_came whose U place None at = refl
+none_came whose U place (Some x) at =
+    rw (found_here whose U place x at, same_interrupts (Some x)) refl
+
+none_went : (whose : List Owner) (U : List Task) (place : ℕ) (x : Option Interrupt)
+    → slice_get (interrupts_of U) place ≡ x
+    → gone_interrupt x (other_of whose U place (interrupt_words whose place))
+    (interrupt_words whose place) ≡ []
+none_went whose U place None at = refl
+none_went whose U place (Some x) at =
+    ap (λ y. gone_interrupt (Some x) y (interrupt_words whose place))
+    (found_here whose U place x at)
+
+pub whole_is_silent : (by : Preference) (whose : List Owner) (U : List Task)
+    → whole_lines by whose U by whose U ≡ []
+whole_is_silent by whose U = rw (
   same_preferences by,
   same_nodes U,
-  no_lines INTERRUPT_LIMIT (interrupt_line U U)
-      (λ place lt. rw (same_interrupts (slice_get (interrupts_of U) place)) refl),
+  no_lines INTERRUPT_LIMIT (came_at whose U whose U)
+      (λ place lt. none_came whose U place (slice_get (interrupts_of U) place) refl),
+  no_lines INTERRUPT_LIMIT (gone_at whose U whose U)
+      (λ place lt. none_went whose U place (slice_get (interrupts_of U) place) refl),
 ) refl

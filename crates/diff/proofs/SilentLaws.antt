@@ -3,7 +3,6 @@ use Rattle.std.proofs.Common.{◌≡◌, ◌∙◌, ◌<◌, ℕ, zero, suc, inl
 use Rattle.std.proofs.Common.{nat_eq, eqb, ◌+◌, slice_get, List, [], ◌∷◌, ◌++◌, length, Option, Some, None, codes}
 use Rattle.std.proofs.Common.{refl, sym, ap, arith}
 use Rattle.std.proofs.lemmas.Bool.{cases_Bool, eq-eqb, eqb-true, eqb-false, ltb-false}
-use Rattle.std.specs.Fmt.{decimal}
 use Rattle.std.specs.Option.{option_map}
 use Rattle.task_sheet.specs.Sheet.{Task, task_at, same_node}
 use Rattle.task_sheet.specs.declared.node.TheConstants.{INTERRUPT_LIMIT}
@@ -14,10 +13,14 @@ use Rattle.diff.specs.Seats.{seat_of}
 use Rattle.diff.specs.Lines.{change_lines, changed_line, edit_from, edit_line, effect_of}
 use Rattle.diff.specs.Lines.{effect_words, gone_line, index_in, kept_line}
 use Rattle.diff.specs.Lines.{removed_line, rest_from, rest_line, seats_line, start_words}
-use Rattle.diff.specs.Unchanged.{IsKept, IsSameSeat, IsUnchanged}
-use Rattle.diff.specs.Whole.{both_weigh, interrupt_line, interrupts_of, node_line, node_of}
-use Rattle.diff.specs.Whole.{node_words, preference_line, same_preference, same_some}
-use Rattle.diff.specs.Whole.{some_number_words, whole_lines}
+use Rattle.diff.specs.Unchanged.{AreKept, IsKept, IsSameSeat, IsUnchanged}
+use Rattle.task_sheet.specs.declared.node.Interrupt.{Interrupt}
+use Rattle.owners.specs.Owners.{interrupt_words}
+use Rattle.owners.specs.declared.owner.Owner.{Owner}
+use Rattle.diff.specs.Whole.{both_weigh, came_at, came_line, gone_at, gone_line as gone_interrupt}
+use Rattle.diff.specs.Whole.{interrupt_line, interrupts_of, node_line, node_of, node_words, other_of}
+use Rattle.diff.specs.Whole.{preference_line, same_preference, same_some, some_number_words}
+use Rattle.diff.specs.Whole.{whole_lines}
 use Rattle.task_sheet.specs.Prefer.{preference_word}
 use Rattle.diff.specs.declared.seats.Seat.{Seat}
 use Rattle.diff.specs.declared.text.Kind.{Kind}
@@ -190,36 +193,60 @@ one_node U V silent =
           (rw other at silent))
     ]
 
-one_interrupt : (U V : List Task) (place : ℕ) → interrupt_line U V place ≡ []
-    → same_some (slice_get (interrupts_of U) place) (slice_get (interrupts_of V) place) ≡ true
-one_interrupt U V place silent =
-    let x = slice_get (interrupts_of U) place in
-    let y = slice_get (interrupts_of V) place in
-    elim (cases_Bool (same_some x y)) [
+-- an interrupt that is another one has a line
+some_numbers : (name : List ℕ) (x y : Option Interrupt) → interrupt_line name x y ≡ [] → ⊥
+some_numbers name x y none =
+    some_line
+    (name
+    ++ some_number_words (codes " period ") (option_map (λ i. i.period) x)
+    (option_map (λ i. i.period) y)
+    ++ some_number_words (codes " cost ") (option_map (λ i. i.cost) x)
+    (option_map (λ i. i.cost) y))
+    none
+
+none_came : (whose : List Owner) (U : List Task) (place : ℕ) (name : List ℕ) (y : Interrupt)
+    → came_line whose U place name (Some y) ≡ []
+    → same_some (other_of whose U place name) (Some y) ≡ true
+none_came whose U place name y none =
+    let x = other_of whose U place name in
+    elim (cases_Bool (same_some x (Some y))) [
       | inl same ↦ same
-      | inr other ↦ absurd (some_line
-          (codes "interrupt " ++ decimal (place + 1)
-          ++ some_number_words (codes " period ") (option_map (λ i. i.period) x)
-          (option_map (λ i. i.period) y)
-          ++ some_number_words (codes " cost ") (option_map (λ i. i.cost) x)
-          (option_map (λ i. i.cost) y))
-          (rw other at silent))
+      | inr other ↦ absurd (some_numbers name x (Some y) (rw other at none))
     ]
 
-pub silent_is_unchanged : (old : Preference) (U : List Task) (P : Placing) (new : Preference)
-    (V : List Task) (Q : Placing) → whole_lines old U new V ≡ []
-    → change_lines (both_weigh old new) U P V Q ≡ [] → IsUnchanged old U P new V Q
-silent_is_unchanged old U P new V Q whole silent =
+none_went : (x : Interrupt) (other : Option Interrupt) (name : List ℕ)
+    → gone_interrupt (Some x) other name ≡ [] → (y : Interrupt) × (other ≡ Some y)
+none_went x (Some y) name none = (y, refl)
+none_went x None name none = absurd (some_numbers name (Some x) None none)
+
+module _ (was : List Owner) (U : List Task) (is : List Owner) (V : List Task) where
+  pub are_kept : words_below INTERRUPT_LIMIT (came_at was U is V) ≡ []
+      → words_below INTERRUPT_LIMIT (gone_at was U is V) ≡ [] → AreKept was U is V
+  are_kept none_new none_old = record {
+    came = λ place y lt at. none_came was U place (interrupt_words is place) y
+        (ap (came_line was U place (interrupt_words is place)) (sym at)
+        ∙ no_line INTERRUPT_LIMIT (came_at was U is V) none_new place lt);
+    gone = λ place x lt at. none_went x (other_of is V place (interrupt_words was place))
+        (interrupt_words was place)
+        (ap (λ it. gone_interrupt it (other_of is V place (interrupt_words was place))
+        (interrupt_words was place)) (sym at)
+        ∙ no_line INTERRUPT_LIMIT (gone_at was U is V) none_old place lt);
+  }
+
+pub silent_is_unchanged : (old : Preference) (was : List Owner) (U : List Task) (P : Placing)
+    (new : Preference) (is : List Owner) (V : List Task) (Q : Placing)
+    → whole_lines old was U new is V ≡ []
+    → change_lines (both_weigh old new) U P V Q ≡ [] → IsUnchanged old was U P new is V Q
+silent_is_unchanged old was U P new is V Q whole silent =
     let preference = preference_line old new in
     let node = node_line U V in
-    let interrupts = words_below INTERRUPT_LIMIT (interrupt_line U V) in
-    let front : preference ++ node ≡ [] = no_front (preference ++ node) interrupts whole in
+    let came = words_below INTERRUPT_LIMIT (came_at was U is V) in
+    let gone = words_below INTERRUPT_LIMIT (gone_at was U is V) in
+    let none = four preference node came gone whole in
     record {
-      preference = one_preference old new (no_front preference node front);
-      node = one_node U V (no_back preference node front);
-      interrupts = λ place lt. one_interrupt U V place
-          (no_line INTERRUPT_LIMIT (interrupt_line U V)
-          (no_back (preference ++ node) interrupts whole) place lt);
+      preference = one_preference old new none.0;
+      node = one_node U V none.1;
+      interrupts = are_kept was U is V none.2 none.3;
       none_gone = none_is_gone (both_weigh old new) U P V Q silent;
       all_kept = each_is_kept (both_weigh old new) U P V Q silent;
     }

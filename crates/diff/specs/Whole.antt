@@ -1,14 +1,15 @@
 -- What of a change no task has: what a set prefers, what its node takes, and its interrupts.
-use Rattle.std.specs.Prelude.{ℕ, ◌+◌, Bool, true, false, ◌||◌, not, nat_eq, List, [], ◌∷◌, ◌++◌, slice_get, codes, Option, Some, None, if◌then◌else◌}
-use Rattle.std.specs.Fmt.{decimal}
-use Rattle.std.specs.Option.{option_map}
+use Rattle.std.specs.Prelude.{ℕ, zero, suc, Bool, true, false, ◌&&◌, not, nat_eq, List, [], ◌∷◌, ◌++◌, slice_get, codes, Option, Some, None, option_and_then, is_some, if◌then◌else◌}
+use Rattle.std.specs.Option.{option_map, option_or}
 use Rattle.task_sheet.specs.declared.node.Node.{Node}
 use Rattle.task_sheet.specs.declared.node.Interrupt.{Interrupt}
 use Rattle.task_sheet.specs.declared.node.TheConstants.{INTERRUPT_LIMIT}
 use Rattle.task_sheet.specs.declared.prefer.Preference.{Preference}
 use Rattle.task_sheet.specs.declared.prefer.Preference.TheVariants.{Weights, Deadline, Chains}
 use Rattle.task_sheet.specs.Prefer.{preference_word}
-use Rattle.task_sheet.specs.Sheet.{Task, task_at, same_node, same_interrupt}
+use Rattle.task_sheet.specs.Sheet.{Task, task_at, same_bytes, same_node, same_interrupt}
+use Rattle.owners.specs.Owners.{interrupt_words}
+use Rattle.owners.specs.declared.owner.Owner.{Owner}
 use Rattle.diff.specs.Keys.{number_words, pair_words, words_below}
 
 -- ---- the preference
@@ -59,7 +60,7 @@ abbrev pub interrupts_of : List Task → List Interrupt
 interrupts_of [] = []
 interrupts_of (t ∷ U) = some_of t.interrupts (interrupts_of U)
 
--- interrupts at a place are the same
+-- two interrupts are the same
 abbrev pub same_some : Option Interrupt → Option Interrupt → Bool
 same_some None None = true
 same_some None (Some y) = false
@@ -77,22 +78,64 @@ abbrev pub some_number_words : List ℕ → Option ℕ → Option ℕ → List �
 some_number_words word old new =
     if same_number old new then [] else pair_words word old new
 
--- what of interrupts at a place, which is counted from 1, is another
-abbrev pub interrupt_words : ℕ → Option Interrupt → Option Interrupt → List ℕ
-interrupt_words place x y =
-    codes "interrupt " ++ decimal (place + 1)
+-- what of an interrupt that a line calls so is another
+abbrev pub interrupt_line : (name : List ℕ) → Option Interrupt → Option Interrupt → List ℕ
+interrupt_line name x y =
+    name
     ++ some_number_words (codes " period ") (option_map (λ i. i.period) x) (option_map (λ i. i.period) y)
     ++ some_number_words (codes " cost ") (option_map (λ i. i.cost) x) (option_map (λ i. i.cost) y)
     ++ codes "\n"
 
--- its line, where there is one
-abbrev pub interrupt_line : List Task → List Task → ℕ → List ℕ
-interrupt_line U V place =
-    if same_some (slice_get (interrupts_of U) place) (slice_get (interrupts_of V) place) then []
-    else interrupt_words place (slice_get (interrupts_of U) place) (slice_get (interrupts_of V) place)
+-- a set has an interrupt at a place, and a line calls it so: by its document and its place there
+abbrev pub is_called : List Owner → List Task → (name : List ℕ) → ℕ → Bool
+is_called owners U name place =
+    is_some (slice_get (interrupts_of U) place)
+    && same_bytes (interrupt_words owners place) name
+
+-- the first number below n that passes, where one does
+abbrev pub first_below : ℕ → (ℕ → Bool) → Option ℕ
+first_below zero test = None
+first_below (suc n) test = option_or (first_below n test) (if test n then Some n else None)
+
+-- where a set has the interrupt that a line calls so, which another set has at a place: there, or else at the first place
+abbrev pub place_called : List Owner → List Task → ℕ → (name : List ℕ) → Option ℕ
+place_called owners U place name =
+    if is_called owners U name place then Some place
+    else first_below INTERRUPT_LIMIT (is_called owners U name)
+
+-- that interrupt, where there is one
+abbrev pub other_of : List Owner → List Task → ℕ → (name : List ℕ) → Option Interrupt
+other_of owners U place name =
+    option_and_then (slice_get (interrupts_of U)) (place_called owners U place name)
+
+-- the line of an interrupt that came, or that is another now
+abbrev pub came_line : List Owner → List Task → ℕ → (name : List ℕ) → Option Interrupt → List ℕ
+came_line owners U place name None = []
+came_line owners U place name (Some y) =
+    if same_some (other_of owners U place name) (Some y) then []
+    else interrupt_line name (other_of owners U place name) (Some y)
+
+-- the line of one that is gone
+abbrev pub gone_line : Option Interrupt → (other : Option Interrupt) → (name : List ℕ) → List ℕ
+gone_line None other name = []
+gone_line (Some x) (Some y) name = []
+gone_line (Some x) None name = interrupt_line name (Some x) None
+
+-- the same of the new set's at a place, and of the old set's
+abbrev pub came_at : List Owner → List Task → List Owner → List Task → ℕ → List ℕ
+came_at old U new V place =
+    came_line old U place (interrupt_words new place) (slice_get (interrupts_of V) place)
+
+abbrev pub gone_at : List Owner → List Task → List Owner → List Task → ℕ → List ℕ
+gone_at old U new V place =
+    gone_line (slice_get (interrupts_of U) place)
+    (other_of new V place (interrupt_words old place)) (interrupt_words old place)
 
 -- ---- all
--- the lines of a change that no task has
-abbrev pub whole_lines : Preference → List Task → Preference → List Task → List ℕ
-whole_lines old U new V =
-    preference_line old new ++ node_line U V ++ words_below INTERRUPT_LIMIT (interrupt_line U V)
+-- the lines of a change that no task has: of the preference, the node, the interrupts that came or are others, and those that
+-- are gone
+abbrev pub whole_lines : Preference → List Owner → List Task → Preference → List Owner → List Task → List ℕ
+whole_lines old was U new is V =
+    preference_line old new ++ node_line U V
+    ++ words_below INTERRUPT_LIMIT (came_at was U is V)
+    ++ words_below INTERRUPT_LIMIT (gone_at was U is V)

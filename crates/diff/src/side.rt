@@ -1,5 +1,6 @@
 //! One side of a change.
 use assignment::Placing;
+use owners::Owner;
 use task_sheet::{Preference, TaskSet};
 
 /// A set with what becomes of it.
@@ -8,6 +9,8 @@ pub struct Side<'a> {
     /// By what its tasks were taken: their weights are the sheets' own only by weights.
     pub preference: Preference,
     pub set: &'a TaskSet,
+    /// Whose its interrupts are.
+    pub owners: &'a [Owner],
     /// That of the set.
     pub placing: &'a Placing,
 }

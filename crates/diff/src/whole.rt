@@ -1,11 +1,13 @@
 //! The lines of what no task has: what a set prefers, what its node takes, and its interrupts.
 ghost use Rattle.std.specs.Prelude.{◌≡◌, ◌++◌, ◌<◌, OnOk, IfOk, slice_get, string_bytes};
 ghost use Rattle.task_sheet.specs.declared.node.TheConstants.{INTERRUPT_LIMIT};
+ghost use Rattle.owners.specs.Owners.{interrupt_words};
 ghost use Rattle.diff.specs.Keys.{words_below};
-ghost use Rattle.diff.specs.Whole.{both_weigh, interrupt_line, interrupt_words, interrupts_of, node_line, node_of, node_words, preference_line, same_number, same_preference, same_some, some_number_words, whole_lines};
+ghost use Rattle.diff.specs.Whole.{both_weigh, came_at, gone_at, interrupt_line, interrupts_of, is_called, first_below, node_line, node_of, node_words, other_of, place_called, preference_line, same_number, same_preference, same_some, some_number_words, whole_lines};
 
 use crate::pairs::{push_number, push_pair};
 use crate::side::Side;
+use owners::{Owner, push_interrupt};
 use std::alloc::{AllocError, Global};
 use task_sheet::{INTERRUPT_LIMIT, Interrupt, Node, Preference, TaskSet};
 
@@ -148,19 +150,17 @@ fn push_some_number(
     push_pair(text, word, old, new)
 }
 
-// What of interrupts at a place is another.
-fn push_interrupts(
+// What of an interrupt that a line calls so is another.
+fn push_numbers_of(
     text: &mut String,
-    place: usize,
+    name: &str,
     old: Option<Interrupt>,
     new: Option<Interrupt>,
 ) -> Result<(), AllocError>
-    requires { place < INTERRUPT_LIMIT }
     ensures { OnOk result (string_bytes text.new ≡ string_bytes text.old
-        ++ interrupt_words place old new) }
+        ++ interrupt_line name.now old new) }
 {
-    let number = place + 1;
-    write!(text, "interrupt {number}")?;
+    text.push_str(name)?;
     push_some_number(
         text,
         " period ",
@@ -176,45 +176,165 @@ fn push_interrupts(
     text.push_str("\n")
 }
 
-// The line of the interrupts at a place, where there is one.
-fn push_interrupt(
+// What a line calls the interrupt at a place.
+fn name_at(alloc: Global, owners: &[Owner], place: usize) -> Result<String, AllocError>
+    requires { place < INTERRUPT_LIMIT }
+    ensures { IfOk result (λ name. string_bytes name ≡ interrupt_words owners.now place) }
+{
+    let mut name = String::new(alloc);
+    push_interrupt(&mut name, owners, place)?;
+    Ok(name)
+}
+
+// A set has an interrupt at a place, and a line calls it so.
+fn is_called(alloc: Global, side: &Side<'_>, name: &str, place: usize) -> Result<bool, AllocError>
+    requires { place < INTERRUPT_LIMIT }
+    ensures { IfOk result (λ is. is ≡ is_called side.now.owners.now side.now.set.now name.now place) }
+{
+    if interrupt_at(side.set, place).is_none() {
+        return Ok(false);
+    }
+    let own = name_at(alloc, side.owners, place)?;
+    Ok(own.as_bytes() == name.as_bytes())
+}
+
+// The first place at which it has one that a line calls so.
+fn first_called(alloc: Global, side: &Side<'_>, name: &str) -> Result<Option<usize>, AllocError>
+    ensures { IfOk result (λ place. place ≡ first_below INTERRUPT_LIMIT
+        (is_called side.now.owners.now side.now.set.now name.now)) }
+{
+    for place in 0..INTERRUPT_LIMIT {
+        if is_called(alloc, side, name, place)? {
+            return Ok(Some(place));
+        }
+    }
+    Ok(None)
+}
+
+// Where it has the one that a line calls so, which the other side has at a place.
+fn place_called(
+    alloc: Global,
+    side: &Side<'_>,
+    place: usize,
+    name: &str,
+) -> Result<Option<usize>, AllocError>
+    requires { place < INTERRUPT_LIMIT }
+    ensures { IfOk result (λ found. found
+        ≡ place_called side.now.owners.now side.now.set.now place name.now) }
+{
+    if is_called(alloc, side, name, place)? {
+        return Ok(Some(place));
+    }
+    first_called(alloc, side, name)
+}
+
+// That interrupt, where there is one.
+fn other_of(
+    alloc: Global,
+    side: &Side<'_>,
+    place: usize,
+    name: &str,
+) -> Result<Option<Interrupt>, AllocError>
+    requires { place < INTERRUPT_LIMIT }
+    ensures { IfOk result (λ other. other
+        ≡ other_of side.now.owners.now side.now.set.now place name.now) }
+{
+    match place_called(alloc, side, place, name)? {
+        Some(found) => Ok(interrupt_at(side.set, found)),
+        None => Ok(None),
+    }
+}
+
+// The line of the new set's interrupt at a place, where it came or is another now.
+fn push_came(
+    alloc: Global,
     text: &mut String,
-    old: &TaskSet,
-    new: &TaskSet,
+    old: &Side<'_>,
+    new: &Side<'_>,
     place: usize,
 ) -> Result<(), AllocError>
     requires { place < INTERRUPT_LIMIT }
     ensures { OnOk result (string_bytes text.new ≡ string_bytes text.old
-        ++ interrupt_line old.now new.now place) }
+        ++ came_at old.now.owners.now old.now.set.now new.now.owners.now new.now.set.now place) }
 {
-    let was = interrupt_at(old, place);
-    let is = interrupt_at(new, place);
-    if same_some(was, is) {
+    let Some(is) = interrupt_at(new.set, place) else {
+        return Ok(());
+    };
+    let name = name_at(alloc, new.owners, place)?;
+    let was = other_of(alloc, old, place, name.as_str())?;
+    if same_some(was, Some(is)) {
         return Ok(());
     }
-    push_interrupts(text, place, was, is)
+    push_numbers_of(text, name.as_str(), was, Some(is))
 }
 
-// Those at each place.
-fn push_all_interrupts(text: &mut String, old: &TaskSet, new: &TaskSet) -> Result<(), AllocError>
+// The line of the old set's at a place, where it is gone.
+fn push_gone(
+    alloc: Global,
+    text: &mut String,
+    old: &Side<'_>,
+    new: &Side<'_>,
+    place: usize,
+) -> Result<(), AllocError>
+    requires { place < INTERRUPT_LIMIT }
     ensures { OnOk result (string_bytes text.new ≡ string_bytes text.old
-        ++ words_below INTERRUPT_LIMIT (interrupt_line old.now new.now)) }
+        ++ gone_at old.now.owners.now old.now.set.now new.now.owners.now new.now.set.now place) }
+{
+    let Some(was) = interrupt_at(old.set, place) else {
+        return Ok(());
+    };
+    let name = name_at(alloc, old.owners, place)?;
+    match other_of(alloc, new, place, name.as_str())? {
+        Some(_) => Ok(()),
+        None => push_numbers_of(text, name.as_str(), Some(was), None),
+    }
+}
+
+// Those of all that came or are others now.
+fn push_all_came(
+    alloc: Global,
+    text: &mut String,
+    old: &Side<'_>,
+    new: &Side<'_>,
+) -> Result<(), AllocError>
+    ensures { OnOk result (string_bytes text.new ≡ string_bytes text.old
+        ++ words_below INTERRUPT_LIMIT
+        (came_at old.now.owners.now old.now.set.now new.now.owners.now new.now.set.now)) }
 {
     for place in 0..INTERRUPT_LIMIT {
-        push_interrupt(text, old, new, place)?;
+        push_came(alloc, text, old, new, place)?;
     }
     Ok(())
 }
 
-/// The lines of what no task has: by what the set is preferred, what its node takes, and its interrupts, by place; each with
-/// what was and what is. The error is out of memory.
+// Those of all that are gone.
+fn push_all_gone(
+    alloc: Global,
+    text: &mut String,
+    old: &Side<'_>,
+    new: &Side<'_>,
+) -> Result<(), AllocError>
+    ensures { OnOk result (string_bytes text.new ≡ string_bytes text.old
+        ++ words_below INTERRUPT_LIMIT
+        (gone_at old.now.owners.now old.now.set.now new.now.owners.now new.now.set.now)) }
+{
+    for place in 0..INTERRUPT_LIMIT {
+        push_gone(alloc, text, old, new, place)?;
+    }
+    Ok(())
+}
+
+/// The lines of what no task has: by what the set is preferred, what its node takes, and its interrupts, each by its document
+/// and its place there; with what was and what is. The error is out of memory.
 pub fn whole_text(alloc: Global, old: &Side<'_>, new: &Side<'_>) -> Result<String, AllocError>
     ensures { IfOk result (λ text. string_bytes text
-        ≡ whole_lines old.now.preference old.now.set.now new.now.preference new.now.set.now) }
+        ≡ whole_lines old.now.preference old.now.owners.now old.now.set.now
+        new.now.preference new.now.owners.now new.now.set.now) }
 {
     let mut text = String::new(alloc);
     push_preference(&mut text, old.preference, new.preference)?;
     push_node(&mut text, old.set, new.set)?;
-    push_all_interrupts(&mut text, old.set, new.set)?;
+    push_all_came(alloc, &mut text, old, new)?;
+    push_all_gone(alloc, &mut text, old, new)?;
     Ok(text)
 }

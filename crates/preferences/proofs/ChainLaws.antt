@@ -1,24 +1,23 @@
 -- In a set by chains the weights follow the places and the limits.
-use Rattle.std.proofs.Common.{◌≡◌, ◌↔◌, ℕ, zero, suc, ◌+◌, ◌<◌, ◌≤◌, ◌⊎◌, inl, inr, Bool, true, false}
-use Rattle.std.proofs.Common.{cond, List, [], ◌∷◌, length, get_or, refl, sym, ◌∙◌, ap, arith}
-use Rattle.std.specs.List.{All, count_by}
+use Rattle.std.proofs.Common.{◌≡◌, ◌↔◌, ℕ, zero, suc, ◌+◌, ◌<◌, ◌≤◌, inl, inr, true, false}
+use Rattle.std.proofs.Common.{cond, List, [], ◌∷◌, length, refl, sym, ◌∙◌, ap, arith}
 use Rattle.std.specs.List.{AllByRecursion}
-use Rattle.std.proofs.lemmas.Bool.{cases_Bool, both_ways}
+use Rattle.std.proofs.lemmas.Bool.{cases_Bool}
 use Rattle.std.proofs.lemmas.Bool.Decides.{nat_tests}
 use Rattle.std.proofs.lemmas.List.Sums.{sum_by-cons, sum_by-le-sum_by}
 use Rattle.std.proofs.lemmas.List.Elements.{All-from_recursion}
 use Rattle.std.proofs.lemmas.List.Sorted.{All-permutation, sum_by-IsPermutation}
-use Rattle.task_sheet.proofs.Common.{Task, no_task, task_at, IsByRank, limit_of}
+use Rattle.task_sheet.proofs.Common.{Task, no_task, task_at, IsByRank}
 use Rattle.task_sheet.specs.Sheet.{weighing}
 use Rattle.chain_tables.specs.Tables.{WrittenData}
-use Rattle.preferences.specs.Preferences.{is_behind, lower_tasks, place_of, weighed}
+use Rattle.preferences.specs.Preferences.{is_behind, lower_tasks, weighed}
 
 -- ---- who is wanted lower
 module _ (chains : List WrittenData) where
   -- of two tasks that are behind no other, what is behind the first is behind the second
   behind-le : (u x y : Task) → is_behind chains x y ≡ false
       → cond (is_behind chains u y) 1 0 ≤ cond (is_behind chains u x) 1 0
-  behind-le u x y no = grind (arith, nat_tests)
+  behind-le u x y not = grind (arith, nat_tests)
 
   behind-self : (x : Task) → is_behind chains x x ≡ false
   behind-self x = grind (arith, nat_tests)
@@ -32,8 +31,8 @@ module _ (chains : List WrittenData) where
 
   lower-le : (U : List Task) (x y : Task) → is_behind chains x y ≡ false
       → lower_tasks chains U y ≤ lower_tasks chains U x
-  lower-le U x y no = sum_by-le-sum_by (λ (u : Task). cond (is_behind chains u y) 1 0)
-      (λ (u : Task). cond (is_behind chains u x) 1 0) U (λ u. behind-le u x y no)
+  lower-le U x y not = sum_by-le-sum_by (λ (u : Task). cond (is_behind chains u y) 1 0)
+      (λ (u : Task). cond (is_behind chains u x) 1 0) U (λ u. behind-le u x y not)
 
   -- the task that is wanted lower is counted more
   lower-lt : (U : List Task) (x y : Task) (k : ℕ) → is_behind chains x y ≡ true → k < length U
@@ -90,7 +89,7 @@ module _ (chains : List WrittenData) where
         let there = weight-at j within' in (
           λ less. elim (cases_Bool (is_behind chains x y)) [
             | inl so ↦ so
-            | inr no ↦ absurd (omega (arith, here, there, lower-le V x y no))
+            | inr not ↦ absurd (omega (arith, here, there, lower-le V x y not))
           ],
           λ so. omega (arith, here, there, lower-lt V x y i so within (behind-self x) so),
         )

@@ -1,5 +1,5 @@
 -- A set that is asked for, with its chains.
-use Rattle.std.proofs.Common.{◌≡◌, ◌∙◌, ℕ, List, None, Option, Result, Ok, Err, sym, subst, ap}
+use Rattle.std.proofs.Common.{◌≡◌, ◌∙◌, ℕ, List, None, Result, Ok, Err, sym, subst, ap}
 use Rattle.task_sheet.specs.Sheet.{Task}
 use Rattle.task_sheet.specs.declared.read.Document.{Document}
 use Rattle.teams.specs.ReadsText.{ReadsText}

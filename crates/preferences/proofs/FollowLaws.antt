@@ -1,5 +1,5 @@
 -- By limits the ranks follow the limits.
-use Rattle.std.proofs.Common.{ℕ, ◌<◌, inl, inr, List, length, arith}
+use Rattle.std.proofs.Common.{◌<◌, inl, inr, List, length, arith}
 use Rattle.task_sheet.proofs.Common.{Task, IsByRank}
 use Rattle.latest_first.specs.LatestFirst.{FollowLimits}
 use Rattle.preferences.specs.Preferences.{reweighed}

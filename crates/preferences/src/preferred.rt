@@ -1,10 +1,10 @@
 //! Sets by a preference.
-ghost use Rattle.std.specs.Prelude.{◌≡◌, ◌≤◌, ◌⊎◌, length, IfOk, IfErr};
+ghost use Rattle.std.specs.Prelude.{◌≡◌, ◌<◌, ◌≤◌, ◌⊎◌, length, position, IfOk, IfErr, IfSome};
 ghost use Rattle.task_sheet.specs.declared.set.TheConstants.{TASK_LIMIT};
 ghost use Rattle.task_sheet.specs.declared.sheet.TheConstants.{WEIGHT_LIMIT};
 ghost use Rattle.task_sheet.specs.Rank.{IsByRank};
-ghost use Rattle.task_sheet.specs.Sheet.{weighing};
-ghost use Rattle.preferences.specs.Preferences.{longer_limits, place_in, place_of, is_behind, lower_tasks, weighed, weight_by, IsPreferred};
+ghost use Rattle.task_sheet.specs.Sheet.{same_bytes, weighing};
+ghost use Rattle.preferences.specs.Preferences.{longer_limits, tasks_from, place_in, place_of, is_behind, lower_tasks, weighed, weight_by, IsPreferred};
 ghost use Rattle.preferences.specs.ReadsPreferred.{AreChainsFor, ReadsPreferred};
 
 use crate::choice::Choice;
@@ -28,14 +28,30 @@ fn longer_limits(sheets: &[Sheet], limit: u64) -> u64
     sheets.iter().filter(|sheet| limit < sheet.limit()).count() as u64
 }
 
+// Where a task stands in a list of names.
+fn position_in(name: Name, names: &[Name]) -> Option<usize>
+    ensures value { result ≡ position (λ n. same_bytes n name) names.now }
+    ensures inside { IfSome result (λ k. k < length names.now) }
+{
+    names.iter().position(|other| *other == name)
+}
+
+// How many there are from there on.
+fn tasks_from(names: &[Name], at: Option<usize>) -> u64
+    requires { IfSome at (λ k. k < length names.now) }
+    ensures { result ≡ tasks_from names.now at }
+{
+    match at {
+        Some(k) => (names.len() - k) as u64,
+        None => 0,
+    }
+}
+
 // The place of a task from the end of a chain; 0 where the chain doesn't have it.
 fn place_in(name: Name, chain: &Written) -> u64
     ensures { result ≡ place_in name chain.now }
 {
-    match chain.tasks.iter().position(|task| *task == name) {
-        Some(k) => (chain.tasks.len() - k) as u64,
-        None => 0,
-    }
+    tasks_from(&chain.tasks, position_in(name, &chain.tasks))
 }
 
 // Its greatest place from the end of a chain; 0 where it is in none.

@@ -1,5 +1,5 @@
 //! What becomes of the tasks of a set, `desk admit` and `desk settings`.
-ghost use Rattle.std.specs.Prelude.{◌≡◌, IfOk};
+ghost use Rattle.std.specs.Prelude.{◌≡◌, IfOk, string_bytes};
 ghost use Rattle.assignment.specs.Placings.{IsPlacingOf};
 ghost use Rattle.owners.specs.Slack.{sorted_if};
 ghost use Rattle.set_commands.specs.Admit.{OfPlaced, PlacesOwned, SaysAdmitted, SaysSettings, admitted_said};
@@ -92,8 +92,23 @@ pub fn say_admitted<W: Write + Drop>(
     print_bytes(admitted_text(alloc, sorted, placed), status, output)
 }
 
-/// Prints what a node is set to for the order of a set that was placed, where level 1 has this priority, with so much room beside
-/// each; or that there was no memory for it.
+// What a node is set to for the order of a set that was placed, or the line of its obstruction.
+fn settings_text(
+    alloc: Global,
+    base: u32,
+    room: u32,
+    placed: &Placed,
+) -> Result<String, AllocError>
+    requires { IsPlaced placed.now }
+    ensures { IfOk result (λ text. string_bytes text
+        ≡ placing_said (OrderPart.Settings base room) placed.now.tasks placed.now.placing) }
+{
+    let part = OrderPart::Settings { base, room };
+    placing_text(alloc, part, &placed.tasks, &placed.placing)
+}
+
+/// Prints what a node is set to for the order of a set that was placed, where level 1 has this priority, with so much room
+/// beside each; or that there was no memory for it.
 pub fn say_settings<W: Write + Drop>(
     alloc: Global,
     base: u32,
@@ -104,8 +119,6 @@ pub fn say_settings<W: Write + Drop>(
     requires { IsPlaced placed.now }
     ensures { IsSaidOn (OfPlaced (SaysSettings base room) placed.now) W.contents output.old output.new result }
 {
-    let part = OrderPart::Settings { base, room };
     let status = chained_status(placed);
-    let text = placing_text(alloc, part, &placed.tasks, &placed.placing);
-    print_made(text, status, output)
+    print_made(settings_text(alloc, base, room, placed), status, output)
 }

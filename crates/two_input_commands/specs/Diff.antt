@@ -67,12 +67,12 @@ ComparesText asking by U text _ = ⊥
 abbrev pub both_lines : List Task → Placing → List Task → Placing → List ℕ
 both_lines U P V Q = placing_first V Q ++ codes "was " ++ placing_first U P
 
--- these, then what of the change no task has, and then what becomes of the tasks, each with its team: that of the new set,
--- where it has the task, else that of the old one
+-- these, then what of the change no task has, each interrupt with its document, and then what becomes of the tasks, each with
+-- its team: that of the new set, where it has the task, else that of the old one
 abbrev pub compared_lines : List Owner → List Task → Compared → List ℕ
 compared_lines owners U c =
     both_lines U c.was c.set c.is
-    ++ whole_lines c.was_by U c.is_by c.set
+    ++ whole_lines c.was_by owners U c.is_by c.owners.items c.set
     ++ named_lines Changes (c.owners.items ++ owners)
     (change_lines (both_weigh c.was_by c.is_by) U c.was c.set c.is)
 

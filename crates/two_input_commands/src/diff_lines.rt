@@ -131,11 +131,13 @@ pub fn compared_text(
     let old = Side {
         preference: compared.was_by,
         set: tasks,
+        owners,
         placing: &compared.was,
     };
     let new = Side {
         preference: compared.is_by,
         set: &compared.set,
+        owners: &compared.owners,
         placing: &compared.is,
     };
     let first = both_text(alloc, &old, &new)?;

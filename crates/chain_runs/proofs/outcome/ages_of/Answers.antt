@@ -1,5 +1,5 @@
-use Rattle.std.proofs.Common.{◌≡◌, ◌∙◌, ◌∷◌, ap, sym}
-use Rattle.chain_runs.specs.Outcomes.{age_at, ages_of, greater}
+use Rattle.std.proofs.Common.{◌∙◌, ap, sym}
+use Rattle.chain_runs.specs.Outcomes.{ages_of, greater}
 use Rattle.chain_runs.proofs.GreaterLaws.{taken_up}
 use Rattle.chain_runs.proofs.outcome.ages_of.Goals as goal
 

@@ -1,5 +1,5 @@
-use Rattle.std.proofs.Common.{◌≡◌, ◌∙◌, ◌∷◌, ap, sym}
-use Rattle.chain_runs.specs.Outcomes.{greater, reaction_at, reactions_of}
+use Rattle.std.proofs.Common.{◌∙◌, ap, sym}
+use Rattle.chain_runs.specs.Outcomes.{greater, reactions_of}
 use Rattle.chain_runs.proofs.GreaterLaws.{taken_up}
 use Rattle.chain_runs.proofs.outcome.reactions_of.Goals as goal
 

@@ -6,7 +6,7 @@ use Rattle.set_commands.proofs.admit.say_settings.Goals as goal
 -- out of memory for the lines is an answer of its own
 pub returns : goal.returns
 returns g c =
-    made_said c.placing_text-text.result string_bytes _ c.placing_text-text.ensures
+    made_said c.settings_text.result (λ t. string_bytes t) _ c.settings_text.ensures
     c.print_made.ensures
     (λ text lines wrote is. λ asking known has said. (
       Ok (record {
