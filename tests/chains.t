@@ -117,3 +117,52 @@ A handover to a task below takes the jitter; parts of 0 have no line. With what 
     response b less cost a 1035
     wait a 5000
     response a 1035
+
+What chains come to in a run stands behind its tasks, and makes no no: here the age and the reaction come to the bound but
+for a microsecond at each handover.
+
+  $ desk simulate examples/steer.toml examples/steer.releases --tasks
+  task log 1 14800 17400
+  task plan 3 9200 9200
+  task camera 7 2000 2600
+  task wheel 14 600 600
+  chain steer 8 age 44198 reaction 44198 bound 44200
+
+A job reads what was written last before it begins, or at that instant: here the third `out` the second `in`. The first has
+nothing to read. The age goes on to the end; the reaction is to what came just after a sample that an output has:
+
+  $ task() { printf '[[task]]\nname = "%s"\nperiod = %s\ndeadline = %s\ncost = %s\n' "$1" "$2" "$2" "$3"; }
+  $ two() { echo 'prefer = "deadline"'; task out 1000 100; task in 2000 "$1"; printf '[[chain]]\nname = "%s"\ntasks = [%s]\n' there '"in", "out"' back '"out", "in"' alone '"in"'; }
+  $ two 400 > two.toml
+  $ run() { printf "$1" | desk simulate two.toml - --tasks; }
+  $ run 'until 5000\n0 in\n0 out\n1000 out\n2000 in\n2400 out\n3400 out\n'
+  task in 2 500 500
+  task out 4 100 100
+  chain there 3 age 3000 reaction 2400 bound 3500
+  chain back 2 age 4000 reaction 2400 bound 3500
+  chain alone 2 age 3000 reaction 2300 bound 2500
+  $ run 'until 500\n0 in\n400 out\n' | grep chain
+  chain there 1 age 500 reaction - bound 3500
+  chain back 0 age - reaction - bound 3500
+  chain alone 1 age 500 reaction - bound 2500
+  $ run 'until 5000\n' | grep chain
+  chain there 0 age - reaction - bound 3500
+  chain back 0 age - reaction - bound 3500
+  chain alone 0 age - reaction - bound 2500
+
+A job of `in` that comes 3 ms after the one before it, no steady one, takes the age past the bound:
+
+  $ run 'until 6000\n0 in\n400 out\n1400 out\n2400 out\n3000 in runs 100\n3400 out\n' | grep chain
+  chain there 4 age 3500 reaction 3500 bound 3500
+  chain back 1 age 3600 reaction - bound 3500
+  chain alone 2 age 3100 reaction 3100 bound 2500
+
+In an order of the list a chain of a task that misses its deadline has no bound; what comes before an overrun counts:
+
+  $ two 950 > two.toml
+  $ run 'thread out 1\nthread in 2\nuntil 5000\n0 in\n0 out\n1000 out\n2000 in\n' 2> /dev/null
+  task out 0 - -
+  task in 1 950 950
+  chain there 0 age - reaction - bound -
+  chain back 0 age - reaction - bound -
+  chain alone 1 age 1000 reaction - bound 2950

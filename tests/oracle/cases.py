@@ -55,7 +55,7 @@ SECOND_INPUTS = {
 
 
 # commands whose answers have lines of chains
-OF_CHAINS = ("admit", "explain", "judge")
+OF_CHAINS = ("admit", "explain", "judge", "simulate")
 
 
 def of_set(rng, subject):

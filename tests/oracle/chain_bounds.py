@@ -6,11 +6,8 @@ def lines_of(tasks, order, responses, tell_parts=False):
     each bound is within its limit."""
     text, all_met = [], True
     for chain in tasks.chains:
-        indexes = [next(i for i, task in enumerate(tasks) if task.name == name) for name in chain.tasks]
-        found = None
-        if all(responses[i] is not None for i in indexes):
-            found = parts(tasks, order, responses, indexes)
-        bound = None if found is None else sum(time for _, time in found)
+        found = parts_in(tasks, order, responses, chain)
+        bound = bound_in(tasks, order, responses, chain)
         is_met = chain.limit is None or (bound is not None and bound <= chain.limit)
         limit = [] if chain.limit is None else ["of" if is_met else "misses", chain.limit]
         text.append(" ".join(map(str, ["chain", chain.name, "-" if bound is None else bound, *limit])) + "\n")
@@ -18,6 +15,20 @@ def lines_of(tasks, order, responses, tell_parts=False):
             text += [f"  {words} {time}\n" for words, time in found or [] if time]
         all_met = all_met and is_met
     return "".join(text), all_met
+
+
+def parts_in(tasks, order, responses, chain):
+    """The parts of a chain's bound, where each of its tasks has a response."""
+    indexes = [next(i for i, task in enumerate(tasks) if task.name == name) for name in chain.tasks]
+    if any(responses[i] is None for i in indexes):
+        return None
+    return parts(tasks, order, responses, indexes)
+
+
+def bound_in(tasks, order, responses, chain):
+    """What they come to."""
+    found = parts_in(tasks, order, responses, chain)
+    return None if found is None else sum(time for _, time in found)
 
 
 def parts(tasks, order, responses, indexes):

@@ -7,6 +7,7 @@ import analysis
 import calls
 import certificate
 import chain_bounds
+import chain_runs
 import chains
 import desk
 import differences
@@ -367,7 +368,9 @@ def simulate_in(tasks, order, until, releases, of_tasks):
     slices, jobs = kernel.run(tasks, order, ceilings, until, releases)
     if not of_tasks:
         return kernel.simulated(slices, jobs)
-    return "".join(kernel.came_to(tasks[i], bound, jobs) for i, bound in settings.bounds_in(tasks, order).items())
+    bounds = settings.bounds_in(tasks, order)
+    lines = [kernel.came_to(tasks[i], bound, jobs) for i, bound in bounds.items()]
+    return "".join(lines + chain_runs.lines_of(tasks, order, bounds, slices, jobs, until))
 
 
 def releases(tasks, until, seed=None):

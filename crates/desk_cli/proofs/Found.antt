@@ -48,7 +48,7 @@ module _ (options : Options) (by : Preference) (owners : List Owner) (chains : L
       elim options.by_task as (λ b. (set other : Option (List ℕ))
       → HaveOwned (asking_of options) set other by U owners text → HasChained set U chains
       → SaysSimulation b (asking_of options) set other before after s) [
-        | true ↦ λ set other has said. (Err r, inr (U, text, both _ set other has, why), wrote, is)
+        | true ↦ λ set other has said. (Err r, (chains, inr (U, text, both _ set other has, why)), wrote, is)
         | false ↦ λ set other has said. (Err r, inr (U, text, both _ set other has, why), wrote, is)
       ]
   refused_in command.Diff r why wrote is =
@@ -72,8 +72,8 @@ module _ (options : Options) (by : Preference) (owners : List Owner) (chains : L
       (Ok (U, owners, chains, (node, told)), (by, text, has, said, finds.1), wrote, is)
   said_in command.Simulate (Simulated answer) finds wrote is =
       λ set other has said. rw finds.0 (Ok (U, answer), (text, both _ set other has, finds.1), wrote, is)
-  said_in command.Simulate (Reached answer) finds wrote is =
-      λ set other has said. rw finds.0 (Ok (U, answer), (text, both _ set other has, finds.1), wrote, is)
+  said_in command.Simulate (Reached answer told) finds wrote is = λ set other has said. rw finds.0
+      (Ok (U, owners, chains, (answer, told)), (by, text, has, said, finds.1), wrote, is)
   said_in command.Draw (Drawn drawing) finds wrote is =
       λ set other has said. (Ok (U, drawing), (text, both _ set other has, finds), wrote, is)
   said_in command.Observe (Observed leeway sight) finds wrote is = λ set other has said.

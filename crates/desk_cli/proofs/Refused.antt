@@ -67,7 +67,7 @@ module _ (before after : Option (List ℕ)) (s : Status) (r : CommandRefusal)
   two_refused Simulate options first second why =
       elim options.by_task as
       (λ b. SaysSimulation b (asking_of options) first second before after s) [
-        | true ↦ (Err r, inl why, wrote, is)
+        | true ↦ (Err r, ([], inl why), wrote, is)
         | false ↦ (Err r, inl why, wrote, is)
       ]
   two_refused Diff options first second why = (Err r, (Weights, inl why), wrote, is)

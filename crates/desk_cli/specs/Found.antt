@@ -20,7 +20,7 @@ use Rattle.two_input_commands.specs.Chained.{chained_status}
 use Rattle.two_input_commands.specs.LimitsAt.{LimitsText}
 use Rattle.two_input_commands.specs.Observe.{IsObservationOf, ObservesText, leeway_of, observation_said, observation_status}
 use Rattle.answering.specs.Printed.{IsPrinted}
-use Rattle.two_input_commands.specs.Simulate.{IsInOrder, SimulatesText, reached_said, simulation_said, simulation_status}
+use Rattle.two_input_commands.specs.Simulate.{IsInOrder, ReachesText, SimulatesText, reached_said, simulation_said, simulation_status}
 use Rattle.desk_cli.specs.declared.of_two.Found.{Found}
 use Rattle.desk_cli.specs.declared.of_two.Found.TheVariants.{Shown, Compared, Judged, Simulated, Reached, Drawn, Observed, Keeping, WorstAt, ExplainedAt, LimitedAt}
 use Rattle.two_input_commands.specs.Keep.{IsKeptIn, IsOldOf, KeepsText, keeping_lines, keeping_status}
@@ -42,8 +42,8 @@ FindsIn command.Judge options by owners chains U text (Err r) =
     JudgesText options.lower_is_higher chains U text (Err r)
 FindsIn command.Simulate options by owners chains U text (Ok (Simulated answer)) =
     (options.by_task ≡ false) × SimulatesText U text (Ok answer)
-FindsIn command.Simulate options by owners chains U text (Ok (Reached answer)) =
-    (options.by_task ≡ true) × SimulatesText U text (Ok answer)
+FindsIn command.Simulate options by owners chains U text (Ok (Reached answer told)) =
+    (options.by_task ≡ true) × ReachesText chains U text (Ok (answer, told))
 FindsIn command.Simulate options by owners chains U text (Err r) = SimulatesText U text (Err r)
 FindsIn command.Draw options by owners chains U text (Ok (Drawn drawing)) = DrawsText options U text (Ok drawing)
 FindsIn command.Draw options by owners chains U text (Err r) = DrawsText options U text (Err r)
@@ -67,7 +67,7 @@ FindsIn _ options by owners chains U text _ = ⊥
 abbrev pub IsFoundOf : List Task → Found → Type 0
 IsFoundOf U (Judged sorted node told) = All (λ j. j.task < TASK_LIMIT) node.judged.items
 IsFoundOf U (Compared c) = IsPlacingOf U c.was × IsPlacingOf c.set c.is
-IsFoundOf U (Reached answer) = IsInOrder U answer
+IsFoundOf U (Reached answer told) = IsInOrder U answer
 IsFoundOf U (Drawn drawing) = IsInOrder U drawing.answer
 IsFoundOf U (Observed leeway shown) = IsObservationOf shown
 IsFoundOf U (Keeping node base room) = IsKeptIn U node.keeping × IsOldOf node
@@ -80,7 +80,7 @@ found_said owners U (Shown kind) = checked_line kind
 found_said owners U (Compared c) = compared_lines owners U c
 found_said owners U (Judged sorted node told) = judged_said sorted U node told
 found_said owners U (Simulated answer) = simulation_said U answer
-found_said owners U (Reached answer) = reached_said U answer
+found_said owners U (Reached answer told) = reached_said U (string_bytes told) answer
 found_said owners U (Drawn drawing) = drawing_said U drawing
 found_said owners U (Observed leeway shown) = observation_said leeway U shown
 found_said owners U (Keeping node base room) = keeping_lines U base room node
@@ -94,7 +94,7 @@ found_status (Shown kind) = Done
 found_status (Compared c) = placing_status c.is
 found_status (Judged sorted node told) = chained_status node.judged.items told.are_met
 found_status (Simulated answer) = simulation_status answer
-found_status (Reached answer) = simulation_status answer
+found_status (Reached answer told) = simulation_status answer
 found_status (Drawn drawing) = simulation_status drawing.answer
 found_status (Observed leeway shown) = observation_status leeway shown
 found_status (Keeping node base room) = keeping_status node.keeping

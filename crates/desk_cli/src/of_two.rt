@@ -26,7 +26,7 @@ use two_input_commands::{
     check_text, checked_line, compare_text, compared_text, draw_text, explain_at,
     explained_at_text, judge_text, judged_said, judged_status, keep_text, keeping_status,
     keeping_text, leeway_of, limits_at, observe_text, print_drawing, print_observation,
-    print_reached, print_simulated, simulate_text, worst_at,
+    print_reached, print_simulated, reach_text, simulate_text, worst_at,
 };
 
 /// What a command finds of a set and a text.
@@ -41,8 +41,8 @@ pub enum Found {
     Judged(bool, JudgedNode, ChainsTold),
     /// What comes of a release list, to be shown as the lines of its trace.
     Simulated(Simulated),
-    /// The same, to be shown as the lines of what the tasks came to.
-    Reached(Simulated),
+    /// The same, to be shown as the lines of what the tasks came to, and what is told of the chains.
+    Reached(Simulated, String),
     /// The same, to be shown as an SVG 1.1 document.
     Drawn(Drawing),
     /// What a trace shows, and what of it is let pass.
@@ -90,11 +90,11 @@ fn find(
             Ok(Found::Judged(is_sorted(options), node, told))
         }
         OfTwo::Simulate => {
-            let answer = simulate_text(alloc, tasks, text)?;
             if options.by_task {
-                Ok(Found::Reached(answer))
+                let (answer, told) = reach_text(alloc, &both.chains, tasks, text)?;
+                Ok(Found::Reached(answer, told))
             } else {
-                Ok(Found::Simulated(answer))
+                Ok(Found::Simulated(simulate_text(alloc, tasks, text)?))
             }
         }
         OfTwo::Draw => Ok(Found::Drawn(draw_text(alloc, options, tasks, text)?)),
@@ -146,7 +146,7 @@ fn print_found<W: Write + Drop>(
             output,
         ),
         Found::Simulated(answer) => print_simulated(alloc, tasks, answer, output),
-        Found::Reached(answer) => print_reached(alloc, tasks, answer, output),
+        Found::Reached(answer, told) => print_reached(alloc, tasks, answer, told, output),
         Found::Drawn(drawing) => print_drawing(alloc, tasks, drawing, output),
         Found::Observed(leeway, shown) => {
             print_observation(alloc, tasks, *leeway, shown, output)
@@ -249,7 +249,7 @@ fn tell_found<P: Audience>(
     };
     match found {
         Found::Compared(compared) => people.compared(&compared.set),
-        Found::Simulated(answer) | Found::Reached(answer) => tell_run(answer, tasks, people),
+        Found::Simulated(answer) | Found::Reached(answer, _) => tell_run(answer, tasks, people),
         Found::Drawn(drawing) => tell_run(&drawing.answer, tasks, people),
         Found::Observed(_, shown) => tell_seen(shown, tasks, people),
         Found::Keeping { node, .. } => tell_kept(&node.keeping, tasks, text, people),

@@ -1,5 +1,5 @@
 -- What `desk simulate` answers and prints.
-use Rattle.std.specs.Prelude.{◌≡◌, ◌⊎◌, ℕ, ◌+◌, Bool, true, false, List, [], ◌∷◌, length, map, Option, Some, None, Result, Ok, Err}
+use Rattle.std.specs.Prelude.{◌≡◌, ◌⊎◌, ℕ, ◌+◌, Bool, true, false, List, [], ◌∷◌, ◌++◌, length, map, string_bytes, Option, Some, None, Result, Ok, Err}
 use Rattle.task_sheet.specs.Sheet.{Task}
 use Rattle.task_sheet.specs.Indexes.{indexes_of, listed_below}
 use Rattle.task_sheet.specs.Levels.{IsGreatestObstruction}
@@ -30,7 +30,10 @@ use Rattle.run_lines.specs.TaskBounds.{bounds_of}
 use Rattle.run_lines.specs.declared.bounds.TaskBound.{TaskBound}
 use Rattle.printed_runs.specs.TraceLines.{trace_lines}
 use Rattle.answering.specs.Lines.{infeasible_line}
-use Rattle.two_input_commands.specs.OnBoth.{OfTwoSays, SaysOnBoth}
+use Rattle.chains.specs.declared.bounds.Level.{Level}
+use Rattle.chain_tables.specs.Chains.{ChainData}
+use Rattle.chain_runs.specs.Lines.{run_chains_said}
+use Rattle.two_input_commands.specs.OnBoth.{OfTwoSays, SaysOnBoth, SaysOnBothChained}
 use Rattle.answering.specs.declared.refusal.CommandRefusal.{CommandRefusal}
 use Rattle.answering.specs.declared.refusal.CommandRefusal.TheVariants as refusal
 use Rattle.two_input_commands.specs.declared.simulate.OrderedRun.{OrderedRun}
@@ -180,11 +183,13 @@ simulation_status (Ran run) = status.Done
 simulation_status (Ordered run) = status.Done
 simulation_status (Infeasible left) = status.Infeasible
 
--- what is printed of what came of a set, by task: a line for each, the lowest level first
-abbrev pub reached_said : List Task → Simulated → List ℕ
-reached_said U (Ran run) = task_lines U run.trace.jobs.items (bounds_of run.places.items)
-reached_said U (Ordered run) = task_lines U run.trace.jobs.items (bounds_judged run.judged.items)
-reached_said U (Infeasible left) = infeasible_line U (listed_below (length U) (indexes_of left))
+-- what is printed of what came of a set, by task: a line for each, the lowest level first, and then what is told of its chains
+abbrev pub reached_said : List Task → (told : List ℕ) → Simulated → List ℕ
+reached_said U told (Ran run) =
+    task_lines U run.trace.jobs.items (bounds_of run.places.items) ++ told
+reached_said U told (Ordered run) =
+    task_lines U run.trace.jobs.items (bounds_judged run.judged.items) ++ told
+reached_said U told (Infeasible left) = infeasible_line U (listed_below (length U) (indexes_of left))
 
 -- a run is one in an order of the set
 abbrev pub IsInOrder : List Task → Simulated → Type 0
@@ -192,12 +197,36 @@ IsInOrder U (Ran run) = IsOrder U (tasks_of_places run.places.items)
 IsInOrder U (Ordered run) = IsOrder U (order_judged run.judged.items)
 IsInOrder U (Infeasible left) = Unit {0}
 
+-- ---- chains
+-- the level of a task with a bound
+abbrev pub level_of_bound : TaskBound → Level
+level_of_bound b = record { task = b.task; response = b.bound }
+
+-- the lines of chains in a run, by the bounds that tasks have in its order; nothing where there is none
+abbrev pub chains_reached : List Task → List ChainData → Simulated → List ℕ
+chains_reached U chains (Ran run) =
+    run_chains_said U (map level_of_bound (bounds_of run.places.items)) run.until run.trace chains
+chains_reached U chains (Ordered run) =
+    run_chains_said U (map level_of_bound (bounds_judged run.judged.items)) run.until run.trace chains
+chains_reached U chains (Infeasible left) = []
+
+-- the answer on a set with these chains and the text of a release list, and what is told of the chains
+abbrev pub ReachesText : List ChainData → List Task → List ℕ → Result (Simulated × String) CommandRefusal
+    → Type 0
+ReachesText chains U text (Ok found) =
+    SimulatesText U text (Ok found.0)
+    × (string_bytes found.1 ≡ chains_reached U chains found.0)
+ReachesText chains U text (Err r) = SimulatesText U text (Err r)
+
+-- ---- what is said
 -- the answer on what the readers had is printed as the lines of a trace after what the writer held, and the status is the
 -- answer's
 abbrev pub SaysSimulated : OfTwoSays
 SaysSimulated = SaysOnBoth SimulatesText simulation_said simulation_status
 
--- or as those of what the tasks came to, where the words say so
+-- or as those of what the tasks and the chains came to, where the words say so
 abbrev pub SaysSimulation : Bool → OfTwoSays
 SaysSimulation false = SaysSimulated
-SaysSimulation true = SaysOnBoth SimulatesText reached_said simulation_status
+SaysSimulation true =
+    SaysOnBothChained ReachesText (λ owners U found. reached_said U (string_bytes found.1) found.0)
+    (λ found. simulation_status found.0)

@@ -1,5 +1,5 @@
 //! `desk simulate`.
-ghost use Rattle.std.specs.Prelude.{◌≡◌, ◌<◌, length, Ok, [], IfOk, string_bytes};
+ghost use Rattle.std.specs.Prelude.{◌≡◌, ◌<◌, ◌++◌, length, Ok, [], IfOk, string_bytes};
 ghost use Rattle.task_sheet.specs.Orders.{IsBest, IsOrder};
 ghost use Rattle.assignment.specs.Placings.{tasks_of_places};
 ghost use Rattle.ceiling_kernel.specs.Tick.{node_in};
@@ -270,24 +270,38 @@ pub(crate) fn bounds_judged(
     Ok(bounds)
 }
 
-// The lines of what the tasks of a set came to in a run of its best order.
-fn reached_text(alloc: Global, set: &TaskSet, run: &Run) -> Result<String, AllocError>
+// The lines of what the tasks of a set came to in a run of its best order, and then what is told of its chains.
+fn reached_text(
+    alloc: Global,
+    set: &TaskSet,
+    run: &Run,
+    told: &str,
+) -> Result<String, AllocError>
     requires { IsOrder set.now (tasks_of_places run.now.places.items) }
     ensures { IfOk result (λ text. string_bytes text
-        ≡ task_lines set.now run.now.trace.jobs.items (bounds_of run.now.places.items)) }
+        ≡ task_lines set.now run.now.trace.jobs.items (bounds_of run.now.places.items) ++ told.now) }
 {
     let bounds = bounds_of(alloc, &run.places)?;
-    tasks_text(alloc, set, &bounds, &run.trace.jobs)
+    let mut text = tasks_text(alloc, set, &bounds, &run.trace.jobs)?;
+    text.push_str(told)?;
+    Ok(text)
 }
 
 // The same of a run in a given order.
-fn ordered_text(alloc: Global, set: &TaskSet, run: &OrderedRun) -> Result<String, AllocError>
+fn ordered_text(
+    alloc: Global,
+    set: &TaskSet,
+    run: &OrderedRun,
+    told: &str,
+) -> Result<String, AllocError>
     requires { IsOrder set.now (order_judged run.now.judged.items) }
     ensures { IfOk result (λ text. string_bytes text
-        ≡ task_lines set.now run.now.trace.jobs.items (bounds_judged run.now.judged.items)) }
+        ≡ task_lines set.now run.now.trace.jobs.items (bounds_judged run.now.judged.items) ++ told.now) }
 {
     let bounds = bounds_judged(alloc, &run.judged)?;
-    tasks_text(alloc, set, &bounds, &run.trace.jobs)
+    let mut text = tasks_text(alloc, set, &bounds, &run.trace.jobs)?;
+    text.push_str(told)?;
+    Ok(text)
 }
 
 /// Prints the lines of the trace of a run, or why there is none.
@@ -307,21 +321,26 @@ pub fn print_simulated<W: Write + Drop>(
     }
 }
 
-/// Prints what the tasks came to in a run, or why there is none.
+/// Prints what the tasks came to in a run, and then what is told of the chains, or why there is no run.
 pub fn print_reached<W: Write + Drop>(
     alloc: Global,
     tasks: &TaskSet,
     answer: &Simulated,
+    told: &str,
     output: &mut Watched<W>,
 ) -> Status
     requires { IsInOrder tasks.now answer.now }
-    ensures { IsSaidOn (λ before after s. IsPrinted before after (reached_said tasks.now answer.now)
+    ensures { IsSaidOn (λ before after s. IsPrinted before after (reached_said tasks.now told.now answer.now)
         (simulation_status answer.now) s) W.contents output.old output.new result }
 {
     match answer {
-        Simulated::Ran(run) => print_made(reached_text(alloc, tasks, run), Status::Done, output),
+        Simulated::Ran(run) => print_made(
+            reached_text(alloc, tasks, run, told),
+            Status::Done,
+            output,
+        ),
         Simulated::Ordered(run) => print_made(
-            ordered_text(alloc, tasks, run),
+            ordered_text(alloc, tasks, run, told),
             Status::Done,
             output,
         ),

@@ -1,0 +1,88 @@
+//! `desk simulate --tasks`.
+ghost use Rattle.std.specs.Prelude.{◌≡◌, IfOk, map, string_bytes};
+ghost use Rattle.chain_runs.specs.Lines.{run_chains_said};
+ghost use Rattle.two_input_commands.specs.Simulate.{IsInOrder, ReachesText, chains_reached, level_of_bound};
+
+use crate::simulate::{Simulated, bounds_judged, simulate_text};
+use answering::CommandRefusal;
+use ceiling_kernel::Trace;
+use chain_runs::run_chains_text;
+use chain_tables::Chain;
+use chains::Level;
+use run_lines::{TaskBound, bounds_of};
+use std::alloc::{AllocError, Global};
+use task_sheet::TaskSet;
+
+// The level of a task with a bound.
+fn level_of_bound(entry: TaskBound) -> Level
+    ensures { result ≡ level_of_bound entry }
+{
+    Level {
+        task: entry.task,
+        response: entry.bound,
+    }
+}
+
+// The levels of an order's tasks.
+fn levels_of(alloc: Global, bounds: &[TaskBound]) -> Result<Vec<Level>, AllocError>
+    ensures { IfOk result (λ levels. levels.items ≡ map level_of_bound bounds.now) }
+{
+    let mut levels = Vec::with_capacity(alloc, bounds.len())?;
+    for entry in bounds {
+        levels.push(level_of_bound(*entry))?;
+    }
+    Ok(levels)
+}
+
+// The lines of chains in a run of an order whose tasks have these bounds.
+fn told_of(
+    alloc: Global,
+    set: &TaskSet,
+    chains: &[Chain],
+    bounds: &[TaskBound],
+    until: u64,
+    trace: &Trace,
+) -> Result<String, AllocError>
+    ensures { IfOk result (λ text. string_bytes text
+        ≡ run_chains_said set.now (map level_of_bound bounds.now) until trace.now chains.now) }
+{
+    let levels = levels_of(alloc, bounds)?;
+    run_chains_text(alloc, set, &levels, chains, until, trace)
+}
+
+// The lines of chains in what a simulation came to.
+fn chains_reached(
+    alloc: Global,
+    set: &TaskSet,
+    chains: &[Chain],
+    answer: &Simulated,
+) -> Result<String, AllocError>
+    ensures { IfOk result (λ text. string_bytes text ≡ chains_reached set.now chains.now answer.now) }
+{
+    match answer {
+        Simulated::Ran(run) => {
+            let bounds = bounds_of(alloc, &run.places)?;
+            told_of(alloc, set, chains, &bounds, run.until, &run.trace)
+        }
+        Simulated::Ordered(run) => {
+            let bounds = bounds_judged(alloc, &run.judged)?;
+            told_of(alloc, set, chains, &bounds, run.until, &run.trace)
+        }
+        Simulated::Infeasible(_) => Ok(String::new(alloc)),
+    }
+}
+
+/// What a set and a release list's text come to, and the lines of these chains in the run.
+pub fn reach_text(
+    alloc: Global,
+    chains: &[Chain],
+    tasks: &TaskSet,
+    text: &[u8],
+) -> Result<(Simulated, String), CommandRefusal>
+    ensures answer { ReachesText chains.now tasks.now text.now result }
+    ensures order { IfOk result (λ found. IsInOrder tasks.now found.0) }
+{
+    let answer = simulate_text(alloc, tasks, text)?;
+    let told = chains_reached(alloc, tasks, chains, &answer)?;
+    Ok((answer, told))
+}
