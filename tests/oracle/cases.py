@@ -91,7 +91,7 @@ def of_set(rng, subject):
         seed = rng.choice([0, 1, rng.getrandbits(32), 2**32 - 1, 2**32]) if rng.random() < 0.6 else None
         options += [] if seed is None else [("seed", str(seed))]
         number = make_lines.until_of(rng, taken(sheets, node, interrupts), seed)
-    if subject == "simulate" and rng.random() < 0.3:
+    if subject == "simulate" and rng.random() < (0.7 if chains else 0.3):
         options.append(("tasks", None))
     if subject == "draw":
         options += view_of(rng, sheets)

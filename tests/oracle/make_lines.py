@@ -158,8 +158,8 @@ def releases_of(rng, tasks):
             out.append(kernel.Release(arrival, task.name, late, runs))
             arrival += task.period + rng.randint(0, gap)
     out.sort(key=lambda release: release.arrival)
-    if rng.random() < 0.15:
-        out = kernel.densest(tasks, min(until, period * 40))
+    if rng.random() < 0.3:
+        out = kernel.densest(tasks, min(until, period * 40)) if rng.random() < 0.5 else kernel.random_list(tasks, min(until, period * 40), rng.getrandbits(32))
     if out and rng.random() < 0.15:
         until = max(release.ready for release in out) + rng.randint(0, 1)
     if out and rng.random() < 0.3:

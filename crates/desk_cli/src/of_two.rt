@@ -22,8 +22,8 @@ use std::io::{Read, Write};
 use streams::Watched;
 use task_sheet::{Members, Name, TaskSet};
 use two_input_commands::{
-    ChainsTold, Compared, Drawing, InOrder, KeptNode, Observation, Simulated, chained_status,
-    check_text, checked_line, compare_text, compared_text, draw_text, explain_at,
+    ChainsTold, Compared, Drawing, InOrder, KeptNode, Observation, ReachedChains, Simulated,
+    chained_status, check_text, checked_line, compare_text, compared_text, draw_text, explain_at,
     explained_at_text, judge_text, judged_said, judged_status, keep_text, keeping_status,
     keeping_text, leeway_of, limits_at, observe_text, print_drawing, print_observation,
     print_reached, print_simulated, reach_text, simulate_text, worst_at,
@@ -42,7 +42,7 @@ pub enum Found {
     /// What comes of a release list, to be shown as the lines of its trace.
     Simulated(Simulated),
     /// The same, to be shown as the lines of what the tasks came to, and what is told of the chains.
-    Reached(Simulated, String),
+    Reached(Simulated, ReachedChains),
     /// The same, to be shown as an SVG 1.1 document.
     Drawn(Drawing),
     /// What a trace shows, and what of it is let pass.

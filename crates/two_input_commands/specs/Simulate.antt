@@ -36,6 +36,7 @@ use Rattle.chain_runs.specs.Lines.{run_chains_said}
 use Rattle.two_input_commands.specs.OnBoth.{OfTwoSays, SaysOnBoth, SaysOnBothChained}
 use Rattle.answering.specs.declared.refusal.CommandRefusal.{CommandRefusal}
 use Rattle.answering.specs.declared.refusal.CommandRefusal.TheVariants as refusal
+use Rattle.two_input_commands.specs.declared.reached.ReachedChains.{ReachedChains}
 use Rattle.two_input_commands.specs.declared.simulate.OrderedRun.{OrderedRun}
 use Rattle.two_input_commands.specs.declared.simulate.Simulated.{Simulated}
 use Rattle.two_input_commands.specs.declared.simulate.Simulated.TheVariants.{Infeasible, Ordered, Ran}
@@ -184,11 +185,12 @@ simulation_status (Ordered run) = status.Done
 simulation_status (Infeasible left) = status.Infeasible
 
 -- what is printed of what came of a set, by task: a line for each, the lowest level first, and then what is told of its chains
-abbrev pub reached_said : List Task → (told : List ℕ) → Simulated → List ℕ
+abbrev pub reached_said : List Task → ReachedChains → Simulated → List ℕ
 reached_said U told (Ran run) =
-    task_lines U run.trace.jobs.items (bounds_of run.places.items) ++ told
+    task_lines U run.trace.jobs.items (bounds_of run.places.items) ++ string_bytes told.text
 reached_said U told (Ordered run) =
-    task_lines U run.trace.jobs.items (bounds_judged run.judged.items) ++ told
+    task_lines U run.trace.jobs.items (bounds_judged run.judged.items)
+    ++ string_bytes told.text
 reached_said U told (Infeasible left) = infeasible_line U (listed_below (length U) (indexes_of left))
 
 -- a run is one in an order of the set
@@ -211,11 +213,11 @@ chains_reached U chains (Ordered run) =
 chains_reached U chains (Infeasible left) = []
 
 -- the answer on a set with these chains and the text of a release list, and what is told of the chains
-abbrev pub ReachesText : List ChainData → List Task → List ℕ → Result (Simulated × String) CommandRefusal
-    → Type 0
+abbrev pub ReachesText : List ChainData → List Task → List ℕ
+    → Result (Simulated × ReachedChains) CommandRefusal → Type 0
 ReachesText chains U text (Ok found) =
     SimulatesText U text (Ok found.0)
-    × (string_bytes found.1 ≡ chains_reached U chains found.0)
+    × (string_bytes found.1.text ≡ chains_reached U chains found.0)
 ReachesText chains U text (Err r) = SimulatesText U text (Err r)
 
 -- ---- what is said
@@ -228,5 +230,5 @@ SaysSimulated = SaysOnBoth SimulatesText simulation_said simulation_status
 abbrev pub SaysSimulation : Bool → OfTwoSays
 SaysSimulation false = SaysSimulated
 SaysSimulation true =
-    SaysOnBothChained ReachesText (λ owners U found. reached_said U (string_bytes found.1) found.0)
+    SaysOnBothChained ReachesText (λ owners U found. reached_said U found.1 found.0)
     (λ found. simulation_status found.0)

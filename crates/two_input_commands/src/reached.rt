@@ -13,6 +13,12 @@ use run_lines::{TaskBound, bounds_of};
 use std::alloc::{AllocError, Global};
 use task_sheet::TaskSet;
 
+/// What is printed of a set's chains in a run.
+#[derive(Drop)]
+pub struct ReachedChains {
+    pub text: String,
+}
+
 // The level of a task with a bound.
 fn level_of_bound(entry: TaskBound) -> Level
     ensures { result ≡ level_of_bound entry }
@@ -51,7 +57,7 @@ fn told_of(
 }
 
 // The lines of chains in what a simulation came to.
-fn chains_reached(
+fn lines_reached(
     alloc: Global,
     set: &TaskSet,
     chains: &[Chain],
@@ -78,11 +84,11 @@ pub fn reach_text(
     chains: &[Chain],
     tasks: &TaskSet,
     text: &[u8],
-) -> Result<(Simulated, String), CommandRefusal>
+) -> Result<(Simulated, ReachedChains), CommandRefusal>
     ensures answer { ReachesText chains.now tasks.now text.now result }
     ensures order { IfOk result (λ found. IsInOrder tasks.now found.0) }
 {
     let answer = simulate_text(alloc, tasks, text)?;
-    let told = chains_reached(alloc, tasks, chains, &answer)?;
-    Ok((answer, told))
+    let text = lines_reached(alloc, tasks, chains, &answer)?;
+    Ok((answer, ReachedChains { text }))
 }

@@ -11,6 +11,7 @@ ghost use Rattle.answering.specs.Outcomes.{IsSaidOn};
 ghost use Rattle.answering.specs.Printed.{IsPrinted};
 ghost use Rattle.two_input_commands.specs.Simulate.{IsInOrder, RunsOrder, RunsOrderCut, SimulatesIn, SimulatesRead, SimulatesText, bound_judged, bounds_judged, reached_said, simulation_said, simulation_status};
 
+use crate::reached::ReachedChains;
 use answering::{CommandRefusal, Status, print_made, print_stuck};
 use assignment::{Place, Placing, place_all, tasks_of_places};
 use ceiling_kernel::{Kernel, KernelFault, Release, Trace};
@@ -275,15 +276,15 @@ fn reached_text(
     alloc: Global,
     set: &TaskSet,
     run: &Run,
-    told: &str,
+    told: &ReachedChains,
 ) -> Result<String, AllocError>
     requires { IsOrder set.now (tasks_of_places run.now.places.items) }
     ensures { IfOk result (λ text. string_bytes text
-        ≡ task_lines set.now run.now.trace.jobs.items (bounds_of run.now.places.items) ++ told.now) }
+        ≡ task_lines set.now run.now.trace.jobs.items (bounds_of run.now.places.items) ++ string_bytes told.now.text) }
 {
     let bounds = bounds_of(alloc, &run.places)?;
     let mut text = tasks_text(alloc, set, &bounds, &run.trace.jobs)?;
-    text.push_str(told)?;
+    text.push_str(told.text.as_str())?;
     Ok(text)
 }
 
@@ -292,15 +293,15 @@ fn ordered_text(
     alloc: Global,
     set: &TaskSet,
     run: &OrderedRun,
-    told: &str,
+    told: &ReachedChains,
 ) -> Result<String, AllocError>
     requires { IsOrder set.now (order_judged run.now.judged.items) }
     ensures { IfOk result (λ text. string_bytes text
-        ≡ task_lines set.now run.now.trace.jobs.items (bounds_judged run.now.judged.items) ++ told.now) }
+        ≡ task_lines set.now run.now.trace.jobs.items (bounds_judged run.now.judged.items) ++ string_bytes told.now.text) }
 {
     let bounds = bounds_judged(alloc, &run.judged)?;
     let mut text = tasks_text(alloc, set, &bounds, &run.trace.jobs)?;
-    text.push_str(told)?;
+    text.push_str(told.text.as_str())?;
     Ok(text)
 }
 
@@ -326,7 +327,7 @@ pub fn print_reached<W: Write + Drop>(
     alloc: Global,
     tasks: &TaskSet,
     answer: &Simulated,
-    told: &str,
+    told: &ReachedChains,
     output: &mut Watched<W>,
 ) -> Status
     requires { IsInOrder tasks.now answer.now }
