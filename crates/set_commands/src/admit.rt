@@ -9,8 +9,8 @@ ghost use Rattle.answering.specs.Outcomes.{IsRead, IsSaidOn, failed_read};
 
 use crate::chained::{Placed, chained_status, chained_text, levels_of};
 use answering::{
-    Audience, CommandRefusal, OrderPart, Status, joined, placing_text, print_bytes,
-    print_made, read_owned,
+    Audience, CommandRefusal, OrderPart, Status, joined, placing_text, print_bytes, print_made,
+    read_owned,
 };
 use assignment::{Placing, place_all};
 use ceilings::{LockTable, Tabled};
@@ -93,12 +93,7 @@ pub fn say_admitted<W: Write + Drop>(
 }
 
 // What a node is set to for the order of a set that was placed, or the line of its obstruction.
-fn settings_text(
-    alloc: Global,
-    base: u32,
-    room: u32,
-    placed: &Placed,
-) -> Result<String, AllocError>
+fn settings_text(alloc: Global, base: u32, room: u32, placed: &Placed) -> Result<String, AllocError>
     requires { IsPlaced placed.now }
     ensures { IfOk result (λ text. string_bytes text
         ≡ placing_said (OrderPart.Settings base room) placed.now.tasks placed.now.placing) }
