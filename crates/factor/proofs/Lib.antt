@@ -1,7 +1,5 @@
-pub mod WalkLaws
-pub mod MostLaws
-pub mod GreatestLaws
 pub mod AtLaws
+pub mod GreatestLaws
 pub mod LatestAt
+pub mod MostLaws
 pub mod SlowLaws
-pub mod Answered

@@ -4,7 +4,7 @@ ghost use Rattle.task_sheet.specs.Sheet.{task_at};
 ghost use Rattle.task_sheet.specs.TaskSet.{IsTaskSet};
 ghost use Rattle.task_sheet.specs.Indexes.{indexes_of, IsPart};
 ghost use Rattle.task_sheet.specs.Demand.{limit_of};
-ghost use Rattle.task_sheet.specs.Orders.{all_of};
+ghost use Rattle.task_sheet.specs.Orders.{all_of, is_bound};
 ghost use Rattle.latest_first.specs.LatestFirst.{IsFree};
 ghost use Rattle.factor.specs.Failing.{IsFirstLatest};
 
@@ -12,21 +12,25 @@ use assignment::least_over;
 use ceilings::Tabled;
 use task_sheet::Members;
 
+/// Whether a task must stand above one of these.
+pub(crate) fn must_outrank(set: &Tabled<'_>, task: usize, others: Members) -> bool
+    requires { task < length set.now }
+    ensures { result ≡ is_bound set.now task (indexes_of others) }
+{
+    match least_over(set, task, others) {
+        Some(_) => true,
+        None => false,
+    }
+}
+
 // Whether a task is left, and need not stand above another one that is.
 fn is_free(set: &Tabled<'_>, left: Members, task: usize) -> bool
-    requires task { task < length set.now }
-    requires part { IsPart (indexes_of left) (all_of set.now) }
+    requires { task < length set.now }
     ensures { IsTrue result ↔ IsFree set.now (indexes_of left) task }
 {
     // The set is valid: the proof has it from its sheets.
     let _ = set.sheets();
-    if !left.has(task) {
-        return false;
-    }
-    match least_over(set, task, left.without(task)) {
-        Some(_) => false,
-        None => true,
-    }
+    left.has(task) && !must_outrank(set, task, left.without(task))
 }
 
 // Whether the limit of a task is longer than that of the one that was found, in microseconds.

@@ -1,5 +1,5 @@
 //! How far execution may slow down before a task fails.
-ghost use Rattle.std.specs.Prelude.{◌≡◌, ◌+◌, ◌*◌, ◌≤◌, ◌<◌, ℕ, length};
+ghost use Rattle.std.specs.Prelude.{◌≡◌, ◌+◌, ◌*◌, ◌≤◌, ◌<◌, length};
 ghost use Rattle.task_sheet.specs.Sheet.{task_at};
 ghost use Rattle.task_sheet.specs.TaskSet.{IsTaskSet};
 ghost use Rattle.task_sheet.specs.declared.sheet.TheConstants.{PERIOD_TO};
@@ -43,8 +43,8 @@ pub(crate) fn most_below(set: &Tabled<'_>, task: usize, above: Members, cap: u64
     requires cap { cap ≤ FACTOR_END }
     ensures within { result ≤ cap }
     ensures passes { PassesAt result set.now task (indexes_of above) }
-    ensures greatest { (more : ℕ) → result < more → more ≤ cap
-        → ¬ PassesAt more set.now task (indexes_of above) }
+    ensures greatest { result < cap → ¬ PassesAt (result + 1) set.now task (indexes_of above) }
+    ensures short { result < FACTOR_END }
     ensures kept { IsTaskSet set.now }
 {
     let limit = set.sheets()[task].limit();
