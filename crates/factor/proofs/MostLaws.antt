@@ -1,5 +1,5 @@
 -- The greatest factor at which a task passes, sought from window to window.
-use Rattle.std.proofs.Common.{◌≡◌, ℕ, ◌+◌, ◌*◌, ◌<◌, ◌≤◌, max, inl, inr, List, arith}
+use Rattle.std.proofs.Common.{◌≡◌, ℕ, ◌+◌, ◌*◌, ◌<◌, ◌≤◌, min, max, inl, inr, List, arith}
 use Rattle.std.proofs.Math.Nat.{mul-le-mul_left, mul-le-mul_right}
 use Rattle.std.specs.Int.{div_ceil}
 use Rattle.std.proofs.lemmas.Bool.{cases_lt}
@@ -16,8 +16,9 @@ none-before W rises most more time le before t positive past = elim (cases_lt t 
   | inr ge ↦ omega (arith, past ge, mul-le-mul_left (more + 1) (rises time t ge))
 ]
 
-pub ceil-before : (need t time : ℕ) → t < time → time ≡ div_ceil need 1000 → 1000 * t < need
-ceil-before need t time lt same = omega arith
+pub ceil-before : (need most t time fit : ℕ) → t < time → time ≡ div_ceil fit 1000
+    → fit ≡ min need most → 1000 * t < need
+ceil-before need most t time fit lt same least = omega arith
 
 -- the greater of two factors, one of which a window allows
 pub PassesAt-max : (U : List Task) (i : ℕ) (H : Indexes) (most other need time greater : ℕ)

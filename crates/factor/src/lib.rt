@@ -41,11 +41,10 @@ pub fn factor(set: &Tabled<'_>) -> Option<Slowdown>
     };
     while !left.is_empty() {
         let task = first_latest(set, left)?;
+        let most = most_below(set, task, left.without(task), found.most);
+        let last = if most < found.most { task } else { found.task };
+        found = Slowdown { most, task: last };
         left = left.without(task);
-        let most = most_below(set, task, left, found.most);
-        if most < found.most {
-            found = Slowdown { most, task };
-        }
     }
     if found.most == 0 {
         return None;

@@ -39,8 +39,7 @@ fn covered(time: u64, need: u64) -> u64
 
 /// The greatest factor up to `cap` at which a task passes with these above it.
 pub(crate) fn most_below(set: &Tabled<'_>, task: usize, above: Members, cap: u64) -> u64
-    requires task { task < length set.now }
-    requires cap { cap ≤ FACTOR_END }
+    requires { task < length set.now }
     ensures within { result ≤ cap }
     ensures passes { PassesAt result set.now task (indexes_of above) }
     ensures greatest { result < cap → ¬ PassesAt (result + 1) set.now task (indexes_of above) }
@@ -51,14 +50,11 @@ pub(crate) fn most_below(set: &Tabled<'_>, task: usize, above: Members, cap: u64
     // The longest window comes first, since it often allows most.
     let mut most = covered(limit, demand_in(set, task, above, limit));
     let mut time = 1;
-    while most < cap {
+    while most < cap && time <= limit {
         let need = demand_in(set, task, above, time);
         most = most.max(covered(time, need));
-        if need > 1000 * limit / (most + 1) {
-            return most.min(cap);
-        }
         // No window before this one allows more.
-        time = ((most + 1) * need).div_ceil(1000);
+        time = (most + 1).saturating_mul(need).div_ceil(1000);
     }
-    cap
+    most.min(cap)
 }

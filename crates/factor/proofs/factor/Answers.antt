@@ -10,6 +10,7 @@ use Rattle.factor.specs.Factors.{PassesAt}
 use Rattle.factor.proofs.AtLaws.{PassesAt-less, IsFeasibleAt-less}
 use Rattle.factor.proofs.LatestAt.{LeadsAt, LeadsAt-all, LeadsAt-without, obstructs-fails, fails-first}
 use Rattle.factor.proofs.factor.Goals as goal
+use Rattle.factor.proofs.factor.Goals.{then-most-found, else-most-found}
 
 pub loop-left-init : goal.loop-left-init
 loop-left-init c =
@@ -21,7 +22,6 @@ loop-left-init c =
       leads = λ f le. subst (λ X. LeadsAt f U X) (sym all)
           (LeadsAt-all U (AllTasks-from_set U c.sheets.ensures.kept) f);
       fails = λ lt. absurd (omega (arith, lt));
-      short = omega arith;
       first = λ none. absurd (both_ways _ none (ap (λ (X : Indexes). X 0) all ∙ lt-ltb 0 (length U) c.requires));
     }
 
@@ -42,36 +42,6 @@ returns-in_err-task c = rw c.from_residual.ensures (λ factor some.
       stuck = λ j here stands. c.in_err-task.ensures.none j (here, stands.1);
     })
 
-pub loop-left-smaller-then-most-found : goal.loop-left-smaller-then-most-found
-loop-left-smaller-then-most-found c = rw c.without-left.ensures
-    (len-remove_member c.loop-left.left c.in_ok-task.task c.in_ok-task.ensures.some.latest.free.0)
-
-pub loop-left-preserved-then-most-found : goal.loop-left-preserved-then-most-found
-loop-left-preserved-then-most-found c =
-    let U = c.args.set.now in
-    let valid = AllTasks-from_set U c.sheets.ensures.kept in
-    let i = c.in_ok-task.task in
-    let L = indexes_of c.loop-left.left in
-    let own = c.most_below-most.result in
-    let inv = c.loop-left.invariant in
-    let is = c.in_ok-task.ensures.some in
-    let rest : indexes_of c.without-left.result ≡ without_index L i =
-    ap indexes_of c.without-left.ensures ∙ indexes_of-remove c.loop-left.left i in
-    let passes : PassesAt own U i (without_index L i) =
-    subst (λ X. PassesAt own U i X) rest c.most_below-most.ensures.passes in
-    record {
-      part = subst (λ X. IsPart X (all_of U)) (sym rest) (without-part_of (length U) L i inv.part);
-      leads = λ f le. LeadsAt-without U valid f L _ i rest
-          (inv.leads f (omega (arith, le, c.if-most-found.true))) is.latest.free.0
-          (PassesAt-less U f own le i _ passes, is.latest.free.1);
-      fails = λ _. fails-first U valid (own + 1) (AllPrompt-valid U c.sheets.ensures.kept) L i
-          inv.part (inv.leads (own + 1) (omega (arith, c.if-most-found.true))) is
-          (λ more. c.most_below-most.ensures.greatest c.if-most-found.true
-          (subst (λ X. PassesAt (own + 1) U i X) (sym rest) more));
-      short = omega (arith, c.most_below-most.ensures.short);
-      first = λ none. c.most_below-most.ensures.short;
-    }
-
 pub loop-left-smaller : goal.loop-left-smaller
 loop-left-smaller c = rw c.without-left.ensures
     (len-remove_member c.loop-left.left c.in_ok-task.task c.in_ok-task.ensures.some.latest.free.0)
@@ -79,23 +49,32 @@ loop-left-smaller c = rw c.without-left.ensures
 pub loop-left-preserved : goal.loop-left-preserved
 loop-left-preserved c =
     let U = c.args.set.now in
+    let valid = AllTasks-from_set U c.sheets.ensures.kept in
     let i = c.in_ok-task.task in
     let L = indexes_of c.loop-left.left in
     let own = c.most_below-most.result in
     let inv = c.loop-left.invariant in
     let is = c.in_ok-task.ensures.some in
-    let rest : indexes_of c.without-left.result ≡ without_index L i =
-    ap indexes_of c.without-left.ensures ∙ indexes_of-remove c.loop-left.left i in
-    let passes : PassesAt own U i (without_index L i) =
-    subst (λ X. PassesAt own U i X) rest c.most_below-most.ensures.passes in
+    let best = c.most_below-most.ensures in
+    let less = indexes_of-remove c.loop-left.left i in
+    let above : indexes_of c.without.result ≡ without_index L i = ap indexes_of c.without.ensures ∙ less in
+    let rest : indexes_of c.without-left.result ≡ without_index L i = ap indexes_of c.without-left.ensures ∙ less in
+    let passes = subst (λ X. PassesAt own U i X) above best.passes in
     record {
       part = subst (λ X. IsPart X (all_of U)) (sym rest) (without-part_of (length U) L i inv.part);
-      leads = λ f le. LeadsAt-without U (AllTasks-from_set U c.sheets.ensures.kept) f L _ i rest
-          (inv.leads f le) is.latest.free.0
-          (PassesAt-less U f own (omega (arith, le, c.if-most-found.false)) i _ passes, is.latest.free.1);
-      fails = inv.fails;
-      short = inv.short;
-      first = λ none. omega (arith, c.if-most-found.false, c.most_below-most.ensures.short);
+      leads = λ f le. LeadsAt-without U valid f L _ i rest (inv.leads f (omega (arith, le, best.within)))
+          is.latest.free.0 (PassesAt-less U f own le i _ passes, is.latest.free.1);
+      fails = λ lt. elim c.if-most-found.branch [
+        | then-most-found w ↦ rw w.last-is (fails-first U valid (own + 1)
+            (AllPrompt-valid U c.sheets.ensures.kept) L i inv.part
+            (inv.leads (own + 1) (omega (arith, w.if-most-found.true))) is
+            (λ more. best.greatest w.if-most-found.true
+            (subst (λ X. PassesAt (own + 1) U i X) (sym above) more)))
+        | else-most-found w ↦
+            let same : own ≡ c.loop-left.found.most = omega (arith, best.within, w.if-most-found.false) in
+            rw (w.last-is, same) (inv.fails (omega arith))
+      ];
+      first = λ none. best.short;
     }
 
 pub returns-then-found-eq0 : goal.returns-then-found-eq0

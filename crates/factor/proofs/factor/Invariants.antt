@@ -10,7 +10,6 @@ invariant-loop-left l = record {
   part : IsPart (indexes_of l.left) (all_of l.set);
   leads : (f : ℕ) → f ≤ l.found.most → LeadsAt f l.set (indexes_of l.left);
   fails : l.found.most < 10000000001 → FailsFirst l.set (l.found.most + 1) l.found.task;
-  short : l.found.most ≤ 10000000001;
   first : indexes_of l.left 0 ≡ false → l.found.most < 10000000001;
 }
 

@@ -41,7 +41,6 @@ loop-place-init c =
       above = ap indexes_of c.empty-above.ensures ∙ indexes_of-empty ∙ sym (ap among none);
       stands = rw none tt;
       fails = λ lt. absurd (omega (arith, lt));
-      short = omega arith;
       first = λ lt. absurd (omega (arith, lt));
     }
 
@@ -59,8 +58,8 @@ returns-then-must_outrank c = λ factor some passing.
     both_ways _ (ap (λ (X : Indexes). is_bound U (get_or order (c.loop-place.place - 1) 0) X) inv.above
     ∙ here.0.1) (sym c.must_outrank.ensures ∙ c.if-must_outrank.true)
 
-pub most_below-most-requires-clause-task : goal.most_below-most-requires-clause-task
-most_below-most-requires-clause-task c = low-inside c.args.set.now c.args.order.now
+pub most_below-most-requires : goal.most_below-most-requires
+most_below-most-requires c = low-inside c.args.set.now c.args.order.now
     (c.loop-place.place - 1) c.requires.each (omega (arith, c.loop-place.invariant.within))
 
 pub loop-place-preserved : goal.loop-place-preserved
@@ -90,7 +89,6 @@ loop-place-preserved c =
             | inr ge ↦ inv.fails (omega (arith, ge, lt)) (AllStandAt-less U (c.loop-place.most + 1)
                 (own + 1) (omega (arith, ge)) rest all'.1)
           ];
-      short = omega (arith, c.most_below-most.ensures.short);
       first = λ lt. c.most_below-most.ensures.short;
     }
 

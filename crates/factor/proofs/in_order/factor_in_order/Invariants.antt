@@ -9,7 +9,6 @@ invariant-loop-place l = record {
   above : indexes_of l.above ≡ among (drop l.place l.order);
   stands : AllStandAt l.most l.set (drop l.place l.order);
   fails : l.most < 10000000001 → ¬ AllStandAt (l.most + 1) l.set (drop l.place l.order);
-  short : l.most ≤ 10000000001;
   first : l.place < length l.order → l.most < 10000000001;
 }
 

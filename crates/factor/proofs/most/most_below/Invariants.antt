@@ -9,11 +9,10 @@ invariant-loop-most l = record {
   fails : (t : ℕ) → 1 ≤ t → t < l.time
       → 1000 * t < (l.most + 1) * demand_of l.set l.task (indexes_of l.above) t;
   positive : 1 ≤ l.time;
-  within : l.time ≤ l.limit;
   limit : l.limit ≡ limit_of (task_at l.set l.task);
   few : l.limit ≤ 10000000;
   short : l.most < 10000000001;
 }
 
 abbrev pub decreases-loop-most : goal.decreases-loop-most
-decreases-loop-most l = l.limit - l.time
+decreases-loop-most l = l.limit + 1 - l.time
