@@ -1,15 +1,17 @@
 -- Passing at a factor: other factors and sets, fewer tasks above, a longer limit below the others.
 use Rattle.std.proofs.Common.{◌≡◌, ◌↔◌, ℕ, ◌≤◌, true, cond, List, [], ◌∷◌, length, refl, sym, ◌∙◌}
-use Rattle.std.proofs.Common.{ap, arith}
+use Rattle.std.proofs.Common.{inl, inr, ap, arith}
 use Rattle.std.proofs.Math.Nat.{mul-le-mul_left, mul-le-mul_right}
+use Rattle.std.proofs.lemmas.Bool.{cases_lt}
 use Rattle.task_sheet.proofs.Common.{Task, AllTasks, no_task, task_at, Indexes, IsPart, below}
-use Rattle.task_sheet.proofs.Common.{without_index, among, limit_of, demand_of, all_of}
+use Rattle.task_sheet.proofs.Common.{without_index, among, limit_of, demand_of, all_of, Passes}
 use Rattle.task_sheet.proofs.Common.{AllStand, IsPassingOrder, IsFeasible}
 use Rattle.task_sheet.proofs.Exchange.{demand-part}
 use Rattle.task_sheet.proofs.PassingLaws.{is_bound-part}
 use Rattle.latest_first.specs.LatestFirst.{AllPrompt}
 use Rattle.latest_first.proofs.LaterLimits.{once-within, cost-within, demand-split, inside}
 use Rattle.factor.specs.Factors.{PassesAt, StandsAt, AllStandAt, IsPassingAt, IsFeasibleAt}
+use Rattle.factor.specs.Factors.{IsGreatestFor}
 
 -- ---- other factors, in sets of as many tasks
 module _ (f g : ℕ) (U V : List Task) (count : length V ≡ length U)
@@ -42,10 +44,13 @@ module _ (U : List Task) (low high : ℕ) (le : low ≤ high) where
 
 -- ---- 1000 thousandths
 module _ (U : List Task) where
+  pub Passes-from : (i : ℕ) (H : Indexes) → PassesAt 1000 U i H → Passes U i H
+  Passes-from i H (t, positive, within, covered) = (t, positive, within, omega (arith, covered))
+
   AllStand-from : (order : List ℕ) → AllStandAt 1000 U order → AllStand U order
   AllStand-from [] all = tt
-  AllStand-from (i ∷ above) (((t, positive, within, covered), free), all) =
-      (((t, positive, within, omega (arith, covered)), free), AllStand-from above all)
+  AllStand-from (i ∷ above) ((passes, free), all) =
+      ((Passes-from i (among above) passes, free), AllStand-from above all)
 
   AllStand-at : (order : List ℕ) → AllStand U order → AllStandAt 1000 U order
   AllStand-at [] all = tt
@@ -82,3 +87,25 @@ PassesAt-later U prompt L part f i j member member' later (t, positive, within, 
     let once = once-within (task_at U j) t (prompt j no_task (inside U prompt L part j member')) positive within in
     let less : demand_of U i (without_index L i) t ≤ demand_of U j (without_index L j) t = omega arith in
     (t, positive, omega (arith, within, later), omega (arith, mul-le-mul_left f less, covered))
+
+-- ---- the greatest number at which something is so that is so of each lesser one
+module _ (IsSo : ℕ → Type 0) (less : (low high : ℕ) → low ≤ high → IsSo high → IsSo low) where
+  pub decides : (most f : ℕ) → IsGreatestFor IsSo most → IsSo f ↔ (f ≤ most)
+  decides most f is = (
+    λ so. elim (cases_lt most f) [ inl lt ↦ absurd (is.greatest f lt so) | inr le ↦ le ],
+    λ le. less f most le is.is_so,
+  )
+
+  -- and so at a number where that is another thing
+  pub decides-own : (P : Type 0) (most f : ℕ) → IsSo f ↔ P → IsGreatestFor IsSo most
+      → P ↔ (f ≤ most)
+  decides-own P most f same is =
+      (λ p. (decides most f is).0 (same.1 p), λ le. same.0 ((decides most f is).1 le))
+
+  pub greatest-one : (first second : ℕ) → IsGreatestFor IsSo first → IsGreatestFor IsSo second
+      → first ≡ second
+  greatest-one first second is other = omega (
+    arith,
+    (decides second first other).0 is.is_so,
+    (decides first second is).0 other.is_so,
+  )

@@ -1,5 +1,3 @@
 pub mod AtLaws
-pub mod GreatestLaws
 pub mod LatestAt
-pub mod MostLaws
 pub mod SlowLaws

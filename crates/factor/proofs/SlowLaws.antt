@@ -11,9 +11,9 @@ use Rattle.task_sheet.proofs.Common.{CriticalSection, Task, task_at, Indexes, wi
 use Rattle.task_sheet.proofs.Common.{some_below, sum_below, greatest_below, names_lock, uses}
 use Rattle.task_sheet.proofs.Common.{shares_lock, reaches, limit_of, greatest_of, longest_reached}
 use Rattle.task_sheet.proofs.Common.{blocking_of, interrupt_within, interrupts_of, demand_of}
-use Rattle.task_sheet.proofs.Common.{interrupts_within, releases_within, interference_of, Passes}
+use Rattle.task_sheet.proofs.Common.{interrupts_within, releases_within, interference_of, is_bound}
 use Rattle.latest_first.proofs.OneOrder.{is_bound-alike}
-use Rattle.factor.specs.Factors.{PassesAt, StandsAt}
+use Rattle.factor.specs.Factors.{PassesAt}
 use Rattle.factor.specs.Slower.{IsAtMost, IsSlowSection, IsSlowInterrupt, AreSlow}
 
 module _ (f : ℕ) where
@@ -127,19 +127,15 @@ module _ (f : ℕ) where
     limit-slow : (k : ℕ) → limit_of (task_at V k) ≡ limit_of (task_at U k)
     limit-slow k = omega (arith, (slow.each k).deadline, (slow.each k).jitter)
 
-    pub Passes-slow : (i : ℕ) (H : Indexes) → PassesAt f U i H → Passes V i H
-    Passes-slow i H (t, positive, within, covered) =
+    pub PassesAt-slow : (i : ℕ) (H : Indexes) → PassesAt f U i H → PassesAt 1000 V i H
+    PassesAt-slow i H (t, positive, within, covered) =
         let less = demand-slow i H t in
         (t, positive, omega (arith, limit-slow i, within), omega arith)
 
-    pub StandsAt-slow : (i : ℕ) (H : Indexes) → StandsAt f U i H → StandsAt 1000 V i H
-    StandsAt-slow i H ((t, positive, within, covered), free) =
-        let less = demand-slow i H t in (
-          (t, positive, omega (arith, limit-slow i, within), omega arith),
-          is_bound-alike U V record {
-            count = slow.count;
-            limits = limit-slow;
-            names = λ k. (slow.each k).name;
-            outranks = λ k. (slow.each k).outranks;
-          } i H ∙ free,
-        )
+    pub is_bound-slow : (i : ℕ) (H : Indexes) → is_bound V i H ≡ is_bound U i H
+    is_bound-slow = is_bound-alike U V record {
+      count = slow.count;
+      limits = limit-slow;
+      names = λ k. (slow.each k).name;
+      outranks = λ k. (slow.each k).outranks;
+    }

@@ -1,7 +1,6 @@
 //! Of the tasks that are left the one that speaks for all at each factor.
 ghost use Rattle.std.specs.Prelude.{◌≡◌, ◌↔◌, ◌<◌, ℕ, length, IfSome, IfNone, IsTrue};
 ghost use Rattle.task_sheet.specs.Sheet.{task_at};
-ghost use Rattle.task_sheet.specs.TaskSet.{IsTaskSet};
 ghost use Rattle.task_sheet.specs.Indexes.{indexes_of, IsPart};
 ghost use Rattle.task_sheet.specs.Demand.{limit_of};
 ghost use Rattle.task_sheet.specs.Orders.{all_of, is_bound};
@@ -48,7 +47,6 @@ pub(crate) fn first_latest(set: &Tabled<'_>, left: Members) -> Option<usize>
     requires { IsPart (indexes_of left) (all_of set.now) }
     ensures some { IfSome result (IsFirstLatest set.now (indexes_of left)) }
     ensures none { IfNone result ((j : ℕ) → ¬ IsFree set.now (indexes_of left) j) }
-    ensures kept { IsTaskSet set.now }
 {
     let mut found: Option<usize> = None;
     for task in 0..set.sheets().len() {

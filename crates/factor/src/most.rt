@@ -1,10 +1,8 @@
 //! How far execution may slow down before a task fails.
-ghost use Rattle.std.specs.Prelude.{◌≡◌, ◌+◌, ◌*◌, ◌≤◌, ◌<◌, length};
-ghost use Rattle.task_sheet.specs.Sheet.{task_at};
+ghost use Rattle.std.specs.Prelude.{◌+◌, ◌*◌, ◌≤◌, ◌<◌, length};
 ghost use Rattle.task_sheet.specs.TaskSet.{IsTaskSet};
 ghost use Rattle.task_sheet.specs.declared.sheet.TheConstants.{PERIOD_TO};
 ghost use Rattle.task_sheet.specs.Indexes.{indexes_of};
-ghost use Rattle.task_sheet.specs.Demand.{demand_of, limit_of};
 ghost use Rattle.factor.specs.Factors.{PassesAt};
 ghost use Rattle.factor.specs.declared.most.TheConstants.{FACTOR_END};
 
@@ -14,17 +12,6 @@ use task_sheet::Members;
 
 /// The least factor at which a demand of 1 is past the longest limit.
 pub(crate) const FACTOR_END: u64 = 10_000_000_001;
-
-// The demand of a task in a window within its limit, in microseconds.
-fn demand_in(set: &Tabled<'_>, task: usize, above: Members, time: u64) -> u64
-    requires task { task < length set.now }
-    requires time { time ≤ limit_of (task_at set.now task) }
-    ensures is { result ≡ demand_of set.now task (indexes_of above) time }
-    ensures some { 1 ≤ result }
-{
-    let _ = set.sheets();
-    demand(set, task, above, time)
-}
 
 // The greatest factor that a window of so many microseconds allows, in which so many have to be executed.
 fn covered(time: u64, need: u64) -> u64
@@ -48,10 +35,10 @@ pub(crate) fn most_below(set: &Tabled<'_>, task: usize, above: Members, cap: u64
 {
     let limit = set.sheets()[task].limit();
     // The longest window comes first, since it often allows most.
-    let mut most = covered(limit, demand_in(set, task, above, limit));
+    let mut most = covered(limit, demand(set, task, above, limit));
     let mut time = 1;
     while most < cap && time <= limit {
-        let need = demand_in(set, task, above, time);
+        let need = demand(set, task, above, time);
         most = most.max(covered(time, need));
         // No window before this one allows more.
         time = (most + 1).saturating_mul(need).div_ceil(1000);

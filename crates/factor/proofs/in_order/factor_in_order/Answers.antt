@@ -1,6 +1,7 @@
-use Rattle.std.proofs.Common.{◌≡◌, ◌+◌, ◌<◌, ◌≤◌, ◌∙◌, inl, inr, zero, suc, ℕ, ◌-◌, ◌==◌, ◌||◌, refl, List, [], ◌∷◌, length, drop, get_or, ap, sym, subst, arith}
+use Rattle.std.proofs.Common.{◌≡◌, ◌+◌, ◌<◌, ◌≤◌, ◌∙◌, inl, inr, zero, suc, ℕ, ◌-◌, ◌||◌, refl, List, [], ◌∷◌, length, drop, get_or, ap, sym, subst, arith}
 use Rattle.std.proofs.Math.Path.{fun_ext}
-use Rattle.std.proofs.lemmas.Bool.{both_ways, cases_eq, cases_lt, ltb-true, lt-ltb, ne_eqb}
+use Rattle.std.specs.Cmp.{nat_eq_equiv}
+use Rattle.std.proofs.lemmas.Bool.{both_ways, cases_lt, ltb-true, lt-ltb}
 use Rattle.std.proofs.lemmas.List.{drop_all, drop_more}
 use Rattle.task_sheet.proofs.Common.{Task, Indexes, IsOrder, all_of, among, indexes_of, is_bound, with_index}
 use Rattle.task_sheet.proofs.IndexLaws.{IsOrderOf-among, among-place, place-among}
@@ -19,12 +20,6 @@ low-inside : (U : List Task) (order : List ℕ) (n : ℕ) → IsOrder U order �
     → get_or order n 0 < length U
 low-inside U order n each lt = ltb-true _ _ (ap (λ (X : Indexes). X (get_or order n 0))
     (sym (IsOrderOf-among (all_of U) order each)) ∙ place-among order n lt)
-
-turned : (k i : ℕ) → (k == i) ≡ (i == k)
-turned k i = elim (cases_eq k i) [
-  | inl e ↦ rw e refl
-  | inr ne ↦ ne_eqb k i ne ∙ sym (ne_eqb i k (λ e. ne (sym e)))
-]
 
 ahead : (order : List ℕ) (place : ℕ) → 0 < place → place ≤ length order
     → drop (place - 1) order ≡ get_or order (place - 1) 0 ∷ drop place order
@@ -75,7 +70,7 @@ loop-place-preserved c =
     record {
       within = omega (arith, inv.within);
       above = ap indexes_of c.with-above.ensures ∙ indexes_of-insert c.loop-place.above low
-          ∙ ap (λ (X : Indexes). with_index X low) inv.above ∙ fun_ext (λ k. ap (λ b. b || among rest k) (turned k low)) ∙ sym (ap among next);
+          ∙ ap (λ (X : Indexes). with_index X low) inv.above ∙ fun_ext (λ k. ap (λ b. b || among rest k) (nat_eq_equiv.symm k low)) ∙ sym (ap among next);
       stands = subst (λ xs. AllStandAt own U xs) (sym next) (
         subst (λ X. StandsAt own U low X) inv.above
             (c.most_below-most.ensures.passes, sym c.must_outrank.ensures ∙ c.if-must_outrank.false),
