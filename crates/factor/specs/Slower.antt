@@ -1,30 +1,25 @@
 -- Sets whose execution takes at most so many thousandths of that of another one, however rounded.
-use Rattle.std.specs.Prelude.{◌≡◌, ℕ, ◌*◌, ◌≤◌, List, [], ◌∷◌, length}
+use Rattle.std.specs.Prelude.{◌≡◌, ℕ, ◌*◌, ◌≤◌, List, length}
+use Rattle.std.specs.List.{AllZip}
 use Rattle.task_sheet.specs.declared.node.Interrupt.{Interrupt}
 use Rattle.task_sheet.specs.Sheet.{CriticalSection, Task, task_at}
 
 -- so many thousandths of the one number at most
-abbrev pub IsAtMost : (factor slow time : ℕ) → Type 0
-IsAtMost factor slow time = 1000 * slow ≤ factor * time
+pub record IsAtMost (factor slow time : ℕ) : Type 0 where
+  pub within : 1000 * slow ≤ factor * time
 
--- one by one the sections have the locks of the others, and take no more than that of them
-abbrev pub AreSlowSections : (factor : ℕ) → List CriticalSection → List CriticalSection → Type 0
-AreSlowSections factor [] [] = Unit {0}
-AreSlowSections factor [] (y ∷ ys) = ⊥
-AreSlowSections factor (x ∷ xs) [] = ⊥
-AreSlowSections factor (x ∷ xs) (y ∷ ys) =
-    (x.locks ≡ y.locks) × IsAtMost factor x.len y.len × AreSlowSections factor xs ys
+-- the section has the locks of the other one, and takes no more than that of it
+pub record IsSlowSection (factor : ℕ) (slow section : CriticalSection) : Type 0 where
+  pub locks : slow.locks ≡ section.locks
+  pub len : IsAtMost factor slow.len section.len
 
--- one by one the interrupts come as often as the others, and take no more than that of them
-abbrev pub AreSlowInterrupts : (factor : ℕ) → List Interrupt → List Interrupt → Type 0
-AreSlowInterrupts factor [] [] = Unit {0}
-AreSlowInterrupts factor [] (y ∷ ys) = ⊥
-AreSlowInterrupts factor (x ∷ xs) [] = ⊥
-AreSlowInterrupts factor (x ∷ xs) (y ∷ ys) =
-    (x.period ≡ y.period) × IsAtMost factor x.cost y.cost × AreSlowInterrupts factor xs ys
+-- the interrupt comes as often as the other one, and takes no more than that of it
+pub record IsSlowInterrupt (factor : ℕ) (slow interrupt : Interrupt) : Type 0 where
+  pub period : slow.period ≡ interrupt.period
+  pub cost : IsAtMost factor slow.cost interrupt.cost
 
 -- the task is the other one, but for what it executes: its cost, its sections, its timer and the interrupts on its account
--- take at most so many thousandths
+-- take at most so many thousandths, one by one
 pub record IsSlow (factor : ℕ) (slow task : Task) : Type 0 where
   pub name : slow.name ≡ task.name
   pub outranks : slow.outranks ≡ task.outranks
@@ -32,9 +27,9 @@ pub record IsSlow (factor : ℕ) (slow task : Task) : Type 0 where
   pub deadline : slow.deadline ≡ task.deadline
   pub jitter : slow.jitter ≡ task.jitter
   pub cost : IsAtMost factor slow.cost task.cost
-  pub sections : AreSlowSections factor slow.sections task.sections
+  pub sections : AllZip (IsSlowSection factor) slow.sections task.sections
   pub release : IsAtMost factor slow.node.release task.node.release
-  pub interrupts : AreSlowInterrupts factor slow.interrupts task.interrupts
+  pub interrupts : AllZip (IsSlowInterrupt factor) slow.interrupts task.interrupts
 
 -- each task of a set is so beside that of another one
 pub record AreSlow (factor : ℕ) (slow tasks : List Task) : Type 0 where

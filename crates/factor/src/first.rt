@@ -1,10 +1,9 @@
 //! Of the tasks that are left the one that speaks for all at each factor.
 ghost use Rattle.std.specs.Prelude.{◌≡◌, ◌↔◌, ◌<◌, ℕ, length, IfSome, IfNone, IsTrue};
 ghost use Rattle.task_sheet.specs.Sheet.{task_at};
-ghost use Rattle.task_sheet.specs.TaskSet.{IsTaskSet};
 ghost use Rattle.task_sheet.specs.Indexes.{indexes_of, IsPart};
 ghost use Rattle.task_sheet.specs.Demand.{limit_of};
-ghost use Rattle.task_sheet.specs.Orders.{all_of};
+ghost use Rattle.task_sheet.specs.Orders.{all_of, is_bound};
 ghost use Rattle.latest_first.specs.LatestFirst.{IsFree};
 ghost use Rattle.factor.specs.Failing.{IsFirstLatest};
 
@@ -12,21 +11,25 @@ use assignment::least_over;
 use ceilings::Tabled;
 use task_sheet::Members;
 
+/// Whether a task must stand above one of these.
+pub(crate) fn must_outrank(set: &Tabled<'_>, task: usize, others: Members) -> bool
+    requires { task < length set.now }
+    ensures { result ≡ is_bound set.now task (indexes_of others) }
+{
+    match least_over(set, task, others) {
+        Some(_) => true,
+        None => false,
+    }
+}
+
 // Whether a task is left, and need not stand above another one that is.
 fn is_free(set: &Tabled<'_>, left: Members, task: usize) -> bool
-    requires task { task < length set.now }
-    requires part { IsPart (indexes_of left) (all_of set.now) }
+    requires { task < length set.now }
     ensures { IsTrue result ↔ IsFree set.now (indexes_of left) task }
 {
     // The set is valid: the proof has it from its sheets.
     let _ = set.sheets();
-    if !left.has(task) {
-        return false;
-    }
-    match least_over(set, task, left.without(task)) {
-        Some(_) => false,
-        None => true,
-    }
+    left.has(task) && !must_outrank(set, task, left.without(task))
 }
 
 // Whether the limit of a task is longer than that of the one that was found, in microseconds.
@@ -44,7 +47,6 @@ pub(crate) fn first_latest(set: &Tabled<'_>, left: Members) -> Option<usize>
     requires { IsPart (indexes_of left) (all_of set.now) }
     ensures some { IfSome result (IsFirstLatest set.now (indexes_of left)) }
     ensures none { IfNone result ((j : ℕ) → ¬ IsFree set.now (indexes_of left) j) }
-    ensures kept { IsTaskSet set.now }
 {
     let mut found: Option<usize> = None;
     for task in 0..set.sheets().len() {

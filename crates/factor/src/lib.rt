@@ -2,11 +2,8 @@
 //! pass. A factor is in thousandths.
 #![tactic(auto)]
 
-ghost use Rattle.std.specs.Prelude.{◌+◌, ◌<◌, ℕ, length, IfSome, IfNone};
-ghost use Rattle.task_sheet.specs.TaskSet.{IsTaskSet};
-ghost use Rattle.factor.specs.declared.most.TheConstants.{FACTOR_END};
-ghost use Rattle.factor.specs.Factors.{IsFeasibleAt};
-ghost use Rattle.factor.specs.Failing.{AnswersFactor, FailsFirst};
+ghost use Rattle.std.specs.Prelude.{◌<◌, length};
+ghost use Rattle.factor.specs.Failing.{AnswersFactor};
 
 mod first;
 mod in_order;
@@ -29,31 +26,6 @@ pub struct Slowdown {
     pub task: usize,
 }
 
-// The same, from 0 on; none where tasks must outrank one another. One order decides: from the lowest level up it has the
-// tasks with the longest limits.
-fn factor_from_0(set: &Tabled<'_>) -> Option<Slowdown>
-    ensures passes { IfSome result (λ found. IsFeasibleAt found.most set.now) }
-    ensures fails { IfSome result (λ found. found.most < FACTOR_END
-        → FailsFirst set.now (found.most + 1) found.task) }
-    ensures none { IfNone result ((factor : ℕ) → ¬ IsFeasibleAt factor set.now) }
-    ensures kept { IsTaskSet set.now }
-{
-    let mut left = Members::all(set.sheets().len());
-    let mut found = Slowdown {
-        most: FACTOR_END,
-        task: 0,
-    };
-    while !left.is_empty() {
-        let task = first_latest(set, left)?;
-        left = left.without(task);
-        let most = most_below(set, task, left, found.most);
-        if most < found.most {
-            found = Slowdown { most, task };
-        }
-    }
-    Some(found)
-}
-
 /// The greatest factor, in thousandths and at least 1, with which some order of the set passes where each execution takes
 /// that many thousandths of its time, as on a slower processor: each cost, each section, each timer and interrupt. None
 /// where no factor helps. The set has a task.
@@ -61,7 +33,19 @@ pub fn factor(set: &Tabled<'_>) -> Option<Slowdown>
     requires { 0 < length set.now }
     ensures { AnswersFactor set.now result }
 {
-    let found = factor_from_0(set)?;
+    // One order decides: from the lowest level up it has the tasks with the longest limits.
+    let mut left = Members::all(set.sheets().len());
+    let mut found = Slowdown {
+        most: FACTOR_END,
+        task: 0,
+    };
+    while !left.is_empty() {
+        let task = first_latest(set, left)?;
+        let most = most_below(set, task, left.without(task), found.most);
+        let last = if most < found.most { task } else { found.task };
+        found = Slowdown { most, task: last };
+        left = left.without(task);
+    }
     if found.most == 0 {
         return None;
     }

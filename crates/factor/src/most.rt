@@ -1,10 +1,8 @@
 //! How far execution may slow down before a task fails.
-ghost use Rattle.std.specs.Prelude.{◌≡◌, ◌+◌, ◌*◌, ◌≤◌, ◌<◌, ℕ, length};
-ghost use Rattle.task_sheet.specs.Sheet.{task_at};
+ghost use Rattle.std.specs.Prelude.{◌+◌, ◌*◌, ◌≤◌, ◌<◌, length};
 ghost use Rattle.task_sheet.specs.TaskSet.{IsTaskSet};
 ghost use Rattle.task_sheet.specs.declared.sheet.TheConstants.{PERIOD_TO};
 ghost use Rattle.task_sheet.specs.Indexes.{indexes_of};
-ghost use Rattle.task_sheet.specs.Demand.{demand_of, limit_of};
 ghost use Rattle.factor.specs.Factors.{PassesAt};
 ghost use Rattle.factor.specs.declared.most.TheConstants.{FACTOR_END};
 
@@ -14,17 +12,6 @@ use task_sheet::Members;
 
 /// The least factor at which a demand of 1 is past the longest limit.
 pub(crate) const FACTOR_END: u64 = 10_000_000_001;
-
-// The demand of a task in a window within its limit, in microseconds.
-fn demand_in(set: &Tabled<'_>, task: usize, above: Members, time: u64) -> u64
-    requires task { task < length set.now }
-    requires time { time ≤ limit_of (task_at set.now task) }
-    ensures is { result ≡ demand_of set.now task (indexes_of above) time }
-    ensures some { 1 ≤ result }
-{
-    let _ = set.sheets();
-    demand(set, task, above, time)
-}
 
 // The greatest factor that a window of so many microseconds allows, in which so many have to be executed.
 fn covered(time: u64, need: u64) -> u64
@@ -39,26 +26,22 @@ fn covered(time: u64, need: u64) -> u64
 
 /// The greatest factor up to `cap` at which a task passes with these above it.
 pub(crate) fn most_below(set: &Tabled<'_>, task: usize, above: Members, cap: u64) -> u64
-    requires task { task < length set.now }
-    requires cap { cap ≤ FACTOR_END }
+    requires { task < length set.now }
     ensures within { result ≤ cap }
     ensures passes { PassesAt result set.now task (indexes_of above) }
-    ensures greatest { (more : ℕ) → result < more → more ≤ cap
-        → ¬ PassesAt more set.now task (indexes_of above) }
+    ensures greatest { result < cap → ¬ PassesAt (result + 1) set.now task (indexes_of above) }
+    ensures short { result < FACTOR_END }
     ensures kept { IsTaskSet set.now }
 {
     let limit = set.sheets()[task].limit();
     // The longest window comes first, since it often allows most.
-    let mut most = covered(limit, demand_in(set, task, above, limit));
+    let mut most = covered(limit, demand(set, task, above, limit));
     let mut time = 1;
-    while most < cap {
-        let need = demand_in(set, task, above, time);
+    while most < cap && time <= limit {
+        let need = demand(set, task, above, time);
         most = most.max(covered(time, need));
-        if need > 1000 * limit / (most + 1) {
-            return most.min(cap);
-        }
         // No window before this one allows more.
-        time = ((most + 1) * need).div_ceil(1000);
+        time = (most + 1).saturating_mul(need).div_ceil(1000);
     }
-    cap
+    most.min(cap)
 }

@@ -6,7 +6,7 @@ pub returns : goal.returns
 returns c = record {
   passes = λ U low high i H le. PassesAt-less U low high le i H;
   order = λ U low high order le. IsPassingAt-less U low high le order;
-  feasible = λ U low high le. IsFeasibleAt-less U low high le;
-  same_order = λ U order. IsPassing-same U order;
-  same = λ U. IsFeasible-same U;
+  feasible = IsFeasibleAt-less;
+  same_order = IsPassing-same;
+  same = IsFeasible-same;
 }

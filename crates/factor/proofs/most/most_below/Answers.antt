@@ -1,89 +1,77 @@
-use Rattle.std.proofs.Common.{◌+◌, ◌*◌, ◌<◌, ap, arith}
-use Rattle.std.proofs.Math.Nat.{mul-le-mul_right}
-use Rattle.task_sheet.proofs.Common.{indexes_of, demand_of}
-use Rattle.task_sheet.proofs.DemandLaws.{demand-mono}
+use Rattle.std.proofs.Common.{◌≡◌, ℕ, ◌+◌, ◌*◌, ◌<◌, ◌≤◌, min, max, inl, inr, List, length, arith}
+use Rattle.std.proofs.Math.Nat.{mul-le-mul_left, mul-le-mul_right}
+use Rattle.std.specs.Int.{div_ceil}
+use Rattle.std.proofs.lemmas.Bool.{cases_lt}
+use Rattle.task_sheet.proofs.Common.{Task, IsTaskSet, task_at, Indexes, indexes_of, demand_of, limit_of}
+use Rattle.task_sheet.proofs.DemandLaws.{demand-mono, demand_does_not_fall}
 use Rattle.task_sheet.proofs.TaskLaws.{AllTasks-from_set}
 use Rattle.factor.specs.Factors.{PassesAt}
 use Rattle.factor.proofs.AtLaws.{PassesAt-less}
-use Rattle.factor.proofs.MostLaws.{none-until, none-past, ceil-reach, ceil-past, ceil-within}
-use Rattle.factor.proofs.MostLaws.{quotient-within, quotient-past, PassesAt-max}
 use Rattle.factor.proofs.most.most_below.Goals as goal
+use Rattle.factor.proofs.most.most_below.Goals.{then-loop-most-test+else-time-limit, else-loop-most-test}
 
-pub returns-then-need-limit-clause-passes : goal.returns-then-need-limit-clause-passes
-returns-then-need-limit-clause-passes c =
-    let U = c.args.set.now in
-    let H = indexes_of c.args.above in
-    let inv = c.loop-most.invariant in
-    let both : PassesAt c.max-most.result U c.args.task H =
-    PassesAt-max U c.args.task H c.loop-most.most c.loop-most.time c.demand_in-need.result
-    c.covered.result c.max-most.result inv.passes inv.positive
-    (omega (arith, inv.within, inv.limit)) c.demand_in-need.ensures.is c.covered.ensures.covers
-    c.max-most.ensures in
-    PassesAt-less U c.min.result c.max-most.result (omega (arith, c.min.ensures)) c.args.task H both
+-- a task has a demand in each window
+demand-some : (U : List Task) → IsTaskSet U → (i : ℕ) (H : Indexes) (t : ℕ) → i < length U
+    → 1 ≤ demand_of U i H t
+demand-some U set i H t lt =
+    (demand_does_not_fall U (AllTasks-from_set U set) i H lt).positive t
 
-pub returns-then-need-limit-clause-greatest : goal.returns-then-need-limit-clause-greatest
-returns-then-need-limit-clause-greatest c = λ more lt within passes.
-    let U = c.args.set.now in
-    let i = c.args.task in
-    let H = indexes_of c.args.above in
-    let inv = c.loop-most.invariant in
-    let most = c.max-most.result in
-    let need = c.demand_in-need.result in
-    let less : most < more = omega (arith, lt, within, c.min.ensures) in
-    let past : 1000 * c.limit-limit.result < (most + 1) * demand_of U i H c.loop-most.time =
-    omega (
-      arith,
-      quotient-past need c.limit-limit.result most c.if-need-limit.true,
-      ap (λ n. (most + 1) * n) c.demand_in-need.ensures.is,
-    ) in
-    omega (
-      arith,
-      passes.3,
-      none-past (demand_of U i H) (demand-mono U (AllTasks-from_set U c.sheets.ensures.kept) i H)
-          most c.loop-most.time more less
-          (λ t. inv.fails more t (omega (arith, less, c.max-most.ensures)))
-          c.limit-limit.result past passes.0 passes.1
-          (omega (arith, passes.2, inv.limit)),
-    )
+-- of a demand that does not fall: none allows a little more than `more` that lies before a window up to which none does, nor
+-- one past it that doesn't cover so much of the demand there
+none-before : (W : ℕ → ℕ) → ((t s : ℕ) → t ≤ s → W t ≤ W s) → (most more time : ℕ)
+    → most ≤ more → ((t : ℕ) → 1 ≤ t → t < time → 1000 * t < (most + 1) * W t) → (t : ℕ) → 1 ≤ t
+    → (time ≤ t → 1000 * t < (more + 1) * W time) → 1000 * t < (more + 1) * W t
+none-before W rises most more time le before t positive past = elim (cases_lt t time) [
+  | inl lt ↦ omega (arith, before t positive lt, mul-le-mul_right {m = most + 1} {n = more + 1} (W t) (omega arith))
+  | inr ge ↦ omega (arith, past ge, mul-le-mul_left (more + 1) (rises time t ge))
+]
+
+ceil-before : (need most t time fit : ℕ) → t < time → time ≡ div_ceil fit 1000
+    → fit ≡ min need most → 1000 * t < need
+ceil-before need most t time fit lt same least = omega arith
+
+-- the greater of two factors, one of which a window allows
+PassesAt-max : (U : List Task) (i : ℕ) (H : Indexes) (most other need time greater : ℕ)
+    → PassesAt most U i H → 1 ≤ time → time ≤ limit_of (task_at U i) → need ≡ demand_of U i H time
+    → other * need ≤ 1000 * time → greater ≡ max most other → PassesAt greater U i H
+PassesAt-max U i H most other need time greater passes pos le is covers same =
+    elim (cases_lt most other) [
+      | inl lt ↦ let e : greater ≡ other = omega arith in rw e (time, pos, le, rw is at covers)
+      | inr ge ↦ let e : greater ≡ most = omega arith in rw e passes
+    ]
+
+pub covered-most-requires-clause-need : goal.covered-most-requires-clause-need
+covered-most-requires-clause-need c = rw c.demand.ensures
+    (demand-some c.args.set.now c.sheets.ensures.kept c.args.task _ _ c.requires)
+
+pub covered-requires-clause-need : goal.covered-requires-clause-need
+covered-requires-clause-need c = rw c.demand-need.ensures
+    (demand-some c.args.set.now c.sheets.ensures.kept c.args.task _ _ c.requires)
 
 pub loop-most-preserved : goal.loop-most-preserved
 loop-most-preserved c =
     let U = c.args.set.now in
-    let i = c.args.task in
     let H = indexes_of c.args.above in
     let inv = c.loop-most.invariant in
     let most = c.max-most.result in
-    let need = c.demand_in-need.result in
-    let is = c.demand_in-need.ensures.is in
-    let next = c.div_ceil-time.result in
-    let reach : 1000 * next < (most + 1) * demand_of U i H c.loop-most.time + 1000 = omega (
-      arith,
-      ceil-reach ((most + 1) * need),
-      c.div_ceil-time.ensures,
-      ap (λ n. (most + 1) * n) is,
-    ) in
-    let past : 1000 * c.loop-most.time < (most + 1) * need = omega (
-      arith,
-      c.covered.ensures.greatest,
-      mul-le-mul_right {m = c.covered.result + 1} {n = most + 1} need
-          (omega (arith, c.max-most.ensures)),
-    ) in
+    let need = c.demand-need.result in
+    let is = c.demand-need.ensures in
+    let own : (c.covered.result + 1) * need ≤ (most + 1) * need =
+    mul-le-mul_right need (omega (arith, c.max-most.ensures)) in
     record {
-      passes = PassesAt-max U i H c.loop-most.most c.loop-most.time need c.covered.result most
-          inv.passes inv.positive (omega (arith, inv.within, inv.limit)) is
+      passes = PassesAt-max U c.args.task H c.loop-most.most c.covered.result need c.loop-most.time
+          most inv.passes inv.positive (omega (arith, inv.limit, c.if-time-limit.true)) is
           c.covered.ensures.covers c.max-most.ensures;
-      fails = λ more t lt pos less. none-until (demand_of U i H)
-          (demand-mono U (AllTasks-from_set U c.sheets.ensures.kept) i H) most c.loop-most.time more
-          lt (λ t. inv.fails more t (omega (arith, lt, c.max-most.ensures))) next reach t pos less;
+      fails = λ t positive lt. none-before (demand_of U c.args.task H)
+          (demand-mono U (AllTasks-from_set U c.sheets.ensures.kept) c.args.task H) c.loop-most.most
+          most c.loop-most.time (omega (arith, c.max-most.ensures)) inv.fails t positive
+          (λ _. rw is at (ceil-before ((most + 1) * need) _ t _ _ lt c.div_ceil-time.ensures
+          c.saturating_mul.ensures));
       positive = omega (
         arith,
-        ceil-past ((most + 1) * need) c.loop-most.time past,
-        c.div_ceil-time.ensures,
-      );
-      within = omega (
-        arith,
-        ceil-within ((most + 1) * need) c.limit-limit.result
-            (quotient-within need c.limit-limit.result most (omega (arith, c.if-need-limit.false))),
+        own,
+        c.covered.ensures.greatest,
+        c.saturating_mul.ensures,
         c.div_ceil-time.ensures,
       );
       limit = inv.limit;
@@ -93,5 +81,19 @@ loop-most-preserved c =
 
 pub returns-clause-passes : goal.returns-clause-passes
 returns-clause-passes c =
-    PassesAt-less c.args.set.now c.args.cap c.loop-most.most (omega (arith, c.loop-most-test.false))
+    PassesAt-less c.args.set.now c.min.result c.loop-most.most (omega (arith, c.min.ensures))
     c.args.task (indexes_of c.args.above) c.loop-most.invariant.passes
+
+pub returns-clause-greatest : goal.returns-clause-greatest
+returns-clause-greatest c = λ lt passes.
+    let inv = c.loop-most.invariant in
+    let same : c.min.result ≡ c.loop-most.most = omega (arith, lt, c.min.ensures) in
+    let (t, positive, within, covered) = rw same at passes in
+    elim c.loop-most-test.branch [
+      | then-loop-most-test+else-time-limit w ↦ omega (
+        arith,
+        covered,
+        inv.fails t positive (omega (arith, within, inv.limit, w.if-time-limit.false)),
+      )
+      | else-loop-most-test w ↦ omega (arith, lt, w.loop-most-test.false, same)
+    ]

@@ -1,15 +1,16 @@
-use Rattle.std.proofs.Common.{◌+◌, ◌<◌, ◌≤◌}
+use Rattle.std.proofs.Common.{◌≡◌, ℕ, ◌+◌, ◌<◌, ◌≤◌, false}
 use Rattle.std.specs.FinSet as members
-use Rattle.task_sheet.proofs.Common.{indexes_of}
+use Rattle.task_sheet.proofs.Common.{indexes_of, IsPart, all_of}
 use Rattle.factor.specs.Failing.{FailsFirst}
 use Rattle.factor.proofs.LatestAt.{LeadsAt}
-use Rattle.factor.proofs.factor_from_0.Given as goal
+use Rattle.factor.proofs.factor.Given as goal
 
 abbrev pub invariant-loop-left : goal.invariant-loop-left
 invariant-loop-left l = record {
-  leads : LeadsAt l.set l.found.most (indexes_of l.left);
+  part : IsPart (indexes_of l.left) (all_of l.set);
+  leads : (f : ℕ) → f ≤ l.found.most → LeadsAt f l.set (indexes_of l.left);
   fails : l.found.most < 10000000001 → FailsFirst l.set (l.found.most + 1) l.found.task;
-  short : l.found.most ≤ 10000000001;
+  first : indexes_of l.left 0 ≡ false → l.found.most < 10000000001;
 }
 
 abbrev pub decreases-loop-left : goal.decreases-loop-left
