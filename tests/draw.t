@@ -186,12 +186,18 @@ What the title of a row's name says is what `desk simulate --tasks` prints:
   task b 2 3000 3000
   task c 1 20000 20000
 
-What stands in a picture to be read, in its order: the verdict, the legend, the scale, the lane, the rows and the locks:
+What stands in a picture to be read, in its order: the verdict, the scale, the lane, the rows, the locks, and of the legend the
+signs that are drawn:
 
   $ read_all() { sed -nE 's/<title>[^<]*<.title>//g; s/<.text>/&\n/gp' "$1" | sed -nE 's/.*<text[^>]*>(.*)<.text>/\1/p' | paste -sd '|' | sed 's/|/ | /g'; }
   $ printf 'until 12000\n0 a 1000\n1000 b\n1000 c\n7000 a\n' | desk draw examples/jitter.toml - > run.svg
   $ read_all run.svg
-  no deadline missed | tasks: 3, jobs: 4, until 12 ms | executes | waits for a task above, in its colour | is blocked by a task below, in the lock's tone | waits for several above | goes on | arrival to bound | arrival | not ready yet | deadline | missed | 0 | 2 | 4 | 6 | 8 | 10 | 12 | time in ms | processor | busy 91.6 % | 3 | b | bound 3 of 12 ms | 2 | a | bound 7 of 7 ms | 1 | c | bound 20 of 20 ms | b | a | a | c | b | b | a | a
+  no deadline missed | tasks: 3, jobs: 4, until 12 ms | 0 | 2 | 4 | 6 | 8 | 10 | 12 | time in ms | processor | busy 91.6 % | 3 | b | bound 3 of 12 ms | 2 | a | bound 7 of 7 ms | 1 | c | bound 20 of 20 ms | b | a | a | c | b | b | a | a | executes | waits for a task above, in its colour | goes on | arrival to bound | arrival | not ready yet | deadline
+  $ signs() { grep -oE 'y="(668|918)">[^<]*' | sed 's/.*>//' | paste -sd '|'; }
+  $ echo 'until 3000' | desk draw examples/shared-lock.toml - | signs
+  
+  $ printf 'until 3000\n0 lo\n' | desk draw examples/shared-lock.toml - --to 2000 | signs
+  executes|goes on|arrival to bound|arrival
 
 A list's own order, in which hi has no bound and misses its deadline: what is hatched behind the deadline says so, a badge
 stands on it, and above and in its row how many they are, there with how late. Where none is missed, that stands above:
@@ -339,7 +345,7 @@ A stripe isn't wider than its lock is held, and the last number of the scale sta
   500 time in us
 
 What timers and interrupts take of a bound is hatched, behind where a run can end, with how long that is, and the legend says
-so; also of a band. Without them it doesn't:
+so; also of a band. Where nothing is hatched it doesn't:
 
   $ cat > timed.toml << END
   > [[interrupt]]
@@ -356,13 +362,12 @@ so; also of a band. Without them it doesn't:
   1 a 1200
   $ unrun() { sed -nE 's/.*class="wt" d="(M[^"]*)"><title>(timers [^<]*)<.*/\1 \2/p; s/.*>(timers and interrupts, not in this run)<.text>/\1/p'; }
   $ printf 'until 3720\n0 a\n' | desk draw timed.toml - 2> note | unrun
-  timers and interrupts, not in this run
   M3992 1855H4389v180H3992z timers and interrupts, not in this run: 200 us
+  timers and interrupts, not in this run
   $ printf 'until 3720\n0 a\n' | desk draw timed.toml - --to 1000 2> note | unrun
-  timers and interrupts, not in this run
   $ printf 'until 10000000\n0 a\n20000 a\n' | desk draw timed.toml - 2> note | unrun
-  timers and interrupts, not in this run
   M1989 1855H1994v180H1989z timers and interrupts, not in this run: 200 us
+  timers and interrupts, not in this run
   $ desk draw examples/shared-lock.toml examples/shared-lock.releases | unrun
 
 The same tasks and locks keep their tones in a set with other numbers, another order and other tasks:

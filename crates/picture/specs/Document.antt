@@ -1,5 +1,5 @@
 -- The document: what stands still, the jobs, the slices by time, and the marks of the releases.
-use Rattle.std.specs.Prelude.{ℕ, ◌+◌, ◌-◌, ◌*◌, ◌/◌, Bool, ◌&&◌, ◌==◌, nat_lt, if◌then◌else◌, Option, Some, None, List, [], ◌∷◌, ◌++◌, length, codes}
+use Rattle.std.specs.Prelude.{ℕ, ◌+◌, ◌-◌, ◌*◌, ◌/◌, Bool, ◌&&◌, ◌==◌, if◌then◌else◌, Option, Some, None, List, [], ◌∷◌, ◌++◌, length, codes}
 use Rattle.std.specs.Fmt.{decimal}
 use Rattle.std.specs.List.{concat, list_any}
 use Rattle.ceiling_kernel.specs.declared.trace.Release.{Release}
@@ -13,7 +13,7 @@ use Rattle.frames.specs.declared.view.View.{View}
 use Rattle.frames.specs.View.{shown_of}
 use Rattle.picture.specs.Titles.{title_tail}
 use Rattle.picture.specs.declared.style.TheConstants.{STYLE}
-use Rattle.picture.specs.declared.legend.TheConstants.{LEGEND, UNRUN}
+use Rattle.picture.specs.Legend.{legend_text}
 use Rattle.frames.specs.Frame.{Frame, frame_of, frame_end, in_millis, step_of, steps_before, top_of}
 use Rattle.frames.specs.Rows.{each, row_at, spot_in}
 use Rattle.frames.specs.Numbers.{time_text, unit_text}
@@ -129,32 +129,34 @@ what_text f rows jobs until =
     ∷ unit_text (in_millis f) ∷ [])
     ++ unrun_words rows ++ window_words (in_millis f) f ++ codes "</text>\n"
 
--- of some row that is shown timers and interrupts take some of the bound
-abbrev pub are_unrun : List TaskRow → (shown : List ℕ) → Bool
-are_unrun rows shown = list_any (λ rank. nat_lt 0 (row_at rows rank).unrun) shown
-
--- what the signs mean: all of them, or those but that of what timers and interrupts take
-abbrev pub legend_text : (unrun : Bool) → List ℕ
-legend_text unrun = LEGEND.now ++ (if unrun then UNRUN.now else [])
-
--- what stands still: how the elements look, whether a deadline is missed, what is drawn, what the signs mean, the scale, the
--- lines of the lane and of the rows, the margin, and the locks
+-- what stands still: how the elements look, whether a deadline is missed, what is drawn, the scale, the lines of the lane and
+-- of the rows, the margin, and the locks
 abbrev pub ground_text : Frame → List ℕ → (held : List Toned) → List TaskRow → (shown : List ℕ) → List JobRecord → List Slice → (until : ℕ) → List ℕ
 ground_text f title held rows shown jobs slices until =
     document_head f title (length held) (length shown) (length rows) (length jobs) until
     ++ STYLE.now ++ verdict_text title (all_missed f rows jobs)
-    ++ what_text f rows (length jobs) until ++ legend_text (are_unrun rows shown)
+    ++ what_text f rows (length jobs) until
     ++ ticks_text f (top_of (length shown)) (step_of f) ++ lane_line f ++ lines_text f (length shown)
     ++ margin_group f rows shown jobs slices ++ locks_group f (length shown) held
 
--- the document in a frame: what stands still, with the locks that are held in it, the lane, the jobs, the marks, what is missed, why jobs wait, and the slices
-abbrev pub framed : Frame → List ℕ → List Toned → List TaskRow → (shown : List ℕ) → ℕ → List Release → List JobRecord → List Slice → List ℕ
-framed f title locks rows shown until rs jobs slices =
+-- what is drawn in a frame: what stands still, with the locks that are held in it, the lane, the jobs, the marks, what is missed,
+-- why jobs wait, and the slices
+abbrev pub body_text : Frame → List ℕ → List Toned → List TaskRow → (shown : List ℕ) → ℕ → List Release → List JobRecord → List Slice → List ℕ
+body_text f title locks rows shown until rs jobs slices =
     ground_text f title (held_locks f locks rows shown jobs slices) rows shown jobs slices until
     ++ lanes_text f rows jobs slices
     ++ jobs_text f rows shown jobs ++ all_marks f rows shown jobs rs
     ++ misses_text f rows shown jobs ++ waits_text f locks rows shown rs jobs slices
-    ++ slices_text f locks rows shown jobs slices ++ codes "</svg>\n"
+    ++ slices_text f locks rows shown jobs slices
+
+-- the same as a document, with what the signs in it mean
+abbrev pub signed : (text : List ℕ) → List ℕ
+signed text = text ++ (legend_text text ++ codes "</svg>\n")
+
+-- the document in a frame
+abbrev pub framed : Frame → List ℕ → List Toned → List TaskRow → (shown : List ℕ) → ℕ → List Release → List JobRecord → List Slice → List ℕ
+framed f title locks rows shown until rs jobs slices =
+    signed (body_text f title locks rows shown until rs jobs slices)
 
 -- THE DOCUMENT: the picture of a trace below a time, as a view has it
 abbrev pub document : List TaskRow → View → ℕ → List Release → Trace → List ℕ

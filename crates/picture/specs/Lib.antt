@@ -4,5 +4,6 @@ pub mod WaitTexts
 pub mod Titles
 pub mod Margin
 pub mod Scale
+pub mod Legend
 pub mod Document
 pub mod Laws

@@ -16,9 +16,10 @@ use Rattle.frames.specs.Tones.{tone_named}
 use Rattle.picture.specs.Blocking.{blocking_lock}
 use Rattle.picture.specs.Waits.{Scene, stay_of, wait_at, is_gathered}
 
--- a tone, or the neutral ink
-abbrev pub ink_text : (gathered : Bool) → (tone : ℕ) → List ℕ
-ink_text gathered tone = if gathered then codes "n" else decimal tone
+-- a path for a wait for a task above, in its tone or in the neutral ink
+abbrev pub ink_path : (gathered : Bool) → (tone : ℕ) → List ℕ
+ink_path gathered tone =
+    if gathered then codes "<path class=\"wa ns" else codes "<path class=\"wa i" ++ decimal tone
 
 -- a line in the middle of the row at place k, up to its title
 abbrev pub wait_line : (x right k : ℕ) → List ℕ
@@ -50,8 +51,8 @@ wait_title rows k w how lock =
 -- a wait of a row for a task above: a line in the ink of who executes, or neutral, where it is one line with others
 abbrev pub above_text : Scene → Spot → Wait → (gathered : Bool) → List ℕ
 above_text c spot w gathered =
-    wait_path (codes "wa i") (ink_text gathered (tone_in c.rows w.row)) (x_of c.frame w.start)
-    (max (x_of c.frame w.stop) (x_of c.frame w.start + 1)) spot.k
+    ink_path gathered (tone_in c.rows w.row)
+    ++ wait_line (x_of c.frame w.start) (max (x_of c.frame w.stop) (x_of c.frame w.start + 1)) spot.k
     ++ wait_title c.rows spot.rank w (codes " waits for ") None
 
 -- a link in a tone, from the end of a wait at place k down to the bar of the task below, if its row is shown

@@ -1,19 +1,20 @@
 //! The whole picture.
 ghost use Rattle.std.specs.Prelude.{◌≡◌, ◌≤◌, IfOk, length};
 ghost use Rattle.task_sheet.specs.declared.set.TheConstants.{TASK_LIMIT};
-ghost use Rattle.picture.specs.Document.{document, framed};
+ghost use Rattle.picture.specs.Document.{body_text, document, framed, signed};
 
 use crate::ground::put_ground;
+use crate::legend::legend_of;
 use crate::why::put_waits;
 use ceiling_kernel::{Release, Slice, Trace};
 use drawn_jobs::{held_locks, put_all_marks, put_jobs, put_lanes, put_misses, put_slices};
 use frames::{Chart, Page, TaskRow, View, frame_of, locks_of, shown_of, starts_rise};
 use std::alloc::{AllocError, Global};
 
-// The document of a chart. Memory is taken for it, for two counts of each job, and for two names of each lock.
-fn draw_chart(alloc: Global, chart: &Chart<'_>) -> Result<Vec<u8>, AllocError>
+// What is drawn of a chart. Memory is taken for it, for two counts of each job, and for two names of each lock.
+fn body_of(alloc: Global, chart: &Chart<'_>) -> Result<Vec<u8>, AllocError>
     ensures { IfOk result (λ text. text.items
-        ≡ framed chart.now.frame chart.now.title.now chart.now.locks.now chart.now.rows.now
+        ≡ body_text chart.now.frame chart.now.title.now chart.now.locks.now chart.now.rows.now
         chart.now.shown.now chart.now.until chart.now.releases.now chart.now.jobs.now
         chart.now.slices.now) }
 {
@@ -27,8 +28,27 @@ fn draw_chart(alloc: Global, chart: &Chart<'_>) -> Result<Vec<u8>, AllocError>
     put_misses(chart, &mut page);
     put_waits(chart, &mut page);
     put_slices(chart, &mut executed, &mut page);
-    page.put(b"</svg>\n");
     page.whole()
+}
+
+// A document of what is drawn, with what the signs in it mean.
+fn signed(alloc: Global, text: Vec<u8>) -> Result<Vec<u8>, AllocError>
+    ensures { IfOk result (λ document. document.items ≡ signed text.items) }
+{
+    let mut text = text;
+    let legend = legend_of(alloc, &text)?;
+    text.extend_from_slice(&legend)?;
+    Ok(text)
+}
+
+// The document of a chart.
+fn draw_chart(alloc: Global, chart: &Chart<'_>) -> Result<Vec<u8>, AllocError>
+    ensures { IfOk result (λ text. text.items
+        ≡ framed chart.now.frame chart.now.title.now chart.now.locks.now chart.now.rows.now
+        chart.now.shown.now chart.now.until chart.now.releases.now chart.now.jobs.now
+        chart.now.slices.now) }
+{
+    signed(alloc, body_of(alloc, chart)?)
 }
 
 /// Returns the picture of a run of these rows, the highest level first, whose trace ends at `until`, in microseconds, as a

@@ -1,13 +1,12 @@
 //! What stands still.
-ghost use Rattle.std.specs.Prelude.{◌*◌, ◌<◌, ◌≡◌, ◌≤◌, All, length};
+ghost use Rattle.std.specs.Prelude.{◌*◌, ◌<◌, ◌≡◌, ◌≤◌, length};
 ghost use Rattle.frames.specs.Page.{Adds};
 ghost use Rattle.task_sheet.specs.declared.set.TheConstants.{TASK_LIMIT};
 ghost use Rattle.frames.specs.declared.frame.TheConstants.{RIGHTMOST, WIDEST_STEP};
 ghost use Rattle.frames.specs.declared.locks.TheConstants.{LOCKS_LIMIT};
-ghost use Rattle.picture.specs.Document.{are_interrupted, are_unrun, document_head, ground_text, legend_text, lines_text, paper_wide, size_head, size_words, ticks_text, unrun_words, verdict_head, verdict_text, what_text, window_words};
+ghost use Rattle.picture.specs.Document.{are_interrupted, document_head, ground_text, lines_text, paper_wide, size_head, size_words, ticks_text, unrun_words, verdict_head, verdict_text, what_text, window_words};
 ghost use Rattle.picture.specs.Scale.{line_text, number_x, tick_text};
 
-use crate::legend::{LEGEND, UNRUN};
 use crate::margin::put_group;
 use crate::style::STYLE;
 use crate::title::put_title_tail;
@@ -211,31 +210,8 @@ fn put_what(frame: Frame, rows: &[TaskRow], jobs: usize, until: u64, page: &mut 
     page.put(b"</text>\n")
 }
 
-// Whether timers and interrupts take some of the bound of a row that is shown.
-fn are_unrun(rows: &[TaskRow], shown: &[usize]) -> bool
-    requires { All (λ rank. rank < length rows.now) shown.now }
-    ensures { result ≡ are_unrun rows.now shown.now }
-{
-    for rank in shown {
-        if rows[*rank].unrun > 0 {
-            return true;
-        }
-    }
-    false
-}
-
-// What the signs mean.
-fn put_legend(unrun: bool, page: &mut Page)
-    ensures { Adds page.old page.new (legend_text unrun) }
-{
-    page.put(LEGEND.as_bytes());
-    if unrun {
-        page.put(UNRUN.as_bytes())
-    }
-}
-
-// What stands still: how the elements look, whether a deadline is missed, what is drawn, what the signs mean, the scale, the
-// lines of the lane and of the rows, the margin, and the locks that are held.
+// What stands still: how the elements look, whether a deadline is missed, what is drawn, the scale, the lines of the lane
+// and of the rows, the margin, and the locks that are held.
 pub(crate) fn put_ground(chart: &Chart<'_>, held: &[Toned], page: &mut Page)
     requires { length held.now ≤ LOCKS_LIMIT }
     ensures { Adds page.old page.new (ground_text chart.now.frame chart.now.title.now
@@ -248,7 +224,6 @@ pub(crate) fn put_ground(chart: &Chart<'_>, held: &[Toned], page: &mut Page)
     let missed = all_missed(frame, chart.rows, chart.jobs);
     put_verdict(chart.title, missed, page);
     put_what(frame, chart.rows, chart.jobs.len(), chart.until, page);
-    put_legend(are_unrun(chart.rows, chart.shown), page);
     put_ticks(frame, top_of(chart.shown.len()), step_of(frame), page);
     put_lane_line(frame, page);
     put_lines(chart, page);

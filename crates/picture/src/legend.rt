@@ -1,34 +1,141 @@
-//! What the signs mean.
+//! What the signs mean: each stands where the picture has it.
+ghost use Rattle.std.specs.Prelude.{◌≡◌, ◌++◌, IfOk, codes};
+ghost use Rattle.frames.specs.Page.{Adds};
+ghost use Rattle.picture.specs.Legend.{first_line, has_words, legend_text, second_line, sign_of, sign_text};
 
-// The signs, in two lines.
-pub(crate) const LEGEND: &str = concat!(
+use frames::Page;
+use memchr::memmem;
+use std::alloc::{AllocError, Global};
+
+// The signs of the first line.
+const EXECUTES: &str = concat!(
     "<path class=\"f0\" d=\"M100 540h260v180h-260z\"/>",
     "<text x=\"420\" y=\"668\">executes</text>\n",
+);
+
+const WAITS: &str = concat!(
     "<path class=\"wa i0\" d=\"M1100 630h260\"/>",
     "<text x=\"1420\" y=\"668\">waits for a task above, in its colour</text>\n",
+);
+
+const BLOCKED: &str = concat!(
     "<path class=\"wb d0\" d=\"M3730 630h200\"/>",
     "<text x=\"4020\" y=\"668\">is blocked by a task below, in the lock's tone</text>\n",
-    "<path class=\"wa in\" d=\"M6900 630h260\"/>",
+);
+
+const SEVERAL: &str = concat!(
+    "<path class=\"wa ns\" d=\"M6900 630h260\"/>",
     "<text x=\"7220\" y=\"668\">waits for several above</text>\n",
+);
+
+const GOES_ON: &str = concat!(
     "<path class=\"a\" d=\"M8760 570l60 60-60 60m60-120l60 60-60 60\"/>",
     "<text x=\"8960\" y=\"668\">goes on</text>\n",
+);
+
+// Those of the second.
+const BOUND: &str = concat!(
     "<path class=\"w\" d=\"M100 790h260v180h-260z\"/>",
     "<path class=\"b\" d=\"M360 780h-35m35 0v40m0 120v40h-35\"/>",
     "<text x=\"420\" y=\"918\">arrival to bound</text>\n",
+);
+
+const ARRIVAL: &str = concat!(
     "<path class=\"a\" d=\"M1560 940v-110m-35 50l35-50 35 50\"/>",
     "<text x=\"1650\" y=\"918\">arrival</text>\n",
+);
+
+const NOT_READY: &str = concat!(
     "<path class=\"r\" d=\"M2260 880h200\"/>",
     "<text x=\"2520\" y=\"918\">not ready yet</text>\n",
+);
+
+const DEADLINE: &str = concat!(
     "<path class=\"d\" d=\"M3460 820v110m0 0l-35-50h70z\"/>",
     "<text x=\"3550\" y=\"918\">deadline</text>\n",
+);
+
+const MISSED: &str = concat!(
     "<path class=\"x\" d=\"M4330 880h1\"/>",
     "<path class=\"y\" d=\"M4330 880m-38-38l76 76m0-76l-76 76\"/>",
     "<text x=\"4450\" y=\"918\">missed</text>\n",
 );
 
-// The sign of what timers and interrupts take, behind them.
-pub(crate) const UNRUN: &str = concat!(
+const UNRUN: &str = concat!(
     "<path class=\"w\" d=\"M5230 790h260v180h-260z\"/>",
     "<path class=\"wt\" d=\"M5230 790h260v180h-260z\"/>",
     "<text x=\"5550\" y=\"918\">timers and interrupts, not in this run</text>\n",
 );
+
+// Whether words stand somewhere in a text.
+fn has_words(text: &[u8], words: &[u8]) -> bool
+    ensures { result ≡ has_words text.now words.now }
+{
+    memmem::find(text, words).is_some()
+}
+
+// A sign, where a picture has what it stands for.
+fn put_sign(text: &[u8], mark: &[u8], sign: &str, page: &mut Page)
+    ensures { Adds page.old page.new (sign_text text.now mark.now sign.now) }
+{
+    if has_words(text, mark) {
+        page.put(sign.as_bytes())
+    }
+}
+
+// A sign, where it has either of two.
+fn put_sign_of(text: &[u8], mark: &[u8], other: &[u8], sign: &str, page: &mut Page)
+    ensures { Adds page.old page.new (sign_of text.now mark.now other.now sign.now) }
+{
+    if has_words(text, mark) {
+        page.put(sign.as_bytes())
+    } else {
+        put_sign(text, other, sign, page)
+    }
+}
+
+// The first line.
+fn put_first_line(text: &[u8], page: &mut Page)
+    ensures { Adds page.old page.new (first_line text.now) }
+{
+    put_sign(text, b"<path class=\"f", EXECUTES, page);
+    put_sign(text, b"<path class=\"wa i", WAITS, page);
+    put_sign(text, b"<path class=\"wb", BLOCKED, page);
+    put_sign(text, b"<path class=\"wa ns", SEVERAL, page);
+    put_sign(text, b"<path class=\"a\" d=\"M", GOES_ON, page)
+}
+
+// The second.
+fn put_second_line(text: &[u8], page: &mut Page)
+    ensures { Adds page.old page.new (second_line text.now) }
+{
+    put_sign_of(
+        text,
+        b"<path class=\"w\"",
+        b"<path class=\"l w\"",
+        BOUND,
+        page,
+    );
+    put_sign(text, b"<path class=\"a\" d=\"\nM", ARRIVAL, page);
+    put_sign(text, b"<path class=\"r\" d=\"\nM", NOT_READY, page);
+    put_sign(text, b"<path class=\"d\" d=\"\nM", DEADLINE, page);
+    put_sign_of(
+        text,
+        b"<path class=\"x\"",
+        b"<path class=\"z\"",
+        MISSED,
+        page,
+    );
+    put_sign(text, b"<path class=\"wt\"", UNRUN, page)
+}
+
+// What the signs mean that a picture has.
+pub(crate) fn legend_of(alloc: Global, text: &[u8]) -> Result<Vec<u8>, AllocError>
+    ensures { IfOk result (λ legend. legend.items ≡ legend_text text.now ++ codes "</svg>\n") }
+{
+    let mut page = Page::new(alloc);
+    put_first_line(text, &mut page);
+    put_second_line(text, &mut page);
+    page.put(b"</svg>\n");
+    page.whole()
+}

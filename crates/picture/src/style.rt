@@ -134,7 +134,7 @@ pub(crate) const STYLE: &str = concat!(
     ".i8{stroke:#7d4a9b}",
     ".i9{stroke:#4f8f1f}",
     // waits for several above
-    ".in{stroke:#6b6b6b;shape-rendering:crispEdges}",
+    ".ns{stroke:#6b6b6b;shape-rendering:crispEdges}",
     // waits for one below, by the lock's tone
     ".d0,.d6,.d12,.d18,.d24,.d30{stroke:#173766}",
     ".d1,.d7,.d13,.d19,.d25,.d31{stroke:#8a2d05}",
@@ -215,7 +215,7 @@ pub(crate) const STYLE: &str = concat!(
     ".i8{stroke:#d7aeee}",
     ".i9{stroke:#a9e07c}",
     // waits for several above
-    ".in{stroke:#a3abb5}",
+    ".ns{stroke:#a3abb5}",
     // waits for one below, by the lock's tone
     ".d0,.d6,.d12,.d18,.d24,.d30{stroke:#dbe9ff}",
     ".d1,.d7,.d13,.d19,.d25,.d31{stroke:#ffc9a8}",

@@ -1,8 +1,8 @@
 //! How the waits of jobs are drawn.
-ghost use Rattle.std.specs.Prelude.{◌++◌, ◌<◌, ◌≡◌, ◌≤◌, codes, length};
+ghost use Rattle.std.specs.Prelude.{◌<◌, ◌≡◌, ◌≤◌, length};
 ghost use Rattle.frames.specs.Page.{Adds};
 ghost use Rattle.task_sheet.specs.declared.set.TheConstants.{TASK_LIMIT};
-ghost use Rattle.picture.specs.WaitTexts.{above_text, blocked_text, has_link, ink_text, job_waits, link_text, lock_words, nth_wait_text, stay_text, tone_of_lock, wait_line, wait_title, waits_text, who_text, why_text};
+ghost use Rattle.picture.specs.WaitTexts.{above_text, blocked_text, has_link, ink_path, job_waits, link_text, lock_words, nth_wait_text, stay_text, tone_of_lock, wait_line, wait_title, waits_text, who_text, why_text};
 ghost use Rattle.picture.specs.Waits.{EndBy, scene_of, stay_of};
 
 use crate::blocker::blocking_lock;
@@ -35,10 +35,10 @@ fn put_lock(lock: &Option<Name>, page: &mut Page)
 
 // A path for a wait for a task above, in its tone or in the neutral ink.
 fn put_ink(gathered: bool, tone: u64, page: &mut Page)
-    ensures { Adds page.old page.new (codes "<path class=\"wa i" ++ ink_text gathered tone) }
+    ensures { Adds page.old page.new (ink_path gathered tone) }
 {
     if gathered {
-        page.put(b"<path class=\"wa in")
+        page.put(b"<path class=\"wa ns")
     } else {
         page.number(b"<path class=\"wa i", tone)
     }

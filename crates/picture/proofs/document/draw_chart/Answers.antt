@@ -1,17 +1,9 @@
-use Rattle.std.proofs.Common.{◌∙◌, List}
-use Rattle.frames.specs.declared.tones.Toned.{Toned}
-use Rattle.frames.proofs.Adds.{adds_both, adds_same}
-use Rattle.picture.specs.Document.{ground_text}
-use Rattle.picture.proofs.Documents.{whole_of}
+use Rattle.std.proofs.Common.{◌≡◌, ℕ, List, subst}
+use Rattle.std.specs.Prelude.{IfOk}
+use Rattle.picture.specs.Document.{signed}
 use Rattle.picture.proofs.document.draw_chart.Goals as goal
 
 pub returns : goal.returns
 returns c =
-    let chart = c.args.chart.now in
-    let ground = adds_same (λ (held : List Toned). ground_text chart.frame chart.title.now held
-    chart.rows.now chart.shown.now chart.jobs.now chart.slices.now chart.until)
-    (c.deref.ensures.value ∙ c.in_ok-held.ensures.held) c.put_ground.ensures in
-    whole_of c.whole.result _ (adds_both (adds_both (adds_both (adds_both (adds_both
-    (adds_both (adds_both ground c.put_lanes.ensures) c.put_jobs.ensures)
-    c.put_all_marks.ensures) c.put_misses.ensures) c.put_waits.ensures) c.put_slices.ensures)
-    c.put.ensures) c.new-page.ensures.empty c.whole.ensures
+    subst (λ (text : List ℕ). IfOk c.signed.result (λ document. document.items ≡ signed text))
+    c.in_ok-body_of.ensures c.signed.ensures

@@ -1,0 +1,8 @@
+use Rattle.std.proofs.Common.{◌∙◌, ap}
+use Rattle.std.specs.Prelude.{is_some}
+use Rattle.memchr.proofs.lemmas.ValueLemmas.{FindsNeedle-value}
+use Rattle.picture.proofs.legend.has_words.Goals as goal
+
+pub returns : goal.returns
+returns c = c.is_some.ensures
+    ∙ ap is_some (FindsNeedle-value c.args.text.now c.args.words.now c.find.result c.find.ensures)
