@@ -4,7 +4,7 @@ use Rattle.std.proofs.Common.{append_assoc, append-nil}
 use Rattle.scripts.specs.declared.line.RowFault.{RowFault}
 use Rattle.scripts.specs.declared.line.RowFault.TheVariants.{OutOfMemory}
 use Rattle.scripts.specs.Gives.{FailsRow}
-use Rattle.lines.specs.Steps.{ahead, each_in}
+use Rattle.lines.specs.Steps.{◌>>=◌, ahead, each_in}
 
 module _ {A E : Type 0} where
   pub ahead-ahead : (front : List A) (x : A) (rest : Result (List A) E)
@@ -42,6 +42,12 @@ module _ {A : Type 0} (read : List ℕ → Result A RowFault) where
   each_last front w all x total cut is so_far =
       let one : ahead front (each_in read all) ≡ Ok (front ++ x ∷ []) = rw (cut, is) refl in
       sym so_far ∙ one
+
+-- a step that fails ends the steps
+pub fails_all : {A B : Type 0} (fault : RowFault) (read : Result A RowFault)
+    (more : A → Result B RowFault) → FailsRow fault read → FailsRow fault (read >>= more)
+fails_all OutOfMemory read more is = tt
+fails_all fault read more is = rw is refl
 
 -- words are read one after the other, and one last
 pub ruleset words_read = (each_next, each_fails, each_last)

@@ -24,6 +24,34 @@ loop-failing-preserved c =
       steps = omega (arith, inv.steps);
     }
 
+pub loop-failing-preserved-then-branch : goal.loop-failing-preserved-then-branch
+loop-failing-preserved-then-branch c =
+    let inv = c.loop-failing.invariant in
+    let step : c.min.result ≡ min c.loop-failing.step
+    ((c.loop-failing.failing - c.loop-failing.passing) / 2) = c.min.ensures ∙ ord_min-is _ _ in
+    record {
+      passes = rw (← c.at_distance-value.ensures)
+          (c.in_ok-passes_with.ensures.0 c.if-branch.true);
+      fails = inv.fails;
+      apart = omega (arith, c.loop-failing-test.true, step);
+      within = inv.within;
+      steps = omega (arith, inv.apart);
+    }
+
+pub loop-failing-smaller-then-branch : goal.loop-failing-smaller-then-branch
+loop-failing-smaller-then-branch c =
+    let inv = c.loop-failing.invariant in
+    let step : c.min.result ≡ min c.loop-failing.step
+    ((c.loop-failing.failing - c.loop-failing.passing) / 2) = c.min.ensures ∙ ord_min-is _ _ in
+    omega (arith, c.loop-failing-test.true, inv.steps, step)
+
+pub loop-failing-smaller : goal.loop-failing-smaller
+loop-failing-smaller c =
+    let inv = c.loop-failing.invariant in
+    let step : c.min.result ≡ min c.loop-failing.step
+    ((c.loop-failing.failing - c.loop-failing.passing) / 2) = c.min.ensures ∙ ord_min-is _ _ in
+    omega (arith, c.loop-failing-test.true, step)
+
 pub returns : goal.returns
 returns c =
     let inv = c.loop-failing.invariant in
