@@ -29,11 +29,11 @@ use Rattle.diff.specs.declared.text.Kind.TheVariants.{Moved}
 use Rattle.diff.specs.declared.text.Effect.TheVariants.{OnBound, OnLevel}
 
 -- ---- nothing
-no_front : (xs ys : List ℕ) → xs ++ ys ≡ [] → xs ≡ []
+pub no_front : (xs ys : List ℕ) → xs ++ ys ≡ [] → xs ≡ []
 no_front [] ys e = refl
 no_front (x ∷ xs) ys e = absurd (cc)
 
-no_back : (xs ys : List ℕ) → xs ++ ys ≡ [] → ys ≡ []
+pub no_back : (xs ys : List ℕ) → xs ++ ys ≡ [] → ys ≡ []
 no_back [] ys e = e
 no_back (x ∷ xs) ys e = absurd (cc)
 
@@ -46,7 +46,7 @@ four a b c d e =
     (no_front a b ab, no_back a b ab, no_back (a ++ b) c abc, no_back ((a ++ b) ++ c) d e)
 
 -- a line is something
-some_line : (xs : List ℕ) → xs ++ codes "\n" ≡ [] → ⊥
+pub some_line : (xs : List ℕ) → xs ++ codes "\n" ≡ [] → ⊥
 some_line xs e = let never : codes "\n" ≡ [] = no_back xs (codes "\n") e in cc
 
 no_line : (n : ℕ) (line : ℕ → List ℕ) → words_below n line ≡ [] → (k : ℕ) → k < n → line k ≡ []
