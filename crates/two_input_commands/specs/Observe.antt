@@ -115,6 +115,18 @@ abbrev pub ObservesText : List Task → List ℕ → Result Observation CommandR
 ObservesText U text answer = ObservesRead U (settings_in text) (rows_behind text) answer
 
 -- ---- chains
+-- the trace of a text behind settings, or why there is none
+abbrev pub ReadsBehind : Result (List SettingRow) ℕ → Result (List TraceRow) ℕ
+    → Result TraceLines CommandRefusal → Type 0
+ReadsBehind settings found (Ok trace) = IsTraceOf found trace
+ReadsBehind settings found (Err (refusal.Settings fault)) = IsRowsFault fault settings
+ReadsBehind settings found (Err (refusal.Trace fault)) =
+    (rows : List SettingRow) × (settings ≡ Ok rows) × IsTraceFault fault (trace_rows_fault found)
+ReadsBehind settings found _ = ⊥
+
+abbrev pub ReadsTrace : List ℕ → Result TraceLines CommandRefusal → Type 0
+ReadsTrace text answer = ReadsBehind (settings_in text) (rows_behind text) answer
+
 -- nothing is said of chains
 pub record AreSilent (told : ChainsSeen) : Type 0 where
   pub text : string_bytes told.text ≡ []

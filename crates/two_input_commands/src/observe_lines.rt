@@ -4,8 +4,7 @@ ghost use Rattle.observed_lines.specs.Lines.{observed_lines};
 ghost use Rattle.trace_text.specs.Rows.{rows_at};
 ghost use Rattle.answering.specs.Outcomes.{IsSaidOn};
 ghost use Rattle.answering.specs.Printed.{IsPrinted};
-ghost use Rattle.chain_tables.specs.Chains.{ChainData};
-ghost use Rattle.two_input_commands.specs.Observe.{AreWatched, AreWatchedIn, AreSilent, IsObservationOf, ObservesRead, ObservesText, WatchesText, leeway_of, observation_said, observation_status, observed_status};
+ghost use Rattle.two_input_commands.specs.Observe.{AreSilent, AreWatched, AreWatchedIn, IsObservationOf, ObservesRead, ObservesText, ReadsBehind, ReadsTrace, WatchesText, leeway_of, observation_said, observation_status, observed_status};
 
 use crate::judge_lines::judged_status;
 use answering::{CommandRefusal, Status, joined, print_bytes, print_made, print_stuck};
@@ -21,7 +20,7 @@ use std::alloc::{AllocError, Global};
 use std::io::Write;
 use streams::Watched;
 use task_sheet::TaskSet;
-use trace_text::read_trace_at;
+use trace_text::{TraceLines, read_trace_at};
 
 /// What a trace shows of a set's tasks.
 #[derive(Drop)]
@@ -131,7 +130,32 @@ fn silent(alloc: Global) -> ChainsSeen
     }
 }
 
+// The trace of a text behind these settings.
+fn read_behind(
+    alloc: Global,
+    _rows: &[SettingRow],
+    at: TextPlace<'_>,
+) -> Result<TraceLines, CommandRefusal>
+    ensures answer { ReadsBehind (Ok _rows.now) (rows_at at.entry.line at.entry.rest.now) result }
+{
+    match read_trace_at(alloc, at) {
+        Ok(trace) => Ok(trace),
+        Err(fault) => Err(CommandRefusal::Trace(fault)),
+    }
+}
+
+// The trace of a text, behind settings, of which there may be none.
+fn trace_of(alloc: Global, text: &[u8]) -> Result<TraceLines, CommandRefusal>
+    ensures answer { ReadsTrace text.now result }
+{
+    match read_front(alloc, TextPlace::start(text)) {
+        Ok(front) => read_behind(alloc, &front.rows, front.behind),
+        Err(fault) => Err(CommandRefusal::Settings(fault)),
+    }
+}
+
 // What is printed of chains in the trace of a text, beside what that shows of the set's jobs.
+#[tactic(auto, using(crate::proofs::Observations::unread))]
 fn watched_in(
     alloc: Global,
     leeway: Leeway,
@@ -143,14 +167,9 @@ fn watched_in(
     ensures { MatchResult result (λ told. AreWatchedIn leeway chains.now tasks.now text.now shown.now told)
         (λ r. ObservesText tasks.now text.now (Err r)) }
 {
-    let front = match read_front(alloc, TextPlace::start(text)) {
-        Ok(front) => front,
-        Err(fault) => return Err(CommandRefusal::Settings(fault)),
-    };
-    match read_trace_at(alloc, front.behind) {
-        Ok(trace) => Ok(see_chains(alloc, leeway.tolerance, tasks, chains, shown, &trace)?),
-        Err(fault) => Err(CommandRefusal::Trace(fault)),
-    }
+    let trace = trace_of(alloc, text)?;
+    let told = see_chains(alloc, leeway.tolerance, tasks, chains, shown, &trace)?;
+    Ok(told)
 }
 
 // What is printed of chains beside what the trace of a text shows.
