@@ -1,6 +1,6 @@
 -- Where no line speaks of a chain, none has changed.
-use Rattle.std.proofs.Common.{◌≡◌, ◌∙◌, ℕ, inl, inr, Bool, true, false, nat_lt, List, [], ◌∷◌, ◌++◌, All}
-use Rattle.std.proofs.Common.{Option, Some, None, codes, refl, sym, ap, arith}
+use Rattle.std.proofs.Common.{◌≡◌, ◌∙◌, ℕ, zero, suc, inl, inr, true, nat_lt, List, [], ◌∷◌, ◌++◌, All}
+use Rattle.std.proofs.Common.{Option, Some, None, get_or, refl, sym, ap, arith}
 use Rattle.std.proofs.lemmas.Bool.{cases_Bool, ltb-false}
 use Rattle.task_sheet.specs.Sheet.{Task}
 use Rattle.chains.specs.Parts.{bound_in}
@@ -8,7 +8,7 @@ use Rattle.chains.specs.declared.bounds.Level.{Level}
 use Rattle.chain_tables.specs.Chains.{ChainData}
 use Rattle.diff.specs.Chains.{bound_effect, chain_changes, chain_edit, chain_edit_of, chain_effect, chain_gone}
 use Rattle.diff.specs.Chains.{chain_gone_to, chain_kept, chain_moved, chain_named, chain_other, chain_rest}
-use Rattle.diff.specs.Chains.{chain_rest_of, chain_words, each_chain, limit_words, same_chain, tasks_words}
+use Rattle.diff.specs.Chains.{chain_keys, chain_rest_of, chain_words, each_chain, same_chain}
 use Rattle.diff.specs.ChainsKept.{AreChainsKept, HasNamed, IsChainKept, IsSameBound}
 use Rattle.diff.specs.declared.text.Kind.{Kind}
 use Rattle.diff.specs.declared.text.Kind.TheVariants.{Removed, Added, Changed, Slower, Faster}
@@ -17,23 +17,20 @@ use Rattle.diff.proofs.SilentLaws.{no_back, no_front, some_line}
 -- ---- each chain's line is empty
 each_silent : (line : ChainData → List ℕ) (chains : List ChainData) → each_chain line chains ≡ []
     → All (λ chain. line chain ≡ []) chains
-each_silent line [] none = tt
-each_silent line (chain ∷ chains) none = (
-  no_front (line chain) (each_chain line chains) none,
-  each_silent line chains (no_back (line chain) (each_chain line chains) none),
-)
+each_silent line [] none k d lt = absurd (omega (arith, lt))
+each_silent line (chain ∷ chains) none zero d lt =
+    no_front (line chain) (each_chain line chains) none
+each_silent line (chain ∷ chains) none (suc k) d lt = each_silent line chains
+    (no_back (line chain) (each_chain line chains) none) k d (omega (arith, lt))
 
--- two facts of each, and one that they give
-each_of_both : (P Q R : ChainData → Type 0) (chains : List ChainData)
-    → ((chain : ChainData) → P chain → Q chain → R chain) → All P chains → All Q chains → All R chains
-each_of_both P Q R [] give p q = tt
-each_of_both P Q R (chain ∷ chains) give p q =
-    (give chain p.0 q.0, each_of_both P Q R chains give p.1 q.1)
-
+-- a fact of each gives another; and two do
 each_of : (P R : ChainData → Type 0) (chains : List ChainData)
     → ((chain : ChainData) → P chain → R chain) → All P chains → All R chains
-each_of P R [] give p = tt
-each_of P R (chain ∷ chains) give p = (give chain p.0, each_of P R chains give p.1)
+each_of P R chains give p k d lt = give (get_or chains k d) (p k d lt)
+
+each_of_both : (P Q R : ChainData → Type 0) (chains : List ChainData)
+    → ((chain : ChainData) → P chain → Q chain → R chain) → All P chains → All Q chains → All R chains
+each_of_both P Q R chains give p q k d lt = give (get_or chains k d) (p k d lt) (q k d lt)
 
 -- ---- none is gone
 still_named : (U : List Task) (was : List Level) (old : ChainData) (o : Option ChainData)
@@ -55,10 +52,8 @@ says_same U was old V is new none =
     elim (cases_Bool (same_chain U old V new)) [
       | inl same ↦ same
       | inr other ↦ absurd (some_line
-          (((chain_words Changed new.name (bound_in U was old.tasks) old.limit (bound_in V is new.tasks) new.limit
-          ++ codes " keys")
-          ++ tasks_words U old.tasks V new.tasks)
-          ++ limit_words old.limit new.limit)
+          (chain_words Changed new.name (bound_in U was old.tasks) old.limit (bound_in V is new.tasks) new.limit
+          ++ chain_keys U old V new)
           (rw other at none))
     ]
 

@@ -1,6 +1,6 @@
 -- Where no line is said, nothing has changed.
 use Rattle.std.proofs.Common.{◌≡◌, ◌∙◌, ◌<◌, ℕ, zero, suc, inl, inr, Bool, true, false, nat_lt}
-use Rattle.std.proofs.Common.{nat_eq, eqb, ◌+◌, slice_get, List, [], ◌∷◌, ◌++◌, length, Option, Some, None, codes}
+use Rattle.std.proofs.Common.{nat_eq, eqb, List, [], ◌∷◌, ◌++◌, length, Option, Some, None, codes}
 use Rattle.std.proofs.Common.{refl, sym, ap, arith}
 use Rattle.std.proofs.lemmas.Bool.{cases_Bool, eq-eqb, eqb-true, eqb-false, ltb-false}
 use Rattle.std.specs.Option.{option_map}
@@ -18,7 +18,7 @@ use Rattle.task_sheet.specs.declared.node.Interrupt.{Interrupt}
 use Rattle.owners.specs.Owners.{interrupt_words}
 use Rattle.owners.specs.declared.owner.Owner.{Owner}
 use Rattle.diff.specs.Whole.{both_weigh, came_at, came_line, gone_at, gone_line as gone_interrupt}
-use Rattle.diff.specs.Whole.{interrupt_line, interrupts_of, node_line, node_of, node_words, other_of}
+use Rattle.diff.specs.Whole.{interrupt_line, node_line, node_of, node_words, other_of}
 use Rattle.diff.specs.Whole.{preference_line, same_preference, same_some, some_number_words}
 use Rattle.diff.specs.Whole.{whole_lines}
 use Rattle.task_sheet.specs.Prefer.{preference_word}

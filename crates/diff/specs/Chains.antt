@@ -1,5 +1,5 @@
 -- The lines of what a change does to a set's chains.
-use Rattle.std.specs.Prelude.{ℕ, ◌-◌, nat_le, nat_lt, nat_eq, Bool, true, false, ◌&&◌, not, List, [], ◌∷◌, ◌++◌, codes, slice_get, Option, Some, None, if◌then◌else◌}
+use Rattle.std.specs.Prelude.{ℕ, ◌-◌, nat_le, nat_lt, Bool, true, false, ◌&&◌, List, [], ◌∷◌, ◌++◌, codes, slice_get, Option, Some, None, if◌then◌else◌}
 use Rattle.std.specs.Fmt.{decimal}
 use Rattle.task_sheet.specs.Sheet.{Task, same_bytes}
 use Rattle.lines.specs.Naming.{name_at}
@@ -46,16 +46,18 @@ slack_words (Some bound) None = codes "-"
 slack_words (Some bound) (Some limit) =
     if nat_le bound limit then decimal (limit - bound) else codes "-" ++ decimal (bound - limit)
 
--- a bound and a limit before and after
-abbrev pub bounds_words : (was : Option ℕ) → (old : Option ℕ) → (is : Option ℕ) → (new : Option ℕ) → List ℕ
-bounds_words was old is new =
-    codes " bound " ++ some_words was ++ codes " " ++ some_words is
-    ++ codes " slack " ++ slack_words was old ++ codes " " ++ slack_words is new
+-- a bound before and after
+abbrev pub bounds_words : (was is : Option ℕ) → List ℕ
+bounds_words was is = codes " bound " ++ some_words was ++ codes " " ++ some_words is
+
+-- what the limits leave of it
+abbrev pub slacks_words : (was old is new : Option ℕ) → List ℕ
+slacks_words was old is new = codes " slack " ++ slack_words was old ++ codes " " ++ slack_words is new
 
 -- what becomes of a chain, its name, and that
-abbrev pub chain_words : Kind → (name : List ℕ) → (was old is new : Option ℕ) → List ℕ
+unfoldable pub chain_words : Kind → (name : List ℕ) → (was old is new : Option ℕ) → List ℕ
 chain_words kind name was old is new =
-    word_of kind ++ codes " chain " ++ name ++ bounds_words was old is new
+    word_of kind ++ codes " chain " ++ name ++ bounds_words was is ++ slacks_words was old is new
 
 -- the names of tasks, each behind a sign `+`
 abbrev pub plus_tasks : List Task → List ℕ → List ℕ
@@ -79,6 +81,11 @@ limit_words old new =
     if same_number old new then []
     else codes " limit " ++ some_words old ++ codes " " ++ some_words new
 
+-- the keys in which a chain says something else
+unfoldable pub chain_keys : List Task → ChainData → List Task → ChainData → List ℕ
+chain_keys U old V new =
+    codes " keys" ++ tasks_words U old.tasks V new.tasks ++ limit_words old.limit new.limit
+
 -- ---- each chain
 -- the line of a chain that is gone
 abbrev pub chain_gone_to : List Task → List Level → ChainData → Option ChainData → List ℕ
@@ -95,7 +102,7 @@ abbrev pub chain_other : List Task → List Level → ChainData → List Task �
 chain_other U was old V is new =
     if same_chain U old V new then []
     else chain_words Changed new.name (bound_in U was old.tasks) old.limit (bound_in V is new.tasks) new.limit
-    ++ codes " keys" ++ tasks_words U old.tasks V new.tasks ++ limit_words old.limit new.limit ++ codes "\n"
+    ++ chain_keys U old V new ++ codes "\n"
 
 -- the line of what was done to a chain, which was there before or not
 abbrev pub chain_edit_of : List Task → List Level → Option ChainData → List Task → List Level → ChainData → List ℕ

@@ -1,5 +1,5 @@
 -- Changes of chains of which no line speaks.
-use Rattle.std.specs.Prelude.{◌≡◌, ℕ, Bool, true, List, All, Option, Some}
+use Rattle.std.specs.Prelude.{◌≡◌, ℕ, true, List, All, Option, Some}
 use Rattle.task_sheet.specs.Sheet.{Task}
 use Rattle.chains.specs.Parts.{bound_in}
 use Rattle.chains.specs.declared.bounds.Level.{Level}

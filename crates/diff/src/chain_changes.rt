@@ -1,8 +1,8 @@
 //! What a change does to a set's chains.
-ghost use Rattle.std.specs.Prelude.{◌≡◌, ◌++◌, IfOk, OnOk, codes, option_map, slice_get, string_bytes};
+ghost use Rattle.std.specs.Prelude.{◌≡◌, ◌++◌, IfOk, OnOk, option_map, slice_get, string_bytes};
 ghost use Rattle.chains.specs.Parts.{bound_in};
 ghost use Rattle.diff.specs.Keys.{some_words};
-ghost use Rattle.diff.specs.Chains.{bound_effect, bounds_words, chain_changes, chain_edit, chain_edit_of, chain_effect, chain_gone, chain_gone_to, chain_kept, chain_moved, chain_named, chain_other, chain_rest, chain_rest_of, chain_words, each_chain, limit_words, plus_tasks, same_chain, same_name, same_tasks, slack_words, tasks_word, tasks_words};
+ghost use Rattle.diff.specs.Chains.{bound_effect, bounds_words, chain_changes, chain_edit, chain_effect, chain_gone, chain_keys, chain_kept, chain_moved, chain_named, chain_other, chain_rest, chain_words, each_chain, limit_words, plus_tasks, same_chain, same_name, same_tasks, slack_words, slacks_words, tasks_word, tasks_words};
 
 use crate::pairs::push_pair;
 use crate::text::Kind;
@@ -108,7 +108,29 @@ fn push_slack(text: &mut String, held: Held) -> Result<(), AllocError>
     }
 }
 
+// The bounds before and after.
+fn push_bounds(text: &mut String, old: Held, new: Held) -> Result<(), AllocError>
+    ensures { OnOk result (string_bytes text.new ≡ string_bytes text.old ++ bounds_words old.bound new.bound) }
+{
+    text.push_str(" bound ")?;
+    push_bound(text, old.bound)?;
+    text.push_str(" ")?;
+    push_bound(text, new.bound)
+}
+
+// What the limits leave of them.
+fn push_slacks(text: &mut String, old: Held, new: Held) -> Result<(), AllocError>
+    ensures { OnOk result (string_bytes text.new ≡ string_bytes text.old
+        ++ slacks_words old.bound old.limit new.bound new.limit) }
+{
+    text.push_str(" slack ")?;
+    push_slack(text, old)?;
+    text.push_str(" ")?;
+    push_slack(text, new)
+}
+
 // What becomes of a chain, its name, and its bound and that before and after.
+#[tactic(auto, unfolding(crate::specs::Chains::chain_words))]
 fn push_start(
     text: &mut String,
     kind: Kind,
@@ -120,23 +142,10 @@ fn push_start(
         ++ chain_words kind name old.bound old.limit new.bound new.limit) }
 {
     text.push_str(kind.word())?;
-    write!(text, " chain {name} bound ")?;
-    push_bounds(text, old, new)
-}
-
-// The bounds behind their word, and the slacks.
-fn push_bounds(text: &mut String, old: Held, new: Held) -> Result<(), AllocError>
-    ensures { OnOk result (string_bytes text.new ≡ string_bytes text.old
-        ++ some_words old.bound ++ codes " " ++ some_words new.bound
-        ++ codes " slack " ++ slack_words old.bound old.limit ++ codes " " ++ slack_words new.bound new.limit) }
-{
-    push_bound(text, old.bound)?;
-    text.push_str(" ")?;
-    push_bound(text, new.bound)?;
-    text.push_str(" slack ")?;
-    push_slack(text, old)?;
-    text.push_str(" ")?;
-    push_slack(text, new)
+    text.push_str(" chain ")?;
+    write!(text, "{name}")?;
+    push_bounds(text, old, new)?;
+    push_slacks(text, old, new)
 }
 
 // The names of tasks, each behind a sign `+`.
@@ -194,7 +203,7 @@ fn push_limits(text: &mut String, old: Option<u64>, new: Option<u64>) -> Result<
 // ---- each chain
 
 // A chain's bound in a set, and its limit.
-fn held(side: &ChainSide<'_>, chain: &Chain) -> Held
+fn bounded(side: &ChainSide<'_>, chain: &Chain) -> Held
     ensures bound { result.bound ≡ bound_in side.now.set.now side.now.levels.now chain.now.tasks }
     ensures limit { result.limit ≡ chain.now.limit }
 {
@@ -228,26 +237,31 @@ fn push_gone(
     match chain_named(news, chain.name) {
         Some(_) => Ok(()),
         None => {
-            push_start(text, Kind::Removed, chain.name, held(old, chain), nothing())?;
+            push_start(
+                text,
+                Kind::Removed,
+                chain.name,
+                bounded(old, chain),
+                nothing(),
+            )?;
             text.push_str("\n")
         }
     }
 }
 
 // The keys in which a chain says something else.
-fn push_keys(
+#[tactic(auto, unfolding(crate::specs::Chains::chain_keys))]
+fn push_chain_keys(
     text: &mut String,
-    old: &ChainSide<'_>,
+    old: &TaskSet,
     was: &Chain,
-    new: &ChainSide<'_>,
+    new: &TaskSet,
     is: &Chain,
 ) -> Result<(), AllocError>
-    ensures { OnOk result (string_bytes text.new ≡ string_bytes text.old ++ codes " keys"
-        ++ tasks_words old.now.set.now was.now.tasks new.now.set.now is.now.tasks
-        ++ limit_words was.now.limit is.now.limit) }
+    ensures { OnOk result (string_bytes text.new ≡ string_bytes text.old ++ chain_keys old.now was.now new.now is.now) }
 {
     text.push_str(" keys")?;
-    push_both_tasks(text, old.set, &was.tasks, new.set, &is.tasks)?;
+    push_both_tasks(text, old, &was.tasks, new, &is.tasks)?;
     push_limits(text, was.limit, is.limit)
 }
 
@@ -265,8 +279,14 @@ fn push_other(
     if same_chain(old.set, was, new.set, is) {
         return Ok(());
     }
-    push_start(text, Kind::Changed, is.name, held(old, was), held(new, is))?;
-    push_keys(text, old, was, new, is)?;
+    push_start(
+        text,
+        Kind::Changed,
+        is.name,
+        bounded(old, was),
+        bounded(new, is),
+    )?;
+    push_chain_keys(text, old.set, was, new.set, is)?;
     text.push_str("\n")
 }
 
@@ -284,7 +304,13 @@ fn push_edit(
     match chain_named(old.chains, chain.name) {
         Some(was) => push_other(text, old, was, new, chain),
         None => {
-            push_start(text, Kind::Added, chain.name, nothing(), held(new, chain))?;
+            push_start(
+                text,
+                Kind::Added,
+                chain.name,
+                nothing(),
+                bounded(new, chain),
+            )?;
             text.push_str("\n")
         }
     }
@@ -340,7 +366,7 @@ fn push_kept(
     if !same_chain(old.set, was, new.set, is) {
         return Ok(());
     }
-    match (held(old, was).bound, held(new, is).bound) {
+    match (bounded(old, was).bound, bounded(new, is).bound) {
         (Some(from), Some(to)) => push_effect(text, is, from, to),
         _ => Ok(()),
     }
