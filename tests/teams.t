@@ -420,6 +420,20 @@ another and one is gone.
   cam interrupt 1 period 4000 5000 cost 10 20
   cam interrupt 2 period 5000 4000 cost 20 10
 
+A team's places go on through its documents, where it has several in a text, so that no interrupt has the name of another:
+
+  $ mkdir more less && task tilt 30000 100 | tee less/cam.toml > more/cam.toml && interrupt 8000 30 >> more/cam.toml
+  $ gathered was/cam.toml more/cam.toml > twice && gathered was/cam.toml less/cam.toml > once
+  $ desk diff twice once | grep interrupt
+  cam interrupt 3 period 8000 - cost 30 -
+  $ desk limits twice | grep interrupt | cut -d ' ' -f 1-5
+  cam interrupt 1 cost 10
+  cam interrupt 1 period 4000
+  cam interrupt 2 cost 20
+  cam interrupt 2 period 5000
+  cam interrupt 3 cost 30
+  cam interrupt 3 period 8000
+
 Of a minimal conflict the same, so that its teams know of each other; a task of one document has no team:
 
   $ locked arm 10000 9000 bus 300 > moved/arm.toml

@@ -34,7 +34,7 @@ def whole(old, new):
 
 
 def named(side):
-    """The interrupts of a set, each with its name: by its document and its place there."""
+    """The interrupts of a set, each with its name: by its team and its place among that team's."""
     interrupts = next((it.interrupts for it in side.tasks if it.interrupts), ())
     return [(f"{team} interrupt {own}" if team else f"interrupt {own}", it) for it, (team, own) in zip(interrupts, side.tasks.sources)]
 

@@ -115,7 +115,8 @@ def read_teams(data):
         raise Refused(4, "TooManyTasks")
     keep_budgets(budgets, teams)
     own, overheads = (said[0][1] if said else None for said in (preferring, overheads_of))
-    sources = [(team, place) for team, said in said_by for place, _ in enumerate(said[2], 1)]
+    hands = [team for team, said in said_by for _ in said[2]]
+    sources = [(team, hands[: place + 1].count(team)) for place, team in enumerate(hands)]
     return own, is_strict, overheads, interrupts, [sheet for _, sheets, _ in teams for sheet in sheets], owner, sources
 
 

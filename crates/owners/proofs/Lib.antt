@@ -1,6 +1,7 @@
 pub mod OwnerLaws
 pub mod FollowerLaws
 pub mod PartLaws
+pub mod PlaceLaws
 pub mod StableSort
 pub mod SlackKeys
 pub mod SlackLaws

@@ -99,7 +99,7 @@ AreFollowersIf false text owners = AreFollowersIn text owners
 -- it is the section at a place of the task of a name
 abbrev pub is_follower : Owner → List ℕ → ℕ → Bool
 is_follower (OwnedTask task team) name place = false
-is_follower (OwnedInterrupt own team) name place = false
+is_follower (OwnedInterrupt team) name place = false
 is_follower (Follower task own) name place = same_bytes task name && own == place
 
 -- that section begins where the one before it ends

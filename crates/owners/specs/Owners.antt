@@ -1,5 +1,5 @@
 -- Whose the tasks and interrupts of a set are: the node's, and those of the teams whose documents are gathered in its text.
-use Rattle.std.specs.Prelude.{◌≡◌, ◌⊎◌, ℕ, ◌+◌, ◌-◌, ◌==◌, Bool, true, false, List, [], ◌∷◌, ◌++◌, map, codes, Option, None, Some, is_some, Err, if◌then◌else◌}
+use Rattle.std.specs.Prelude.{◌≡◌, ◌⊎◌, ℕ, zero, suc, ◌+◌, ◌-◌, ◌==◌, Bool, true, false, List, [], ◌∷◌, ◌++◌, map, codes, Option, None, Some, is_some, option_map, Err, if◌then◌else◌}
 use Rattle.std.specs.Fmt.{decimal}
 use Rattle.std.specs.Option.{option_or}
 use Rattle.toml.specs.Data.{Members}
@@ -25,7 +25,7 @@ use Rattle.owners.specs.declared.owner.Owner.TheVariants.{Task as OwnedTask, Int
 -- the team, where this says whose the task of a name is
 abbrev pub team_by : Owner → List ℕ → Option (List ℕ)
 team_by (OwnedTask task team) name = if same_bytes task name then Some team else None
-team_by (OwnedInterrupt place team) name = None
+team_by (OwnedInterrupt team) name = None
 team_by (Follower task place) name = None
 
 -- the team of the first task with a name, where there is one
@@ -34,25 +34,45 @@ team_of [] name = None
 team_of (o ∷ owners) name = option_or (team_by o name) (team_of owners name)
 
 -- the first is this one, or else what the others have of it: where the first is no interrupt, and where it is one before it
-abbrev pub unless_before : Owner → (place : ℕ) → (same less : Option (List ℕ × ℕ))
-    → Option (List ℕ × ℕ)
+abbrev pub unless_before : Owner → (place : ℕ) → (same less : Option (List ℕ)) → Option (List ℕ)
 unless_before (OwnedTask task team) place same less = same
-unless_before (OwnedInterrupt own team) place same less =
-    if place == 0 then Some (team, own) else less
+unless_before (OwnedInterrupt team) place same less = if place == 0 then Some team else less
 unless_before (Follower task own) place same less = same
 
--- the words of an interrupt at a place among all, from 0, by the team and the place in its document, where there is one
+-- whose the interrupt at a place among all is, from 0
+abbrev pub interrupt_team : List Owner → ℕ → Option (List ℕ)
+interrupt_team [] place = None
+interrupt_team (o ∷ owners) place =
+    unless_before o place (interrupt_team owners place) (interrupt_team owners (place - 1))
+
+-- the team is this one
+abbrev pub is_team : List ℕ → Option (List ℕ) → Bool
+is_team team None = false
+is_team team (Some said) = same_bytes said team
+
+-- the interrupt at a place is of this team
+abbrev pub is_interrupt_of : List Owner → (team : List ℕ) → ℕ → Bool
+is_interrupt_of owners team place = is_team team (interrupt_team owners place)
+
+-- how many numbers below n pass
+abbrev pub number_below : ℕ → (ℕ → Bool) → ℕ
+number_below zero test = 0
+number_below (suc n) test = number_below n test + (if test n then 1 else 0)
+
+-- a team with the place, from 1, of an interrupt among those of all its documents
+abbrev pub with_place : List Owner → ℕ → (team : List ℕ) → List ℕ × ℕ
+with_place owners place team = (team, number_below place (is_interrupt_of owners team) + 1)
+
+-- the team of the interrupt at a place among all, from 0, and which of that team's it is
+abbrev pub interrupt_of : List Owner → ℕ → Option (List ℕ × ℕ)
+interrupt_of owners place = option_map (with_place owners place) (interrupt_team owners place)
+
+-- the words of an interrupt at a place among all, by its team and its place there, where there is one
 abbrev pub words_at : ℕ → Option (List ℕ × ℕ) → List ℕ
 words_at place None = codes "interrupt " ++ decimal (place + 1)
 words_at place (Some own) = own.0 ++ codes " interrupt " ++ decimal own.1
 
--- the team and the place of the interrupt at a place among all, from 0
-abbrev pub interrupt_of : List Owner → ℕ → Option (List ℕ × ℕ)
-interrupt_of [] place = None
-interrupt_of (o ∷ owners) place =
-    unless_before o place (interrupt_of owners place) (interrupt_of owners (place - 1))
-
--- what a line calls it: by its team and its place in that document, where one of several has it
+-- what a line calls it: by its team and its place among that team's, where one of several documents has it
 abbrev pub interrupt_words : List Owner → ℕ → List ℕ
 interrupt_words owners place = words_at place (interrupt_of owners place)
 
@@ -68,17 +88,15 @@ IsNoDocument p = (fault : SetFault) × ReadsPart p (Err (Of p.team fault))
 abbrev pub owned_by : List ℕ → List Task → List Owner
 owned_by team U = map (λ t. OwnedTask t.name team) U
 
--- the interrupts of a document, of which the first stands at a place
-abbrev pub interrupts_from : List ℕ → (place : ℕ) → List Interrupt → List Owner
-interrupts_from team place [] = []
-interrupts_from team place (x ∷ xs) =
-    OwnedInterrupt place team ∷ interrupts_from team (place + 1) xs
+-- the interrupts of a team's document
+abbrev pub interrupts_by : List ℕ → List Interrupt → List Owner
+interrupts_by team interrupts = map (λ i. OwnedInterrupt team) interrupts
 
 -- those of each team's document, in their order
 abbrev pub owners_of : List TeamSetData → List Owner
 owners_of [] = []
 owners_of (s ∷ sets) =
-    owned_by s.team s.set ++ interrupts_from s.team 1 s.interrupts ++ owners_of sets
+    owned_by s.team s.set ++ interrupts_by s.team s.interrupts ++ owners_of sets
 
 -- a text begins with no document that is a set
 abbrev pub HasNoSet : List ℕ → Type 0
@@ -96,7 +114,7 @@ AreOwnersIn text owners =
 -- ---- the node's document
 -- whose the interrupts of a document are
 abbrev pub owners_by : TeamSetData → List Owner
-owners_by own = interrupts_from own.team 1 own.interrupts
+owners_by own = interrupts_by own.team own.interrupts
 
 -- those of the node's, by the name that it has among those of teams; none where they have a fault
 abbrev pub node_owners : Members → List Owner

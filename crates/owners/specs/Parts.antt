@@ -1,8 +1,8 @@
 -- A set's tasks by their teams.
-use Rattle.std.specs.Prelude.{ℕ, Bool, false, not, List, [], ◌∷◌, ◌++◌, Option, None, Some, if◌then◌else◌}
+use Rattle.std.specs.Prelude.{ℕ, Bool, not, List, [], ◌∷◌, ◌++◌, if◌then◌else◌}
 use Rattle.std.specs.List.{filter, list_any}
 use Rattle.task_sheet.specs.Sheet.{Task, same_bytes}
-use Rattle.owners.specs.Owners.{team_of}
+use Rattle.owners.specs.Owners.{is_team, team_of}
 use Rattle.owners.specs.declared.owner.Owner.{Owner}
 use Rattle.owners.specs.declared.owner.Owner.TheVariants.{Task as OwnedTask, Interrupt as OwnedInterrupt, Follower}
 
@@ -13,18 +13,13 @@ is_among teams team = list_any (λ t. same_bytes t team) teams
 -- the teams, and the one whose task this is, if it isn't among them
 abbrev pub with_owner : (teams : List (List ℕ)) → Owner → List (List ℕ)
 with_owner teams (OwnedTask task team) = if is_among teams team then teams else teams ++ team ∷ []
-with_owner teams (OwnedInterrupt place team) = teams
+with_owner teams (OwnedInterrupt team) = teams
 with_owner teams (Follower task place) = teams
 
 -- some teams, and those that have tasks, each once, by their first tasks
 abbrev pub teams_from : (teams : List (List ℕ)) → List Owner → List (List ℕ)
 teams_from teams [] = teams
 teams_from teams (o ∷ owners) = teams_from (with_owner teams o) owners
-
--- the team is this one
-abbrev pub is_team : List ℕ → Option (List ℕ) → Bool
-is_team team None = false
-is_team team (Some said) = same_bytes said team
 
 -- a team has a task
 abbrev pub has_task : List Owner → (team : List ℕ) → Task → Bool

@@ -1,11 +1,18 @@
-//! Laws of the parts of a set and of sorted lines: the contracts of functions that do nothing.
-ghost use Rattle.std.specs.Prelude.{ℕ, List};
+//! Laws of interrupts' names, of the parts of a set and of sorted lines: the contracts of functions that do nothing.
+ghost use Rattle.std.specs.Prelude.{◌≡◌, ℕ, List, Some};
 ghost use Rattle.std.specs.List.Sorted.{IsPermutation};
 ghost use Rattle.task_sheet.specs.Sheet.{Task};
+ghost use Rattle.owners.specs.Owners.{interrupt_of};
 ghost use Rattle.owners.specs.Parts.{all_of, parts_of};
 ghost use Rattle.owners.specs.Slack.{by_slack};
 ghost use Rattle.owners.specs.Sorting.{IsSortedBySlack};
 ghost use Rattle.owners.specs.declared.owner.Owner.{Owner};
+
+/// No two interrupts are the same team's at the same place among that team's.
+pub fn interrupts_are_told_apart()
+    ensures { (owners : List Owner) (a b : ℕ) (own : List ℕ × ℕ) → interrupt_of owners a ≡ Some own
+        → interrupt_of owners b ≡ Some own → a ≡ b }
+{}
 
 /// Whoever has them, the parts of a set together are the set, each task once.
 pub fn parts_are_the_set()

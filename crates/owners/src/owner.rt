@@ -1,9 +1,9 @@
 //! Whose each task and interrupt of a set's text is.
-ghost use Rattle.std.specs.Prelude.{◌≡◌, ◌<◌, ◌++◌, IfOk, OnOk, MatchOption, string_bytes};
+ghost use Rattle.std.specs.Prelude.{◌≡◌, ◌<◌, ◌≤◌, ◌++◌, IfOk, OnOk, MatchOption, string_bytes};
 ghost use Rattle.toml.specs.View.{table_view};
 ghost use Rattle.task_sheet.specs.declared.node.TheConstants.{INTERRUPT_LIMIT};
 ghost use Rattle.teams.specs.NodeDocument.{node_word};
-ghost use Rattle.owners.specs.Owners.{AreBoth, AreNodeOwners, AreOwners, AreOwnersIn, AreWhose, IsDocumentOf, IsNoDocument, interrupt_of, interrupt_words, interrupts_from, node_owners, owned_by, team_by, team_of};
+ghost use Rattle.owners.specs.Owners.{AreBoth, AreNodeOwners, AreOwners, AreOwnersIn, AreWhose, IsDocumentOf, IsNoDocument, interrupt_of, interrupt_team, interrupt_words, interrupts_by, is_interrupt_of, node_owners, number_below, owned_by, team_by, team_of};
 
 use crate::followers::read_followers;
 use std::alloc::{AllocError, Global};
@@ -16,8 +16,8 @@ use toml::Table;
 pub enum Owner {
     /// Whose a task is.
     Task { name: Name, team: Name },
-    /// Whose an interrupt is, and its place in the document, from 1.
-    Interrupt { place: usize, team: Name },
+    /// Whose an interrupt is.
+    Interrupt { team: Name },
     /// The section of a task at a place, from 0, doesn't say where it begins: where the one before it ends.
     Follower { task: Name, place: usize },
 }
@@ -51,15 +51,15 @@ pub(crate) fn team_of(owners: &[Owner], name: &[u8]) -> Option<Name>
     None
 }
 
-// The team and the place, from 1, of the interrupt at a place among all, from 0.
-fn interrupt_of(owners: &[Owner], place: usize) -> Option<(Name, usize)>
-    ensures { result ≡ interrupt_of owners.now place }
+// Whose the interrupt at a place among all is, from 0.
+fn interrupt_team(owners: &[Owner], place: usize) -> Option<Name>
+    ensures { result ≡ interrupt_team owners.now place }
 {
     let mut left = place;
     for owner in owners {
-        if let Owner::Interrupt { place: own, team } = *owner {
+        if let Owner::Interrupt { team } = *owner {
             if left == 0 {
-                return Some((team, own));
+                return Some(team);
             }
             left -= 1;
         }
@@ -67,7 +67,42 @@ fn interrupt_of(owners: &[Owner], place: usize) -> Option<(Name, usize)>
     None
 }
 
-/// What a line calls the interrupt at a place among all, from 0: by the team and its place in that document, from 1, where one
+// The interrupt at a place among all is of this team.
+fn is_interrupt_of(owners: &[Owner], team: Name, place: usize) -> bool
+    ensures { result ≡ is_interrupt_of owners.now team place }
+{
+    match interrupt_team(owners, place) {
+        Some(said) => said == team,
+        None => false,
+    }
+}
+
+// How many of those before a place are of this team.
+fn interrupts_before(owners: &[Owner], team: Name, place: usize) -> usize
+    ensures same { result ≡ number_below place (is_interrupt_of owners.now team) }
+    ensures few { result ≤ place }
+{
+    let mut count = 0;
+    for before in 0..place {
+        if is_interrupt_of(owners, team, before) {
+            count += 1;
+        }
+    }
+    count
+}
+
+// The team of the interrupt at a place among all, from 0, and which of that team's it is, from 1.
+fn interrupt_of(owners: &[Owner], place: usize) -> Option<(Name, usize)>
+    requires { place < INTERRUPT_LIMIT }
+    ensures { result ≡ interrupt_of owners.now place }
+{
+    match interrupt_team(owners, place) {
+        Some(team) => Some((team, interrupts_before(owners, team, place) + 1)),
+        None => None,
+    }
+}
+
+/// What a line calls the interrupt at a place among all, from 0: by the team and its place among that team's, from 1, where one
 /// of several has it.
 pub fn push_interrupt(text: &mut String, owners: &[Owner], place: usize) -> Result<(), AllocError>
     requires { place < INTERRUPT_LIMIT }
@@ -106,18 +141,17 @@ fn push_owned(owners: &mut Vec<Owner>, team: Name, set: &TaskSet) -> Result<(), 
     Ok(())
 }
 
-// Adds as many interrupts of a document.
+// Adds as many interrupts of a team's document.
 fn push_interrupts(
     owners: &mut Vec<Owner>,
     team: Name,
     interrupts: &[Interrupt],
 ) -> Result<(), AllocError>
     ensures { OnOk result (owners.new.items
-        ≡ owners.old.items ++ interrupts_from team 1 interrupts.now) }
+        ≡ owners.old.items ++ interrupts_by team interrupts.now) }
 {
-    for (place, _) in interrupts.iter().enumerate() {
-        let place = place + 1;
-        owners.push(Owner::Interrupt { place, team })?;
+    for _ in interrupts {
+        owners.push(Owner::Interrupt { team })?;
     }
     Ok(())
 }

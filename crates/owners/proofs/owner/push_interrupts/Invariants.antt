@@ -1,8 +1,8 @@
-use Rattle.std.proofs.Common.{◌≡◌, ◌+◌, ◌++◌, drop}
-use Rattle.owners.specs.Owners.{interrupts_from}
+use Rattle.std.proofs.Common.{◌≡◌, ◌++◌, drop}
+use Rattle.owners.specs.Owners.{interrupts_by}
 use Rattle.owners.proofs.owner.push_interrupts.Given as goal
 
-abbrev pub invariant-loop-place : goal.invariant-loop-place
-invariant-loop-place l =
-    l.owners.items ++ interrupts_from l.team (l.place + 1) (drop l.place l.interrupts)
-    ≡ l.fn.owners.items ++ interrupts_from l.team 1 l.interrupts
+abbrev pub invariant-loop : goal.invariant-loop
+invariant-loop l =
+    l.owners.items ++ interrupts_by l.team (drop l.index l.interrupts)
+    ≡ l.fn.owners.items ++ interrupts_by l.team l.interrupts
