@@ -378,8 +378,8 @@ in these 9000:
   hi section 1 len 200 1000 1000 by cost
   hi slack 3000
 
-Interrupts have lines, too, by the document and their place in it, and what the node takes of each job. One more of `job` is
-padded as the node's table would be: so a timer is at most all of it.
+Interrupts have lines, too, by the team and their place there, and each number of a node that takes something. One more of
+`job` is padded as the node's table would be: so a timer is at most all of it; and nobody calls for a lock here.
 
   $ mkdir both
   $ x='[[task]]\nname = "x"\nperiod = 10000\ndeadline = 10000\ncost = 4000\n'
@@ -395,6 +395,7 @@ padded as the node's table would be: so a timer is at most all of it.
   two interrupt 2 cost 100 284 284
   two interrupt 2 period 4000 1425 1425
   node job 50 356 356
+  node lock 0 10000000 10000000 by 10000000
   node release 20 50 50 by job
   node late 30 1170 1170
   all 1048 1048 y

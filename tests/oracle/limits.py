@@ -143,13 +143,13 @@ def common_numbers(tasks):
         ]:
             held = lambda most, values=values, end=end: end if most == values[-1] else None
             numbers.append(Common(f"{words} {key}", value, values, functools.partial(put, key), held))
-    for key in ("job", "lock", "release", "late") if node is not None else ():
-        if value := getattr(node, key):
-            put = lambda other, key=key: (sheets, node._replace(**{key: other}), interrupts)
-            values = range(node.release if key == "job" else 0, (RELEASE_MOST if key == "release" else OVERHEAD_MOST) + 1)
-            if key == "release":
-                values = values[: node.job + 1]
-            numbers.append(Common(f"node {key}", value, values, put, functools.partial(held_node, key, node, values, put)))
+    for key in ("job", "lock", "release", "late") if node is not None and any(node) else ():
+        put = lambda other, key=key: (sheets, node._replace(**{key: other}), interrupts)
+        values = range(node.release if key == "job" else 0, (RELEASE_MOST if key == "release" else OVERHEAD_MOST) + 1)
+        if key == "release":
+            values = values[: node.job + 1]
+        held = functools.partial(held_node, key, node, values, put)
+        numbers.append(Common(f"node {key}", getattr(node, key), values, put, held))
     return numbers
 
 

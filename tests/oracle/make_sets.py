@@ -333,7 +333,9 @@ def locks_of(rng, sheets):
 
 
 def gathered(rng, parts, node=None):
-    """One text of documents; some heads are wrong."""
+    """One text of documents, of which a team may have several; some heads are wrong."""
+    if rng.random() < 0.2:
+        parts = [(parts[0][0], document) for _, document in parts[:2]] + parts[2:]
     out = b"" if node is None else b"#%% %d\n%s" % (len(node) + (rng.random() < 0.03), node)
     for team, document in parts:
         head = f"#% {team} {len(document)}\n"

@@ -26,7 +26,7 @@ pub record IsKept (weighs : Bool) (U : List Task) (P : Placing) (V : List Task) 
   pub sheet : is_changed weighs (task_at U before) (task_at V task) ≡ false
   pub seat : IsSameSeat (seat_of U P before) (seat_of V Q task)
 
--- the new set's interrupts were there before, with the same numbers, and none is gone; each by its document and its place there
+-- the new set's interrupts were there before, with the same numbers, and none is gone; each by its team and its place there
 pub record AreKept (old : List Owner) (U : List Task) (new : List Owner) (V : List Task) : Type 0 where
   pub came : (place : ℕ) (y : Interrupt) → place < INTERRUPT_LIMIT
       → slice_get (interrupts_of V) place ≡ Some y

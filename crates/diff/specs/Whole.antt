@@ -86,7 +86,7 @@ interrupt_line name x y =
     ++ some_number_words (codes " cost ") (option_map (λ i. i.cost) x) (option_map (λ i. i.cost) y)
     ++ codes "\n"
 
--- a set has an interrupt at a place, and a line calls it so: by its document and its place there
+-- a set has an interrupt at a place, and a line calls it so: by its team and its place there
 abbrev pub is_called : List Owner → List Task → (name : List ℕ) → ℕ → Bool
 is_called owners U name place =
     is_some (slice_get (interrupts_of U) place)

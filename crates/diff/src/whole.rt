@@ -324,7 +324,7 @@ fn push_all_gone(
     Ok(())
 }
 
-/// The lines of what no task has: by what the set is preferred, what its node takes, and its interrupts, each by its document
+/// The lines of what no task has: by what the set is preferred, what its node takes, and its interrupts, each by its team
 /// and its place there; with what was and what is. The error is out of memory.
 pub fn whole_text(alloc: Global, old: &Side<'_>, new: &Side<'_>) -> Result<String, AllocError>
     ensures { IfOk result (λ text. string_bytes text

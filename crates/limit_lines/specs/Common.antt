@@ -1,8 +1,8 @@
 -- The lines that are of no one task: of the interrupts, of what the node takes, and of the locks.
-use Rattle.std.specs.Prelude.{◌≡◌, ◌⊎◌, ℕ, zero, suc, ◌+◌, ◌==◌, Bool, true, false, nat_lt, List, [], ◌++◌, length, codes, Option, Some, None, if◌then◌else◌}
+use Rattle.std.specs.Prelude.{◌≡◌, ◌⊎◌, ℕ, zero, suc, ◌+◌, ◌==◌, Bool, true, false, List, [], ◌++◌, length, codes, Option, Some, None, if◌then◌else◌}
 use Rattle.std.specs.Fmt.{decimal}
 use Rattle.task_sheet.specs.declared.node.Node.{Node}
-use Rattle.task_sheet.specs.Sheet.{Task, task_at}
+use Rattle.task_sheet.specs.Sheet.{Task, task_at, no_overhead, same_node}
 use Rattle.task_sheet.specs.TaskSet.{IsTaskSet}
 use Rattle.overheads.specs.Padding.{padding_fault}
 use Rattle.overheads.specs.declared.padding.PadFault.{PadFault}
@@ -107,30 +107,26 @@ IsSharedLine W node order number text =
     (own : Option ℕ) × AnswersSharedIn W node order number own
     × IsSharedTold (is_shared_told order own) W node number own text
 
--- the line of a number of the node that takes something; nothing where it is 0
-abbrev pub IsSharedLineIf : Bool → List Task → Node → Option (List ℕ) → Shared → List ℕ
-    → Type 0
-IsSharedLineIf true W node order number text = IsSharedLine W node order number text
-IsSharedLineIf false W node order number text = text ≡ []
-
-abbrev pub IsNodeLine : List Task → Node → Option (List ℕ) → Shared → List ℕ → Type 0
-IsNodeLine W node order number text =
-    IsSharedLineIf (nat_lt 0 (shared_of number node)) W node order number text
-
 -- the lines of what the node takes of tasks as they are written
 abbrev pub AreNodeLines : List Task → Node → Option (List ℕ) → List ℕ → Type 0
 AreNodeLines W node order text =
     (job : List ℕ) × (lock : List ℕ) × (release : List ℕ) × (late : List ℕ)
-    × IsNodeLine W node order Job job
-    × IsNodeLine W node order Lock lock
-    × IsNodeLine W node order Release release
-    × IsNodeLine W node order Late late
+    × IsSharedLine W node order Job job
+    × IsSharedLine W node order Lock lock
+    × IsSharedLine W node order Release release
+    × IsSharedLine W node order Late late
     × (text ≡ job ++ lock ++ release ++ late)
+
+-- the same; nothing where the node takes nothing
+abbrev pub AreNodeLinesIf : (nothing : Bool) → List Task → Node → Option (List ℕ) → List ℕ → Type 0
+AreNodeLinesIf true W node order text = text ≡ []
+AreNodeLinesIf false W node order text = AreNodeLines W node order text
 
 -- the same of a set with what its node takes; nothing where no document says it
 abbrev pub AreNodeLinesOf : List Task → Option (List ℕ) → List ℕ → Type 0
 AreNodeLinesOf U order text =
-    (IsTaskSet (written U) × AreNodeLines (written U) (node_of U) order text)
+    (IsTaskSet (written U)
+    × AreNodeLinesIf (same_node (node_of U) no_overhead) (written U) (node_of U) order text)
     ⊎ (¬ IsTaskSet (written U) × (text ≡ []))
 
 -- ---- all of them

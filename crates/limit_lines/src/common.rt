@@ -1,11 +1,11 @@
 //! The lines that are of no one task: of the interrupts, of what the node takes, and of the locks.
 ghost use Rattle.std.specs.Prelude.{◌≡◌, ◌++◌, ◌<◌, ◌≤◌, length, codes, option_map, IfOk, IfSome, OnOk, string_bytes};
 ghost use Rattle.task_sheet.specs.declared.node.TheConstants.{INTERRUPT_LIMIT};
-ghost use Rattle.task_sheet.specs.Sheet.{AreOverheads, task_at};
+ghost use Rattle.task_sheet.specs.Sheet.{AreOverheads, no_overhead, same_node, task_at};
 ghost use Rattle.task_sheet.specs.Orders.{IsOrder};
 ghost use Rattle.limits.specs.Shared.{most_shared};
 ghost use Rattle.limits.specs.Written.{node_of, written};
-ghost use Rattle.limit_lines.specs.Common.{AnswersSharedIn, AreAccountLines, AreCommonLines, AreInterruptLines, AreInterruptsLines, AreNodeLines, AreNodeLinesOf, IsNodeLine, IsSharedLine, fault_words, is_shared_told, is_whole, room_words, shared_held, shared_label, shared_line};
+ghost use Rattle.limit_lines.specs.Common.{AnswersSharedIn, AreAccountLines, AreCommonLines, AreInterruptLines, AreInterruptsLines, AreNodeLines, AreNodeLinesIf, AreNodeLinesOf, IsSharedLine, fault_words, is_shared_told, is_whole, room_words, shared_held, shared_label, shared_line};
 
 use crate::locks::locks_text;
 use crate::text::{number_text, push_some};
@@ -245,26 +245,6 @@ fn shared_text(
     Ok(text)
 }
 
-// The same of one that takes something; nothing where it is 0.
-fn node_line(
-    alloc: Global,
-    written: &TaskSet,
-    node: Node,
-    order: Option<&[usize]>,
-    number: Shared,
-) -> Result<String, AllocError>
-    requires limits { AreOverheads node }
-    requires order { IfSome (option_map (λ o. o.now) order) (IsOrder written.now) }
-    ensures { IfOk result (λ text. IsNodeLine written.now node (option_map (λ o. o.now) order.entry) number
-        (string_bytes text)) }
-{
-    if 0 < shared_of(node, number) {
-        shared_text(alloc, written, node, order, number)
-    } else {
-        Ok(String::new(alloc))
-    }
-}
-
 // The lines of what the node takes of tasks as they are written.
 fn node_lines(
     alloc: Global,
@@ -277,14 +257,33 @@ fn node_lines(
     ensures { IfOk result (λ text. AreNodeLines written.now node (option_map (λ o. o.now) order.entry)
         (string_bytes text)) }
 {
-    let mut text = node_line(alloc, written, node, order, Shared::Job)?;
-    let lock = node_line(alloc, written, node, order, Shared::Lock)?;
-    let release = node_line(alloc, written, node, order, Shared::Release)?;
-    let late = node_line(alloc, written, node, order, Shared::Late)?;
+    let mut text = shared_text(alloc, written, node, order, Shared::Job)?;
+    let lock = shared_text(alloc, written, node, order, Shared::Lock)?;
+    let release = shared_text(alloc, written, node, order, Shared::Release)?;
+    let late = shared_text(alloc, written, node, order, Shared::Late)?;
     text.push_str(lock.as_str())?;
     text.push_str(release.as_str())?;
     text.push_str(late.as_str())?;
     Ok(text)
+}
+
+// The same; nothing where the node takes nothing.
+fn lines_if(
+    alloc: Global,
+    written: &TaskSet,
+    node: Node,
+    order: Option<&[usize]>,
+) -> Result<String, AllocError>
+    requires limits { AreOverheads node }
+    requires order { IfSome (option_map (λ o. o.now) order) (IsOrder written.now) }
+    ensures { IfOk result (λ text. AreNodeLinesIf (same_node node no_overhead) written.now node
+        (option_map (λ o. o.now) order.entry) (string_bytes text)) }
+{
+    if node == Node::none() {
+        Ok(String::new(alloc))
+    } else {
+        node_lines(alloc, written, node, order)
+    }
 }
 
 // Those of a set with what its node takes.
@@ -300,13 +299,13 @@ fn node_text(alloc: Global, set: &TaskSet, order: Option<&[usize]>) -> Result<St
     match said {
         Some(tasks) => {
             let _sheets = tasks.sheets();
-            node_lines(alloc, &tasks, node, order)
+            lines_if(alloc, &tasks, node, order)
         }
         None => Ok(String::new(alloc)),
     }
 }
 
-/// The lines that are of no one task: of each interrupt its cost and its period, of what the node takes each number above 0,
+/// The lines that are of no one task: of each interrupt its cost and its period, of a node that takes something each number,
 /// and of each lock the most that its sections may take where they have to be shorter; in an order that is given, the
 /// lowest first, only of what helps it. The error is out of memory.
 pub fn common_text(

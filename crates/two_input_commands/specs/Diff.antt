@@ -77,7 +77,7 @@ ComparesText asking by chains U text _ = ⊥
 abbrev pub both_lines : List Task → Placing → List Task → Placing → List ℕ
 both_lines U P V Q = placing_first V Q ++ codes "was " ++ placing_first U P
 
--- these, then what of the change no task has, each interrupt with its document, then what becomes of the tasks, each with
+-- these, then what of the change no task has, each interrupt with its team, then what becomes of the tasks, each with
 -- its team: that of the new set, where it has the task, else that of the old one; and last what becomes of the chains
 abbrev pub compared_lines : List Owner → List Task → Compared → List ℕ
 compared_lines owners U c =
