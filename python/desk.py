@@ -353,14 +353,27 @@ class Change:
 
 
 @dataclass(frozen=True)
+class ChainChange:
+    """The same of a chain: its bound, and what that leaves of its limit, which may be less than nothing;
+    of keys `tasks`, as `a+b`, and `limit`."""
+
+    kind: str
+    chain: str
+    bound: tuple[int | None, int | None]
+    slack: tuple[int | None, int | None]
+    keys: tuple[Difference, ...] = ()
+
+
+@dataclass(frozen=True)
 class Compared(_Answer):
-    """What a change of a set comes to: both verdicts, what no task has, and the tasks of which there
-    is something to say. It is false where the new set is refused."""
+    """What a change of a set comes to: both verdicts, what no task has, and the tasks and chains of which
+    there is something to say. It is false where the new set is refused."""
 
     admitted: bool
     was_admitted: bool
     whole: tuple[Difference, ...]
     changes: tuple[Change, ...]
+    chains: tuple[ChainChange, ...] = ()
 
     def __bool__(self) -> bool:
         return self.admitted
@@ -889,8 +902,12 @@ def diff(tasks: Sheets, new: Sheets) -> Compared:
     """
     status, said = _ask("diff", tasks, new)
     _, was, *lines = said.splitlines()
-    whole, changes = (), []
+    whole, changes, chains = (), [], []
     for words in (it.split() for it in lines):
+        if words[3:4] == ["bound"]:
+            bound, slack = ((_time(words[k]), _time(words[k + 1])) for k in (4, 7))
+            chains.append(ChainChange(words[0], words[2], bound, slack, _differences(words[10:])))
+            continue
         if words[2:3] != ["level"]:
             front = 3 if words[1] == "interrupt" else {"node": 1, "interrupt": 2}.get(words[0], 0)
             whole += _differences(words[front:], "".join(it + " " for it in words[:front]))
@@ -899,7 +916,8 @@ def diff(tasks: Sheets, new: Sheets) -> Compared:
         keys = _differences(words[12:]) if words[11:12] == ["keys"] else ()
         team = None if keys else _team(words)
         changes.append(Change(words[0], words[1], level, bound, slack, keys, team))
-    return Compared(status == 0, was.startswith("was admitted"), whole, tuple(changes), text=said)
+    was_admitted = was.startswith("was admitted")
+    return Compared(status == 0, was_admitted, whole, tuple(changes), tuple(chains), text=said)
 
 
 def releases(tasks: Sheets, until: int) -> Releases:

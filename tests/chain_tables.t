@@ -70,7 +70,7 @@ Then how many there are, and their names; of a chain that stands twice the secon
   [4]
   $ refusal '[[chain]]\nname = "a"\ntasks = ["camera", "none"]\n' settings
   refused: ChainTask a none
-  (on standard error) set.toml: chain a: the set has no task none; a chain's tasks are names of tasks, of any team
+  (on standard error) set.toml: line 11, chain 1 (a): the set has no task none; a chain's tasks are names of tasks, of any team
   [4]
 
 Each document of a folder has chains, of all teams' tasks; no two of one name:
@@ -93,6 +93,15 @@ Each document of a folder has chains, of all teams' tasks; no two of one name:
   $ sed -i 's/"9"/"wheels"/' node/drive.toml; desk certify node | head -n 2
   desk-certificate 1
   best 3
+  $ sed 's/"wheel"\]/"tire"]/' node/node.toml > with; cp node/node.toml kept; cp with node/node.toml; desk certify node
+  refused: ChainTask all tire
+  (on standard error) node: node.toml: line 1, chain 1 (all): the set has no task tire; a chain's tasks are names of tasks, of any team
+  [4]
+  $ cp kept node/node.toml; cp node/drive.toml kept; sed -i 's/tasks = \["wheel"\]/tasks = ["tire"]/' node/drive.toml; desk certify node
+  refused: ChainTask wheels tire
+  (on standard error) node: drive.toml: line 6, chain 1 (wheels): the set has no task tire; a chain's tasks are names of tasks, of any team
+  [4]
+  $ cp kept node/drive.toml
   $ printf 'age = 0\n' >> node/node.toml; desk certify node
   refused: node BadLimit 1 age
   (on standard error) node: node.toml: line 1, chain 1 (all): age has to be from 1 to 1000000000; it is 0

@@ -177,8 +177,45 @@ In an order of the list a chain of a task that misses its deadline has no bound;
   chain back 0 age - reaction - bound -
   chain alone 1 age 1000 reaction - bound 2950
 
-No other command's status counts chains:
+What a trace of a node shows of them comes last. An age past its bound is a no, and so is a job of a chain's task that comes
+later than a period after the one before, but for what is let pass:
+
+  $ desk simulate examples/steer.toml examples/steer.releases > trace; desk observe examples/steer.toml trace
+  task log 1 5000 5000 - 100000 14800 17400
+  task plan 3 6000 6000 20000 20000 9200 9200
+  task camera 7 2000 2000 10000 10000 2000 2600
+  task wheel 14 600 600 5000 5000 600 600
+  chain steer 8 age 44198 reaction 44198 bound 44200
+  $ two 400 > two.toml
+  $ printf 'until 6000\n0 in\n400 out\n1400 out\n2400 out\n3000 in runs 100\n3400 out\n' | desk simulate two.toml - > trace
+  $ desk observe two.toml trace
+  task in 2 400 400 3000 2000 400 500
+  task out 4 100 100 1000 1000 100 100
+  chain there 4 age 3500 reaction 3500 bound 3500
+  chain back 1 age 1100 reaction - bound 3500
+  chain alone 2 age 3100 reaction 3100 bound 2500
+  age alone 3100 of 2500
+  steady in 3000 3000 of 2000
+  [3]
+  $ desk observe --tolerance 1000 two.toml trace | tail -n 1
+  chain alone 2 age 3100 reaction 3100 bound 2500
+
+A job writes at its finish, however long after its last slice; its first one is where it reads. In an order of the trace in
+which a task misses its deadline nothing is promised of chains:
+
+  $ printf '0 400 in\n400 500 out\n1400 1500 out\n2000 2300 in\n2400 2500 out\njob in 0 400\njob out 400 500\njob out 1400 1500\njob in 2000 2450\njob out 2400 2550\n' > later
+  $ desk observe two.toml later | grep chain
+  chain there 3 age 2550 reaction - bound 3500
+  chain back 1 age 1150 reaction - bound 3500
+  chain alone 2 age 2450 reaction 2450 bound 2500
+  $ two 950 > late.toml; { printf 'thread out 1\nthread in 2\n'; cat later; } | desk observe late.toml - > said
+  [3]
+  $ grep chain said
+  [1]
+
+No other command's status counts limits:
 
   $ desk limits tight.toml > said && desk worst tight.toml > said && desk diff examples/steer.toml tight.toml
   admitted 4
   was admitted 4
+  changed chain steer bound 44200 44200 slack 800 -1 keys limit 45000 44199

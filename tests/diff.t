@@ -89,3 +89,51 @@ A refusal of the new set says so; the old one comes first:
   $ desk diff examples/robot-mended.toml missing.toml
   refused: ReadFailed
   [7]
+
+Chains come behind the tasks: one whose bound is another one; then one that is gone, one that came and one that says
+something else. What is past a limit is less than nothing:
+
+  $ sed 's/cost = 600$/cost = 1600/' examples/steer.toml > slow.toml
+  $ desk diff examples/steer.toml slow.toml
+  admitted 4
+  was admitted 4
+  changed wheel level 4 4 bound 600 1600 slack 4400 3400 keys cost 600 1600
+  slower log level 1 1 bound 17400 37800 slack 82600 62200
+  slower plan level 2 2 bound 9200 14800 slack 10800 5200
+  slower camera level 3 3 bound 2600 3600 slack 7400 6400
+  slower chain steer bound 44200 49800 slack 800 -4800
+  $ desk diff slow.toml examples/steer.toml | tail -n 1
+  faster chain steer bound 49800 44200 slack -4800 800
+  $ printf '[[chain]]\nname = "level"\ntasks = ["plan", "wheel"]\nreaction = 35000\n' > level
+  $ cat examples/steer.toml level > both.toml
+  $ desk diff both.toml examples/steer.toml
+  admitted 4
+  was admitted 4
+  removed chain level bound 34200 - slack 800 -
+  $ desk diff examples/steer.toml both.toml
+  admitted 4
+  was admitted 4
+  added chain level bound - 34200 slack - 800
+  $ sed 's/"camera", "plan"/"camera"/; s/reaction = 35000/age = 34000/' both.toml > others.toml
+  $ desk diff both.toml others.toml
+  admitted 4
+  was admitted 4
+  changed chain steer bound 44200 17600 slack 800 27400 keys tasks camera+plan+wheel camera+wheel
+  changed chain level bound 34200 34200 slack 800 -200 keys limit 35000 34000
+  $ grep -v reaction both.toml > free.toml
+  $ desk diff both.toml free.toml | tail -n 2
+  changed chain steer bound 44200 44200 slack 800 - keys limit 45000 -
+  changed chain level bound 34200 34200 slack 800 - keys limit 35000 -
+
+After a no there is no bound; only what chains say counts then:
+
+  $ sed 's/cost = 600$/cost = 5000/' both.toml > full.toml
+  $ desk diff both.toml full.toml > said
+  [3]
+  $ grep chain said
+  [1]
+  $ sed 's/45000/45001/' full.toml > wide.toml
+  $ desk diff both.toml wide.toml > said
+  [3]
+  $ grep chain said
+  changed chain steer bound 44200 - slack 800 - keys limit 45000 45001

@@ -273,7 +273,7 @@ What the node takes past a task's own numbers, and chains, of which each says wh
   arm of team arm (ann or root) has to have less cost, or teams/node.toml to say less of what the node takes
   refused: COMMIT "node"
   $ fresh cy && printf '[[chain]]\nname = "see"\ntasks = ["pan", "tilt"]\n' >> cy/teams/cam.toml && save cy 'a chain' && push cy
-  chain see: the set has no task tilt; a chain's tasks are names of tasks, of any team
+  cam.toml: line 6, chain 1 (see): the set has no task tilt; a chain's tasks are names of tasks, of any team
   refused: ChainTask see tilt
   no team has a task tilt: the chain see of team cam (yours) has to have another one
   refused: COMMIT "a chain"
@@ -292,7 +292,7 @@ A document whose chain has other teams' tasks is told about as any other:
 And what is wrong with a chain:
 
   $ fresh ann && sed -i 's/"arm"/"hand"/' ann/teams/arm.toml && save ann 'another name' && push ann
-  chain see: the set has no task arm; a chain's tasks are names of tasks, of any team
+  cam.toml: line 6, chain 1 (see): the set has no task arm; a chain's tasks are names of tasks, of any team
   refused: ChainTask see arm
   team arm (yours) had the task arm: the chain see of team cam (cy or root) has to do without it, first or in the same commit
   refused: COMMIT "another name"

@@ -133,7 +133,8 @@ export function read_judge({ text, status, told }) {
 
 // `diff`: each task of which there is something to say, with its level, its bound and what that
 // leaves of the deadline, before and after; and the keys that differ, with what was and what is. In
-// front of them stands what no task has: the preference, the node, the interrupts.
+// front of them stands what no task has: the preference, the node, the interrupts; behind them each
+// chain, with its bound and what that leaves of its limit.
 function read_differences(words) {
   const found = [], rest = [...words];
   while (rest.length > 2) {
@@ -149,9 +150,17 @@ function read_change(line) {
   const two = from => words.slice(from, from + 2).map(number);
   return { kind, name, level: two(0), bound: two(3), left: two(6), keys };
 }
+function read_chain_change([kind, , name, , ...words]) {
+  const keys = words[5] === 'keys' ? read_differences(words.slice(6)) : [];
+  const two = from => words.slice(from, from + 2).map(number);
+  return { kind, name: `chain ${name}`, level: [null, null], bound: two(0), left: two(3), keys };
+}
 export function read_diff({ text, status }) {
   if (status !== 0 && status !== 3) return null;
-  return lines_of(text).slice(2).filter(it => it.split(' ')[2] === 'level').map(read_change);
+  const lines = lines_of(text).slice(2), is_chain = it => it.split(' ')[3] === 'bound';
+  const of_tasks = lines.filter(it => it.split(' ')[2] === 'level' && !is_chain(it));
+  const of_chains = lines.filter(is_chain).map(it => it.split(' '));
+  return [...of_tasks.map(read_change), ...of_chains.map(read_chain_change)];
 }
 
 // `play`: a reply for each line that isn't skipped, then the node's state.

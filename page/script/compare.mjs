@@ -44,7 +44,7 @@ function grown(changes, was, now) {
 const said = ({ verdict, limits }) =>
   verdict + (limits?.all ? `, all execution × ${thousandths(limits.all)}` : '');
 
-// Both verdicts; how many tasks changed, and the table of them. `changes` is null where the new set
+// Both verdicts; how many tasks and chains changed, and the table of them. `changes` is null where the new set
 // is refused.
 export function difference(was, now, changes) {
   const name = was.name ? ` ${was.name}` : '';
@@ -59,5 +59,7 @@ export function difference(was, now, changes) {
   const cells = heads.map(it => element('th', { scope: 'col' }, it));
   const table = element('table.changes', { 'aria-label': 'changes since the baseline' },
     element('thead', element('tr', ...cells)), element('tbody', ...rows));
-  return { head, summary: `Changed: ${plural(rows.length, 'task')}`, table };
+  const chains = changes.filter(it => it.name.startsWith('chain ')).length;
+  const counts = [[rows.length - chains, 'task'], [chains, 'chain']].filter(([count]) => count);
+  return { head, summary: `Changed: ${counts.map(it => plural(...it)).join(', ')}`, table };
 }

@@ -55,7 +55,7 @@ SECOND_INPUTS = {
 
 
 # commands whose answers speak of chains
-OF_CHAINS = ("admit", "explain", "judge", "settings", "simulate")
+OF_CHAINS = ("admit", "explain", "judge", "settings", "diff", "simulate", "observe")
 
 
 def of_set(rng, subject):
@@ -77,7 +77,9 @@ def of_set(rng, subject):
     if subject == "diff":
         nodes = [node, node, None, {**(node or {}), "job": 40, "release": rng.choice([20, 40])}]
         others = [interrupts, interrupts, interrupts[1:], make_sets.interrupts(rng)]
-        inputs.append(set_input(rng, make_sets.changed(rng, sheets), 0.1, rng.choice([own, own, None]), rng.choice(nodes), rng.choice(others)))
+        changed = make_sets.changed(rng, sheets)
+        links = make_sets.other_chains(rng, chains, [sheet.name for sheet in changed])
+        inputs.append(set_input(rng, changed, 0.1, rng.choice([own, own, None]), rng.choice(nodes), rng.choice(others), links))
     options = [] if prefer is None or rng.random() < 0.05 else [("prefer", prefer)]
     options += [("strict", None)] * (rng.random() < 0.15)
     if subject in ("explain", "limits", "worst") and rng.random() < 0.3:

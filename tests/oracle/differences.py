@@ -3,6 +3,7 @@
 import itertools
 
 import analysis
+import chain_bounds
 from sets import ALL
 
 
@@ -16,12 +17,15 @@ class Side:
         for level, i, above in analysis.levels_of(self.order or []):
             bound = analysis.response_of(tasks, i, above)
             self.seats[tasks[i].name] = (level, bound, tasks[i].deadline - bound)
+        responses = [self.seats.get(task.name, (None, None))[1] for task in tasks]
+        self.chains = {chain.name: (chain, chain_bounds.bound_in(tasks, self.order, responses, chain)) for chain in tasks.chains}
 
 
 def lines_of(old, new):
     """The lines behind the first two, each that has no keys with the team of its task: the new set's, else the old one's."""
     lines = changes(old, new, (old.by, new.by) == ("weight", "weight"))
-    return whole(old, new) + [line if " keys" in line else line + team_of(line.split()[1], old, new) for line in lines]
+    lines = [line if " keys" in line else line + team_of(line.split()[1], old, new) for line in lines]
+    return whole(old, new) + lines + chain_changes(old.chains, new.chains)
 
 
 def whole(old, new):
@@ -109,3 +113,29 @@ def line(kind, name, old, new):
     for word, before, after in zip(("level", "bound", "slack"), old.seats.get(name, nowhere), new.seats.get(name, nowhere)):
         words += [word, before, after]
     return " ".join(map(str, words))
+
+
+def chain_changes(old, new):
+    """What becomes of the chains, by their names: each with its bound."""
+    lines = [chain_line("removed", name, old[name], None) for name in old if name not in new]
+    effects = []
+    for name, (chain, bound) in new.items():
+        if name not in old:
+            lines.append(chain_line("added", name, None, new[name]))
+            continue
+        before, bound_before = old[name]
+        keys = words("tasks", *("+".join(it.tasks) for it in (before, chain)))
+        keys += words("limit", *("-" if it.limit is None else it.limit for it in (before, chain)))
+        if keys:
+            lines.append(chain_line("changed", name, old[name], new[name]) + " keys" + keys)
+        elif None not in (bound, bound_before) and bound != bound_before:
+            effects.append(chain_line("slower" if bound > bound_before else "faster", name, old[name], new[name]))
+    return lines + effects
+
+
+def chain_line(kind, name, old, new):
+    bounds, slacks = [], []
+    for chain, bound in (it or (None, None) for it in (old, new)):
+        bounds.append("-" if bound is None else bound)
+        slacks.append("-" if bound is None or chain.limit is None else chain.limit - bound)
+    return " ".join(map(str, [kind, "chain", name, "bound", *bounds, "slack", *slacks]))

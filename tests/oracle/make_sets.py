@@ -144,6 +144,25 @@ def chains(rng, tasks):
     return [table for table in out if table["tasks"] or rng.random() < 0.1]
 
 
+def other_chains(rng, tables, names):
+    """The tables of chains of a changed set: some are gone, new or others, and mostly all of its tasks' names."""
+    out = [copy.deepcopy(table) for table in tables if rng.random() < 0.85]
+    for table in out:
+        if rng.random() < 0.95:
+            table["tasks"] = [name for name in table["tasks"] if name in names] or rng.sample(names, min(1, len(names)))
+        if rng.random() < 0.2:
+            table["tasks"] = rng.sample(names, min(len(names), rng.choice([1, 2, 3])))
+        if rng.random() < 0.2:
+            table["age"] = rng.choice([1, 1_000_000_000, rng.randint(1, 1_000_000)])
+        if rng.random() < 0.1:
+            table.pop("age", None)
+    if names and rng.random() < 0.3:
+        out.append({"name": rng.choice([*NAMES, "steer", "chain"]), "tasks": rng.sample(names, min(len(names), 2))})
+    rng.shuffle(out)
+    firsts = {table["name"]: table for table in reversed(out)}
+    return out if rng.random() < 0.02 else [table for table in out if firsts[table["name"]] is table and table["tasks"]]
+
+
 def wrong_chains(rng, tables):
     """One fault or two in the tables of chains."""
     tables = copy.deepcopy(tables)

@@ -3,6 +3,7 @@
 from typing import NamedTuple
 
 import analysis
+import chain_traces
 import settings
 from lines import Faulty, kept_lines, name_in, number_in, read_lines
 from refusals import Refused
@@ -211,7 +212,10 @@ def observe(tasks, order, numbers, slices, jobs, tolerance, is_jobless):
     named = {one.job.name for one in seen}
     missing = [f"jobless {name}" for name in promised if name not in named and not is_jobless]
     broken = broken_lines(seen, tolerance)
-    return "".join(line + "\n" for line in lines + missing + broken), 3 if missing or broken else 0
+    bounds = {i: promised[tasks[i].name][3] for i in order}
+    links, is_late = chain_traces.lines_of(tasks, order, bounds, owned, jobs, seen, end, tolerance)
+    is_no = missing or broken or is_late
+    return "".join(line + "\n" for line in lines + missing + broken + links), 3 if is_no else 0
 
 
 def task_line(task, bound, seen):

@@ -10,4 +10,4 @@ mod text;
 pub use outcome::{ChainOutcome, outcome_of};
 pub use outputs::{ChainOutput, Station, outputs_of};
 pub use slices::{TaskSlice, slices_of};
-pub use text::run_chains_text;
+pub use text::{push_run_line, run_chains_text};

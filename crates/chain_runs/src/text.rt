@@ -45,8 +45,8 @@ fn push_bound(text: &mut String, bound: Option<u128>) -> Result<(), AllocError>
     }
 }
 
-// The line of a chain.
-fn push_line(
+/// The line of a chain that comes to this in a run, with this bound.
+pub fn push_run_line(
     text: &mut String,
     chain: &Chain,
     outcome: ChainOutcome,
@@ -75,7 +75,7 @@ fn push_chain(
 {
     let outputs = outputs_of(alloc, slices, &chain.tasks)?;
     let outcome = outcome_of(until, &outputs);
-    push_line(text, chain, outcome, bound_of(set, levels, &chain.tasks))
+    push_run_line(text, chain, outcome, bound_of(set, levels, &chain.tasks))
 }
 
 /// The lines of chains in a run that ends at `until`, in an order whose levels have these responses: of each how many outputs

@@ -449,7 +449,7 @@ impl Choice {
             Choice::Room => "How many numbers stay free beside each given anew, if they fit",
             Choice::LowerIsHigher => "The smaller number is the higher priority",
             Choice::Seed => "A random list in place of the densest, the same for the same seed",
-            Choice::Tasks => "What each task came to, in place of who executes when",
+            Choice::Tasks => "What each task and each chain came to, in place of who executes when",
             Choice::Tolerance => {
                 "By how many microseconds a time may be past what is promised, up to 60000000"
             }

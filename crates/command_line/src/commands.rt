@@ -49,7 +49,7 @@ const COMMANDS: [Listed; 16] = [
         about: "Prints the best order with its responses, or the tasks that stand in the way of all",
         example: example!(
             "admit examples/shared-lock.toml",
-            "0 admitted, 3 infeasible, 4 the set is refused"
+            "0 admitted, 3 infeasible, or a chain misses its limit, 4 the set is refused"
         ),
     },
     Listed {
@@ -66,7 +66,7 @@ const COMMANDS: [Listed; 16] = [
         about: "Prints what each response is made of, or a minimal set of tasks that collide and how one order fails",
         example: example!(
             "explain examples/shared-lock.toml",
-            "0 admitted, or with --at all meet, 3 infeasible, or some miss, 4 an input or NAME is refused"
+            "0 admitted, or with --at all meet, 3 infeasible, or some miss, or a chain misses its limit, 4 an input or NAME is refused"
         ),
     },
     Listed {
@@ -92,7 +92,7 @@ const COMMANDS: [Listed; 16] = [
         about: "Prints the level of each thread and the ceiling of each mutex in the best order",
         example: example!(
             "settings examples/shared-lock.toml",
-            "0 an order is printed, 3 infeasible, or a pair has to change, 4 an input is refused"
+            "0 an order is printed, 3 infeasible, or a chain misses its limit, or with --keep a pair has to change, 4 an input is refused"
         ),
     },
     Listed {
@@ -107,7 +107,7 @@ const COMMANDS: [Listed; 16] = [
         about: "Prints which tasks meet their deadlines at priorities that are given",
         example: example!(
             "settings examples/shared-lock.toml | desk judge examples/shared-lock.toml -",
-            "0 all meet, 3 some miss, 4 the set or the settings are refused"
+            "0 all meet, 3 some miss, or a chain misses its limit, 4 the set or the settings are refused"
         ),
     },
     Listed {

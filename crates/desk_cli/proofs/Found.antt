@@ -52,8 +52,10 @@ module _ (options : Options) (by : Preference) (owners : List Owner) (chains : L
         | false ↦ λ set other has said. (Err r, inr (U, text, both _ set other has, why), wrote, is)
       ]
   refused_in command.Diff r why wrote is =
-      λ set other has said. (Err r, (by, inr (U, text, both _ set other has, why)), wrote, is)
+      λ set other has said. (Err r, (by, chains, inr (U, text, both _ set other has, why)), wrote, is)
   refused_in command.ExplainAt r why wrote is =
+      λ set other has said. (Err r, (chains, inr (U, text, both _ set other has, why)), wrote, is)
+  refused_in command.Observe r why wrote is =
       λ set other has said. (Err r, (chains, inr (U, text, both _ set other has, why)), wrote, is)
   refused_in command.Judge r why wrote is =
       λ set other has said. (Err r, (chains, inr (U, text, both _ set other has, why)), wrote, is)
@@ -67,7 +69,7 @@ module _ (options : Options) (by : Preference) (owners : List Owner) (chains : L
   said_in command.Check (Shown kind) finds wrote is =
       λ set other has said. (Ok kind, (U, text, both _ set other has, finds), wrote, is)
   said_in command.Diff (Compared c) finds wrote is =
-      λ set other has said. (Ok (U, owners, c), (by, text, has, finds), wrote, is)
+      λ set other has said. (Ok (U, owners, chains, c), (by, text, has, said, finds), wrote, is)
   said_in command.Judge (Judged sorted node told) finds wrote is = λ set other has said. rw (← finds.0)
       (Ok (U, owners, chains, (node, told)), (by, text, has, said, finds.1), wrote, is)
   said_in command.Simulate (Simulated answer) finds wrote is =
@@ -76,8 +78,8 @@ module _ (options : Options) (by : Preference) (owners : List Owner) (chains : L
       (Ok (U, owners, chains, (answer, told)), (by, text, has, said, finds.1), wrote, is)
   said_in command.Draw (Drawn drawing) finds wrote is =
       λ set other has said. (Ok (U, drawing), (text, both _ set other has, finds), wrote, is)
-  said_in command.Observe (Observed leeway sight) finds wrote is = λ set other has said.
-      rw (← finds.0) (Ok (U, sight), (text, both _ set other has, finds.1), wrote, is)
+  said_in command.Observe (Observed leeway sight told) finds wrote is = λ set other has said. rw (← finds.0)
+      (Ok (U, owners, chains, (sight, told)), (by, text, has, said, finds.1), wrote, is)
   said_in command.Keep (Keeping node base room) finds wrote is = λ set other has said.
       rw (← finds.0, ← finds.1) (Ok (U, node), (text, both _ set other has, finds.2), wrote, is)
   said_in command.WorstAt (WorstAt worst) finds wrote is =

@@ -4,7 +4,7 @@ use Rattle.std.specs.Io.KnownBytes.{Appends}
 use Rattle.command_line.specs.declared.calls.OfOne.{OfOne}
 use Rattle.command_line.specs.declared.calls.OfOne.TheVariants.{Limits, Explain, Worst, Script, Play}
 use Rattle.command_line.specs.declared.calls.OfTwo.{OfTwo}
-use Rattle.command_line.specs.declared.calls.OfTwo.TheVariants.{Judge, Simulate, Diff, ExplainAt}
+use Rattle.command_line.specs.declared.calls.OfTwo.TheVariants.{Judge, Simulate, Diff, Observe, ExplainAt}
 use Rattle.command_line.specs.declared.calls.Options.{Options}
 use Rattle.preferences.specs.declared.asking.Asking.{Asking}
 use Rattle.task_sheet.specs.declared.prefer.Preference.TheVariants.{Weights}
@@ -70,7 +70,8 @@ module _ (before after : Option (List ℕ)) (s : Status) (r : CommandRefusal)
         | true ↦ (Err r, ([], inl why), wrote, is)
         | false ↦ (Err r, inl why, wrote, is)
       ]
-  two_refused Diff options first second why = (Err r, (Weights, inl why), wrote, is)
+  two_refused Diff options first second why = (Err r, (Weights, [], inl why), wrote, is)
   two_refused ExplainAt options first second why = (Err r, ([], inl why), wrote, is)
   two_refused Judge options first second why = (Err r, ([], inl why), wrote, is)
+  two_refused Observe options first second why = (Err r, ([], inl why), wrote, is)
   two_refused _ options first second why = (Err r, inl why, wrote, is)

@@ -18,7 +18,7 @@ use Rattle.two_input_commands.specs.ExplainAt.{ExplainsText, explained_at_lines}
 use Rattle.two_input_commands.specs.Judge.{JudgesText, judged_said, judged_status}
 use Rattle.two_input_commands.specs.Chained.{chained_status}
 use Rattle.two_input_commands.specs.LimitsAt.{LimitsText}
-use Rattle.two_input_commands.specs.Observe.{IsObservationOf, ObservesText, leeway_of, observation_said, observation_status}
+use Rattle.two_input_commands.specs.Observe.{IsObservationOf, ObservesText, WatchesText, leeway_of, observation_said, observation_status}
 use Rattle.answering.specs.Printed.{IsPrinted}
 use Rattle.two_input_commands.specs.Simulate.{IsInOrder, ReachesText, SimulatesText, reached_said, simulation_said, simulation_status}
 use Rattle.desk_cli.specs.declared.of_two.Found.{Found}
@@ -34,8 +34,9 @@ abbrev pub FindsIn : OfTwo → Options → Preference → List Owner → List Ch
     → Result Found CommandRefusal → Type 0
 FindsIn command.Check options by owners chains U text (Ok (Shown kind)) = ChecksText U text (Ok kind)
 FindsIn command.Check options by owners chains U text (Err r) = ChecksText U text (Err r)
-FindsIn command.Diff options by owners chains U text (Ok (Compared c)) = ComparesText (asking_of options) by U text (Ok c)
-FindsIn command.Diff options by owners chains U text (Err r) = ComparesText (asking_of options) by U text (Err r)
+FindsIn command.Diff options by owners chains U text (Ok (Compared c)) =
+    ComparesText (asking_of options) by chains U text (Ok c)
+FindsIn command.Diff options by owners chains U text (Err r) = ComparesText (asking_of options) by chains U text (Err r)
 FindsIn command.Judge options by owners chains U text (Ok (Judged sorted node told)) =
     (sorted ≡ is_sorted options) × JudgesText options.lower_is_higher chains U text (Ok (node, told))
 FindsIn command.Judge options by owners chains U text (Err r) =
@@ -47,8 +48,8 @@ FindsIn command.Simulate options by owners chains U text (Ok (Reached answer tol
 FindsIn command.Simulate options by owners chains U text (Err r) = SimulatesText U text (Err r)
 FindsIn command.Draw options by owners chains U text (Ok (Drawn drawing)) = DrawsText options U text (Ok drawing)
 FindsIn command.Draw options by owners chains U text (Err r) = DrawsText options U text (Err r)
-FindsIn command.Observe options by owners chains U text (Ok (Observed leeway shown)) =
-    (leeway ≡ leeway_of options) × ObservesText U text (Ok shown)
+FindsIn command.Observe options by owners chains U text (Ok (Observed leeway shown told)) =
+    (leeway ≡ leeway_of options) × WatchesText leeway chains U text (Ok (shown, told))
 FindsIn command.Observe options by owners chains U text (Err r) = ObservesText U text (Err r)
 FindsIn command.Keep options by owners chains U text (Ok (Keeping node base room)) =
     (base ≡ base_of options) × (room ≡ room_of options) × KeepsText U text (Ok node)
@@ -69,7 +70,7 @@ IsFoundOf U (Judged sorted node told) = All (λ j. j.task < TASK_LIMIT) node.jud
 IsFoundOf U (Compared c) = IsPlacingOf U c.was × IsPlacingOf c.set c.is
 IsFoundOf U (Reached answer told) = IsInOrder U answer
 IsFoundOf U (Drawn drawing) = IsInOrder U drawing.answer
-IsFoundOf U (Observed leeway shown) = IsObservationOf shown
+IsFoundOf U (Observed leeway shown told) = IsObservationOf shown
 IsFoundOf U (Keeping node base room) = IsKeptIn U node.keeping × IsOldOf node
 IsFoundOf U (ExplainedAt sorted found told) = All (λ j. j.task < TASK_LIMIT) found.node.judged.items
 IsFoundOf U _ = Unit {0}
@@ -82,7 +83,7 @@ found_said owners U (Judged sorted node told) = judged_said sorted U node told
 found_said owners U (Simulated answer) = simulation_said U answer
 found_said owners U (Reached answer told) = reached_said U told answer
 found_said owners U (Drawn drawing) = drawing_said U drawing
-found_said owners U (Observed leeway shown) = observation_said leeway U shown
+found_said owners U (Observed leeway shown told) = observation_said leeway U shown told
 found_said owners U (Keeping node base room) = keeping_lines U base room node
 found_said owners U (WorstAt found) = string_bytes found.text
 found_said owners U (LimitedAt found) = string_bytes found.text
@@ -96,7 +97,7 @@ found_status (Judged sorted node told) = chained_status node.judged.items told.a
 found_status (Simulated answer) = simulation_status answer
 found_status (Reached answer told) = simulation_status answer
 found_status (Drawn drawing) = simulation_status drawing.answer
-found_status (Observed leeway shown) = observation_status leeway shown
+found_status (Observed leeway shown told) = observation_status leeway shown told
 found_status (Keeping node base room) = keeping_status node.keeping
 found_status (WorstAt found) = judged_status found.node.judged.items
 found_status (LimitedAt found) = judged_status found.node.judged.items

@@ -10,6 +10,7 @@ use answering::{
     print, print_bytes, print_made, read_two, refuse, room_of, tell,
 };
 use cert_checker::Checked;
+use chain_traces::ChainsSeen;
 use command_line::{OfTwo, Options};
 use judge::JudgedNode;
 use kept_order::Keeping;
@@ -25,8 +26,8 @@ use two_input_commands::{
     ChainsTold, Compared, Drawing, InOrder, KeptNode, Observation, ReachedChains, Simulated,
     chained_status, check_text, checked_line, compare_text, compared_text, draw_text, explain_at,
     explained_at_text, judge_text, judged_said, judged_status, keep_text, keeping_status,
-    keeping_text, leeway_of, limits_at, observe_text, print_drawing, print_observation,
-    print_reached, print_simulated, reach_text, simulate_text, worst_at,
+    keeping_text, leeway_of, limits_at, print_drawing, print_observation, print_reached,
+    print_simulated, reach_text, simulate_text, watch_text, worst_at,
 };
 
 /// What a command finds of a set and a text.
@@ -45,8 +46,8 @@ pub enum Found {
     Reached(Simulated, ReachedChains),
     /// The same, to be shown as an SVG 1.1 document.
     Drawn(Drawing),
-    /// What a trace shows, and what of it is let pass.
-    Observed(Leeway, Observation),
+    /// What a trace shows, what of it is let pass, and what is told of the chains.
+    Observed(Leeway, Observation, ChainsSeen),
     /// What becomes of a set that is to keep the order and the numbers that settings give, from the base on, with room.
     Keeping {
         node: KeptNode,
@@ -81,6 +82,7 @@ fn find(
             alloc,
             asking_of(options),
             both.by,
+            &both.chains,
             tasks,
             text,
         )?)),
@@ -99,8 +101,9 @@ fn find(
         }
         OfTwo::Draw => Ok(Found::Drawn(draw_text(alloc, options, tasks, text)?)),
         OfTwo::Observe => {
-            let shown = observe_text(alloc, tasks, text)?;
-            Ok(Found::Observed(leeway_of(options), shown))
+            let leeway = leeway_of(options);
+            let (shown, told) = watch_text(alloc, leeway, &both.chains, tasks, text)?;
+            Ok(Found::Observed(leeway, shown, told))
         }
         OfTwo::Keep => Ok(Found::Keeping {
             node: keep_text(alloc, tasks, text)?,
@@ -148,8 +151,8 @@ fn print_found<W: Write + Drop>(
         Found::Simulated(answer) => print_simulated(alloc, tasks, answer, output),
         Found::Reached(answer, told) => print_reached(alloc, tasks, answer, told, output),
         Found::Drawn(drawing) => print_drawing(alloc, tasks, drawing, output),
-        Found::Observed(leeway, shown) => {
-            print_observation(alloc, tasks, *leeway, shown, output)
+        Found::Observed(leeway, shown, told) => {
+            print_observation(alloc, tasks, *leeway, shown, told, output)
         }
         Found::Keeping { node, base, room } => print_made(
             keeping_text(alloc, tasks, *base, *room, node),
@@ -251,7 +254,7 @@ fn tell_found<P: Audience>(
         Found::Compared(compared) => people.compared(&compared.set),
         Found::Simulated(answer) | Found::Reached(answer, _) => tell_run(answer, tasks, people),
         Found::Drawn(drawing) => tell_run(&drawing.answer, tasks, people),
-        Found::Observed(_, shown) => tell_seen(shown, tasks, people),
+        Found::Observed(_, shown, _) => tell_seen(shown, tasks, people),
         Found::Keeping { node, .. } => tell_kept(&node.keeping, tasks, text, people),
         _ => {}
     }

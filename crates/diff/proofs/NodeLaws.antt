@@ -1,6 +1,6 @@
 -- What a node takes changes no number that is a task's own.
-use Rattle.std.proofs.Common.{◌≡◌, ◌∙◌, ◌+◌, ◌-◌, ◌<◌, ℕ, zero, suc, Bool, true, false, List, [], ◌∷◌}
-use Rattle.std.proofs.Common.{◌&&◌, ◌||◌, slice_get, take, Option, Some, None, refl, ap, sym, arith}
+use Rattle.std.proofs.Common.{◌≡◌, ◌∙◌, ◌+◌, ◌-◌, ℕ, zero, suc, Bool, false, List, [], ◌∷◌}
+use Rattle.std.proofs.Common.{slice_get, take, Option, Some, None, refl, ap, sym, arith}
 use Rattle.std.specs.Cmp.{nat_eq_equiv}
 use Rattle.std.proofs.lemmas.Bool.{eq-eqb}
 use Rattle.std.proofs.lemmas.List.Sums.{sum_by-cons}
@@ -10,8 +10,8 @@ use Rattle.task_sheet.specs.declared.sheet.TheConstants.{SECTION_LIMIT}
 use Rattle.task_sheet.specs.Overheads.{calls, calls_in, own_cost}
 use Rattle.task_sheet.specs.SheetEquality.{same_outranks-Decides}
 use Rattle.overheads.specs.Padding.{padded_section, padded_sections, padded_task}
-use Rattle.diff.specs.Own.{own_at, own_len, own_jitter, shift_behind}
-use Rattle.diff.specs.Keys.{is_changed, other_at, other_section}
+use Rattle.diff.specs.Own.{own_at, own_len, own_jitter}
+use Rattle.diff.specs.Keys.{is_changed, other_section}
 use Rattle.diff.proofs.SameLaws.{none_below, same_locks, neither}
 
 -- padded sections have the locks of the sections, and so the calls on them

@@ -1,6 +1,6 @@
 -- Where no line is said, nothing has changed.
 use Rattle.std.proofs.Common.{◌≡◌, ◌∙◌, ◌<◌, ℕ, zero, suc, inl, inr, Bool, true, false, nat_lt}
-use Rattle.std.proofs.Common.{nat_eq, eqb, ◌+◌, slice_get, List, [], ◌∷◌, ◌++◌, length, Option, Some, None, codes}
+use Rattle.std.proofs.Common.{nat_eq, eqb, List, [], ◌∷◌, ◌++◌, length, Option, Some, None, codes}
 use Rattle.std.proofs.Common.{refl, sym, ap, arith}
 use Rattle.std.proofs.lemmas.Bool.{cases_Bool, eq-eqb, eqb-true, eqb-false, ltb-false}
 use Rattle.std.specs.Option.{option_map}
@@ -18,7 +18,7 @@ use Rattle.task_sheet.specs.declared.node.Interrupt.{Interrupt}
 use Rattle.owners.specs.Owners.{interrupt_words}
 use Rattle.owners.specs.declared.owner.Owner.{Owner}
 use Rattle.diff.specs.Whole.{both_weigh, came_at, came_line, gone_at, gone_line as gone_interrupt}
-use Rattle.diff.specs.Whole.{interrupt_line, interrupts_of, node_line, node_of, node_words, other_of}
+use Rattle.diff.specs.Whole.{interrupt_line, node_line, node_of, node_words, other_of}
 use Rattle.diff.specs.Whole.{preference_line, same_preference, same_some, some_number_words}
 use Rattle.diff.specs.Whole.{whole_lines}
 use Rattle.task_sheet.specs.Prefer.{preference_word}
@@ -29,11 +29,11 @@ use Rattle.diff.specs.declared.text.Kind.TheVariants.{Moved}
 use Rattle.diff.specs.declared.text.Effect.TheVariants.{OnBound, OnLevel}
 
 -- ---- nothing
-no_front : (xs ys : List ℕ) → xs ++ ys ≡ [] → xs ≡ []
+pub no_front : (xs ys : List ℕ) → xs ++ ys ≡ [] → xs ≡ []
 no_front [] ys e = refl
 no_front (x ∷ xs) ys e = absurd (cc)
 
-no_back : (xs ys : List ℕ) → xs ++ ys ≡ [] → ys ≡ []
+pub no_back : (xs ys : List ℕ) → xs ++ ys ≡ [] → ys ≡ []
 no_back [] ys e = e
 no_back (x ∷ xs) ys e = absurd (cc)
 
@@ -46,7 +46,7 @@ four a b c d e =
     (no_front a b ab, no_back a b ab, no_back (a ++ b) c abc, no_back ((a ++ b) ++ c) d e)
 
 -- a line is something
-some_line : (xs : List ℕ) → xs ++ codes "\n" ≡ [] → ⊥
+pub some_line : (xs : List ℕ) → xs ++ codes "\n" ≡ [] → ⊥
 some_line xs e = let never : codes "\n" ≡ [] = no_back xs (codes "\n") e in cc
 
 no_line : (n : ℕ) (line : ℕ → List ℕ) → words_below n line ≡ [] → (k : ℕ) → k < n → line k ≡ []

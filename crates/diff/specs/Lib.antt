@@ -1,5 +1,7 @@
 pub mod Seats
 pub mod Own
+pub mod Chains
+pub mod ChainsKept
 pub mod Keys
 pub mod Whole
 pub mod Lines

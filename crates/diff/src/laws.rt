@@ -9,6 +9,10 @@ ghost use Rattle.overheads.specs.Padding.{padded_task};
 ghost use Rattle.owners.specs.declared.owner.Owner.{Owner};
 ghost use Rattle.assignment.specs.declared.placing.Placing.{Placing};
 ghost use Rattle.assignment.specs.Placings.{IsPlacingOf};
+ghost use Rattle.chains.specs.declared.bounds.Level.{Level};
+ghost use Rattle.chain_tables.specs.Chains.{ChainData};
+ghost use Rattle.diff.specs.Chains.{chain_changes};
+ghost use Rattle.diff.specs.ChainsKept.{AreChainsKept};
 ghost use Rattle.diff.specs.Keys.{is_changed};
 ghost use Rattle.diff.specs.Lines.{change_lines};
 ghost use Rattle.diff.specs.Seats.{seat_of};
@@ -43,4 +47,12 @@ pub fn silent_changes_nothing()
 pub fn slack_is_never_negative()
     ensures { (U : List Task) (P : Placing) (task : ℕ) (s : Seat) → IsTaskSet U → IsPlacingOf U P
         → seat_of U P task ≡ Some s → s.bound + s.slack ≡ (task_at U task).deadline }
+{}
+
+/// Where there is no line of a chain, none has changed: none is gone, and each of the new set was there before with the same
+/// tasks and the same limit, and where there is a bound before and after, with the same.
+pub fn silent_changes_no_chain()
+    ensures { (U : List Task) (was : List Level) (olds : List ChainData) (V : List Task) (is : List Level)
+        (news : List ChainData) → chain_changes U was olds V is news ≡ []
+        → AreChainsKept U was olds V is news }
 {}

@@ -2,6 +2,7 @@
 //! something else, and to the levels and responses of all.
 #![tactic(auto)]
 
+mod chain_changes;
 mod keys;
 pub mod laws;
 mod own;
@@ -11,6 +12,7 @@ mod side;
 mod text;
 mod whole;
 
+pub use crate::chain_changes::{ChainSide, chain_text};
 pub use crate::seats::Seat;
 pub use crate::side::Side;
 pub use crate::text::change_text;

@@ -14,9 +14,9 @@ use lines::push_name;
 use std::alloc::{AllocError, Global};
 use task_sheet::TaskSet;
 
-// What becomes of a task.
+/// What becomes of a task or a chain.
 #[derive(Clone, Copy)]
-enum Kind {
+pub(crate) enum Kind {
     Removed,
     Added,
     // Its sheet says something else.
@@ -38,7 +38,8 @@ enum Effect {
 }
 
 impl Kind {
-    fn word<'a>(self) -> &'a str
+    /// The first word of its line.
+    pub(crate) fn word<'a>(self) -> &'a str
         ensures { result.now ≡ word_of self }
     {
         match self {

@@ -123,8 +123,8 @@ fn same_some(old: Option<Interrupt>, new: Option<Interrupt>) -> bool
     }
 }
 
-// The numbers are the same.
-fn same_number(old: Option<u64>, new: Option<u64>) -> bool
+/// The numbers are the same.
+pub(crate) fn same_number(old: Option<u64>, new: Option<u64>) -> bool
     ensures { result ≡ same_number old new }
 {
     match (old, new) {

@@ -34,8 +34,8 @@ fn last_time(jobs: &[TraceJob]) -> u64
     last
 }
 
-// The last time of a trace.
-pub(crate) fn end_of(slices: &[TraceSlice], jobs: &[TraceJob]) -> u64
+/// The last time of a trace, in microseconds.
+pub fn end_of(slices: &[TraceSlice], jobs: &[TraceJob]) -> u64
     ensures { result ≡ end_of slices.now jobs.now }
 {
     last_stop(slices).max(last_time(jobs))

@@ -17,9 +17,10 @@ mod strangers;
 mod sweeps;
 
 pub use crate::culprits::Culprit;
+pub use crate::end::end_of;
 pub use crate::interrupts::interrupts_within;
 pub use crate::observing::observe;
-pub use crate::pieces::Piece;
+pub use crate::pieces::{Piece, pieces_of};
 pub use crate::promises::{Promise, levels_of, promises_of};
 pub use crate::seen::Seen;
 pub use crate::sight::{Observed, Sight, observe_at, observe_places, observe_text};

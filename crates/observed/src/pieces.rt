@@ -86,8 +86,8 @@ fn pieces_swept(
     Ok(pieces)
 }
 
-// The slices of a trace, each with its level and its job.
-pub(crate) fn pieces_of(
+/// The slices of a trace, each with its level and the first job that it lies in. The error is out of memory.
+pub fn pieces_of(
     alloc: Global,
     promises: &[Promise],
     jobs: &[TraceJob],

@@ -6,7 +6,7 @@ use crate::tree::{items_at, line_of, number_at, table_at};
 use chain_tables::{CHAIN_LIMIT, CHAIN_TASKS, ChainCause, ChainFault, LONGEST_LIMIT, Whose};
 use std::alloc::Global;
 use task_sheet::{CHAIN_KEYS, Key, NAME_LIMIT, NEEDED_CHAIN_KEYS, Name};
-use teams::{first_part, node_part};
+use teams::{Part, first_part, is_gathered, node_part};
 use toml::{Table, Value};
 
 /// What a person is told of the fault of a set's chains, from the set's bytes; none where memory runs out. What is said of a
@@ -28,8 +28,8 @@ pub fn of_chains(alloc: Global, bytes: &[u8], fault: ChainFault) -> Option<Strin
             &[CHAIN_LIMIT as u64],
         ),
         ChainFault::NoSuchTask { chain, task } => {
-            told.name("chain ", chain);
-            told.name(": the set has no task ", task);
+            tell_chain(&mut told, alloc, bytes, chain);
+            told.name("the set has no task ", task);
             told.words("; a chain's tasks are names of tasks, of any team");
         }
         ChainFault::OutOfMemory => told.give_up(),
@@ -47,6 +47,72 @@ fn text_of_team<'a>(bytes: &'a [u8], team: Name) -> &'a [u8] {
         rest = after;
     }
     b""
+}
+
+// Whether a document has a chain of a name.
+fn has_chain(alloc: Global, text: &[u8], chain: Name) -> bool {
+    match toml::table_from_slice(alloc, text) {
+        Ok(root) => place_of_chain(&root, chain.as_str()).is_some(),
+        Err(_) => false,
+    }
+}
+
+// The first document of teams with a chain of a name.
+fn part_with<'a>(alloc: Global, bytes: &'a [u8], chain: Name) -> Option<Part<'a>> {
+    let mut rest = bytes;
+    while let Some((part, after)) = first_part(rest) {
+        if has_chain(alloc, part.text, chain) {
+            return Some(part);
+        }
+        rest = after;
+    }
+    None
+}
+
+// The place, from 1, of the first chain of a name.
+fn place_of_chain(root: &Table, name: &str) -> Option<usize> {
+    for place in 1..=items_at(Key::Chain, root).len() {
+        if let Some(Value::String(own)) = value_at(Key::Name, table_at(Key::Chain, place, root)) {
+            if own.as_str() == name {
+                return Some(place);
+            }
+        }
+    }
+    None
+}
+
+// The place of a chain of a document.
+fn tell_chain_in(told: &mut Told, alloc: Global, text: &[u8], chain: Name) {
+    match toml::table_from_slice(alloc, text) {
+        Ok(root) => match place_of_chain(&root, chain.as_str()) {
+            Some(place) => {
+                tell_place(told, alloc, text, &root, place);
+            }
+            None => told.give_up(),
+        },
+        Err(_) => told.give_up(),
+    }
+}
+
+// The place of a chain of a set's text, behind its document's file where there are several.
+fn tell_chain(told: &mut Told, alloc: Global, bytes: &[u8], chain: Name) {
+    if !is_gathered(bytes) {
+        return tell_chain_in(told, alloc, bytes, chain);
+    }
+    let nothing: &[u8] = b"";
+    let (node, teams) = node_part(bytes).unwrap_or((nothing, bytes));
+    if has_chain(alloc, node, chain) {
+        told.words("node.toml: ");
+        return tell_chain_in(told, alloc, node, chain);
+    }
+    match part_with(alloc, teams, chain) {
+        Some(part) => {
+            told.name("", part.team);
+            told.words(".toml: ");
+            tell_chain_in(told, alloc, part.text, chain);
+        }
+        None => told.give_up(),
+    }
 }
 
 // The document, behind its file's name where there are several.

@@ -2,6 +2,7 @@
 use Rattle.std.proofs.Common.{ℕ, List, Err}
 use Rattle.task_sheet.specs.Sheet.{Task}
 use Rattle.task_sheet.specs.declared.prefer.Preference.{Preference}
+use Rattle.chain_tables.specs.Chains.{ChainData}
 use Rattle.preferences.specs.ReadsAsked.{ReadsAsked}
 use Rattle.preferences.specs.declared.asking.Asking.{Asking}
 use Rattle.preferences.specs.declared.asking.AskedFault.{AskedFault}
@@ -18,9 +19,10 @@ new_refused_as asking text (Doubt doubt) reads = reads
 new_refused_as asking text (Chain fault) reads = reads
 
 -- it is the answer
-pub new_refused : (asking : Asking) (by : Preference) (U : List Task) (text : List ℕ)
-    (r : CommandRefusal) → IsNoNew asking text r → ComparesText asking by U text (Err r)
-new_refused asking by U text (refusal.New fault) reads = reads
-new_refused asking by U text (refusal.NewDoubtful doubt) reads = reads
-new_refused asking by U text (refusal.NewChain fault) reads = reads
-new_refused asking by U text _ reads = absurd reads
+pub new_refused : (asking : Asking) (by : Preference) (chains : List ChainData) (U : List Task)
+    (text : List ℕ) (r : CommandRefusal) → IsNoNew asking text r
+    → ComparesText asking by chains U text (Err r)
+new_refused asking by chains U text (refusal.New fault) reads = reads
+new_refused asking by chains U text (refusal.NewDoubtful doubt) reads = reads
+new_refused asking by chains U text (refusal.NewChain fault) reads = reads
+new_refused asking by chains U text _ reads = absurd reads

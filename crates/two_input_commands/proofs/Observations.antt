@@ -1,5 +1,5 @@
 -- What a trace shows in the order that settings give.
-use Rattle.std.proofs.Common.{◌≡◌, ◌<◌, ℕ, zero, suc, false, List, [], ◌∷◌, length, Result, Ok, All}
+use Rattle.std.proofs.Common.{◌≡◌, ◌<◌, ℕ, zero, suc, false, List, [], ◌∷◌, length, Result, Ok, Err, All, inl, inr}
 use Rattle.std.proofs.Common.{subst, refl, arith}
 use Rattle.task_sheet.proofs.Common.{Task, IsOrder}
 use Rattle.assignment.specs.Places.{PlaceData}
@@ -10,7 +10,9 @@ use Rattle.judge.specs.declared.rows.SettingRow.{SettingRow}
 use Rattle.trace_text.specs.Faults.{IsTraceOf}
 use Rattle.trace_text.specs.declared.reading.TraceLines.{TraceLines}
 use Rattle.trace_text.specs.declared.rows.TraceRow.{TraceRow}
-use Rattle.two_input_commands.specs.Observe.{AreGiven, AreJudgedBy}
+use Rattle.answering.specs.declared.refusal.CommandRefusal.{CommandRefusal}
+use Rattle.answering.specs.declared.refusal.CommandRefusal.TheVariants as refusal
+use Rattle.two_input_commands.specs.Observe.{AreGiven, AreJudgedBy, ObservesText, ReadsTrace}
 use Rattle.judge.proofs.TaskLaws.{in_set}
 use Rattle.two_input_commands.proofs.Ordered.{listed}
 
@@ -51,3 +53,10 @@ given U rows found trace judged numbers places some read is by same = record {
   by = subst (λ (js : List JudgedTask). AreNumbersOf U rows (order_judged js) numbers) same by;
   read = read;
 }
+
+-- why a text has no trace is why it shows nothing
+pub unread : (U : List Task) (text : List ℕ) (r : CommandRefusal) → ReadsTrace text (Err r)
+    → ObservesText U text (Err r)
+unread U text (refusal.Settings fault) why = inl why
+unread U text (refusal.Trace fault) why = inr (inl why)
+unread U text _ why = absurd why

@@ -1,5 +1,5 @@
 -- What `desk diff` answers and prints.
-use Rattle.std.specs.Prelude.{◌≡◌, ℕ, List, ◌++◌, codes, Option, None, Result, Ok, Err}
+use Rattle.std.specs.Prelude.{◌≡◌, ℕ, List, ◌++◌, codes, string_bytes, Option, None, Result, Ok, Err}
 use Rattle.task_sheet.specs.declared.prefer.Preference.{Preference}
 use Rattle.preferences.specs.declared.asking.Asking.{Asking}
 use Rattle.task_sheet.specs.declared.read.Document.{Document}
@@ -15,11 +15,14 @@ use Rattle.owners.specs.declared.owner.Owner.{Owner}
 use Rattle.owners.specs.declared.words.Naming.TheVariants.{Changes}
 use Rattle.assignment.specs.Placings.{IsPlacingOf}
 use Rattle.assignment.specs.declared.placing.Placing.{Placing}
+use Rattle.chain_tables.specs.Chains.{ChainData, HasChains}
+use Rattle.diff.specs.Chains.{chain_changes}
 use Rattle.diff.specs.Lines.{change_lines}
 use Rattle.diff.specs.Whole.{both_weigh, whole_lines}
 use Rattle.answering.specs.Statuses.{placing_status}
 use Rattle.answering.specs.OrderParts.{placing_first}
-use Rattle.two_input_commands.specs.OnBoth.{OfTwoSays, SaysOnBothOwned}
+use Rattle.two_input_commands.specs.Chained.{levels_placed}
+use Rattle.two_input_commands.specs.OnBoth.{OfTwoSays, SaysOnBothWhole}
 use Rattle.two_input_commands.specs.declared.diff_lines.Compared.{Compared}
 use Rattle.answering.specs.declared.refusal.CommandRefusal.{CommandRefusal}
 use Rattle.answering.specs.declared.refusal.CommandRefusal.TheVariants as refusal
@@ -45,39 +48,47 @@ IsNoNew asking text (refusal.NewDoubtful doubt) = IsDoubted asking text doubt
 IsNoNew asking text (refusal.NewChain fault) = IsUnchained asking text fault
 IsNoNew asking text _ = ⊥
 
--- the text says the new set, and this becomes of both, of which the old one was taken by a preference
-pub record IsComparison (asking : Asking) (by : Preference) (U : List Task) (text : List ℕ) (c : Compared) : Type 0 where
+-- what a change does to a set's chains, where this becomes of both sets
+abbrev pub chains_compared : List ChainData → List Task → Placing → List ChainData → List Task → Placing → List ℕ
+chains_compared olds U P news V Q = chain_changes U (levels_placed P) olds V (levels_placed Q) news
+
+-- the text says the new set, and this becomes of both, of which the old one has these chains and was taken by a preference
+pub record IsComparison (asking : Asking) (by : Preference) (olds : List ChainData) (U : List Task)
+    (text : List ℕ) (c : Compared) : Type 0 where
   pub old : c.was_by ≡ by
   pub new : IsNew asking text c.set c.is_by
   pub owners : AreOwners text c.owners.items
   pub was : IsPlacingOf U c.was
   pub is : IsPlacingOf c.set c.is
+  pub chains : (news : List ChainData) × HasChains text c.set news
+      × (string_bytes c.chains ≡ chains_compared olds U c.was news c.set c.is)
 
 -- the answer on a set and the text of the new one
 abbrev pub ComparesText :
-    Asking → Preference → List Task → List ℕ → Result Compared CommandRefusal → Type 0
-ComparesText asking by U text (Ok c) = IsComparison asking by U text c
-ComparesText asking by U text (Err (refusal.New fault)) = ReadsText text (Err fault)
-ComparesText asking by U text (Err (refusal.NewDoubtful doubt)) = IsDoubted asking text doubt
-ComparesText asking by U text (Err (refusal.NewChain fault)) = IsUnchained asking text fault
-ComparesText asking by U text (Err refusal.OutOfMemory) = Unit {0}
-ComparesText asking by U text _ = ⊥
+    Asking → Preference → List ChainData → List Task → List ℕ → Result Compared CommandRefusal → Type 0
+ComparesText asking by chains U text (Ok c) = IsComparison asking by chains U text c
+ComparesText asking by chains U text (Err (refusal.New fault)) = ReadsText text (Err fault)
+ComparesText asking by chains U text (Err (refusal.NewDoubtful doubt)) = IsDoubted asking text doubt
+ComparesText asking by chains U text (Err (refusal.NewChain fault)) = IsUnchained asking text fault
+ComparesText asking by chains U text (Err refusal.OutOfMemory) = Unit {0}
+ComparesText asking by chains U text _ = ⊥
 
 -- what becomes of the new set, and what became of the old one
 abbrev pub both_lines : List Task → Placing → List Task → Placing → List ℕ
 both_lines U P V Q = placing_first V Q ++ codes "was " ++ placing_first U P
 
--- these, then what of the change no task has, each interrupt with its team, and then what becomes of the tasks, each with
--- its team: that of the new set, where it has the task, else that of the old one
+-- these, then what of the change no task has, each interrupt with its team, then what becomes of the tasks, each with
+-- its team: that of the new set, where it has the task, else that of the old one; and last what becomes of the chains
 abbrev pub compared_lines : List Owner → List Task → Compared → List ℕ
 compared_lines owners U c =
     both_lines U c.was c.set c.is
     ++ whole_lines c.was_by owners U c.is_by c.owners.items c.set
     ++ named_lines Changes (c.owners.items ++ owners)
     (change_lines (both_weigh c.was_by c.is_by) U c.was c.set c.is)
+    ++ string_bytes c.chains
 
 -- the answer on what the readers had is printed after what the writer held, and the status is that of the new set; of the
 -- old one no doubt is told
 abbrev pub SaysCompared : OfTwoSays
 SaysCompared asking =
-    SaysOnBothOwned (ComparesText asking) compared_lines (λ c. placing_status c.is) (lenient asking)
+    SaysOnBothWhole (ComparesText asking) compared_lines (λ c. placing_status c.is) (lenient asking)

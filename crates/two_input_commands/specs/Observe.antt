@@ -1,5 +1,5 @@
 -- What `desk observe` answers and prints.
-use Rattle.std.specs.Prelude.{◌≡◌, ◌⊎◌, ℕ, ◌<◌, false, List, [], length, All, None, Result, Ok, Err, unwrap_or, if◌then◌else◌}
+use Rattle.std.specs.Prelude.{◌≡◌, ◌⊎◌, ℕ, ◌<◌, ◌&&◌, true, false, List, [], ◌∷◌, ◌++◌, length, string_bytes, All, None, Result, Ok, Err, unwrap_or, if◌then◌else◌}
 use Rattle.task_sheet.specs.declared.set.TheConstants.{TASK_LIMIT}
 use Rattle.task_sheet.specs.Sheet.{Task}
 use Rattle.task_sheet.specs.Indexes.{indexes_of, listed_below}
@@ -30,7 +30,10 @@ use Rattle.observed_lines.specs.Lines.{observed_lines}
 use Rattle.observed_lines.specs.declared.leeway.Leeway.{Leeway}
 use Rattle.two_input_commands.specs.Judge.{judged_status}
 use Rattle.answering.specs.Lines.{infeasible_line}
-use Rattle.two_input_commands.specs.OnBoth.{OfTwoSays, SaysOnBoth}
+use Rattle.chain_tables.specs.Chains.{ChainData}
+use Rattle.chain_traces.specs.Lines.{AreSeen}
+use Rattle.chain_traces.specs.declared.text.ChainsSeen.{ChainsSeen}
+use Rattle.two_input_commands.specs.OnBoth.{OfTwoSays, SaysOnBothChained}
 use Rattle.two_input_commands.specs.Simulate.{IsListedOrder, order_fault}
 use Rattle.two_input_commands.specs.declared.observe_lines.Observation.{Observation}
 use Rattle.two_input_commands.specs.declared.observe_lines.Observation.TheVariants.{Best, Ordered, Missed}
@@ -111,6 +114,50 @@ ObservesRead U settings found _ = ⊥
 abbrev pub ObservesText : List Task → List ℕ → Result Observation CommandRefusal → Type 0
 ObservesText U text answer = ObservesRead U (settings_in text) (rows_behind text) answer
 
+-- ---- chains
+-- the trace of a text behind settings, or why there is none
+abbrev pub ReadsBehind : Result (List SettingRow) ℕ → Result (List TraceRow) ℕ
+    → Result TraceLines CommandRefusal → Type 0
+ReadsBehind settings found (Ok trace) = IsTraceOf found trace
+ReadsBehind settings found (Err (refusal.Settings fault)) = IsRowsFault fault settings
+ReadsBehind settings found (Err (refusal.Trace fault)) =
+    (rows : List SettingRow) × (settings ≡ Ok rows) × IsTraceFault fault (trace_rows_fault found)
+ReadsBehind settings found _ = ⊥
+
+abbrev pub ReadsTrace : List ℕ → Result TraceLines CommandRefusal → Type 0
+ReadsTrace text answer = ReadsBehind (settings_in text) (rows_behind text) answer
+
+-- nothing is said of chains
+pub record AreSilent (told : ChainsSeen) : Type 0 where
+  pub text : string_bytes told.text ≡ []
+  pub kept : told.are_kept ≡ true
+
+-- this is said of chains in the trace of a text, beside what that shows of the set's jobs
+abbrev pub AreWatchedIn : Leeway → List ChainData → List Task → List ℕ → Observed → ChainsSeen → Type 0
+AreWatchedIn leeway chains U text shown told =
+    (trace : TraceLines) × IsTraceOf (rows_behind text) trace
+    × AreSeen leeway.tolerance U chains shown.promises.items shown.seen.items trace told
+
+-- where something is promised
+abbrev pub AreWatchedBy : Leeway → List ChainData → List Task → List ℕ → Observation → ChainsSeen → Type 0
+AreWatchedBy leeway chains U text (Best (Infeasible members)) told = AreSilent told
+AreWatchedBy leeway chains U text (Best (Seen shown)) told = AreWatchedIn leeway chains U text shown told
+AreWatchedBy leeway chains U text (Ordered shown) told = AreWatchedIn leeway chains U text shown told
+AreWatchedBy leeway chains U text (Missed node) told = AreSilent told
+
+-- and where there are chains
+abbrev pub AreWatched : Leeway → List ChainData → List Task → List ℕ → Observation → ChainsSeen → Type 0
+AreWatched leeway [] U text shown told = AreSilent told
+AreWatched leeway (chain ∷ chains) U text shown told =
+    AreWatchedBy leeway (chain ∷ chains) U text shown told
+
+-- the answer on a set, its chains and the text of a trace
+abbrev pub WatchesText : Leeway → List ChainData → List Task → List ℕ
+    → Result (Observation × ChainsSeen) CommandRefusal → Type 0
+WatchesText leeway chains U text (Ok found) =
+    ObservesText U text (Ok found.0) × AreWatched leeway chains U text found.0 found.1
+WatchesText leeway chains U text (Err r) = ObservesText U text (Err r)
+
 -- what was found speaks of tasks that a set may have
 abbrev pub IsObservationOf : Observation → Type 0
 IsObservationOf (Best sight) = Unit {0}
@@ -118,39 +165,39 @@ IsObservationOf (Ordered observed) = Unit {0}
 IsObservationOf (Missed node) = All (λ j. j.task < TASK_LIMIT) node.judged.items
 
 -- what is printed of what a trace shows of a set in its best order
-abbrev pub sight_said : Leeway → List Task → Sight → List ℕ
-sight_said leeway U (Infeasible members) =
+abbrev pub sight_said : Leeway → List Task → Sight → ChainsSeen → List ℕ
+sight_said leeway U (Infeasible members) told =
     infeasible_line U (listed_below (length U) (indexes_of members))
-sight_said leeway U (Seen shown) =
-    observed_lines leeway shown.promises.items shown.seen.items
+sight_said leeway U (Seen shown) told =
+    observed_lines leeway shown.promises.items shown.seen.items ++ string_bytes told.text
 
--- what is printed of what a trace shows of a set; of an order that promises nothing, what `desk judge` prints
-abbrev pub observation_said : Leeway → List Task → Observation → List ℕ
-observation_said leeway U (Best sight) = sight_said leeway U sight
-observation_said leeway U (Ordered shown) =
-    observed_lines leeway shown.promises.items shown.seen.items
-observation_said leeway U (Missed node) = judged_lines U node.judged.items node.numbers.items
+-- what is printed of what a trace shows of a set and of its chains; of an order that promises nothing, what `desk judge` prints
+abbrev pub observation_said : Leeway → List Task → Observation → ChainsSeen → List ℕ
+observation_said leeway U (Best sight) told = sight_said leeway U sight told
+observation_said leeway U (Ordered shown) told =
+    observed_lines leeway shown.promises.items shown.seen.items ++ string_bytes told.text
+observation_said leeway U (Missed node) told = judged_lines U node.judged.items node.numbers.items
 
--- the exit status of what is seen of jobs
-abbrev pub observed_status : Leeway → Observed → Status
-observed_status leeway shown =
-    if is_clean leeway shown.promises.items shown.seen.items
+-- the exit status of what is seen of jobs and chains
+abbrev pub observed_status : Leeway → Observed → ChainsSeen → Status
+observed_status leeway shown told =
+    if is_clean leeway shown.promises.items shown.seen.items && told.are_kept
     then status.Done
     else status.Infeasible
 
 -- the exit status of what a trace shows in the best order
-abbrev pub sight_status : Leeway → Sight → Status
-sight_status leeway (Infeasible members) = status.Infeasible
-sight_status leeway (Seen shown) = observed_status leeway shown
+abbrev pub sight_status : Leeway → Sight → ChainsSeen → Status
+sight_status leeway (Infeasible members) told = status.Infeasible
+sight_status leeway (Seen shown) told = observed_status leeway shown told
 
 -- the exit status of what a trace shows
-abbrev pub observation_status : Leeway → Observation → Status
-observation_status leeway (Best sight) = sight_status leeway sight
-observation_status leeway (Ordered shown) = observed_status leeway shown
-observation_status leeway (Missed node) = judged_status node.judged.items
+abbrev pub observation_status : Leeway → Observation → ChainsSeen → Status
+observation_status leeway (Best sight) told = sight_status leeway sight told
+observation_status leeway (Ordered shown) told = observed_status leeway shown told
+observation_status leeway (Missed node) told = judged_status node.judged.items
 
 -- the answer on what the readers had is printed after what the writer held, and the status is the answer's
 abbrev pub SaysObserved : Leeway → OfTwoSays
 SaysObserved leeway =
-    SaysOnBoth ObservesText (λ U shown. observation_said leeway U shown)
-    (λ shown. observation_status leeway shown)
+    SaysOnBothChained (WatchesText leeway) (λ owners U found. observation_said leeway U found.0 found.1)
+    (λ found. observation_status leeway found.0 found.1)

@@ -24,18 +24,7 @@ WithSet answers asking set other (Ok found) =
     × answers found.0 text (Ok found.1)
 WithSet answers asking set other (Err r) = OnBoth answers asking set other (Err r)
 
--- the same with whose its tasks are, too, where the answers rest on the preference by which the set is taken
-abbrev pub WithOwners :
-    {X : Type 0} → (Preference → List Task → List ℕ → Result X CommandRefusal → Type 0)
-    → Asking
-    → (set other : Option (List ℕ)) → Result (List Task × List Owner × X) CommandRefusal → Type 0
-WithOwners answers asking set other (Ok found) =
-    (by : Preference) × (text : List ℕ) × HaveOwned asking set other by found.0 found.1 text
-    × answers by found.0 text (Ok found.2)
-WithOwners answers asking set other (Err r) =
-    (by : Preference) × OnBoth (answers by) asking set other (Err r)
-
--- the same with its chains, on which the answers rest
+-- the same with whose its tasks are and with its chains, on which the answers rest
 abbrev pub WithChains :
     {X : Type 0} → (List ChainData → List Task → List ℕ → Result X CommandRefusal → Type 0) → Asking
     → (set other : Option (List ℕ))
@@ -46,6 +35,18 @@ WithChains answers asking set other (Ok found) =
 WithChains answers asking set other (Err r) =
     (chains : List ChainData) × OnBoth (answers chains) asking set other (Err r)
 
+-- the same, where they rest on the preference by which the set is taken, too
+abbrev pub WithWhole :
+    {X : Type 0} → (Preference → List ChainData → List Task → List ℕ → Result X CommandRefusal → Type 0)
+    → Asking
+    → (set other : Option (List ℕ))
+    → Result (List Task × List Owner × List ChainData × X) CommandRefusal → Type 0
+WithWhole answers asking set other (Ok found) =
+    (by : Preference) × (text : List ℕ) × HaveOwned asking set other by found.0 found.1 text
+    × HasChained set found.0 found.2 × answers by found.2 found.0 text (Ok found.3)
+WithWhole answers asking set other (Err r) =
+    (by : Preference) × (chains : List ChainData) × OnBoth (answers by chains) asking set other (Err r)
+
 -- the answer on what the readers had is printed after what the writer held, and the status is the answer's
 abbrev pub SaysOnBoth :
     {X : Type 0} → (List Task → List ℕ → Result X CommandRefusal → Type 0) → (List Task → X → List ℕ)
@@ -54,18 +55,18 @@ SaysOnBoth answers lines done asking set other before after s =
     Prints (WithSet answers asking set other) (λ found. lines found.0 found.1)
     (λ found. done found.1) before after s
 
--- the same, where whose the tasks are is printed, too
-abbrev pub SaysOnBothOwned :
-    {X : Type 0} → (Preference → List Task → List ℕ → Result X CommandRefusal → Type 0)
-    → (List Owner → List Task → X → List ℕ) → (X → Status) → OfTwoSays
-SaysOnBothOwned answers lines done asking set other before after s =
-    Prints (WithOwners answers asking set other) (λ found. lines found.1 found.0 found.2)
-    (λ found. done found.2) before after s
-
--- the same, where its chains are printed, too
+-- the same, where whose the tasks are and its chains are printed, too
 abbrev pub SaysOnBothChained :
     {X : Type 0} → (List ChainData → List Task → List ℕ → Result X CommandRefusal → Type 0)
     → (List Owner → List Task → X → List ℕ) → (X → Status) → OfTwoSays
 SaysOnBothChained answers lines done asking set other before after s =
     Prints (WithChains answers asking set other) (λ found. lines found.1 found.0 found.3)
+    (λ found. done found.3) before after s
+
+-- the same, where the answers rest on the preference, too
+abbrev pub SaysOnBothWhole :
+    {X : Type 0} → (Preference → List ChainData → List Task → List ℕ → Result X CommandRefusal → Type 0)
+    → (List Owner → List Task → X → List ℕ) → (X → Status) → OfTwoSays
+SaysOnBothWhole answers lines done asking set other before after s =
+    Prints (WithWhole answers asking set other) (λ found. lines found.1 found.0 found.3)
     (λ found. done found.3) before after s

@@ -1,12 +1,15 @@
 //! `desk diff`.
 ghost use Rattle.std.specs.Prelude.{◌≡◌, ◌++◌, IfOk, MatchResult, string_bytes};
 ghost use Rattle.assignment.specs.Placings.{IsPlacingOf};
-ghost use Rattle.two_input_commands.specs.Diff.{ComparesText, IsNew, IsNoNew, both_lines, compared_lines, new_refusal};
+ghost use Rattle.chain_tables.specs.Chains.{HasChains};
+ghost use Rattle.two_input_commands.specs.Diff.{ComparesText, IsNew, IsNoNew, both_lines, chains_compared, compared_lines, new_refusal};
 
+use crate::chained::levels_placed;
 use answering::{CommandRefusal, OrderPart, joined, placing_text};
 use assignment::{Placing, place_all};
 use ceilings::{LockTable, Tabled};
-use diff::{Side, change_text, whole_text};
+use chain_tables::Chain;
+use diff::{ChainSide, Side, chain_text, change_text, whole_text};
 use owners::{Naming, Owner, named_text, read_owners};
 use preferences::{AskedFault, Asking, Preference, read_asked};
 use std::alloc::{AllocError, Global};
@@ -27,6 +30,16 @@ pub struct Compared {
     pub was_by: Preference,
     /// By what the new one is.
     pub is_by: Preference,
+    /// What is printed of their chains.
+    pub chains: String,
+}
+
+// A set's chains, with what becomes of the set.
+#[derive(Clone, Copy)]
+struct Linked<'a> {
+    set: &'a TaskSet,
+    placing: &'a Placing,
+    chains: &'a [Chain],
 }
 
 // What becomes of a set's tasks.
@@ -48,40 +61,74 @@ fn new_refusal(fault: AskedFault) -> CommandRefusal
     }
 }
 
-// The set that a text says, as the call asks for it, and by what it is taken.
+// What a change does to a set's chains.
+fn chains_compared(alloc: Global, old: &Linked<'_>, new: &Linked<'_>) -> Result<String, AllocError>
+    ensures { IfOk result (λ text. string_bytes text
+        ≡ chains_compared old.now.chains.now old.now.set.now old.now.placing.now
+        new.now.chains.now new.now.set.now new.now.placing.now) }
+{
+    let was = levels_placed(alloc, old.placing)?;
+    let is = levels_placed(alloc, new.placing)?;
+    let before = ChainSide {
+        set: old.set,
+        levels: &was,
+        chains: old.chains,
+    };
+    let after = ChainSide {
+        set: new.set,
+        levels: &is,
+        chains: new.chains,
+    };
+    chain_text(alloc, &before, &after)
+}
+
+// The set that a text says, as the call asks for it, by what it is taken, and its chains.
 #[tactic(auto, using(crate::proofs::NewRefusals::new_refused_as))]
 fn read_new(
     alloc: Global,
     asking: Asking,
     text: &[u8],
-) -> Result<(TaskSet, Preference), CommandRefusal>
-    ensures { MatchResult result (λ new. IsNew asking text.now new.0 new.1)
+) -> Result<(TaskSet, Preference, Vec<Chain>), CommandRefusal>
+    ensures { MatchResult result
+        (λ new. IsNew asking text.now new.0 new.1 × HasChains text.now new.0 new.2.items)
         (λ r. IsNoNew asking text.now r) }
 {
     match read_asked(alloc, text, asking) {
         Ok(new) => {
             let by = new.choice.preference();
-            Ok((new.set, by))
+            Ok((new.set, by, new.chains))
         }
         Err(fault) => Err(new_refusal(fault)),
     }
 }
 
-/// What becomes of a set, which was taken by a preference, and of the one that a text says.
+/// What becomes of a set with these chains, which was taken by a preference, and of the one that a text says.
 #[tactic(auto, using(crate::proofs::NewRefusals::new_refused))]
 pub fn compare_text(
     alloc: Global,
     asking: Asking,
     by: Preference,
+    chains: &[Chain],
     tasks: &TaskSet,
     text: &[u8],
 ) -> Result<Compared, CommandRefusal>
-    ensures { ComparesText asking by tasks.now text.now result }
+    ensures { ComparesText asking by chains.now tasks.now text.now result }
 {
-    let (set, is_by) = read_new(alloc, asking, text)?;
+    let (set, is_by, linked) = read_new(alloc, asking, text)?;
     let owners = read_owners(alloc, text)?;
     let was = place_set(alloc, tasks)?;
     let is = place_set(alloc, &set)?;
+    let old = Linked {
+        set: tasks,
+        placing: &was,
+        chains,
+    };
+    let new = Linked {
+        set: &set,
+        placing: &is,
+        chains: &linked,
+    };
+    let chains = chains_compared(alloc, &old, &new)?;
     Ok(Compared {
         was,
         set,
@@ -89,6 +136,7 @@ pub fn compare_text(
         is,
         was_by: by,
         is_by,
+        chains,
     })
 }
 
@@ -116,8 +164,8 @@ fn all_owners(alloc: Global, new: &[Owner], old: &[Owner]) -> Result<Vec<Owner>,
     Ok(all)
 }
 
-/// What becomes of the new set, what became of the old one, what of the change no task has, and then what becomes of the
-/// tasks, each with its team.
+/// What becomes of the new set, what became of the old one, what of the change no task has, what becomes of the tasks, each
+/// with its team, and then what becomes of the chains.
 pub fn compared_text(
     alloc: Global,
     owners: &[Owner],
@@ -146,6 +194,7 @@ pub fn compared_text(
     let all = all_owners(alloc, &compared.owners, owners)?;
     let named = named_text(alloc, Naming::Changes, &all, change.as_bytes())?;
     let front = joined(alloc, first.as_bytes(), whole.as_bytes())?;
-    let text = joined(alloc, &front, &named)?;
+    let lines = joined(alloc, &front, &named)?;
+    let text = joined(alloc, &lines, compared.chains.as_bytes())?;
     Ok(text)
 }

@@ -26,7 +26,7 @@ pub use in_order::InOrder;
 pub use judge_lines::{judge_text, judged_said, judged_status};
 pub use keep_lines::{KeptNode, keep_text, keeping_status, keeping_text};
 pub use limits_at_lines::limits_at;
-pub use observe_lines::{Observation, leeway_of, observe_text, print_observation};
+pub use observe_lines::{Observation, leeway_of, observe_text, print_observation, watch_text};
 pub use reached::{ReachedChains, reach_text};
 pub use simulate::{OrderedRun, Run, Simulated, print_reached, print_simulated, simulate_text};
 pub use worst_at_lines::worst_at;

@@ -1,23 +1,26 @@
 //! `desk observe`.
-ghost use Rattle.std.specs.Prelude.{◌≡◌, ◌<◌, length, Ok, [], IfOk};
+ghost use Rattle.std.specs.Prelude.{◌≡◌, ◌<◌, ◌++◌, length, Ok, Err, [], IfOk, MatchResult, string_bytes};
+ghost use Rattle.observed_lines.specs.Lines.{observed_lines};
 ghost use Rattle.trace_text.specs.Rows.{rows_at};
 ghost use Rattle.answering.specs.Outcomes.{IsSaidOn};
 ghost use Rattle.answering.specs.Printed.{IsPrinted};
-ghost use Rattle.two_input_commands.specs.Observe.{IsObservationOf, ObservesRead, ObservesText, leeway_of, observation_said, observation_status, observed_status};
+ghost use Rattle.two_input_commands.specs.Observe.{AreSilent, AreWatched, AreWatchedIn, IsObservationOf, ObservesRead, ObservesText, ReadsBehind, ReadsTrace, WatchesText, leeway_of, observation_said, observation_status, observed_status};
 
 use crate::judge_lines::judged_status;
-use answering::{CommandRefusal, Status, print_made, print_stuck};
+use answering::{CommandRefusal, Status, joined, print_bytes, print_made, print_stuck};
 use ceilings::{LockTable, Tabled};
+use chain_tables::Chain;
+use chain_traces::{ChainsSeen, see_chains};
 use command_line::Options;
 use judge::{JudgedNode, SettingRow, judge_rows, judged_text, places_of, read_front};
 use lines::TextPlace;
 use observed::{Observed, Sight, observe_at, observe_places};
 use observed_lines::{Leeway, is_clean, observed_text};
-use std::alloc::Global;
+use std::alloc::{AllocError, Global};
 use std::io::Write;
 use streams::Watched;
 use task_sheet::TaskSet;
-use trace_text::read_trace_at;
+use trace_text::{TraceLines, read_trace_at};
 
 /// What a trace shows of a set's tasks.
 #[derive(Drop)]
@@ -117,11 +120,102 @@ pub fn observe_text(
     }
 }
 
-// The exit status of what a trace shows of jobs.
-fn observed_status(leeway: Leeway, shown: &Observed) -> Status
-    ensures { result ≡ observed_status leeway shown.now }
+// Where there is nothing to say of chains.
+fn silent(alloc: Global) -> ChainsSeen
+    ensures { AreSilent result }
 {
-    if is_clean(leeway, &shown.promises, &shown.seen) {
+    ChainsSeen {
+        text: String::new(alloc),
+        are_kept: true,
+    }
+}
+
+// The trace of a text behind these settings.
+fn read_behind(
+    alloc: Global,
+    _rows: &[SettingRow],
+    at: TextPlace<'_>,
+) -> Result<TraceLines, CommandRefusal>
+    ensures answer { ReadsBehind (Ok _rows.now) (rows_at at.entry.line at.entry.rest.now) result }
+{
+    match read_trace_at(alloc, at) {
+        Ok(trace) => Ok(trace),
+        Err(fault) => Err(CommandRefusal::Trace(fault)),
+    }
+}
+
+// The trace of a text, behind settings, of which there may be none.
+fn trace_of(alloc: Global, text: &[u8]) -> Result<TraceLines, CommandRefusal>
+    ensures answer { ReadsTrace text.now result }
+{
+    match read_front(alloc, TextPlace::start(text)) {
+        Ok(front) => read_behind(alloc, &front.rows, front.behind),
+        Err(fault) => Err(CommandRefusal::Settings(fault)),
+    }
+}
+
+// What is printed of chains in the trace of a text, beside what that shows of the set's jobs.
+#[tactic(auto, using(crate::proofs::Observations::unread))]
+fn watched_in(
+    alloc: Global,
+    leeway: Leeway,
+    chains: &[Chain],
+    tasks: &TaskSet,
+    text: &[u8],
+    shown: &Observed,
+) -> Result<ChainsSeen, CommandRefusal>
+    ensures { MatchResult result (λ told. AreWatchedIn leeway chains.now tasks.now text.now shown.now told)
+        (λ r. ObservesText tasks.now text.now (Err r)) }
+{
+    let trace = trace_of(alloc, text)?;
+    let told = see_chains(alloc, leeway.tolerance, tasks, chains, shown, &trace)?;
+    Ok(told)
+}
+
+// What is printed of chains beside what the trace of a text shows.
+fn watched(
+    alloc: Global,
+    leeway: Leeway,
+    chains: &[Chain],
+    tasks: &TaskSet,
+    text: &[u8],
+    shown: &Observation,
+) -> Result<ChainsSeen, CommandRefusal>
+    ensures { MatchResult result (λ told. AreWatched leeway chains.now tasks.now text.now shown.now told)
+        (λ r. ObservesText tasks.now text.now (Err r)) }
+{
+    if chains.is_empty() {
+        return Ok(silent(alloc));
+    }
+    match shown {
+        Observation::Best(Sight::Seen(seen)) | Observation::Ordered(seen) => {
+            watched_in(alloc, leeway, chains, tasks, text, seen)
+        }
+        Observation::Best(Sight::Infeasible(_)) | Observation::Missed(_) => Ok(silent(alloc)),
+    }
+}
+
+/// What the text of a trace shows of a set, and what is printed of these chains.
+pub fn watch_text(
+    alloc: Global,
+    leeway: Leeway,
+    chains: &[Chain],
+    tasks: &TaskSet,
+    text: &[u8],
+) -> Result<(Observation, ChainsSeen), CommandRefusal>
+    ensures answer { WatchesText leeway chains.now tasks.now text.now result }
+    ensures within { IfOk result (λ found. IsObservationOf found.0) }
+{
+    let shown = observe_text(alloc, tasks, text)?;
+    let told = watched(alloc, leeway, chains, tasks, text, &shown)?;
+    Ok((shown, told))
+}
+
+// The exit status of what a trace shows of jobs and of chains.
+fn observed_status(leeway: Leeway, shown: &Observed, told: &ChainsSeen) -> Status
+    ensures { result ≡ observed_status leeway shown.now told.now }
+{
+    if is_clean(leeway, &shown.promises, &shown.seen) && told.are_kept {
         Status::Done
     } else {
         Status::Infeasible
@@ -129,41 +223,58 @@ fn observed_status(leeway: Leeway, shown: &Observed) -> Status
 }
 
 // The exit status of what a trace shows.
-pub(crate) fn observation_status(leeway: Leeway, observation: &Observation) -> Status
-    ensures { result ≡ observation_status leeway observation.now }
+pub(crate) fn observation_status(
+    leeway: Leeway,
+    observation: &Observation,
+    told: &ChainsSeen,
+) -> Status
+    ensures { result ≡ observation_status leeway observation.now told.now }
 {
     match observation {
         Observation::Best(Sight::Seen(shown)) | Observation::Ordered(shown) => {
-            observed_status(leeway, shown)
+            observed_status(leeway, shown, told)
         }
         Observation::Best(Sight::Infeasible(_members)) => Status::Infeasible,
         Observation::Missed(node) => judged_status(&node.judged),
     }
 }
 
-/// Prints what a trace shows of a set, or that there was no memory for it.
+// The lines of what a trace shows of jobs, and of chains.
+fn seen_text(
+    alloc: Global,
+    leeway: Leeway,
+    shown: &Observed,
+    told: &ChainsSeen,
+) -> Result<Vec<u8>, AllocError>
+    ensures { IfOk result (λ text. text.items
+        ≡ observed_lines leeway shown.now.promises.items shown.now.seen.items ++ string_bytes told.now.text) }
+{
+    let lines = observed_text(alloc, leeway, &shown.promises, &shown.seen)?;
+    joined(alloc, lines.as_bytes(), told.text.as_bytes())
+}
+
+/// Prints what a trace shows of a set and of its chains, or that there was no memory for it.
 pub fn print_observation<W: Write + Drop>(
     alloc: Global,
     tasks: &TaskSet,
     leeway: Leeway,
     shown: &Observation,
+    told: &ChainsSeen,
     output: &mut Watched<W>,
 ) -> Status
     requires { IsObservationOf shown.now }
     ensures { IsSaidOn (λ before after s. IsPrinted before after
-        (observation_said leeway tasks.now shown.now)
-        (observation_status leeway shown.now) s) W.contents output.old output.new result }
+        (observation_said leeway tasks.now shown.now told.now)
+        (observation_status leeway shown.now told.now) s) W.contents output.old output.new result }
 {
-    let status = observation_status(leeway, shown);
+    let status = observation_status(leeway, shown, told);
     match shown {
         Observation::Best(Sight::Infeasible(members)) => print_stuck(
             alloc, tasks, *members, output,
         ),
-        Observation::Best(Sight::Seen(seen)) | Observation::Ordered(seen) => print_made(
-            observed_text(alloc, leeway, &seen.promises, &seen.seen),
-            status,
-            output,
-        ),
+        Observation::Best(Sight::Seen(seen)) | Observation::Ordered(seen) => {
+            print_bytes(seen_text(alloc, leeway, seen, told), status, output)
+        }
         Observation::Missed(node) => print_made(
             judged_text(alloc, tasks, &node.judged, &node.numbers),
             status,

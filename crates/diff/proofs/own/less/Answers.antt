@@ -1,4 +1,4 @@
-use Rattle.std.proofs.Common.{◌≡◌, ◌≤◌, ◌-◌, ℕ, MatchOption, arith}
+use Rattle.std.proofs.Common.{arith}
 use Rattle.diff.proofs.own.less.Goals as goal
 
 pub returns-in-Some : goal.returns-in-Some

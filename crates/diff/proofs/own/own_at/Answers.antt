@@ -1,4 +1,4 @@
-use Rattle.std.proofs.Common.{◌≡◌, ◌∙◌, ◌-◌, List, ap, take}
+use Rattle.std.proofs.Common.{◌∙◌, ◌-◌, List, ap, take}
 use Rattle.task_sheet.specs.Sheet.{CriticalSection}
 use Rattle.task_sheet.specs.declared.node.Node.{Node}
 use Rattle.diff.specs.Own.{shift_behind}

@@ -1,4 +1,4 @@
-use Rattle.std.proofs.Common.{◌≡◌, ◌∙◌, ◌-◌, ap}
+use Rattle.std.proofs.Common.{◌∙◌, ◌-◌, ap}
 use Rattle.task_sheet.specs.Sheet.{CriticalSection}
 use Rattle.task_sheet.specs.declared.node.Node.{Node}
 use Rattle.task_sheet.specs.Overheads.{calls}

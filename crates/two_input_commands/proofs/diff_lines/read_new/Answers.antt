@@ -11,4 +11,4 @@ returns-in-Ok c =
     c.preference-by.ensures
     ∙ ap (λ (o : Option Preference). chosen o choice.own) read.2
     ∙ ap (λ (o : Option Preference). chosen c.args.asking.prefer o) read.3 in
-    (read.0, read.1, read.4, taken, read.5, (c.in-Ok.new.chains.items, read.6))
+    ((read.0, read.1, read.4, taken, read.5, (c.in-Ok.new.chains.items, read.6)), read.6)

@@ -1,0 +1,11 @@
+//! Chains in a trace of a node: the outputs that came, how old they got, and which tasks of chains weren't steady.
+#![tactic(auto)]
+
+mod executions;
+mod outputs;
+mod steady;
+mod text;
+
+pub use executions::{Execution, executions_in};
+pub use outputs::{Watch, outputs_in};
+pub use text::{ChainsSeen, see_chains};

@@ -1,0 +1,18 @@
+use Rattle.std.proofs.Common.{◌≡◌, Ok}
+use Rattle.judge.specs.Front.{settings_in}
+use Rattle.two_input_commands.proofs.observe_lines.trace_of.Goals as goal
+
+pub returns-in-Ok-clause-answer : goal.returns-in-Ok-clause-answer
+returns-in-Ok-clause-answer c =
+    let settings : settings_in c.args.text.now ≡ Ok c.in-Ok.front.rows.items =
+    rw (c.start.ensures.whole, c.start.ensures.first) at c.in-Ok.ensures.rows in
+    rw settings (rw (
+      c.deref.ensures.value,
+      c.in-Ok.ensures.behind,
+      c.start.ensures.whole,
+      c.start.ensures.first,
+    ) at c.read_behind.ensures.answer)
+
+pub returns-in-Err-clause-answer : goal.returns-in-Err-clause-answer
+returns-in-Err-clause-answer c =
+    rw (c.start.ensures.whole, c.start.ensures.first) at c.in-Err.ensures.rows
