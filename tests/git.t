@@ -273,7 +273,7 @@ What the node takes past a task's own numbers, and chains, of which each says wh
   arm of team arm (ann or root) has to have less cost, or teams/node.toml to say less of what the node takes
   refused: COMMIT "node"
   $ fresh cy && printf '[[chain]]\nname = "see"\ntasks = ["pan", "tilt"]\n' >> cy/teams/cam.toml && save cy 'a chain' && push cy
-  cam.toml: line 6, chain 1 (see): the set has no task tilt; a chain's tasks are names of tasks, of any team
+  cam.toml: line 7, chain 1 (see): the set has no task tilt; a chain's tasks are names of tasks, of any team
   refused: ChainTask see tilt
   no team has a task tilt: the chain see of team cam (yours) has to have another one
   refused: COMMIT "a chain"
@@ -292,7 +292,7 @@ A document whose chain has other teams' tasks is told about as any other:
 And what is wrong with a chain:
 
   $ fresh ann && sed -i 's/"arm"/"hand"/' ann/teams/arm.toml && save ann 'another name' && push ann
-  cam.toml: line 6, chain 1 (see): the set has no task arm; a chain's tasks are names of tasks, of any team
+  cam.toml: line 7, chain 1 (see): the set has no task arm; a chain's tasks are names of tasks, of any team
   refused: ChainTask see arm
   team arm (yours) had the task arm: the chain see of team cam (cy or root) has to do without it, first or in the same commit
   refused: COMMIT "another name"
@@ -304,6 +304,7 @@ And what is wrong with a chain:
   $ fresh cy && sed -i '$a age = 100' cy/teams/cam.toml && save cy 'too short' && push cy
   admitted 4
   was admitted 4
+  changed chain see bound 47610 47610 slack - -47510 keys limit - 100
   chain see 47610 misses 100
   what a bound is the sum of: desk explain, on these documents
   refused: COMMIT "too short" is not admitted

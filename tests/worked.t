@@ -647,7 +647,7 @@ Pictures
 Whole but for their looks and their legend, worked out from the definition apart from the program. A lock of b delays a, whose
 second job isn't done at the end:
 
-  $ bare() { sed '/^<style/,/^<rect class="p"/d; /^<path class="f0" d="M100 540/,/^<path class="x" d="M4330/d'; }
+  $ bare() { sed '/^<style/,/^<rect class="p"/d; /^<path class="f0" d="M100 540/,/^<\/svg>/{/^<\/svg>/!d;}'; }
   $ { task a 1000 900 300 "jitter = 50
   > $(with_m 100 100)"; task b 2000 2000 600 "$(with_m 0 200)"; } > set.toml
   $ printf 'until 1300\n0 b\n50 a 50\n1050 a\n' | desk draw set.toml - | bare

@@ -23,7 +23,7 @@ def lines_of(tasks, order, responses, owned, jobs, seen, end, tolerance):
             lines.append(broken[-1])
     linked = {name for chain in tasks.chains for name in chain.tasks}
     for one in seen:
-        most = one.task.period + (one.task.period - one.closest)
+        most = one.task.period + (one.task.jitter if one.job.ready is None else 0)
         if one.job.name in linked and one.gap is not None and one.gap - most > tolerance:
             broken.append(f"steady {one.job.name} {one.job.arrival} {one.gap} of {most}")
             lines.append(broken[-1])

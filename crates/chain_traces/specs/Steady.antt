@@ -1,12 +1,13 @@
 -- Which jobs of a trace come later after the one before than their task's gap.
-use Rattle.std.specs.Prelude.{ℕ, ◌+◌, ◌-◌, ◌==◌, nat_lt, Bool, false, ◌&&◌, Option, Some, None, List}
+use Rattle.std.specs.Prelude.{ℕ, ◌+◌, ◌-◌, ◌==◌, nat_lt, Bool, false, ◌&&◌, if◌then◌else◌, Option, Some, None, is_some, List}
 use Rattle.std.specs.List.{list_any}
 use Rattle.observed.specs.SeenJob.{SeenData}
 use Rattle.chain_tables.specs.Chains.{ChainData}
 
--- the longest time between two arrivals as they are seen: the first may be seen early by as much as the second may be late
+-- the longest time between two arrivals as they are seen: the second may be seen late by the jitter, where it isn't said when
+-- it was ready
 abbrev pub farthest : SeenData → ℕ
-farthest s = s.promise.period + (s.promise.period - s.closest)
+farthest s = if is_some s.delay then s.promise.period else s.promise.period + s.promise.jitter
 
 -- a time, where there is one, less what is let pass, is longer than it may be
 abbrev pub is_past : (tolerance most : ℕ) → (time : Option ℕ) → Bool

@@ -10,9 +10,11 @@ use observed::Seen;
 pub(crate) fn farthest(seen: &Seen) -> u128
     ensures { result ≡ farthest seen.now }
 {
-    let period = seen.promise.period;
-    let late = period.saturating_sub(seen.closest);
-    period as u128 + late as u128
+    let period = seen.promise.period as u128;
+    match seen.delay {
+        Some(_) => period,
+        None => period + seen.promise.jitter as u128,
+    }
 }
 
 /// A time, where there is one, less what is let pass, is longer than it may be.
