@@ -461,7 +461,7 @@ class Seen:
 @dataclass(frozen=True)
 class Broken:
     """A promise that a job breaks, by its arrival: `kind` is priority, cost, period, late, blocked,
-    foreign, idle, bound or open; `time`, or the priority, beside its `limit`, and `by` whom, where
+    foreign, idle, bound, open, or of a chain's task steady; `time`, or the priority, beside its `limit`, and `by` whom, where
     there is one. `below` has each task below that blocked it, with its time, the longest first. It
     follows from `after`: the kind, task and arrival of another."""
 
@@ -476,17 +476,34 @@ class Broken:
 
 
 @dataclass(frozen=True)
+class ChainSeen:
+    """How many outputs of a chain have a sample in a trace, how old what stands of it got and the longest
+    reaction, None where there is none, beside its bound."""
+
+    chain: str
+    outputs: int
+    age: int | None
+    reaction: int | None
+    bound: int | None
+
+    @property
+    def kept(self) -> bool:
+        return None in (self.age, self.bound) or self.age <= self.bound
+
+
+@dataclass(frozen=True)
 class Observed(_Answer):
-    """What a trace shows of each task, the lowest level first, which of them have no job, and which
-    promises are broken, those that follow from others last. It is false where there is such a task or
-    promise."""
+    """What a trace shows of each task, the lowest level first, which of them have no job, which
+    promises are broken, those that follow from others last, and what it shows of each chain. It is
+    false where there is such a task or promise, or a chain gets older than its bound."""
 
     tasks: tuple[Seen, ...]
     jobless: tuple[str, ...]
     broken: tuple[Broken, ...]
+    chains: tuple[ChainSeen, ...] = ()
 
     def __bool__(self) -> bool:
-        return not self.jobless and not self.broken
+        return not self.jobless and not self.broken and all(it.kept for it in self.chains)
 
 
 @dataclass(frozen=True)
@@ -1014,15 +1031,17 @@ def observe(tasks: Sheets, trace: Text | Run) -> Observed | Judged | Infeasible:
         return _no(said)
     if said.startswith("misses"):
         return _judged(said)
-    seen, jobless, broken = [], [], []
+    seen, jobless, broken, chains = [], [], [], []
     for kind, name, *words in (it.split() for it in said.splitlines()):
         if kind == "task":
             seen.append(Seen(name, *(_time(it) for it in words)))
         elif kind == "jobless":
             jobless.append(name)
-        else:
+        elif kind == "chain":
+            chains.append(ChainSeen(name, int(words[0]), *map(_time, words[2::2])))
+        elif kind != "age":  # (the chain's line says it, too)
             broken.append(_broken(kind, name, words))
-    return Observed(tuple(seen), tuple(jobless), tuple(broken), text=said)
+    return Observed(tuple(seen), tuple(jobless), tuple(broken), tuple(chains), text=said)
 
 
 def _broken(kind: str, name: str, words: list[str]) -> Broken:

@@ -79,6 +79,11 @@ export async function tracing() {
   seen = await observes(
     set, 'job hi 0 1000\n0 1000 hi\njob hi 9999 10999\n9999 10999 hi\n', 'an arrival too soon');
   expect(/^No run beside it\. Refused: /.test(seen.shown['not-traced']), seen.shown['not-traced']);
+  // The line of a chain breaks nothing; a task of it that isn't steady does.
+  await observes(example('steer'), '0 9 camera\njob camera 0 9\n90000 90009 camera\n' +
+    'job camera 90000 90009\n', 'a chain');
+  equal((await rows_of('broken')).map(digits).join('|'), 'camera, arrived at 90000 µs: arrives ' +
+    '90000 µs after the one before, and for its chain at most 10000 µs after it', 'not steady');
   // Faults of a trace, of a set; a long trace.
   const wrong = '0 300 lo\n200 400 hi\n';
   seen = await put({ trace: wrong });

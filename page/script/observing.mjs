@@ -40,10 +40,14 @@ const BROKEN = {
     us(it.promised),
   foreign: it => `waits ${us(it.value)} for ${it.by}, which the set doesn't have`,
   idle: it => `waits ${us(it.value)} while nobody executes`,
+  age: it => `acts on what is ${us(it.value)} old, and its bound is ${us(it.promised)}`,
+  steady: it => `arrives ${us(it.value)} after the one before, and for its chain at most ` +
+    `${us(it.promised)} after it`,
 };
 const after_words = ([what, name, time]) => `, after ${what} of ${name} at ${us(Number(time))}`;
 export const broken_words = it => BROKEN[it.kind](it) + (it.after ? after_words(it.after) : '');
-const broken_told = it => `${it.name}, arrived at ${us(it.time)}: ${broken_words(it)}`;
+const when_told = it => it.time === null ? '' : `, arrived at ${us(it.time)}`;
+const broken_told = it => `${it.name}${when_told(it)}: ${broken_words(it)}`;
 const MANY = 100;
 export function broken_rows({ breaks }) {
   const rows = breaks.slice(0, MANY).map(it => element('li', broken_told(it)));
