@@ -461,9 +461,9 @@ class Seen:
 @dataclass(frozen=True)
 class Broken:
     """A promise that a job breaks, by its arrival: `kind` is priority, cost, period, late, blocked,
-    foreign, idle, bound, open, or of a chain's task steady; `time`, or the priority, beside its `limit`, and `by` whom, where
-    there is one. `below` has each task below that blocked it, with its time, the longest first. It
-    follows from `after`: the kind, task and arrival of another."""
+    foreign, idle, bound or open, or steady, of a chain's task; `time`, or the priority, beside its
+    `limit`, and `by` whom, where there is one. `below` has each task below that blocked it, with its
+    time, the longest first. It follows from `after`: the kind, task and arrival of another."""
 
     kind: str
     task: str
