@@ -4,7 +4,7 @@ ghost use Rattle.observed_lines.specs.Lines.{observed_lines};
 ghost use Rattle.trace_text.specs.Rows.{rows_at};
 ghost use Rattle.answering.specs.Outcomes.{IsSaidOn};
 ghost use Rattle.answering.specs.Printed.{IsPrinted};
-ghost use Rattle.two_input_commands.specs.Observe.{AreSilent, AreWatched, AreWatchedIn, IsObservationOf, ObservesRead, ObservesText, ReadsBehind, ReadsTrace, WatchesText, leeway_of, observation_said, observation_status, observed_status};
+ghost use Rattle.two_input_commands.specs.Observe.{AreSilent, AreWatched, AreWatchedBy, AreWatchedIn, IsObservationOf, ObservesRead, ObservesText, ReadsBehind, ReadsTrace, WatchesText, leeway_of, observation_said, observation_status, observed_status};
 
 use crate::judge_lines::judged_status;
 use answering::{CommandRefusal, Status, joined, print_bytes, print_made, print_stuck};
@@ -136,7 +136,7 @@ fn read_behind(
     _rows: &[SettingRow],
     at: TextPlace<'_>,
 ) -> Result<TraceLines, CommandRefusal>
-    ensures answer { ReadsBehind (Ok _rows.now) (rows_at at.entry.line at.entry.rest.now) result }
+    ensures { ReadsBehind (Ok _rows.now) (rows_at at.entry.line at.entry.rest.now) result }
 {
     match read_trace_at(alloc, at) {
         Ok(trace) => Ok(trace),
@@ -146,7 +146,7 @@ fn read_behind(
 
 // The trace of a text, behind settings, of which there may be none.
 fn trace_of(alloc: Global, text: &[u8]) -> Result<TraceLines, CommandRefusal>
-    ensures answer { ReadsTrace text.now result }
+    ensures { ReadsTrace text.now result }
 {
     match read_front(alloc, TextPlace::start(text)) {
         Ok(front) => read_behind(alloc, &front.rows, front.behind),
@@ -172,7 +172,28 @@ fn watched_in(
     Ok(told)
 }
 
-// What is printed of chains beside what the trace of a text shows.
+// What is printed of chains beside what the trace of a text shows, where something is promised.
+fn watched_by(
+    alloc: Global,
+    leeway: Leeway,
+    chains: &[Chain],
+    tasks: &TaskSet,
+    text: &[u8],
+    shown: &Observation,
+) -> Result<ChainsSeen, CommandRefusal>
+    ensures { MatchResult result (λ told. AreWatchedBy leeway chains.now tasks.now text.now shown.now told)
+        (λ r. ObservesText tasks.now text.now (Err r)) }
+{
+    match shown {
+        Observation::Best(Sight::Seen(seen)) => {
+            watched_in(alloc, leeway, chains, tasks, text, seen)
+        }
+        Observation::Ordered(seen) => watched_in(alloc, leeway, chains, tasks, text, seen),
+        Observation::Best(Sight::Infeasible(_)) | Observation::Missed(_) => Ok(silent(alloc)),
+    }
+}
+
+// The same where there are chains.
 fn watched(
     alloc: Global,
     leeway: Leeway,
@@ -187,12 +208,7 @@ fn watched(
     if chains.is_empty() {
         return Ok(silent(alloc));
     }
-    match shown {
-        Observation::Best(Sight::Seen(seen)) | Observation::Ordered(seen) => {
-            watched_in(alloc, leeway, chains, tasks, text, seen)
-        }
-        Observation::Best(Sight::Infeasible(_)) | Observation::Missed(_) => Ok(silent(alloc)),
-    }
+    watched_by(alloc, leeway, chains, tasks, text, shown)
 }
 
 /// What the text of a trace shows of a set, and what is printed of these chains.
