@@ -193,7 +193,7 @@ function read_break([kind, name, time, value, ...words]) {
 // `age CHAIN AGE of BOUND`: of a chain, not of a job.
 const read_age = ([kind, name, value, , bound]) => ({ kind, name: `chain ${name}`, time: null,
   value: Number(value), promised: Number(bound), by: null, after: null });
-const SHOWN = ['task', 'jobless', 'chain'];
+const NO_BREAKS = ['task', 'jobless', 'chain'];
 export function read_observe({ text, status, told }) {
   if (status !== 0 && status !== 3)
     return { refused: sentence_of({ text, told }, 'trace'), rows: [], jobless: [], breaks: [] };
@@ -206,7 +206,7 @@ export function read_observe({ text, status, told }) {
       'nothing to keep to.', rows: [], jobless: [], breaks: [] };
   return { refused: null, rows: lines.filter(it => it[0] === 'task').map(read_seen),
     jobless: lines.filter(it => it[0] === 'jobless').map(([, name]) => name),
-    breaks: lines.filter(it => !SHOWN.includes(it[0]))
+    breaks: lines.filter(it => !NO_BREAKS.includes(it[0]))
       .map(it => it[0] === 'age' ? read_age(it) : read_break(it)) };
 }
 
