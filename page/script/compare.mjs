@@ -44,8 +44,8 @@ function grown(changes, was, now) {
 const said = ({ verdict, limits }) =>
   verdict + (limits?.all ? `, all execution × ${thousandths(limits.all)}` : '');
 
-// Both verdicts; how many tasks and chains changed, and the table of them. `changes` is null where the new set
-// is refused.
+// Both verdicts; how many tasks and chains changed, and the table of them. `changes` is null where
+// the new set is refused.
 export function difference(was, now, changes) {
   const name = was.name ? ` ${was.name}` : '';
   const head = [element('p', element('b', `Baseline${name}: `), said(was)),
