@@ -18,16 +18,22 @@ const both = () => browser.run(() => ['traced', 'arrivals'].map(id => {
   const host = document.getElementById(id), all = host.shadowRoot;
   const looks = ['.p', '.g', '.l', '.w', '.a', '.b', '.x', '.y', '.n', '.v', '.s', '.t', '.f0',
     '.f3', '.f9'].map(it => {
-    const { fill, stroke, strokeWidth, fontSize } = getComputedStyle(all.querySelector(it));
+    const one = all.querySelector(it);
+    if (!one) return null;
+    const { fill, stroke, strokeWidth, fontSize } = getComputedStyle(one);
     // (the title of what is broken is red)
     return it === '.t' ? fontSize : [fill, stroke, strokeWidth, fontSize].join(' ');
   });
-  return { left: host.scrollLeft, looks: looks.join('|'),
+  return { left: host.scrollLeft, looks,
     wide: all.querySelector('.run').getBoundingClientRect().width };
 }));
 async function moved_together() {
   let [trace, run] = await both();
-  equal(trace.looks, run.looks, 'the trace looks as the run');
+  // (a picture without a miss has no sign of one)
+  const alike = trace.looks.filter((it, k) => it && run.looks[k]);
+  expect(alike.length >= 12, `${alike.length} in both`);
+  equal(alike.join('|'), run.looks.filter((it, k) => it && trace.looks[k]).join('|'),
+    'the trace looks as the run');
   expect(Math.abs(trace.wide - run.wide) < 2, `as wide: ${trace.wide}, ${run.wide}`);
   const before = trace.wide;
   await browser.run(() => document.getElementById('traced').focus());
