@@ -220,8 +220,8 @@ def needed_version(tasks, interrupts):
     """The version that the set needs."""
     if interrupts and tasks or any(it.timer for it in tasks):
         return 4
-    is_bound = any(must_outrank(it, other) for it in tasks for other in tasks)
-    return 2 if is_bound or any(it.jitter for it in tasks) else 1
+    must_outrank_any = any(must_outrank(it, other) for it in tasks for other in tasks)
+    return 2 if must_outrank_any or any(it.jitter for it in tasks) else 1
 
 
 def check(tasks, interrupts, version, claim, rows):

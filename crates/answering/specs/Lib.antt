@@ -1,7 +1,7 @@
 pub mod Asked
 pub mod Chosen
 pub mod LimitLines
-pub mod Lines
+pub mod OutcomeLines
 pub mod OrderParts
 pub mod Outcomes
 pub mod Owning

@@ -2,7 +2,7 @@
 use Rattle.std.specs.Prelude.{◌≡◌, ℕ, zero, suc, List, [], ◌++◌, Option}
 use Rattle.task_sheet.specs.Sheet.{Task}
 use Rattle.assignment.specs.Places.{PlaceData}
-use Rattle.limit_lines.specs.Lines.{AreTaskLines}
+use Rattle.limit_lines.specs.LimitLines.{AreTaskLines}
 use Rattle.owners.specs.declared.owner.Owner.{Owner}
 
 -- the text is the lines of the first tasks of a set, by rank

@@ -8,7 +8,7 @@ use Rattle.assignment.specs.Placings.{tasks_of_places}
 use Rattle.assignment.specs.declared.placing.Placing.{Placing}
 use Rattle.assignment.specs.declared.placing.Placing.TheVariants.{Best, Stuck}
 use Rattle.settings.specs.Settings.{settings_anew, settings_from}
-use Rattle.answering.specs.Lines.{admitted_lines, infeasible_line}
+use Rattle.answering.specs.OutcomeLines.{admitted_lines, infeasible_line}
 use Rattle.answering.specs.declared.answer.OrderPart.{OrderPart}
 use Rattle.answering.specs.declared.answer.OrderPart.TheVariants.{Count, Levels, Settings}
 

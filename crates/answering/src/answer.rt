@@ -4,7 +4,7 @@ ghost use Rattle.task_sheet.specs.Indexes.{indexes_of, listed_below};
 ghost use Rattle.answering.specs.Outcomes.{IsSaidOn};
 ghost use Rattle.answering.specs.Printed.{IsPrinted};
 ghost use Rattle.assignment.specs.Placings.{IsPlacingOf};
-ghost use Rattle.answering.specs.Lines.{admitted_lines, infeasible_line, level_line};
+ghost use Rattle.answering.specs.OutcomeLines.{admitted_lines, infeasible_line, level_line};
 ghost use Rattle.answering.specs.OrderParts.{placing_said, settings_said};
 ghost use Rattle.assignment.specs.Placings.{tasks_of_places};
 ghost use Rattle.task_sheet.specs.Orders.{IsOrder};

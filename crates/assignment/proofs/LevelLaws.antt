@@ -4,7 +4,7 @@ use Rattle.std.proofs.Common.{◌&&◌, not, inl, inr, get_or, Option, None, Som
 use Rattle.std.proofs.Common.{subst, below_more, length, set, sym}
 use Rattle.std.proofs.lemmas.Bool.{both_ways, cases_eq, ne_eqb, eq-eqb}
 use Rattle.task_sheet.proofs.Common.{Task, task_at, IsTaskSet, Indexes, indexes_of, without_index}
-use Rattle.task_sheet.proofs.Common.{past_jitter, IsResponseOf, is_bound, Stands, ReasonData}
+use Rattle.task_sheet.proofs.Common.{past_jitter, IsResponseOf, must_outrank_any, Stands, ReasonData}
 use Rattle.task_sheet.specs.Verdicts.{IsReason}
 use Rattle.assignment.specs.Outcomes.{reason_of, IsOutcome}
 use Rattle.assignment.specs.declared.outcome.Outcome.{Outcome}
@@ -23,7 +23,7 @@ use Rattle.task_sheet.proofs.IndexLaws.{without-gone, without-kept}
 use Rattle.std.proofs.Math.Path.{fun_ext}
 use Rattle.assignment.specs.Questions.{QuestionData, IsRight}
 
-pub stands_by_response : (U : List Task) (i : ℕ) (H : Indexes) (r : ℕ) → IsFalse (is_bound U i H)
+pub stands_by_response : (U : List Task) (i : ℕ) (H : Indexes) (r : ℕ) → IsFalse (must_outrank_any U i H)
     → IsResponseOf U i H r → r ≤ (task_at U i).deadline → Stands U i H
 stands_by_response U i H r free response within = (
   (

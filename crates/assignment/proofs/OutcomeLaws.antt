@@ -2,7 +2,7 @@
 use Rattle.std.proofs.Common.{◌≡◌, ℕ, ◌<◌, ◌≤◌, ◌&&◌, inl, inr, List, length, IsTrue, IsFalse, ◌∙◌}
 use Rattle.std.proofs.Common.{sym, arith}
 use Rattle.std.proofs.lemmas.Bool.{cases_Bool, and_parts, and_from, both_ways, ltb-true}
-use Rattle.task_sheet.proofs.Common.{Task, Indexes, IsPart, meet, all_of, must_outrank, is_bound}
+use Rattle.task_sheet.proofs.Common.{Task, Indexes, IsPart, meet, all_of, must_outrank, must_outrank_any}
 use Rattle.task_sheet.proofs.Below.{some_below-at, some_below-witness}
 
 -- the row has the tasks of the set above which task i must stand
@@ -10,9 +10,9 @@ abbrev pub IsRowOf : List Task → ℕ → Indexes → Type 0
 IsRowOf U i row = (k : ℕ) → k < length U → row k ≡ must_outrank U i k
 
 module _ (U : List Task) (i : ℕ) (row H : Indexes) (is : IsRowOf U i row) where
-  pub meet_bound : length U ≤ 32 → IsPart H (all_of U) → meet row H ≡ is_bound U i H
-  unfolding meet is_bound
-  meet_bound few part = elim (cases_Bool (is_bound U i H)) [
+  pub meet_bound : length U ≤ 32 → IsPart H (all_of U) → meet row H ≡ must_outrank_any U i H
+  unfolding meet must_outrank_any
+  meet_bound few part = elim (cases_Bool (must_outrank_any U i H)) [
     | inl bound ↦
         let at = some_below-witness (length U) (λ k. H k && must_outrank U i k) bound in
         let both = and_parts _ _ at.2 in
@@ -33,9 +33,9 @@ module _ (U : List Task) (i : ℕ) (row H : Indexes) (is : IsRowOf U i row) wher
   abbrev pub NoneOver : ℕ → Type 0
   NoneOver n = (j : ℕ) → j < n → IsTrue (H j) → IsFalse (must_outrank U i j)
 
-  pub none_over_all : NoneOver (length U) → IsFalse (is_bound U i H)
-  unfolding is_bound
-  none_over_all none = elim (cases_Bool (is_bound U i H)) [
+  pub none_over_all : NoneOver (length U) → IsFalse (must_outrank_any U i H)
+  unfolding must_outrank_any
+  none_over_all none = elim (cases_Bool (must_outrank_any U i H)) [
     | inl bound ↦
         let at = some_below-witness (length U) (λ k. H k && must_outrank U i k) bound in
         let both = and_parts _ _ at.2 in

@@ -5,7 +5,7 @@ use Rattle.std.specs.Ordering.{nat_cmp}
 use Rattle.std.specs.FinSet as members
 use Rattle.std.proofs.lemmas.List.{map_push}
 use Rattle.task_sheet.proofs.Common.{Task, AllTasks, all_below, Indexes, indexes_of, without_index}
-use Rattle.task_sheet.proofs.Common.{below, IsPart, IsResponseOf, Passes, all_of, is_bound, Stands}
+use Rattle.task_sheet.proofs.Common.{below, IsPart, IsResponseOf, Passes, all_of, must_outrank_any, Stands}
 use Rattle.task_sheet.proofs.Common.{IsChosen, NoneStands, IsGreatestObstruction, left_after}
 use Rattle.task_sheet.proofs.Common.{AllChosen}
 use Rattle.task_sheet.proofs.MembersIndexes.{indexes_of-empty, indexes_of-all_below}
@@ -103,7 +103,7 @@ IsChosenTo-stuck U left places valid so some stuck =
     (subst (λ X. NoneStands U X) rest stuck))
 
 -- ---- the tasks that are left are asked by rank
-pub stands_too : (U : List Task) (i : ℕ) (H : Indexes) (o : Option ℕ) → is_bound U i H ≡ false
+pub stands_too : (U : List Task) (i : ℕ) (H : Indexes) (o : Option ℕ) → must_outrank_any U i H ≡ false
     → IfSome o (λ _. Passes U i H) → IfSome o (λ _. Stands U i H)
 stands_too U i H None free passes = tt
 stands_too U i H (Some r) free passes = (passes, free)

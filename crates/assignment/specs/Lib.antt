@@ -1,4 +1,4 @@
-pub mod Kept
+pub mod AssignmentData
 pub mod Verdict
 pub mod Outcomes
 pub mod Questions

@@ -2,7 +2,7 @@
 ghost use Rattle.std.specs.Prelude.{◌≡◌, ◌<◌, ℕ, List, length, IsFalse, IfSome, IfNone};
 ghost use Rattle.task_sheet.specs.Sheet.{Task};
 ghost use Rattle.task_sheet.specs.Indexes.{Indexes, indexes_of, IsPart};
-ghost use Rattle.task_sheet.specs.Orders.{all_of, is_bound};
+ghost use Rattle.task_sheet.specs.Orders.{all_of, must_outrank_any};
 ghost use Rattle.task_sheet.specs.Verdicts.{IsLeastOver};
 ghost use Rattle.response_time.specs.Answers.{IsAnswer};
 ghost use Rattle.assignment.specs.Outcomes.{IsOutcome};
@@ -33,7 +33,7 @@ pub enum Outcome {
 
 // The outcome on a task that need not stand above any of the others.
 pub(crate) fn unbound_outcome(answer: Answer) -> Outcome
-    ensures { (U : List Task) (i : ℕ) (H : Indexes) → IsFalse (is_bound U i H)
+    ensures { (U : List Task) (i : ℕ) (H : Indexes) → IsFalse (must_outrank_any U i H)
         → IsAnswer U i H answer → IsOutcome U i H result }
 {
     match answer {
@@ -46,10 +46,10 @@ pub(crate) fn unbound_outcome(answer: Answer) -> Outcome
 
 /// Whether a task must stand above one of these.
 #[tactic(auto, using(crate::proofs::OutcomeLaws::meet_bound))]
-pub(crate) fn is_bound(set: &Tabled<'_>, task: usize, above: Members) -> bool
+pub(crate) fn must_outrank_any(set: &Tabled<'_>, task: usize, above: Members) -> bool
     requires task { task < length set.now }
     requires part { IsPart (indexes_of above) (all_of set.now) }
-    ensures { result ≡ is_bound set.now task (indexes_of above) }
+    ensures { result ≡ must_outrank_any set.now task (indexes_of above) }
 {
     // The set is valid: the proof has it from its sheets.
     let _ = set.sheets();
@@ -59,7 +59,7 @@ pub(crate) fn is_bound(set: &Tabled<'_>, task: usize, above: Members) -> bool
 /// Of these that a task must stand above, the one of least rank.
 pub fn least_over(set: &Tabled<'_>, task: usize, above: Members) -> Option<usize>
     requires { task < length set.now }
-    ensures none { IfNone result (IsFalse (is_bound set.now task (indexes_of above))) }
+    ensures none { IfNone result (IsFalse (must_outrank_any set.now task (indexes_of above))) }
     ensures some { IfSome result (λ other. IsLeastOver set.now task (indexes_of above) other) }
 {
     let outranked = set.outranked(task);

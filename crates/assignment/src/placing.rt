@@ -6,7 +6,7 @@ ghost use Rattle.task_sheet.specs.Orders.{all_of, Stands};
 ghost use Rattle.task_sheet.specs.Levels.{IsChosen, NoneStands};
 ghost use Rattle.assignment.specs.Placings.{IsPlacingOf, tasks_of_places};
 
-use crate::outcome::is_bound;
+use crate::outcome::must_outrank_any;
 use ceilings::Tabled;
 use response_time::response_in_time;
 use std::alloc::{AllocError, Global};
@@ -59,7 +59,7 @@ fn response_below(set: &Tabled<'_>, task: usize, above: Members) -> Option<u64>
     ensures stands { IfSome result (λ _. Stands set.now task (indexes_of above)) }
     ensures none { IfNone result (¬ Stands set.now task (indexes_of above)) }
 {
-    if is_bound(set, task, above) {
+    if must_outrank_any(set, task, above) {
         return None;
     }
     response_in_time(set, task, above)

@@ -1,13 +1,13 @@
 //! Questions whether a task may stand, and findings on them.
 ghost use Rattle.std.specs.Prelude.{◌≡◌, ◌↔◌, ◌<◌, length, IsTrue, IsFalse, IfOk, IfErr, IfSome, IfNone};
 ghost use Rattle.task_sheet.specs.Indexes.{indexes_of, IsPart};
-ghost use Rattle.task_sheet.specs.Orders.{all_of, is_bound, Stands};
+ghost use Rattle.task_sheet.specs.Orders.{all_of, must_outrank_any, Stands};
 ghost use Rattle.task_sheet.specs.Verdicts.{IsLeastOver};
 ghost use Rattle.task_sheet.specs.SetCodes.{set_codes};
 ghost use Rattle.ceilings.specs.IsTableOf.{IsTableOf};
 ghost use Rattle.assignment.specs.Questions.{IsQuestion, IsRight, QuestionData, FindingData};
 
-use crate::outcome::{Outcome, Reason, is_bound, least_over, unbound_outcome};
+use crate::outcome::{Outcome, Reason, least_over, must_outrank_any, unbound_outcome};
 use ceilings::{LockTable, Tabled};
 use response_time::respond;
 use std::alloc::{AllocError, Global};
@@ -125,12 +125,12 @@ impl Question {
 fn over(question: &Question, table: &LockTable) -> Option<usize>
     requires { IsTableOf question.now.set table.now }
     ensures none { IfNone result
-        (IsFalse (is_bound question.now.set question.now.task (indexes_of question.now.above))) }
+        (IsFalse (must_outrank_any question.now.set question.now.task (indexes_of question.now.above))) }
     ensures some { IfSome result (λ other.
         IsLeastOver question.now.set question.now.task (indexes_of question.now.above) other) }
 {
     let set = Tabled::of(&question.set, table);
-    if !is_bound(&set, question.task, question.above) {
+    if !must_outrank_any(&set, question.task, question.above) {
         return None;
     }
     least_over(&set, question.task, question.above)

@@ -6,7 +6,7 @@ ghost use Rattle.task_sheet.specs.Orders.{all_of};
 ghost use Rattle.latest_first.specs.LatestFirst.{IsFree, IsLatest};
 ghost use Rattle.assignment.specs.Longer.{is_longer};
 
-use crate::outcome::is_bound;
+use crate::outcome::must_outrank_any;
 use ceilings::Tabled;
 use task_sheet::{Members, TaskSet};
 
@@ -18,7 +18,7 @@ fn is_free(set: &Tabled<'_>, left: Members, task: usize) -> bool
 {
     // The set is valid: the proof has it from its sheets.
     let _ = set.sheets();
-    left.has(task) && !is_bound(set, task, left.without(task))
+    left.has(task) && !must_outrank_any(set, task, left.without(task))
 }
 
 // Whether a task has a longer limit than the one that was found, or is the first.

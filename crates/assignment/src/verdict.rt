@@ -50,7 +50,7 @@ pub struct Assignment {
 
 impl Model for Assignment {
     ghost use Rattle.task_sheet.specs.Verdicts.{IsBestOrder};
-    ghost use Rattle.assignment.specs.Kept.{AssignmentData};
+    ghost use Rattle.assignment.specs.AssignmentData.{AssignmentData};
 
     ghost Value = { AssignmentData };
 
@@ -69,7 +69,7 @@ pub struct Obstruction {
 
 impl Model for Obstruction {
     ghost use Rattle.task_sheet.specs.Verdicts.{IsStuck};
-    ghost use Rattle.assignment.specs.Kept.{ObstructionData};
+    ghost use Rattle.assignment.specs.AssignmentData.{ObstructionData};
 
     ghost Value = { ObstructionData };
 

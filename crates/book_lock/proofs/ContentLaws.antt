@@ -5,7 +5,7 @@ use Rattle.task_sheet.specs.Sheet.{same_sheet}
 use Rattle.task_sheet.proofs.Equality.{same_sheet_told}
 use Rattle.task_sheet.proofs.TaskLaws.{AllTasks-from_set}
 use Rattle.task_sheet.proofs.VerdictLaws.{IsVerdictOf-one}
-use Rattle.assignment.specs.Kept.{ObstructionData}
+use Rattle.assignment.specs.AssignmentData.{ObstructionData}
 use Rattle.drafts.specs.declared.change.Change.{Change}
 use Rattle.drafts.specs.declared.change.Change.TheVariants.{Put}
 

@@ -2,7 +2,7 @@
 use Rattle.std.proofs.Common.{◌≡◌, ◌⊎◌, inl, inr, ℕ, List, ◌∙◌}
 use Rattle.std.specs.Prelude.{Result, Ok, Err}
 use Rattle.assignment.specs.Questions.{QuestionData}
-use Rattle.candidate_workers.specs.Faults.{IsBadCount}
+use Rattle.candidate_workers.specs.WorkerFaults.{IsBadCount}
 use Rattle.drafts.specs.declared.change.Refusal.{Refusal}
 use Rattle.drafts.specs.Applied.{OnNode, applied}
 use Rattle.drafts.specs.Machine.{MachineState}

@@ -7,7 +7,7 @@ use Rattle.task_sheet.proofs.TaskLaws.{AllTasks-from_set}
 use Rattle.task_sheet.proofs.VerdictLaws.{IsVerdictOf-one}
 use Rattle.assignment.specs.Questions.{QuestionData}
 use Rattle.candidate_workers.specs.Asked.{IsOfVerdict}
-use Rattle.candidate_workers.specs.Faults.{NoVerdict, IsBadCount}
+use Rattle.candidate_workers.specs.WorkerFaults.{NoVerdict, IsBadCount}
 use Rattle.candidate_workers.specs.declared.assaying.AssayFault.{AssayFault}
 use Rattle.candidate_workers.specs.declared.assaying.AssayFault.TheVariants as assay
 use Rattle.drafts.specs.declared.change.Refusal.{Refusal}

@@ -4,7 +4,7 @@ use Rattle.task_sheet.specs.Sheet.{Task, task_at}
 use Rattle.task_sheet.specs.Verdicts.{VerdictData, IsVerdictOf}
 use Rattle.assignment.specs.Questions.{QuestionData}
 use Rattle.candidate_workers.specs.Asked.{IsOfVerdict}
-use Rattle.candidate_workers.specs.Faults.{MayBeShut}
+use Rattle.candidate_workers.specs.WorkerFaults.{MayBeShut}
 use Rattle.candidate_workers.specs.declared.assaying.AssayFault.{AssayFault}
 use Rattle.candidate_workers.specs.declared.assaying.AssayFault.TheVariants as assay
 use Rattle.drafts.specs.declared.change.Refusal.{Refusal}

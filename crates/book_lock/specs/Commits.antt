@@ -1,7 +1,7 @@
 -- What a round of a commit answers, and the whole commit.
 use Rattle.std.specs.Prelude.{◌≡◌, ◌≢◌, ◌<◌, ◌⊎◌, ℕ, Result, Ok, Err}
 use Rattle.assignment.specs.Questions.{QuestionData}
-use Rattle.candidate_workers.specs.Faults.{IsBadCount}
+use Rattle.candidate_workers.specs.WorkerFaults.{IsBadCount}
 use Rattle.drafts.specs.Applied.{applied}
 use Rattle.drafts.specs.Machine.{MachineState}
 use Rattle.drafts.specs.Edits.{Draft, on_base}

@@ -1,7 +1,7 @@
 //! The test of a draft on its base, with no lock.
 
 ghost use Rattle.std.specs.Prelude.{◌≡◌, ◌<◌, IfOk, IfErr, OnOk};
-ghost use Rattle.candidate_workers.specs.Faults.{IsBadCount};
+ghost use Rattle.candidate_workers.specs.WorkerFaults.{IsBadCount};
 ghost use Rattle.drafts.specs.Edits.{on_base};
 ghost use Rattle.drafts.specs.Outcomes.{IsJudged, IsJudgedSet};
 ghost use Rattle.book_lock.specs.Asking.{NoneShutOf, NoneShutApplied, IsUntestedSet, IsUntested, IsOnTask, IsCauseOf};

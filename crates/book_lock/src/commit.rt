@@ -1,7 +1,7 @@
 //! A commit: tests outside the lock, the decision under it.
 
 ghost use Rattle.std.specs.Prelude.{◌≡◌};
-ghost use Rattle.candidate_workers.specs.Faults.{IsBadCount};
+ghost use Rattle.candidate_workers.specs.WorkerFaults.{IsBadCount};
 ghost use Rattle.book_lock.specs.Settles.{HoldsSome};
 ghost use Rattle.book_lock.specs.Commits.{IsRound, IsLater, Commits};
 

@@ -25,7 +25,7 @@ use Rattle.candidate_workers.specs.declared.gathering.Crew.{Crew}
 use Rattle.candidate_workers.specs.Claims.{count_of, candidate_at, joined}
 use Rattle.candidate_workers.specs.Counting.{times}
 use Rattle.candidate_workers.specs.Seats.{seat_view, table_level, finding_task, AreSeatTasks}
-use Rattle.candidate_workers.specs.Faults.{NoVerdict, MayFail, fault_of, is_shut}
+use Rattle.candidate_workers.specs.WorkerFaults.{NoVerdict, MayFail, fault_of, is_shut}
 use Rattle.candidate_workers.specs.Crews.{AreHanded, tasks_handed, work_faults, faults_of, rank_of}
 use Rattle.candidate_workers.specs.Crews.{IsFirstFault, whole_view, AreClaims}
 use Rattle.candidate_workers.proofs.Lists.{times-append, once_case, same_case}

@@ -19,7 +19,7 @@ use Rattle.candidate_workers.specs.Counting.{times, once_below}
 use Rattle.candidate_workers.specs.Passing.{ArePassed}
 use Rattle.candidate_workers.specs.Seats.{seat_view, table_level, finding_task}
 use Rattle.candidate_workers.specs.Seats.{IsSeatEnded, AreSeatTasks}
-use Rattle.candidate_workers.specs.Faults.{MayFail, fault_of}
+use Rattle.candidate_workers.specs.WorkerFaults.{MayFail, fault_of}
 
 -- the tasks of the findings that the workers handed on, worker by worker
 abbrev pub tasks_handed : List (Result (Vec FindingData) WorkFault) → List ℕ

@@ -1,7 +1,7 @@
 //! What the workers of a level hand on, all together.
 ghost use Rattle.std.specs.Prelude.{◌≡◌, ◌++◌, ◌∷◌, [], List, Some};
 ghost use Rattle.candidate_workers.specs.declared.assaying.AssayFault.{AssayFault};
-ghost use Rattle.candidate_workers.specs.Faults.{fault_of};
+ghost use Rattle.candidate_workers.specs.WorkerFaults.{fault_of};
 ghost use Rattle.candidate_workers.specs.Crews.{work_faults, faults_of, rank_of, IsFirstFault};
 
 use crate::asking::WorkFault;

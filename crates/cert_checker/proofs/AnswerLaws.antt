@@ -7,7 +7,7 @@ use Rattle.task_sheet.proofs.ReadyLaws.{IsReadyOrder-best, IsReadySet-fails}
 use Rattle.certificate.specs.Body.{Body, Cert}
 use Rattle.certificate.specs.Body as says
 use Rattle.cert_checker.specs.Ready.{levels_of, failures_of, IsReadyBody, IsReady}
-use Rattle.cert_checker.specs.Faults.{check_fault}
+use Rattle.cert_checker.specs.CertificateFaults.{check_fault}
 use Rattle.cert_checker.specs.Answers.{kind_of, order_in}
 use Rattle.cert_checker.specs.declared.checking.Checked.{Checked}
 use Rattle.cert_checker.specs.declared.checking.Checked.TheVariants.{Best, NoOrder}

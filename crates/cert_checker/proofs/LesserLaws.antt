@@ -10,7 +10,7 @@ use Rattle.std.proofs.lemmas.Bool.{cases_Bool, cases_eq, or_cases, both_ways, ne
 use Rattle.std.proofs.lemmas.Bool.Decides.{Decides-and, Decides-ltb}
 use Rattle.task_sheet.specs.Indexes.{Indexes, among, listed_below}
 use Rattle.task_sheet.proofs.IndexLaws.{listed-has}
-use Rattle.cert_checker.specs.Faults.{are_lesser, first_unnamed}
+use Rattle.cert_checker.specs.CertificateFaults.{are_lesser, first_unnamed}
 use Rattle.cert_checker.proofs.Tests.{at_most, as_said}
 
 -- ---- rising lists

@@ -9,7 +9,7 @@ use Rattle.task_sheet.proofs.Common.{Task, Indexes, no_index, with_index, withou
 use Rattle.task_sheet.proofs.Common.{order_of}
 use Rattle.certificate.specs.Body.{CertLevelData}
 use Rattle.cert_checker.specs.Ready.{task_by_name, levels_of}
-use Rattle.cert_checker.specs.Faults.{are_new, has_all, first_unnamed, level_fault, levels_fault}
+use Rattle.cert_checker.specs.CertificateFaults.{are_new, has_all, first_unnamed, level_fault, levels_fault}
 use Rattle.cert_checker.specs.declared.levels.LevelCheck.{LevelCheck}
 use Rattle.cert_checker.specs.declared.fault.CheckFault.{CheckFault}
 use Rattle.cert_checker.proofs.SeenSteps.{dropped}

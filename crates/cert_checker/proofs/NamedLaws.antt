@@ -9,7 +9,7 @@ use Rattle.task_sheet.proofs.Common.{Indexes, IsPart, no_index, below, with_inde
 use Rattle.task_sheet.proofs.Common.{among, IsOrderOf}
 use Rattle.task_sheet.proofs.IndexLaws.{count-cons, same_parts, without-parts, IsOrderOf-among}
 use Rattle.task_sheet.proofs.IndexLaws.{IsOrderOf-head, IsOrderOf-rest}
-use Rattle.cert_checker.specs.Faults.{are_new, has_all}
+use Rattle.cert_checker.specs.CertificateFaults.{are_new, has_all}
 
 new-parts : (n : ℕ) (seen : Indexes) (x : ℕ) (ks : List ℕ) → are_new n seen (x ∷ ks) ≡ true
     → (x < n) × (seen x ≡ false) × (are_new n (with_index seen x) ks ≡ true)

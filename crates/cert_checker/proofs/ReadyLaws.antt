@@ -7,7 +7,7 @@ use Rattle.std.specs.List.{AllByRecursion}
 use Rattle.std.proofs.lemmas.Bool.{and_parts, both_ways, or_left, ltb-true, eq-eqb, not-true}
 use Rattle.std.proofs.lemmas.Bool.Decides.{nat_tests, Decides-and, Decides-ltb}
 use Rattle.task_sheet.proofs.Common.{Task, task_at, Indexes, IsPart, no_index, without_index, among}
-use Rattle.task_sheet.proofs.Common.{demand_of, limit_of, all_of, must_outrank, is_bound, IsOrderOf}
+use Rattle.task_sheet.proofs.Common.{demand_of, limit_of, all_of, must_outrank, must_outrank_any, IsOrderOf}
 use Rattle.task_sheet.proofs.Common.{tasks_of, order_of, AllReady, IsReadyOrder, IsReadySet}
 use Rattle.task_sheet.specs.Ready.{time_of, Refutes, AllRefuted, IsReadyLevel}
 use Rattle.task_sheet.proofs.IndexLaws.{IsOrderOf-head, IsOrderOf-rest, without-part_of}
@@ -18,10 +18,10 @@ use Rattle.certificate.specs.Versions.{version_for}
 use Rattle.certificate.proofs.VerdictSpelling.{fails-below}
 use Rattle.cert_checker.specs.Ready.{task_by_name, reason_by_index, failures_of, level_by_index}
 use Rattle.cert_checker.specs.Ready.{levels_of, may_serve, IsReadyBody, IsReady}
-use Rattle.cert_checker.specs.Faults.{fault_unless, are_new, has_all, are_lesser, time_stands}
-use Rattle.cert_checker.specs.Faults.{refutes, is_refuted, bad_fail, first_unnamed, missing_at}
-use Rattle.cert_checker.specs.Faults.{level_fault, levels_fault, order_fault, set_fault, body_fault}
-use Rattle.cert_checker.specs.Faults.{check_fault}
+use Rattle.cert_checker.specs.CertificateFaults.{fault_unless, are_new, has_all, are_lesser, time_stands}
+use Rattle.cert_checker.specs.CertificateFaults.{refutes, is_refuted, bad_fail, first_unnamed, missing_at}
+use Rattle.cert_checker.specs.CertificateFaults.{level_fault, levels_fault, order_fault, set_fault, body_fault}
+use Rattle.cert_checker.specs.CertificateFaults.{check_fault}
 use Rattle.cert_checker.specs.declared.fault.CheckFault.{CheckFault}
 use Rattle.cert_checker.specs.declared.fault.CheckFault.TheVariants.{WrongVersion, BadChain}
 use Rattle.cert_checker.specs.declared.fault.CheckFault.TheVariants.{EmptySet}
@@ -79,11 +79,11 @@ time-own U l = omega arith
 time-stands : (U : List Task) (L : Indexes) (k time : ℕ) → Decides (time_stands U L k time)
     ((((1 ≤ time) × (time ≤ limit_of (task_at U k)))
     × (demand_of U k (without_index L k) time ≤ time))
-    × (is_bound U k (without_index L k) ≡ false))
+    × (must_outrank_any U k (without_index L k) ≡ false))
 time-stands U L k time = Decides-and _ _ (Decides-and _ _ (Decides-and _ _ (at_most 1 time)
     (at_most time (limit_of (task_at U k))))
     (at_most (demand_of U k (without_index L k) time) time))
-    (not-true (is_bound U k (without_index L k)), λ e. ap not e)
+    (not-true (must_outrank_any U k (without_index L k)), λ e. ap not e)
 
 level-sound : (U : List Task) (place : ℕ) (L : Indexes) (l : CertLevelData)
     → ((asked : LevelCheck) → level_fault U asked place L l ≡ None)

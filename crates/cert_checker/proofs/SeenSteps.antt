@@ -11,7 +11,7 @@ use Rattle.std.proofs.lemmas.Bool.{cases_eq, lt-ltb}
 use Rattle.task_sheet.proofs.Common.{Task, Indexes, no_index, with_index, among, tasks_of, order_of}
 use Rattle.certificate.specs.Body.{Fail, CertLevelData}
 use Rattle.cert_checker.specs.Ready.{task_by_name, failures_of, levels_of}
-use Rattle.cert_checker.specs.Faults.{are_new, has_all}
+use Rattle.cert_checker.specs.CertificateFaults.{are_new, has_all}
 
 -- the rest of a list at an element
 pub dropped : {X : Type 0} (xs : List X) (i : ℕ) (x : X) → i < length xs → x ≡ get_or xs i x

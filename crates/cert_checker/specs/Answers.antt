@@ -5,10 +5,10 @@ use Rattle.task_sheet.specs.Verdicts.{VerdictData, Admitted, Infeasible, order_o
 use Rattle.certificate.specs.Body.{Body, HasSpelling}
 use Rattle.certificate.specs.Body as says
 use Rattle.certificate.specs.Spelling.{spelling}
-use Rattle.certificate.specs.Lines.{certificate_in}
+use Rattle.certificate.specs.CertificateLines.{certificate_in}
 use Rattle.certificate.specs.CertificateOf.{certificate_of}
 use Rattle.cert_checker.specs.Ready.{levels_of, IsReady}
-use Rattle.cert_checker.specs.Faults.{check_fault}
+use Rattle.cert_checker.specs.CertificateFaults.{check_fault}
 use Rattle.cert_checker.specs.declared.checking.Checked.{Checked}
 use Rattle.cert_checker.specs.declared.checking.Checked.TheVariants.{Best, NoOrder}
 

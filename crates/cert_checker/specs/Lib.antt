@@ -1,5 +1,5 @@
 pub mod Ready
 pub mod Chains
-pub mod Faults
+pub mod CertificateFaults
 pub mod Work
 pub mod Answers

@@ -8,11 +8,11 @@ ghost use Rattle.cert_checker.specs.Ready.{task_by_name};
 ghost use Rattle.cert_checker.specs.Work.{demand_from};
 ghost use Rattle.cert_checker.specs.Chains.{may_follow, goes_past, are_chain};
 ghost use Rattle.certificate.specs.ReasonOf.{reason_seen};
-ghost use Rattle.cert_checker.specs.Faults.{covers, time_stands, is_outranked, refutes, is_refuted, bad_fail};
+ghost use Rattle.cert_checker.specs.CertificateFaults.{covers, time_stands, is_outranked, refutes, is_refuted, bad_fail};
 
 use crate::fault::CheckFault;
 use crate::naming::task_by_name;
-use crate::outranking::{is_bound, must_outrank};
+use crate::outranking::{must_outrank, must_outrank_any};
 use crate::work::{base_demand, demand_from, limit_of};
 use certificate::{CertFail, CertReason};
 use task_sheet::{Members, Name, TaskSet};
@@ -90,7 +90,7 @@ pub fn time_stands(set: &TaskSet, left: Members, task: usize, time: u64) -> bool
 {
     // The set is small: the proof has it from its sheets.
     let _ = set.sheets();
-    covers(set, left, task, time) && !is_bound(set, task, left.without(task))
+    covers(set, left, task, time) && !must_outrank_any(set, task, left.without(task))
 }
 
 // Whether the name is that of one of the tasks above, above which the task must stand.

@@ -3,7 +3,7 @@ ghost use Rattle.std.specs.Prelude.{◌≡◌, ◌↔◌, IfOk, IfErr, IsOk, Mat
 ghost use Rattle.task_sheet.specs.Orders.{IsBest, IsFeasible};
 ghost use Rattle.cert_checker.specs.Ready.{may_serve, IsReady};
 ghost use Rattle.cert_checker.specs.Answers.{kind_of, order_in};
-ghost use Rattle.cert_checker.specs.Faults.{order_fault, set_fault, body_fault, check_fault};
+ghost use Rattle.cert_checker.specs.CertificateFaults.{order_fault, set_fault, body_fault, check_fault};
 ghost use Rattle.certificate.specs.BodyOf.{body_of};
 
 use crate::chains::bad_fail;

@@ -5,7 +5,7 @@ ghost use Rattle.task_sheet.specs.TaskSet.{IsTaskSet};
 ghost use Rattle.task_sheet.specs.Verdicts.{VerdictData, IsVerdictOf};
 ghost use Rattle.certificate.specs.Body.{Cert};
 ghost use Rattle.cert_checker.specs.Ready.{IsReady};
-ghost use Rattle.cert_checker.specs.Faults.{check_fault};
+ghost use Rattle.cert_checker.specs.CertificateFaults.{check_fault};
 ghost use Rattle.cert_checker.specs.Answers.{IsAccepted};
 
 /// A certificate has no fault exactly where it is ready.

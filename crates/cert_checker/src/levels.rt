@@ -6,7 +6,7 @@ ghost use Rattle.task_sheet.specs.declared.set.TheConstants.{TASK_LIMIT};
 ghost use Rattle.task_sheet.specs.Verdicts.{tasks_of};
 ghost use Rattle.certificate.specs.Body.{CertLevelData};
 ghost use Rattle.cert_checker.specs.Ready.{task_by_name, failures_of};
-ghost use Rattle.cert_checker.specs.Faults.{fault_unless, are_lesser, first_unnamed, missing_at, level_fault, levels_fault};
+ghost use Rattle.cert_checker.specs.CertificateFaults.{fault_unless, are_lesser, first_unnamed, missing_at, level_fault, levels_fault};
 
 use crate::chains::{bad_fail, time_stands};
 use crate::fault::CheckFault;

@@ -5,7 +5,7 @@ ghost use Rattle.task_sheet.specs.Indexes.{indexes_of, no_index, with_index, amo
 ghost use Rattle.task_sheet.specs.declared.set.TheConstants.{TASK_LIMIT};
 ghost use Rattle.task_sheet.specs.Verdicts.{tasks_of, order_of};
 ghost use Rattle.cert_checker.specs.Ready.{task_by_name, failures_of, levels_of};
-ghost use Rattle.cert_checker.specs.Faults.{are_new, has_all};
+ghost use Rattle.cert_checker.specs.CertificateFaults.{are_new, has_all};
 
 use certificate::{CertFail, CertLevel};
 use task_sheet::{Members, Name, TaskSet};

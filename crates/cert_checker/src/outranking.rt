@@ -1,7 +1,7 @@
 //! The tasks above which a task must stand, by sheets alone.
 ghost use Rattle.std.specs.Prelude.{◌≡◌, ◌<◌, length};
 ghost use Rattle.task_sheet.specs.Indexes.{indexes_of};
-ghost use Rattle.task_sheet.specs.Orders.{must_outrank, is_bound};
+ghost use Rattle.task_sheet.specs.Orders.{must_outrank, must_outrank_any};
 
 use task_sheet::{Members, TaskSet};
 
@@ -16,9 +16,9 @@ pub fn must_outrank(set: &TaskSet, task: usize, other: usize) -> bool
 }
 
 /// Whether a task must stand above one of these.
-pub fn is_bound(set: &TaskSet, task: usize, above: Members) -> bool
+pub fn must_outrank_any(set: &TaskSet, task: usize, above: Members) -> bool
     requires { task < length set.now }
-    ensures { result ≡ is_bound set.now task (indexes_of above) }
+    ensures { result ≡ must_outrank_any set.now task (indexes_of above) }
 {
     // The set is small: the proof has it from its sheets.
     let _ = set.sheets();

@@ -10,10 +10,10 @@ use Rattle.std.proofs.lemmas.Slice.Eq.{bytes_eq-Decides}
 use Rattle.task_sheet.specs.Name.{is_name, IsName}
 use Rattle.certificate.specs.Body.{Fail, CertLevelData, IsShort, IsFailText, IsLevelText}
 use Rattle.certificate.specs.Spelling.{fail_line, fail_lines, level_spelling}
-use Rattle.lines.specs.Lines.{parts}
+use Rattle.lines.specs.TextLines.{parts}
 use Rattle.lines.specs.Words.{words, number_in}
 use Rattle.certificate.specs.Words.{fail_in}
-use Rattle.certificate.specs.Lines.{At, level_head, level_in, fails_case, fails_from, level_read}
+use Rattle.certificate.specs.CertificateLines.{At, level_head, level_in, fails_case, fails_from, level_read}
 use Rattle.certificate.specs.declared.version.CertVersion.{CertVersion}
 use Rattle.lines.proofs.NumberLaws.{number_takes, number_again}
 use Rattle.lines.proofs.Parts.{parts_some}

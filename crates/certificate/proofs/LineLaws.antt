@@ -11,11 +11,11 @@ use Rattle.std.proofs.lemmas.Slice.Eq.{bytes_eq-Decides}
 use Rattle.std.proofs.lemmas.List.{nil_from_length}
 use Rattle.task_sheet.specs.Name.{IsName}
 use Rattle.certificate.specs.Body.{IsShort}
-use Rattle.lines.specs.Lines.{parts}
+use Rattle.lines.specs.TextLines.{parts}
 use Rattle.lines.specs.Words.{words, number_in}
 use Rattle.lines.specs.Steps.{◌>>=◌}
-use Rattle.certificate.specs.Lines.{At, line_from, items_at, wanted, count_in, at_most_limit}
-use Rattle.certificate.specs.Lines.{end_at}
+use Rattle.certificate.specs.CertificateLines.{At, line_from, items_at, wanted, count_in, at_most_limit}
+use Rattle.certificate.specs.CertificateLines.{end_at}
 use Rattle.certificate.specs.declared.fault.CertFault.{CertFault}
 use Rattle.certificate.specs.declared.fault.CertFault.TheVariants.{BadLine, Trailing}
 use Rattle.lines.proofs.NumberLaws.{number_takes, number_again}

@@ -6,15 +6,15 @@ use Rattle.std.specs.Prelude.{bytes_eq, codes, IsTrue}
 use Rattle.std.proofs.lemmas.List.{append-nil}
 use Rattle.std.proofs.lemmas.List.Splits.{join_with_byte-slice_split}
 use Rattle.task_sheet.specs.Name.{is_name}
-use Rattle.lines.specs.Lines.{parts}
+use Rattle.lines.specs.TextLines.{parts}
 use Rattle.lines.specs.Steps.{◌>>=◌}
 use Rattle.lines.specs.Words.{words}
 use Rattle.lines.proofs.Parts.{words_some}
 use Rattle.certificate.specs.Body.{Fail}
 use Rattle.certificate.specs.Words as options
 use Rattle.certificate.specs.Words.{numbers_before, reason_in, fail_in}
-use Rattle.certificate.specs.Lines.{At, Fails, line_from, is_at_end, items_at, fails_from}
-use Rattle.certificate.specs.Lines.{fails_case}
+use Rattle.certificate.specs.CertificateLines.{At, Fails, line_from, is_at_end, items_at, fails_from}
+use Rattle.certificate.specs.CertificateLines.{fails_case}
 use Rattle.certificate.specs.declared.version.CertVersion.{CertVersion}
 use Rattle.certificate.specs.declared.fault.CertFault.{CertFault}
 use Rattle.certificate.specs.declared.fault.CertFault.TheVariants.{OutOfMemory}

@@ -4,7 +4,7 @@ use Rattle.std.specs.Prelude.{codes}
 use Rattle.certificate.specs.Body.{Fail, IsFailText}
 use Rattle.certificate.specs.Spelling.{fail_line}
 use Rattle.lines.specs.Words.{words}
-use Rattle.certificate.specs.Lines.{At, member_at}
+use Rattle.certificate.specs.CertificateLines.{At, member_at}
 use Rattle.certificate.specs.declared.version.CertVersion.{CertVersion}
 use Rattle.certificate.proofs.WordLaws.{name_word, words_take, words_again}
 use Rattle.certificate.proofs.FailLaws.{fail_takes, fail_again, fail_plain, fail_line_is}

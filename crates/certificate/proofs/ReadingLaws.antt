@@ -16,12 +16,12 @@ use Rattle.certificate.specs.Body.{Fail, CertLevelData, IsFailText, IsLevelText,
 use Rattle.certificate.specs.Body.{HasSpelling, Body, Best, NoOrder, Cert}
 use Rattle.certificate.specs.Spelling.{fail_line, fail_lines, count_line, head_text, level_spelling}
 use Rattle.certificate.specs.Spelling.{level_spellings, body_text, spelling}
-use Rattle.lines.specs.Lines.{parts}
+use Rattle.lines.specs.TextLines.{parts}
 use Rattle.lines.specs.Words.{words}
 use Rattle.certificate.specs.Words.{fail_in}
 use Rattle.lines.specs.Steps.{◌>>=◌}
-use Rattle.certificate.specs.Lines.{At, items_at, certificate_in, count_in, member_at, level_read}
-use Rattle.certificate.specs.Lines.{body_case, body_at, version_in, versioned, Gives}
+use Rattle.certificate.specs.CertificateLines.{At, items_at, certificate_in, count_in, member_at, level_read}
+use Rattle.certificate.specs.CertificateLines.{body_case, body_at, version_in, versioned, Gives}
 use Rattle.certificate.specs.declared.fault.CertFault.{CertFault}
 use Rattle.certificate.specs.declared.fault.CertFault.TheVariants.{Trailing}
 use Rattle.certificate.proofs.WordLaws.{IsWord, name_word, number_word, line_of, IsLine}

@@ -7,7 +7,7 @@ use Rattle.std.proofs.lemmas.List.Splits.{join_with_byte-slice_split}
 use Rattle.std.proofs.lemmas.Option.{same_Some}
 use Rattle.task_sheet.specs.Name.{IsName}
 use Rattle.certificate.specs.Body.{IsShort}
-use Rattle.lines.specs.Lines.{parts}
+use Rattle.lines.specs.TextLines.{parts}
 use Rattle.lines.specs.Words.{words}
 use Rattle.certificate.specs.Words.{◌>>=◌, numbers_in}
 use Rattle.lines.proofs.Lacks.{Lacks, cut_at, joined_again, joined_lacks, name_lacks, number_lacks}

@@ -1,7 +1,7 @@
 pub mod Body
 pub mod Spelling
 pub mod Words
-pub mod Lines
+pub mod CertificateLines
 pub mod ReasonOf
 pub mod BodyOf
 pub mod Versions

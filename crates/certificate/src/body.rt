@@ -2,7 +2,7 @@
 ghost use Rattle.std.specs.Prelude.{◌≡◌};
 ghost use Rattle.certificate.specs.Body.{Cert};
 ghost use Rattle.certificate.specs.BodyOf.{body_of};
-ghost use Rattle.certificate.specs.Lines.{Gives, at_place, body_at, version_in, certificate_in};
+ghost use Rattle.certificate.specs.CertificateLines.{Gives, at_place, body_at, version_in, certificate_in};
 
 use crate::fault::CertFault;
 use crate::reading::{Reader, count_of, end, is_word, next_line};

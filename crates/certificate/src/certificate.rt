@@ -6,7 +6,7 @@ ghost use Rattle.certificate.specs.BodyOf.{body_of};
 ghost use Rattle.certificate.specs.CertificateOf.{certificate_of};
 ghost use Rattle.assignment.specs.Verdict.{verdict_set, verdict_of};
 ghost use Rattle.certificate.specs.Spelling.{spelling};
-ghost use Rattle.certificate.specs.Lines.{Gives, certificate_in};
+ghost use Rattle.certificate.specs.CertificateLines.{Gives, certificate_in};
 
 use crate::body::{CertBody, certificate_in};
 use crate::fault::CertFault;

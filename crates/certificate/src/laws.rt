@@ -2,7 +2,7 @@
 ghost use Rattle.std.specs.Prelude.{◌≡◌, ℕ, ◌++◌, ◌∷◌, [], List, Ok, Err};
 ghost use Rattle.certificate.specs.Body.{Cert, HasSpelling};
 ghost use Rattle.certificate.specs.Spelling.{spelling};
-ghost use Rattle.certificate.specs.Lines.{certificate_in};
+ghost use Rattle.certificate.specs.CertificateLines.{certificate_in};
 ghost use Rattle.certificate.specs.declared.fault.CertFault.TheVariants.{Trailing};
 
 /// No spelling is a proper prefix of another, and certificates with one spelling are equal.

@@ -2,7 +2,7 @@
 ghost use Rattle.std.specs.Prelude.{◌≡◌, ◌≤◌, IfOk};
 ghost use Rattle.task_sheet.specs.declared.set.TheConstants.{TASK_LIMIT};
 ghost use Rattle.lines.specs.Words.{words};
-ghost use Rattle.certificate.specs.Lines.{Gives, at_place, level_in, level_head, fails_from, level_read, levels_at};
+ghost use Rattle.certificate.specs.CertificateLines.{Gives, at_place, level_in, level_head, fails_from, level_read, levels_at};
 
 use crate::fault::CertFault;
 use crate::reading::{Reader, is_word, next_line};

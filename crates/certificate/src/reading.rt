@@ -2,7 +2,7 @@
 ghost use Rattle.std.specs.Prelude.{◌≡◌, ◌<◌, ◌≤◌, IfOk, IfSome, length, bytes_eq};
 ghost use Rattle.task_sheet.specs.declared.set.TheConstants.{TASK_LIMIT};
 ghost use Rattle.lines.specs.Words.{words};
-ghost use Rattle.certificate.specs.Lines.{Gives, at_place, line_at, member_at, members_at, end_at, count_in, few};
+ghost use Rattle.certificate.specs.CertificateLines.{Gives, at_place, line_at, member_at, members_at, end_at, count_in, few};
 
 use crate::fault::CertFault;
 use crate::value::CertFail;

@@ -3,7 +3,7 @@ ghost use Rattle.std.specs.Prelude.{◌≡◌, ◌++◌, IfOk, OnOk, string_byte
 ghost use Rattle.lines.specs.Naming.{name_at};
 ghost use Rattle.ceiling_kernel.specs.Tick.{node_in};
 ghost use Rattle.chains.specs.Parts.{bound_in, order_of, parts_of, time_in};
-ghost use Rattle.chain_lines.specs.Lines.{all_met, both_lines, bound_words, chain_line, chain_said, chains_said, is_met, is_told, kind_words, limit_words, met_word, part_line, part_lines, parts_said};
+ghost use Rattle.chain_lines.specs.ChainLines.{all_met, both_lines, bound_words, chain_line, chain_said, chains_said, is_met, is_told, kind_words, limit_words, met_word, part_line, part_lines, parts_said};
 
 use chain_tables::Chain;
 use chains::{BoundPart, Level, PartKind, after_of, bound_of, wait_of};

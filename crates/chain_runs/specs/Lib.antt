@@ -2,4 +2,4 @@ pub mod Slices
 pub mod Outputs
 pub mod Outcomes
 pub mod Runs
-pub mod Lines
+pub mod RunChainLines

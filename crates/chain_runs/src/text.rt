@@ -1,6 +1,6 @@
 //! What is printed of the chains of a run.
 ghost use Rattle.std.specs.Prelude.{◌≡◌, ◌++◌, IfOk, OnOk, map, string_bytes};
-ghost use Rattle.chain_runs.specs.Lines.{bound_words, outcome_words, run_chain_line, run_chains_said, run_line, time_words};
+ghost use Rattle.chain_runs.specs.RunChainLines.{bound_words, outcome_words, run_chain_line, run_chains_said, run_line, time_words};
 ghost use Rattle.chain_runs.specs.Outcomes.{outcome_of};
 ghost use Rattle.chain_runs.specs.Outputs.{fresh, outputs_from};
 ghost use Rattle.chain_runs.specs.Slices.{slices_of};

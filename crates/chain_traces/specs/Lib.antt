@@ -1,4 +1,4 @@
 pub mod Executions
 pub mod Outputs
 pub mod Steady
-pub mod Lines
+pub mod TraceChainLines

@@ -2,8 +2,8 @@
 ghost use Rattle.std.specs.Prelude.{◌≡◌, ◌++◌, IfOk, OnOk, ◌&&◌, true, map, string_bytes};
 ghost use Rattle.std.specs.List.{list_all};
 ghost use Rattle.chains.specs.Parts.{bound_in};
-ghost use Rattle.chain_runs.specs.Lines.{time_words};
-ghost use Rattle.chain_traces.specs.Lines.{AreSeen, chain_lines, is_fresh, is_old, level_of, lines_of, old_line, outcome_in, steady_line, steady_lines};
+ghost use Rattle.chain_runs.specs.RunChainLines.{time_words};
+ghost use Rattle.chain_traces.specs.TraceChainLines.{AreSeen, chain_lines, is_fresh, is_old, level_of, lines_of, old_line, outcome_in, steady_line, steady_lines};
 
 use crate::executions::{Execution, executions_in};
 use crate::outputs::outputs_in;

@@ -3,7 +3,7 @@ use Rattle.std.proofs.Common.{◌≡◌, ◌∙◌, ℕ, ◌-◌, inl, inr, List
 use Rattle.std.proofs.Common.{Result, Ok, Err, slice_set, refl, sym, ap, subst}
 use Rattle.task_sheet.proofs.Common.{Task, task_at, FailureData, tasks_of}
 use Rattle.task_sheet.proofs.VerdictLaws.{IsStuck-one}
-use Rattle.assignment.specs.Kept.{ObstructionData}
+use Rattle.assignment.specs.AssignmentData.{ObstructionData}
 use Rattle.assignment.specs.Questions.{QuestionData}
 use Rattle.drafts.specs.declared.change.Change.{Change}
 use Rattle.drafts.specs.declared.change.Refusal.{Refusal}

@@ -25,8 +25,8 @@ use Rattle.owners.specs.declared.owner.Owner.{Owner}
 use Rattle.diff.specs.Whole.{came_at, came_line, gone_at, gone_line as gone_interrupt, interrupts_of}
 use Rattle.diff.specs.Whole.{node_line, node_of, other_of, preference_line, same_some, whole_lines}
 use Rattle.diff.specs.Seats.{seat_of}
-use Rattle.diff.specs.Lines.{change_lines, effect_of, effect_words, edit_from, edit_line, gone_line}
-use Rattle.diff.specs.Lines.{index_in, removed_line, rest_from, rest_line, seats_line}
+use Rattle.diff.specs.ChangeLines.{change_lines, effect_of, effect_words, edit_from, edit_line, gone_line}
+use Rattle.diff.specs.ChangeLines.{index_in, removed_line, rest_from, rest_line, seats_line}
 use Rattle.diff.specs.declared.seats.Seat.{Seat}
 use Rattle.diff.specs.declared.text.Effect.{Effect}
 use Rattle.diff.specs.declared.text.Effect.TheVariants.{OnBound, OnLevel}

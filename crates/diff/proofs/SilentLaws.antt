@@ -10,9 +10,9 @@ use Rattle.task_sheet.specs.declared.prefer.Preference.{Preference}
 use Rattle.assignment.specs.declared.placing.Placing.{Placing}
 use Rattle.diff.specs.Keys.{is_changed, keys_words, words_below}
 use Rattle.diff.specs.Seats.{seat_of}
-use Rattle.diff.specs.Lines.{change_lines, changed_line, edit_from, edit_line, effect_of}
-use Rattle.diff.specs.Lines.{effect_words, gone_line, index_in, kept_line}
-use Rattle.diff.specs.Lines.{removed_line, rest_from, rest_line, seats_line, start_words}
+use Rattle.diff.specs.ChangeLines.{change_lines, changed_line, edit_from, edit_line, effect_of}
+use Rattle.diff.specs.ChangeLines.{effect_words, gone_line, index_in, kept_line}
+use Rattle.diff.specs.ChangeLines.{removed_line, rest_from, rest_line, seats_line, start_words}
 use Rattle.diff.specs.Unchanged.{AreKept, IsKept, IsSameSeat, IsUnchanged}
 use Rattle.task_sheet.specs.declared.node.Interrupt.{Interrupt}
 use Rattle.owners.specs.Owners.{interrupt_words}

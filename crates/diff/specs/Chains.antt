@@ -7,7 +7,7 @@ use Rattle.chains.specs.Parts.{bound_in}
 use Rattle.chains.specs.declared.bounds.Level.{Level}
 use Rattle.chain_tables.specs.Chains.{ChainData}
 use Rattle.diff.specs.Keys.{some_words}
-use Rattle.diff.specs.Lines.{word_of}
+use Rattle.diff.specs.ChangeLines.{word_of}
 use Rattle.diff.specs.Whole.{same_number}
 use Rattle.diff.specs.declared.text.Kind.{Kind}
 use Rattle.diff.specs.declared.text.Kind.TheVariants.{Removed, Added, Changed, Slower, Faster}

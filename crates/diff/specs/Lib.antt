@@ -4,5 +4,5 @@ pub mod Chains
 pub mod ChainsKept
 pub mod Keys
 pub mod Whole
-pub mod Lines
+pub mod ChangeLines
 pub mod Unchanged

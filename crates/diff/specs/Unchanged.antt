@@ -8,7 +8,7 @@ use Rattle.owners.specs.Owners.{interrupt_words}
 use Rattle.owners.specs.declared.owner.Owner.{Owner}
 use Rattle.assignment.specs.declared.placing.Placing.{Placing}
 use Rattle.diff.specs.Keys.{is_changed}
-use Rattle.diff.specs.Lines.{index_in}
+use Rattle.diff.specs.ChangeLines.{index_in}
 use Rattle.diff.specs.Seats.{seat_of}
 use Rattle.diff.specs.Whole.{both_weigh, interrupts_of, node_of, other_of, same_preference, same_some}
 use Rattle.diff.specs.declared.seats.Seat.{Seat}

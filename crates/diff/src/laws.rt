@@ -14,7 +14,7 @@ ghost use Rattle.chain_tables.specs.Chains.{ChainData};
 ghost use Rattle.diff.specs.Chains.{chain_changes};
 ghost use Rattle.diff.specs.ChainsKept.{AreChainsKept};
 ghost use Rattle.diff.specs.Keys.{is_changed};
-ghost use Rattle.diff.specs.Lines.{change_lines};
+ghost use Rattle.diff.specs.ChangeLines.{change_lines};
 ghost use Rattle.diff.specs.Seats.{seat_of};
 ghost use Rattle.diff.specs.Unchanged.{IsUnchanged};
 ghost use Rattle.diff.specs.Whole.{both_weigh, whole_lines};

@@ -3,7 +3,7 @@ ghost use Rattle.std.specs.Prelude.{◌≡◌, ◌++◌, ◌<◌, length, OnOk, 
 ghost use Rattle.diff.specs.Seats.{seat_of};
 ghost use Rattle.diff.specs.Keys.{words_below};
 ghost use Rattle.diff.specs.Whole.{both_weigh};
-ghost use Rattle.diff.specs.Lines.{added_line, change_lines, changed_line, edit_line, effect_line, effect_of, index_in, kept_line, removed_line, rest_line, seats_words, start_words, word_of};
+ghost use Rattle.diff.specs.ChangeLines.{added_line, change_lines, changed_line, edit_line, effect_line, effect_of, index_in, kept_line, removed_line, rest_line, seats_words, start_words, word_of};
 
 use crate::keys::{is_changed, push_keys};
 use crate::pairs::push_pair;

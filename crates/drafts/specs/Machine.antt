@@ -4,7 +4,7 @@ use Rattle.task_sheet.specs.Orders.{IsFeasible}
 use Rattle.task_sheet.specs.Verdicts as verdict
 use Rattle.drafts.specs.declared.change.Change.{Change}
 use Rattle.drafts.specs.declared.change.Refusal.{Refusal}
-use Rattle.assignment.specs.Kept.{ObstructionData}
+use Rattle.assignment.specs.AssignmentData.{ObstructionData}
 use Rattle.drafts.specs.Applied.{OnNode, set_of, applied}
 
 -- a decision, by what it says

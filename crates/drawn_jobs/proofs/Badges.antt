@@ -5,7 +5,7 @@ use Rattle.ceiling_kernel.specs.declared.trace.JobRecord.{JobRecord}
 use Rattle.frames.specs.declared.rows.TaskRow.{TaskRow}
 use Rattle.frames.specs.Frame.{Frame}
 use Rattle.drawn_jobs.specs.Misses.{badge_after, badge_before}
-use Rattle.frames.specs.Rows.{record_at}
+use Rattle.frames.specs.PictureRows.{record_at}
 
 -- none before the first job
 pub no_badge : (f : Frame) (row : TaskRow) (jobs : List JobRecord)

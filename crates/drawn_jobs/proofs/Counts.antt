@@ -12,7 +12,7 @@ use Rattle.frames.specs.declared.rows.TaskRow.{TaskRow}
 use Rattle.frames.specs.declared.tones.Toned.{Toned}
 use Rattle.frames.specs.Slices.{slice_at, executed_in, executed_with, ticks_of}
 use Rattle.drawn_jobs.specs.Sections.{counted, AreUncounted}
-use Rattle.frames.specs.Rows.{on_spot, of_job}
+use Rattle.frames.specs.PictureRows.{on_spot, of_job}
 use Rattle.drawn_jobs.specs.Bars.{slice_text, slice_by, slice_in}
 use Rattle.drawn_jobs.specs.Held.{held_before, held_by}
 use Rattle.frames.proofs.Executed.{executed_more}

@@ -3,13 +3,13 @@ use Rattle.std.specs.Prelude.{ℕ, ◌+◌, ◌-◌, ◌*◌, ◌/◌, Bool, ◌
 use Rattle.std.specs.Fmt.{decimal}
 use Rattle.std.specs.List.{concat, list_any}
 use Rattle.task_sheet.specs.Demand.{greatest_of}
-use Rattle.run_lines.specs.Lines.{greatest_words}
+use Rattle.run_lines.specs.RunLines.{greatest_words}
 use Rattle.run_lines.specs.Reached.{done_of, response_of}
 use Rattle.ceiling_kernel.specs.declared.trace.JobRecord.{JobRecord}
 use Rattle.pieces.specs.Bands.{is_of, all_of, arrival_of, joins, stretch_of}
 use Rattle.frames.specs.declared.rows.TaskRow.{TaskRow}
 use Rattle.frames.specs.Frame.{Frame, x_of, in_millis, is_in, sees, right_of, top_of}
-use Rattle.frames.specs.Rows.{record_at, each, on_spot}
+use Rattle.frames.specs.PictureRows.{record_at, each, on_spot}
 use Rattle.frames.specs.Numbers.{known_text, time_text, unit_text}
 use Rattle.drawn_jobs.specs.Jobs.{limit_of, limit_path, goes_on, sign_text, signs_text, job_text, unrun_text}
 

@@ -9,7 +9,7 @@ use Rattle.frames.specs.declared.rows.TaskRow.{TaskRow}
 use Rattle.frames.specs.declared.rows.Spot.{Spot}
 use Rattle.frames.specs.declared.tones.Toned.{Toned}
 use Rattle.frames.specs.Frame.{Frame, x_of, sees, right_of, top_of}
-use Rattle.frames.specs.Rows.{each, on_spot, of_job}
+use Rattle.frames.specs.PictureRows.{each, on_spot, of_job}
 use Rattle.frames.specs.Boxes.{box_path, span_text}
 use Rattle.drawn_jobs.specs.Stripes.{stripes_text}
 use Rattle.drawn_jobs.specs.Sections.{dark_from, dark_to, nth_section, fits}

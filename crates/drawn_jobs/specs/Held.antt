@@ -9,7 +9,7 @@ use Rattle.frames.specs.declared.rows.TaskRow.{TaskRow}
 use Rattle.frames.specs.declared.tones.Toned.{Toned}
 use Rattle.frames.specs.Frame.{Frame, sees}
 use Rattle.frames.specs.Locks.{noted_names}
-use Rattle.frames.specs.Rows.{row_at, spot_named}
+use Rattle.frames.specs.PictureRows.{row_at, spot_named}
 use Rattle.frames.specs.Slices.{executed_in, slice_at}
 use Rattle.drawn_jobs.specs.Sections.{dark_from, dark_to}
 

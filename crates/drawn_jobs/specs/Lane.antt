@@ -9,7 +9,7 @@ use Rattle.pieces.specs.Pieces.{clipped}
 use Rattle.frames.specs.Slices.{ticks_of, slice_at}
 use Rattle.frames.specs.Boxes.{box_path}
 use Rattle.ceiling_kernel.specs.declared.trace.JobRecord.{JobRecord}
-use Rattle.frames.specs.Rows.{each, on_row, of_job}
+use Rattle.frames.specs.PictureRows.{each, on_row, of_job}
 
 -- for how long a slice executes in the window, and what was before: no more than passed until then
 abbrev pub busy_with : Frame → ℕ → Slice → ℕ

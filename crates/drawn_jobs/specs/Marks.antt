@@ -8,7 +8,7 @@ use Rattle.frames.specs.declared.rows.TaskRow.{TaskRow}
 use Rattle.drawn_jobs.specs.declared.marks.Mark.{Mark}
 use Rattle.drawn_jobs.specs.declared.marks.Mark.TheVariants.{Arrival, Ready, Bound, Deadline}
 use Rattle.frames.specs.Frame.{Frame, x_of, is_in, sees, top_of}
-use Rattle.frames.specs.Rows.{each, on_spot}
+use Rattle.frames.specs.PictureRows.{each, on_spot}
 use Rattle.ceiling_kernel.specs.Releases.{release_at}
 use Rattle.pieces.specs.Bands.{is_banded}
 use Rattle.drawn_jobs.specs.Bands.{gap_of}

@@ -7,7 +7,7 @@ use Rattle.task_sheet.specs.Sheet.{same_bytes}
 use Rattle.ceiling_kernel.specs.declared.trace.JobRecord.{JobRecord}
 use Rattle.frames.specs.declared.rows.TaskRow.{TaskRow}
 use Rattle.frames.specs.Frame.{Frame, x_of, sees, top_of, ended}
-use Rattle.frames.specs.Rows.{each, row_at, row_named, record_at, spot_in}
+use Rattle.frames.specs.PictureRows.{each, row_at, row_named, record_at, spot_in}
 use Rattle.frames.specs.Boxes.{box_path}
 use Rattle.drawn_jobs.specs.Jobs.{limit_of, job_words, job_signs}
 

@@ -3,7 +3,7 @@ use Rattle.std.specs.Prelude.{ℕ, ◌+◌, ◌-◌, ◌*◌, ◌/◌, ◌%◌, 
 use Rattle.std.specs.Fmt.{decimal}
 use Rattle.std.specs.List.{concat}
 use Rattle.frames.specs.Frame.{Frame, frame_end, top_of}
-use Rattle.frames.specs.Rows.{each}
+use Rattle.frames.specs.PictureRows.{each}
 use Rattle.frames.specs.Boxes.{box_path}
 use Rattle.frames.specs.Tones.{tone_named}
 use Rattle.frames.specs.declared.tones.Toned.{Toned}

@@ -1,6 +1,6 @@
 //! Jobs of a task that are too close to be drawn apart.
 ghost use Rattle.std.specs.Prelude.{◌<◌, ◌≡◌, ◌≤◌, length};
-ghost use Rattle.run_lines.specs.Lines.{greatest_words};
+ghost use Rattle.run_lines.specs.RunLines.{greatest_words};
 ghost use Rattle.frames.specs.Page.{Adds};
 ghost use Rattle.frames.specs.Boxes.{box_path};
 ghost use Rattle.task_sheet.specs.declared.set.TheConstants.{TASK_LIMIT};

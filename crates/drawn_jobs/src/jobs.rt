@@ -6,7 +6,7 @@ ghost use Rattle.frames.specs.Boxes.{box_path};
 ghost use Rattle.frames.specs.Frame.{right_of, x_of};
 ghost use Rattle.frames.specs.declared.frame.TheConstants.{RIGHTMOST};
 ghost use Rattle.frames.specs.Page.{Adds};
-ghost use Rattle.frames.specs.Rows.{on_spot, record_at};
+ghost use Rattle.frames.specs.PictureRows.{on_spot, record_at};
 ghost use Rattle.drawn_jobs.specs.Bands.{jobs_text, place_text};
 ghost use Rattle.drawn_jobs.specs.Jobs.{goes_back, goes_on, job_signs, job_text, job_words, limit_of, limit_path, signs_text, unrun_text};
 

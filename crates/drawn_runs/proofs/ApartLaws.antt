@@ -10,7 +10,7 @@ use Rattle.frames.specs.declared.rows.TaskRow.{TaskRow}
 use Rattle.frames.specs.Tones.{apart, last_tone}
 use Rattle.frames.specs.View.{is_chosen}
 use Rattle.drawn_runs.specs.Apart.{are_apart, are_apart_below, differs}
-use Rattle.drawn_runs.specs.Rows.{Looks, drawn_row, rows_of}
+use Rattle.drawn_runs.specs.DrawnRows.{Looks, drawn_row, rows_of}
 
 -- a tone and the next one, of ten
 next_other : (above tone : ℕ) → above ≡ tone → not (above == (tone % 10 + 1) % 10) ≡ true

@@ -18,10 +18,10 @@ use Rattle.frames.specs.declared.rows.TaskRow.{TaskRow}
 use Rattle.frames.specs.declared.view.View.{View}
 use Rattle.frames.specs.Frame.{Frame, frame_of}
 use Rattle.drawn_jobs.specs.Misses.{all_missed, is_late, is_late_at, misses}
-use Rattle.frames.specs.Rows.{no_row, record_at, row_at, row_named}
+use Rattle.frames.specs.PictureRows.{no_row, record_at, row_at, row_named}
 use Rattle.frames.specs.View.{end_of_run}
 use Rattle.drawn_runs.specs.Late.{IsBestRun, IsRowOf, NoneIsLate}
-use Rattle.drawn_runs.specs.Rows.{Looks, drawn_row, rows_of}
+use Rattle.drawn_runs.specs.DrawnRows.{Looks, drawn_row, rows_of}
 use Rattle.drawn_runs.proofs.ListLaws.{none_counts}
 use Rattle.drawn_runs.proofs.RunLaws.{arrives_in, long, not_late}
 

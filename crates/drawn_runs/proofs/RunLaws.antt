@@ -25,7 +25,7 @@ use Rattle.run_lines.specs.Reached.{done_of, is_done_of, response_of}
 use Rattle.run_lines.specs.Responses.{AllDoneWithin, AllReachWithin, DoneWithin}
 use Rattle.run_lines.proofs.ResponseLaws.{all_within}
 use Rattle.frames.specs.declared.rows.TaskRow.{TaskRow}
-use Rattle.frames.specs.Rows.{record_at}
+use Rattle.frames.specs.PictureRows.{record_at}
 use Rattle.drawn_jobs.specs.Misses.{is_behind}
 use Rattle.drawn_runs.specs.Late.{IsBestRun}
 use Rattle.drawn_runs.specs.Stand.{AreByArrival}

@@ -16,7 +16,7 @@ use Rattle.frames.specs.declared.rows.TaskRow.{TaskRow}
 use Rattle.drawn_jobs.specs.Bands.{band_text, gap_of, place_text, stand_text}
 use Rattle.drawn_jobs.specs.Jobs.{job_text, limit_of, seen_job}
 use Rattle.frames.specs.Frame.{Frame, sees}
-use Rattle.frames.specs.Rows.{in_spot, on_spot, record_at, row_at, spot_at, spot_of}
+use Rattle.frames.specs.PictureRows.{in_spot, on_spot, record_at, row_at, spot_at, spot_of}
 use Rattle.drawn_runs.specs.Stand.{AreByArrival, IsSeenAt, StandsOnce, band_at, count_at, drawn_at}
 use Rattle.drawn_runs.specs.Stand.{latest_at, sees_job, sees_place}
 use Rattle.drawn_runs.proofs.ListLaws.{kept_most, kept_two}

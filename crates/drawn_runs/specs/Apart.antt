@@ -3,7 +3,7 @@ use Rattle.std.specs.Prelude.{ℕ, Bool, true, not, ◌&&◌, ◌==◌, if◌the
 use Rattle.ceiling_kernel.specs.declared.trace.Release.{Release}
 use Rattle.frames.specs.declared.rows.TaskRow.{TaskRow}
 use Rattle.frames.specs.View.{is_chosen}
-use Rattle.drawn_runs.specs.Rows.{Looks}
+use Rattle.drawn_runs.specs.DrawnRows.{Looks}
 
 -- a tone is another than one above, if there is one
 abbrev pub differs : (above : Option ℕ) → (tone : ℕ) → Bool

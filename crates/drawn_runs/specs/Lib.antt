@@ -1,4 +1,4 @@
-pub mod Rows
+pub mod DrawnRows
 pub mod Late
 pub mod Stand
 pub mod Apart

@@ -8,7 +8,7 @@ use Rattle.frames.specs.declared.rows.TaskRow.{TaskRow}
 use Rattle.drawn_jobs.specs.Bands.{gap_of, place_text, seen_band}
 use Rattle.drawn_jobs.specs.Jobs.{limit_of, seen_job}
 use Rattle.frames.specs.Frame.{Frame, sees}
-use Rattle.frames.specs.Rows.{on_spot, place_in, record_at, row_at, row_named}
+use Rattle.frames.specs.PictureRows.{on_spot, place_in, record_at, row_at, row_named}
 
 -- the jobs stand by their arrivals
 abbrev pub AreByArrival : List JobRecord → Type 0

@@ -16,9 +16,9 @@ ghost use Rattle.frames.specs.declared.view.View.{View};
 ghost use Rattle.frames.specs.Frame.{Frame, frame_of};
 ghost use Rattle.drawn_jobs.specs.Misses.{all_missed};
 ghost use Rattle.drawn_jobs.specs.Bands.{jobs_text};
-ghost use Rattle.frames.specs.Rows.{each};
+ghost use Rattle.frames.specs.PictureRows.{each};
 ghost use Rattle.drawn_runs.specs.Late.{IsBestRun, IsRowOf, NoneIsLate};
-ghost use Rattle.drawn_runs.specs.Rows.{Looks, rows_of};
+ghost use Rattle.drawn_runs.specs.DrawnRows.{Looks, rows_of};
 ghost use Rattle.drawn_runs.specs.Apart.{are_apart};
 ghost use Rattle.drawn_runs.specs.Stand.{AreByArrival, IsSeenAt, StandsOnce, text_at};
 

@@ -5,5 +5,5 @@ pub mod Accounts
 pub mod Needs
 pub mod Explanations
 pub mod Load
-pub mod Lines
+pub mod ExplanationLines
 pub mod TaskLines

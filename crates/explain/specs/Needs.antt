@@ -4,7 +4,7 @@ use Rattle.task_sheet.specs.Sheet.{Task, task_at}
 use Rattle.task_sheet.specs.Indexes.{Indexes, without_index, listed_below}
 use Rattle.task_sheet.specs.Responses.{IsFullChain}
 use Rattle.task_sheet.specs.Demand.{demand_of, limit_of}
-use Rattle.task_sheet.specs.Orders.{is_bound}
+use Rattle.task_sheet.specs.Orders.{must_outrank_any}
 use Rattle.task_sheet.specs.Verdicts.{IsLeastOver}
 use Rattle.explain.specs.Parts.{IsPartsOf}
 use Rattle.explain.specs.declared.accounts.Account.{Account}
@@ -36,7 +36,7 @@ IsNeedsByRank U i H a = IsNeedsAccount U i H (reverse (listed_below (length U) H
 -- else what it needs
 abbrev pub IsNeedOf : List Task → Indexes → ℕ → Need → Type 0
 IsNeedOf U C i (Needs a) =
-    IsFalse (is_bound U i (without_index C i)) × IsNeedsByRank U i (without_index C i) a
+    IsFalse (must_outrank_any U i (without_index C i)) × IsNeedsByRank U i (without_index C i) a
 IsNeedOf U C i (MustBeAbove task other) = (task ≡ i) × IsLeastOver U i (without_index C i) other
 
 -- why each of these tasks of C may not

@@ -2,7 +2,7 @@
 use Rattle.std.specs.Prelude.{◌==◌, ℕ, ◌+◌, List, [], ◌∷◌, ◌++◌, length, if◌then◌else◌}
 use Rattle.task_sheet.specs.Sheet.{Task}
 use Rattle.task_sheet.specs.Indexes.{indexes_of, listed_below}
-use Rattle.explain.specs.Lines.{conflict_line, level_account_lines, need_lines}
+use Rattle.explain.specs.ExplanationLines.{conflict_line, level_account_lines, need_lines}
 use Rattle.explain.specs.declared.accounts.Account.{Account}
 use Rattle.explain.specs.declared.needs.Need.{Need}
 use Rattle.explain.specs.declared.needs.Need.TheVariants.{Needs, MustBeAbove}

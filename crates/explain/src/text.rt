@@ -4,7 +4,7 @@ ghost use Rattle.task_sheet.specs.Sheet.{task_at};
 ghost use Rattle.task_sheet.specs.Overheads.{overhead_of};
 ghost use Rattle.task_sheet.specs.Locks.{names_lock, uses};
 ghost use Rattle.task_sheet.specs.Indexes.{indexes_of, listed_below};
-ghost use Rattle.explain.specs.Lines.{above_line, above_lines, account_lines, blocked_line, blocker_line, ceiling_words, conflict_line, cost_lines, explanation_lines, first_user, interrupt_line, interrupt_lines, interrupted_lines, load_line, need_lines, needs_lines, parts_lines, response_lines, time_line, user_words};
+ghost use Rattle.explain.specs.ExplanationLines.{above_line, above_lines, account_lines, blocked_line, blocker_line, ceiling_words, conflict_line, cost_lines, explanation_lines, first_user, interrupt_line, interrupt_lines, interrupted_lines, load_line, need_lines, needs_lines, parts_lines, response_lines, time_line, user_words};
 
 use crate::accounts::Account;
 use crate::blocker::Blocker;

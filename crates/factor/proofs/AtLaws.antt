@@ -7,7 +7,7 @@ use Rattle.task_sheet.proofs.Common.{Task, AllTasks, no_task, task_at, Indexes, 
 use Rattle.task_sheet.proofs.Common.{without_index, among, limit_of, demand_of, all_of, Passes}
 use Rattle.task_sheet.proofs.Common.{AllStand, IsPassingOrder, IsFeasible}
 use Rattle.task_sheet.proofs.Exchange.{demand-part}
-use Rattle.task_sheet.proofs.PassingLaws.{is_bound-part}
+use Rattle.task_sheet.proofs.PassingLaws.{must_outrank_any-part}
 use Rattle.latest_first.specs.LatestFirst.{AllPrompt}
 use Rattle.latest_first.proofs.LaterLimits.{once-within, cost-within, demand-split, inside}
 use Rattle.factor.specs.Factors.{PassesAt, StandsAt, AllStandAt, IsPassingAt, IsFeasibleAt}
@@ -74,7 +74,7 @@ pub StandsAt-part : (U : List Task) → AllTasks U → (f i : ℕ) (H G : Indexe
     → StandsAt f U i G → StandsAt f U i H
 StandsAt-part U valid f i H G part ((t, positive, within, covered), free) =
     let less = mul-le-mul_left f (demand-part U valid i H G part t positive) in
-    ((t, positive, within, omega (arith, less, covered)), is_bound-part U i H G part free)
+    ((t, positive, within, omega (arith, less, covered)), must_outrank_any-part U i H G part free)
 
 -- ---- below all others of some: within the limit of one of them another one's demand is no greater
 pub PassesAt-later : (U : List Task) → AllPrompt U → (L : Indexes) → IsPart L (all_of U)

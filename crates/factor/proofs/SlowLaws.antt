@@ -11,8 +11,8 @@ use Rattle.task_sheet.proofs.Common.{CriticalSection, Task, task_at, Indexes, wi
 use Rattle.task_sheet.proofs.Common.{some_below, sum_below, greatest_below, names_lock, uses}
 use Rattle.task_sheet.proofs.Common.{shares_lock, reaches, limit_of, greatest_of, longest_reached}
 use Rattle.task_sheet.proofs.Common.{blocking_of, interrupt_within, interrupts_of, demand_of}
-use Rattle.task_sheet.proofs.Common.{interrupts_within, releases_within, interference_of, is_bound}
-use Rattle.latest_first.proofs.OneOrder.{is_bound-alike}
+use Rattle.task_sheet.proofs.Common.{interrupts_within, releases_within, interference_of, must_outrank_any}
+use Rattle.latest_first.proofs.OneOrder.{must_outrank_any-alike}
 use Rattle.factor.specs.Factors.{PassesAt}
 use Rattle.factor.specs.Slower.{IsAtMost, IsSlowSection, IsSlowInterrupt, AreSlow}
 
@@ -132,8 +132,8 @@ module _ (f : ℕ) where
         let less = demand-slow i H t in
         (t, positive, omega (arith, limit-slow i, within), omega arith)
 
-    pub is_bound-slow : (i : ℕ) (H : Indexes) → is_bound V i H ≡ is_bound U i H
-    is_bound-slow = is_bound-alike U V record {
+    pub must_outrank_any-slow : (i : ℕ) (H : Indexes) → must_outrank_any V i H ≡ must_outrank_any U i H
+    must_outrank_any-slow = must_outrank_any-alike U V record {
       count = slow.count;
       limits = limit-slow;
       names = λ k. (slow.each k).name;

@@ -4,7 +4,7 @@ use Rattle.std.specs.Prelude.{ℕ, ◌*◌, ◌<◌, ◌≤◌, List, [], ◌∷
 use Rattle.task_sheet.specs.Sheet.{Task, task_at}
 use Rattle.task_sheet.specs.Indexes.{Indexes, among}
 use Rattle.task_sheet.specs.Demand.{limit_of, demand_of}
-use Rattle.task_sheet.specs.Orders.{is_bound, IsOrder}
+use Rattle.task_sheet.specs.Orders.{must_outrank_any, IsOrder}
 
 -- task i passes with the tasks H above it where all execution takes so many thousandths: some time from 1 to its limit
 -- covers as much of its demand
@@ -14,7 +14,7 @@ PassesAt factor U i H =
 
 -- it passes so, and need not stand above any of them
 abbrev pub StandsAt : (factor : ℕ) → List Task → ℕ → Indexes → Type 0
-StandsAt factor U i H = PassesAt factor U i H × IsFalse (is_bound U i H)
+StandsAt factor U i H = PassesAt factor U i H × IsFalse (must_outrank_any U i H)
 
 -- each task stands so below those after it
 abbrev pub AllStandAt : (factor : ℕ) → List Task → List ℕ → Type 0

@@ -3,7 +3,7 @@ ghost use Rattle.std.specs.Prelude.{◌≡◌, ◌↔◌, ◌<◌, ℕ, length, 
 ghost use Rattle.task_sheet.specs.Sheet.{task_at};
 ghost use Rattle.task_sheet.specs.Indexes.{indexes_of, IsPart};
 ghost use Rattle.task_sheet.specs.Demand.{limit_of};
-ghost use Rattle.task_sheet.specs.Orders.{all_of, is_bound};
+ghost use Rattle.task_sheet.specs.Orders.{all_of, must_outrank_any};
 ghost use Rattle.latest_first.specs.LatestFirst.{IsFree};
 ghost use Rattle.factor.specs.Failing.{IsFirstLatest};
 
@@ -14,7 +14,7 @@ use task_sheet::Members;
 /// Whether a task must stand above one of these.
 pub(crate) fn must_outrank(set: &Tabled<'_>, task: usize, others: Members) -> bool
     requires { task < length set.now }
-    ensures { result ≡ is_bound set.now task (indexes_of others) }
+    ensures { result ≡ must_outrank_any set.now task (indexes_of others) }
 {
     match least_over(set, task, others) {
         Some(_) => true,

@@ -2,7 +2,7 @@
 use Rattle.std.proofs.Common.{◌≡◌, ℕ, ◌+◌, ◌<◌, List, length, get_or, [], ◌++◌, sym, ap, ◌∙◌, subst}
 use Rattle.std.proofs.Common.{refl, append-nil, append_assoc, add-one}
 use Rattle.std.proofs.lemmas.List.{get_or_read}
-use Rattle.frames.specs.Rows.{each}
+use Rattle.frames.specs.PictureRows.{each}
 use Rattle.frames.specs.Page.{Adds}
 use Rattle.frames.specs.declared.page.Page.{Page}
 

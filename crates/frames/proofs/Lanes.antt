@@ -1,7 +1,7 @@
 -- Texts for rows.
 use Rattle.std.proofs.Common.{◌≡◌, ℕ, List, sym, ◌∙◌, subst, Option}
 use Rattle.std.specs.Prelude.{Some}
-use Rattle.frames.specs.Rows.{row_at, spot_named, in_spot, on_spot}
+use Rattle.frames.specs.PictureRows.{row_at, spot_named, in_spot, on_spot}
 use Rattle.frames.specs.Frame.{Frame}
 use Rattle.frames.specs.Page.{Adds}
 use Rattle.frames.specs.declared.page.Page.{Page}

@@ -1,6 +1,6 @@
 pub mod View
 pub mod Frame
-pub mod Rows
+pub mod PictureRows
 pub mod Slices
 pub mod Numbers
 pub mod Boxes

@@ -7,7 +7,7 @@ use Rattle.ceiling_kernel.specs.declared.accept.TheConstants.{HORIZON}
 use Rattle.ceiling_kernel.specs.declared.trace.Release.{Release}
 use Rattle.frames.specs.declared.rows.TaskRow.{TaskRow}
 use Rattle.frames.specs.declared.view.View.{View}
-use Rattle.frames.specs.Rows.{name_in}
+use Rattle.frames.specs.PictureRows.{name_in}
 
 -- ---- the window
 -- a run ends within the horizon, and takes at least a microsecond

@@ -1,7 +1,7 @@
 //! A run in a frame.
 ghost use Rattle.std.specs.Prelude.{◌<◌, ◌≡◌, ◌≤◌, All, IfSome, length};
 ghost use Rattle.task_sheet.specs.declared.set.TheConstants.{TASK_LIMIT};
-ghost use Rattle.frames.specs.Rows.{row_at, spot_in, spot_named};
+ghost use Rattle.frames.specs.PictureRows.{row_at, spot_in, spot_named};
 ghost use Rattle.frames.specs.Slices.{rises};
 ghost use Rattle.frames.specs.declared.locks.TheConstants.{LOCKS_LIMIT};
 
@@ -45,7 +45,7 @@ pub struct Lane<'a> {
 
 impl Chart<'_> {
     ghost use Rattle.std.specs.Prelude.{IfSome, slice_get};
-    ghost use Rattle.frames.specs.Rows.{row_at, spot_in, spot_named};
+    ghost use Rattle.frames.specs.PictureRows.{row_at, spot_in, spot_named};
 
     /// The row at a spot.
     pub fn lane(&self, spot: Spot) -> Lane<'_>

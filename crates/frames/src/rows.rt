@@ -1,6 +1,6 @@
 //! Rows.
 ghost use Rattle.std.specs.Prelude.{◌<◌, ◌≡◌, IfSome, length};
-ghost use Rattle.frames.specs.Rows.{name_in, place_in, record_at, row_named, tone_in};
+ghost use Rattle.frames.specs.PictureRows.{name_in, place_in, record_at, row_named, tone_in};
 
 use ceiling_kernel::JobRecord;
 use task_sheet::{Name, Sheet};

@@ -6,8 +6,8 @@ use Rattle.std.specs.List.{find, list_any}
 use Rattle.std.proofs.lemmas.List.{drop_more, take_more}
 use Rattle.std.proofs.lemmas.Option.{slice_get_within, get_or_from_slice_get}
 use Rattle.task_sheet.proofs.Common.{Task, greatest_below}
-use Rattle.judge.specs.Faults.{is_set, line_again, mutexless, setting_number, top_number}
-use Rattle.judge.specs.Faults.{low_lock, wrong_lock}
+use Rattle.judge.specs.SettingFaults.{is_set, line_again, mutexless, setting_number, top_number}
+use Rattle.judge.specs.SettingFaults.{low_lock, wrong_lock}
 use Rattle.judge.specs.declared.rows.Setting.{Setting}
 
 -- the first element from a place on that passes, by the element there

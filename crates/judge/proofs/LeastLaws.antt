@@ -5,7 +5,7 @@ use Rattle.task_sheet.proofs.Common.{Task, Indexes, task_at, among, blocking_of,
 use Rattle.task_sheet.specs.Demand.{past_jitter}
 use Rattle.task_sheet.specs.Responses.{Covers, IsFullChain, IsResponse}
 use Rattle.judge.specs.Ceilings.{AllJudgedBy, IsJudgementWith, blocking_at, ceiling_in, demand_blocked}
-use Rattle.judge.specs.Faults.{setting_number, thread_number, top_number}
+use Rattle.judge.specs.SettingFaults.{setting_number, thread_number, top_number}
 use Rattle.judge.specs.Judgements.{AllJudged, IsJudgementOf, order_judged}
 use Rattle.judge.specs.Node.{IsOrderBy}
 use Rattle.judge.specs.declared.judging.JudgedTask.{JudgedTask}

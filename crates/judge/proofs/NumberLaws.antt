@@ -17,9 +17,9 @@ use Rattle.task_sheet.proofs.IndexLaws.{IsOrderOf-rest, listed-order, place-amon
 use Rattle.task_sheet.proofs.NameLaws.{same_is}
 use Rattle.task_sheet.proofs.TaskLaws.{place_of_name}
 use Rattle.assignment.proofs.GatherLaws.{listed_below-member, listed_below-other}
-use Rattle.judge.specs.Faults.{is_set, line_again, thread_number, setting_number, same_number}
-use Rattle.judge.specs.Faults.{threadless}
-use Rattle.judge.specs.Kept.{IsOrderOfThreads, numbered_at, with_thread_in}
+use Rattle.judge.specs.SettingFaults.{is_set, line_again, thread_number, setting_number, same_number}
+use Rattle.judge.specs.SettingFaults.{threadless}
+use Rattle.judge.specs.KeptOrder.{IsOrderOfThreads, numbered_at, with_thread_in}
 use Rattle.judge.specs.Node.{IsOrderBy}
 use Rattle.judge.specs.declared.order.Numbered.{Numbered}
 use Rattle.judge.specs.declared.rows.Setting.{Setting}

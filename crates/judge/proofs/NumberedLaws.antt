@@ -12,14 +12,14 @@ use Rattle.std.proofs.lemmas.List.Elements.{recursion_from_All}
 use Rattle.task_sheet.proofs.Common.{Task, IsName, IsTaskSet, IsOrder, ceiling_of, task_at}
 use Rattle.task_sheet.proofs.TaskLaws.{valid_at}
 use Rattle.ceilings.specs.IsTableOf.{locks_of}
-use Rattle.lines.specs.Lines.{kept_from, lines_of}
+use Rattle.lines.specs.TextLines.{kept_from, lines_of}
 use Rattle.lines.proofs.Lacks.{Lacks, joined_lacks, lacks_in, name_lacks, number_lacks, one_more}
 use Rattle.settings.specs.Numbering.{Rise, top_of}
 use Rattle.settings.specs.Settings.{moved_lines, mutex_line, mutex_lines_at, number_at}
 use Rattle.settings.specs.Settings.{numbers_from, settings_anew, settings_at, settings_kept}
 use Rattle.settings.specs.Settings.{thread_line, thread_lines_at}
 use Rattle.settings.proofs.NumberingLaws.{numbers_keep}
-use Rattle.judge.specs.Rows.{rows_from}
+use Rattle.judge.specs.SettingLines.{rows_from}
 use Rattle.judge.specs.Node.{IsNodeOrder}
 use Rattle.judge.specs.declared.rows.TheConstants.{NUMBER_LIMIT}
 use Rattle.judge.proofs.SettingsLaws.{AreRising, comes_back_by, mutexes_then, threads_then}

@@ -8,11 +8,11 @@ use Rattle.std.proofs.lemmas.Bool.{both_ways, cases_eq, cases_order, ne_eqb, tru
 use Rattle.std.proofs.lemmas.Bool.{and_from, eq-eqb, ltb-true, or_right}
 use Rattle.std.proofs.lemmas.List.Folds.{list_any_at}
 use Rattle.task_sheet.proofs.Common.{Task, AllTasks, task_at, Indexes, among, with_index, without_index, IsPart}
-use Rattle.task_sheet.proofs.Common.{IsResponseOf, Passes, all_of, is_bound, Stands, AllStand}
+use Rattle.task_sheet.proofs.Common.{IsResponseOf, Passes, all_of, must_outrank_any, Stands, AllStand}
 use Rattle.task_sheet.proofs.Common.{IsOrderOf, IsLeastOver}
 use Rattle.task_sheet.proofs.Common.{demand_of, limit_of}
 use Rattle.task_sheet.proofs.ResponseLaws.{IsFullChain-one}
-use Rattle.task_sheet.proofs.PassingLaws.{IsResponseOf-one, is_bound-at, Passes-iff_response}
+use Rattle.task_sheet.proofs.PassingLaws.{IsResponseOf-one, must_outrank_any-at, Passes-iff_response}
 use Rattle.task_sheet.proofs.IndexLaws.{IsOrderOf-among, IsOrderOf-head, IsOrderOf-rest}
 use Rattle.task_sheet.proofs.IndexLaws.{without-member, without-part_of}
 use Rattle.assignment.specs.Places.{PlaceData}
@@ -20,8 +20,8 @@ use Rattle.assignment.specs.Placings.{AllRespond, IsBestPlacing, tasks_of_places
 use Rattle.judge.specs.Judgements.{AllJudged, IsJudgementOf, IsNeeded, all_meet, does_meet}
 use Rattle.judge.specs.Judgements.{judged_of}
 use Rattle.judge.specs.Judgements.{order_judged}
-use Rattle.judge.specs.Faults.{thread_number}
-use Rattle.judge.specs.Rows.{heights, threads_of}
+use Rattle.judge.specs.SettingFaults.{thread_number}
+use Rattle.judge.specs.SettingLines.{heights, threads_of}
 use Rattle.judge.specs.Node.{IsNodeOrderBy}
 use Rattle.judge.specs.declared.judging.JudgedTask.{JudgedTask}
 use Rattle.judge.specs.declared.judging.Judgement.{Judgement}
@@ -48,8 +48,8 @@ module _ (U : List Task) (i : ℕ) (H : Indexes) where
   meets_passes r response le =
       (_, response.positive, omega (arith, le), omega (arith, response.fixed))
 
-  bound_over : (k : ℕ) → IsLeastOver U i H k → is_bound U i H ≡ true
-  bound_over k over = is_bound-at U i H k over.in_set over.above over.named
+  bound_over : (k : ℕ) → IsLeastOver U i H k → must_outrank_any U i H ≡ true
+  bound_over k over = must_outrank_any-at U i H k over.in_set over.above over.named
 
   least_one : (j k : ℕ) → IsLeastOver U i H j → IsLeastOver U i H k → j ≡ k
   least_one j k first second = elim (cases_order j k) [

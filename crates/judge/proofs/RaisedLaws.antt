@@ -24,7 +24,7 @@ use Rattle.task_sheet.proofs.Trails.{IsWalk, walk-count}
 use Rattle.task_sheet.specs.Responses.{iterate}
 use Rattle.explain.specs.Needs.{EndsWith}
 use Rattle.judge.specs.Ceilings.{blocking_at, ceiling_in, demand_blocked, longest_raised, raises_to}
-use Rattle.judge.specs.Faults.{thread_number, top_number, setting_number}
+use Rattle.judge.specs.SettingFaults.{thread_number, top_number, setting_number}
 use Rattle.judge.specs.Node.{IsOrderBy}
 use Rattle.judge.specs.declared.rows.Setting.{Setting}
 use Rattle.judge.proofs.OrderLaws.{above_more, below_less}

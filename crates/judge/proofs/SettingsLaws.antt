@@ -22,16 +22,16 @@ use Rattle.task_sheet.proofs.Below.{greatest_below-le, le-greatest_below}
 use Rattle.task_sheet.proofs.CeilingLaws.{ceiling-highest}
 use Rattle.task_sheet.proofs.IndexLaws.{without-parts, without-part_of, IsOrderOf-among}
 use Rattle.task_sheet.proofs.IndexLaws.{IsOrderOf-head, IsOrderOf-rest, order-below, place-among}
-use Rattle.lines.specs.Lines.{kept_from, lines_of}
+use Rattle.lines.specs.TextLines.{kept_from, lines_of}
 use Rattle.ceilings.specs.IsTableOf.{with_name, names_in, locks_of}
 use Rattle.settings.specs.Settings.{mutex_line, mutex_lines_from, priority_of, settings_from}
 use Rattle.settings.specs.Settings.{thread_line, thread_lines}
 use Rattle.settings.proofs.LockLaws.{has_ceiling}
-use Rattle.judge.specs.Rows.{mutexes_of, rows_from, threads_of}
-use Rattle.judge.specs.Faults.{is_no_lock, is_no_task, is_set, line_again, line_fault, mutexless}
-use Rattle.judge.specs.Faults.{name_fault, thread_number, setting_number, rows_fault}
-use Rattle.judge.specs.Faults.{same_setting_name, same_number, top_number}
-use Rattle.judge.specs.Faults.{wrong_lock}
+use Rattle.judge.specs.SettingLines.{mutexes_of, rows_from, threads_of}
+use Rattle.judge.specs.SettingFaults.{is_no_lock, is_no_task, is_set, line_again, line_fault, mutexless}
+use Rattle.judge.specs.SettingFaults.{name_fault, thread_number, setting_number, rows_fault}
+use Rattle.judge.specs.SettingFaults.{same_setting_name, same_number, top_number}
+use Rattle.judge.specs.SettingFaults.{wrong_lock}
 use Rattle.judge.specs.Node.{IsNodeOrder, IsOrderBy}
 use Rattle.judge.specs.declared.rows.Setting.{Setting}
 use Rattle.judge.specs.declared.rows.SettingRow.TheVariants.{Thread, Mutex}

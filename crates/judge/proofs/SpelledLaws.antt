@@ -7,12 +7,12 @@ use Rattle.std.specs.Char.{is_ascii_digit}
 use Rattle.std.specs.Fmt.{decimal}
 use Rattle.std.proofs.lemmas.Bool.{le-leb}
 use Rattle.task_sheet.specs.Name.{IsName, is_name_byte}
-use Rattle.lines.specs.Lines.{kept_from, lines_of, is_skipped}
+use Rattle.lines.specs.TextLines.{kept_from, lines_of, is_skipped}
 use Rattle.lines.specs.Words.{words}
 use Rattle.lines.proofs.Lacks.{Lacks, joined_again, joined_lacks, name_lacks, number_lacks}
 use Rattle.lines.proofs.Lacks.{one_more}
 use Rattle.lines.proofs.NumberLaws.{number_again}
-use Rattle.judge.specs.Rows.{number_in_range, setting_row_in, setting_row, rows_from}
+use Rattle.judge.specs.SettingLines.{number_in_range, setting_row_in, setting_row, rows_from}
 use Rattle.judge.specs.declared.rows.SettingRow.{SettingRow}
 use Rattle.judge.specs.declared.rows.SettingRow.TheVariants.{Thread, Mutex}
 use Rattle.judge.specs.declared.rows.TheConstants.{NUMBER_LIMIT}

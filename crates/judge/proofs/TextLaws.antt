@@ -14,7 +14,7 @@ use Rattle.std.specs.Cmp.{nat_eq_equiv}
 use Rattle.task_sheet.specs.Indexes.{indexes_of, with_index}
 use Rattle.task_sheet.proofs.MembersIndexes.{indexes_of-insert}
 use Rattle.judge.specs.Judgements.{does_meet}
-use Rattle.judge.specs.Lines.{missed_of}
+use Rattle.judge.specs.JudgementLines.{missed_of}
 use Rattle.judge.specs.declared.judging.JudgedTask.{JudgedTask}
 use Rattle.judge.specs.declared.judging.Judgement.TheVariants.{Meets}
 

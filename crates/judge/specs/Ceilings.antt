@@ -6,13 +6,13 @@ use Rattle.task_sheet.specs.Sheet.{CriticalSection, Task, task_at}
 use Rattle.task_sheet.specs.Indexes.{Indexes, among, greatest_below, with_index}
 use Rattle.task_sheet.specs.Demand.{greatest_of, interference_within, interrupts_within, limit_of, past_jitter}
 use Rattle.task_sheet.specs.Responses.{Covers, IsFullChain, IsResponse}
-use Rattle.task_sheet.specs.Orders.{is_bound}
+use Rattle.task_sheet.specs.Orders.{must_outrank_any}
 use Rattle.task_sheet.specs.Verdicts.{IsLeastOver}
 use Rattle.explain.specs.Needs.{EndsWith}
-use Rattle.judge.specs.Faults.{given_fault_by, given_rows_fault, setting_number, thread_number, top_number}
+use Rattle.judge.specs.SettingFaults.{given_fault_by, given_rows_fault, setting_number, thread_number, top_number}
 use Rattle.judge.specs.Judgements.{order_judged}
 use Rattle.judge.specs.Node.{IsOrderBy}
-use Rattle.judge.specs.Rows.{heights, mutexes_of, rows_in, threads_of}
+use Rattle.judge.specs.SettingLines.{heights, mutexes_of, rows_in, threads_of}
 use Rattle.judge.specs.declared.judging.JudgedTask.{JudgedTask}
 use Rattle.judge.specs.declared.judging.Judgement.{Judgement}
 use Rattle.judge.specs.declared.judging.Judgement.TheVariants.{Meets, Misses, Below}
@@ -59,11 +59,11 @@ pub record IsNeededWith (blocking : ℕ) (U : List Task) (i : ℕ) (H : Indexes)
 -- what becomes of task i with the tasks H above it and so much blocking
 abbrev pub IsJudgementWith : (blocking : ℕ) → List Task → ℕ → Indexes → Judgement → Type 0
 IsJudgementWith blocking U i H (Meets response) =
-    IsFalse (is_bound U i H)
+    IsFalse (must_outrank_any U i H)
     × IsResponse (demand_blocked blocking U i H) (past_jitter (task_at U i) response)
     × (response ≤ (task_at U i).deadline)
 IsJudgementWith blocking U i H (Misses needs) =
-    IsFalse (is_bound U i H) × ¬ Covers (demand_blocked blocking U i H) (limit_of (task_at U i))
+    IsFalse (must_outrank_any U i H) × ¬ Covers (demand_blocked blocking U i H) (limit_of (task_at U i))
     × IsNeededWith blocking U i H needs
 IsJudgementWith blocking U i H (Below other) = IsLeastOver U i H other
 

@@ -3,10 +3,10 @@ use Rattle.std.specs.Prelude.{◌≡◌, ℕ, ◌+◌, ◌==◌, Bool, true, fal
 use Rattle.std.specs.Fmt.{decimal}
 use Rattle.task_sheet.specs.Sheet.{Task}
 use Rattle.explain.specs.Accounts.{IsResponseAccount}
-use Rattle.explain.specs.Lines.{level_account_lines, load_line}
+use Rattle.explain.specs.ExplanationLines.{level_account_lines, load_line}
 use Rattle.explain.specs.declared.accounts.Account.{Account}
 use Rattle.judge.specs.Judgements.{order_judged}
-use Rattle.judge.specs.Lines.{judged_words}
+use Rattle.judge.specs.JudgementLines.{judged_words}
 use Rattle.judge.specs.Missed.{IsMissedBelow, missed_lines}
 use Rattle.judge.specs.declared.explained.Parted.{Parted}
 use Rattle.judge.specs.declared.explained.Parted.TheVariants.{Each, Bare}

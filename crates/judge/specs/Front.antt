@@ -1,8 +1,8 @@
 -- Settings in front of another text.
 use Rattle.std.specs.Prelude.{ℕ, Bool, false, ◌||◌, List, [], ◌∷◌, Result, bytes_eq, codes, if◌then◌else◌}
-use Rattle.lines.specs.Lines.{kept_lines}
+use Rattle.lines.specs.TextLines.{kept_lines}
 use Rattle.lines.specs.Words.{words}
-use Rattle.judge.specs.Rows.{rows_from}
+use Rattle.judge.specs.SettingLines.{rows_from}
 use Rattle.judge.specs.declared.rows.SettingRow.{SettingRow}
 
 -- the first of these words says that a line sets a thread or a mutex

@@ -5,7 +5,7 @@ use Rattle.task_sheet.specs.Sheet.{Task, task_at}
 use Rattle.task_sheet.specs.Indexes.{Indexes, among}
 use Rattle.task_sheet.specs.Demand.{IsResponseOf, Passes, demand_of, limit_of}
 use Rattle.task_sheet.specs.Responses.{IsFullChain}
-use Rattle.task_sheet.specs.Orders.{is_bound}
+use Rattle.task_sheet.specs.Orders.{must_outrank_any}
 use Rattle.task_sheet.specs.Verdicts.{IsLeastOver}
 use Rattle.assignment.specs.Places.{PlaceData}
 use Rattle.explain.specs.Needs.{EndsWith}
@@ -27,9 +27,9 @@ pub record IsNeeded (U : List Task) (i : ℕ) (H : Indexes) (needs : ℕ) : Type
 -- what it needs at least; or it stands below tasks that it must outrank, of which one has the least rank
 abbrev pub IsJudgementOf : List Task → ℕ → Indexes → Judgement → Type 0
 IsJudgementOf U i H (Meets response) =
-    IsFalse (is_bound U i H) × IsResponseOf U i H response × (response ≤ (task_at U i).deadline)
+    IsFalse (must_outrank_any U i H) × IsResponseOf U i H response × (response ≤ (task_at U i).deadline)
 IsJudgementOf U i H (Misses needs) =
-    IsFalse (is_bound U i H) × ¬ Passes U i H × IsNeeded U i H needs
+    IsFalse (must_outrank_any U i H) × ¬ Passes U i H × IsNeeded U i H needs
 IsJudgementOf U i H (Below other) = IsLeastOver U i H other
 
 -- the tasks, the lowest first

@@ -1,9 +1,9 @@
 pub mod Judgements
-pub mod Rows
-pub mod Faults
-pub mod Lines
+pub mod SettingLines
+pub mod SettingFaults
+pub mod JudgementLines
 pub mod Node
-pub mod Kept
+pub mod KeptOrder
 pub mod Front
 pub mod Missed
 pub mod Explained

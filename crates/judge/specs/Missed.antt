@@ -4,7 +4,7 @@ use Rattle.std.specs.Fmt.{decimal}
 use Rattle.task_sheet.specs.Sheet.{Task}
 use Rattle.task_sheet.specs.Indexes.{among}
 use Rattle.lines.specs.Naming.{name_at}
-use Rattle.explain.specs.Lines.{parts_lines}
+use Rattle.explain.specs.ExplanationLines.{parts_lines}
 use Rattle.explain.specs.Needs.{IsNeedsAccount}
 use Rattle.explain.specs.declared.accounts.Account.{Account}
 

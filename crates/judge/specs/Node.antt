@@ -3,8 +3,8 @@ use Rattle.std.specs.Prelude.{◌≡◌, ℕ, Bool, false, List, map, None, Ok}
 use Rattle.std.specs.List.Sorted.{IsStrictlyIncreasing}
 use Rattle.task_sheet.specs.Sheet.{Task}
 use Rattle.task_sheet.specs.Orders.{IsOrder}
-use Rattle.judge.specs.Rows.{heights, rows_in, threads_of}
-use Rattle.judge.specs.Faults.{rows_fault, thread_number, settings_fault_by}
+use Rattle.judge.specs.SettingLines.{heights, rows_in, threads_of}
+use Rattle.judge.specs.SettingFaults.{rows_fault, thread_number, settings_fault_by}
 use Rattle.judge.specs.declared.rows.SettingRow.{SettingRow}
 use Rattle.judge.specs.declared.rows.Setting.{Setting}
 

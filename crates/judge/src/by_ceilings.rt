@@ -5,10 +5,10 @@ ghost use Rattle.task_sheet.specs.Indexes.{among, indexes_of};
 ghost use Rattle.task_sheet.specs.Sheet.{task_at};
 ghost use Rattle.task_sheet.specs.TaskSet.{IsTaskSet};
 ghost use Rattle.task_sheet.specs.Demand.{blocking_of, limit_of};
-ghost use Rattle.task_sheet.specs.Orders.{is_bound};
+ghost use Rattle.task_sheet.specs.Orders.{must_outrank_any};
 ghost use Rattle.task_sheet.specs.declared.sheet.TheConstants.{PERIOD_TO};
 ghost use Rattle.judge.specs.Ceilings.{AllJudgedBy, IsJudgementBy, IsJudgementWith, blocking_at, ceiling_in, demand_blocked};
-ghost use Rattle.judge.specs.Faults.{thread_number};
+ghost use Rattle.judge.specs.SettingFaults.{thread_number};
 ghost use Rattle.judge.specs.Judgements.{order_judged};
 ghost use Rattle.judge.specs.Node.{IsOrderBy};
 
@@ -59,7 +59,7 @@ fn longer_demand(set: &Tabled<'_>, task: usize, above: Members, more: u64, time:
 fn judge_longer(set: &Tabled<'_>, task: usize, above: Members, more: u64) -> Judgement
     requires task { task < length set.now }
     requires more { more ≤ PERIOD_TO }
-    requires unbound { IsFalse (is_bound set.now task (indexes_of above)) }
+    requires unbound { IsFalse (must_outrank_any set.now task (indexes_of above)) }
     ensures { IsJudgementWith (blocking_of set.now task (indexes_of above) + more)
         set.now task (indexes_of above) result }
 {

@@ -5,7 +5,7 @@ ghost use Rattle.task_sheet.specs.Indexes.{among};
 ghost use Rattle.task_sheet.specs.Demand.{IsResponseOf, Passes};
 ghost use Rattle.task_sheet.specs.Orders.{IsOrder};
 ghost use Rattle.explain.specs.Accounts.{IsResponseAccount};
-ghost use Rattle.explain.specs.Lines.{level_account_lines};
+ghost use Rattle.explain.specs.ExplanationLines.{level_account_lines};
 ghost use Rattle.judge.specs.Explained.{AreAskedLines, AreExplained, AreLevelLines, AreLevels, AreMetLines, AreMissingLines, IsAccounted, is_asked, judged_line, load_asked};
 ghost use Rattle.judge.specs.Judgements.{AllJudged, IsJudgementOf, order_judged};
 

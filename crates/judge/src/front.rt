@@ -1,10 +1,10 @@
 //! Settings in front of another text.
 ghost use Rattle.std.specs.Prelude.{◌≡◌, ◌+◌, Ok, length, MatchResult, IfOk};
-ghost use Rattle.lines.specs.Lines.{kept_from, lines_of};
+ghost use Rattle.lines.specs.TextLines.{kept_from, lines_of};
 ghost use Rattle.lines.specs.Words.{words};
-ghost use Rattle.judge.specs.Faults.{IsRowsFault};
+ghost use Rattle.judge.specs.SettingFaults.{IsRowsFault};
 ghost use Rattle.judge.specs.Front.{behind_front, front_of, is_setting};
-ghost use Rattle.judge.specs.Rows.{rows_from};
+ghost use Rattle.judge.specs.SettingLines.{rows_from};
 
 use crate::fault::SettingsFault;
 use crate::rows::SettingRow;

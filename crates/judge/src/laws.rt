@@ -10,7 +10,7 @@ ghost use Rattle.assignment.specs.Placings.{IsBestPlacing, tasks_of_places};
 ghost use Rattle.settings.specs.Settings.{settings_anew, settings_from, settings_kept};
 ghost use Rattle.judge.specs.Judgements.{AllJudged, all_meet, judged_of, order_judged};
 ghost use Rattle.judge.specs.Ceilings.{AllJudgedBy, blocking_at, ceiling_in};
-ghost use Rattle.judge.specs.Faults.{setting_number, thread_number, top_number};
+ghost use Rattle.judge.specs.SettingFaults.{setting_number, thread_number, top_number};
 ghost use Rattle.judge.specs.Node.{IsNodeOrder, IsNodeOrderBy, IsOrderBy};
 ghost use Rattle.judge.specs.declared.judging.JudgedTask.{JudgedTask};
 ghost use Rattle.judge.specs.declared.rows.Setting.{Setting};

@@ -2,7 +2,7 @@
 ghost use Rattle.std.specs.Prelude.{◌<◌, All, MatchResult, Ok, IfOk};
 ghost use Rattle.task_sheet.specs.declared.set.TheConstants.{TASK_LIMIT};
 ghost use Rattle.judge.specs.Ceilings.{IsRowsJudgement, IsTextJudgement};
-ghost use Rattle.judge.specs.Faults.{IsSettingsFault, given_fault_by, given_rows_fault, rows_fault, settings_fault_by};
+ghost use Rattle.judge.specs.SettingFaults.{IsSettingsFault, given_fault_by, given_rows_fault, rows_fault, settings_fault_by};
 ghost use Rattle.judge.specs.Judgements.{AllJudged, order_judged};
 ghost use Rattle.judge.specs.Node.{AreNumbersIn, AreNumbersOf, IsNodeOrderBy, IsOrderOfRows};
 

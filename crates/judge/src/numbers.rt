@@ -1,7 +1,7 @@
 //! The numbers of threads, as a text has them.
 ghost use Rattle.std.specs.Prelude.{◌≡◌, ◌<◌, All, IfOk, length, map};
-ghost use Rattle.judge.specs.Faults.{setting_number, thread_number};
-ghost use Rattle.judge.specs.Rows.{threads_of};
+ghost use Rattle.judge.specs.SettingFaults.{setting_number, thread_number};
+ghost use Rattle.judge.specs.SettingLines.{threads_of};
 
 use crate::rows::SettingRow;
 use ceilings::Tabled;

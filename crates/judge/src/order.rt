@@ -3,8 +3,8 @@ ghost use Rattle.std.specs.Prelude.{◌≡◌, ◌++◌, ◌<◌, [], length, ma
 ghost use Rattle.task_sheet.specs.declared.set.TheConstants.{TASK_LIMIT};
 ghost use Rattle.task_sheet.specs.TaskSet.{IsTaskSet};
 ghost use Rattle.task_sheet.specs.Indexes.{listed_below};
-ghost use Rattle.judge.specs.Faults.{line_again, thread_number, same_number, threadless};
-ghost use Rattle.judge.specs.Kept.{IsOrderOfThreads, numbered_at, with_thread_in};
+ghost use Rattle.judge.specs.SettingFaults.{line_again, thread_number, same_number, threadless};
+ghost use Rattle.judge.specs.KeptOrder.{IsOrderOfThreads, numbered_at, with_thread_in};
 ghost use Rattle.judge.specs.Node.{IsOrderBy};
 
 use crate::rows::Setting;

@@ -3,7 +3,7 @@ ghost use Rattle.std.specs.Prelude.{◌≡◌, ◌<◌, length, if◌then◌else
 ghost use Rattle.task_sheet.specs.Sheet.{IsValidSheet, task_at};
 ghost use Rattle.task_sheet.specs.Indexes.{indexes_of};
 ghost use Rattle.judge.specs.Ceilings.{blocking_at, ceiling_in, longest_raised, raises_to};
-ghost use Rattle.judge.specs.Faults.{thread_number};
+ghost use Rattle.judge.specs.SettingFaults.{thread_number};
 
 use crate::rows::NodeSettings;
 use crate::settings_fault::{number_of, top_of};

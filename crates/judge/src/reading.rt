@@ -1,6 +1,6 @@
 //! The order that settings give.
 ghost use Rattle.std.specs.Prelude.{Ok, MatchResult};
-ghost use Rattle.judge.specs.Faults.{IsSettingsFault, rows_fault};
+ghost use Rattle.judge.specs.SettingFaults.{IsSettingsFault, rows_fault};
 ghost use Rattle.judge.specs.Node.{IsOrderOfRows};
 
 use crate::fault::SettingsFault;

@@ -1,7 +1,7 @@
 //! The lines of settings: `thread NAME NUMBER` and `mutex NAME NUMBER`.
 ghost use Rattle.std.specs.Prelude.{◌≡◌, Ok, MatchResult, IfOk, map};
-ghost use Rattle.judge.specs.Faults.{IsRowsFault};
-ghost use Rattle.judge.specs.Rows.{as_written, heights, mutexes_of, number_in_range, setting_row, rows_in, threads_of, turned};
+ghost use Rattle.judge.specs.SettingFaults.{IsRowsFault};
+ghost use Rattle.judge.specs.SettingLines.{as_written, heights, mutexes_of, number_in_range, setting_row, rows_in, threads_of, turned};
 
 use crate::fault::SettingsFault;
 use lines::{LineRow, TextPlace, Words, name_of, number_of, read_lines};
@@ -64,7 +64,7 @@ fn row_of(word: &[u8], setting: Setting) -> Option<SettingRow>
 impl LineRow for SettingRow {
     type Row = SettingRow;
 
-    ghost use Rattle.judge.specs.Rows.{setting_row_in};
+    ghost use Rattle.judge.specs.SettingLines.{setting_row_in};
 
     ghost row_in = { setting_row_in };
 

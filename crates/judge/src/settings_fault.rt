@@ -2,7 +2,7 @@
 ghost use Rattle.std.specs.Prelude.{◌≡◌, ℕ, Bool, not, nat_lt, ◌==◌, List, [], find};
 ghost use Rattle.std.specs.List.{list_any};
 ghost use Rattle.ceilings.specs.IsTableOf.{locks_of};
-ghost use Rattle.judge.specs.Faults.{ceiling_fault, is_no_lock, is_no_task, is_set, line_again, line_where, low_lock, fault_with, given_fault, mutexless, setting_number, setting_fault, share, threadless, top_number, wrong_lock};
+ghost use Rattle.judge.specs.SettingFaults.{ceiling_fault, is_no_lock, is_no_task, is_set, line_again, line_where, low_lock, fault_with, given_fault, mutexless, setting_number, setting_fault, share, threadless, top_number, wrong_lock};
 
 use crate::fault::SettingsFault;
 use crate::rows::{NodeSettings, Setting, as_written};

@@ -3,7 +3,7 @@ ghost use Rattle.std.specs.Prelude.{◌≡◌, ◌++◌, ◌<◌, codes, slice_g
 ghost use Rattle.task_sheet.specs.declared.set.TheConstants.{TASK_LIMIT};
 ghost use Rattle.task_sheet.specs.Sheet.{task_at};
 ghost use Rattle.task_sheet.specs.Indexes.{indexes_of};
-ghost use Rattle.judge.specs.Lines.{at_words, judged_words, judgement_words, meets_line, judged_lines, judged_level_lines, missed_line, missed_of};
+ghost use Rattle.judge.specs.JudgementLines.{at_words, judged_words, judgement_words, meets_line, judged_lines, judged_level_lines, missed_line, missed_of};
 
 use crate::judging::{JudgedTask, Judgement, all_meet, does_meet};
 use lines::{push_name, push_names};

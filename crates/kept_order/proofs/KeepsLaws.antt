@@ -8,7 +8,7 @@ use Rattle.std.proofs.lemmas.Bool.{eqb-true}
 use Rattle.std.proofs.lemmas.List.{at_drop_more, take_more, take-append-drop}
 use Rattle.std.proofs.lemmas.List.Folds.{list_any-append}
 use Rattle.task_sheet.proofs.Common.{Task, AllTasks, Indexes, IsPart, among, Stands, IsLeastOver}
-use Rattle.task_sheet.proofs.PassingLaws.{Stands-part, is_bound-at}
+use Rattle.task_sheet.proofs.PassingLaws.{Stands-part, must_outrank_any-at}
 use Rattle.kept_order.specs.Keeping.{stands_below, Keeps, is_held, StandsKept, IsPassingKept}
 use Rattle.kept_order.specs.Keeping.{IsFirstParted}
 
@@ -57,7 +57,7 @@ held-step kept H i k b lt is = at_drop_more (λ xs. is_held xs H i) kept k 0 lt
 pub over_fails : (U : List Task) (i : ℕ) (H : Indexes) (k : ℕ) → IsLeastOver U i H k
     → ¬ Stands U i H
 over_fails U i H k over stands =
-    both_ways _ stands.1 (is_bound-at U i H k over.in_set over.above over.named)
+    both_ways _ stands.1 (must_outrank_any-at U i H k over.in_set over.above over.named)
 
 -- ---- an order that keeps a list, from its lowest task up
 pub Keeps-head : (kept : List ℕ) (i : ℕ) (above : List ℕ) → Keeps kept (i ∷ above)

@@ -11,7 +11,7 @@ use Rattle.observed_lines.specs.Breaks.{breaks_foreign, breaks_idle, breaks_jitt
 use Rattle.observed_lines.specs.Breaks.{is_kept, is_over, is_short, may_idle}
 use Rattle.observed_lines.specs.Broken.{broken_lines, own_lines, own_words, wait_lines, wait_words}
 use Rattle.observed_lines.specs.Causes.{cause_of, sources_in}
-use Rattle.kept_promises.specs.Kept.{Keeps, KeepsToDemand}
+use Rattle.kept_promises.specs.KeptPromises.{Keeps, KeepsToDemand}
 
 -- a time that isn't short of a limit, is short of it by no tolerance
 not_short : (tolerance : ℕ) (time : Option ℕ) (limit : ℕ) → IfSome time (λ t. limit ≤ t)

@@ -38,7 +38,7 @@ use Rattle.observed.specs.Pieces.{is_of, job_of, level_of, homeless_line, is_hom
 use Rattle.observed.specs.Promises.{no_promise, promises_of}
 use Rattle.trace_text.specs.declared.reading.TraceLines.{TraceLines}
 use Rattle.kept_promises.specs.OfRuns.{AreOfRun}
-use Rattle.kept_promises.specs.Rows.{job_row, jobs_from, slice_row, slices_from}
+use Rattle.kept_promises.specs.PrintedRuns.{job_row, jobs_from, slice_row, slices_from}
 use Rattle.kept_promises.proofs.LevelLaws.{IsPlaced, placed_in, placed_level, position_is}
 use Rattle.kept_promises.proofs.TickLaws.{IsRunSlice, hit, hit-le, hit_none, hit_outside, hits}
 use Rattle.kept_promises.proofs.TickLaws.{lies, lies_before, lies_after, piece, time_by, time_from}
@@ -63,7 +63,7 @@ use Rattle.observed.specs.Shares.{is_at, is_below}
 use Rattle.observed.specs.declared.pieces.Piece.{Piece}
 use Rattle.observed.specs.declared.promises.Promise.{Promise}
 use Rattle.observed.specs.SeenJob.{SeenData}
-use Rattle.kept_promises.specs.Kept.{Keeps, KeepsToDemand}
+use Rattle.kept_promises.specs.KeptPromises.{Keeps, KeepsToDemand}
 use Rattle.kept_promises.proofs.BlockLaws.{low, low_most}
 use Rattle.kept_promises.proofs.BreakLaws.{keeps-to_demand}
 use Rattle.kept_promises.proofs.ListLaws.{closest-short, each_seen, greatest_most, last_found}

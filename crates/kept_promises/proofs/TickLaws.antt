@@ -13,7 +13,7 @@ use Rattle.observed.specs.Pieces.{piece_of, pieces_of}
 use Rattle.observed.specs.Shares.{overlap}
 use Rattle.observed.specs.declared.pieces.Piece.{Piece}
 use Rattle.observed.specs.declared.promises.Promise.{Promise}
-use Rattle.kept_promises.specs.Rows.{slice_row, slices_from}
+use Rattle.kept_promises.specs.PrintedRuns.{slice_row, slices_from}
 
 -- ---- sums of ticks
 pub total_next : (f : ℕ → ℕ) (n : ℕ) → total f (suc n) ≡ total f n + f n

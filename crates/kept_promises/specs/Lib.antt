@@ -1,3 +1,3 @@
-pub mod Rows
+pub mod PrintedRuns
 pub mod OfRuns
-pub mod Kept
+pub mod KeptPromises

@@ -11,7 +11,7 @@ use Rattle.ceiling_kernel.specs.Tick.{node_in}
 use Rattle.ceiling_kernel.specs.declared.trace.Release.{Release}
 use Rattle.ceiling_kernel.specs.declared.trace.Trace.{Trace}
 use Rattle.trace_text.specs.declared.reading.TraceLines.{TraceLines}
-use Rattle.kept_promises.specs.Rows.{Say}
+use Rattle.kept_promises.specs.PrintedRuns.{Say}
 
 -- the lines say a run of the simulated kernel at the levels of an order, in which the response of each task is within its
 -- deadline; settings may stand in front of them

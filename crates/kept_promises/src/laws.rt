@@ -8,7 +8,7 @@ ghost use Rattle.observed.specs.Promises.{promises_of};
 ghost use Rattle.observed.specs.SeenJob.{SeenData};
 ghost use Rattle.observed_lines.specs.Breaks.{is_kept};
 ghost use Rattle.observed_lines.specs.Broken.{broken_lines};
-ghost use Rattle.kept_promises.specs.Kept.{Keeps, KeepsToDemand};
+ghost use Rattle.kept_promises.specs.KeptPromises.{Keeps, KeepsToDemand};
 ghost use Rattle.kept_promises.specs.OfRuns.{AreOfRun};
 
 /// In a run of a set at the levels of an order that passes each job keeps all that is promised of it, to the tick: of the

@@ -5,7 +5,7 @@ use Rattle.std.proofs.Math.Path.{fun_ext}
 use Rattle.std.proofs.lemmas.Bool.{cases_Bool, both_ways, or_cases, eqb-true}
 use Rattle.task_sheet.proofs.Common.{Task, AllTasks, IsTaskSet, Indexes, IsPart, below}
 use Rattle.task_sheet.proofs.Common.{without_index, among, some_below, Passes, all_of, must_outrank}
-use Rattle.task_sheet.proofs.Common.{is_bound, Stands, IsOrderOf, IsOrder, AllStand, IsPassingOrder}
+use Rattle.task_sheet.proofs.Common.{must_outrank_any, Stands, IsOrderOf, IsOrder, AllStand, IsPassingOrder}
 use Rattle.task_sheet.proofs.Common.{IsFeasible, NoneStands}
 use Rattle.task_sheet.proofs.IndexLaws.{without-parts, without-part_of, IsOrderOf-among}
 use Rattle.task_sheet.proofs.IndexLaws.{IsOrderOf-head, IsOrderOf-rest}
@@ -23,21 +23,21 @@ module _ (U V : List Task) (alike : AreAlike U V) where
   named : (i k : ℕ) → must_outrank V i k ≡ must_outrank U i k
   named i k = rw (alike.names k, alike.outranks k, alike.outranks i) refl
 
-  pub is_bound-alike : (i : ℕ) (H : Indexes) → is_bound V i H ≡ is_bound U i H
-  unfolding is_bound
-  is_bound-alike i H =
+  pub must_outrank_any-alike : (i : ℕ) (H : Indexes) → must_outrank_any V i H ≡ must_outrank_any U i H
+  unfolding must_outrank_any
+  must_outrank_any-alike i H =
       ap (λ n. some_below n (λ k. H k && must_outrank V i k)) alike.count
       ∙ ap (λ (p : ℕ → Bool). some_below (length U) (λ k. H k && p k)) (fun_ext (named i))
 
   IsLatest-alike : (L : Indexes) (i : ℕ) → IsLatest U L i → IsLatest V L i
   IsLatest-alike L i is = record {
-    free = (is.free.0, is_bound-alike i (without_index L i) ∙ is.free.1);
+    free = (is.free.0, must_outrank_any-alike i (without_index L i) ∙ is.free.1);
     latest = λ j free. omega (
       arith,
       alike.limits i,
       alike.limits j,
       is.latest j
-          (free.0, sym (is_bound-alike j (without_index L j)) ∙ free.1),
+          (free.0, sym (must_outrank_any-alike j (without_index L j)) ∙ free.1),
     );
   }
 

@@ -1,10 +1,10 @@
 -- Orders in which, from the lowest level up, of the tasks that need not stand above another that is left the one of the
--- longest limit is placed (Leung, Whitehead 1982; Zuhily, Burns 2007).
+-- longest limit is placed: deadline-minus-jitter monotonic orders (Leung, Whitehead 1982; Zuhily, Burns 2007).
 use Rattle.std.specs.Prelude.{◌≡◌, ℕ, ◌<◌, ◌≤◌, List, [], ◌∷◌, length, All, IsTrue, IsFalse}
 use Rattle.task_sheet.specs.Sheet.{Task, task_at}
 use Rattle.task_sheet.specs.Indexes.{Indexes, without_index, among}
 use Rattle.task_sheet.specs.Demand.{limit_of}
-use Rattle.task_sheet.specs.Orders.{is_bound}
+use Rattle.task_sheet.specs.Orders.{must_outrank_any}
 
 -- what these laws need of a task: a job has to be done before the next one of its task arrives
 pub record IsPrompt (t : Task) : Type 0 where
@@ -17,7 +17,7 @@ AllPrompt U = All IsPrompt U
 
 -- task i is one of L, and need not stand above another of them
 abbrev pub IsFree : List Task → Indexes → ℕ → Type 0
-IsFree U L i = IsTrue (L i) × IsFalse (is_bound U i (without_index L i))
+IsFree U L i = IsTrue (L i) × IsFalse (must_outrank_any U i (without_index L i))
 
 -- of such tasks one with the longest limit
 pub record IsLatest (U : List Task) (L : Indexes) (i : ℕ) : Type 0 where

@@ -10,7 +10,7 @@ use Rattle.limits.specs.Numbers.{MayHave, numbered}
 use Rattle.factor.specs.Failing.{AnswersFactor}
 use Rattle.factor.specs.declared.Slowdown.{Slowdown}
 use Rattle.limits.specs.Written.{node_of, written_task, written}
-use Rattle.limit_lines.specs.Lines.{AnswersIn, order_given}
+use Rattle.limit_lines.specs.LimitLines.{AnswersIn, order_given}
 use Rattle.overheads.proofs.MappedSets.{count-mapped}
 
 -- the order of a placing is one of the set

@@ -14,7 +14,7 @@ use Rattle.limits.specs.declared.shared.Shared.{Shared}
 use Rattle.limits.specs.declared.shared.Shared.TheVariants.{Job, Lock, Release, Late}
 use Rattle.limits.specs.Shared.{AnswersShared, most_shared, shared_of, with_shared}
 use Rattle.limits.specs.Written.{node_of, written}
-use Rattle.limit_lines.specs.Lines.{IsNumberLine, values_words}
+use Rattle.limit_lines.specs.LimitLines.{IsNumberLine, values_words}
 use Rattle.limit_lines.specs.Locks.{AreLockLines}
 
 -- ---- interrupts

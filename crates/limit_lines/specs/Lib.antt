@@ -1,3 +1,3 @@
-pub mod Lines
+pub mod LimitLines
 pub mod Locks
 pub mod Common

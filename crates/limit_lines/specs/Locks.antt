@@ -5,7 +5,7 @@ use Rattle.ceilings.specs.IsTableOf.{locks_of}
 use Rattle.owners.specs.Followers.{follows}
 use Rattle.owners.specs.declared.owner.Owner.{Owner}
 use Rattle.limits.specs.Cuts.{AnswersMostOn, longest_on}
-use Rattle.limit_lines.specs.Lines.{values_words}
+use Rattle.limit_lines.specs.LimitLines.{values_words}
 
 -- the most for the order to pass, where one is given
 abbrev pub AnswersMostIn : List Owner → List Task → Option (List ℕ) → (lock : List ℕ) → Option ℕ

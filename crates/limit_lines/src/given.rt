@@ -1,6 +1,6 @@
 //! What of a placing the lines ask for.
 ghost use Rattle.std.specs.Prelude.{◌≡◌, option_map};
-ghost use Rattle.limit_lines.specs.Lines.{order_given, order_in, places_in};
+ghost use Rattle.limit_lines.specs.LimitLines.{order_given, order_in, places_in};
 
 use assignment::{Place, Placing};
 

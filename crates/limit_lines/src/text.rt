@@ -6,7 +6,7 @@ ghost use Rattle.task_sheet.specs.Orders.{IsFeasible, IsOrder};
 ghost use Rattle.task_sheet.specs.declared.sheet.TheConstants.{SECTION_LIMIT};
 ghost use Rattle.lines.specs.Naming.{name_at};
 ghost use Rattle.limits.specs.Numbers.{AnswersFurthest, HasNumber, MayHave, numbered, with_number};
-ghost use Rattle.limit_lines.specs.Lines.{AnswersFactorIn, AnswersIn, AreTaskLines, IsLast, IsNumberLine, along_words, before_words, end_words, factor_line, held_words, helps_own, is_told, label_of, leaves_own, len_at, less_of, moved_words, node_part, number_at, number_line, slack_in, slack_line, slack_of, some_words, stays, word_if};
+ghost use Rattle.limit_lines.specs.LimitLines.{AnswersFactorIn, AnswersIn, AreTaskLines, IsLast, IsNumberLine, along_words, before_words, end_words, factor_line, held_words, helps_own, is_told, label_of, leaves_own, len_at, less_of, moved_words, node_part, number_at, number_line, slack_in, slack_line, slack_of, some_words, stays, word_if};
 
 use assignment::Place;
 use ceilings::Tabled;

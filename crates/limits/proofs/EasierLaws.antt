@@ -13,9 +13,9 @@ use Rattle.task_sheet.proofs.Common.{interrupts_within, demand_of, releases_with
 use Rattle.task_sheet.proofs.Common.{Passes, AllStand, IsPassingOrder, IsFeasible}
 use Rattle.task_sheet.proofs.Below.{sum_below-le}
 use Rattle.task_sheet.proofs.Releases.{div_ceil-le, div_ceil-mono}
-use Rattle.headroom.proofs.InterruptSets.{interrupts-less}
+use Rattle.other_numbers.proofs.InterruptSets.{interrupts-less}
 use Rattle.limits.specs.Easier.{AreCheaper, AreEasier}
-use Rattle.limits.proofs.NearLaws.{AreNear, blocking-near, limit-near, is_bound-near}
+use Rattle.limits.proofs.NearLaws.{AreNear, blocking-near, limit-near, must_outrank_any-near}
 
 -- ---- jobs
 pub div_ceil-longer : (t p q : ℕ) → 0 < p → p ≤ q → div_ceil t q ≤ div_ceil t p
@@ -122,7 +122,7 @@ module _ (V U : List Task) (easy : AreEasier V U) where
     AllStand-easier : (order : List ℕ) → AllStand U order → AllStand V order
     AllStand-easier [] all = tt
     AllStand-easier (i ∷ above) all = (
-      (Passes-easier i (among above) all.0.0, is_bound-near V U near i (among above) ∙ all.0.1),
+      (Passes-easier i (among above) all.0.0, must_outrank_any-near V U near i (among above) ∙ all.0.1),
       AllStand-easier above all.1,
     )
 

@@ -8,7 +8,7 @@ use Rattle.std.proofs.lemmas.Bool.{cases_Bool}
 use Rattle.task_sheet.proofs.Common.{CriticalSection, Task, task_at, same_bytes, Indexes}
 use Rattle.task_sheet.proofs.Common.{with_index, some_below, greatest_below, names_lock, uses}
 use Rattle.task_sheet.proofs.Common.{shares_lock, reaches, limit_of, greatest_of, longest_reached}
-use Rattle.task_sheet.proofs.Common.{blocking_of, must_outrank, is_bound}
+use Rattle.task_sheet.proofs.Common.{blocking_of, must_outrank, must_outrank_any}
 use Rattle.task_sheet.proofs.Below.{greatest_below-le, le-greatest_below}
 use Rattle.limits.specs.Easier.{AreShorter}
 
@@ -104,8 +104,8 @@ module _ (V U : List Task) (near : AreNear V U) where
   names-near : (i k : ℕ) → must_outrank V i k ≡ must_outrank U i k
   names-near i k = rw ((near.each k).name, (near.each k).outranks, (near.each i).outranks) refl
 
-  pub is_bound-near : (i : ℕ) (H : Indexes) → is_bound V i H ≡ is_bound U i H
-  unfolding is_bound
-  is_bound-near i H =
+  pub must_outrank_any-near : (i : ℕ) (H : Indexes) → must_outrank_any V i H ≡ must_outrank_any U i H
+  unfolding must_outrank_any
+  must_outrank_any-near i H =
       ap (λ n. some_below n (λ k. H k && must_outrank V i k)) near.count
       ∙ ap (λ (p : ℕ → Bool). some_below (length U) (λ k. H k && p k)) (fun_ext (names-near i))

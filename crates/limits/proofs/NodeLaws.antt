@@ -23,7 +23,7 @@ use Rattle.overheads.proofs.PaddedTasks.{cost-mono}
 use Rattle.overheads.proofs.PaddedSets.{count-padded, padded-at, padded-past, padded-none, lightest}
 use Rattle.limits.specs.Easier.{AreShorter}
 use Rattle.limits.proofs.NearLaws.{AreShorter-refl, IsNear, AreNear, blocking-near, limit-near}
-use Rattle.limits.proofs.NearLaws.{is_bound-near}
+use Rattle.limits.proofs.NearLaws.{must_outrank_any-near}
 
 -- of sums with one term more each, where one term is no more together with that
 sum_below-own : (n : ℕ) (f g : ℕ → ℕ) (i a b : ℕ) → i < n
@@ -202,7 +202,7 @@ module _ (U : List Task) (light heavy : Node) (set : IsTaskSet U) (is : IsLighte
       (IsOrderOf-among (without_index L i) above rest) ∙ without-gone L i i refl in (
         (
           Passes-padded i (among above) lt out all.0.0,
-          is_bound-near V W near i (among above)
+          must_outrank_any-near V W near i (among above)
               ∙ all.0.1,
         ),
         AllStand-padded (without_index L i) above (without-part_of (length U) L i part) rest all.1,

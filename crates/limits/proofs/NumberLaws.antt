@@ -6,7 +6,7 @@ use Rattle.std.proofs.lemmas.List.{length-set, set-get_or}
 use Rattle.task_sheet.specs.Sheet.{CriticalSection, Task, AllTasks, IsValidSheet, no_task, task_at}
 use Rattle.task_sheet.specs.TaskSet.{IsTaskSet}
 use Rattle.task_sheet.proofs.TaskLaws.{valid_at}
-use Rattle.headroom.proofs.CostLaws.{placed-other, placed-same}
+use Rattle.other_numbers.proofs.CostLaws.{placed-other, placed-same}
 use Rattle.limits.specs.declared.number.Number.{Number}
 use Rattle.limits.specs.declared.number.Number.TheVariants.{Cost, Period, Deadline, Jitter, Len}
 use Rattle.limits.specs.declared.number.Number.TheVariants.{InterruptCost, InterruptPeriod}
@@ -22,7 +22,7 @@ use Rattle.limits.proofs.InterruptLaws.{cheaper-cost, cheaper-period, easier-int
 use Rattle.limits.proofs.InterruptLaws.{placed-read}
 use Rattle.limits.proofs.NearLaws.{AreShorter-refl}
 use Rattle.limits.proofs.SpanLaws.{far-known}
-use Rattle.headroom.proofs.PlacedLaws.{IsNamesake, AllTasks-placed}
+use Rattle.other_numbers.proofs.PlacedLaws.{IsNamesake, AllTasks-placed}
 
 pub namesake : (number : Number) (t : Task) (value : ℕ) → IsNamesake (with_number number t value) t
 namesake Cost t value = record { name = refl; weight = refl }

@@ -3,8 +3,8 @@ use Rattle.std.proofs.Common.{◌≡◌, ℕ, zero, suc, ◌+◌, ◌-◌, ◌<�
 use Rattle.std.proofs.Common.{length, get_or, refl, ◌∙◌, ap, subst, arith}
 use Rattle.std.proofs.lemmas.List.{get_or_read}
 use Rattle.task_sheet.specs.Sheet.{CriticalSection, Task, AreSections, IsValidSheet}
-use Rattle.headroom.specs.Costs.{with_cost, last_end}
-use Rattle.headroom.proofs.CostLaws.{last_end-within, may_cost}
+use Rattle.other_numbers.specs.Costs.{with_cost, last_end}
+use Rattle.other_numbers.proofs.CostLaws.{last_end-within, may_cost}
 use Rattle.limits.specs.declared.number.Number.{Number}
 use Rattle.limits.specs.declared.number.Number.TheVariants.{Cost, Period, Deadline, Jitter, Len}
 use Rattle.limits.specs.declared.number.Number.TheVariants.{InterruptCost, InterruptPeriod}

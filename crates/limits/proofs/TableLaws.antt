@@ -8,7 +8,7 @@ use Rattle.task_sheet.proofs.Common.{must_outrank}
 use Rattle.ceilings.specs.Table.{Table}
 use Rattle.ceilings.specs.Holds.{TableData}
 use Rattle.ceilings.specs.IsTableOf.{AreUsersOf, IsTableOf, names_in, first_sights}
-use Rattle.headroom.proofs.CostLaws.{longest-same}
+use Rattle.other_numbers.proofs.CostLaws.{longest-same}
 use Rattle.limits.specs.declared.number.Number.{Number}
 use Rattle.limits.specs.declared.number.Number.TheVariants.{Cost, Period, Deadline, Jitter, Len}
 use Rattle.limits.specs.declared.number.Number.TheVariants.{InterruptCost, InterruptPeriod}

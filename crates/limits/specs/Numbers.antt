@@ -3,7 +3,7 @@ use Rattle.std.specs.Prelude.{◌≡◌, ℕ, zero, suc, ◌+◌, ◌-◌, ◌<�
 use Rattle.task_sheet.specs.Sheet.{CriticalSection, Task, with_jitter, IsValidSheet, task_at}
 use Rattle.task_sheet.specs.Orders.{IsFeasible}
 use Rattle.task_sheet.specs.declared.node.Interrupt.{Interrupt}
-use Rattle.headroom.specs.Costs.{with_cost}
+use Rattle.other_numbers.specs.Costs.{with_cost}
 use Rattle.limits.specs.declared.number.Number.{Number}
 use Rattle.limits.specs.declared.number.Number.TheVariants.{Cost, Period, Deadline, Jitter, Len, InterruptCost, InterruptPeriod}
 

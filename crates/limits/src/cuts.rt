@@ -12,7 +12,7 @@ ghost use Rattle.limits.specs.Cuts.{AnswersMostOn, Following, cut, cut_len, cut_
 use crate::numbered::with_parts;
 use crate::shared::passes_in;
 use ceilings::{LockTable, Tabled};
-use headroom::times_of;
+use other_numbers::times_of;
 use std::alloc::{AllocError, Global};
 use task_sheet::{Name, Node, Section, SetCause, Sheet, TaskSet};
 

@@ -1,12 +1,12 @@
 //! Sets with another value of one number of a task.
 ghost use Rattle.std.specs.Prelude.{◌≡◌, ◌↔◌, ◌+◌, ◌-◌, ◌<◌, ◌≤◌, ◌++◌, drop, length, slice_set, IfOk, IsTrue, OnOk};
 ghost use Rattle.task_sheet.specs.Sheet.{AreInterrupts, IsValidSheet, interrupted, task_at};
-ghost use Rattle.headroom.specs.Remade.{remade};
+ghost use Rattle.other_numbers.specs.Remade.{remade};
 ghost use Rattle.limits.specs.Numbers.{KeepsSections, HasNumber, with_interrupt_cost, with_interrupt_period, moved, section_at, with_len, with_number, numbered, MayHave};
 
 use crate::number::Number;
 use ceilings::Tabled;
-use headroom::{Times, copy_sections, remade, times_of};
+use other_numbers::{Times, copy_sections, remade, times_of};
 use std::alloc::{AllocError, Global};
 use task_sheet::{Interrupt, Section, SetCause, Sheet, TaskSet, copy_sheets};
 

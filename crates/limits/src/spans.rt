@@ -7,7 +7,7 @@ ghost use Rattle.limits.specs.Rooms.{most_len, room_end};
 
 use crate::number::Number;
 use ceilings::Tabled;
-use headroom::last_end;
+use other_numbers::last_end;
 use task_sheet::{INTERRUPT_FROM, PERIOD_FROM, PERIOD_TO, Section, Sheet};
 
 /// The values from the easiest on.

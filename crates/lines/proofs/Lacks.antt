@@ -10,7 +10,7 @@ use Rattle.std.proofs.lemmas.Fmt.{digits_decimal}
 use Rattle.std.proofs.lemmas.List.Splits.{slice_split_at, slice_split_none}
 use Rattle.std.proofs.lemmas.List.Elements.{All-from_recursion}
 use Rattle.task_sheet.specs.Name.{IsName, is_name_byte}
-use Rattle.lines.specs.Lines.{lines_of, is_skipped}
+use Rattle.lines.specs.TextLines.{lines_of, is_skipped}
 use Rattle.lines.proofs.Digits.{own}
 use Rattle.lines.proofs.Parts.{line_cut}
 

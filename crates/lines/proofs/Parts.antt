@@ -3,7 +3,7 @@ use Rattle.std.proofs.Common.{◌≡◌, ◌∙◌, ℕ, ◌<◌, Bool, true, fa
 use Rattle.std.proofs.Common.{refl, ap, sym, cond, arith}
 use Rattle.std.specs.List.{slice_split, onto_first}
 use Rattle.std.proofs.lemmas.List.Splits.{length-slice_split}
-use Rattle.lines.specs.Lines.{lines_of, parts, without_rest}
+use Rattle.lines.specs.TextLines.{lines_of, parts, without_rest}
 use Rattle.lines.specs.Words.{words}
 
 pub words_some : (line : List ℕ) → 0 < length (words line)

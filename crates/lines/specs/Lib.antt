@@ -1,4 +1,4 @@
-pub mod Lines
+pub mod TextLines
 pub mod Naming
 pub mod Steps
 pub mod Words

@@ -3,7 +3,7 @@
 #![tactic(auto)]
 
 mod cutting;
-mod kept;
+mod kept_lines;
 pub mod laws;
 mod naming;
 mod next;
@@ -12,7 +12,7 @@ mod place;
 mod words;
 
 pub use cutting::cut;
-pub use kept::{KeptLine, LineRow, next_kept, read_lines};
+pub use kept_lines::{KeptLine, LineRow, next_kept, read_lines};
 pub use naming::{push_name, push_names};
 pub use next::{complete_line, next_line};
 pub use numbers::{name_of, number_of};

@@ -1,6 +1,6 @@
 //! Reading line after line.
 ghost use Rattle.std.specs.Prelude.{◌≡◌, ◌+◌, ◌<◌, ◌∷◌, [], length, MatchOption, IfSome};
-ghost use Rattle.lines.specs.Lines.{lines_of, parts};
+ghost use Rattle.lines.specs.TextLines.{lines_of, parts};
 
 use crate::cutting::cut;
 use crate::place::TextPlace;

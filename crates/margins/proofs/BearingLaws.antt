@@ -6,8 +6,8 @@ use Rattle.std.proofs.lemmas.List.{length-set, get_or_default}
 use Rattle.task_sheet.proofs.Common.{Task, IsValidSheet, AllTasks, no_task, task_at, IsTaskSet}
 use Rattle.task_sheet.proofs.Common.{limit_of, IsPassingOrder, IsFeasible, IsBest}
 use Rattle.task_sheet.proofs.TaskLaws.{valid_at, IsTask-from_valid, AllTasks-from_set}
-use Rattle.headroom.specs.Costs.{with_cost}
-use Rattle.headroom.proofs.CostLaws.{placed-other, placed-same}
+use Rattle.other_numbers.specs.Costs.{with_cost}
+use Rattle.other_numbers.proofs.CostLaws.{placed-other, placed-same}
 use Rattle.limits.specs.declared.number.Number.TheVariants.{Cost}
 use Rattle.limits.specs.Numbers.{numbered, MayHave, IsFurthest}
 use Rattle.limits.specs.InOrder.{IsFurthestIn}
@@ -87,9 +87,9 @@ module _ (U V : List Task) (order : List ℕ) (preferred : IsByDeadlines U V)
     ];
   })
 
-  pub headroom-same : (i within any : ℕ) → i < length V → IsFurthestIn V order i Cost within
+  pub other_numbers-same : (i within any : ℕ) → i < length V → IsFurthestIn V order i Cost within
       → IsFurthest V i Cost any → within ≡ any
-  headroom-same i within any inside is other = omega (
+  other_numbers-same i within any inside is other = omega (
     arith,
     in_order-within V order i Cost within any is other,
     is.furthest any other.may ((passes-costed i any inside other.may).1 other.feasible),

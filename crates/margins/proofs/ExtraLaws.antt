@@ -3,10 +3,10 @@ use Rattle.std.proofs.Common.{◌≡◌, ℕ, ◌<◌, ◌≤◌, false, true, �
 use Rattle.std.proofs.Common.{length, refl, sym, subst, arith}
 use Rattle.std.proofs.lemmas.Bool.{cases_Bool, both_ways, or_cases, eqb-true, ltb-true}
 use Rattle.task_sheet.proofs.Common.{Task, AllTasks, no_task, task_at, Indexes, IsPart}
-use Rattle.task_sheet.proofs.Common.{without_index, among, limit_of, all_of, is_bound, IsOrderOf}
+use Rattle.task_sheet.proofs.Common.{without_index, among, limit_of, all_of, must_outrank_any, IsOrderOf}
 use Rattle.task_sheet.proofs.Common.{IsOrder}
 use Rattle.task_sheet.proofs.Exchange.{demand-part}
-use Rattle.task_sheet.proofs.PassingLaws.{is_bound-part}
+use Rattle.task_sheet.proofs.PassingLaws.{must_outrank_any-part}
 use Rattle.task_sheet.proofs.IndexLaws.{without-parts, without-part_of, IsOrderOf-among}
 use Rattle.task_sheet.proofs.IndexLaws.{IsOrderOf-head, IsOrderOf-rest}
 use Rattle.latest_first.specs.LatestFirst.{AllPrompt, IsLatest, IsLatestFirst}
@@ -46,7 +46,7 @@ module _ (U : List Task) (valid : AllTasks U) (prompt : AllPrompt U) (extra : �
   lowest : (L : Indexes) (order : List ℕ) → IsPart L (among order) → (k : ℕ) → L k ≡ true
       → AllBear U extra order
       → (j : ℕ) × (L j ≡ true)
-      × (PassesWith U extra j (without_index L j) × (is_bound U j (without_index L j) ≡ false))
+      × (PassesWith U extra j (without_index L j) × (must_outrank_any U j (without_index L j) ≡ false))
   lowest L [] part k member all = absurd (both_ways false refl (part k member))
   lowest L (i ∷ above) part k member all =
       let rest : (j : ℕ) → L j ≡ true → (j ≡ i → ⊥) → among above j ≡ true =
@@ -62,7 +62,7 @@ module _ (U : List Task) (valid : AllTasks U) (prompt : AllPrompt U) (extra : �
           here,
           (
             with-part i (without_index L i) (among above) fewer all.0.0,
-            is_bound-part U i (without_index L i) (among above) fewer all.0.1,
+            must_outrank_any-part U i (without_index L i) (among above) fewer all.0.1,
           ),
         )
         | inr out ↦ lowest L above (λ j e. rest j e (λ same. both_ways (L i) out (rw same at e))) k
@@ -83,7 +83,7 @@ module _ (U : List Task) (valid : AllTasks U) (prompt : AllPrompt U) (extra : �
       let passes = later-with L i low.0 part member low.1 lt lt' (is.latest low.0 (low.1, low.2.1))
       low.2.0 in
       let left = IsOrderOf-among (without_index L i) above rest in (
-        subst (λ X. PassesWith U extra i X × (is_bound U i X ≡ false)) (sym left)
+        subst (λ X. PassesWith U extra i X × (must_outrank_any U i X ≡ false)) (sym left)
             (passes, is.free.1),
         AllBear-latest (without_index L i) above other (without-part_of (length U) L i part) rest
             first.1 (λ k h. within k (without-parts L i k h).0) all,

@@ -4,7 +4,7 @@ use Rattle.task_sheet.specs.Sheet.{Task, task_at}
 use Rattle.task_sheet.specs.Indexes.{Indexes, among}
 use Rattle.task_sheet.specs.Responses.{Covers}
 use Rattle.task_sheet.specs.Demand.{limit_of, demand_of}
-use Rattle.task_sheet.specs.Orders.{is_bound, IsOrder}
+use Rattle.task_sheet.specs.Orders.{must_outrank_any, IsOrder}
 
 -- task i passes with the tasks H above it where so much more has to be executed
 abbrev pub PassesWith : List Task → ℕ → ℕ → Indexes → Type 0
@@ -14,7 +14,7 @@ PassesWith U extra i H = Covers (λ t. demand_of U i H t + extra) (limit_of (tas
 abbrev pub AllBear : List Task → ℕ → List ℕ → Type 0
 AllBear U extra [] = Unit {0}
 AllBear U extra (i ∷ above) =
-    (PassesWith U extra i (among above) × IsFalse (is_bound U i (among above))) × AllBear U extra above
+    (PassesWith U extra i (among above) × IsFalse (must_outrank_any U i (among above))) × AllBear U extra above
 
 -- an order of the set in which each task bears so much more
 pub record Bears (U : List Task) (extra : ℕ) (order : List ℕ) : Type 0 where

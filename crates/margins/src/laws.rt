@@ -25,7 +25,7 @@ pub fn preferred_is_greatest()
         → IsTaskSet V
         → IsBest V order → i < length V → MayHave V i Cost cost
         → IsPassingOrder (numbered V i Cost cost) order ↔ IsFeasible (numbered V i Cost cost) }
-    ensures headroom { (U V : List Task) (order : List ℕ) (i inside any : ℕ)
+    ensures other_numbers { (U V : List Task) (order : List ℕ) (i inside any : ℕ)
         → IsByDeadlines U V → IsTaskSet V
         → IsBest V order → i < length V → IsFurthestIn V order i Cost inside
         → IsFurthest V i Cost any

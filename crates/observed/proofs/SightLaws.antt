@@ -3,7 +3,7 @@ use Rattle.std.proofs.Common.{◌≡◌, ℕ, List, Option, Some, None, Result}
 use Rattle.std.specs.Option.{option_map}
 use Rattle.task_sheet.specs.Sheet.{Task}
 use Rattle.assignment.specs.Places.{PlaceData}
-use Rattle.trace_text.specs.Faults.{IsTraceFault}
+use Rattle.trace_text.specs.TraceFaults.{IsTraceFault}
 use Rattle.trace_text.specs.declared.fault.TraceFault.{TraceFault}
 use Rattle.trace_text.specs.declared.fault.TraceFault.TheVariants as fault
 use Rattle.trace_text.specs.declared.rows.TraceRow.{TraceRow}

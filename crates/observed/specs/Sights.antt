@@ -5,8 +5,8 @@ use Rattle.task_sheet.specs.Indexes.{indexes_of}
 use Rattle.task_sheet.specs.Levels.{IsGreatestObstruction}
 use Rattle.assignment.specs.Places.{PlaceData}
 use Rattle.assignment.specs.Placings.{IsBestPlacing}
-use Rattle.trace_text.specs.Faults.{IsTraceOf, rows_fault}
-use Rattle.trace_text.specs.Rows.{rows_in}
+use Rattle.trace_text.specs.TraceFaults.{IsTraceOf, rows_fault}
+use Rattle.trace_text.specs.TraceLines.{rows_in}
 use Rattle.trace_text.specs.declared.fault.TraceFault.{TraceFault}
 use Rattle.trace_text.specs.declared.fault.TraceFault.TheVariants as fault
 use Rattle.trace_text.specs.declared.reading.TraceLines.{TraceLines}

@@ -1,6 +1,6 @@
 //! What a trace shows of the jobs of a set's tasks.
 ghost use Rattle.std.specs.Prelude.{◌≡◌, ◌<◌, length, All, None, MatchResult, IfOk};
-ghost use Rattle.trace_text.specs.Faults.{IsTraceFault};
+ghost use Rattle.trace_text.specs.TraceFaults.{IsTraceFault};
 ghost use Rattle.observed.specs.Observed.{observed_fault, observed_in, seen_jobs};
 
 use crate::end::end_of;

@@ -1,7 +1,7 @@
 //! What a trace shows of a set's tasks at the levels of an order, and a text at those of their best one.
 ghost use Rattle.std.specs.Prelude.{◌<◌, length, All, MatchResult};
-ghost use Rattle.trace_text.specs.Faults.{IsTraceFault};
-ghost use Rattle.trace_text.specs.Rows.{rows_at};
+ghost use Rattle.trace_text.specs.TraceFaults.{IsTraceFault};
+ghost use Rattle.trace_text.specs.TraceLines.{rows_at};
 ghost use Rattle.observed.specs.Observed.{observed_fault};
 ghost use Rattle.observed.specs.Promises.{promises_of};
 ghost use Rattle.observed.specs.Sights.{IsShownAt, IsSight, IsSightFault, IsSightFaultOf, IsSightOf};

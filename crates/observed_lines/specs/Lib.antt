@@ -4,4 +4,4 @@ pub mod Sweeps
 pub mod Jobless
 pub mod Broken
 pub mod Reached
-pub mod Lines
+pub mod ObservedLines

@@ -1,7 +1,7 @@
 //! What the jobs of a level came to.
 ghost use Rattle.std.specs.Prelude.{◌≡◌, length};
 ghost use Rattle.task_sheet.specs.Demand.{greatest_of};
-ghost use Rattle.observed_lines.specs.Lines.{greatest_response};
+ghost use Rattle.observed_lines.specs.ObservedLines.{greatest_response};
 ghost use Rattle.observed_lines.specs.Reached.{is_done_of, least_gap, lesser_gap, of_level};
 
 use observed::Seen;

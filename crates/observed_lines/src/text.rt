@@ -1,6 +1,6 @@
 //! What a trace shows: a line for each task, and then the promises that are broken.
 ghost use Rattle.std.specs.Prelude.{◌≡◌, ◌++◌, OnOk, IfOk, string_bytes};
-ghost use Rattle.observed_lines.specs.Lines.{beside_words, missing_lines, observed_lines, task_line, task_lines};
+ghost use Rattle.observed_lines.specs.ObservedLines.{beside_words, missing_lines, observed_lines, task_line, task_lines};
 
 use crate::broken::push_all_broken;
 use crate::jobless::push_all_jobless;

@@ -2,7 +2,7 @@
 use Rattle.std.specs.Prelude.{ℕ, Bool, ◌&&◌, false, List, [], ◌∷◌, ◌++◌, codes, slice_get, Option, None, Some, if◌then◌else◌}
 use Rattle.std.specs.Char.{is_ascii_digit}
 use Rattle.task_sheet.specs.Sheet.{same_bytes}
-use Rattle.lines.specs.Lines.{lines_of}
+use Rattle.lines.specs.TextLines.{lines_of}
 use Rattle.lines.specs.Words.{words}
 use Rattle.owners.specs.Owners.{team_of}
 use Rattle.owners.specs.declared.owner.Owner.{Owner}

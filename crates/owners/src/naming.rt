@@ -1,6 +1,6 @@
 //! Lines that name the team beside a task.
 ghost use Rattle.std.specs.Prelude.{◌≡◌, ◌++◌, IfOk, OnOk};
-ghost use Rattle.lines.specs.Lines.{lines_of};
+ghost use Rattle.lines.specs.TextLines.{lines_of};
 ghost use Rattle.lines.specs.Words.{words};
 ghost use Rattle.owners.specs.NamedLines.{beside, each_named, named_line, named_lines, task_word};
 

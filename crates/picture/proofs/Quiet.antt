@@ -9,7 +9,7 @@ use Rattle.ceiling_kernel.specs.declared.trace.Slice.{Slice}
 use Rattle.pieces.specs.Pieces.{wait_in}
 use Rattle.frames.specs.declared.rows.Spot.{Spot}
 use Rattle.picture.specs.declared.waits.Stay.{Stay}
-use Rattle.frames.specs.Rows.{each}
+use Rattle.frames.specs.PictureRows.{each}
 use Rattle.frames.specs.Slices.{no_slice, slice_at, rises}
 use Rattle.picture.specs.Waits.{Scene}
 use Rattle.picture.specs.WaitTexts.{nth_wait_text}

@@ -6,7 +6,7 @@ use Rattle.task_sheet.specs.Locks.{uses}
 use Rattle.ceiling_kernel.specs.declared.trace.Slice.{Slice}
 use Rattle.ceiling_kernel.specs.Tick.{is_inside}
 use Rattle.frames.specs.declared.rows.TaskRow.{TaskRow}
-use Rattle.frames.specs.Rows.{row_at}
+use Rattle.frames.specs.PictureRows.{row_at}
 use Rattle.frames.specs.Slices.{slice_at, executed_in}
 
 -- the ceiling of a lock is the level of row k, or above: a task from there up uses it

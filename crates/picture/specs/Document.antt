@@ -15,7 +15,7 @@ use Rattle.picture.specs.Titles.{title_tail}
 use Rattle.picture.specs.declared.style.TheConstants.{STYLE}
 use Rattle.picture.specs.Legend.{legend_text}
 use Rattle.frames.specs.Frame.{Frame, frame_of, frame_end, in_millis, step_of, steps_before, top_of}
-use Rattle.frames.specs.Rows.{each, row_at, spot_in}
+use Rattle.frames.specs.PictureRows.{each, row_at, spot_in}
 use Rattle.frames.specs.Numbers.{time_text, unit_text}
 use Rattle.drawn_jobs.specs.Misses.{all_missed, badge_text, misses_text}
 use Rattle.picture.specs.Margin.{margin_text}

@@ -1,6 +1,6 @@
 -- The title, behind what a picture says of its run.
 use Rattle.std.specs.Prelude.{ℕ, ◌+◌, ◌-◌, Bool, ◌&&◌, ◌||◌, nat_le, nat_lt, ◌==◌, if◌then◌else◌, List, [], ◌∷◌, ◌++◌, length, slice_index, codes}
-use Rattle.frames.specs.Rows.{each}
+use Rattle.frames.specs.PictureRows.{each}
 
 -- a byte as text has it: `&`, `<` and `>` by their names, and a space for a control character
 abbrev pub shown_byte : ℕ → List ℕ

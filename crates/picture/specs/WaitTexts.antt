@@ -11,7 +11,7 @@ use Rattle.frames.specs.declared.tones.Toned.{Toned}
 use Rattle.picture.specs.declared.waits.Stay.{Stay}
 use Rattle.picture.specs.declared.waits.Wait.{Wait}
 use Rattle.frames.specs.Frame.{Frame, x_of, sees, top_of}
-use Rattle.frames.specs.Rows.{each, name_in, record_at, on_spot, place_in, tone_in}
+use Rattle.frames.specs.PictureRows.{each, name_in, record_at, on_spot, place_in, tone_in}
 use Rattle.frames.specs.Tones.{tone_named}
 use Rattle.picture.specs.Blocking.{blocking_lock}
 use Rattle.picture.specs.Waits.{Scene, stay_of, wait_at, is_gathered}

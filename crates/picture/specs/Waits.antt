@@ -11,7 +11,7 @@ use Rattle.frames.specs.declared.tones.Toned.{Toned}
 use Rattle.picture.specs.declared.waits.Stay.{Stay}
 use Rattle.picture.specs.declared.waits.Wait.{Wait}
 use Rattle.frames.specs.Frame.{Frame, x_of, ended}
-use Rattle.frames.specs.Rows.{row_named, record_at}
+use Rattle.frames.specs.PictureRows.{row_named, record_at}
 use Rattle.frames.specs.Slices.{slice_at}
 
 -- what waits are drawn from: how time lies, the locks, the rows and which of them are shown, and what happened in the run

@@ -12,7 +12,7 @@ use Rattle.task_sheet.proofs.Common.{CriticalSection, Task, task_at, no_task, In
 use Rattle.task_sheet.proofs.Common.{with_index, sum_below, greatest_below, some_below, shares_lock}
 use Rattle.task_sheet.proofs.Common.{reaches, greatest_of, longest_reached, blocking_of}
 use Rattle.task_sheet.proofs.Common.{interference_of, interrupts_of, interrupts_within, demand_of}
-use Rattle.task_sheet.proofs.Common.{IsByRank, limit_of, must_outrank, is_bound, Stands, AllStand}
+use Rattle.task_sheet.proofs.Common.{IsByRank, limit_of, must_outrank, must_outrank_any, Stands, AllStand}
 use Rattle.task_sheet.proofs.Common.{IsPassingOrder, IsFeasible}
 use Rattle.task_sheet.specs.Sheet.{weighing}
 use Rattle.chain_tables.specs.Tables.{WrittenData}
@@ -177,8 +177,8 @@ module _ (turn : ℕ → ℕ) (U V : List Task) (are : AreRenumbered turn U V) w
     interrupts-turned t,
   )
 
-  bound-turned : (i : ℕ) (H : Indexes) → is_bound V (turn i) (λ k. H (turn k)) ≡ is_bound U i H
-  unfolding is_bound
+  bound-turned : (i : ℕ) (H : Indexes) → must_outrank_any V (turn i) (λ k. H (turn k)) ≡ must_outrank_any U i H
+  unfolding must_outrank_any
   bound-turned i H =
       let p : Indexes = λ k. H k && must_outrank U i k in
       along some_below (λ k. H (turn k) && must_outrank V (turn i) k) p

@@ -21,7 +21,7 @@ IsNearer U [] ys = ⊥
 IsNearer U (x ∷ xs) [] = ⊥
 IsNearer U (x ∷ xs) (y ∷ ys) = IsLower (task_at U x) (task_at U y) ⊎ ((x ≡ y) × IsNearer U xs ys)
 
--- limit-monotonic: no task has a longer limit than one below it
+-- limit-monotonic, called deadline-minus-jitter monotonic, too: no task has a longer limit than one below it
 abbrev pub IsMonotonic : List Task → List ℕ → Type 0
 IsMonotonic U [] = Unit {0}
 IsMonotonic U (i ∷ above) =

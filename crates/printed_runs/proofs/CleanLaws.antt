@@ -11,7 +11,7 @@ use Rattle.explain.proofs.AccountLaws.{best-in_time}
 use Rattle.ceiling_kernel.proofs.Common.{node_in, Runs}
 use Rattle.ceiling_kernel.specs.declared.trace.Release.{Release}
 use Rattle.ceiling_kernel.specs.declared.trace.Trace.{Trace}
-use Rattle.trace_text.specs.Faults.{IsTraceIn, trace_fault}
+use Rattle.trace_text.specs.TraceFaults.{IsTraceIn, trace_fault}
 use Rattle.trace_text.specs.declared.fault.TraceFault.{TraceFault}
 use Rattle.trace_text.specs.declared.fault.TraceFault.TheVariants as fault
 use Rattle.trace_text.specs.declared.reading.TraceLines.{TraceLines}
@@ -23,7 +23,7 @@ use Rattle.observed.specs.declared.sight.Sight.{Sight}
 use Rattle.observed.specs.declared.sight.Sight.TheVariants.{Infeasible, Seen}
 use Rattle.observed_lines.specs.Breaks.{is_kept}
 use Rattle.observed_lines.specs.Broken.{broken_lines}
-use Rattle.kept_promises.specs.Kept.{KeepsToDemand}
+use Rattle.kept_promises.specs.KeptPromises.{KeepsToDemand}
 use Rattle.kept_promises.specs.OfRuns.{AreOfRun}
 use Rattle.kept_promises.proofs.BreakLaws.{all_are_kept, none_written}
 use Rattle.kept_promises.proofs.SeenLaws.{all_seen, housed, keeps_to_demand}

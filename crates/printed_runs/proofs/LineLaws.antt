@@ -10,7 +10,7 @@ use Rattle.std.proofs.lemmas.Bool.{cases_Bool, le-leb, lt-ltb, true≢false}
 use Rattle.std.proofs.lemmas.Fmt.{decimal_nonempty}
 use Rattle.std.proofs.lemmas.Slice.Eq.{bytes_eq-Decides}
 use Rattle.task_sheet.specs.Name.{IsName, is_name, is_name_byte}
-use Rattle.lines.specs.Lines.{is_skipped, kept_from, lines_of}
+use Rattle.lines.specs.TextLines.{is_skipped, kept_from, lines_of}
 use Rattle.lines.specs.Steps.{ahead}
 use Rattle.lines.specs.Words.{words}
 use Rattle.lines.proofs.NumberLaws.{number_again}
@@ -19,10 +19,10 @@ use Rattle.lines.proofs.Lacks.{number_lacks, one_more}
 use Rattle.ceiling_kernel.specs.Runs.{no_record}
 use Rattle.ceiling_kernel.specs.declared.trace.JobRecord.{JobRecord}
 use Rattle.ceiling_kernel.specs.declared.trace.Slice.{Slice}
-use Rattle.trace_text.specs.Rows.{finish_in, rows_from, trace_row_in}
+use Rattle.trace_text.specs.TraceLines.{finish_in, rows_from, trace_row_in}
 use Rattle.trace_text.specs.declared.rows.TraceRow.{TraceRow}
 use Rattle.trace_text.specs.declared.rows.TraceRow.TheVariants as row
-use Rattle.kept_promises.specs.Rows.{job_row, jobs_from, slice_row, slices_from}
+use Rattle.kept_promises.specs.PrintedRuns.{job_row, jobs_from, slice_row, slices_from}
 use Rattle.printed_runs.specs.TraceLines.{finish_words, job_lines, slice_lines}
 
 -- ---- what can be read back

@@ -25,17 +25,17 @@ use Rattle.ceiling_kernel.proofs.MachineLaws.{idle_of, other_of, pending_parts, 
 use Rattle.ceiling_kernel.proofs.ReleaseLaws.{job_is, jobs_length}
 use Rattle.ceiling_kernel.proofs.SliceLaws.{longest_runs}
 use Rattle.lines.specs.Steps.{ahead}
-use Rattle.trace_text.specs.Faults.{IsTraceIn, are_too_many, overlap_from, trace_fault, rows_fault}
-use Rattle.trace_text.specs.Faults.{unsorted_from}
-use Rattle.trace_text.specs.Rows.{rows_in}
-use Rattle.trace_text.specs.Rows as rows
+use Rattle.trace_text.specs.TraceFaults.{IsTraceIn, are_too_many, overlap_from, trace_fault, rows_fault}
+use Rattle.trace_text.specs.TraceFaults.{unsorted_from}
+use Rattle.trace_text.specs.TraceLines.{rows_in}
+use Rattle.trace_text.specs.TraceLines as rows
 use Rattle.trace_text.specs.declared.fault.TraceFault.TheVariants as trace_fault_is
 use Rattle.trace_text.specs.declared.reading.TraceLines.{TraceLines}
 use Rattle.trace_text.specs.declared.rows.TraceJob.{TraceJob}
 use Rattle.trace_text.specs.declared.rows.TraceRow.{TraceRow}
 use Rattle.trace_text.specs.declared.rows.TraceRow.TheVariants as row
 use Rattle.trace_text.specs.declared.rows.TraceSlice.{TraceSlice}
-use Rattle.kept_promises.specs.Rows.{Say, jobs_from, slices_from}
+use Rattle.kept_promises.specs.PrintedRuns.{Say, jobs_from, slices_from}
 use Rattle.kept_promises.proofs.SeenLaws.{named}
 use Rattle.printed_runs.specs.RunRows.{rows_of}
 use Rattle.printed_runs.specs.TraceLines.{job_lines, trace_lines}

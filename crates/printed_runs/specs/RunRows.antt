@@ -3,7 +3,7 @@ use Rattle.std.specs.Prelude.{◌+◌, List, ◌++◌, length, map}
 use Rattle.ceiling_kernel.specs.declared.trace.Trace.{Trace}
 use Rattle.trace_text.specs.declared.rows.TraceRow.{TraceRow}
 use Rattle.trace_text.specs.declared.rows.TraceRow.TheVariants.{Slice, Job}
-use Rattle.kept_promises.specs.Rows.{jobs_from, slices_from}
+use Rattle.kept_promises.specs.PrintedRuns.{jobs_from, slices_from}
 
 -- the slices, and then the jobs
 abbrev pub rows_of : Trace → List TraceRow

@@ -11,7 +11,7 @@ use Rattle.std.proofs.lemmas.List.{append-nil}
 use Rattle.std.proofs.lemmas.List.Elements.{recursion_from_All}
 use Rattle.task_sheet.proofs.Common.{Task, IsValidSheet, no_task, task_at, IsTaskSet, is_name}
 use Rattle.task_sheet.proofs.Common.{IsName}
-use Rattle.lines.specs.Lines.{lines_of, is_skipped, kept_from}
+use Rattle.lines.specs.TextLines.{lines_of, is_skipped, kept_from}
 use Rattle.lines.specs.Words.{number_in, name_in, words}
 use Rattle.lines.proofs.NumberLaws.{number_again}
 use Rattle.lines.proofs.Lacks.{Lacks, cut_at, joined_again, kept_word, lacks_append, lacks_in}

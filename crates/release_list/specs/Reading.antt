@@ -1,7 +1,7 @@
 -- What the text of a release list says.
 use Rattle.std.specs.Prelude.{◌≡◌, ℕ, ◌+◌, ◌<◌, ◌^◌, List, [], ◌∷◌, length, Option, option_map, Some, None, IfSome, ok_or, Result, Ok, Err, bytes_eq, codes, if◌then◌else◌}
 use Rattle.task_sheet.specs.Name.{IsName}
-use Rattle.lines.specs.Lines.{kept_from, lines_of, rows_by}
+use Rattle.lines.specs.TextLines.{kept_from, lines_of, rows_by}
 use Rattle.lines.specs.Steps.{◌>>=◌}
 use Rattle.lines.specs.Words.{name_in, number_in, words}
 use Rattle.ceiling_kernel.specs.declared.trace.Release.{Release}

@@ -1,4 +1,4 @@
 pub mod Reached
 pub mod TaskBounds
-pub mod Lines
+pub mod RunLines
 pub mod Responses

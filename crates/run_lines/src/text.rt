@@ -2,7 +2,7 @@
 ghost use Rattle.std.specs.Prelude.{◌≡◌, ◌<◌, ◌++◌, length, IfOk, OnOk, string_bytes};
 ghost use Rattle.task_sheet.specs.Orders.{IsOrder};
 ghost use Rattle.lines.specs.Naming.{name_at};
-ghost use Rattle.run_lines.specs.Lines.{bound_words, greatest_words, task_line, task_lines};
+ghost use Rattle.run_lines.specs.RunLines.{bound_words, greatest_words, task_line, task_lines};
 ghost use Rattle.run_lines.specs.TaskBounds.{tasks_of_bounds};
 
 use crate::bounds::TaskBound;

@@ -2,7 +2,7 @@
 use Rattle.std.proofs.Common.{◌≡◌, ◌≤◌, ◌+◌, ◌∙◌, ℕ, List, [], ◌∷◌, ◌++◌, length, arith, ap, sym}
 use Rattle.std.proofs.Common.{append_assoc}
 use Rattle.std.proofs.lemmas.List.{append-nil}
-use Rattle.rushes.specs.Faults.{Each}
+use Rattle.rushes.specs.RushFaults.{Each}
 
 pub Each-push : {X Y : Type 0} (R : X → Y → Type 0) (xs : List X) (ys : List Y) (x : X) (y : Y)
     → Each R xs ys → R x y → Each R (xs ++ x ∷ []) (ys ++ y ∷ [])

@@ -10,7 +10,7 @@ use Rattle.book_lock.specs.TeamPass.{Known, newcomer, newcomers, has_team, place
 use Rattle.book_lock.specs.TeamPass.{HaveReceipts}
 use Rattle.scripts.specs.declared.line.Line.{Line}
 use Rattle.rushes.specs.Hands.{Hand, new_hand, AreDone, AreParts}
-use Rattle.rushes.specs.Faults.{Each, IsEnd, first_fault}
+use Rattle.rushes.specs.RushFaults.{Each, IsEnd, first_fault}
 use Rattle.rushes.specs.TeamLines.{TeamLine, lines_of}
 use Rattle.scripts.specs.declared.rush_fault.RushFault.{RushFault}
 use Rattle.rushes.proofs.RunLaws.{run_team}

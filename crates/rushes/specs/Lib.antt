@@ -1,5 +1,5 @@
 pub mod TeamLines
 pub mod Hands
 pub mod HandFields
-pub mod Faults
+pub mod RushFaults
 pub mod Printed

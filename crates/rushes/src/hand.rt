@@ -1,6 +1,6 @@
 //! A team's drafts and its pass, and its lines of a script.
 ghost use Rattle.std.specs.Prelude.{◌≡◌, ◌++◌, IfOk, OnOk, Option, None, option_map};
-ghost use Rattle.candidate_workers.specs.Faults.{IsBadCount};
+ghost use Rattle.candidate_workers.specs.WorkerFaults.{IsBadCount};
 ghost use Rattle.drafts.specs.Edits.{Draft, after_put, after_remove};
 ghost use Rattle.drafts.specs.declared.draft.EditCause.TheVariants.{Refused};
 ghost use Rattle.rushes.specs.Hands.{draft_at, edited, new_hand, noted, refusal_in, AreDone, IsCommitted, IsLineDone, IsOn, IsOpened, IsSet, IsStep};

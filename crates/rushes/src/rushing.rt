@@ -1,6 +1,6 @@
 //! The lines of all teams on one desk.
 ghost use Rattle.std.specs.Prelude.{◌≡◌, IfOk, string_bytes};
-ghost use Rattle.candidate_workers.specs.Faults.{IsBadCount};
+ghost use Rattle.candidate_workers.specs.WorkerFaults.{IsBadCount};
 ghost use Rattle.drafts.specs.declared.team.TheConstants.{TEAM_LIMIT};
 ghost use Rattle.rushes.specs.Printed.{IsRushText};
 

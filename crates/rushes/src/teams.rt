@@ -1,7 +1,7 @@
 //! A thread for each team.
 ghost use Rattle.std.specs.Prelude.{◌≡◌, ◌≤◌, [], IfOk, IfErr, length, map, vec_capacity};
-ghost use Rattle.candidate_workers.specs.Faults.{IsBadCount};
-ghost use Rattle.rushes.specs.Faults.{Each, IsEnd, first_fault};
+ghost use Rattle.candidate_workers.specs.WorkerFaults.{IsBadCount};
+ghost use Rattle.rushes.specs.RushFaults.{Each, IsEnd, first_fault};
 ghost use Rattle.rushes.specs.TeamLines.{lines_of};
 
 use crate::hand::{Hand, run_lines};

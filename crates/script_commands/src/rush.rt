@@ -1,7 +1,7 @@
 //! `desk rush`.
 ghost use Rattle.std.specs.Prelude.{◌≡◌, ◌⊎◌, string_bytes, true, false};
 ghost use Rattle.std.specs.Io.KnownBytes.{Appends};
-ghost use Rattle.candidate_workers.specs.Faults.{IsBadCount};
+ghost use Rattle.candidate_workers.specs.WorkerFaults.{IsBadCount};
 ghost use Rattle.streams.specs.Inputs.{IsDisturbed, IsWithinTurns};
 ghost use Rattle.script_commands.specs.Rush.{IsNoted, SaysRushed};
 

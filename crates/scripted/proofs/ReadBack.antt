@@ -20,18 +20,18 @@ use Rattle.task_sheet.specs.Sheet.{MayOutrank, AreOverheads, AreSections, IsInte
 use Rattle.task_sheet.specs.Sheet.{names_said, no_overhead, same_node, task_of, with_jitter}
 use Rattle.task_sheet.specs.TaskSet.{IsTaskSet}
 use Rattle.task_sheet.proofs.SheetLaws.{sheet_valid, outranks_valid}
-use Rattle.lines.specs.Lines.{kept_from, lines_of}
+use Rattle.lines.specs.TextLines.{kept_from, lines_of}
 use Rattle.lines.specs.Steps.{◌>>=◌, each_in}
 use Rattle.lines.specs.Words.{number_in, words}
 use Rattle.lines.proofs.NumberLaws.{number_again}
 use Rattle.lines.proofs.Lacks.{Lacks, cut_at, joined_again, joined_lacks, lacks_append, name_lacks}
 use Rattle.lines.proofs.Lacks.{number_lacks, one_more, uncut}
 use Rattle.drafts.specs.declared.team.TheConstants.{TEAM_LIMIT}
-use Rattle.scripts.specs.Rows.{made_in, all_sign, interrupt_in, interrupts_or_none, node_of}
-use Rattle.scripts.specs.Rows.{node_or_none, over_in, over_or_none, next_draft, next_field}
-use Rattle.scripts.specs.Rows.{next_name, next_number, only_draft, open_in, or_bad, put_in, row_in}
-use Rattle.scripts.specs.Rows.{section_in, sections_in, sheet_in, sheet_with_jitter, up_to}
-use Rattle.scripts.specs.Rows.{value_or_zero, word_names}
+use Rattle.scripts.specs.ScriptWords.{made_in, all_sign, interrupt_in, interrupts_or_none, node_of}
+use Rattle.scripts.specs.ScriptWords.{node_or_none, over_in, over_or_none, next_draft, next_field}
+use Rattle.scripts.specs.ScriptWords.{next_name, next_number, only_draft, open_in, or_bad, put_in, row_in}
+use Rattle.scripts.specs.ScriptWords.{section_in, sections_in, sheet_in, sheet_with_jitter, up_to}
+use Rattle.scripts.specs.ScriptWords.{value_or_zero, word_names}
 use Rattle.scripts.specs.Script.{script_from, script_in}
 use Rattle.scripts.proofs.Nodes.{overheads_tested, interrupts_tested}
 use Rattle.scripts.specs.declared.line.Row.TheVariants.{Open, Put, Commit}

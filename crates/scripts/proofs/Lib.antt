@@ -1,4 +1,4 @@
 pub mod Ahead
 pub mod ScriptLaws
-pub mod Kept
+pub mod KeptSections
 pub mod Nodes

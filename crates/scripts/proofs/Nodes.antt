@@ -9,7 +9,7 @@ use Rattle.task_sheet.specs.declared.node.Interrupt.{Interrupt}
 use Rattle.task_sheet.specs.Sheet.{AreOverheads, IsInterrupt, AreInterrupts}
 use Rattle.scripts.specs.declared.line.RowFault.TheVariants.{Bad}
 use Rattle.task_sheet.specs.TreeFault.{is_interrupt}
-use Rattle.scripts.specs.Rows.{are_interrupts, are_overheads, node_of, pair_of}
+use Rattle.scripts.specs.ScriptWords.{are_interrupts, are_overheads, node_of, pair_of}
 use Rattle.std.proofs.lemmas.List.Splits.{length-slice_split}
 
 -- ---- four words

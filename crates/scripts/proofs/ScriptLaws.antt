@@ -10,7 +10,7 @@ use Rattle.scripts.specs.declared.line.RowFault.{RowFault}
 use Rattle.scripts.specs.declared.line.RowFault.TheVariants as row
 use Rattle.scripts.specs.declared.line.ScriptFault.{ScriptFault}
 use Rattle.scripts.specs.Gives.{FailsRow}
-use Rattle.scripts.specs.Rows.{row_in}
+use Rattle.scripts.specs.ScriptWords.{row_in}
 use Rattle.scripts.proofs.Ahead.{ahead-ahead}
 use Rattle.scripts.specs.Script.{fault_at, opened_after, script_from, IsFault}
 

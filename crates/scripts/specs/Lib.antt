@@ -1,3 +1,3 @@
-pub mod Rows
+pub mod ScriptWords
 pub mod Gives
 pub mod Script

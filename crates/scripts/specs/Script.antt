@@ -1,7 +1,7 @@
 -- The lines of a script.
 use Rattle.std.specs.Prelude.{◌≡◌, ℕ, ◌+◌, List, [], ◌∷◌, Result, Ok, Err}
 use Rattle.lines.specs.Words.{words}
-use Rattle.lines.specs.Lines.{kept_lines}
+use Rattle.lines.specs.TextLines.{kept_lines}
 use Rattle.lines.specs.Steps.{◌>>=◌, ahead}
 use Rattle.scripts.specs.declared.line.Line.{Line}
 use Rattle.scripts.specs.declared.line.Row.{Row}
@@ -10,7 +10,7 @@ use Rattle.scripts.specs.declared.line.RowFault.{RowFault}
 use Rattle.scripts.specs.declared.line.RowFault.TheVariants as row
 use Rattle.scripts.specs.declared.line.ScriptFault.{ScriptFault}
 use Rattle.scripts.specs.declared.line.ScriptFault.TheVariants.{BadLine, Sheet, BadJitter, Outranks, BadOverhead, BadInterrupt, OutOfMemory}
-use Rattle.scripts.specs.Rows.{row_in}
+use Rattle.scripts.specs.ScriptWords.{row_in}
 
 -- how many drafts were opened, after a line
 abbrev pub opened_after : ℕ → Row → ℕ

@@ -1,7 +1,7 @@
 //! Words that are fields of a line.
 ghost use Rattle.std.specs.Prelude.{◌≡◌, MatchOption, option_map};
 ghost use Rattle.scripts.specs.Gives.{GivesRow};
-ghost use Rattle.scripts.specs.Rows.{draft_in, head_word, is_over, next_draft, next_field, next_name, next_number, value_or_zero, only_draft, other_in, round, team_in, value_in};
+ghost use Rattle.scripts.specs.ScriptWords.{draft_in, head_word, is_over, next_draft, next_field, next_name, next_number, value_or_zero, only_draft, other_in, round, team_in, value_in};
 
 use crate::line::RowFault;
 use drafts::Team;

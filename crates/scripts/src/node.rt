@@ -5,7 +5,7 @@ ghost use Rattle.lines.specs.Steps.{each_in};
 ghost use Rattle.lines.specs.Words.{number_in};
 ghost use Rattle.scripts.specs.Gives.{GivesRow};
 ghost use Rattle.task_sheet.specs.TreeFault.{is_interrupt};
-ghost use Rattle.scripts.specs.Rows.{are_interrupts, are_overheads, interrupt_in, interrupts_or_none, node_of, node_or_none, or_bad, sheet_interrupted, sheet_of_node};
+ghost use Rattle.scripts.specs.ScriptWords.{are_interrupts, are_overheads, interrupt_in, interrupts_or_none, node_of, node_or_none, or_bad, sheet_interrupted, sheet_of_node};
 
 use crate::fields::round;
 use crate::line::RowFault;

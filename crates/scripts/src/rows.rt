@@ -4,7 +4,7 @@ ghost use Rattle.task_sheet.specs.Sheet.{CriticalSection, outranking, task_of};
 ghost use Rattle.task_sheet.specs.SheetFault.{outranks_fault, sheet_fault};
 ghost use Rattle.task_sheet.specs.SheetFields.{outranks_of};
 ghost use Rattle.scripts.specs.Gives.{GivesRow};
-ghost use Rattle.scripts.specs.Rows.{found_in, sheet_with_jitter, made_in, open_in, put_in, remove_in, row_in, row_of, sheet_in, valid, valid_over};
+ghost use Rattle.scripts.specs.ScriptWords.{found_in, sheet_with_jitter, made_in, open_in, put_in, remove_in, row_in, row_of, sheet_in, valid, valid_over};
 ghost use Rattle.scripts.specs.declared.sections.TheConstants.{KEPT};
 ghost use Rattle.lines.specs.Words.{words};
 

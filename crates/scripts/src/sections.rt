@@ -2,7 +2,7 @@
 ghost use Rattle.std.specs.Prelude.{◌≡◌, ◌==◌, ◌≤◌, ◌++◌, ◌∷◌, [], length, take, bytes_eq, option_map, OnOk, IfErr};
 ghost use Rattle.std.specs.List.{slice_split};
 ghost use Rattle.scripts.specs.Gives.{GivesRow, GivesFirst};
-ghost use Rattle.scripts.specs.Rows.{word_names, all_sign, over_in, over_or_none, section_in, sections_in};
+ghost use Rattle.scripts.specs.ScriptWords.{word_names, all_sign, over_in, over_or_none, section_in, sections_in};
 ghost use Rattle.task_sheet.specs.SheetFields.{outranks_of};
 
 use crate::fields::round;

@@ -7,7 +7,7 @@ use Rattle.assignment.specs.declared.placing.Placing.{Placing}
 use Rattle.assignment.specs.declared.placing.Placing.TheVariants.{Best, Stuck}
 use Rattle.chains.specs.declared.bounds.Level.{Level}
 use Rattle.chain_tables.specs.Chains.{ChainData}
-use Rattle.chain_lines.specs.Lines.{all_met, chains_said}
+use Rattle.chain_lines.specs.ChainLines.{all_met, chains_said}
 use Rattle.chain_lines.specs.declared.text.Telling.{Telling}
 use Rattle.set_commands.specs.declared.chained.Placed.{Placed}
 use Rattle.answering.specs.declared.status.Status.{Status}

@@ -7,7 +7,7 @@ use Rattle.assignment.specs.Placings.{IsPlacingOf}
 use Rattle.assignment.specs.declared.placing.Placing.{Placing}
 use Rattle.assignment.specs.declared.placing.Placing.TheVariants.{Best, Stuck}
 use Rattle.explain.specs.Explanations.{Explains}
-use Rattle.explain.specs.Lines.{conflict_line, explanation_lines, load_line}
+use Rattle.explain.specs.ExplanationLines.{conflict_line, explanation_lines, load_line}
 use Rattle.explain.specs.declared.explanation.Explanation.{Explanation}
 use Rattle.explain.specs.declared.explanation.Explanation.TheVariants.{Responses, Conflict}
 use Rattle.judge.specs.Explained.{AreLevels}

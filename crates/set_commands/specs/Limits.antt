@@ -6,7 +6,7 @@ use Rattle.task_sheet.specs.Sheet.{Task}
 use Rattle.assignment.specs.Placings.{IsPlacingOf}
 use Rattle.assignment.specs.declared.placing.Placing.{Placing}
 use Rattle.assignment.specs.declared.placing.Placing.TheVariants.{Best, Stuck}
-use Rattle.limit_lines.specs.Lines.{IsLast, order_given, order_in, places_in}
+use Rattle.limit_lines.specs.LimitLines.{IsLast, order_given, order_in, places_in}
 use Rattle.limit_lines.specs.Common.{AreCommonLines}
 use Rattle.owners.specs.declared.owner.Owner.{Owner}
 use Rattle.answering.specs.Owning.{HasOwned}

@@ -9,8 +9,8 @@ use Rattle.explain.specs.Explanations.{Explains}
 use Rattle.explain.specs.TaskLines.{task_lines}
 use Rattle.explain.specs.declared.explanation.Explanation.{Explanation}
 use Rattle.judge.specs.declared.explained.Parted.TheVariants.{Missed}
-use Rattle.limit_lines.specs.Lines.{AreTaskLines, order_given, places_in}
-use Rattle.worst_lines.specs.Lines.{AreWorstLines}
+use Rattle.limit_lines.specs.LimitLines.{AreTaskLines, order_given, places_in}
+use Rattle.worst_lines.specs.WorstLines.{AreWorstLines}
 use Rattle.owners.specs.NamedLines.{named_lines}
 use Rattle.owners.specs.declared.owner.Owner.{Owner}
 use Rattle.owners.specs.declared.words.Naming.TheVariants as naming

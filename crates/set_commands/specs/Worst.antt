@@ -3,7 +3,7 @@ use Rattle.std.specs.Prelude.{ℕ, List, Option, None, Result, Ok, Err}
 use Rattle.preferences.specs.declared.asking.Asking.{Asking}
 use Rattle.task_sheet.specs.Sheet.{Task}
 use Rattle.assignment.specs.declared.placing.Placing.{Placing}
-use Rattle.worst_lines.specs.Lines.{AreWorstLines}
+use Rattle.worst_lines.specs.WorstLines.{AreWorstLines}
 use Rattle.set_commands.specs.Admit.{OfOneSays, Places}
 use Rattle.answering.specs.Statuses.{placing_status}
 use Rattle.answering.specs.Printed.{Prints}

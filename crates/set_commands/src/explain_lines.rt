@@ -2,7 +2,7 @@
 ghost use Rattle.std.specs.Prelude.{◌≡◌, ◌++◌, ℕ, List, Some, None, IfOk, OnOk, false, string_bytes};
 ghost use Rattle.assignment.specs.Placings.{IsPlacingOf};
 ghost use Rattle.explain.specs.Explanations.{Explains};
-ghost use Rattle.explain.specs.Lines.{load_line};
+ghost use Rattle.explain.specs.ExplanationLines.{load_line};
 ghost use Rattle.explain.specs.TaskLines.{task_lines};
 ghost use Rattle.judge.specs.declared.explained.Parted.TheVariants.{Missed};
 ghost use Rattle.owners.specs.NamedLines.{named_lines};

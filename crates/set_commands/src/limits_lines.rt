@@ -2,7 +2,7 @@
 ghost use Rattle.std.specs.Prelude.{◌≡◌, ◌≢◌, ℕ, ◌<◌, ◌==◌, ◌&&◌, List, ◌++◌, length, Err, true, IfOk, OnOk, string_bytes};
 ghost use Rattle.std.specs.Io.KnownBytes.{Appends};
 ghost use Rattle.assignment.specs.Placings.{IsPlacingOf};
-ghost use Rattle.limit_lines.specs.Lines.{AreTaskLines, IsLast, order_given, order_in, places_in};
+ghost use Rattle.limit_lines.specs.LimitLines.{AreTaskLines, IsLast, order_given, order_in, places_in};
 ghost use Rattle.set_commands.specs.Limits.{AreEndLines, IsListing, ListsAll, ListsSome, SaysLimitsOf, alone_line};
 ghost use Rattle.answering.specs.OrderParts.{placing_first};
 ghost use Rattle.streams.specs.Sending.{Sends};

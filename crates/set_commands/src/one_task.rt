@@ -1,8 +1,8 @@
 //! What is said of one task of a set, where the words ask about it.
 ghost use Rattle.std.specs.Prelude.{◌≡◌, ◌++◌, ◌<◌, length, IfOk, option_map, Some, string_bytes};
 ghost use Rattle.assignment.specs.Placings.{IsPlacingOf};
-ghost use Rattle.limit_lines.specs.Lines.{AreTaskLines, order_given, places_in};
-ghost use Rattle.worst_lines.specs.Lines.{AreWorstLines};
+ghost use Rattle.limit_lines.specs.LimitLines.{AreTaskLines, order_given, places_in};
+ghost use Rattle.worst_lines.specs.WorstLines.{AreWorstLines};
 ghost use Rattle.set_commands.specs.Admit.{OfPlaced};
 ghost use Rattle.set_commands.specs.Chained.{IsPlaced};
 ghost use Rattle.set_commands.specs.OneTask.{AreLinesOf, SaysAll, SaysPart, SaysTask, first_said};

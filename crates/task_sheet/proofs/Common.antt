@@ -17,7 +17,7 @@ pub use Rattle.task_sheet.specs.MembersWords.{all_below}
 pub use Rattle.task_sheet.specs.Name.{IsName, is_name, is_name_byte}
 pub use Rattle.task_sheet.specs.Orders.{AllStand, IsBest, IsBetter, IsFeasible, IsOrder, IsOrderOf}
 pub use Rattle.task_sheet.specs.Orders.{IsPassingOrder, Stands, all_of, must_outrank}
-unfoldable pub use Rattle.task_sheet.specs.Orders.{is_bound}
+unfoldable pub use Rattle.task_sheet.specs.Orders.{must_outrank_any}
 pub use Rattle.task_sheet.specs.Overheads.{calls, calls_in}
 pub use Rattle.task_sheet.specs.Rank.{IsByRank, rank_cmp}
 pub use Rattle.task_sheet.specs.Ready.{AllReady, IsReadyOrder, IsReadySet}

@@ -5,7 +5,7 @@ use Rattle.std.proofs.lemmas.Bool.{cases_Bool, cases_order, both_ways, and_parts
 use Rattle.std.proofs.lemmas.Bool.{false_from_ne_true, not-true}
 use Rattle.task_sheet.proofs.Common.{Task, AllTasks, task_at, Indexes, IsPart, IsFullChain}
 use Rattle.task_sheet.proofs.Common.{past_jitter, demand_of, limit_of, IsResponseOf, Passes}
-use Rattle.task_sheet.proofs.Common.{must_outrank, is_bound, Stands, ReasonData, IsLeastOver}
+use Rattle.task_sheet.proofs.Common.{must_outrank, must_outrank_any, Stands, ReasonData, IsLeastOver}
 use Rattle.task_sheet.proofs.Common.{does_stand}
 use Rattle.task_sheet.specs.Responses.{IsResponse, IsChain}
 use Rattle.task_sheet.specs.Demand.{does_pass}
@@ -58,15 +58,15 @@ module _ (U : List Task) (i : ℕ) (H : Indexes) where
       )
 
   -- ---- tasks above which a task must stand
-  pub is_bound-at : (k : ℕ) → k < length U → IsTrue (H k) → IsTrue (must_outrank U i k)
-      → is_bound U i H ≡ true
-  unfolding is_bound
-  is_bound-at k lt above named =
+  pub must_outrank_any-at : (k : ℕ) → k < length U → IsTrue (H k) → IsTrue (must_outrank U i k)
+      → must_outrank_any U i H ≡ true
+  unfolding must_outrank_any
+  must_outrank_any-at k lt above named =
       some_below-at (length U) (λ j. H j && must_outrank U i j) k lt (and_from _ _ above named)
 
   -- of some tasks that bind it, one has the least rank
-  least_over : is_bound U i H ≡ true → (k : ℕ) × IsLeastOver U i H k
-  unfolding is_bound
+  least_over : must_outrank_any U i H ≡ true → (k : ℕ) × IsLeastOver U i H k
+  unfolding must_outrank_any
   least_over bound =
       let found = least_below_at (length U) (λ j. H j && must_outrank U i j) bound in
       let both = and_parts _ _ found.2 in (
@@ -81,9 +81,9 @@ module _ (U : List Task) (i : ℕ) (H : Indexes) where
       )
 
   -- a task that is unbound in some tasks is unbound in each part of them
-  pub is_bound-part : (G : Indexes) → IsPart H G → is_bound U i G ≡ false → is_bound U i H ≡ false
-  unfolding is_bound
-  is_bound-part G part free = false_from_ne_true _ (λ bound.
+  pub must_outrank_any-part : (G : Indexes) → IsPart H G → must_outrank_any U i G ≡ false → must_outrank_any U i H ≡ false
+  unfolding must_outrank_any
+  must_outrank_any-part G part free = false_from_ne_true _ (λ bound.
       both_ways _ free (some_below-mono (length U) _ _
       (λ k e. let both = and_parts _ _ e in and_from _ _ (part k both.0) both.1) bound))
 
@@ -91,7 +91,7 @@ module _ (U : List Task) (i : ℕ) (H : Indexes) where
   does_stand-iff = (
     λ h.
         let both = and_parts _ _ h in
-        (does_pass-iff.0 both.0, not-true (is_bound U i H) both.1),
+        (does_pass-iff.0 both.0, not-true (must_outrank_any U i H) both.1),
     λ s. and_from _ _ (does_pass-iff.1 s.0) (rw s.1),
   )
 
@@ -102,7 +102,7 @@ module _ (U : List Task) (i : ℕ) (H : Indexes) where
 
   -- a task that may not stand has a reason
   pub find_reason : ¬ Stands U i H → (reason : ReasonData) × IsReason U i H reason
-  find_reason fails = elim (cases_Bool (is_bound U i H)) [
+  find_reason fails = elim (cases_Bool (must_outrank_any U i H)) [
     | inl bound ↦ let over = least_over bound in (Over over.0, over.1)
     | inr free ↦
         let chain = find_full_chain (demand_of U i H) (limit_of (task_at U i))
@@ -116,9 +116,9 @@ module _ (U : List Task) (i : ℕ) (H : Indexes) where
   IsReason-one (Chain xs) (Chain ys) first second =
       ap Chain (IsFullChain-one _ _ xs ys first.1 second.1)
   IsReason-one (Chain xs) (Over k) first second =
-      absurd (both_ways _ first.0 (is_bound-at k second.in_set second.above second.named))
+      absurd (both_ways _ first.0 (must_outrank_any-at k second.in_set second.above second.named))
   IsReason-one (Over k) (Chain ys) first second =
-      absurd (both_ways _ second.0 (is_bound-at k first.in_set first.above first.named))
+      absurd (both_ways _ second.0 (must_outrank_any-at k first.in_set first.above first.named))
   IsReason-one (Over j) (Over k) first second = elim (cases_order j k) [
     | inl e ↦ ap Over e
     | inr apart ↦ elim apart [
@@ -160,11 +160,11 @@ module _ (U : List Task) (valid : AllTasks U) (i : ℕ) (H : Indexes) where
   Stands-part G part stands =
       let (t, positive, within, covered) = stands.0 in (
         (t, positive, within, omega (arith, demand-part U valid i H G part t positive, covered)),
-        is_bound-part U i H G part stands.1,
+        must_outrank_any-part U i H G part stands.1,
       )
 
   -- what refutes a task
   pub Refutes-fails : (reason : ReasonData) → Refutes U i H reason → ¬ Stands U i H
   Refutes-fails (Chain numbers) chain stands = IsChain-refutes numbers chain stands.0
   Refutes-fails (Over other) over stands =
-      both_ways _ stands.1 (is_bound-at U i H other over.0 over.1 over.2)
+      both_ways _ stands.1 (must_outrank_any-at U i H other over.0 over.1 over.2)

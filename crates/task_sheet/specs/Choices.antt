@@ -6,11 +6,11 @@ use Rattle.task_sheet.specs.Sheet.{Task}
 use Rattle.task_sheet.specs.Indexes.{Indexes, indexes_of, without_index}
 use Rattle.task_sheet.specs.MembersWords.{all_below}
 use Rattle.task_sheet.specs.Demand.{does_pass}
-use Rattle.task_sheet.specs.Orders.{is_bound}
+use Rattle.task_sheet.specs.Orders.{must_outrank_any}
 
 -- task i may stand below the tasks H, as a test
 abbrev pub does_stand : List Task → ℕ → Indexes → Bool
-does_stand U i H = does_pass U i H && not (is_bound U i H)
+does_stand U i H = does_pass U i H && not (must_outrank_any U i H)
 
 -- the number that was found, or else n where the test accepts it
 abbrev pub or_last : Option ℕ → ℕ → Bool → Option ℕ

@@ -85,7 +85,8 @@ abbrev pub interference_within : List Task → Indexes → ℕ → ℕ
 interference_within U H time =
     sum_below (length U) (λ h. if H h then interference_of (task_at U h) time else 0)
 
--- cost, blocking, the interference of the tasks above, and the interrupts
+-- cost, blocking, the interference of the tasks above, and the interrupts: the time demand from the critical instant, at
+-- which all are released at once (Liu, Layland 1973)
 unfoldable pub demand_of : List Task → ℕ → Indexes → ℕ → ℕ
 demand_of U i H time =
     (task_at U i).cost + blocking_of U i H + interference_within U H time

@@ -12,13 +12,14 @@ all_of U = below (length U)
 abbrev pub must_outrank : List Task → ℕ → ℕ → Bool
 must_outrank U i k = outranks_task (task_at U i) (task_at U k)
 
--- task i is bound in H: it must stand above a task of H
-unfoldable pub is_bound : List Task → ℕ → Indexes → Bool
-is_bound U i H = some_below (length U) (λ k. H k && must_outrank U i k)
+-- task i must stand above some task of H
+unfoldable pub must_outrank_any : List Task → ℕ → Indexes → Bool
+must_outrank_any U i H = some_below (length U) (λ k. H k && must_outrank U i k)
 
--- task i may stand below the tasks H: it passes with them above it, and need not stand above any of them
+-- task i may stand below the tasks H: it passes with them above it, and need not stand above any of them. The test knows
+-- which tasks are above, not in which order: it is OPA-compatible (Davis, Burns 2011)
 abbrev pub Stands : List Task → ℕ → Indexes → Type 0
-Stands U i H = Passes U i H × IsFalse (is_bound U i H)
+Stands U i H = Passes U i H × IsFalse (must_outrank_any U i H)
 
 -- the list names each index of L once, and no other
 abbrev pub IsOrderOf : Indexes → List ℕ → Type 0
@@ -38,7 +39,7 @@ pub record IsPassingOrder (U : List Task) (order : List ℕ) : Type 0 where
   pub each_once : IsOrder U order
   pub each_stands : AllStand U order
 
--- some order passes
+-- some order passes: the set is schedulable by fixed priorities
 abbrev pub IsFeasible : List Task → Type 0
 IsFeasible U = (order : List ℕ) × IsPassingOrder U order
 

@@ -4,7 +4,7 @@ use Rattle.task_sheet.specs.Sheet.{Task, task_at}
 use Rattle.task_sheet.specs.Indexes.{Indexes, IsPart, without_index, among, listed_below}
 use Rattle.task_sheet.specs.Responses.{IsChain}
 use Rattle.task_sheet.specs.Demand.{past_jitter, demand_of, limit_of}
-use Rattle.task_sheet.specs.Orders.{all_of, must_outrank, is_bound, IsOrder, IsOrderOf}
+use Rattle.task_sheet.specs.Orders.{all_of, must_outrank, must_outrank_any, IsOrder, IsOrderOf}
 use Rattle.task_sheet.specs.Verdicts.{ReasonData, Chain, Over, FailureData, LevelData, tasks_of, order_of}
 
 -- the reason shows that task i may not stand below H: its numbers are a chain, or it is a task of H that i must outrank
@@ -32,7 +32,7 @@ pub record IsReadyLevel (U : List Task) (L : Indexes) (level : LevelData) : Type
   pub within : time_of U level ≤ limit_of (task_at U level.task)
   pub covers : demand_of U level.task (without_index L level.task)
       (time_of U level) ≤ time_of U level
-  pub unbound : IsFalse (is_bound U level.task (without_index L level.task))
+  pub unbound : IsFalse (must_outrank_any U level.task (without_index L level.task))
   pub lesser : tasks_of level.fails ≡ listed_below level.task L
   pub refuted : AllRefuted U L level.fails
 

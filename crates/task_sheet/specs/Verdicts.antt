@@ -4,7 +4,7 @@ use Rattle.task_sheet.specs.Sheet.{Task, task_at}
 use Rattle.task_sheet.specs.Indexes.{Indexes, without_index, among, listed_below}
 use Rattle.task_sheet.specs.Responses.{IsFullChain}
 use Rattle.task_sheet.specs.Demand.{demand_of, limit_of, IsResponseOf}
-use Rattle.task_sheet.specs.Orders.{all_of, must_outrank, is_bound, IsBest}
+use Rattle.task_sheet.specs.Orders.{all_of, must_outrank, must_outrank_any, IsBest}
 use Rattle.task_sheet.specs.Levels.{IsGreatestObstruction}
 
 -- why a task may not stand where it was asked: the numbers of a chain, or a task above it that it must outrank
@@ -46,7 +46,7 @@ pub record IsLeastOver (U : List Task) (i : ℕ) (H : Indexes) (k : ℕ) : Type 
 -- why task i may not stand below H: where it is bound in H, the least-ranked task that binds it, else its full chain
 abbrev pub IsReason : List Task → ℕ → Indexes → ReasonData → Type 0
 IsReason U i H (Chain numbers) =
-    IsFalse (is_bound U i H) × IsFullChain (demand_of U i H) (limit_of (task_at U i)) numbers
+    IsFalse (must_outrank_any U i H) × IsFullChain (demand_of U i H) (limit_of (task_at U i)) numbers
 IsReason U i H (Over other) = IsLeastOver U i H other
 
 -- the task fails below the others of L, for its reason

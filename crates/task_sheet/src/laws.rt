@@ -11,7 +11,7 @@ ghost use Rattle.task_sheet.specs.Indexes.{Indexes, IsPart, with_index, either_o
 ghost use Rattle.task_sheet.specs.Locks.{uses, ceiling_of, IsHighestUser};
 ghost use Rattle.task_sheet.specs.Responses.{IsResponse, IsChain, IsFullChain};
 ghost use Rattle.task_sheet.specs.Demand.{releases_within, limit_of, blocking_of, Blocks, interference_within, has_interrupts, IsUninterrupted, demand_of, IsResponseOf, Passes, does_pass};
-ghost use Rattle.task_sheet.specs.Orders.{all_of, is_bound, Stands, IsOrder, IsFeasible, IsBest};
+ghost use Rattle.task_sheet.specs.Orders.{all_of, must_outrank_any, Stands, IsOrder, IsFeasible, IsBest};
 ghost use Rattle.task_sheet.specs.Levels.{NoneStands, IsObstruction, IsGreatestObstruction, left_after, AllChosen};
 ghost use Rattle.task_sheet.specs.Choices.{does_stand};
 ghost use Rattle.task_sheet.specs.Verdicts.{ReasonData, IsReason, FailureData, LevelData, VerdictData, Admitted, Infeasible, tasks_of, order_of, AllFailures, AllLevels, IsVerdictOf};
@@ -124,8 +124,8 @@ pub fn full_chain_is_one()
 /// A task that is unbound in some tasks is unbound in each part of them; so it may stand below fewer.
 pub fn fewer_bind_less()
     ensures unbound { (U : List Task) (i : ℕ) (H G : Indexes) → IsPart H G
-        → IsFalse (is_bound U i G)
-        → IsFalse (is_bound U i H) }
+        → IsFalse (must_outrank_any U i G)
+        → IsFalse (must_outrank_any U i H) }
     ensures stands { (U : List Task) (i : ℕ) (H G : Indexes) → AllTasks U → IsPart H G
         → Stands U i G → Stands U i H }
 {}

@@ -5,7 +5,7 @@ use Rattle.std.specs.List.{join_with_byte}
 use Rattle.std.proofs.Math.ListN.{take}
 use Rattle.std.proofs.Math.Seq.{take-append_seam}
 use Rattle.std.proofs.lemmas.List.Splits.{join_with_byte-slice_split}
-use Rattle.lines.specs.Lines.{parts}
+use Rattle.lines.specs.TextLines.{parts}
 use Rattle.toml.specs.Data.{Members}
 use Rattle.task_sheet.specs.ReadsSet.{IsDocument}
 use Rattle.teams.specs.Gathering.{HasNoNode, IsNodeHead, IsNodePart}

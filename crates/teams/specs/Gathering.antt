@@ -1,7 +1,7 @@
 -- The documents of teams in one text: each behind a line that names the team and counts the document's bytes, and begins
 -- as a comment of TOML does.
 use Rattle.std.specs.Prelude.{◌≡◌, ◌≢◌, ◌⊎◌, ℕ, ◌+◌, List, [], ◌∷◌, ◌++◌, length, codes, Some, Result, Ok, Err}
-use Rattle.lines.specs.Lines.{parts}
+use Rattle.lines.specs.TextLines.{parts}
 use Rattle.lines.specs.Words.{name_in, number_in, words}
 use Rattle.task_sheet.specs.declared.read.Document.{Document}
 use Rattle.teams.specs.Owned.{TeamSetData}

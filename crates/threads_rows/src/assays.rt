@@ -1,6 +1,6 @@
 //! Verdicts by several workers, and their gates.
 ghost use Rattle.std.specs.Prelude.{◌≡◌, false, IfErr};
-ghost use Rattle.candidate_workers.specs.Faults.{is_shut};
+ghost use Rattle.candidate_workers.specs.WorkerFaults.{is_shut};
 
 use crate::gates::{CrowdGate, OnceGate, ShutOne};
 use crate::sets::{is_best, lowest_level};

@@ -1,2 +1,2 @@
-pub mod Rows
-pub mod Faults
+pub mod TraceLines
+pub mod TraceFaults

@@ -1,7 +1,7 @@
 //! Reading a trace.
 ghost use Rattle.std.specs.Prelude.{◌≡◌, MatchResult};
-ghost use Rattle.trace_text.specs.Faults.{IsTraceFault, IsTraceIn, IsTraceOf, are_too_many, overlap_in, rows_fault, sequence_fault, trace_fault, unsorted_in};
-ghost use Rattle.trace_text.specs.Rows.{rows_at};
+ghost use Rattle.trace_text.specs.TraceFaults.{IsTraceFault, IsTraceIn, IsTraceOf, are_too_many, overlap_in, rows_fault, sequence_fault, trace_fault, unsorted_in};
+ghost use Rattle.trace_text.specs.TraceLines.{rows_at};
 
 use crate::fault::TraceFault;
 use crate::rows::{TraceJob, TraceSlice, jobs_of, read_rows, slices_of};

@@ -1,8 +1,8 @@
 //! The lines of a trace: `START STOP NAME`, perhaps with `@P`, and `job NAME ARRIVAL FINISH`, perhaps with READY.
 ghost use Rattle.std.specs.Prelude.{◌≡◌, Some, Ok, MatchResult, IfOk};
 ghost use Rattle.lines.specs.Words.{number_in};
-ghost use Rattle.trace_text.specs.Faults.{IsRowsFault};
-ghost use Rattle.trace_text.specs.Rows.{finish_in, five_words, four_words, job_at, jobs_of, priority_in, ranked, readied, rows_at, slice_at, slices_of, three_words};
+ghost use Rattle.trace_text.specs.TraceFaults.{IsRowsFault};
+ghost use Rattle.trace_text.specs.TraceLines.{finish_in, five_words, four_words, job_at, jobs_of, priority_in, ranked, readied, rows_at, slice_at, slices_of, three_words};
 
 use crate::fault::TraceFault;
 use lines::{LineRow, TextPlace, Words, name_of, number_of, read_lines};
@@ -179,7 +179,7 @@ fn five_words(
 impl LineRow for TraceRow {
     type Row = TraceRow;
 
-    ghost use Rattle.trace_text.specs.Rows.{trace_row_in};
+    ghost use Rattle.trace_text.specs.TraceLines.{trace_row_in};
 
     ghost row_in = { trace_row_in };
 

@@ -7,7 +7,7 @@ use Rattle.judge.specs.Judgements.{AllJudged, judged_of, order_judged}
 use Rattle.judge.specs.Node.{AreNumbersOf, IsOrderOfRows}
 use Rattle.judge.specs.declared.judging.JudgedTask.{JudgedTask}
 use Rattle.judge.specs.declared.rows.SettingRow.{SettingRow}
-use Rattle.trace_text.specs.Faults.{IsTraceOf}
+use Rattle.trace_text.specs.TraceFaults.{IsTraceOf}
 use Rattle.trace_text.specs.declared.reading.TraceLines.{TraceLines}
 use Rattle.trace_text.specs.declared.rows.TraceRow.{TraceRow}
 use Rattle.answering.specs.declared.refusal.CommandRefusal.{CommandRefusal}

@@ -7,7 +7,7 @@ use Rattle.ceiling_kernel.proofs.Common.{Runs, node_in}
 use Rattle.ceiling_kernel.specs.Runs.{MeetsTighterBounds}
 use Rattle.ceiling_kernel.specs.declared.trace.Release.{Release}
 use Rattle.ceiling_kernel.specs.declared.trace.Trace.{Trace}
-use Rattle.judge.specs.Faults.{IsSettingsFault, rows_fault}
+use Rattle.judge.specs.SettingFaults.{IsSettingsFault, rows_fault}
 use Rattle.judge.specs.Node.{IsOrderOfRows}
 use Rattle.judge.specs.Judgements.{AllJudged, IsJudgementOf, order_judged}
 use Rattle.judge.specs.declared.fault.SettingsFault.{SettingsFault}

@@ -10,7 +10,7 @@ use Rattle.judge.specs.declared.judging.Judgement.{Judgement}
 use Rattle.judge.specs.declared.judging.Judgement.TheVariants.{Meets, Misses, Below}
 use Rattle.chains.specs.declared.bounds.Level.{Level}
 use Rattle.chain_tables.specs.Chains.{ChainData}
-use Rattle.chain_lines.specs.Lines.{all_met, chains_said}
+use Rattle.chain_lines.specs.ChainLines.{all_met, chains_said}
 use Rattle.chain_lines.specs.declared.text.Telling.{Telling}
 use Rattle.two_input_commands.specs.declared.chained.ChainsTold.{ChainsTold}
 use Rattle.answering.specs.declared.status.Status.{Status}

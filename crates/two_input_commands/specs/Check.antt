@@ -3,9 +3,9 @@ use Rattle.std.specs.Prelude.{◌≡◌, ℕ, List, codes, Some, Result, Ok, Err
 use Rattle.task_sheet.specs.Sheet.{Task}
 use Rattle.task_sheet.specs.Orders.{IsBest, IsFeasible}
 use Rattle.certificate.specs.Body.{Cert}
-use Rattle.certificate.specs.Lines.{Fails, certificate_in}
+use Rattle.certificate.specs.CertificateLines.{Fails, certificate_in}
 use Rattle.cert_checker.specs.Ready.{IsReady}
-use Rattle.cert_checker.specs.Faults.{check_fault}
+use Rattle.cert_checker.specs.CertificateFaults.{check_fault}
 use Rattle.cert_checker.specs.Answers.{kind_of, order_in}
 use Rattle.cert_checker.specs.declared.checking.Checked.{Checked}
 use Rattle.cert_checker.specs.declared.checking.Checked.TheVariants.{Best, NoOrder}

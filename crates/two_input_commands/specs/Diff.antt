@@ -17,7 +17,7 @@ use Rattle.assignment.specs.Placings.{IsPlacingOf}
 use Rattle.assignment.specs.declared.placing.Placing.{Placing}
 use Rattle.chain_tables.specs.Chains.{ChainData, HasChains}
 use Rattle.diff.specs.Chains.{chain_changes}
-use Rattle.diff.specs.Lines.{change_lines}
+use Rattle.diff.specs.ChangeLines.{change_lines}
 use Rattle.diff.specs.Whole.{both_weigh, whole_lines}
 use Rattle.answering.specs.Statuses.{placing_status}
 use Rattle.answering.specs.OrderParts.{placing_first}

@@ -7,19 +7,19 @@ use Rattle.ceiling_kernel.specs.declared.trace.Trace.{Trace}
 use Rattle.picture.specs.Document.{document}
 use Rattle.frames.specs.declared.view.View.{View}
 use Rattle.command_line.specs.declared.calls.Options.{Options}
-use Rattle.judge.specs.Faults.{IsRowsFault}
+use Rattle.judge.specs.SettingFaults.{IsRowsFault}
 use Rattle.judge.specs.Front.{settings_in}
 use Rattle.judge.specs.declared.rows.SettingRow.{SettingRow}
 use Rattle.judge.specs.declared.rows.SettingRow.TheVariants.{Mutex, Thread}
 use Rattle.run_lines.specs.TaskBounds.{bounds_of}
 use Rattle.run_lines.specs.declared.bounds.TaskBound.{TaskBound}
-use Rattle.drawn_runs.specs.Rows.{Looks, rows_of}
+use Rattle.drawn_runs.specs.DrawnRows.{Looks, rows_of}
 use Rattle.frames.specs.Locks.{noted_names}
 use Rattle.frames.specs.Tones.{tones_of}
 use Rattle.frames.specs.declared.tones.TheConstants.{TASK_TONES}
 use Rattle.frames.specs.declared.tones.Toned.{Toned}
 use Rattle.two_input_commands.specs.declared.draw.Looks.{Looks as LooksData}
-use Rattle.answering.specs.Lines.{infeasible_line}
+use Rattle.answering.specs.OutcomeLines.{infeasible_line}
 use Rattle.two_input_commands.specs.OnBoth.{OfTwoSays, SaysOnBoth}
 use Rattle.two_input_commands.specs.Simulate.{SimulatesText, bounds_judged, simulation_status}
 use Rattle.two_input_commands.specs.View.{AsksRows, IsViewOf, is_unseen, names_of, rows_word}

@@ -2,7 +2,7 @@
 use Rattle.std.specs.Prelude.{◌≡◌, ℕ, Bool, true, List, [], ◌++◌, Option, Some, None, Result, Ok, Err, string_bytes}
 use Rattle.task_sheet.specs.Sheet.{Task}
 use Rattle.judge.specs.Explained.{AreExplained}
-use Rattle.judge.specs.Lines.{meets_line}
+use Rattle.judge.specs.JudgementLines.{meets_line}
 use Rattle.owners.specs.NamedLines.{named_lines}
 use Rattle.owners.specs.Slack.{sorted_if}
 use Rattle.owners.specs.declared.owner.Owner.{Owner}

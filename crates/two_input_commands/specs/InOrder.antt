@@ -2,7 +2,7 @@
 use Rattle.std.specs.Prelude.{◌≡◌, ℕ, false, List, Option, Some, None, Result, Ok, Err}
 use Rattle.task_sheet.specs.Sheet.{Task}
 use Rattle.lines.specs.Words.{name_in}
-use Rattle.judge.specs.Faults.{IsSettingsFault, settings_fault}
+use Rattle.judge.specs.SettingFaults.{IsSettingsFault, settings_fault}
 use Rattle.judge.specs.Judgements.{AllJudged, order_judged}
 use Rattle.judge.specs.Node.{AreNumbersIn, IsNodeOrder}
 use Rattle.judge.specs.declared.node.JudgedNode.{JudgedNode}

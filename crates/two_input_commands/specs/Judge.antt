@@ -2,9 +2,9 @@
 use Rattle.std.specs.Prelude.{ℕ, Bool, List, ◌++◌, string_bytes, Result, Ok, Err, if◌then◌else◌}
 use Rattle.task_sheet.specs.Sheet.{Task}
 use Rattle.judge.specs.Ceilings.{IsTextJudgement}
-use Rattle.judge.specs.Faults.{IsSettingsFault, given_fault_by}
+use Rattle.judge.specs.SettingFaults.{IsSettingsFault, given_fault_by}
 use Rattle.judge.specs.Judgements.{all_meet, order_judged}
-use Rattle.judge.specs.Lines.{judged_lines}
+use Rattle.judge.specs.JudgementLines.{judged_lines}
 use Rattle.owners.specs.Slack.{sorted_if}
 use Rattle.judge.specs.Node.{AreNumbersIn}
 use Rattle.judge.specs.declared.judging.JudgedTask.{JudgedTask}

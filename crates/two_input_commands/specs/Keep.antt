@@ -9,10 +9,10 @@ use Rattle.kept_order.specs.Keeping.{IsKeepingOf}
 use Rattle.kept_order.specs.declared.Keeping.{Keeping}
 use Rattle.kept_order.specs.declared.Keeping.TheVariants.{Kept, Parted, Stuck}
 use Rattle.settings.specs.Settings.{settings_kept}
-use Rattle.judge.specs.Faults.{IsSettingsFault}
-use Rattle.judge.specs.Kept.{IsKeptOrder, kept_fault}
+use Rattle.judge.specs.SettingFaults.{IsSettingsFault}
+use Rattle.judge.specs.KeptOrder.{IsKeptOrder, kept_fault}
 use Rattle.judge.specs.Node.{AreNumbersIn}
-use Rattle.answering.specs.Lines.{infeasible_line}
+use Rattle.answering.specs.OutcomeLines.{infeasible_line}
 use Rattle.two_input_commands.specs.OnBoth.{OfTwoSays, SaysOnBoth}
 use Rattle.two_input_commands.specs.declared.keep_lines.KeptNode.{KeptNode}
 use Rattle.answering.specs.declared.refusal.CommandRefusal.{CommandRefusal}

@@ -3,10 +3,10 @@ use Rattle.std.specs.Prelude.{◌≡◌, ◌==◌, ℕ, Bool, true, false, List,
 use Rattle.task_sheet.specs.Sheet.{Task}
 use Rattle.assignment.specs.Places.{PlaceData}
 use Rattle.judge.specs.Judgements.{all_meet, judged_of, order_judged}
-use Rattle.judge.specs.Lines.{meets_line}
+use Rattle.judge.specs.JudgementLines.{meets_line}
 use Rattle.judge.specs.declared.judging.JudgedTask.{JudgedTask}
 use Rattle.judge.specs.declared.node.JudgedNode.{JudgedNode}
-use Rattle.limit_lines.specs.Lines.{AreTaskLines, IsLast}
+use Rattle.limit_lines.specs.LimitLines.{AreTaskLines, IsLast}
 use Rattle.two_input_commands.specs.InOrder.{AsksIn}
 use Rattle.two_input_commands.specs.Judge.{judged_status}
 use Rattle.answering.specs.LimitLines.{AreLines}

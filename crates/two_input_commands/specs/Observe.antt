@@ -3,19 +3,19 @@ use Rattle.std.specs.Prelude.{◌≡◌, ◌⊎◌, ℕ, ◌<◌, ◌&&◌, true
 use Rattle.task_sheet.specs.declared.set.TheConstants.{TASK_LIMIT}
 use Rattle.task_sheet.specs.Sheet.{Task}
 use Rattle.task_sheet.specs.Indexes.{indexes_of, listed_below}
-use Rattle.lines.specs.Lines.{kept_lines}
+use Rattle.lines.specs.TextLines.{kept_lines}
 use Rattle.command_line.specs.declared.calls.Options.{Options}
 use Rattle.assignment.specs.Places.{PlaceData}
-use Rattle.judge.specs.Faults.{IsRowsFault, IsSettingsFault}
+use Rattle.judge.specs.SettingFaults.{IsRowsFault, IsSettingsFault}
 use Rattle.judge.specs.Front.{behind_front, settings_in}
 use Rattle.judge.specs.Judgements.{AllJudged, all_meet, judged_of, order_judged}
-use Rattle.judge.specs.Lines.{judged_lines}
+use Rattle.judge.specs.JudgementLines.{judged_lines}
 use Rattle.judge.specs.Node.{AreNumbersOf}
 use Rattle.judge.specs.declared.judging.JudgedTask.{JudgedTask}
 use Rattle.judge.specs.declared.node.JudgedNode.{JudgedNode}
 use Rattle.judge.specs.declared.rows.SettingRow.{SettingRow}
-use Rattle.trace_text.specs.Faults.{IsTraceFault, IsTraceOf, rows_fault as trace_rows_fault}
-use Rattle.trace_text.specs.Rows.{rows_from}
+use Rattle.trace_text.specs.TraceFaults.{IsTraceFault, IsTraceOf, rows_fault as trace_rows_fault}
+use Rattle.trace_text.specs.TraceLines.{rows_from}
 use Rattle.trace_text.specs.declared.fault.TraceFault.{TraceFault}
 use Rattle.trace_text.specs.declared.reading.TraceLines.{TraceLines}
 use Rattle.trace_text.specs.declared.rows.TraceRow.{TraceRow}
@@ -26,12 +26,12 @@ use Rattle.observed.specs.declared.sight.Observed.{Observed}
 use Rattle.observed.specs.declared.sight.Sight.{Sight}
 use Rattle.observed.specs.declared.sight.Sight.TheVariants.{Infeasible, Seen}
 use Rattle.observed_lines.specs.Jobless.{is_clean}
-use Rattle.observed_lines.specs.Lines.{observed_lines}
+use Rattle.observed_lines.specs.ObservedLines.{observed_lines}
 use Rattle.observed_lines.specs.declared.leeway.Leeway.{Leeway}
 use Rattle.two_input_commands.specs.Judge.{judged_status}
-use Rattle.answering.specs.Lines.{infeasible_line}
+use Rattle.answering.specs.OutcomeLines.{infeasible_line}
 use Rattle.chain_tables.specs.Chains.{ChainData}
-use Rattle.chain_traces.specs.Lines.{AreSeen}
+use Rattle.chain_traces.specs.TraceChainLines.{AreSeen}
 use Rattle.chain_traces.specs.declared.text.ChainsSeen.{ChainsSeen}
 use Rattle.two_input_commands.specs.OnBoth.{OfTwoSays, SaysOnBothChained}
 use Rattle.two_input_commands.specs.Simulate.{IsListedOrder, order_fault}

@@ -13,9 +13,9 @@ use Rattle.ceiling_kernel.specs.declared.trace.RunFault.{RunFault}
 use Rattle.ceiling_kernel.specs.declared.trace.Trace.{Trace}
 use Rattle.cut_runs.specs.Cut.{IsShownOf, IsTight, RunsCut}
 use Rattle.cut_runs.specs.declared.cut.CutRun.{CutRun}
-use Rattle.lines.specs.Lines.{kept_lines, lines_of}
+use Rattle.lines.specs.TextLines.{kept_lines, lines_of}
 use Rattle.release_list.specs.Reading.{IsTextFault, list_from}
-use Rattle.judge.specs.Faults.{IsRowsFault, IsSettingsFault, rows_fault}
+use Rattle.judge.specs.SettingFaults.{IsRowsFault, IsSettingsFault, rows_fault}
 use Rattle.judge.specs.Front.{behind_front, settings_in}
 use Rattle.judge.specs.Node.{IsOrderOfRows}
 use Rattle.judge.specs.Judgements.{AllJudged, order_judged}
@@ -24,15 +24,15 @@ use Rattle.judge.specs.declared.judging.Judgement.{Judgement}
 use Rattle.judge.specs.declared.judging.Judgement.TheVariants.{Meets, Misses, Below}
 use Rattle.judge.specs.declared.fault.SettingsFault.{SettingsFault}
 use Rattle.judge.specs.declared.rows.SettingRow.{SettingRow}
-use Rattle.run_lines.specs.Lines.{task_lines}
+use Rattle.run_lines.specs.RunLines.{task_lines}
 use Rattle.run_lines.specs.Responses.{AllDoneWithin, AllKeptWithin, AllReachWithin}
 use Rattle.run_lines.specs.TaskBounds.{bounds_of}
 use Rattle.run_lines.specs.declared.bounds.TaskBound.{TaskBound}
 use Rattle.printed_runs.specs.TraceLines.{trace_lines}
-use Rattle.answering.specs.Lines.{infeasible_line}
+use Rattle.answering.specs.OutcomeLines.{infeasible_line}
 use Rattle.chains.specs.declared.bounds.Level.{Level}
 use Rattle.chain_tables.specs.Chains.{ChainData}
-use Rattle.chain_runs.specs.Lines.{run_chains_said}
+use Rattle.chain_runs.specs.RunChainLines.{run_chains_said}
 use Rattle.two_input_commands.specs.OnBoth.{OfTwoSays, SaysOnBoth, SaysOnBothChained}
 use Rattle.answering.specs.declared.refusal.CommandRefusal.{CommandRefusal}
 use Rattle.answering.specs.declared.refusal.CommandRefusal.TheVariants as refusal

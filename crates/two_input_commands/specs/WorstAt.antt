@@ -1,7 +1,7 @@
 -- What `desk worst SET --at SETTINGS` answers and prints.
 use Rattle.std.specs.Prelude.{ℕ, List, Option, Result, Ok, Err, string_bytes}
 use Rattle.task_sheet.specs.Sheet.{Task}
-use Rattle.worst_lines.specs.Lines.{AreWorstLinesIn}
+use Rattle.worst_lines.specs.WorstLines.{AreWorstLinesIn}
 use Rattle.two_input_commands.specs.InOrder.{AsksIn}
 use Rattle.two_input_commands.specs.Judge.{judged_status}
 use Rattle.two_input_commands.specs.OnBoth.{OfTwoSays, SaysOnBoth}

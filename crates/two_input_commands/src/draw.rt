@@ -5,7 +5,7 @@ ghost use Rattle.task_sheet.specs.Orders.{IsOrder};
 ghost use Rattle.task_sheet.specs.declared.set.TheConstants.{TASK_LIMIT};
 ghost use Rattle.answering.specs.Printed.{IsPrinted};
 ghost use Rattle.run_lines.specs.TaskBounds.{tasks_of_bounds};
-ghost use Rattle.drawn_runs.specs.Rows.{drawn_row, rows_of, toned_in, unrun_of};
+ghost use Rattle.drawn_runs.specs.DrawnRows.{drawn_row, rows_of, toned_in, unrun_of};
 ghost use Rattle.frames.specs.Tones.{fitted_tone};
 ghost use Rattle.two_input_commands.specs.Draw.{DrawsText, IsUnread, answer_said, drawing_said, looks_of, number_named, picture_of, task_tones};
 ghost use Rattle.two_input_commands.specs.declared.simulate.Simulated.TheVariants.{Ordered, Ran};

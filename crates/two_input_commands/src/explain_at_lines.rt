@@ -2,7 +2,7 @@
 ghost use Rattle.std.specs.Prelude.{◌≡◌, ◌<◌, ◌++◌, All, IfOk, option_map, string_bytes};
 ghost use Rattle.task_sheet.specs.declared.set.TheConstants.{TASK_LIMIT};
 ghost use Rattle.two_input_commands.specs.ExplainAt.{AreToldOf, ExplainsText, explained_at_lines};
-ghost use Rattle.judge.specs.Lines.{meets_line};
+ghost use Rattle.judge.specs.JudgementLines.{meets_line};
 ghost use Rattle.owners.specs.NamedLines.{named_lines};
 ghost use Rattle.owners.specs.Slack.{sorted_if};
 ghost use Rattle.owners.specs.declared.words.Naming.TheVariants.{Reasons};

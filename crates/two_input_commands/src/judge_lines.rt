@@ -1,6 +1,6 @@
 //! `desk judge`.
 ghost use Rattle.std.specs.Prelude.{◌≡◌, ◌<◌, All, IfOk};
-ghost use Rattle.judge.specs.Lines.{judged_lines};
+ghost use Rattle.judge.specs.JudgementLines.{judged_lines};
 ghost use Rattle.owners.specs.Slack.{sorted_if};
 ghost use Rattle.task_sheet.specs.declared.set.TheConstants.{TASK_LIMIT};
 ghost use Rattle.two_input_commands.specs.Judge.{JudgesNode, JudgesText, judged_said, judged_status};

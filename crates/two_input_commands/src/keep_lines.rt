@@ -1,8 +1,8 @@
 //! `desk settings SET --keep SETTINGS`.
 ghost use Rattle.std.specs.Prelude.{◌≡◌, IfOk, MatchResult, string_bytes};
 ghost use Rattle.assignment.specs.Placings.{tasks_of_places};
-ghost use Rattle.judge.specs.Faults.{IsSettingsFault};
-ghost use Rattle.judge.specs.Kept.{kept_fault};
+ghost use Rattle.judge.specs.SettingFaults.{IsSettingsFault};
+ghost use Rattle.judge.specs.KeptOrder.{kept_fault};
 ghost use Rattle.judge.specs.Node.{AreNumbersIn};
 ghost use Rattle.task_sheet.specs.Orders.{IsOrder};
 ghost use Rattle.two_input_commands.specs.Keep.{HasOld, IsKeptIn, IsOldOf, KeepsText, keeping_lines, keeping_status, parted_line};

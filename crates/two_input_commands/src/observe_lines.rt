@@ -1,7 +1,7 @@
 //! `desk observe`.
 ghost use Rattle.std.specs.Prelude.{◌≡◌, ◌<◌, ◌++◌, length, Ok, Err, [], IfOk, MatchResult, string_bytes};
-ghost use Rattle.observed_lines.specs.Lines.{observed_lines};
-ghost use Rattle.trace_text.specs.Rows.{rows_at};
+ghost use Rattle.observed_lines.specs.ObservedLines.{observed_lines};
+ghost use Rattle.trace_text.specs.TraceLines.{rows_at};
 ghost use Rattle.answering.specs.Outcomes.{IsSaidOn};
 ghost use Rattle.answering.specs.Printed.{IsPrinted};
 ghost use Rattle.two_input_commands.specs.Observe.{AreSilent, AreWatched, AreWatchedBy, AreWatchedIn, IsObservationOf, ObservesRead, ObservesText, ReadsBehind, ReadsTrace, WatchesText, leeway_of, observation_said, observation_status, observed_status};

@@ -1,6 +1,6 @@
 //! `desk simulate --tasks`.
 ghost use Rattle.std.specs.Prelude.{◌≡◌, IfOk, map, string_bytes};
-ghost use Rattle.chain_runs.specs.Lines.{run_chains_said};
+ghost use Rattle.chain_runs.specs.RunChainLines.{run_chains_said};
 ghost use Rattle.two_input_commands.specs.Simulate.{IsInOrder, ReachesText, chains_reached, level_of_bound};
 
 use crate::simulate::{Simulated, bounds_judged, simulate_text};

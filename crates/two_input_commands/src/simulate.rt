@@ -5,7 +5,7 @@ ghost use Rattle.assignment.specs.Placings.{tasks_of_places};
 ghost use Rattle.ceiling_kernel.specs.Tick.{node_in};
 ghost use Rattle.release_list.specs.Reading.{list_at};
 ghost use Rattle.judge.specs.Judgements.{order_judged};
-ghost use Rattle.run_lines.specs.Lines.{task_lines};
+ghost use Rattle.run_lines.specs.RunLines.{task_lines};
 ghost use Rattle.run_lines.specs.TaskBounds.{bounds_of, tasks_of_bounds};
 ghost use Rattle.answering.specs.Outcomes.{IsSaidOn};
 ghost use Rattle.answering.specs.Printed.{IsPrinted};

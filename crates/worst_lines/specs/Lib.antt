@@ -2,4 +2,4 @@ pub mod Deciding
 pub mod Below
 pub mod Asked
 pub mod Worst
-pub mod Lines
+pub mod WorstLines

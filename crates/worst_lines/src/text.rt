@@ -12,7 +12,7 @@ ghost use Rattle.settings.specs.Settings.{settings_from};
 ghost use Rattle.explain.specs.Conflict.{IsLeastConflict};
 ghost use Rattle.judge.specs.Judgements.{order_judged};
 ghost use Rattle.worst_lines.specs.Worst.{IsLookedAtIn, IsOrderFor};
-ghost use Rattle.worst_lines.specs.Lines.{AreLinesOf, AreWorstLines, AreWorstLinesIn, EndsAt, IsSaidOf, case_lines, comes_words, comment, front_of, reached_lines, reason_words, response_words, shown_lines, worst_lines};
+ghost use Rattle.worst_lines.specs.WorstLines.{AreLinesOf, AreWorstLines, AreWorstLinesIn, EndsAt, IsSaidOf, case_lines, comes_words, comment, front_of, reached_lines, reason_words, response_words, shown_lines, worst_lines};
 
 use crate::asked::{chosen, chosen_in};
 use crate::below::order_below;

@@ -1,5 +1,5 @@
 use Rattle.std.proofs.Common.{◌≡◌, ◌++◌, ◌+◌, drop, string_bytes}
-use Rattle.answering.specs.Lines.{level_lines, admitted_lines}
+use Rattle.answering.specs.OutcomeLines.{level_lines, admitted_lines}
 use Rattle.answering.proofs.answer.admitted_text.Given as goal
 
 abbrev pub invariant-loop-i : goal.invariant-loop-i

@@ -6,4 +6,4 @@ use Rattle.assignment.proofs.placing.response_below.Goals as goal
 pub returns-clause-stands : goal.returns-clause-stands
 returns-clause-stands c =
     stands_too c.args.set.now c.args.task (indexes_of c.args.above) c.response_in_time.result
-    (sym c.is_bound.ensures ∙ c.if-is_bound.false) c.response_in_time.ensures.passes
+    (sym c.must_outrank_any.ensures ∙ c.if-must_outrank_any.false) c.response_in_time.ensures.passes

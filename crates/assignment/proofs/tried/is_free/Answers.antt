@@ -1,5 +1,5 @@
 use Rattle.std.proofs.Common.{Bool, true, false, not, IsTrue, IsFalse, refl, sym, ◌∙◌, ap}
-use Rattle.task_sheet.proofs.Common.{Indexes, indexes_of, is_bound}
+use Rattle.task_sheet.proofs.Common.{Indexes, indexes_of, must_outrank_any}
 use Rattle.task_sheet.proofs.MembersIndexes.{indexes_of-remove}
 use Rattle.assignment.proofs.AskLaws.{remove-part}
 use Rattle.assignment.proofs.tried.is_free.Goals as goal
@@ -12,8 +12,8 @@ not-from_false : (b : Bool) → IsFalse b → IsTrue (not b)
 not-from_false true h = sym h
 not-from_false false h = refl
 
-pub is_bound-requires-clause-part : goal.is_bound-requires-clause-part
-is_bound-requires-clause-part c =
+pub must_outrank_any-requires-clause-part : goal.must_outrank_any-requires-clause-part
+must_outrank_any-requires-clause-part c =
     rw c.without.ensures (remove-part c.args.set.now c.args.left c.args.task c.requires.part)
 
 pub returns-then-has : goal.returns-then-has
@@ -21,7 +21,7 @@ returns-then-has c =
     let U = c.args.set.now in
     let i = c.args.task in
     let less = ap indexes_of c.without.ensures ∙ indexes_of-remove c.args.left i in
-    let same = c.is_bound.ensures ∙ ap (λ (X : Indexes). is_bound U i X) less in (
-      λ yes. (sym c.has.ensures ∙ c.if-has.true, sym same ∙ false-from_not c.is_bound.result yes),
-      λ free. not-from_false c.is_bound.result (same ∙ free.1),
+    let same = c.must_outrank_any.ensures ∙ ap (λ (X : Indexes). must_outrank_any U i X) less in (
+      λ yes. (sym c.has.ensures ∙ c.if-has.true, sym same ∙ false-from_not c.must_outrank_any.result yes),
+      λ free. not-from_false c.must_outrank_any.result (same ∙ free.1),
     )

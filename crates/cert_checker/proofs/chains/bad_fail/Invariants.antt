@@ -1,6 +1,6 @@
 use Rattle.std.proofs.Common.{◌≡◌, drop}
 use Rattle.task_sheet.specs.Indexes.{indexes_of}
-use Rattle.cert_checker.specs.Faults.{bad_fail}
+use Rattle.cert_checker.specs.CertificateFaults.{bad_fail}
 use Rattle.cert_checker.proofs.chains.bad_fail.Given as goal
 
 abbrev pub invariant-loop-fail : goal.invariant-loop-fail

@@ -1,7 +1,7 @@
 use Rattle.std.proofs.Common.{◌≡◌, drop}
 use Rattle.task_sheet.proofs.Common.{indexes_of, tasks_of}
 use Rattle.cert_checker.specs.Ready.{failures_of}
-use Rattle.cert_checker.specs.Faults.{are_lesser}
+use Rattle.cert_checker.specs.CertificateFaults.{are_lesser}
 use Rattle.cert_checker.proofs.levels.are_lesser.Given as goal
 
 abbrev pub invariant-loop-fail : goal.invariant-loop-fail

@@ -1,7 +1,7 @@
 use Rattle.std.proofs.Common.{◌∙◌, ap}
 use Rattle.task_sheet.proofs.Common.{indexes_of, tasks_of}
 use Rattle.cert_checker.specs.Ready.{failures_of}
-use Rattle.cert_checker.specs.Faults.{fault_unless, are_lesser, time_stands}
+use Rattle.cert_checker.specs.CertificateFaults.{fault_unless, are_lesser, time_stands}
 use Rattle.cert_checker.specs.declared.fault.CheckFault.TheVariants.{WrongTasks, BadPass}
 use Rattle.cert_checker.proofs.levels.level_fault.Goals as goal
 

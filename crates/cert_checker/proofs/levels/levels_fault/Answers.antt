@@ -1,7 +1,7 @@
 use Rattle.std.proofs.Common.{◌≡◌, ◌+◌, length, sym, ◌∙◌, ap}
 use Rattle.task_sheet.specs.Indexes.{Indexes, indexes_of, below, without_index}
 use Rattle.task_sheet.proofs.MembersIndexes.{indexes_of-all_below, indexes_of-remove}
-use Rattle.cert_checker.specs.Faults.{level_fault, levels_fault}
+use Rattle.cert_checker.specs.CertificateFaults.{level_fault, levels_fault}
 use Rattle.certificate.specs.Body.{CertLevelData}
 use Rattle.cert_checker.specs.Ready.{task_by_name}
 use Rattle.cert_checker.proofs.LevelSteps.{levels-step}

@@ -1,6 +1,6 @@
 use Rattle.std.proofs.Common.{◌≡◌, ◌+◌, drop}
 use Rattle.task_sheet.proofs.Common.{indexes_of, all_of}
-use Rattle.cert_checker.specs.Faults.{levels_fault}
+use Rattle.cert_checker.specs.CertificateFaults.{levels_fault}
 use Rattle.cert_checker.proofs.levels.levels_fault.Given as goal
 
 abbrev pub invariant-loop-i : goal.invariant-loop-i

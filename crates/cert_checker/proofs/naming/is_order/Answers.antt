@@ -1,5 +1,5 @@
 use Rattle.std.proofs.Common.{◌∙◌, ap, length}
-use Rattle.cert_checker.specs.Faults.{has_all}
+use Rattle.cert_checker.specs.CertificateFaults.{has_all}
 use Rattle.cert_checker.proofs.naming.is_order.Goals as goal
 
 pub returns-in-Some : goal.returns-in-Some

@@ -1,6 +1,6 @@
 use Rattle.std.proofs.Common.{◌≡◌, false, ◌&&◌}
 use Rattle.task_sheet.proofs.Common.{indexes_of, some_below, must_outrank}
-use Rattle.cert_checker.proofs.outranking.is_bound.Given as goal
+use Rattle.cert_checker.proofs.outranking.must_outrank_any.Given as goal
 
 abbrev pub invariant-loop-other : goal.invariant-loop-other
 invariant-loop-other l =

@@ -1,6 +1,6 @@
 use Rattle.std.proofs.Common.{refl}
 use Rattle.lines.proofs.Parts.{parts_some}
-use Rattle.certificate.specs.Lines.{line_from}
+use Rattle.certificate.specs.CertificateLines.{line_from}
 use Rattle.certificate.proofs.Loops.{line_is}
 use Rattle.certificate.proofs.reading.next_line.Goals as goal
 

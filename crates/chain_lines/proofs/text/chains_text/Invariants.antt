@@ -1,5 +1,5 @@
 use Rattle.std.proofs.Common.{◌≡◌, ◌++◌, drop, string_bytes}
-use Rattle.chain_lines.specs.Lines.{chains_said}
+use Rattle.chain_lines.specs.ChainLines.{chains_said}
 use Rattle.chain_lines.proofs.text.chains_text.Given as goal
 
 abbrev pub invariant-loop-chain : goal.invariant-loop-chain

@@ -1,7 +1,7 @@
 use Rattle.std.proofs.Common.{◌≡◌, ◌++◌, length, string_bytes}
 use Rattle.ceiling_kernel.specs.Tick.{node_in}
 use Rattle.chains.specs.Parts.{order_of, parts_of, time_in}
-use Rattle.chain_lines.specs.Lines.{part_lines}
+use Rattle.chain_lines.specs.ChainLines.{part_lines}
 use Rattle.chain_lines.proofs.text.push_parts.Given as goal
 
 abbrev pub invariant-loop-task : goal.invariant-loop-task

@@ -1,5 +1,5 @@
 use Rattle.std.proofs.Common.{◌≡◌, ◌++◌, drop, string_bytes}
-use Rattle.chain_runs.specs.Lines.{chain_lines}
+use Rattle.chain_runs.specs.RunChainLines.{chain_lines}
 use Rattle.chain_runs.proofs.text.run_chains_text.Given as goal
 
 abbrev pub invariant-loop-chain : goal.invariant-loop-chain

@@ -1,5 +1,5 @@
 use Rattle.std.proofs.Common.{◌≡◌, ◌++◌, drop, map}
-use Rattle.chain_traces.specs.Lines.{level_of}
+use Rattle.chain_traces.specs.TraceChainLines.{level_of}
 use Rattle.chain_traces.proofs.text.levels_of.Given as goal
 
 abbrev pub invariant-loop-promise : goal.invariant-loop-promise

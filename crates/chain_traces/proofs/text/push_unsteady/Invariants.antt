@@ -1,5 +1,5 @@
 use Rattle.std.proofs.Common.{◌≡◌, ◌++◌, drop, string_bytes}
-use Rattle.chain_traces.specs.Lines.{steady_lines}
+use Rattle.chain_traces.specs.TraceChainLines.{steady_lines}
 use Rattle.chain_traces.proofs.text.push_unsteady.Given as goal
 
 abbrev pub invariant-loop-job : goal.invariant-loop-job

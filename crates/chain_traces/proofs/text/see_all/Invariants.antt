@@ -1,6 +1,6 @@
 use Rattle.std.proofs.Common.{◌≡◌, ◌++◌, ◌&&◌, drop, string_bytes}
 use Rattle.std.specs.List.{list_all}
-use Rattle.chain_traces.specs.Lines.{chain_lines, is_fresh}
+use Rattle.chain_traces.specs.TraceChainLines.{chain_lines, is_fresh}
 use Rattle.chain_traces.proofs.text.see_all.Given as goal
 
 abbrev pub invariant-loop-chain : goal.invariant-loop-chain

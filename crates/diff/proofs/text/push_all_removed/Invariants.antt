@@ -1,6 +1,6 @@
 use Rattle.std.proofs.Common.{◌≡◌, ◌++◌, string_bytes}
 use Rattle.diff.specs.Keys.{words_below}
-use Rattle.diff.specs.Lines.{removed_line}
+use Rattle.diff.specs.ChangeLines.{removed_line}
 use Rattle.diff.proofs.text.push_all_removed.Given as goal
 
 abbrev pub invariant-loop-task : goal.invariant-loop-task

@@ -1,5 +1,5 @@
 use Rattle.std.proofs.Common.{string_bytes}
-use Rattle.diff.specs.Lines.{edit_line}
+use Rattle.diff.specs.ChangeLines.{edit_line}
 use Rattle.diff.proofs.PushLaws.{pushed}
 use Rattle.diff.proofs.text.push_edits.Goals as goal
 

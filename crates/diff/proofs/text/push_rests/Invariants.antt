@@ -1,6 +1,6 @@
 use Rattle.std.proofs.Common.{◌≡◌, ◌++◌, string_bytes}
 use Rattle.diff.specs.Keys.{words_below}
-use Rattle.diff.specs.Lines.{rest_line}
+use Rattle.diff.specs.ChangeLines.{rest_line}
 use Rattle.diff.proofs.text.push_rests.Given as goal
 
 abbrev pub invariant-loop-task : goal.invariant-loop-task

@@ -3,7 +3,7 @@ use Rattle.task_sheet.specs.Sheet.{CriticalSection}
 use Rattle.drawn_jobs.specs.Bars.{bar_text, dark_text}
 use Rattle.drawn_jobs.specs.Sections.{no_section, nth_section}
 use Rattle.frames.specs.Page.{Adds}
-use Rattle.frames.specs.Rows.{each}
+use Rattle.frames.specs.PictureRows.{each}
 use Rattle.frames.proofs.Adds.{adds_head, adds_item_behind}
 use Rattle.drawn_jobs.proofs.bars.put_slice_in.Goals as goal
 

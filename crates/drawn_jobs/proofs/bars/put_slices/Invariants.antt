@@ -1,4 +1,4 @@
-use Rattle.frames.specs.Rows.{each}
+use Rattle.frames.specs.PictureRows.{each}
 use Rattle.frames.specs.Page.{Adds}
 use Rattle.drawn_jobs.specs.Bars.{slice_in}
 use Rattle.drawn_jobs.proofs.Counts.{AreCounts}

@@ -1,5 +1,5 @@
 use Rattle.drawn_jobs.specs.Bands.{place_text}
-use Rattle.frames.specs.Rows.{record_at, on_spot}
+use Rattle.frames.specs.PictureRows.{record_at, on_spot}
 use Rattle.frames.proofs.Adds.{adds_none, adds_one_more}
 use Rattle.drawn_jobs.proofs.jobs.put_jobs.Goals as goal
 

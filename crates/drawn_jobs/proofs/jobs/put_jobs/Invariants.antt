@@ -1,4 +1,4 @@
-use Rattle.frames.specs.Rows.{each, record_at, on_spot}
+use Rattle.frames.specs.PictureRows.{each, record_at, on_spot}
 use Rattle.frames.specs.Page.{Adds}
 use Rattle.drawn_jobs.specs.Bands.{place_text}
 use Rattle.drawn_jobs.proofs.jobs.put_jobs.Given as goal

@@ -1,4 +1,4 @@
-use Rattle.frames.specs.Rows.{each}
+use Rattle.frames.specs.PictureRows.{each}
 use Rattle.frames.specs.Page.{Adds}
 use Rattle.frames.specs.Slices.{slice_at}
 use Rattle.drawn_jobs.specs.Lane.{lane_by}

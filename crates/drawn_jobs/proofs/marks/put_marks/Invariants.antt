@@ -1,5 +1,5 @@
 use Rattle.std.specs.Prelude.{◌++◌}
-use Rattle.frames.specs.Rows.{each}
+use Rattle.frames.specs.PictureRows.{each}
 use Rattle.frames.specs.Page.{Adds}
 use Rattle.drawn_jobs.specs.Marks.{mark_alone}
 use Rattle.ceiling_kernel.specs.Releases.{release_at}

@@ -1,5 +1,5 @@
 use Rattle.drawn_jobs.specs.Misses.{row_misses}
-use Rattle.frames.specs.Rows.{row_at, spot_in}
+use Rattle.frames.specs.PictureRows.{row_at, spot_in}
 use Rattle.frames.proofs.Adds.{adds_none, adds_one_more}
 use Rattle.drawn_jobs.proofs.misses.put_misses.Goals as goal
 

@@ -1,4 +1,4 @@
-use Rattle.frames.specs.Rows.{each, row_at, spot_in}
+use Rattle.frames.specs.PictureRows.{each, row_at, spot_in}
 use Rattle.frames.specs.Page.{Adds}
 use Rattle.drawn_jobs.specs.Misses.{row_misses}
 use Rattle.drawn_jobs.proofs.misses.put_misses.Given as goal

@@ -1,6 +1,6 @@
 use Rattle.std.proofs.Common.{sym}
 use Rattle.drawn_jobs.specs.Misses.{badge_before, miss_text}
-use Rattle.frames.specs.Rows.{record_at}
+use Rattle.frames.specs.PictureRows.{record_at}
 use Rattle.drawn_jobs.proofs.Badges.{no_badge, badge_more}
 use Rattle.frames.proofs.Adds.{adds_none, adds_one_more}
 use Rattle.drawn_jobs.proofs.misses.put_row_misses.Goals as goal

@@ -1,5 +1,5 @@
 use Rattle.std.proofs.Common.{◌≡◌}
-use Rattle.frames.specs.Rows.{each, record_at}
+use Rattle.frames.specs.PictureRows.{each, record_at}
 use Rattle.frames.specs.Page.{Adds}
 use Rattle.drawn_jobs.specs.Misses.{badge_before, miss_text}
 use Rattle.drawn_jobs.proofs.misses.put_row_misses.Given as goal

@@ -1,5 +1,5 @@
 use Rattle.std.specs.Prelude.{length, slice_index_or, []}
-use Rattle.frames.specs.Rows.{each}
+use Rattle.frames.specs.PictureRows.{each}
 use Rattle.frames.specs.Page.{Adds}
 use Rattle.drawn_jobs.specs.Stripes.{stripe_text}
 use Rattle.drawn_jobs.proofs.stripes.put_stripes.Given as goal

@@ -1,5 +1,5 @@
 use Rattle.std.proofs.Common.{◌≡◌, drop}
-use Rattle.explain.specs.Lines.{first_user}
+use Rattle.explain.specs.ExplanationLines.{first_user}
 use Rattle.explain.proofs.text.first_user.Given as goal
 
 abbrev pub invariant-loop-user : goal.invariant-loop-user

@@ -1,5 +1,5 @@
 use Rattle.std.proofs.Common.{◌≡◌, ◌++◌, drop, string_bytes}
-use Rattle.explain.specs.Lines.{above_lines}
+use Rattle.explain.specs.ExplanationLines.{above_lines}
 use Rattle.explain.proofs.text.push_all_above.Given as goal
 
 abbrev pub invariant-loop-task : goal.invariant-loop-task

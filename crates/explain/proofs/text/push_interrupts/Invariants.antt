@@ -1,5 +1,5 @@
 use Rattle.std.proofs.Common.{◌≡◌, ◌++◌, ◌+◌, drop, string_bytes}
-use Rattle.explain.specs.Lines.{interrupt_lines}
+use Rattle.explain.specs.ExplanationLines.{interrupt_lines}
 use Rattle.explain.proofs.text.push_interrupts.Given as goal
 
 abbrev pub invariant-loop-before : goal.invariant-loop-before

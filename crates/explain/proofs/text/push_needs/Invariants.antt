@@ -1,5 +1,5 @@
 use Rattle.std.proofs.Common.{◌≡◌, ◌++◌, drop, string_bytes}
-use Rattle.explain.specs.Lines.{needs_lines}
+use Rattle.explain.specs.ExplanationLines.{needs_lines}
 use Rattle.explain.proofs.text.push_needs.Given as goal
 
 abbrev pub invariant-loop-need : goal.invariant-loop-need

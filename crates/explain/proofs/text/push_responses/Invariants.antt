@@ -1,5 +1,5 @@
 use Rattle.std.proofs.Common.{◌≡◌, ◌++◌, ◌+◌, drop, string_bytes}
-use Rattle.explain.specs.Lines.{response_lines}
+use Rattle.explain.specs.ExplanationLines.{response_lines}
 use Rattle.explain.proofs.text.push_responses.Given as goal
 
 abbrev pub invariant-loop-below : goal.invariant-loop-below

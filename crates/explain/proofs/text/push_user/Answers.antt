@@ -2,7 +2,7 @@ use Rattle.std.proofs.Common.{◌≡◌, ◌∙◌, ◌++◌, List, ℕ, ap, sym
 use Rattle.std.proofs.lemmas.Result.{on_ok_weaker}
 use Rattle.lines.specs.Naming.{name_at}
 use Rattle.explain.specs.Parts.{AboveData}
-use Rattle.explain.specs.Lines.{user_words}
+use Rattle.explain.specs.ExplanationLines.{user_words}
 use Rattle.explain.proofs.text.push_user.Goals as goal
 
 pub returns-in_ok-push_str-in-Some : goal.returns-in_ok-push_str-in-Some

@@ -3,7 +3,7 @@ use Rattle.std.proofs.Math.Path.{fun_ext}
 use Rattle.std.specs.Cmp.{nat_eq_equiv}
 use Rattle.std.proofs.lemmas.Bool.{both_ways, cases_lt, ltb-true, lt-ltb}
 use Rattle.std.proofs.lemmas.List.{drop_all, drop_more}
-use Rattle.task_sheet.proofs.Common.{Task, Indexes, IsOrder, all_of, among, indexes_of, is_bound, with_index}
+use Rattle.task_sheet.proofs.Common.{Task, Indexes, IsOrder, all_of, among, indexes_of, must_outrank_any, with_index}
 use Rattle.task_sheet.proofs.IndexLaws.{IsOrderOf-among, among-place, place-among}
 use Rattle.task_sheet.proofs.MembersIndexes.{indexes_of-empty, indexes_of-insert}
 use Rattle.factor.specs.Factors.{AllStandAt, PassesAt, StandsAt}
@@ -50,7 +50,7 @@ returns-then-must_outrank c = λ factor some passing.
     let inv = c.loop-place.invariant in
     let here = rw (ahead order c.loop-place.place c.loop-place-test.true inv.within) at
     (AllStandAt-drop factor U (c.loop-place.place - 1) order passing.each_stands) in
-    both_ways _ (ap (λ (X : Indexes). is_bound U (get_or order (c.loop-place.place - 1) 0) X) inv.above
+    both_ways _ (ap (λ (X : Indexes). must_outrank_any U (get_or order (c.loop-place.place - 1) 0) X) inv.above
     ∙ here.0.1) (sym c.must_outrank.ensures ∙ c.if-must_outrank.true)
 
 pub most_below-most-requires : goal.most_below-most-requires

@@ -4,7 +4,7 @@ use Rattle.std.specs.List.{filter, range_with_len}
 use Rattle.std.proofs.lemmas.List.Elements.{All-filter}
 use Rattle.std.proofs.lemmas.List.FromFn.{length-range_with_len, get_or-range_with_len}
 use Rattle.std.proofs.lemmas.List.Sums.{length-filter, count_by-le-length}
-use Rattle.frames.specs.Rows.{name_in}
+use Rattle.frames.specs.PictureRows.{name_in}
 use Rattle.frames.specs.View.{is_chosen, noted_rank, shown_of}
 use Rattle.frames.proofs.Shown.{shown_more}
 use Rattle.frames.proofs.view.shown_of.Goals as goal

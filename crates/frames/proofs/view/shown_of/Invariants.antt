@@ -1,6 +1,6 @@
 use Rattle.std.proofs.Common.{◌≡◌}
 use Rattle.std.specs.List.{filter, range_with_len}
-use Rattle.frames.specs.Rows.{name_in}
+use Rattle.frames.specs.PictureRows.{name_in}
 use Rattle.frames.specs.View.{is_chosen}
 use Rattle.frames.proofs.view.shown_of.Given as goal
 

@@ -1,7 +1,7 @@
 use Rattle.std.proofs.Common.{◌≡◌, ◌∙◌, ◌+◌, ◌-◌, length, drop, get_or, ap, arith}
 use Rattle.std.proofs.lemmas.List.{length-drop, take_all}
 use Rattle.task_sheet.proofs.Common.{among, indexes_of}
-use Rattle.judge.specs.Faults.{thread_number}
+use Rattle.judge.specs.SettingFaults.{thread_number}
 use Rattle.judge.proofs.RaisedLaws.{blocking-least, order-above}
 use Rattle.judge.proofs.by_ceilings.judge_at.Goals as goal
 

@@ -1,7 +1,7 @@
 use Rattle.std.proofs.Common.{◌≡◌, ◌+◌, ◌-◌, ℕ, subst, arith}
 use Rattle.task_sheet.proofs.Common.{indexes_of, blocking_of}
 use Rattle.judge.specs.Ceilings.{IsJudgementWith, blocking_at}
-use Rattle.judge.specs.Faults.{thread_number}
+use Rattle.judge.specs.SettingFaults.{thread_number}
 use Rattle.judge.proofs.RaisedLaws.{blocking-fits, ceiling}
 use Rattle.judge.proofs.by_ceilings.judge_raised.Goals as goal
 

@@ -1,8 +1,8 @@
 use Rattle.std.proofs.Common.{◌≡◌, ◌+◌, length}
-use Rattle.lines.specs.Lines.{kept_from, lines_of}
+use Rattle.lines.specs.TextLines.{kept_from, lines_of}
 use Rattle.lines.specs.Steps.{ahead}
 use Rattle.judge.specs.Front.{behind_front, front_of}
-use Rattle.judge.specs.Rows.{rows_from}
+use Rattle.judge.specs.SettingLines.{rows_from}
 use Rattle.judge.proofs.front.read_front.Given as goal
 
 abbrev pub invariant-loop-line : goal.invariant-loop-line

@@ -1,8 +1,8 @@
 use Rattle.std.proofs.Common.{◌∙◌, ℕ, List, map, sym, ap, subst, arith}
 use Rattle.task_sheet.specs.Orders.{IsOrder}
-use Rattle.judge.specs.Faults.{thread_number}
+use Rattle.judge.specs.SettingFaults.{thread_number}
 use Rattle.judge.specs.Node.{IsOrderOfRows}
-use Rattle.judge.specs.Rows.{threads_of}
+use Rattle.judge.specs.SettingLines.{threads_of}
 use Rattle.judge.proofs.TaskLaws.{in_set, judged_in_set}
 use Rattle.judge.proofs.node.judge_rows.Goals as goal
 

@@ -1,10 +1,10 @@
 use Rattle.std.proofs.Common.{◌≡◌, ◌∙◌, Bool, ℕ, List, Result, Ok, Err, ap}
 use Rattle.std.specs.Prelude.{MatchResult, IfOk}
 use Rattle.task_sheet.specs.Sheet.{Task}
-use Rattle.judge.specs.Faults.{IsSettingsFault, rows_fault, settings_fault_by}
+use Rattle.judge.specs.SettingFaults.{IsSettingsFault, rows_fault, settings_fault_by}
 use Rattle.judge.specs.Judgements.{AllJudged, order_judged}
 use Rattle.judge.specs.Node.{AreNumbersIn, AreNumbersOf, IsNodeOrderBy, IsOrderOfRows}
-use Rattle.judge.specs.Rows.{rows_in}
+use Rattle.judge.specs.SettingLines.{rows_in}
 use Rattle.judge.specs.declared.fault.SettingsFault.{SettingsFault}
 use Rattle.judge.specs.declared.node.JudgedNode.{JudgedNode}
 use Rattle.judge.specs.declared.rows.SettingRow.{SettingRow}

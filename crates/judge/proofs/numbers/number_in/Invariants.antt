@@ -1,6 +1,6 @@
 use Rattle.std.proofs.Common.{◌≡◌, drop}
-use Rattle.judge.specs.Faults.{setting_number}
-use Rattle.judge.specs.Rows.{threads_of}
+use Rattle.judge.specs.SettingFaults.{setting_number}
+use Rattle.judge.specs.SettingLines.{threads_of}
 use Rattle.judge.proofs.numbers.number_in.Given as goal
 
 abbrev pub invariant-loop-row : goal.invariant-loop-row

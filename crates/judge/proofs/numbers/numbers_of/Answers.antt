@@ -1,6 +1,6 @@
 use Rattle.std.proofs.Common.{◌∙◌, ◌++◌, ◌∷◌, [], ℕ, ap}
-use Rattle.judge.specs.Faults.{thread_number}
-use Rattle.judge.specs.Rows.{threads_of}
+use Rattle.judge.specs.SettingFaults.{thread_number}
+use Rattle.judge.specs.SettingLines.{threads_of}
 use Rattle.judge.proofs.CopyLaws.{made_next}
 use Rattle.judge.proofs.numbers.numbers_of.Goals as goal
 

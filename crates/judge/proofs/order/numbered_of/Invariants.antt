@@ -1,8 +1,8 @@
 use Rattle.std.proofs.Common.{◌≡◌, map}
 use Rattle.std.specs.List.{All}
 use Rattle.task_sheet.specs.Indexes.{listed_below}
-use Rattle.judge.specs.Kept.{with_thread_in}
-use Rattle.judge.specs.Faults.{thread_number}
+use Rattle.judge.specs.KeptOrder.{with_thread_in}
+use Rattle.judge.specs.SettingFaults.{thread_number}
 use Rattle.judge.proofs.order.numbered_of.Given as goal
 
 abbrev pub invariant-loop-task : goal.invariant-loop-task

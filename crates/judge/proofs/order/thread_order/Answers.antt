@@ -1,7 +1,7 @@
 use Rattle.std.proofs.Common.{rules, ◌∙◌, List, ℕ, map, ap, arith, sym, subst}
 use Rattle.std.proofs.lemmas.List.{get_or_default}
 use Rattle.std.proofs.lemmas.List.Sorted.{IsNonDecreasingBy-from_sort_by_key}
-use Rattle.judge.specs.Kept.{IsOrderOfThreads}
+use Rattle.judge.specs.KeptOrder.{IsOrderOfThreads}
 use Rattle.judge.specs.declared.order.Numbered.{Numbered}
 use Rattle.judge.proofs.NumberLaws.{order_member, ordered}
 use Rattle.judge.proofs.order.thread_order.Goals as goal

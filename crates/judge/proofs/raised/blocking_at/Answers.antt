@@ -4,7 +4,7 @@ use Rattle.task_sheet.proofs.Below.{ord_max-is}
 use Rattle.task_sheet.proofs.MembersIndexes.{indexes_of-insert}
 use Rattle.task_sheet.proofs.TaskLaws.{task_read}
 use Rattle.judge.specs.Ceilings.{blocking_at}
-use Rattle.judge.specs.Faults.{setting_number, thread_number}
+use Rattle.judge.specs.SettingFaults.{setting_number, thread_number}
 use Rattle.judge.proofs.raised.blocking_at.Goals as goal
 
 pub loop-index-preserved : goal.loop-index-preserved

@@ -1,5 +1,5 @@
 use Rattle.std.proofs.Common.{◌∙◌, ◌++◌, ◌∷◌, [], ap}
-use Rattle.judge.specs.Rows.{turned}
+use Rattle.judge.specs.SettingLines.{turned}
 use Rattle.judge.proofs.CopyLaws.{made_next}
 use Rattle.judge.proofs.rows.all_turned.Goals as goal
 

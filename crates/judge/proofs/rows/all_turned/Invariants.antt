@@ -1,5 +1,5 @@
 use Rattle.std.proofs.Common.{◌≡◌, ◌++◌, map, drop}
-use Rattle.judge.specs.Rows.{turned}
+use Rattle.judge.specs.SettingLines.{turned}
 use Rattle.judge.proofs.rows.all_turned.Given as goal
 
 abbrev pub invariant-loop-setting : goal.invariant-loop-setting

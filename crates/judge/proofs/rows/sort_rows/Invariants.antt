@@ -1,5 +1,5 @@
 use Rattle.std.proofs.Common.{◌≡◌, ◌++◌, drop}
-use Rattle.judge.specs.Rows.{mutexes_of, threads_of}
+use Rattle.judge.specs.SettingLines.{mutexes_of, threads_of}
 use Rattle.judge.proofs.rows.sort_rows.Given as goal
 
 abbrev pub invariant-loop-row : goal.invariant-loop-row

@@ -1,5 +1,5 @@
 use Rattle.std.proofs.Common.{◌∙◌, sym}
-use Rattle.judge.specs.Faults.{share}
+use Rattle.judge.specs.SettingFaults.{share}
 use Rattle.judge.proofs.FaultLaws.{again_step}
 use Rattle.judge.proofs.settings_fault.first_again.Goals as goal
 

@@ -1,5 +1,5 @@
 use Rattle.std.proofs.Common.{◌≡◌, [], take, drop}
-use Rattle.judge.specs.Faults.{line_again, share}
+use Rattle.judge.specs.SettingFaults.{line_again, share}
 use Rattle.judge.proofs.settings_fault.first_again.Given as goal
 
 abbrev pub invariant-loop-place : goal.invariant-loop-place

@@ -1,7 +1,7 @@
 use Rattle.std.proofs.Common.{◌∙◌, ◌<◌, not, length, rules, arith}
 use Rattle.std.proofs.lemmas.Bool.Decides.{nat_tests}
 use Rattle.ceilings.specs.IsTableOf.{locks_of}
-use Rattle.judge.specs.Faults.{is_set}
+use Rattle.judge.specs.SettingFaults.{is_set}
 use Rattle.judge.proofs.FaultLaws.{mutexless_some}
 use Rattle.judge.proofs.settings_fault.mutexless.Goals as goal
 

@@ -1,5 +1,5 @@
 use Rattle.std.proofs.Common.{◌≡◌, drop}
-use Rattle.judge.specs.Faults.{setting_number}
+use Rattle.judge.specs.SettingFaults.{setting_number}
 use Rattle.judge.proofs.settings_fault.number_of.Given as goal
 
 abbrev pub invariant-loop-setting : goal.invariant-loop-setting

@@ -2,7 +2,7 @@ use Rattle.std.proofs.Common.{◌≡◌, ◌∙◌, ◌<◌, List, length, cond,
 use Rattle.task_sheet.proofs.Common.{Task, task_at, uses}
 use Rattle.task_sheet.proofs.Below.{ord_max-is}
 use Rattle.task_sheet.proofs.TaskLaws.{task_read}
-use Rattle.judge.specs.Faults.{thread_number, setting_number}
+use Rattle.judge.specs.SettingFaults.{thread_number, setting_number}
 use Rattle.judge.proofs.FaultLaws.{top_step}
 use Rattle.judge.proofs.settings_fault.top_of.Goals as goal
 use Rattle.judge.proofs.settings_fault.top_of.Goals.{then-has, else-has}

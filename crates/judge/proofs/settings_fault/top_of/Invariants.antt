@@ -1,6 +1,6 @@
 use Rattle.std.proofs.Common.{◌≡◌, cond}
 use Rattle.task_sheet.proofs.Common.{task_at, greatest_below, uses}
-use Rattle.judge.specs.Faults.{thread_number}
+use Rattle.judge.specs.SettingFaults.{thread_number}
 use Rattle.judge.proofs.settings_fault.top_of.Given as goal
 
 abbrev pub invariant-loop-task : goal.invariant-loop-task

@@ -1,7 +1,7 @@
 use Rattle.std.proofs.Common.{◌∙◌, ◌<◌, ◌==◌, not, length, rules, arith}
 use Rattle.std.proofs.lemmas.Bool.Decides.{nat_tests}
 use Rattle.ceilings.specs.IsTableOf.{locks_of}
-use Rattle.judge.specs.Faults.{setting_number, top_number}
+use Rattle.judge.specs.SettingFaults.{setting_number, top_number}
 use Rattle.judge.proofs.FaultLaws.{wrong_some}
 use Rattle.judge.proofs.settings_fault.wrong_lock.Goals as goal
 

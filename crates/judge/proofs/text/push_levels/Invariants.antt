@@ -1,5 +1,5 @@
 use Rattle.std.proofs.Common.{◌≡◌, ◌++◌, drop, string_bytes}
-use Rattle.judge.specs.Lines.{judged_level_lines}
+use Rattle.judge.specs.JudgementLines.{judged_level_lines}
 use Rattle.judge.proofs.text.push_levels.Given as goal
 
 abbrev pub invariant-loop-place : goal.invariant-loop-place

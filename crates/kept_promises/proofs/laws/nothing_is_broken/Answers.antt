@@ -1,6 +1,6 @@
 use Rattle.kept_promises.proofs.BreakLaws.{all_are_kept, none_written}
 use Rattle.kept_promises.proofs.SeenLaws.{all_seen, housed, keeps_to_demand}
-use Rattle.kept_promises.specs.Kept.{KeepsToDemand}
+use Rattle.kept_promises.specs.KeptPromises.{KeepsToDemand}
 use Rattle.observed.specs.Observed.{observed_in}
 use Rattle.observed.specs.Promises.{promises_of}
 use Rattle.kept_promises.proofs.laws.nothing_is_broken.Goals as goal

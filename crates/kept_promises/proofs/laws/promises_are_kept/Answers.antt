@@ -1,4 +1,4 @@
-use Rattle.kept_promises.specs.Kept.{Keeps}
+use Rattle.kept_promises.specs.KeptPromises.{Keeps}
 use Rattle.kept_promises.proofs.SeenLaws.{all_seen, keeps}
 use Rattle.kept_promises.proofs.laws.promises_are_kept.Goals as goal
 

@@ -1,6 +1,6 @@
 use Rattle.std.proofs.Common.{◌≡◌, ◌∙◌, false, true, rules, option_map, sym}
 use Rattle.task_sheet.specs.Sheet.{task_at}
-use Rattle.limit_lines.specs.Lines.{is_told}
+use Rattle.limit_lines.specs.LimitLines.{is_told}
 use Rattle.limit_lines.proofs.LineLaws.{known_in}
 use Rattle.limit_lines.proofs.text.number_text.Goals as goal
 

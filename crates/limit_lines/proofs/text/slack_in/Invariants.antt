@@ -1,5 +1,5 @@
 use Rattle.std.proofs.Common.{◌≡◌, drop}
-use Rattle.limit_lines.specs.Lines.{slack_in}
+use Rattle.limit_lines.specs.LimitLines.{slack_in}
 use Rattle.limit_lines.proofs.text.slack_in.Given as goal
 
 abbrev pub invariant-loop-place : goal.invariant-loop-place

@@ -1,7 +1,7 @@
 use Rattle.std.proofs.Common.{◌∙◌, ◌++◌, ℕ, List, add-one, ap, string_bytes}
 use Rattle.task_sheet.specs.Sheet.{Task}
 use Rattle.task_sheet.proofs.TaskLaws.{task_read}
-use Rattle.limit_lines.specs.Lines.{number_at}
+use Rattle.limit_lines.specs.LimitLines.{number_at}
 use Rattle.limit_lines.proofs.text.task_text.Goals as goal
 
 pub loop-place-preserved : goal.loop-place-preserved

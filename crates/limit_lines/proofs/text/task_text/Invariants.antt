@@ -1,5 +1,5 @@
 use Rattle.std.proofs.Common.{option_map, string_bytes}
-use Rattle.limit_lines.specs.Lines.{AreNumberLines}
+use Rattle.limit_lines.specs.LimitLines.{AreNumberLines}
 use Rattle.limit_lines.proofs.text.task_text.Given as goal
 
 abbrev pub invariant-loop-place : goal.invariant-loop-place

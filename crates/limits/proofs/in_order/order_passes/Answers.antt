@@ -1,10 +1,10 @@
 use Rattle.std.proofs.Common.{◌≡◌, false, refl, sym, ◌∙◌, ap, subst, arith, get_or}
 use Rattle.std.proofs.lemmas.Bool.{both_ways}
-use Rattle.task_sheet.proofs.Common.{indexes_of, below, IsPart, all_of, is_bound, Stands, IsOrderOf}
+use Rattle.task_sheet.proofs.Common.{indexes_of, below, IsPart, all_of, must_outrank_any, Stands, IsOrderOf}
 use Rattle.task_sheet.proofs.Common.{IsPassingOrder, IsLeastOver}
 use Rattle.task_sheet.proofs.MembersIndexes.{indexes_of-all_below}
-use Rattle.task_sheet.proofs.PassingLaws.{is_bound-at}
-use Rattle.headroom.proofs.OrderLaws.{low-inside, part-next, rest-next, stands-here, all-here}
+use Rattle.task_sheet.proofs.PassingLaws.{must_outrank_any-at}
+use Rattle.other_numbers.proofs.OrderLaws.{low-inside, part-next, rest-next, stands-here, all-here}
 use Rattle.limits.proofs.Answered.{if-none, if-some}
 use Rattle.limits.proofs.in_order.order_passes.Goals as goal
 use Rattle.limits.proofs.in_order.order_passes.Goals.{then-is_some-via-then-is_some}
@@ -61,7 +61,7 @@ returns-then-is_some c =
           (sym c.is_some.ensures ∙ w.if-is_some.true) c.least_over.ensures.some in (
             λ no. absurd (both_ways false refl no),
             λ passing. absurd (both_ways _ (stands passing).1
-                (is_bound-at U _ _ over.0 over.1.in_set over.1.above over.1.named)),
+                (must_outrank_any-at U _ _ over.0 over.1.in_set over.1.above over.1.named)),
           )
       | then-is_some-via-else-is_some+then-not-passes w ↦ (
         λ no. absurd (both_ways false refl no),
@@ -81,7 +81,7 @@ loop-low-preserved c =
     let removed = c.without-above.ensures in
     let stands : Stands U (get_or order n 0) (indexes_of left') = (
       c.passes.ensures.0 c.if-not-passes.false,
-      if-none (is_bound U (get_or order n 0) (indexes_of left') ≡ false) c.least_over.result
+      if-none (must_outrank_any U (get_or order n 0) (indexes_of left') ≡ false) c.least_over.result
           (sym c.is_some.ensures ∙ c.if-is_some.false) c.least_over.ensures.none,
     ) in
     record {

@@ -1,7 +1,7 @@
 use Rattle.std.proofs.Common.{◌∙◌, sym}
 use Rattle.std.proofs.lemmas.Option.{none-some}
 use Rattle.task_sheet.specs.Sheet.{Task, task_at}
-use Rattle.headroom.proofs.PlacedLaws.{placed-is, placed-fine}
+use Rattle.other_numbers.proofs.PlacedLaws.{placed-is, placed-fine}
 use Rattle.limits.specs.Numbers.{with_number}
 use Rattle.limits.proofs.NumberLaws.{namesake}
 use Rattle.limits.proofs.numbered.numbered.Goals as goal

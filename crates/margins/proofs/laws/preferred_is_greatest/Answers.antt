@@ -1,4 +1,4 @@
-use Rattle.margins.proofs.BearingLaws.{passes-slower, passes-factor, passes-costed, headroom-same}
+use Rattle.margins.proofs.BearingLaws.{passes-slower, passes-factor, passes-costed, other_numbers-same}
 use Rattle.margins.proofs.laws.preferred_is_greatest.Goals as goal
 
 pub returns : goal.returns
@@ -7,6 +7,6 @@ returns c = record {
   factor = λ U V order most preferred set best. passes-factor U V order preferred set best most;
   costed = λ U V order i cost preferred set best.
       passes-costed U V order preferred set best i cost;
-  headroom = λ U V order i within any preferred set best.
-      headroom-same U V order preferred set best i within any;
+  other_numbers = λ U V order i within any preferred set best.
+      other_numbers-same U V order preferred set best i within any;
 }

@@ -2,8 +2,8 @@ use Rattle.std.proofs.Common.{◌≡◌, ◌∙◌, ◌<◌, ℕ, List, Result, 
 use Rattle.std.proofs.lemmas.Result.{err_from_is_err_and}
 use Rattle.assignment.specs.Places.{PlaceData}
 use Rattle.assignment.specs.Placings.{IsBestPlacing, IsPlacingOf}
-use Rattle.trace_text.specs.Faults.{IsTraceFault}
-use Rattle.trace_text.specs.Rows.{rows_at}
+use Rattle.trace_text.specs.TraceFaults.{IsTraceFault}
+use Rattle.trace_text.specs.TraceLines.{rows_at}
 use Rattle.trace_text.specs.declared.rows.TraceRow.{TraceRow}
 use Rattle.observed.specs.Observed.{observed_fault}
 use Rattle.observed.specs.Promises.{levels_from, promises_by_level, promises_of}

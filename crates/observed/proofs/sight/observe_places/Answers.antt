@@ -1,6 +1,6 @@
 use Rattle.std.proofs.Common.{◌≡◌, ◌∙◌, ◌<◌, All, List, ap, length, subst, sym}
 use Rattle.std.proofs.lemmas.Result.{err_from_is_err_and}
-use Rattle.trace_text.specs.Faults.{IsTraceFault}
+use Rattle.trace_text.specs.TraceFaults.{IsTraceFault}
 use Rattle.observed.specs.Observed.{observed_fault, observed_in}
 use Rattle.observed.specs.Promises.{promises_of}
 use Rattle.observed.specs.declared.promises.Promise.{Promise}

@@ -1,5 +1,5 @@
 use Rattle.std.proofs.Common.{◌≡◌, ◌++◌, drop, string_bytes}
-use Rattle.observed_lines.specs.Lines.{task_lines}
+use Rattle.observed_lines.specs.ObservedLines.{task_lines}
 use Rattle.observed_lines.proofs.text.push_tasks.Given as goal
 
 abbrev pub invariant-loop-level : goal.invariant-loop-level

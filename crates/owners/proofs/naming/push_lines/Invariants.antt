@@ -1,5 +1,5 @@
 use Rattle.std.proofs.Common.{◌≡◌, ◌++◌, length}
-use Rattle.lines.specs.Lines.{lines_of}
+use Rattle.lines.specs.TextLines.{lines_of}
 use Rattle.owners.specs.NamedLines.{each_named}
 use Rattle.owners.proofs.naming.push_lines.Given as goal
 

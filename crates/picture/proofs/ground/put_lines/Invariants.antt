@@ -1,4 +1,4 @@
-use Rattle.frames.specs.Rows.{each}
+use Rattle.frames.specs.PictureRows.{each}
 use Rattle.frames.specs.Page.{Adds}
 use Rattle.picture.specs.Scale.{line_text}
 use Rattle.picture.proofs.ground.put_lines.Given as goal

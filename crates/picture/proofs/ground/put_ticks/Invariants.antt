@@ -1,4 +1,4 @@
-use Rattle.frames.specs.Rows.{each}
+use Rattle.frames.specs.PictureRows.{each}
 use Rattle.frames.specs.Page.{Adds}
 use Rattle.std.proofs.Common.{◌+◌, ◌*◌}
 use Rattle.picture.specs.Scale.{tick_text}

@@ -1,6 +1,6 @@
 use Rattle.std.proofs.Common.{ℕ, List}
 use Rattle.picture.specs.Margin.{margin_text}
-use Rattle.frames.specs.Rows.{row_at, spot_in}
+use Rattle.frames.specs.PictureRows.{row_at, spot_in}
 use Rattle.frames.specs.Frame.{Frame}
 use Rattle.frames.specs.declared.rows.Spot.{Spot}
 use Rattle.frames.specs.declared.rows.TaskRow.{TaskRow}

@@ -1,4 +1,4 @@
-use Rattle.frames.specs.Rows.{each, row_at, spot_in}
+use Rattle.frames.specs.PictureRows.{each, row_at, spot_in}
 use Rattle.frames.specs.Page.{Adds}
 use Rattle.picture.specs.Margin.{margin_text}
 use Rattle.picture.proofs.margin.put_margins.Given as goal

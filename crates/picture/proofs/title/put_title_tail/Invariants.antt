@@ -1,5 +1,5 @@
 use Rattle.std.specs.Prelude.{codes, ◌++◌}
-use Rattle.frames.specs.Rows.{each}
+use Rattle.frames.specs.PictureRows.{each}
 use Rattle.frames.specs.Page.{Adds}
 use Rattle.picture.specs.Titles.{shown_at}
 use Rattle.picture.proofs.title.put_title_tail.Given as goal

@@ -3,7 +3,7 @@ use Rattle.std.proofs.Common.{ℕ, List, ap, ◌∙◌}
 use Rattle.frames.specs.declared.rows.Spot.{Spot}
 use Rattle.frames.specs.declared.rows.TaskRow.{TaskRow}
 use Rattle.picture.specs.declared.waits.Stay.{Stay}
-use Rattle.frames.specs.Rows.{spot_named, record_at}
+use Rattle.frames.specs.PictureRows.{spot_named, record_at}
 use Rattle.picture.specs.Waits.{scene_of, stay_of}
 use Rattle.picture.specs.WaitTexts.{stay_text}
 use Rattle.frames.proofs.Lanes.{adds_on_spot}

@@ -1,4 +1,4 @@
-use Rattle.frames.specs.Rows.{each}
+use Rattle.frames.specs.PictureRows.{each}
 use Rattle.frames.specs.Page.{Adds}
 use Rattle.picture.specs.Waits.{scene_of}
 use Rattle.picture.specs.WaitTexts.{nth_wait_text}

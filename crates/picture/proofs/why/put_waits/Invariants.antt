@@ -1,5 +1,5 @@
 use Rattle.std.proofs.Common.{◌≤◌, length}
-use Rattle.frames.specs.Rows.{each}
+use Rattle.frames.specs.PictureRows.{each}
 use Rattle.frames.specs.Page.{Adds}
 use Rattle.picture.specs.Waits.{EndBy, scene_of}
 use Rattle.picture.specs.WaitTexts.{job_waits}

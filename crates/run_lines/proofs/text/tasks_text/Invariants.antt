@@ -1,5 +1,5 @@
 use Rattle.std.proofs.Common.{◌≡◌, ◌++◌, drop, string_bytes}
-use Rattle.run_lines.specs.Lines.{task_lines}
+use Rattle.run_lines.specs.RunLines.{task_lines}
 use Rattle.run_lines.proofs.text.tasks_text.Given as goal
 
 abbrev pub invariant-loop-bound : goal.invariant-loop-bound

@@ -1,7 +1,7 @@
 use Rattle.std.proofs.Common.{◌≡◌, vec_len}
 use Rattle.std.specs.Prelude.{IfOk, IfErr, vec_capacity}
 use Rattle.std.specs.Vec.Iter.{into_iter_items, into_iter_len}
-use Rattle.rushes.specs.Faults.{Each, IsEnd}
+use Rattle.rushes.specs.RushFaults.{Each, IsEnd}
 use Rattle.rushes.proofs.EachLaws.{WorkedOff}
 use Rattle.rushes.proofs.teams.join_all.Given as goal
 

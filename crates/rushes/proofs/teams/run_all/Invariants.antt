@@ -1,7 +1,7 @@
 use Rattle.std.proofs.Common.{◌≡◌, ◌≤◌, List, [], vec_len}
 use Rattle.std.specs.Prelude.{IfOk, IfErr, vec_capacity}
 use Rattle.std.specs.Vec.Iter.{into_iter_items, into_iter_len}
-use Rattle.rushes.specs.Faults.{Each, IsEnd}
+use Rattle.rushes.specs.RushFaults.{Each, IsEnd}
 use Rattle.rushes.specs.TeamLines.{TeamLine, lines_of}
 use Rattle.rushes.proofs.EachLaws.{WorkedOff}
 use Rattle.rushes.proofs.teams.run_all.Given as goal

@@ -1,7 +1,7 @@
 use Rattle.std.proofs.Common.{◌≡◌, ◌==◌, length}
 use Rattle.std.specs.List.{slice_split}
 use Rattle.lines.specs.Steps.{ahead, each_in}
-use Rattle.scripts.specs.Rows.{interrupt_in}
+use Rattle.scripts.specs.ScriptWords.{interrupt_in}
 use Rattle.scripts.proofs.node.interrupts_of.Given as goal
 
 abbrev pub invariant-loop-word : goal.invariant-loop-word

@@ -1,4 +1,4 @@
-use Rattle.lines.specs.Lines.{kept_from, lines_of}
+use Rattle.lines.specs.TextLines.{kept_from, lines_of}
 use Rattle.scripts.specs.Script.{script_in}
 use Rattle.scripts.proofs.ScriptLaws.{script_fails}
 use Rattle.scripts.proofs.reading.read_script.Goals as goal

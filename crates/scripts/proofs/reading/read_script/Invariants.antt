@@ -1,5 +1,5 @@
 use Rattle.std.proofs.Common.{length}
-use Rattle.lines.specs.Lines.{kept_from, lines_of}
+use Rattle.lines.specs.TextLines.{kept_from, lines_of}
 use Rattle.scripts.specs.Script.{script_in}
 use Rattle.scripts.proofs.ScriptLaws.{IsReadTo}
 use Rattle.scripts.proofs.reading.read_script.Given as goal

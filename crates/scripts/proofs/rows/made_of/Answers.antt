@@ -1,4 +1,4 @@
-use Rattle.scripts.specs.Rows.{made_in}
+use Rattle.scripts.specs.ScriptWords.{made_in}
 use Rattle.scripts.proofs.rows.made_of.Goals as goal
 
 pub returns-clause-gives : goal.returns-clause-gives

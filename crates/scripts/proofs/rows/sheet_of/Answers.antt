@@ -1,5 +1,5 @@
 use Rattle.std.proofs.lemmas.Result.{err_from_is_err_and}
-use Rattle.scripts.specs.Rows.{sheet_in}
+use Rattle.scripts.specs.ScriptWords.{sheet_in}
 use Rattle.scripts.proofs.Ahead.{fails_all}
 use Rattle.scripts.proofs.rows.sheet_of.Goals as goal
 

@@ -1,6 +1,6 @@
 use Rattle.std.proofs.Common.{List, ap, sym, ◌∙◌}
 use Rattle.task_sheet.proofs.Common.{CriticalSection, task_of, sheet_fault}
-use Rattle.scripts.proofs.Kept.{first_sections}
+use Rattle.scripts.proofs.KeptSections.{first_sections}
 use Rattle.scripts.proofs.rows.valid.Goals as goal
 
 pub returns-clause-gives : goal.returns-clause-gives

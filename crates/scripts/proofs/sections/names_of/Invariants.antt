@@ -1,7 +1,7 @@
 use Rattle.std.proofs.Common.{◌≡◌, ◌==◌, length}
 use Rattle.std.specs.List.{slice_split}
 use Rattle.lines.specs.Steps.{ahead}
-use Rattle.scripts.specs.Rows.{word_names}
+use Rattle.scripts.specs.ScriptWords.{word_names}
 use Rattle.scripts.proofs.sections.names_of.Given as goal
 
 abbrev pub invariant-loop-word : goal.invariant-loop-word

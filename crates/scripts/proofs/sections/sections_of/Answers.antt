@@ -1,7 +1,7 @@
 use Rattle.std.proofs.Common.{◌≡◌, [], ◌∷◌, ◌++◌, take, ◌∙◌}
-use Rattle.scripts.specs.Rows.{section_in, sections_in}
+use Rattle.scripts.specs.ScriptWords.{section_in, sections_in}
 use Rattle.scripts.proofs.Ahead.{each_next}
-use Rattle.scripts.proofs.Kept.{take_front}
+use Rattle.scripts.proofs.KeptSections.{take_front}
 use Rattle.scripts.proofs.sections.sections_of.Goals as goal
 
 pub loop-word-preserved : goal.loop-word-preserved

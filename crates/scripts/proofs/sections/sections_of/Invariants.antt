@@ -1,7 +1,7 @@
 use Rattle.std.proofs.Common.{◌≡◌, List, length, take}
 use Rattle.task_sheet.specs.Sheet.{CriticalSection}
 use Rattle.lines.specs.Steps.{ahead}
-use Rattle.scripts.specs.Rows.{sections_in}
+use Rattle.scripts.specs.ScriptWords.{sections_in}
 use Rattle.scripts.proofs.sections.sections_of.Given as goal
 
 -- these were read so far, and the first of them are kept

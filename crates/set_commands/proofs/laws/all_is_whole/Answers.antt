@@ -1,6 +1,6 @@
 use Rattle.std.proofs.Common.{◌≡◌, ◌++◌, ℕ, List, true, refl}
 use Rattle.task_sheet.specs.Sheet.{Task}
-use Rattle.explain.specs.Lines.{explanation_lines}
+use Rattle.explain.specs.ExplanationLines.{explanation_lines}
 use Rattle.explain.specs.declared.explanation.Explanation.{Explanation}
 use Rattle.explain.specs.declared.explanation.Explanation.TheVariants.{Responses, Conflict}
 use Rattle.judge.specs.declared.explained.Parted.TheVariants.{Missed}

@@ -2,7 +2,7 @@ use Rattle.std.proofs.Common.{◌≡◌, ◌∙◌, ◌++◌, ◌==◌, ◌&&◌
 use Rattle.std.proofs.Common.{refl, sym, subst, arith, append_assoc, append-nil, string_bytes}
 use Rattle.std.specs.Io.KnownBytes.{Appends, append_known}
 use Rattle.std.proofs.KnownBytes.{Appends-trans}
-use Rattle.limit_lines.specs.Lines.{order_given, places_in}
+use Rattle.limit_lines.specs.LimitLines.{order_given, places_in}
 use Rattle.answering.specs.LimitLines.{AreLines}
 use Rattle.set_commands.specs.Limits.{AreEndLines}
 use Rattle.set_commands.proofs.ListedLimits.{silent_more, where_sound}

@@ -1,6 +1,6 @@
 use Rattle.std.proofs.Common.{◌≡◌, ◌++◌, ◌==◌, ℕ, List, length, string_bytes}
 use Rattle.streams.specs.Sending.{Sends}
-use Rattle.limit_lines.specs.Lines.{order_given, places_in}
+use Rattle.limit_lines.specs.LimitLines.{order_given, places_in}
 use Rattle.answering.specs.LimitLines.{AreLines}
 use Rattle.set_commands.proofs.limits_lines.put_lines.Given as goal
 

@@ -1,5 +1,5 @@
 use Rattle.std.proofs.Common.{◌≡◌, drop}
-use Rattle.trace_text.specs.Faults.{overlap_from, overlap_in}
+use Rattle.trace_text.specs.TraceFaults.{overlap_from, overlap_in}
 use Rattle.trace_text.proofs.reading.first_overlap.Given as goal
 
 abbrev pub invariant-loop-slice : goal.invariant-loop-slice

@@ -1,5 +1,5 @@
 use Rattle.std.proofs.Common.{◌≡◌, ◌++◌, drop}
-use Rattle.trace_text.specs.Rows.{slices_of}
+use Rattle.trace_text.specs.TraceLines.{slices_of}
 use Rattle.trace_text.proofs.rows.slices_of.Given as goal
 
 abbrev pub invariant-loop-row : goal.invariant-loop-row

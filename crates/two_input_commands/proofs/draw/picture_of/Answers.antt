@@ -6,7 +6,7 @@ use Rattle.picture.specs.Document.{document}
 use Rattle.frames.specs.declared.rows.TaskRow.{TaskRow}
 use Rattle.frames.specs.declared.tones.Toned.{Toned}
 use Rattle.frames.specs.declared.view.View.{View}
-use Rattle.drawn_runs.specs.Rows.{Looks, rows_of}
+use Rattle.drawn_runs.specs.DrawnRows.{Looks, rows_of}
 use Rattle.two_input_commands.specs.Draw.{looks_in, number_named, task_tones}
 use Rattle.two_input_commands.proofs.draw.picture_of.Goals as goal
 

@@ -6,7 +6,7 @@ use Rattle.run_lines.specs.TaskBounds.{tasks_of_bounds}
 use Rattle.run_lines.specs.declared.bounds.TaskBound.{TaskBound}
 use Rattle.ceiling_kernel.proofs.OrderLaws.{order_iff, order_length}
 use Rattle.frames.specs.declared.rows.TaskRow.{TaskRow}
-use Rattle.drawn_runs.specs.Rows.{Looks, drawn_row, rows_of}
+use Rattle.drawn_runs.specs.DrawnRows.{Looks, drawn_row, rows_of}
 use Rattle.two_input_commands.specs.Draw.{looks_of}
 use Rattle.two_input_commands.proofs.draw.rows_in.Goals as goal
 

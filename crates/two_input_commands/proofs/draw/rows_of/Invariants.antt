@@ -1,5 +1,5 @@
 use Rattle.std.proofs.Common.{◌≡◌, ◌-◌, length, drop}
-use Rattle.drawn_runs.specs.Rows.{rows_of}
+use Rattle.drawn_runs.specs.DrawnRows.{rows_of}
 use Rattle.two_input_commands.specs.Draw.{looks_of}
 use Rattle.two_input_commands.proofs.draw.rows_of.Given as goal
 

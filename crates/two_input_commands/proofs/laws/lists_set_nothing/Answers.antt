@@ -3,13 +3,13 @@ use Rattle.std.proofs.Common.{None}
 use Rattle.std.proofs.Common.{Result, Ok, refl, ap}
 use Rattle.std.specs.Prelude.{bytes_eq, codes, ok_or}
 use Rattle.std.proofs.lemmas.Slice.Eq.{bytes_eq-Decides}
-use Rattle.lines.specs.Lines.{kept_lines, lines_of}
+use Rattle.lines.specs.TextLines.{kept_lines, lines_of}
 use Rattle.lines.specs.Steps.{◌>>=◌}
 use Rattle.lines.specs.Words.{number_in, words}
 use Rattle.ceiling_kernel.specs.declared.trace.Release.{Release}
 use Rattle.release_list.specs.Reading.{list_from, until_in}
 use Rattle.judge.specs.Front.{behind_front, front_of, is_setting}
-use Rattle.judge.specs.Rows.{rows_from}
+use Rattle.judge.specs.SettingLines.{rows_from}
 use Rattle.two_input_commands.proofs.laws.lists_set_nothing.Goals as goal
 
 -- the words of a line `until N` set nothing

@@ -1,5 +1,5 @@
 use Rattle.std.proofs.Common.{inr, refl, rules}
-use Rattle.trace_text.specs.Rows.{rows_at}
+use Rattle.trace_text.specs.TraceLines.{rows_at}
 use Rattle.two_input_commands.proofs.Observations.{given, judged_by, tasks_within}
 use Rattle.two_input_commands.proofs.observe_lines.observe_order.Goals as goal
 

@@ -1,6 +1,6 @@
 use Rattle.std.proofs.Common.{◌≡◌, inl, refl, rules}
 use Rattle.assignment.specs.Questions.{QuestionData}
-use Rattle.candidate_workers.specs.Faults.{IsBadCount}
+use Rattle.candidate_workers.specs.WorkerFaults.{IsBadCount}
 use Rattle.book_lock.proofs.Rounds.{undecided, commits_later}
 use Rattle.book_lock.proofs.desk.Desk.commit.Goals as goal
 

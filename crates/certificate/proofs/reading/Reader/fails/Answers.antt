@@ -1,8 +1,8 @@
 use Rattle.std.proofs.Common.{append_assoc}
 use Rattle.std.proofs.lemmas.List.{append-nil}
-use Rattle.lines.specs.Lines.{parts}
+use Rattle.lines.specs.TextLines.{parts}
 use Rattle.lines.proofs.Parts.{parts_some}
-use Rattle.certificate.specs.Lines.{fails_from}
+use Rattle.certificate.specs.CertificateLines.{fails_from}
 use Rattle.certificate.proofs.Loops.{fails_line}
 use Rattle.certificate.proofs.reading.Reader.fails.Goals as goal
 

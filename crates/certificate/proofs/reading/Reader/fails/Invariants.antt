@@ -1,5 +1,5 @@
 use Rattle.std.proofs.Common.{◌≡◌, length}
-use Rattle.certificate.specs.Lines.{fails_from, at_place}
+use Rattle.certificate.specs.CertificateLines.{fails_from, at_place}
 use Rattle.certificate.proofs.Loops.{onto}
 use Rattle.certificate.proofs.reading.Reader.fails.Given as goal
 

@@ -1,4 +1,4 @@
-use Rattle.certificate.specs.Lines.{level_read, levels_at, at_place}
+use Rattle.certificate.specs.CertificateLines.{level_read, levels_at, at_place}
 use Rattle.certificate.proofs.Loops.{IsRead}
 use Rattle.certificate.proofs.reading.Reader.levels.Given as goal
 

@@ -1,4 +1,4 @@
-use Rattle.certificate.specs.Lines.{member_at, members_at, at_place}
+use Rattle.certificate.specs.CertificateLines.{member_at, members_at, at_place}
 use Rattle.certificate.proofs.Loops.{IsRead}
 use Rattle.certificate.proofs.reading.Reader.members.Given as goal
 

@@ -1,5 +1,0 @@
-use Rattle.headroom.proofs.CostLaws.{AreLighter-delayed, IsFeasible-earlier}
-use Rattle.headroom.proofs.laws.less_jitter_of_one.Goals as goal
-
-pub returns : goal.returns
-returns c = record { lighter = AreLighter-delayed; feasible = IsFeasible-earlier }
