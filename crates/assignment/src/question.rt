@@ -121,7 +121,7 @@ impl Question {
     }
 }
 
-// The reason why the task of a question may not stand, where it is bound.
+// The task of least rank above that of a question that it must outrank.
 fn over(question: &Question, table: &LockTable) -> Option<usize>
     requires { IsTableOf question.now.set table.now }
     ensures none { IfNone result

@@ -43,7 +43,8 @@ pub record IsLeastOver (U : List Task) (i : ℕ) (H : Indexes) (k : ℕ) : Type 
   pub named : IsTrue (must_outrank U i k)
   pub least : (j : ℕ) → j < k → IsTrue (H j) → IsFalse (must_outrank U i j)
 
--- why task i may not stand below H: where it is bound in H, the least-ranked task that binds it, else its full chain
+-- why task i may not stand below H: the least-ranked task of H that it must outrank, where there is one, else its full
+-- chain
 abbrev pub IsReason : List Task → ℕ → Indexes → ReasonData → Type 0
 IsReason U i H (Chain numbers) =
     IsFalse (must_outrank_any U i H) × IsFullChain (demand_of U i H) (limit_of (task_at U i)) numbers
