@@ -219,3 +219,12 @@ No other command's status counts limits:
   admitted 4
   was admitted 4
   changed chain steer bound 44200 44200 slack 800 -1 keys limit 45000 44199
+
+In a random list the tasks of chains come exactly a period apart, as what is promised of a chain asks; others may come later:
+
+  $ desk releases examples/steer.toml 200000 --seed 3 > random
+  $ for task in camera plan wheel; do awk -v t=$task '$2 == t { if (n++) print $2, $1 - last; last = $1 }' random | sort | uniq -c | sed 's/^ *//'; done
+  19 camera 10000
+  9 plan 20000
+  38 wheel 5000
+  $ desk simulate examples/steer.toml random --tasks | tail -n 1
