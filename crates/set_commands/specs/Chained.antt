@@ -51,4 +51,4 @@ chained_status U chains (Stuck left) = status.Infeasible
 pub record IsPlaced (placed : Placed) : Type 0 where
   pub placing : IsPlacingOf placed.tasks placed.placing
   pub levels : placed.levels.items ≡ levels_of placed.placing
-  pub leasts : AreLeastOf placed.tasks (levels_of placed.placing) placed.chains.items placed.placing placed.leasts.items
+  pub leasts : AreLeastOf placed.tasks placed.levels.items placed.chains.items placed.placing placed.leasts.items
