@@ -89,7 +89,8 @@ first_least [] = None
 first_least (least ∷ leasts) = least
 
 -- the lines of all, of which these least bounds are told
-abbrev pub chains_said : Telling → List Task → List Level → (leasts : List (Option ℕ)) → List ChainData → List ℕ
+abbrev pub chains_said : Telling → List Task → List Level → (leasts : List (Option ℕ)) → List ChainData
+    → List ℕ
 chains_said telling U levels leasts [] = []
 chains_said telling U levels leasts (chain ∷ chains) =
     chain_said telling U levels (first_least leasts) chain

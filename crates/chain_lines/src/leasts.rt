@@ -25,8 +25,8 @@ fn least_told(set: &Tabled<'_>, levels: &[Level], chain: &Chain) -> Option<u128>
     }
 }
 
-/// The least bound of each chain whose bound isn't within its limit, in an order whose levels have these responses, of a set that
-/// some order passes; none of the others. The error is out of memory.
+/// The least bound of each chain whose bound isn't within its limit in an order whose levels have these responses, of a
+/// set that some order passes; none of the others. The error is out of memory.
 pub fn least_bounds(
     alloc: Global,
     set: &Tabled<'_>,

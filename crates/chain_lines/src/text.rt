@@ -197,9 +197,9 @@ fn other_leasts(leasts: &[Option<u128>]) -> &[Option<u128>]
     }
 }
 
-/// The lines of chains in an order whose levels have these responses: of each its bound, beside its limit, and its least one, of
-/// which this list says which are told, in the order of the chains; past its end none is. Where that is told, the parts above 0
-/// that the bound is the sum of. The error is out of memory.
+/// The lines of chains in an order whose levels have these responses: of each its bound, beside its limit, and the least
+/// one, where the list says one, chain by chain; past its end it says none. Where that is told, the parts above 0 that the
+/// bound is the sum of. The error is out of memory.
 pub fn chains_text(
     alloc: Global,
     telling: Telling,

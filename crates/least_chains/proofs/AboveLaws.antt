@@ -37,8 +37,8 @@ after-part (x ∷ order) i k h = elim (cases_Bool (x == i)) [
 ]
 
 module _ (U : List Task) (i : ℕ) where
-  -- these are left: they have an order in which each stands, and each such order goes on to one of all tasks with the same
-  -- above task i
+  -- these are left: they have an order in which each stands, and each such order goes on to one of all tasks with the
+  -- same above task i
   pub record IsClimbed (L : Indexes) : Type 0 where
     pub part : IsPart L (all_of U)
     pub has : L i ≡ true
@@ -70,7 +70,7 @@ module _ (U : List Task) (i : ℕ) where
             (whole, passing, same ∙ after-other j i above below.other);
       }
 
-  -- in an order in which each stands, where of some tasks none but task i may stand below the others, these are above it
+  -- in an order in which each stands, where of some tasks none but task i may stand below the rest, these are above it
   stay-above : AllTasks U → (L : Indexes) (order : List ℕ) → NoOtherStands U L i → L i ≡ true
       → IsPart L (among order) → AllStand U order
       → IsPart (without_index L i) (among (after_of order i))
@@ -107,8 +107,8 @@ module _ (U : List Task) (i : ℕ) where
   climbed-least set L so none =
       let valid = AllTasks-from_set U set in
       let (order, each, all) = so.some in
-      let low = lowest U valid (AllPrompt-valid U set) L order (λ k h. ap (λ (X : Indexes). X k) (IsOrderOf-among L order each) ∙ h) i
-      so.has all in
+      let low = lowest U valid (AllPrompt-valid U set) L order
+      (λ k h. ap (λ (X : Indexes). X k) (IsOrderOf-among L order each) ∙ h) i so.has all in
       let stands : Stands U i (without_index L i) = elim (cases_eq low.0 i) [
         | inl own ↦ subst (λ j. Stands U j (without_index L j)) own low.2
         | inr apart ↦ absurd (none low.0 record { other = apart; member = low.1; stands = low.2 })

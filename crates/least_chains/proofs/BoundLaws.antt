@@ -1,15 +1,20 @@
 -- What the least parts of a chain come to.
 use Rattle.std.proofs.Common.{◌≡◌, ℕ, ◌+◌, ◌≤◌, Bool, true, false, List, [], ◌∷◌, Some, None, cond}
-use Rattle.std.proofs.Common.{sym, ◌∙◌, arith, sum_by, refl, subst, length}
+use Rattle.std.proofs.Common.{sym, ◌∙◌, arith, sum_by, ap, refl, subst, length}
 use Rattle.std.specs.List.{list_all}
 use Rattle.std.proofs.lemmas.List.Sums.{sum_by-cons}
-use Rattle.task_sheet.proofs.Common.{Task, task_at}
+use Rattle.task_sheet.proofs.Common.{Task, task_at, Indexes, without_index, among, all_of, IsOrderOf}
+use Rattle.task_sheet.proofs.Common.{IsPassingOrder, IsResponseOf}
+use Rattle.task_sheet.proofs.IndexLaws.{IsOrderOf-among, IsOrderOf-rest}
 use Rattle.ceiling_kernel.proofs.Common.{node_in}
 use Rattle.chains.specs.Gaps.{gap_of}
 use Rattle.chains.specs.Parts.{after_of, bound_in, has_response, order_of, parts_of, time_in, wait_of}
 use Rattle.chains.specs.declared.bounds.BoundPart.{BoundPart}
 use Rattle.chains.specs.declared.bounds.Level.{Level}
-use Rattle.least_chains.specs.LeastBound.{ArePassing, IsLeastBound, IsLeastPart}
+use Rattle.assignment.specs.Places.{PlaceData}
+use Rattle.assignment.specs.Placings.{IsBestPlacing, tasks_of_places}
+use Rattle.assignment.specs.Placings as placed
+use Rattle.least_chains.specs.LeastBound.{HaveResponses, ArePassing, IsLeastBound, IsLeastPart, levels_at}
 
 module _ (U : List Task) where
   -- no order that passes has parts that come to less
@@ -82,3 +87,26 @@ module _ (U : List Task) where
         least_part-one i others time time' part part',
         least_bound-one others rest rest' more more',
       )
+
+  -- ---- the best order
+  same-order : (places : List PlaceData) → order_of (levels_at places) ≡ tasks_of_places places
+  same-order [] = refl
+  same-order (p ∷ places) = ap (λ xs. p.task ∷ xs) (same-order places)
+
+  responses-at : (L : Indexes) (places : List PlaceData) → IsOrderOf L (tasks_of_places places)
+      → placed.AllRespond U L places → HaveResponses U (levels_at places)
+  responses-at L [] each all = tt
+  responses-at L (p ∷ places) each all =
+      let rest = IsOrderOf-rest L p.task (tasks_of_places places) each in
+      let above : without_index L p.task ≡ among (order_of (levels_at places)) =
+      sym (IsOrderOf-among (without_index L p.task) (tasks_of_places places) rest)
+      ∙ ap among (sym (same-order places)) in (
+        subst (λ X. IsResponseOf U p.task X p.response) above all.0,
+        responses-at (without_index L p.task) places rest all.1,
+      )
+
+  pub best-passing : (places : List PlaceData) → IsBestPlacing U places → ArePassing U (levels_at places)
+  best-passing places is = record {
+    order = subst (λ xs. IsPassingOrder U xs) (sym (same-order places)) is.best.passing;
+    each = responses-at (all_of U) places is.best.passing.each_once is.each;
+  }

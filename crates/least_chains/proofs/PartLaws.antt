@@ -1,9 +1,11 @@
 -- The part of a task in an order that passes, and the least one.
 use Rattle.std.proofs.Common.{◌≡◌, ◌≢◌, ℕ, ◌+◌, ◌-◌, ◌<◌, ◌≤◌, inl, inr, Bool, true, false, ◌==◌, nat_lt}
-use Rattle.std.proofs.Common.{List, [], ◌∷◌, length, cond, Option, Some, None, unwrap_or, refl, sym, ◌∙◌, ap, subst, arith}
+use Rattle.std.proofs.Common.{List, [], ◌∷◌, length, cond, Option, Some, None, unwrap_or, refl, sym}
+use Rattle.std.proofs.Common.{◌∙◌, ap, subst, arith}
 use Rattle.std.proofs.lemmas.Bool.{cases_Bool, cases_eq, cases_order, both_ways, eq-eqb, ne_eqb}
 use Rattle.std.proofs.lemmas.Bool.{lt-ltb, le-ltb, ltb-true, cases_lt, false_from_ne_true}
-use Rattle.task_sheet.proofs.Common.{Task, AllTasks, IsFeasible, task_at, Indexes, IsPart, among, all_of, IsTaskSet, IsResponseOf}
+use Rattle.task_sheet.proofs.Common.{Task, AllTasks, IsFeasible, task_at, Indexes, IsPart, among}
+use Rattle.task_sheet.proofs.Common.{all_of, IsTaskSet, IsResponseOf}
 use Rattle.task_sheet.proofs.Common.{AllStand, IsPassingOrder, demand_of, past_jitter}
 use Rattle.task_sheet.proofs.IndexLaws.{IsOrderOf-among}
 use Rattle.task_sheet.proofs.TaskLaws.{AllTasks-from_set}
@@ -21,7 +23,7 @@ use Rattle.chains.specs.declared.bounds.BoundPart.{BoundPart}
 use Rattle.chains.specs.declared.bounds.PartKind.TheVariants.{Jitter, Handover}
 use Rattle.chains.proofs.CountLaws.{count_law}
 use Rattle.least_chains.specs.LeastAbove.{IsLeastAbove}
-use Rattle.least_chains.specs.LeastBound.{AllRespond, ArePassing, HasResponse, IsLeastPart, least_time, part_in}
+use Rattle.least_chains.specs.LeastBound.{HaveResponses, ArePassing, HasResponse, IsLeastPart, least_time, part_in}
 
 -- ---- responses
 -- the response of a level's task, where it stands
@@ -31,7 +33,7 @@ has_some U i H None is = absurd is
 has_some U i H (Some r) is = (r, refl, is)
 
 -- a task of the levels has its response with those above it
-respond-at : (U : List Task) (levels : List Level) (i : ℕ) → AllRespond U levels
+respond-at : (U : List Task) (levels : List Level) (i : ℕ) → HaveResponses U levels
     → among (order_of levels) i ≡ true
     → (r : ℕ) × (response_in levels i ≡ Some r)
     × IsResponseOf U i (among (after_of (order_of levels) i)) r
@@ -62,7 +64,7 @@ module _ (U : List Task) (set : IsTaskSet U) where
 
   -- ---- each order that passes has its levels
   levels-of : (order : List ℕ) → IsPart (among order) (all_of U) → AllStand U order
-      → (levels : List Level) × (order_of levels ≡ order) × AllRespond U levels
+      → (levels : List Level) × (order_of levels ≡ order) × HaveResponses U levels
   levels-of [] part all = ([], refl, tt)
   levels-of (i ∷ above) part all =
       let own = eq-eqb i i refl in

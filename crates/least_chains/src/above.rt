@@ -48,8 +48,7 @@ fn other_below(set: &Tabled<'_>, left: Members, task: usize) -> Option<usize>
     None
 }
 
-/// The tasks that stand above a task in each order that passes, where one does; in some such order no other does. There are
-/// no two such sets.
+/// The tasks that stand above a task in each order that passes, where one does; in some such order no other does.
 pub fn above_at_least(set: &Tabled<'_>, task: usize) -> Members
     requires task { task < length set.now }
     requires some { IsFeasible set.now }

@@ -5,12 +5,20 @@ ghost use Rattle.task_sheet.specs.Indexes.{Indexes};
 ghost use Rattle.chains.specs.Parts.{bound_in};
 ghost use Rattle.chains.specs.declared.bounds.Level.{Level};
 ghost use Rattle.least_chains.specs.LeastAbove.{IsLeastAbove};
-ghost use Rattle.least_chains.specs.LeastBound.{ArePassing, IsLeastBound};
+ghost use Rattle.assignment.specs.Places.{PlaceData};
+ghost use Rattle.assignment.specs.Placings.{IsBestPlacing};
+ghost use Rattle.least_chains.specs.LeastBound.{ArePassing, IsLeastBound, levels_at};
 
 /// A task has one least set of tasks above it at most.
 pub fn least_above_is_one()
     ensures { (U : List Task) (i : ℕ) (first second : Indexes) → IsLeastAbove U i first
         → IsLeastAbove U i second → first ≡ second }
+{}
+
+/// The best order with its responses is one that passes.
+pub fn best_is_passing()
+    ensures { (U : List Task) (places : List PlaceData) → IsBestPlacing U places
+        → ArePassing U (levels_at places) }
 {}
 
 /// No order that passes has a bound below the least one, of which there is one at most.

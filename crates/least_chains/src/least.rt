@@ -29,8 +29,8 @@ fn cost_at(set: &Tabled<'_>, task: usize) -> u64
     }
 }
 
-// The least part behind the wait of a task in front of these others, where these stand above it in each order and this is its
-// response with them.
+// The least part behind the wait of a task in front of these others, where these stand above it in each order and this is
+// its response with them.
 fn least_time(set: &Tabled<'_>, task: usize, above: Members, response: u64, others: &[usize]) -> u64
     requires task { task < length set.now }
     requires part { IsPart (indexes_of above) (all_of set.now) }
@@ -63,9 +63,9 @@ fn least_part(set: &Tabled<'_>, task: usize, others: &[usize]) -> u64
     }
 }
 
-/// How small the bound of a chain of tasks, by their indexes, the first one first, could be in any order that passes, where one
-/// does, in microseconds: all gaps, and the least part of each task, which some order reaches. In no order that passes is its
-/// bound less.
+/// How small the bound of a chain of tasks, by their indexes, the first one first, could be in any order that passes,
+/// where one does, in microseconds: all gaps, and the least part of each task, which some order reaches. No order that
+/// passes has a bound below it.
 pub fn least_bound(set: &Tabled<'_>, tasks: &[usize]) -> u128
     requires { IsFeasible set.now }
     ensures { IsLeastBound set.now tasks.now result }

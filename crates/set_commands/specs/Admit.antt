@@ -60,7 +60,8 @@ AnswersAdmitted asking known (Err r) = HasNoSet asking known r
 
 -- what is printed of a placing: each level of its order, the lowest first, or by slack where it is asked for, and each chain in
 -- it, with these least bounds; or the line of its obstruction
-abbrev pub admitted_said : (sorted : Bool) → List Task → (leasts : List (Option ℕ)) → List ChainData → Placing → List ℕ
+abbrev pub admitted_said : (sorted : Bool) → List Task → (leasts : List (Option ℕ)) → List ChainData
+    → Placing → List ℕ
 admitted_said sorted U leasts chains placing =
     sorted_if sorted U (placing_said Levels U placing) ++ chained_said telling.Bound U leasts chains placing
 

@@ -48,8 +48,8 @@ AreDecided parted U asked (Stuck left) text =
     (judged : List JudgedTask) × IsDeciding U (order_judged judged) × AllJudged U judged
     × AreLevels parted U asked 1 judged text
 
--- a set, whose its tasks are, its chains, its placing, the least bounds of the chains that its order misses, what explains the
--- placing, and the lines of an order that decides
+-- a set, whose its tasks are, its chains, its placing, the least bounds of the chains that its order misses, what
+-- explains the placing, and the lines of an order that decides
 pub record ExplainedData : Type 0 where
   pub set : List Task
   pub owners : List Owner

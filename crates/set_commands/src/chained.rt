@@ -13,8 +13,8 @@ use owners::Owner;
 use std::alloc::{AllocError, Global};
 use task_sheet::TaskSet;
 
-/// A set, whose its tasks are, its chains, what becomes of them all, and the levels of its best order, with the least bounds of
-/// the chains that it misses; none where no order passes.
+/// A set, whose its tasks are, its chains, what becomes of them all, and the levels of its best order, with the least
+/// bounds of the chains that it misses; none where no order passes.
 #[derive(Drop)]
 pub struct Placed {
     pub tasks: TaskSet,
@@ -56,7 +56,8 @@ pub(crate) fn levels_of(alloc: Global, placing: &Placing) -> Result<Vec<Level>, 
     }
 }
 
-/// The least bounds of the chains that the order of a placing misses; none where no order passes. The error is out of memory.
+/// The least bounds of the chains that the order of a placing misses; none where no order passes. The error is out of
+/// memory.
 pub(crate) fn leasts_of(
     alloc: Global,
     set: &Tabled<'_>,

@@ -11,5 +11,6 @@ returns c =
         member = sym c.has.ensures ∙ c.if-not-has.false;
         stands = subst (λ (X : Indexes). Stands c.args.set.now c.args.other X) rest (c.may_stand.ensures.0 so);
       },
-      λ below. c.may_stand.ensures.1 (subst (λ (X : Indexes). Stands c.args.set.now c.args.other X) (sym rest) below.stands),
+      λ below. c.may_stand.ensures.1
+          (subst (λ (X : Indexes). Stands c.args.set.now c.args.other X) (sym rest) below.stands),
     )
