@@ -41,13 +41,13 @@ The bound is within its limit up to the microsecond; the lesser of both limits c
   2 plan 9200
   3 camera 2600
   4 wheel 600
-  chain steer 44200 misses 44199
+  chain steer 44200 misses 44199 least 42200
   [3]
   $ desk explain tight.toml > said
   [3]
   $ head -n 1 said; grep chain said
   admitted 4
-  chain steer 44200 misses 44199
+  chain steer 44200 misses 44199 least 42200
   $ desk judge tight.toml now > said
   [3]
   $ head -n 1 said; tail -n 1 said
@@ -56,9 +56,15 @@ The bound is within its limit up to the microsecond; the lesser of both limits c
   $ desk explain tight.toml --at now > said
   [3]
   $ { cat examples/steer.toml; echo 'age = 44199'; } | desk admit - | tail -n 1
-  chain steer 44200 misses 44199
+  chain steer 44200 misses 44199 least 42200
   $ grep -v reaction examples/steer.toml | desk admit - | tail -n 1
   chain steer 44200
+
+A miss in the best order, and in no other, ends with the least bound, below which no order that passes has one. Past the limit no
+order meets the chain; else it is open, and `prefer.t` has an order that meets one:
+
+  $ sed 's/45000/42199/' examples/steer.toml | desk admit - | tail -n 1
+  chain steer 44200 misses 42199 least 42200
 
 `settings` prints what it prints without chains, with the status of `admit`:
 
