@@ -125,6 +125,16 @@ frame_of rows v until =
     (max (least_period PERIOD_TO rows) 1) (end_of_run until) (frame_from v until)
     (frame_to v until)
 
+-- the frame of one of two runs side by side, up to the later end, of so many tasks: in both time lies the same, behind the
+-- wider of their margins, and by the shorter of their shortest periods
+abbrev pub frame_beside : (count : ℕ) → (old new : List TaskRow) → View → (until : ℕ) → Frame
+frame_beside count old new v until =
+    frame_in v.width v.paper count
+    (max (left_of (is_in_millis (frame_to v until - frame_from v until)) old)
+    (left_of (is_in_millis (frame_to v until - frame_from v until)) new))
+    (max (min (least_period PERIOD_TO old) (least_period PERIOD_TO new)) 1) (end_of_run until)
+    (frame_from v until) (frame_to v until)
+
 -- its times are in milliseconds
 abbrev pub in_millis : Frame → Bool
 in_millis f = is_in_millis (f.to - f.from)

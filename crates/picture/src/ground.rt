@@ -1,7 +1,7 @@
 //! What stands still.
 ghost use Rattle.std.specs.Prelude.{◌*◌, ◌<◌, ◌≡◌, ◌≤◌, length};
 ghost use Rattle.frames.specs.Page.{Adds};
-ghost use Rattle.task_sheet.specs.declared.set.TheConstants.{TASK_LIMIT};
+ghost use Rattle.frames.specs.declared.places.TheConstants.{PLACES_LIMIT};
 ghost use Rattle.frames.specs.declared.frame.TheConstants.{RIGHTMOST, WIDEST_STEP};
 ghost use Rattle.frames.specs.declared.locks.TheConstants.{LOCKS_LIMIT};
 ghost use Rattle.picture.specs.Document.{are_interrupted, document_head, ground_text, lines_text, paper_wide, size_head, size_words, ticks_text, unrun_words, verdict_head, verdict_text, what_text, window_words};
@@ -117,7 +117,7 @@ fn put_ticks(frame: Frame, bottom: u64, step: u64, page: &mut Page)
 
 // The line between rows, and the line of a row, below its bars.
 fn put_line(frame: Frame, k: usize, page: &mut Page)
-    requires { k ≤ TASK_LIMIT }
+    requires { k ≤ PLACES_LIMIT }
     ensures { Adds page.old page.new (line_text frame k) }
 {
     let top = top_of(k);

@@ -1,6 +1,7 @@
 //! The picture of a run: one SVG document, with why jobs wait: for a task above, or for one below that blocks by a lock.
 #![tactic(auto)]
 
+mod beside;
 mod blocker;
 mod document;
 mod ground;
@@ -12,4 +13,5 @@ mod title;
 mod waits;
 mod why;
 
+pub use beside::{DrawnRun, draw_beside};
 pub use document::draw;
