@@ -1,5 +1,5 @@
 -- Which jobs of a run have another response than in a run before, and how they are marked.
-use Rattle.std.specs.Prelude.{ℕ, ◌+◌, ◌-◌, Bool, true, false, not, ◌&&◌, ◌==◌, if◌then◌else◌, Option, Some, None, List, [], ◌∷◌, ◌++◌, length, codes, slice_get}
+use Rattle.std.specs.Prelude.{ℕ, zero, suc, ◌+◌, ◌-◌, Bool, true, false, not, ◌&&◌, ◌==◌, if◌then◌else◌, Option, Some, None, List, [], ◌∷◌, ◌++◌, length, codes, slice_get}
 use Rattle.std.specs.Fmt.{decimal}
 use Rattle.std.specs.List.{concat}
 use Rattle.task_sheet.specs.Sheet.{same_bytes}
@@ -21,6 +21,25 @@ same_finish _ _ = false
 -- the response of a job is another than before
 abbrev pub is_changed : (old job : JobRecord) → Bool
 is_changed old job = same_release old job && not (same_finish old.finish job.finish)
+
+-- the same of a job beside the job before, if there is one
+abbrev pub has_changed : (job : JobRecord) → (old : Option JobRecord) → Bool
+has_changed job None = false
+has_changed job (Some old) = is_changed old job
+
+-- a count, and one more where something is so
+abbrev pub counted_with : (is : Bool) → (count : ℕ) → ℕ
+counted_with is count = if is then count + 1 else count
+
+-- of the first n jobs so many responses are another than before; the job of the same release has the same number there
+unfoldable pub changed_before : (old jobs : List JobRecord) → (n : ℕ) → ℕ
+changed_before old jobs zero = 0
+changed_before old jobs (suc n) =
+    counted_with (has_changed (record_at jobs n) (slice_get old n)) (changed_before old jobs n)
+
+-- the same of all jobs
+abbrev pub all_changed : (old jobs : List JobRecord) → ℕ
+all_changed old jobs = changed_before old jobs (length jobs)
 
 -- how long after its arrival a job is done
 abbrev pub response_text : (arrival : ℕ) → (finish : Option ℕ) → List ℕ
@@ -45,7 +64,7 @@ abbrev pub change_text : Frame → (k : ℕ) → (job : JobRecord) → (old : Op
 change_text f k job None = []
 change_text f k job (Some old) = change_of f k job old
 
--- that of job i; the job of the same release has the same number in the run before
+-- that of job i, beside the one of the same number before
 abbrev pub change_at : Frame → List TaskRow → (shown : List ℕ) → (old jobs : List JobRecord) → (i : ℕ) → List ℕ
 change_at f rows shown old jobs i =
     on_spot rows shown (record_at jobs i).name

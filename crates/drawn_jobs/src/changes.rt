@@ -1,8 +1,9 @@
 //! Responses that changed.
-ghost use Rattle.std.specs.Prelude.{◌<◌, ◌≡◌, ◌≤◌, length};
+ghost use Rattle.std.specs.Prelude.{◌+◌, ◌<◌, ◌≡◌, ◌≤◌, ◌^◌, length, slice_get};
 ghost use Rattle.frames.specs.Page.{Adds};
 ghost use Rattle.frames.specs.declared.places.TheConstants.{PLACES_LIMIT};
-ghost use Rattle.drawn_jobs.specs.Changes.{change_at, change_of, change_sign, changes_text, is_changed, response_text, same_finish, same_release};
+ghost use Rattle.frames.specs.PictureRows.{record_at};
+ghost use Rattle.drawn_jobs.specs.Changes.{all_changed, change_at, change_of, change_sign, changes_text, counted_with, has_changed, is_changed, response_text, same_finish, same_release};
 
 use crate::marks::is_shown;
 use ceiling_kernel::JobRecord;
@@ -33,6 +34,34 @@ fn is_changed(old: &JobRecord, job: &JobRecord) -> bool
     ensures { result ≡ is_changed old.now job.now }
 {
     same_release(old, job) && !same_finish(old.finish, job.finish)
+}
+
+// Whether the response of job i is another than that of the job of the same number before.
+fn has_changed(old: &[JobRecord], jobs: &[JobRecord], i: usize) -> bool
+    requires { i < length jobs.now }
+    ensures { result ≡ has_changed (record_at jobs.now i) (slice_get old.now i) }
+{
+    i < old.len() && is_changed(&job_at(old, i), &job_at(jobs, i))
+}
+
+// A count, and one more where something is so.
+fn counted_with(is: bool, count: usize) -> usize
+    requires { count < 2 ^ 63 }
+    ensures value { result ≡ counted_with is count }
+    ensures within { result ≤ count + 1 }
+{
+    if is { count + 1 } else { count }
+}
+
+/// How many responses are another than in a run before.
+pub fn all_changed(old: &[JobRecord], jobs: &[JobRecord]) -> usize
+    ensures { result ≡ all_changed old.now jobs.now }
+{
+    let mut count = 0;
+    for i in 0..jobs.len() {
+        count = counted_with(has_changed(old, jobs, i), count);
+    }
+    count
 }
 
 // How long after its arrival a job is done.

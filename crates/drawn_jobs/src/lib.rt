@@ -16,7 +16,7 @@ mod ticks;
 
 pub use band::put_greatest;
 pub use bars::put_slices;
-pub use changes::put_changes;
+pub use changes::{all_changed, put_changes};
 pub use held::{held_beside, held_locks};
 pub use jobs::put_jobs;
 pub use lane::{put_lane_head, put_lane_line, put_lanes};

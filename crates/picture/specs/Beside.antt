@@ -1,11 +1,12 @@
 -- Two runs of one release list in one document, one before a change and one after it: the row of each task as it was, and
 -- right below it the row of the same task as it is, with what changed marked.
-use Rattle.std.specs.Prelude.{ℕ, ◌+◌, ◌-◌, ◌*◌, ◌/◌, max, ◌==◌, if◌then◌else◌, List, [], ◌∷◌, ◌++◌, length, codes}
+use Rattle.std.specs.Prelude.{ℕ, ◌+◌, ◌*◌, ◌/◌, max, ◌==◌, if◌then◌else◌, List, [], ◌∷◌, ◌++◌, length, codes}
 use Rattle.std.specs.Fmt.{decimal}
 use Rattle.std.specs.List.{concat}
 use Rattle.ceiling_kernel.specs.declared.trace.Release.{Release}
 use Rattle.ceiling_kernel.specs.declared.trace.JobRecord.{JobRecord}
 use Rattle.ceiling_kernel.specs.declared.trace.Slice.{Slice}
+use Rattle.frames.specs.declared.rows.Spot.{Spot}
 use Rattle.frames.specs.declared.rows.TaskRow.{TaskRow}
 use Rattle.frames.specs.declared.tones.Toned.{Toned}
 use Rattle.frames.specs.declared.view.View.{View}
@@ -15,14 +16,14 @@ use Rattle.frames.specs.Numbers.{time_text, unit_text}
 use Rattle.frames.specs.PictureRows.{at_places, each}
 use Rattle.frames.specs.Places.{below_of, lower_places, upper_places}
 use Rattle.frames.specs.View.{shown_of}
-use Rattle.drawn_jobs.specs.Changes.{changes_text}
+use Rattle.drawn_jobs.specs.Changes.{all_changed, changes_text}
 use Rattle.drawn_jobs.specs.Held.{held_before, held_beside}
 use Rattle.drawn_jobs.specs.Lane.{lane_head, lane_line, lanes_text}
 use Rattle.drawn_jobs.specs.Misses.{all_missed}
 use Rattle.drawn_jobs.specs.Stripes.{locks_group}
 use Rattle.picture.specs.declared.beside.DrawnRun.{DrawnRun}
 use Rattle.picture.specs.declared.style.TheConstants.{BESIDE_STYLE, STYLE}
-use Rattle.picture.specs.Document.{high_of, margins_text, run_text, signed, size_head, ticks_text, unrun_words, width_of, window_words}
+use Rattle.picture.specs.Document.{are_interrupted, high_of, margins_text, run_text, signed, size_head, ticks_text, unrun_words, width_of, window_words}
 use Rattle.picture.specs.Titles.{title_tail}
 use Rattle.picture.specs.Waits.{Scene}
 
@@ -52,13 +53,17 @@ counts_words old new =
     ∷ decimal (length old.jobs) ∷ codes ", after: tasks: " ∷ decimal (length new.rows)
     ∷ codes ", jobs: " ∷ decimal (length new.jobs) ∷ codes ", until " ∷ [])
 
--- the first lines, and the title, with what was given behind it
-abbrev pub head_beside : (old new : Scene) → List ℕ → (locks until : ℕ) → List ℕ
-head_beside old new title locks until =
+-- how wide and high the picture is
+abbrev pub size_beside : (new : Scene) → (locks : ℕ) → List ℕ
+size_beside new locks =
     size_head new.frame.paper (width_of new.frame) (high_of new.frame (length new.shown) locks)
     ++ concat (codes "\" viewBox=\"0 0 " ∷ decimal (width_of new.frame) ∷ codes " "
     ∷ decimal (high_of new.frame (length new.shown) locks) ∷ codes "\">\n<title>" ∷ [])
-    ++ counts_words old new ++ decimal until ++ codes " us" ++ title_tail title
+
+-- the first lines, and the title, with what was given behind it
+abbrev pub head_beside : (old new : Scene) → List ℕ → (locks until : ℕ) → List ℕ
+head_beside old new title locks until =
+    size_beside new locks ++ counts_words old new ++ decimal until ++ codes " us" ++ title_tail title
     ++ codes "</title>\n"
 
 -- whether a deadline is missed, and how many are
@@ -73,12 +78,17 @@ verdict_beside title old new =
     codes "<text class=\"t\" x=\"100\" y=\"200\">before: " ++ missed_words old
     ++ codes ", after: " ++ missed_words new ++ title_tail title ++ codes "</text>\n"
 
--- the runs, what they lack, and what part of them is drawn
+-- that the bounds of one of them count what the run lacks
+abbrev pub unrun_beside : (old new : List TaskRow) → List ℕ
+unrun_beside old new = if are_interrupted old then unrun_words old else unrun_words new
+
+-- the runs, how many responses changed, what the runs lack, and what part of them is drawn
 abbrev pub what_beside : (old new : Scene) → (until : ℕ) → List ℕ
 what_beside old new until =
     codes "<text x=\"100\" y=\"390\">" ++ counts_words old new
     ++ time_text (in_millis new.frame) until ++ unit_text (in_millis new.frame)
-    ++ unrun_words (old.rows ++ new.rows) ++ window_words (in_millis new.frame) new.frame
+    ++ (codes ", responses changed: " ++ decimal (all_changed old.jobs new.jobs))
+    ++ unrun_beside old.rows new.rows ++ window_words (in_millis new.frame) new.frame
     ++ codes "</text>\n"
 
 -- the line above the two rows of a task, and the lines of both, below their bars
@@ -100,11 +110,14 @@ word_at word y =
     concat (codes "<text class=\"ba\" x=\"500\" y=\"" ∷ decimal y ∷ codes "\">" ∷ word
     ∷ codes "</text>\n" ∷ [])
 
+-- the same above the name of a row
+abbrev pub name_word : (word : List ℕ) → Spot → TaskRow → List ℕ
+name_word word s row = word_at word (top_of s.k + 105)
+
 -- the margin of a run, with a word above each name that says which run it is
 abbrev pub margin_side : Scene → (word : List ℕ) → List ℕ
 margin_side c word =
-    margins_text c.frame c.rows c.shown c.jobs
-    ++ at_places c.rows c.shown (λ s row. word_at word (top_of s.k + 105))
+    margins_text c.frame c.rows c.shown c.jobs ++ at_places c.rows c.shown (name_word word)
 
 -- the margins of both, as a group
 abbrev pub margins_beside : (old new : Scene) → List ℕ
@@ -113,11 +126,15 @@ margins_beside old new =
     ∷ codes "</text>\n" ∷ [])
     ++ margin_side old (codes "before") ++ margin_side new (codes "after") ++ codes "</g>\n"
 
+-- how the elements look
+abbrev pub styles_beside : List ℕ
+styles_beside = STYLE.now ++ BESIDE_STYLE.now
+
 -- what stands still: how the elements look, how many deadlines are missed, what is drawn, the scale, the lines of the rows,
 -- the margins, and the locks
 abbrev pub ground_beside : (old new : Scene) → List ℕ → (held : List Toned) → (until : ℕ) → List ℕ
 ground_beside old new title held until =
-    head_beside old new title (length held) until ++ STYLE.now ++ BESIDE_STYLE.now
+    head_beside old new title (length held) until ++ styles_beside
     ++ verdict_beside title (all_missed old.frame old.rows old.jobs)
     (all_missed new.frame new.rows new.jobs)
     ++ what_beside old new until
@@ -165,11 +182,11 @@ end_of_both old new = max old.until new.until
 abbrev pub chosen_of : View → Run → List ℕ
 chosen_of v run = shown_of v.tasks.items run.releases run.rows
 
--- what is drawn of one of them, in the frame of both, at some places
-abbrev pub scene_in : (old new : Run) → View → Run → (shown : List ℕ) → Scene
-scene_in old new v run shown = record {
-  frame = frame_beside (length run.rows) old.rows new.rows v (end_of_both old new);
-  locks = locks_beside old.rows new.rows;
+-- a run in a frame, with locks, at places
+abbrev pub scene_at : Frame → List Toned → Run → (shown : List ℕ) → Scene
+scene_at f locks run shown = record {
+  frame = f;
+  locks = locks;
   rows = run.rows;
   shown = shown;
   releases = run.releases;
@@ -177,15 +194,27 @@ scene_in old new v run shown = record {
   slices = run.slices;
 }
 
--- of the one before: its rows stand above
-abbrev pub old_scene : (old new : Run) → View → Scene
-old_scene old new v = scene_in old new v old (upper_places (chosen_of v old))
+-- the frame of one of them
+abbrev pub frame_in : (old new : Run) → View → Run → Frame
+frame_in old new v run = frame_beside (length run.rows) old.rows new.rows v (end_of_both old new)
 
--- of the one after: its rows stand below those of the same tasks, and last those of tasks that the other has no row of
+-- where the rows before stand: above
+abbrev pub old_places : View → Run → List ℕ
+old_places v old = upper_places (chosen_of v old)
+
+-- and those after: below those of the same tasks, and last those of tasks that the other has no row of
+abbrev pub new_places : View → (old new : Run) → List ℕ
+new_places v old new = lower_places (below_of old.rows (chosen_of v old) new.rows (chosen_of v new))
+
+-- what is drawn of the one before
+abbrev pub old_scene : (old new : Run) → View → Scene
+old_scene old new v =
+    scene_at (frame_in old new v old) (locks_beside old.rows new.rows) old (old_places v old)
+
+-- and of the one after
 abbrev pub new_scene : (old new : Run) → View → Scene
 new_scene old new v =
-    scene_in old new v new
-    (lower_places (below_of old.rows (chosen_of v old) new.rows (chosen_of v new)))
+    scene_at (frame_in old new v new) (locks_beside old.rows new.rows) new (new_places v old new)
 
 -- THE DOCUMENT OF TWO RUNS, as a view has them
 abbrev pub document_beside : (old new : Run) → View → List ℕ

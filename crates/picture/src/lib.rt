@@ -8,6 +8,7 @@ mod ground;
 pub mod laws;
 mod legend;
 mod margin;
+mod sides;
 mod style;
 mod title;
 mod waits;

@@ -143,7 +143,7 @@ fn put_margin_at(chart: &Chart<'_>, k: usize, page: &mut Page)
 }
 
 // The rows' parts.
-fn put_margins(chart: &Chart<'_>, page: &mut Page)
+pub(crate) fn put_margins(chart: &Chart<'_>, page: &mut Page)
     ensures { Adds page.old page.new (margins_text chart.now.frame chart.now.rows.now
         chart.now.shown.now chart.now.jobs.now) }
 {

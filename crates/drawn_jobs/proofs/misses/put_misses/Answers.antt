@@ -1,4 +1,3 @@
-use Rattle.std.proofs.Common.{ℕ, List}
 use Rattle.drawn_jobs.specs.Misses.{row_misses}
 use Rattle.frames.specs.PictureRows.{at_spot, spot_in}
 use Rattle.frames.proofs.Adds.{adds_none, adds_one_more}

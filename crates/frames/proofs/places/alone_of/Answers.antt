@@ -1,4 +1,4 @@
-use Rattle.std.proofs.Common.{sym, append-nil, ◌∙◌}
+use Rattle.std.proofs.Common.{sym, append-nil}
 use Rattle.frames.specs.Places.{is_alone}
 use Rattle.frames.proofs.Chosen.{filter_more}
 use Rattle.frames.proofs.places.alone_of.Goals as goal

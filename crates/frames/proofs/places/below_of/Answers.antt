@@ -1,6 +1,4 @@
 use Rattle.std.proofs.Common.{ℕ, List, ap, arith, length, length-append}
-use Rattle.std.specs.Prelude.{map}
-use Rattle.std.specs.List.{filter}
 use Rattle.std.proofs.lemmas.List.{length-map}
 use Rattle.std.proofs.lemmas.List.Sums.{length-filter, count_by-le-length}
 use Rattle.frames.specs.Places.{is_alone, twin_of}
