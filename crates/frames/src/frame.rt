@@ -212,16 +212,17 @@ pub fn frame_of(rows: &[TaskRow], view: &View, until: u64) -> Frame
     }
 }
 
-/// The frame of one of two runs side by side up to the later end, of so many tasks.
+/// The frame of one of two runs side by side, of so many tasks, which ends by itself; the window goes up to the later end.
 pub fn frame_beside(
     count: usize,
     old: &[TaskRow],
     new: &[TaskRow],
     view: &View,
+    end: u64,
     until: u64,
 ) -> Frame
     requires { count ≤ TASK_LIMIT }
-    ensures { result ≡ frame_beside count old.now new.now view.now until }
+    ensures { result ≡ frame_beside count old.now new.now view.now end until }
 {
     let least = least_period(old).min(least_period(new)).max(1);
     let to = window_end(view, until).max(1);
@@ -230,7 +231,7 @@ pub fn frame_beside(
     let left = left_of(millis, old).max(left_of(millis, new));
     let span = span_of(view.width, left, least, to - from);
     Frame {
-        until: until.min(HORIZON).max(1),
+        until: end.min(HORIZON).max(1),
         from,
         to,
         left,

@@ -45,7 +45,8 @@ pub scene_same : (run : Run) {f g : Frame} {locks held : List Toned} {shown plac
 scene_same run frame locked placed = rw frame (rw locked (rw placed refl))
 
 -- what is drawn of the same
-pub beside_of : {o n old new : Scene} {title words : List ℕ} {until end : ℕ}
-    → o ≡ old → n ≡ new → title ≡ words → until ≡ end
-    → body_beside o n title until ≡ body_beside old new words end
-beside_of before after titled ended = rw before (rw after (rw titled (rw ended refl)))
+pub beside_of : {o n old new : Scene} {title words : List ℕ} {was is p q : ℕ}
+    → o ≡ old → n ≡ new → title ≡ words → p ≡ was → q ≡ is
+    → body_beside o n title p q ≡ body_beside old new words was is
+beside_of before after titled one other =
+    rw before (rw after (rw titled (rw one (rw other refl))))

@@ -1,6 +1,6 @@
 -- Two runs of one release list in one document, one before a change and one after it: the row of each task as it was, and
 -- right below it the row of the same task as it is, with what changed marked.
-use Rattle.std.specs.Prelude.{ℕ, ◌+◌, ◌*◌, ◌/◌, max, ◌==◌, if◌then◌else◌, List, [], ◌∷◌, ◌++◌, length, codes}
+use Rattle.std.specs.Prelude.{ℕ, ◌+◌, ◌*◌, ◌/◌, min, max, Bool, false, ◌==◌, nat_lt, if◌then◌else◌, List, [], ◌∷◌, ◌++◌, length, codes}
 use Rattle.std.specs.Fmt.{decimal}
 use Rattle.std.specs.List.{concat}
 use Rattle.ceiling_kernel.specs.declared.trace.Release.{Release}
@@ -46,12 +46,16 @@ run_of run = record {
 }
 
 -- ---- what stands still
--- how many tasks and jobs there are, before and after
-abbrev pub counts_words : (old new : Scene) → List ℕ
-counts_words old new =
-    concat (codes "before: tasks: " ∷ decimal (length old.rows) ∷ codes ", jobs: "
-    ∷ decimal (length old.jobs) ∷ codes ", after: tasks: " ∷ decimal (length new.rows)
-    ∷ codes ", jobs: " ∷ decimal (length new.jobs) ∷ codes ", until " ∷ [])
+-- a run: how many tasks and jobs it has, and when it ends
+abbrev pub side_words : (millis : Bool) → (word : List ℕ) → Scene → (until : ℕ) → List ℕ
+side_words millis word c until =
+    concat (word ∷ codes " tasks: " ∷ decimal (length c.rows) ∷ codes ", jobs: "
+    ∷ decimal (length c.jobs) ∷ codes ", until " ∷ time_text millis until ∷ unit_text millis ∷ [])
+
+-- both
+abbrev pub sides_words : (millis : Bool) → (old new : Scene) → (was is : ℕ) → List ℕ
+sides_words millis old new was is =
+    side_words millis (codes "before:") old was ++ side_words millis (codes ", after:") new is
 
 -- how wide and high the picture is
 abbrev pub size_beside : (new : Scene) → (locks : ℕ) → List ℕ
@@ -61,9 +65,9 @@ size_beside new locks =
     ∷ decimal (high_of new.frame (length new.shown) locks) ∷ codes "\">\n<title>" ∷ [])
 
 -- the first lines, and the title, with what was given behind it
-abbrev pub head_beside : (old new : Scene) → List ℕ → (locks until : ℕ) → List ℕ
-head_beside old new title locks until =
-    size_beside new locks ++ counts_words old new ++ decimal until ++ codes " us" ++ title_tail title
+abbrev pub head_beside : (old new : Scene) → List ℕ → (locks was is : ℕ) → List ℕ
+head_beside old new title locks was is =
+    size_beside new locks ++ sides_words false old new was is ++ title_tail title
     ++ codes "</title>\n"
 
 -- whether a deadline is missed, and how many are
@@ -82,13 +86,20 @@ verdict_beside title old new =
 abbrev pub unrun_beside : (old new : List TaskRow) → List ℕ
 unrun_beside old new = if are_interrupted old then unrun_words old else unrun_words new
 
+-- up to when both are known
+abbrev pub known_to : (old new : Scene) → ℕ
+known_to old new = min old.frame.until new.frame.until
+
+-- the frame of the one that ends later
+abbrev pub later_of : (old new : Frame) → Frame
+later_of old new = if nat_lt old.until new.until then new else old
+
 -- the runs, how many responses changed, what the runs lack, and what part of them is drawn
-abbrev pub what_beside : (old new : Scene) → (until : ℕ) → List ℕ
-what_beside old new until =
-    codes "<text x=\"100\" y=\"390\">" ++ counts_words old new
-    ++ time_text (in_millis new.frame) until ++ unit_text (in_millis new.frame)
-    ++ (codes ", responses changed: " ++ decimal (all_changed old.jobs new.jobs))
-    ++ unrun_beside old.rows new.rows ++ window_words (in_millis new.frame) new.frame
+abbrev pub what_beside : (millis : Bool) → (old new : Scene) → (was is : ℕ) → List ℕ
+what_beside millis old new was is =
+    codes "<text x=\"100\" y=\"390\">" ++ sides_words millis old new was is
+    ++ (codes ", responses changed: " ++ decimal (all_changed (known_to old new) old.jobs new.jobs))
+    ++ unrun_beside old.rows new.rows ++ window_words millis (later_of old.frame new.frame)
     ++ codes "</text>\n"
 
 -- the line above the two rows of a task, and the lines of both, below their bars
@@ -132,12 +143,12 @@ styles_beside = STYLE.now ++ BESIDE_STYLE.now
 
 -- what stands still: how the elements look, how many deadlines are missed, what is drawn, the scale, the lines of the rows,
 -- the margins, and the locks
-abbrev pub ground_beside : (old new : Scene) → List ℕ → (held : List Toned) → (until : ℕ) → List ℕ
-ground_beside old new title held until =
-    head_beside old new title (length held) until ++ styles_beside
+abbrev pub ground_beside : (old new : Scene) → List ℕ → (held : List Toned) → (was is : ℕ) → List ℕ
+ground_beside old new title held was is =
+    head_beside old new title (length held) was is ++ styles_beside
     ++ verdict_beside title (all_missed old.frame old.rows old.jobs)
     (all_missed new.frame new.rows new.jobs)
-    ++ what_beside old new until
+    ++ what_beside (in_millis new.frame) old new was is
     ++ ticks_text new.frame (top_of (length new.shown)) (step_of new.frame)
     ++ pairs_text new.frame (length new.shown) ++ margins_beside old new
     ++ locks_group new.frame (length new.shown) held
@@ -167,11 +178,11 @@ abbrev pub side_text : Scene → List ℕ
 side_text c = run_text c.frame c.locks c.rows c.shown c.releases c.jobs c.slices
 
 -- what is drawn of both: what stands still, the lanes, what happens in the rows, and which responses changed
-abbrev pub body_beside : (old new : Scene) → List ℕ → (until : ℕ) → List ℕ
-body_beside old new title until =
-    ground_beside old new title (held_of old new) until ++ lanes_beside old new
+abbrev pub body_beside : (old new : Scene) → List ℕ → (was is : ℕ) → List ℕ
+body_beside old new title was is =
+    ground_beside old new title (held_of old new) was is ++ lanes_beside old new
     ++ side_text old ++ side_text new
-    ++ changes_text new.frame new.rows new.shown old.jobs new.jobs
+    ++ changes_text new.frame (known_to old new) new.rows new.shown old.jobs new.jobs
 
 -- ---- the document
 -- the later end
@@ -196,7 +207,8 @@ scene_at f locks run shown = record {
 
 -- the frame of one of them
 abbrev pub frame_in : (old new : Run) → View → Run → Frame
-frame_in old new v run = frame_beside (length run.rows) old.rows new.rows v (end_of_both old new)
+frame_in old new v run =
+    frame_beside (length run.rows) old.rows new.rows v run.until (end_of_both old new)
 
 -- where the rows before stand: above
 abbrev pub old_places : View → Run → List ℕ
@@ -219,4 +231,4 @@ new_scene old new v =
 -- THE DOCUMENT OF TWO RUNS, as a view has them
 abbrev pub document_beside : (old new : Run) → View → List ℕ
 document_beside old new v =
-    signed (body_beside (old_scene old new v) (new_scene old new v) v.title.items (end_of_both old new))
+    signed (body_beside (old_scene old new v) (new_scene old new v) v.title.items old.until new.until)

@@ -9,7 +9,7 @@ ghost use Rattle.picture.specs.Document.{signed};
 ghost use Rattle.picture.specs.Waits.{scene_of};
 
 use crate::document::{put_run, signed};
-use crate::sides::{put_ground_beside, put_lanes_beside};
+use crate::sides::{known_to, put_ground_beside, put_lanes_beside};
 use ceiling_kernel::{Release, Slice, Trace};
 use drawn_jobs::{held_beside, put_changes};
 use frames::{
@@ -70,7 +70,7 @@ fn put_side(alloc: Global, chart: &Chart<'_>, page: &mut Page) -> Result<(), All
 // What is drawn of two charts. Memory is taken for it, for two counts of each job, and for two names of each lock.
 fn body_beside(alloc: Global, old: &Chart<'_>, new: &Chart<'_>) -> Result<Vec<u8>, AllocError>
     ensures { IfOk result (λ text. text.items ≡ body_beside (scene_of old.now) (scene_of new.now)
-        new.now.title.now new.now.until) }
+        new.now.title.now old.now.until new.now.until) }
 {
     let held = held_beside(alloc, old, new)?;
     let mut page = Page::new(alloc);
@@ -78,7 +78,7 @@ fn body_beside(alloc: Global, old: &Chart<'_>, new: &Chart<'_>) -> Result<Vec<u8
     put_lanes_beside(old, new, &mut page);
     put_side(alloc, old, &mut page)?;
     put_side(alloc, new, &mut page)?;
-    put_changes(new, old.jobs, &mut page);
+    put_changes(new, known_to(old, new), old.jobs, &mut page);
     page.whole()
 }
 
@@ -87,7 +87,6 @@ fn chart_of<'a>(
     run: &'a DrawnRun<'a>,
     frame: Frame,
     title: &'a [u8],
-    until: u64,
     shown: &'a [usize],
     locks: &'a [Toned],
 ) -> Chart<'a>
@@ -96,7 +95,7 @@ fn chart_of<'a>(
     requires few_locks { length locks.now ≤ LOCKS_LIMIT }
     ensures scene { scene_of result ≡ scene_at frame locks.now (run_of run.now) shown.now }
     ensures title { result.title.now ≡ title.now }
-    ensures until { result.until ≡ until }
+    ensures until { result.until ≡ run.now.until }
 {
     let slices: &'a [Slice] = &run.trace.slices;
     Chart {
@@ -104,7 +103,7 @@ fn chart_of<'a>(
         title,
         rows: run.rows,
         shown,
-        until,
+        until: run.until,
         releases: run.releases,
         jobs: &run.trace.jobs,
         slices,
@@ -131,9 +130,9 @@ pub fn draw_beside(
     let until = old.until.max(new.until);
     let sides = sides_of(alloc, old, new, view)?;
     let locks = locks_beside(alloc, old.rows, new.rows)?;
-    let before = frame_beside(old.rows.len(), old.rows, new.rows, view, until);
-    let after = frame_beside(new.rows.len(), old.rows, new.rows, view, until);
-    let upper = chart_of(old, before, &view.title, until, &sides.upper, &locks);
-    let lower = chart_of(new, after, &view.title, until, &sides.lower, &locks);
+    let before = frame_beside(old.rows.len(), old.rows, new.rows, view, old.until, until);
+    let after = frame_beside(new.rows.len(), old.rows, new.rows, view, new.until, until);
+    let upper = chart_of(old, before, &view.title, &sides.upper, &locks);
+    let lower = chart_of(new, after, &view.title, &sides.lower, &locks);
     signed(alloc, body_beside(alloc, &upper, &lower)?)
 }

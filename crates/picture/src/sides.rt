@@ -4,7 +4,7 @@ ghost use Rattle.frames.specs.Page.{Adds};
 ghost use Rattle.frames.specs.PictureRows.{at_places, at_spot, spot_in};
 ghost use Rattle.frames.specs.declared.locks.TheConstants.{LOCKS_LIMIT};
 ghost use Rattle.frames.specs.declared.places.TheConstants.{PLACES_LIMIT};
-ghost use Rattle.picture.specs.Beside.{counts_words, ground_beside, head_beside, lane_side, lanes_beside, margin_side, margins_beside, missed_words, name_word, pair_text, pairs_text, size_beside, styles_beside, unrun_beside, verdict_beside, what_beside, word_at};
+ghost use Rattle.picture.specs.Beside.{ground_beside, head_beside, known_to, lane_side, lanes_beside, later_of, margin_side, margins_beside, missed_words, name_word, pair_text, pairs_text, side_words, sides_words, size_beside, styles_beside, unrun_beside, verdict_beside, what_beside, word_at};
 ghost use Rattle.picture.specs.Waits.{scene_of};
 
 use crate::ground::{are_interrupted, put_size_head, put_ticks, put_unrun, put_window};
@@ -19,15 +19,24 @@ use frames::{
     top_of,
 };
 
-// How many tasks and jobs there are, before and after.
-fn put_counts(old: &Chart<'_>, new: &Chart<'_>, page: &mut Page)
-    ensures { Adds page.old page.new (counts_words (scene_of old.now) (scene_of new.now)) }
+// A run: how many tasks and jobs it has, and when it ends.
+fn put_side_words(millis: bool, word: &[u8], chart: &Chart<'_>, page: &mut Page)
+    ensures { Adds page.old page.new (side_words millis word.now (scene_of chart.now) chart.now.until) }
 {
-    page.number(b"before: tasks: ", old.rows.len() as u64);
-    page.number(b", jobs: ", old.jobs.len() as u64);
-    page.number(b", after: tasks: ", new.rows.len() as u64);
-    page.number(b", jobs: ", new.jobs.len() as u64);
-    page.put(b", until ")
+    page.put(word);
+    page.number(b" tasks: ", chart.rows.len() as u64);
+    page.number(b", jobs: ", chart.jobs.len() as u64);
+    put_time(b", until ", millis, chart.until, page);
+    put_unit(millis, page)
+}
+
+// Both.
+fn put_sides_words(millis: bool, old: &Chart<'_>, new: &Chart<'_>, page: &mut Page)
+    ensures { Adds page.old page.new (sides_words millis (scene_of old.now) (scene_of new.now)
+        old.now.until new.now.until) }
+{
+    put_side_words(millis, b"before:", old, page);
+    put_side_words(millis, b", after:", new, page)
 }
 
 // How wide and high the picture is.
@@ -47,12 +56,10 @@ fn put_size_beside(new: &Chart<'_>, locks: usize, page: &mut Page)
 fn put_head(old: &Chart<'_>, new: &Chart<'_>, locks: usize, page: &mut Page)
     requires { locks ≤ LOCKS_LIMIT }
     ensures { Adds page.old page.new (head_beside (scene_of old.now) (scene_of new.now)
-        new.now.title.now locks new.now.until) }
+        new.now.title.now locks old.now.until new.now.until) }
 {
     put_size_beside(new, locks, page);
-    put_counts(old, new, page);
-    page.number(b"", new.until);
-    page.put(b" us");
+    put_sides_words(false, old, new, page);
     put_title_tail(new.title, page);
     page.put(b"</title>\n")
 }
@@ -92,19 +99,31 @@ fn put_unrun_beside(old: &[TaskRow], new: &[TaskRow], page: &mut Page)
     }
 }
 
-// The runs, how many responses changed, what the runs lack, and what part of them is drawn.
-fn put_what(old: &Chart<'_>, new: &Chart<'_>, page: &mut Page)
-    ensures { Adds page.old page.new (what_beside (scene_of old.now) (scene_of new.now) new.now.until) }
+// Up to when both are known.
+pub(crate) fn known_to(old: &Chart<'_>, new: &Chart<'_>) -> u64
+    ensures { result ≡ known_to (scene_of old.now) (scene_of new.now) }
 {
-    let millis = in_millis(new.frame);
-    let changed = all_changed(old.jobs, new.jobs);
+    old.frame.until.min(new.frame.until)
+}
+
+// The frame of the one that ends later.
+fn later_of(old: Frame, new: Frame) -> Frame
+    ensures { result ≡ later_of old new }
+{
+    if old.until < new.until { new } else { old }
+}
+
+// The runs, how many responses changed, what the runs lack, and what part of them is drawn.
+fn put_what(millis: bool, old: &Chart<'_>, new: &Chart<'_>, page: &mut Page)
+    ensures { Adds page.old page.new (what_beside millis (scene_of old.now) (scene_of new.now)
+        old.now.until new.now.until) }
+{
+    let changed = all_changed(known_to(old, new), old.jobs, new.jobs);
     page.put(b"<text x=\"100\" y=\"390\">");
-    put_counts(old, new, page);
-    put_time(b"", millis, new.until, page);
-    put_unit(millis, page);
+    put_sides_words(millis, old, new, page);
     page.number(b", responses changed: ", changed as u64);
     put_unrun_beside(old.rows, new.rows, page);
-    put_window(millis, new.frame, page);
+    put_window(millis, later_of(old.frame, new.frame), page);
     page.put(b"</text>\n")
 }
 
@@ -201,7 +220,7 @@ fn put_styles(page: &mut Page)
 pub(crate) fn put_ground_beside(old: &Chart<'_>, new: &Chart<'_>, held: &[Toned], page: &mut Page)
     requires { length held.now ≤ LOCKS_LIMIT }
     ensures { Adds page.old page.new (ground_beside (scene_of old.now) (scene_of new.now)
-        new.now.title.now held.now new.now.until) }
+        new.now.title.now held.now old.now.until new.now.until) }
 {
     let frame = new.frame;
     let places = new.shown.len();
@@ -210,7 +229,7 @@ pub(crate) fn put_ground_beside(old: &Chart<'_>, new: &Chart<'_>, held: &[Toned]
     let before = all_missed(old.frame, old.rows, old.jobs);
     let after = all_missed(frame, new.rows, new.jobs);
     put_verdict(new.title, before, after, page);
-    put_what(old, new, page);
+    put_what(in_millis(frame), old, new, page);
     put_ticks(frame, top_of(places), step_of(frame), page);
     put_pairs(frame, places, page);
     put_margins_beside(old, new, page);

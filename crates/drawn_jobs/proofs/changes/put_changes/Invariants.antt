@@ -5,4 +5,4 @@ use Rattle.drawn_jobs.proofs.changes.put_changes.Given as goal
 
 abbrev pub invariant-loop-i : goal.invariant-loop-i
 invariant-loop-i l = Adds l.fn.page l.page (each l.i
-    (change_at l.fn.chart.frame l.fn.chart.rows.now l.fn.chart.shown.now l.fn.old l.fn.chart.jobs.now))
+    (change_at l.fn.chart.frame l.fn.end l.fn.chart.rows.now l.fn.chart.shown.now l.fn.old l.fn.chart.jobs.now))

@@ -17,6 +17,6 @@ returns c =
     (c.deref-6.ensures.value ∙ locks) (c.deref-5.ensures.value ∙ c.in_ok-sides.ensures.lower) in
     let title = c.chart_of-lower.ensures.title ∙ c.deref-4.ensures.value in
     let body = c.in_ok-body_beside.ensures
-    ∙ beside_of upper lower title (c.chart_of-lower.ensures.until ∙ until) in
+    ∙ beside_of upper lower title c.chart_of-upper.ensures.until c.chart_of-lower.ensures.until in
     subst (λ (text : List ℕ). IfOk c.signed.result (λ document. document.items ≡ signed text)) body
     c.signed.ensures

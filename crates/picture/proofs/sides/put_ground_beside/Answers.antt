@@ -13,7 +13,8 @@ returns c =
     let verdicts = adds_same (λ (n : ℕ). verdict_beside title
     (all_missed old.frame old.rows.now old.jobs.now) n) c.all_missed-after.ensures
     verdict in
+    let what = rw c.in_millis.ensures at c.put_what.ensures in
     let ticks = rw (c.step_of.ensures.value, c.top_of.ensures.value) at c.put_ticks.ensures in
     adds_both (adds_both (adds_both (adds_both (adds_both (adds_both (adds_both c.put_head.ensures
-    c.put_styles.ensures) verdicts) c.put_what.ensures) ticks) c.put_pairs.ensures)
+    c.put_styles.ensures) verdicts) what) ticks) c.put_pairs.ensures)
     c.put_margins_beside.ensures) c.put_locks_group.ensures

@@ -3,10 +3,7 @@ use Rattle.picture.proofs.sides.put_what.Goals as goal
 
 pub returns : goal.returns
 returns c =
-    let millis = c.in_millis-millis.ensures in
-    let until = rw millis at c.put_time.ensures in
-    let unit = rw millis at c.put_unit.ensures in
-    let window = rw millis at c.put_window.ensures in
-    let changed = rw c.all_changed-changed.ensures at c.number.ensures in
-    adds_both (adds_both (adds_both (adds_both (adds_both (adds_both (adds_both c.put.ensures
-    c.put_counts.ensures) until) unit) changed) c.put_unrun_beside.ensures) window) c.put-2.ensures
+    let changed = rw (c.all_changed-changed.ensures, c.known_to.ensures) at c.number.ensures in
+    let window = rw c.later_of.ensures at c.put_window.ensures in
+    adds_both (adds_both (adds_both (adds_both (adds_both c.put.ensures c.put_sides_words.ensures)
+    changed) c.put_unrun_beside.ensures) window) c.put-2.ensures
