@@ -77,6 +77,14 @@ impl From<AllocError> for CommandRefusal {
 }
 
 impl CommandRefusal {
+    /// It is of what the new set's input says.
+    pub fn is_of_new(self) -> bool {
+        matches!(
+            self,
+            CommandRefusal::New(_) | CommandRefusal::NewDoubtful(_) | CommandRefusal::NewChain(_)
+        )
+    }
+
     /// The exit status.
     pub fn status(self) -> Status
         ensures { result ≡ status_of self }
