@@ -3,6 +3,7 @@ use Rattle.std.specs.Prelude.{◌≡◌, ℕ, ◌==◌, nat_le, Bool, true, fals
 use Rattle.std.specs.Fmt.{decimal}
 use Rattle.std.specs.List.{list_all}
 use Rattle.task_sheet.specs.Sheet.{Task}
+use Rattle.lines.specs.Known.{some_words}
 use Rattle.lines.specs.Naming.{name_at}
 use Rattle.ceiling_kernel.specs.Tick.{node_in}
 use Rattle.chains.specs.Bounds.{bound_of}
@@ -46,10 +47,6 @@ is_met bound None = true
 is_met None (Some limit) = false
 is_met (Some bound) (Some limit) = nat_le bound limit
 
-abbrev pub bound_words : Option ℕ → List ℕ
-bound_words (Some bound) = codes " " ++ decimal bound
-bound_words None = codes " -"
-
 abbrev pub met_word : Bool → List ℕ
 met_word true = codes " of "
 met_word false = codes " misses "
@@ -61,7 +58,7 @@ limit_words bound (Some limit) = met_word (is_met bound (Some limit)) ++ decimal
 -- the line of a chain of this bound: it, beside the chain's limit
 abbrev pub chain_line : ChainData → (bound : Option ℕ) → List ℕ
 chain_line chain bound =
-    codes "chain " ++ chain.name ++ bound_words bound ++ limit_words bound chain.limit ++ codes "\n"
+    codes "chain " ++ chain.name ++ codes " " ++ some_words bound ++ limit_words bound chain.limit ++ codes "\n"
 
 -- the parts are told, where they are asked for and all tasks of the chain have a response
 abbrev pub is_told : Telling → (bound : Option ℕ) → Bool

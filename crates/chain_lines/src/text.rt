@@ -3,11 +3,11 @@ ghost use Rattle.std.specs.Prelude.{◌≡◌, ◌++◌, IfOk, OnOk, string_byte
 ghost use Rattle.lines.specs.Naming.{name_at};
 ghost use Rattle.ceiling_kernel.specs.Tick.{node_in};
 ghost use Rattle.chains.specs.Parts.{bound_in, order_of, parts_of, time_in};
-ghost use Rattle.chain_lines.specs.ChainLines.{all_met, both_lines, bound_words, chain_line, chain_said, chains_said, is_met, is_told, kind_words, limit_words, met_word, part_line, part_lines, parts_said};
+ghost use Rattle.chain_lines.specs.ChainLines.{all_met, both_lines, chain_line, chain_said, chains_said, is_met, is_told, kind_words, limit_words, met_word, part_line, part_lines, parts_said};
 
 use chain_tables::Chain;
 use chains::{BoundPart, Level, PartKind, after_of, bound_of, wait_of};
-use lines::push_name;
+use lines::{push_name, push_some_wide};
 use std::alloc::{AllocError, Global};
 use task_sheet::TaskSet;
 
@@ -101,16 +101,6 @@ fn is_met(bound: Option<u128>, limit: Option<u64>) -> bool
     }
 }
 
-// A bound, or that there is none.
-fn push_bound(text: &mut String, bound: Option<u128>) -> Result<(), AllocError>
-    ensures { OnOk result (string_bytes text.new ≡ string_bytes text.old ++ bound_words bound) }
-{
-    match bound {
-        Some(bound) => write!(text, " {bound}"),
-        None => text.push_str(" -"),
-    }
-}
-
 // The word in front of a limit.
 fn met_word(is_met: bool) -> &'static str
     ensures { result.now ≡ met_word is_met }
@@ -134,8 +124,8 @@ fn push_line(text: &mut String, chain: &Chain, bound: Option<u128>) -> Result<()
     ensures { OnOk result (string_bytes text.new ≡ string_bytes text.old ++ chain_line chain.now bound) }
 {
     let name = chain.name;
-    write!(text, "chain {name}")?;
-    push_bound(text, bound)?;
+    write!(text, "chain {name} ")?;
+    push_some_wide(text, bound)?;
     push_limit(text, bound, chain.limit)?;
     text.push_str("\n")
 }
