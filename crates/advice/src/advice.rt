@@ -10,9 +10,9 @@ use desk_cli::{Audience, CommandRefusal, Status, Which, base_of};
 use explain::least_conflict;
 use preferences::Choice;
 use sentences::{
-    greatest_until, of_task, of_tasks, push_clean, put_chains_left_out, put_conflict, put_empty,
-    put_left_out, put_names_decide, put_notes, put_overload, put_overran, put_override, put_parted,
-    put_past_priorities, put_strange_threads, put_strangers, put_unrun, put_unseen,
+    greatest_until, of_neither, of_task, of_tasks, push_clean, put_chains_left_out, put_conflict,
+    put_empty, put_left_out, put_names_decide, put_notes, put_overload, put_overran, put_override,
+    put_parted, put_past_priorities, put_strange_threads, put_strangers, put_unrun, put_unseen,
 };
 use std::alloc::{AllocError, Global};
 use std::io::Write;
@@ -129,7 +129,7 @@ fn options_of(call: Call<'_>) -> Options<'_> {
 fn rows_of<'a>(call: Call<'a>) -> Option<&'a str> {
     match call {
         Call::Two {
-            command: OfTwo::Draw | OfTwo::DrawBeside,
+            command: OfTwo::Draw,
             options,
             ..
         } => match options.rows {
@@ -152,6 +152,18 @@ fn no_task_of(alloc: Global, set: &TaskSet, call: Call<'_>) -> Option<String> {
         (Some(word), _) => of_task(alloc, set, word),
         (None, Some(words)) => of_tasks(alloc, set, words),
         (None, None) => None,
+    }
+}
+
+// That neither set of a call on two has a task of a name that its words say.
+fn neither_of(alloc: Global, call: Call<'_>, name: Option<Name>) -> Option<String> {
+    match call {
+        Call::Two {
+            command: OfTwo::DrawBeside,
+            options,
+            ..
+        } => of_neither(alloc, options.rows?, name),
+        _ => None,
     }
 }
 
@@ -342,7 +354,10 @@ impl<'a, W: Write + Drop> Audience for Advice<'a, W> {
     }
 
     fn refused(&mut self, which: Which, bytes: &[u8], refusal: CommandRefusal) {
-        if let CommandRefusal::NoSuchTask { .. } = refusal {
+        if let CommandRefusal::NoSuchTask { name } = refusal {
+            if let Some(sentence) = neither_of(self.alloc, self.call, name) {
+                self.no_task = Some(sentence);
+            }
             self.put_no_task();
             return;
         }

@@ -144,12 +144,12 @@ impl<'a> Process<'a> {
         let source = match named {
             Named::Standard if self.is_closed => Ok(Right(Right(Right(Closed)))),
             Named::Standard => Ok(Right(Left(self.rt.stdin()))),
-            Named::File(_) if !self.is_guarded => return Err(NotOpened),
+            Named::File(_) if !self.is_guarded => return Err(NotOpened { is_new: false }),
             Named::File(path) => note(self.last, open_path(self.rt, path)),
         };
         match source {
             Ok(source) => Ok(source),
-            Err(_) => Err(NotOpened),
+            Err(_) => Err(NotOpened { is_new: false }),
         }
     }
 
@@ -158,7 +158,19 @@ impl<'a> Process<'a> {
         let source = self.open_named(named)?;
         match note(self.last, all_of(self.rt, source)) {
             Ok(bytes) => Ok(bytes),
-            Err(_) => Err(NotOpened),
+            Err(_) => Err(NotOpened { is_new: false }),
+        }
+    }
+
+    // A release list and a task set in one text.
+    fn open_both(&self, list: Named<'_>, new: Named<'_>) -> Result<Source, NotOpened> {
+        let list = self.read_named(list)?;
+        let Ok(new) = self.read_named(new) else {
+            return Err(NotOpened { is_new: true });
+        };
+        match note(self.last, open_both(list, &new)) {
+            Ok(documents) => Ok(Right(Right(Left(documents)))),
+            Err(_) => Err(NotOpened { is_new: false }),
         }
     }
 }
@@ -175,11 +187,7 @@ impl<'a> Opens for Process<'a> {
     fn open(&self, input: Input<'_>) -> Result<Noted<'a, Source>, NotOpened> {
         let source = match input {
             Input::One(named) => self.open_named(named)?,
-            Input::Both { list, new } => {
-                let list = self.read_named(list)?;
-                let new = self.read_named(new)?;
-                Right(Right(Left(note(self.last, open_both(list, &new)).map_err(|_| NotOpened)?)))
-            }
+            Input::Both { list, new } => self.open_both(list, new)?,
         };
         Ok(Noted::new(source, self.last))
     }

@@ -23,11 +23,12 @@ use std::io::{Read, Write};
 use streams::Watched;
 use task_sheet::{Members, Name, TaskSet};
 use two_input_commands::{
-    ChainsTold, Compared, Drawing, InOrder, KeptNode, Observation, ReachedChains, Simulated, TwoRuns,
-    beside_text, chained_status, check_text, checked_line, compare_text, compared_text, draw_text, explain_at,
-    explained_at_text, judge_text, judged_said, judged_status, keep_text, keeping_status,
-    keeping_text, leeway_of, limits_at, parts_of, print_beside, print_drawing, print_observation, print_reached,
-    print_simulated, reach_text, simulate_text, watch_text, worst_at,
+    ChainsTold, Compared, Drawing, InOrder, KeptNode, Observation, ReachedChains, Simulated,
+    TwoRuns, beside_text, chained_status, check_text, checked_line, compare_text, compared_text,
+    draw_text, explain_at, explained_at_text, judge_text, judged_said, judged_status, keep_text,
+    keeping_status, keeping_text, leeway_of, limits_at, parts_of, print_beside, print_drawing,
+    print_observation, print_reached, print_simulated, reach_text, simulate_text, watch_text,
+    worst_at,
 };
 
 /// What a command finds of a set and a text.
@@ -126,9 +127,7 @@ fn find(
         }
         OfTwo::DrawBeside => {
             let asking = asking_of(options);
-            Ok(Found::DrawnBeside(beside_text(
-                alloc, asking, options, tasks, text,
-            )?))
+            Ok(Found::DrawnBeside(beside_text(alloc, asking, options, tasks, text)?))
         }
     }
 }
@@ -281,7 +280,10 @@ fn refused_part<'a>(
     text: &'a [u8],
 ) -> (Which, &'a [u8]) {
     match (command, answer) {
-        (OfTwo::DrawBeside, Err(refusal)) if refusal.is_of_new() => (Which::Third, parts_of(text).1),
+        (OfTwo::DrawBeside, Err(refusal)) if refusal.is_of_new() => (
+            Which::Third,
+            parts_of(text).1,
+        ),
         (OfTwo::DrawBeside, _) => (Which::Second, parts_of(text).0),
         _ => (Which::Second, text),
     }

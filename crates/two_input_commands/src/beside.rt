@@ -293,9 +293,5 @@ pub fn print_beside<W: Write + Drop>(
     if let Simulated::Infeasible(members) = &beside.is {
         return print_stuck(alloc, &beside.set, *members, output);
     }
-    print_bytes(
-        picture_of_both(alloc, tasks, beside),
-        Status::Done,
-        output,
-    )
+    print_bytes(picture_of_both(alloc, tasks, beside), Status::Done, output)
 }

@@ -170,7 +170,13 @@ fn picture_of(
     ensures { IfOk result (λ text. text.items
         ≡ picture_of set.now settings.now bounds.now view.now until releases.now trace.now) }
 {
-    let tones = task_tones(alloc, Sets { old: set, new: None })?;
+    let tones = task_tones(
+        alloc,
+        Sets {
+            old: set,
+            new: None,
+        },
+    )?;
     let looks = Looks {
         settings,
         tones: &tones,
