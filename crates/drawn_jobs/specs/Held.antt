@@ -1,5 +1,5 @@
 -- The locks that a picture shows as held: those of its stripes.
-use Rattle.std.specs.Prelude.{ℕ, zero, suc, ◌+◌, Bool, ◌&&◌, nat_lt, if◌then◌else◌, Option, Some, None, List, [], ◌∷◌, length, slice_get}
+use Rattle.std.specs.Prelude.{ℕ, zero, suc, ◌+◌, Bool, ◌&&◌, nat_lt, if◌then◌else◌, Option, Some, None, List, [], ◌∷◌, ◌++◌, length, slice_get}
 use Rattle.std.specs.List.{filter, list_any}
 use Rattle.task_sheet.specs.Sheet.{CriticalSection, same_bytes}
 use Rattle.ceiling_kernel.specs.declared.trace.JobRecord.{JobRecord}
@@ -55,3 +55,7 @@ is_held held lock = list_any (λ n. same_bytes n lock.name) held
 abbrev pub held_locks : Frame → List Toned → List TaskRow → (shown : List ℕ) → List JobRecord → List Slice → List Toned
 held_locks f locks rows shown jobs slices =
     filter (is_held (held_before f rows shown jobs slices (length slices))) locks
+
+-- the same where they are held in either of two runs, with what is noted of each
+abbrev pub held_beside : List Toned → (old new : List (List ℕ)) → List Toned
+held_beside locks old new = filter (is_held (old ++ new)) locks

@@ -7,3 +7,4 @@ pub mod Bands
 pub mod Marks
 pub mod Misses
 pub mod Held
+pub mod Changes

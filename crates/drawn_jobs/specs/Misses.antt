@@ -7,7 +7,7 @@ use Rattle.task_sheet.specs.Sheet.{same_bytes}
 use Rattle.ceiling_kernel.specs.declared.trace.JobRecord.{JobRecord}
 use Rattle.frames.specs.declared.rows.TaskRow.{TaskRow}
 use Rattle.frames.specs.Frame.{Frame, x_of, sees, top_of, ended}
-use Rattle.frames.specs.PictureRows.{each, row_at, row_named, record_at, spot_in}
+use Rattle.frames.specs.PictureRows.{at_places, each, row_at, row_named, record_at}
 use Rattle.frames.specs.Boxes.{box_path}
 use Rattle.drawn_jobs.specs.Jobs.{limit_of, job_words, job_signs}
 
@@ -129,6 +129,4 @@ row_misses f jobs k row =
 
 -- what is missed in each row
 abbrev pub misses_text : Frame → List TaskRow → (shown : List ℕ) → List JobRecord → List ℕ
-misses_text f rows shown jobs =
-    each (length shown)
-    (λ k. row_misses f jobs (spot_in shown k).k (row_at rows (spot_in shown k).rank))
+misses_text f rows shown jobs = at_places rows shown (λ s. row_misses f jobs s.k)

@@ -3,7 +3,7 @@ ghost use Rattle.std.specs.Prelude.{◌<◌, ◌≡◌, ◌≤◌, length};
 ghost use Rattle.run_lines.specs.RunLines.{greatest_words};
 ghost use Rattle.frames.specs.Page.{Adds};
 ghost use Rattle.frames.specs.Boxes.{box_path};
-ghost use Rattle.task_sheet.specs.declared.set.TheConstants.{TASK_LIMIT};
+ghost use Rattle.frames.specs.declared.places.TheConstants.{PLACES_LIMIT};
 ghost use Rattle.frames.specs.declared.frame.TheConstants.{RIGHTMOST};
 ghost use Rattle.drawn_jobs.specs.Bands.{any_on, band_box, band_label, band_with, band_words, gap_of, last_bound, place_text, wide_words};
 
@@ -86,7 +86,7 @@ fn put_label(
     page: &mut Page,
 )
     requires place { x ≤ RIGHTMOST }
-    requires row { k ≤ TASK_LIMIT }
+    requires row { k ≤ PLACES_LIMIT }
     ensures { Adds page.old page.new (band_label millis x right k count outcome.done
         outcome.greatest) }
 {

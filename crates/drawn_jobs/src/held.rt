@@ -3,7 +3,7 @@ ghost use Rattle.std.specs.List.{filter};
 ghost use Rattle.std.specs.Prelude.{◌≡◌, ◌≤◌, IfOk, OnOk, [], length};
 ghost use Rattle.frames.specs.declared.locks.TheConstants.{LOCKS_LIMIT};
 ghost use Rattle.std.specs.Prelude.{slice_get};
-ghost use Rattle.drawn_jobs.specs.Held.{held_before, held_by, held_inside, held_locks, held_with, holds_in, is_held};
+ghost use Rattle.drawn_jobs.specs.Held.{held_before, held_beside, held_by, held_inside, held_locks, held_with, holds_in, is_held};
 ghost use Rattle.drawn_jobs.specs.Sections.{AreUncounted};
 
 use crate::bars::count_slice;
@@ -142,4 +142,22 @@ pub fn held_locks(alloc: Global, chart: &Chart<'_>) -> Result<Vec<Toned>, AllocE
 {
     let names = held_names(alloc, chart)?;
     locks_held(alloc, chart.locks, &names)
+}
+
+/// The locks of two charts that are held in the window of either.
+pub fn held_beside(
+    alloc: Global,
+    old: &Chart<'_>,
+    new: &Chart<'_>,
+) -> Result<Vec<Toned>, AllocError>
+    ensures held { IfOk result (λ held. held.items ≡ held_beside new.now.locks.now
+        (held_before old.now.frame old.now.rows.now old.now.shown.now old.now.jobs.now
+        old.now.slices.now (length old.now.slices.now)) (held_before new.now.frame new.now.rows.now
+        new.now.shown.now new.now.jobs.now new.now.slices.now (length new.now.slices.now))) }
+    ensures few { IfOk result (λ held. length held.items ≤ LOCKS_LIMIT) }
+{
+    let mut names = held_names(alloc, old)?;
+    let others = held_names(alloc, new)?;
+    names.extend_from_slice(&others)?;
+    locks_held(alloc, new.locks, &names)
 }

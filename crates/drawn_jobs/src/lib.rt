@@ -1,9 +1,10 @@
-//! What is drawn of jobs: boxes and bands from arrivals up to bounds, the marks of releases, what is missed, and bars of who
-//! executes, in the rows, with what is held in them, and in the lane of the processor.
+//! What is drawn of jobs: boxes and bands from arrivals up to bounds, the marks of releases, what is missed, bars of who
+//! executes, in the rows, with what is held in them, and in the lane of the processor, and signs of responses that changed.
 #![tactic(auto)]
 
 mod band;
 mod bars;
+mod changes;
 mod held;
 mod jobs;
 mod lane;
@@ -15,7 +16,8 @@ mod ticks;
 
 pub use band::put_greatest;
 pub use bars::put_slices;
-pub use held::held_locks;
+pub use changes::{all_changed, put_changes};
+pub use held::{held_beside, held_locks};
 pub use jobs::put_jobs;
 pub use lane::{put_lane_head, put_lane_line, put_lanes};
 pub use marks::put_all_marks;

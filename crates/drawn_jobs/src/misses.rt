@@ -1,6 +1,7 @@
 //! Jobs that miss their deadlines.
-ghost use Rattle.std.specs.Prelude.{◌+◌, ◌≡◌};
+ghost use Rattle.std.specs.Prelude.{◌+◌, ◌<◌, ◌≡◌, length};
 ghost use Rattle.frames.specs.Page.{Adds};
+ghost use Rattle.frames.specs.PictureRows.{at_spot, spot_in};
 ghost use Rattle.drawn_jobs.specs.Misses.{all_missed, badge_after, badge_text, due_badge, has_badge, hatch_path, hatch_text, is_late, is_seen_miss, late_by, latest_in, miss_text, missed_in, misses, misses_in, misses_text, row_misses};
 
 use crate::jobs::{limit_of, put_job_signs, put_told};
@@ -195,6 +196,18 @@ fn put_row_misses(lane: &Lane<'_>, jobs: &[JobRecord], page: &mut Page)
     }
 }
 
+// What is missed in the row at a place, where one stands there.
+fn put_misses_at(chart: &Chart<'_>, k: usize, page: &mut Page)
+    requires { k < length chart.now.shown.now }
+    ensures { Adds page.old page.new (at_spot chart.now.rows.now (spot_in chart.now.shown.now k)
+        (λ s. row_misses chart.now.frame chart.now.jobs.now s.k)) }
+{
+    let spot = chart.spot(k);
+    if spot.rank < chart.rows.len() {
+        put_row_misses(&chart.lane(spot), chart.jobs, page)
+    }
+}
+
 /// Puts what is missed in each row.
 pub fn put_misses(chart: &Chart<'_>, page: &mut Page)
     ensures { Adds page.old page.new (misses_text chart.now.frame chart.now.rows.now
@@ -202,6 +215,6 @@ pub fn put_misses(chart: &Chart<'_>, page: &mut Page)
         chart.now.jobs.now) }
 {
     for k in 0..chart.shown.len() {
-        put_row_misses(&chart.lane(chart.spot(k)), chart.jobs, page);
+        put_misses_at(chart, k, page);
     }
 }

@@ -1,7 +1,7 @@
 //! The parts of a slice in which its job holds locks.
 ghost use Rattle.std.specs.Prelude.{◌*◌, ◌+◌, ◌≡◌, ◌≤◌, length, nat_lt};
 ghost use Rattle.frames.specs.Page.{Adds};
-ghost use Rattle.task_sheet.specs.declared.set.TheConstants.{TASK_LIMIT};
+ghost use Rattle.frames.specs.declared.places.TheConstants.{PLACES_LIMIT};
 ghost use Rattle.drawn_jobs.specs.Bars.{dark_text, label_class, label_depth, label_text, names_text, part_box, part_left, part_right, part_text};
 ghost use Rattle.frames.specs.declared.frame.TheConstants.{RIGHTMOST};
 
@@ -57,7 +57,7 @@ fn are_several(names: &[Name]) -> bool
 // The names of locks in the middle of a part, where there is room.
 fn put_label(x: u64, right: u64, k: usize, names: &[Name], page: &mut Page)
     requires places { x + right ≤ 2 * RIGHTMOST + 1 }
-    requires row { k ≤ TASK_LIMIT }
+    requires row { k ≤ PLACES_LIMIT }
     ensures { Adds page.old page.new (label_text x right k names.now) }
 {
     if !fits(right.saturating_sub(x) / 68, names) {

@@ -1,7 +1,7 @@
 //! Stripes of locks over bars, and what tells of them.
 ghost use Rattle.std.specs.Prelude.{◌*◌, ◌<◌, ◌≡◌, ◌≤◌, length};
 ghost use Rattle.frames.specs.Page.{Adds};
-ghost use Rattle.task_sheet.specs.declared.set.TheConstants.{TASK_LIMIT};
+ghost use Rattle.frames.specs.declared.places.TheConstants.{PLACES_LIMIT};
 ghost use Rattle.drawn_jobs.specs.Stripes.{lock_text, lock_texts, locks_group, locks_head, locks_high, per_line, stripe_text, stripe_top, stripes_text};
 ghost use Rattle.frames.specs.declared.frame.TheConstants.{RIGHTMOST};
 ghost use Rattle.frames.specs.declared.locks.TheConstants.{LOCKS_LIMIT};
@@ -49,7 +49,7 @@ fn put_stripe(
     name: Name,
     page: &mut Page,
 )
-    requires row { k ≤ TASK_LIMIT }
+    requires row { k ≤ PLACES_LIMIT }
     requires place { i < n }
     ensures { Adds page.old page.new (stripe_text locks.now x right k n i name) }
 {
@@ -74,7 +74,7 @@ pub(crate) fn put_stripes(
     names: &[Name],
     page: &mut Page,
 )
-    requires { k ≤ TASK_LIMIT }
+    requires { k ≤ PLACES_LIMIT }
     ensures { Adds page.old page.new (stripes_text locks.now x right k names.now) }
 {
     for i in 0..names.len() {
@@ -130,7 +130,7 @@ fn put_locks_head(bottom: u64, n: usize, page: &mut Page)
 
 /// Puts the legend of some locks below so many rows, as a group.
 pub fn put_locks_group(frame: Frame, rows: usize, locks: &[Toned], page: &mut Page)
-    requires rows { rows ≤ TASK_LIMIT }
+    requires rows { rows ≤ PLACES_LIMIT }
     requires few { length locks.now ≤ LOCKS_LIMIT }
     ensures { Adds page.old page.new (locks_group frame rows locks.now) }
 {

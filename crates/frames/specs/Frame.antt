@@ -21,11 +21,11 @@ pub record Frame : Type 0 where
   pub count : ℕ
   pub paper : Option ℕ
 
--- there is some time in the window, which ends with the run, within the horizon, and the picture's width is within its
+-- there is some time in the window, which ends within the horizon as the run does, and the picture's width is within its
 -- limits
 pub record IsFrame (f : Frame) : Type 0 where
   pub some : f.from < f.to
-  pub inside : f.to ≤ f.until
+  pub inside : f.to ≤ HORIZON
   pub within : f.until ≤ HORIZON
   pub margin : f.left ≤ WIDEST_MARGIN
   pub wide : NARROWEST ≤ f.left + f.span
@@ -124,6 +124,16 @@ frame_of rows v until =
     (left_of (is_in_millis (frame_to v until - frame_from v until)) rows)
     (max (least_period PERIOD_TO rows) 1) (end_of_run until) (frame_from v until)
     (frame_to v until)
+
+-- the frame of one of two runs side by side, which ends by itself, of so many tasks: in both time lies the same, up to the
+-- later end, behind the wider of their margins, and by the shorter of their shortest periods
+abbrev pub frame_beside : (count : ℕ) → (old new : List TaskRow) → View → (end until : ℕ) → Frame
+frame_beside count old new v end until =
+    frame_in v.width v.paper count
+    (max (left_of (is_in_millis (frame_to v until - frame_from v until)) old)
+    (left_of (is_in_millis (frame_to v until - frame_from v until)) new))
+    (max (min (least_period PERIOD_TO old) (least_period PERIOD_TO new)) 1) (end_of_run end)
+    (frame_from v until) (frame_to v until)
 
 -- its times are in milliseconds
 abbrev pub in_millis : Frame → Bool

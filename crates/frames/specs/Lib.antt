@@ -6,4 +6,5 @@ pub mod Numbers
 pub mod Boxes
 pub mod Page
 pub mod Locks
+pub mod Places
 pub mod Tones

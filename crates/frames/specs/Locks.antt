@@ -54,3 +54,7 @@ lock_names rows = noted_rows [] rows
 -- the same with their tones
 abbrev pub locks_of : List TaskRow → List Toned
 locks_of rows = tones_of LOCK_TONES (lock_names rows)
+
+-- those of the rows of two runs, with one tone each
+abbrev pub locks_beside : (old new : List TaskRow) → List Toned
+locks_beside old new = tones_of LOCK_TONES (noted_rows (lock_names old) new)

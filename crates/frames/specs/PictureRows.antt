@@ -1,5 +1,5 @@
 -- The rows of the picture, and texts one after the other.
-use Rattle.std.specs.Prelude.{ℕ, zero, suc, ◌==◌, Option, Some, None, List, [], ◌++◌, position, slice_index, slice_index_or}
+use Rattle.std.specs.Prelude.{ℕ, zero, suc, ◌==◌, nat_lt, if◌then◌else◌, Option, Some, None, List, [], ◌++◌, length, position, slice_index, slice_index_or}
 use Rattle.task_sheet.specs.Sheet.{no_task, same_bytes}
 use Rattle.ceiling_kernel.specs.declared.trace.JobRecord.{JobRecord}
 use Rattle.ceiling_kernel.specs.Runs.{no_record}
@@ -75,6 +75,14 @@ in_spot rows text (Some s) = text s (row_at rows s.rank)
 -- a text for the spot of the task with a name
 abbrev pub on_spot : List TaskRow → (shown : List ℕ) → List ℕ → (Spot → TaskRow → List ℕ) → List ℕ
 on_spot rows shown name text = in_spot rows text (spot_named rows shown name)
+
+-- a text for a spot, where a row stands there
+abbrev pub at_spot : List TaskRow → Spot → (Spot → TaskRow → List ℕ) → List ℕ
+at_spot rows s text = if nat_lt s.rank (length rows) then text s (row_at rows s.rank) else []
+
+-- a text for each place
+abbrev pub at_places : List TaskRow → (shown : List ℕ) → (Spot → TaskRow → List ℕ) → List ℕ
+at_places rows shown text = each (length shown) (λ k. at_spot rows (spot_in shown k) text)
 
 -- a text for a job, if there is one
 abbrev pub of_job : (JobRecord → List ℕ) → Option JobRecord → List ℕ

@@ -1,7 +1,7 @@
 //! Boxes.
 ghost use Rattle.frames.specs.Page.{Adds};
 ghost use Rattle.std.specs.Prelude.{◌*◌, ◌+◌, ◌++◌, ◌≡◌, ◌≤◌, length, max, nat_le};
-ghost use Rattle.task_sheet.specs.declared.set.TheConstants.{TASK_LIMIT};
+ghost use Rattle.frames.specs.declared.places.TheConstants.{PLACES_LIMIT};
 ghost use Rattle.frames.specs.Boxes.{box_path};
 ghost use Rattle.frames.specs.Frame.{top_of};
 ghost use Rattle.frames.specs.declared.frame.TheConstants.{RIGHTMOST};
@@ -35,7 +35,7 @@ pub fn put_bar(before: &[u8], bar: Bar, page: &mut Page)
 /// The bar from a place up to another, in row k; at least half a pixel wide.
 pub fn bar_of(x: u64, end: u64, k: usize) -> Bar
     requires place { x ≤ RIGHTMOST }
-    requires row { k ≤ TASK_LIMIT }
+    requires row { k ≤ PLACES_LIMIT }
     ensures x { result.x ≡ x }
     ensures right { result.right ≡ max end (x + 5) }
     ensures y { result.y ≡ top_of k + 165 }

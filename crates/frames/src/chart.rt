@@ -1,18 +1,19 @@
 //! A run in a frame.
-ghost use Rattle.std.specs.Prelude.{◌<◌, ◌≡◌, ◌≤◌, All, IfSome, length};
+ghost use Rattle.std.specs.Prelude.{◌<◌, ◌≡◌, ◌≤◌, IfSome, length};
 ghost use Rattle.task_sheet.specs.declared.set.TheConstants.{TASK_LIMIT};
+ghost use Rattle.frames.specs.declared.places.TheConstants.{PLACES_LIMIT};
 ghost use Rattle.frames.specs.PictureRows.{row_at, spot_in, spot_named};
 ghost use Rattle.frames.specs.Slices.{rises};
 ghost use Rattle.frames.specs.declared.locks.TheConstants.{LOCKS_LIMIT};
 
 use crate::frame::Frame;
-use crate::rows::{Spot, TaskRow, find_row, job_at, place_in};
+use crate::rows::{Spot, TaskRow, job_at, spot_named};
 use crate::tones::Toned;
 use ceiling_kernel::{JobRecord, Release, Slice};
 use task_sheet::Name;
 
-/// What is drawn: how time lies, the title, the rows, the highest level first, and which of them are shown, when the run
-/// ends, what happened in it, and the locks.
+/// What is drawn: how time lies, the title, the rows, the highest level first, and which of them are shown, by their ranks (a
+/// rank of no row is a place that is free), when the run ends, what happened in it, and the locks.
 #[derive(Drop)]
 pub struct Chart<'a> {
     pub frame: Frame,
@@ -27,8 +28,7 @@ pub struct Chart<'a> {
     pub rising: bool,
     pub locks: &'a [Toned],
     ghost few: { length rows.now ≤ TASK_LIMIT },
-    ghost few_shown: { length shown.now ≤ TASK_LIMIT },
-    ghost ranks: { All (λ rank. rank < length rows.now) shown.now },
+    ghost few_shown: { length shown.now ≤ PLACES_LIMIT },
     ghost some_locks: { length locks.now ≤ LOCKS_LIMIT },
     ghost rises: { rising ≡ rises 0 slices.now },
 }
@@ -40,7 +40,7 @@ pub struct Lane<'a> {
     pub spot: Spot,
     pub row: &'a TaskRow,
     pub locks: &'a [Toned],
-    ghost within: { spot.k ≤ TASK_LIMIT },
+    ghost within: { spot.k ≤ PLACES_LIMIT },
 }
 
 impl Chart<'_> {
@@ -50,7 +50,7 @@ impl Chart<'_> {
     /// The row at a spot.
     pub fn lane(&self, spot: Spot) -> Lane<'_>
         requires row { spot.rank < length self.now.rows.now }
-        requires place { spot.k ≤ TASK_LIMIT }
+        requires place { spot.k ≤ PLACES_LIMIT }
         ensures frame { result.frame ≡ self.now.frame }
         ensures spot { result.spot ≡ spot }
         ensures locks { result.locks.now ≡ self.now.locks.now }
@@ -64,12 +64,11 @@ impl Chart<'_> {
         }
     }
 
-    /// The spot at a place.
+    /// The spot at a place, which may be free.
     pub fn spot(&self, k: usize) -> Spot
         requires { k < length self.now.shown.now }
         ensures spot { result ≡ spot_in self.now.shown.now k }
-        ensures row { result.rank < length self.now.rows.now }
-        ensures place { result.k ≤ TASK_LIMIT }
+        ensures place { result.k ≤ PLACES_LIMIT }
     {
         Spot {
             rank: self.shown[k],
@@ -91,10 +90,8 @@ impl Chart<'_> {
     pub fn spot_of(&self, name: Name) -> Option<Spot>
         ensures spot { result ≡ spot_named self.now.rows.now self.now.shown.now name }
         ensures row { IfSome result (λ s. s.rank < length self.now.rows.now) }
-        ensures place { IfSome result (λ s. s.k ≤ TASK_LIMIT) }
+        ensures place { IfSome result (λ s. s.k ≤ PLACES_LIMIT) }
     {
-        let rank = find_row(self.rows, name)?;
-        let k = place_in(self.shown, rank)?;
-        Some(Spot { rank, k })
+        spot_named(self.rows, self.shown, name)
     }
 }

@@ -3,7 +3,8 @@ ghost use Rattle.std.specs.Prelude.{◌+◌, ◌<◌, ◌≡◌, ◌≤◌, leng
 ghost use Rattle.ceiling_kernel.specs.declared.accept.TheConstants.{HORIZON};
 ghost use Rattle.task_sheet.specs.declared.set.TheConstants.{TASK_LIMIT};
 ghost use Rattle.task_sheet.specs.declared.sheet.TheConstants.{PERIOD_TO};
-ghost use Rattle.frames.specs.Frame.{Frame, IsFrame, decade_of, ended, frame_end, frame_of, in_millis, is_in_millis, is_wide, least_period, left_of, level_of, limits_letters, margin_of, millis_letters, number_room, sees, span_of, step_of, steps_before, time_letters, top_of, whole_digits, x_of};
+ghost use Rattle.frames.specs.declared.places.TheConstants.{PLACES_LIMIT};
+ghost use Rattle.frames.specs.Frame.{Frame, IsFrame, decade_of, ended, frame_beside, frame_end, frame_of, in_millis, is_in_millis, is_wide, least_period, left_of, level_of, limits_letters, margin_of, millis_letters, number_room, sees, span_of, step_of, steps_before, time_letters, top_of, whole_digits, x_of};
 ghost use Rattle.frames.specs.declared.frame.TheConstants.{LOWEST_TOP, NARROWEST, RIGHTMOST, WIDEST_DECADE, WIDEST_MARGIN, WIDEST_STEP};
 
 use crate::rows::TaskRow;
@@ -28,7 +29,7 @@ const LEAST_MARGIN: u64 = 1_960;
 const WIDEST_MARGIN: u64 = 2_600;
 
 /// No row begins further down.
-pub const LOWEST_TOP: u64 = 17_050;
+pub const LOWEST_TOP: u64 = 63_610;
 
 // The widest power of ten of the scale, in microseconds.
 const WIDEST_DECADE: u64 = 1_000_000;
@@ -211,6 +212,35 @@ pub fn frame_of(rows: &[TaskRow], view: &View, until: u64) -> Frame
     }
 }
 
+/// The frame of one of two runs side by side, of so many tasks, which ends by itself; the window goes up to the later end.
+pub fn frame_beside(
+    count: usize,
+    old: &[TaskRow],
+    new: &[TaskRow],
+    view: &View,
+    end: u64,
+    until: u64,
+) -> Frame
+    requires { count ≤ TASK_LIMIT }
+    ensures { result ≡ frame_beside count old.now new.now view.now end until }
+{
+    let least = least_period(old).min(least_period(new)).max(1);
+    let to = window_end(view, until).max(1);
+    let from = view.from.min(to - 1);
+    let millis = is_in_millis(to - from);
+    let left = left_of(millis, old).max(left_of(millis, new));
+    let span = span_of(view.width, left, least, to - from);
+    Frame {
+        until: end.min(HORIZON).max(1),
+        from,
+        to,
+        left,
+        span,
+        count: count as u64,
+        paper: view.paper,
+    }
+}
+
 /// Whether the picture's times are in milliseconds, where its window has ten of them; else they are in microseconds.
 pub fn in_millis(frame: Frame) -> bool
     ensures { result ≡ in_millis frame }
@@ -291,7 +321,7 @@ pub fn end_of(frame: Frame) -> u64
 
 /// Where row k begins, from above.
 pub fn top_of(k: usize) -> u64
-    requires { k ≤ TASK_LIMIT }
+    requires { k ≤ PLACES_LIMIT }
     ensures value { result ≡ top_of k }
     ensures within { result ≤ LOWEST_TOP }
 {

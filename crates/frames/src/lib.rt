@@ -7,6 +7,7 @@ mod frame;
 mod locks;
 mod numbers;
 mod page;
+mod places;
 mod rows;
 mod slices;
 mod tones;
@@ -15,14 +16,15 @@ mod view;
 pub use boxes::{Bar, bar_of, has_room, put_bar};
 pub use chart::{Chart, Lane};
 pub use frame::{
-    Frame, LOWEST_TOP, RIGHTMOST, WIDEST_STEP, end_of, ended, frame_of, in_millis, is_before,
-    is_by_end, is_from_start, level_of, sees, sees_between, sees_from, sees_up_to, start_of,
-    step_of, steps_before, time_letters, top_of, x_after, x_of,
+    Frame, LOWEST_TOP, RIGHTMOST, WIDEST_STEP, end_of, ended, frame_beside, frame_of, in_millis,
+    is_before, is_by_end, is_from_start, level_of, sees, sees_between, sees_from, sees_up_to,
+    start_of, step_of, steps_before, time_letters, top_of, x_after, x_of,
 };
-pub use locks::{LOCKS_LIMIT, locks_of, note_names};
+pub use locks::{LOCKS_LIMIT, locks_beside, locks_of, note_names};
 pub use numbers::{put_known, put_time, put_times, put_unit};
 pub use page::Page;
-pub use rows::{Spot, TaskRow, find_row, job_at, name_in, name_of, place_in, tone_in};
+pub use places::{FREE, PLACES_LIMIT, below_of, lower_places, upper_places};
+pub use rows::{Spot, TaskRow, find_row, job_at, name_in, name_of, place_in, spot_named, tone_in};
 pub use slices::{executed_after, executed_with, slice_at, starts_rise, ticks_of};
 pub use tones::{LOCK_TONES, TASK_TONES, Toned, fitted_tone, tone_named, tones_of};
 pub use view::{View, paper_width, shown_of};

@@ -1,6 +1,6 @@
 //! Locks: those of the rows, each once, by name, and their tones.
 ghost use Rattle.std.specs.Prelude.{◌≡◌, ◌≤◌, IfOk, OnOk, length};
-ghost use Rattle.frames.specs.Locks.{lock_names, locks_of, name_place, noted, noted_names, noted_sections, place_of};
+ghost use Rattle.frames.specs.Locks.{locks_beside, locks_of, name_place, noted, noted_names, noted_rows, noted_sections, place_of};
 ghost use Rattle.frames.specs.declared.locks.TheConstants.{LOCKS_LIMIT};
 
 use crate::rows::TaskRow;
@@ -78,16 +78,16 @@ fn note_sections(locks: &mut Vec<Name>, sections: &[Section]) -> Result<(), Allo
     Ok(())
 }
 
-// The names of the rows' locks, each once, the least first.
-fn lock_names(alloc: Global, rows: &[TaskRow]) -> Result<Vec<Name>, AllocError>
-    ensures value { IfOk result (λ locks. locks.items ≡ lock_names rows.now) }
-    ensures few { IfOk result (λ locks. length locks.items ≤ LOCKS_LIMIT) }
+// Notes those of some rows.
+fn note_rows(locks: &mut Vec<Name>, rows: &[TaskRow]) -> Result<(), AllocError>
+    requires { length locks.old.items ≤ LOCKS_LIMIT }
+    ensures noted { OnOk result (locks.new.items ≡ noted_rows locks.old.items rows.now) }
+    ensures few { OnOk result (length locks.new.items ≤ LOCKS_LIMIT) }
 {
-    let mut locks = Vec::new(alloc);
     for row in rows {
-        note_sections(&mut locks, row.sheet.sections())?;
+        note_sections(locks, row.sheet.sections())?;
     }
-    Ok(locks)
+    Ok(())
 }
 
 /// The locks of the rows, each once, by name, and their tones.
@@ -95,6 +95,22 @@ pub fn locks_of(alloc: Global, rows: &[TaskRow]) -> Result<Vec<Toned>, AllocErro
     ensures value { IfOk result (λ locks. locks.items ≡ locks_of rows.now) }
     ensures few { IfOk result (λ locks. length locks.items ≤ LOCKS_LIMIT) }
 {
-    let names = lock_names(alloc, rows)?;
+    let mut names = Vec::new(alloc);
+    note_rows(&mut names, rows)?;
+    tones_of(alloc, &names, LOCK_TONES)
+}
+
+/// The locks of the rows of two runs, each once, by name, and their tones.
+pub fn locks_beside(
+    alloc: Global,
+    old: &[TaskRow],
+    new: &[TaskRow],
+) -> Result<Vec<Toned>, AllocError>
+    ensures value { IfOk result (λ locks. locks.items ≡ locks_beside old.now new.now) }
+    ensures few { IfOk result (λ locks. length locks.items ≤ LOCKS_LIMIT) }
+{
+    let mut names = Vec::new(alloc);
+    note_rows(&mut names, old)?;
+    note_rows(&mut names, new)?;
     tones_of(alloc, &names, LOCK_TONES)
 }

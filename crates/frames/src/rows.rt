@@ -1,6 +1,6 @@
 //! Rows.
 ghost use Rattle.std.specs.Prelude.{◌<◌, ◌≡◌, IfSome, length};
-ghost use Rattle.frames.specs.PictureRows.{name_in, place_in, record_at, row_named, tone_in};
+ghost use Rattle.frames.specs.PictureRows.{name_in, place_in, record_at, row_named, spot_named, tone_in};
 
 use ceiling_kernel::JobRecord;
 use task_sheet::{Name, Sheet};
@@ -72,6 +72,17 @@ pub fn place_in(shown: &[usize], rank: usize) -> Option<usize>
         }
     }
     None
+}
+
+/// The spot of the task with a name, if it is shown.
+pub fn spot_named(rows: &[TaskRow], shown: &[usize], name: Name) -> Option<Spot>
+    ensures spot { result ≡ spot_named rows.now shown.now name }
+    ensures row { IfSome result (λ s. s.rank < length rows.now) }
+    ensures place { IfSome result (λ s. s.k < length shown.now) }
+{
+    let rank = find_row(rows, name)?;
+    let k = place_in(shown, rank)?;
+    Some(Spot { rank, k })
 }
 
 /// The job at a place.

@@ -16,7 +16,9 @@ use Rattle.frames.specs.Locks.{locks_of}
 use Rattle.frames.specs.View.{shown_of}
 use Rattle.frames.specs.Page.{Adds}
 use Rattle.frames.specs.declared.page.Page.{Page}
+use Rattle.picture.specs.Beside.{Run, body_beside, scene_at}
 use Rattle.picture.specs.Document.{document, framed}
+use Rattle.picture.specs.Waits.{Scene}
 
 pub document_of : (rows : List TaskRow) (v : View) (until : ℕ) (rs : List Release) (trace : Trace)
     (f : Frame) (title : List ℕ) (locks : List Toned) (shown : List ℕ) (jobs : List JobRecord)
@@ -35,3 +37,16 @@ pub whole_of : {a b : Page} {words : List ℕ} (r : Result (Vec ℕ) AllocError)
     → IfOk r (λ text. text.items ≡ words)
 whole_of {words = words} r Q put empty whole = MatchResult-weaker r whole
     (λ text is. rw is.1 (put.adds is.0 ∙ ap (λ (l : List ℕ). l ++ words) empty)) (λ _ _. tt)
+
+-- ---- of two runs
+-- a run in the same frame, with the same locks, at the same places
+pub scene_same : (run : Run) {f g : Frame} {locks held : List Toned} {shown places : List ℕ}
+    → f ≡ g → locks ≡ held → shown ≡ places → scene_at f locks run shown ≡ scene_at g held run places
+scene_same run frame locked placed = rw frame (rw locked (rw placed refl))
+
+-- what is drawn of the same
+pub beside_of : {o n old new : Scene} {title words : List ℕ} {was is p q : ℕ}
+    → o ≡ old → n ≡ new → title ≡ words → p ≡ was → q ≡ is
+    → body_beside o n title p q ≡ body_beside old new words was is
+beside_of before after titled one other =
+    rw before (rw after (rw titled (rw one (rw other refl))))

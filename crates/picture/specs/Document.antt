@@ -15,7 +15,7 @@ use Rattle.picture.specs.Titles.{title_tail}
 use Rattle.picture.specs.declared.style.TheConstants.{STYLE}
 use Rattle.picture.specs.Legend.{legend_text}
 use Rattle.frames.specs.Frame.{Frame, frame_of, frame_end, in_millis, step_of, steps_before, top_of}
-use Rattle.frames.specs.PictureRows.{each, row_at, spot_in}
+use Rattle.frames.specs.PictureRows.{at_places, each}
 use Rattle.frames.specs.Numbers.{time_text, unit_text}
 use Rattle.drawn_jobs.specs.Misses.{all_missed, badge_text, misses_text}
 use Rattle.picture.specs.Margin.{margin_text}
@@ -82,9 +82,7 @@ lines_text f rows = each rows (line_text f)
 
 -- the margin
 abbrev pub margins_text : Frame → List TaskRow → (shown : List ℕ) → List JobRecord → List ℕ
-margins_text f rows shown jobs =
-    each (length shown)
-    (λ k. margin_text f jobs (spot_in shown k) (row_at rows (spot_in shown k).rank))
+margins_text f rows shown jobs = at_places rows shown (margin_text f jobs)
 
 -- the same as a group, with the scale's unit and the lane of the processor
 abbrev pub margin_group : Frame → List TaskRow → (shown : List ℕ) → List JobRecord → List Slice → List ℕ
@@ -139,15 +137,18 @@ ground_text f title held rows shown jobs slices until =
     ++ ticks_text f (top_of (length shown)) (step_of f) ++ lane_line f ++ lines_text f (length shown)
     ++ margin_group f rows shown jobs slices ++ locks_group f (length shown) held
 
--- what is drawn in a frame: what stands still, with the locks that are held in it, the lane, the jobs, the marks, what is missed,
--- why jobs wait, and the slices
+-- what happens in the rows: the jobs, the marks, what is missed, why jobs wait, and the slices
+abbrev pub run_text : Frame → List Toned → List TaskRow → (shown : List ℕ) → List Release → List JobRecord → List Slice → List ℕ
+run_text f locks rows shown rs jobs slices =
+    jobs_text f rows shown jobs ++ all_marks f rows shown jobs rs
+    ++ misses_text f rows shown jobs ++ waits_text f locks rows shown rs jobs slices
+    ++ slices_text f locks rows shown jobs slices
+
+-- what is drawn in a frame: what stands still, with the locks that are held in it, the lane, and what happens in the rows
 abbrev pub body_text : Frame → List ℕ → List Toned → List TaskRow → (shown : List ℕ) → ℕ → List Release → List JobRecord → List Slice → List ℕ
 body_text f title locks rows shown until rs jobs slices =
     ground_text f title (held_locks f locks rows shown jobs slices) rows shown jobs slices until
-    ++ lanes_text f rows jobs slices
-    ++ jobs_text f rows shown jobs ++ all_marks f rows shown jobs rs
-    ++ misses_text f rows shown jobs ++ waits_text f locks rows shown rs jobs slices
-    ++ slices_text f locks rows shown jobs slices
+    ++ lanes_text f rows jobs slices ++ run_text f locks rows shown rs jobs slices
 
 -- the same as a document, with what the signs in it mean
 abbrev pub signed : (text : List ℕ) → List ℕ

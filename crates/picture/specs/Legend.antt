@@ -1,7 +1,7 @@
 -- What the signs mean: each stands where the picture has it.
 use Rattle.std.specs.Prelude.{ℕ, Bool, if◌then◌else◌, is_some, List, [], ◌++◌, codes}
 use Rattle.memchr.specs.Find.{first_of, matches}
-use Rattle.picture.specs.declared.legend.TheConstants.{ARRIVAL, BLOCKED, BOUND, DEADLINE, EXECUTES, GOES_ON, MISSED, NOT_READY, SEVERAL, UNRUN, WAITS}
+use Rattle.picture.specs.declared.legend.TheConstants.{ARRIVAL, BLOCKED, BOUND, CHANGED, DEADLINE, EXECUTES, GOES_ON, MISSED, NOT_READY, SEVERAL, UNRUN, WAITS}
 
 -- words stand somewhere in a text
 abbrev pub has_words : (text words : List ℕ) → Bool
@@ -25,7 +25,7 @@ first_line text =
     ++ sign_text text (codes "<path class=\"wa ns") SEVERAL.now
     ++ sign_text text (codes "<path class=\"a\" d=\"M") GOES_ON.now
 
--- jobs and their marks, what is missed, and what timers and interrupts take
+-- jobs and their marks, what is missed, what timers and interrupts take, and responses that changed
 abbrev pub second_line : (text : List ℕ) → List ℕ
 second_line text =
     sign_of text (codes "<path class=\"w\"") (codes "<path class=\"l w\"") BOUND.now
@@ -34,6 +34,7 @@ second_line text =
     ++ sign_text text (codes "<path class=\"d\" d=\"\nM") DEADLINE.now
     ++ sign_of text (codes "<path class=\"x\"") (codes "<path class=\"z\"") MISSED.now
     ++ sign_text text (codes "<path class=\"wt\"") UNRUN.now
+    ++ sign_text text (codes "<path class=\"ch\"") CHANGED.now
 
 -- the signs that a picture has
 abbrev pub legend_text : (text : List ℕ) → List ℕ

@@ -6,4 +6,5 @@ pub mod Margin
 pub mod Scale
 pub mod Legend
 pub mod Document
+pub mod Beside
 pub mod Laws

@@ -1,7 +1,9 @@
 //! The whole picture.
 ghost use Rattle.std.specs.Prelude.{◌≡◌, ◌≤◌, IfOk, length};
 ghost use Rattle.task_sheet.specs.declared.set.TheConstants.{TASK_LIMIT};
-ghost use Rattle.picture.specs.Document.{body_text, document, framed, signed};
+ghost use Rattle.drawn_jobs.specs.Sections.{AreUncounted};
+ghost use Rattle.frames.specs.Page.{Adds};
+ghost use Rattle.picture.specs.Document.{body_text, document, framed, run_text, signed};
 
 use crate::ground::put_ground;
 use crate::legend::legend_of;
@@ -10,6 +12,19 @@ use ceiling_kernel::{Release, Slice, Trace};
 use drawn_jobs::{held_locks, put_all_marks, put_jobs, put_lanes, put_misses, put_slices};
 use frames::{Chart, Page, TaskRow, View, frame_of, locks_of, shown_of, starts_rise};
 use std::alloc::{AllocError, Global};
+
+// What happens in the rows of a chart. The ticks that each job has executed are counted; none were before.
+pub(crate) fn put_run(chart: &Chart<'_>, executed: &mut [u64], page: &mut Page)
+    requires { AreUncounted executed.old (length chart.now.jobs.now) }
+    ensures { Adds page.old page.new (run_text chart.now.frame chart.now.locks.now chart.now.rows.now
+        chart.now.shown.now chart.now.releases.now chart.now.jobs.now chart.now.slices.now) }
+{
+    put_jobs(chart, page);
+    put_all_marks(chart, page);
+    put_misses(chart, page);
+    put_waits(chart, page);
+    put_slices(chart, executed, page)
+}
 
 // What is drawn of a chart. Memory is taken for it, for two counts of each job, and for two names of each lock.
 fn body_of(alloc: Global, chart: &Chart<'_>) -> Result<Vec<u8>, AllocError>
@@ -23,16 +38,12 @@ fn body_of(alloc: Global, chart: &Chart<'_>) -> Result<Vec<u8>, AllocError>
     let mut page = Page::new(alloc);
     put_ground(chart, &held, &mut page);
     put_lanes(chart, &mut page);
-    put_jobs(chart, &mut page);
-    put_all_marks(chart, &mut page);
-    put_misses(chart, &mut page);
-    put_waits(chart, &mut page);
-    put_slices(chart, &mut executed, &mut page);
+    put_run(chart, &mut executed, &mut page);
     page.whole()
 }
 
 // A document of what is drawn, with what the signs in it mean.
-fn signed(alloc: Global, text: Vec<u8>) -> Result<Vec<u8>, AllocError>
+pub(crate) fn signed(alloc: Global, text: Vec<u8>) -> Result<Vec<u8>, AllocError>
     ensures { IfOk result (λ document. document.items ≡ signed text.items) }
 {
     let mut text = text;

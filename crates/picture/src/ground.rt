@@ -1,7 +1,7 @@
 //! What stands still.
 ghost use Rattle.std.specs.Prelude.{◌*◌, ◌<◌, ◌≡◌, ◌≤◌, length};
 ghost use Rattle.frames.specs.Page.{Adds};
-ghost use Rattle.task_sheet.specs.declared.set.TheConstants.{TASK_LIMIT};
+ghost use Rattle.frames.specs.declared.places.TheConstants.{PLACES_LIMIT};
 ghost use Rattle.frames.specs.declared.frame.TheConstants.{RIGHTMOST, WIDEST_STEP};
 ghost use Rattle.frames.specs.declared.locks.TheConstants.{LOCKS_LIMIT};
 ghost use Rattle.picture.specs.Document.{are_interrupted, document_head, ground_text, lines_text, paper_wide, size_head, size_words, ticks_text, unrun_words, verdict_head, verdict_text, what_text, window_words};
@@ -58,7 +58,7 @@ fn put_size(paper: Option<u64>, wide: u64, high: u64, page: &mut Page)
 }
 
 // The first line, and that.
-fn put_size_head(frame: Frame, wide: u64, high: u64, page: &mut Page)
+pub(crate) fn put_size_head(frame: Frame, wide: u64, high: u64, page: &mut Page)
     requires some { 0 < wide }
     requires wide { wide ≤ 2 * RIGHTMOST }
     requires high { high ≤ 2000000 }
@@ -103,7 +103,7 @@ fn put_tick(frame: Frame, bottom: u64, time: u64, page: &mut Page)
 }
 
 // The scale.
-fn put_ticks(frame: Frame, bottom: u64, step: u64, page: &mut Page)
+pub(crate) fn put_ticks(frame: Frame, bottom: u64, step: u64, page: &mut Page)
     requires some { 0 < step }
     requires within { step ≤ WIDEST_STEP }
     ensures { Adds page.old page.new (ticks_text frame bottom step) }
@@ -117,7 +117,7 @@ fn put_ticks(frame: Frame, bottom: u64, step: u64, page: &mut Page)
 
 // The line between rows, and the line of a row, below its bars.
 fn put_line(frame: Frame, k: usize, page: &mut Page)
-    requires { k ≤ TASK_LIMIT }
+    requires { k ≤ PLACES_LIMIT }
     ensures { Adds page.old page.new (line_text frame k) }
 {
     let top = top_of(k);
@@ -164,7 +164,7 @@ fn put_verdict(title: &[u8], missed: usize, page: &mut Page)
 }
 
 // What part of it is drawn, where that isn't all.
-fn put_window(millis: bool, frame: Frame, page: &mut Page)
+pub(crate) fn put_window(millis: bool, frame: Frame, page: &mut Page)
     ensures { Adds page.old page.new (window_words millis frame) }
 {
     if frame.from == 0 && frame.to == frame.until {
@@ -176,7 +176,7 @@ fn put_window(millis: bool, frame: Frame, page: &mut Page)
 }
 
 // Whether some task has a timer that takes time, or an interrupt on its account.
-fn are_interrupted(rows: &[TaskRow]) -> bool
+pub(crate) fn are_interrupted(rows: &[TaskRow]) -> bool
     ensures { result ≡ are_interrupted rows.now }
 {
     for row in rows {
@@ -188,7 +188,7 @@ fn are_interrupted(rows: &[TaskRow]) -> bool
 }
 
 // That the bounds then count what the run lacks.
-fn put_unrun(rows: &[TaskRow], page: &mut Page)
+pub(crate) fn put_unrun(rows: &[TaskRow], page: &mut Page)
     ensures { Adds page.old page.new (unrun_words rows.now) }
 {
     if are_interrupted(rows) {

@@ -67,6 +67,11 @@ const UNRUN: &str = concat!(
     "<text x=\"5550\" y=\"918\">timers and interrupts, not in this run</text>\n",
 );
 
+const CHANGED: &str = concat!(
+    "<path class=\"ch\" d=\"M7750 840l-45 80h90z\"/>",
+    "<text x=\"7850\" y=\"918\">response changed</text>\n",
+);
+
 // Whether words stand somewhere in a text.
 fn has_words(text: &[u8], words: &[u8]) -> bool
     ensures { result ≡ has_words text.now words.now }
@@ -126,7 +131,8 @@ fn put_second_line(text: &[u8], page: &mut Page)
         MISSED,
         page,
     );
-    put_sign(text, b"<path class=\"wt\"", UNRUN, page)
+    put_sign(text, b"<path class=\"wt\"", UNRUN, page);
+    put_sign(text, b"<path class=\"ch\"", CHANGED, page)
 }
 
 // What the signs mean that a picture has.

@@ -1,7 +1,8 @@
 //! The margin: each row's level, tone and name, and how long its jobs take at most.
-ghost use Rattle.std.specs.Prelude.{◌≡◌, ◌++◌, codes};
+ghost use Rattle.std.specs.Prelude.{◌<◌, ◌≡◌, ◌++◌, codes, length};
 ghost use Rattle.frames.specs.Frame.{in_millis, level_of};
 ghost use Rattle.frames.specs.Page.{Adds};
+ghost use Rattle.frames.specs.PictureRows.{at_spot, spot_in};
 ghost use Rattle.picture.specs.Document.{margin_group, margins_text};
 ghost use Rattle.picture.specs.Margin.{late_words, level_text, limits_text, margin_text, missed_line, name_class, name_text, number_words};
 
@@ -129,13 +130,25 @@ fn put_margin(lane: &Lane<'_>, jobs: &[JobRecord], page: &mut Page)
     put_missed_line(missed, latest_in(lane.row, jobs), lane, page)
 }
 
+// The part of the row at a place, where one stands there.
+fn put_margin_at(chart: &Chart<'_>, k: usize, page: &mut Page)
+    requires { k < length chart.now.shown.now }
+    ensures { Adds page.old page.new (at_spot chart.now.rows.now (spot_in chart.now.shown.now k)
+        (margin_text chart.now.frame chart.now.jobs.now)) }
+{
+    let spot = chart.spot(k);
+    if spot.rank < chart.rows.len() {
+        put_margin(&chart.lane(spot), chart.jobs, page)
+    }
+}
+
 // The rows' parts.
-fn put_margins(chart: &Chart<'_>, page: &mut Page)
+pub(crate) fn put_margins(chart: &Chart<'_>, page: &mut Page)
     ensures { Adds page.old page.new (margins_text chart.now.frame chart.now.rows.now
         chart.now.shown.now chart.now.jobs.now) }
 {
     for k in 0..chart.shown.len() {
-        put_margin(&chart.lane(chart.spot(k)), chart.jobs, page);
+        put_margin_at(chart, k, page);
     }
 }
 

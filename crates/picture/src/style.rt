@@ -1,5 +1,16 @@
 //! How the elements look, in a light and in a dark surrounding.
 
+// What a picture of two runs has beside.
+pub(crate) const BESIDE_STYLE: &str = concat!(
+    "<style type=\"text/css\">",
+    // which of the runs
+    ".ba{font:italic 105px sans-serif}",
+    // a response that changed
+    ".ch{fill:#a8007f}",
+    "@media(prefers-color-scheme:dark){.ch{fill:#ff8ae2}}",
+    "</style>\n",
+);
+
 // The style, the patterns, and the ground.
 pub(crate) const STYLE: &str = concat!(
     "<style type=\"text/css\">",

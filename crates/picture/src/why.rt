@@ -1,7 +1,7 @@
 //! How the waits of jobs are drawn.
 ghost use Rattle.std.specs.Prelude.{◌<◌, ◌≡◌, ◌≤◌, length};
 ghost use Rattle.frames.specs.Page.{Adds};
-ghost use Rattle.task_sheet.specs.declared.set.TheConstants.{TASK_LIMIT};
+ghost use Rattle.frames.specs.declared.places.TheConstants.{PLACES_LIMIT};
 ghost use Rattle.picture.specs.WaitTexts.{above_text, blocked_text, has_link, ink_path, job_waits, link_text, lock_words, nth_wait_text, stay_text, tone_of_lock, wait_line, wait_title, waits_text, who_text, why_text};
 ghost use Rattle.picture.specs.Waits.{EndBy, scene_of, stay_of};
 
@@ -46,7 +46,7 @@ fn put_ink(gathered: bool, tone: u64, page: &mut Page)
 
 // Where it goes: a line in the middle of the row at place k, up to the title.
 fn put_line(x: u64, right: u64, k: usize, page: &mut Page)
-    requires { k ≤ TASK_LIMIT }
+    requires { k ≤ PLACES_LIMIT }
     ensures { Adds page.old page.new (wait_line x right k) }
 {
     page.number(b"\" d=\"M", x);
@@ -78,7 +78,7 @@ fn put_title(
 // A wait of a row for a task above.
 fn put_above(chart: &Chart<'_>, spot: Spot, wait: Wait, gathered: bool, page: &mut Page)
     requires row { spot.rank < length chart.now.rows.now }
-    requires place { spot.k ≤ TASK_LIMIT }
+    requires place { spot.k ≤ PLACES_LIMIT }
     requires other { wait.row < length chart.now.rows.now }
     ensures { Adds page.old page.new (above_text (scene_of chart.now) spot wait gathered) }
 {
@@ -98,7 +98,7 @@ fn has_link(frame: Frame, wait: Wait) -> bool
 
 // A link in a tone, from the end of such a wait at place k down to the bar of the task below, where that is shown.
 fn put_link(chart: &Chart<'_>, k: usize, wait: Wait, tone: u64, page: &mut Page)
-    requires { k ≤ TASK_LIMIT }
+    requires { k ≤ PLACES_LIMIT }
     ensures { Adds page.old page.new (link_text (scene_of chart.now) k wait tone) }
 {
     if !has_link(chart.frame, wait) {
@@ -117,7 +117,7 @@ fn put_link(chart: &Chart<'_>, k: usize, wait: Wait, tone: u64, page: &mut Page)
 // A wait of a row for a task below, which blocks by a lock: dots in its tone.
 fn put_blocked(chart: &Chart<'_>, spot: Spot, wait: Wait, lock: Option<Name>, page: &mut Page)
     requires row { spot.rank < length chart.now.rows.now }
-    requires place { spot.k ≤ TASK_LIMIT }
+    requires place { spot.k ≤ PLACES_LIMIT }
     requires other { wait.row < length chart.now.rows.now }
     ensures { Adds page.old page.new (blocked_text (scene_of chart.now) spot wait lock) }
 {
@@ -133,7 +133,7 @@ fn put_blocked(chart: &Chart<'_>, spot: Spot, wait: Wait, lock: Option<Name>, pa
 
 // The name of who executes, in the middle of a wait, above, where it has room.
 fn put_who(chart: &Chart<'_>, k: usize, wait: Wait, page: &mut Page)
-    requires place { k ≤ TASK_LIMIT }
+    requires place { k ≤ PLACES_LIMIT }
     requires other { wait.row < length chart.now.rows.now }
     ensures { Adds page.old page.new (who_text (scene_of chart.now) k wait) }
 {
@@ -151,7 +151,7 @@ fn put_who(chart: &Chart<'_>, k: usize, wait: Wait, page: &mut Page)
 // Why a job in a row waits in slice n.
 fn put_why(chart: &Chart<'_>, stay: Stay, spot: Spot, n: usize, wait: Wait, page: &mut Page)
     requires row { spot.rank < length chart.now.rows.now }
-    requires place { spot.k ≤ TASK_LIMIT }
+    requires place { spot.k ≤ PLACES_LIMIT }
     requires other { wait.row < length chart.now.rows.now }
     requires slice { n < length chart.now.slices.now }
     ensures { Adds page.old page.new (why_text (scene_of chart.now) stay spot n wait) }
@@ -168,7 +168,7 @@ fn put_why(chart: &Chart<'_>, stay: Stay, spot: Spot, n: usize, wait: Wait, page
 // That, and the name of who executes, if the job waits in that slice, and in the window.
 fn put_nth_wait(chart: &Chart<'_>, stay: Stay, spot: Spot, n: usize, page: &mut Page)
     requires row { spot.rank < length chart.now.rows.now }
-    requires place { spot.k ≤ TASK_LIMIT }
+    requires place { spot.k ≤ PLACES_LIMIT }
     requires slice { n < length chart.now.slices.now }
     ensures { Adds page.old page.new (nth_wait_text (scene_of chart.now) stay spot n) }
 {
@@ -184,7 +184,7 @@ fn put_nth_wait(chart: &Chart<'_>, stay: Stay, spot: Spot, n: usize, page: &mut 
 // The waits of a job in a row, by time: in the slices that end by then it isn't ready.
 fn put_stay(chart: &Chart<'_>, stay: Stay, spot: Spot, past: Past, page: &mut Page)
     requires row { spot.rank < length chart.now.rows.now }
-    requires place { spot.k ≤ TASK_LIMIT }
+    requires place { spot.k ≤ PLACES_LIMIT }
     requires within { past.count ≤ length chart.now.slices.now }
     requires ended { EndBy chart.now.slices.now past.count past.time }
     requires before { past.time ≤ stay.from }

@@ -1,9 +1,9 @@
-use Rattle.frames.specs.PictureRows.{each, row_at, spot_in}
+use Rattle.frames.specs.PictureRows.{at_spot, each, spot_in}
 use Rattle.frames.specs.Page.{Adds}
 use Rattle.drawn_jobs.specs.Misses.{row_misses}
 use Rattle.drawn_jobs.proofs.misses.put_misses.Given as goal
 
 abbrev pub invariant-loop-k : goal.invariant-loop-k
 invariant-loop-k l = Adds l.fn.page l.page (each l.k
-    (λ k. row_misses l.fn.chart.frame l.fn.chart.jobs.now (spot_in l.fn.chart.shown.now k).k
-    (row_at l.fn.chart.rows.now (spot_in l.fn.chart.shown.now k).rank)))
+    (λ k. at_spot l.fn.chart.rows.now (spot_in l.fn.chart.shown.now k)
+    (λ s. row_misses l.fn.chart.frame l.fn.chart.jobs.now s.k)))

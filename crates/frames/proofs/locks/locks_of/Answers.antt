@@ -12,5 +12,5 @@ returns-clause-few c = IfOk-weaker c.tones_of.result _ _
       ap (λ (them : List Toned). length them) is,
       toned_count LOCK_TONES [] c.deref.result.now,
       ap (λ (names : List (List ℕ)). length names) c.deref.ensures.value,
-      c.in_ok-names.ensures.few,
+      c.in_ok-note_rows.ensures.few,
     )) c.tones_of.ensures

@@ -11,6 +11,5 @@ returns c =
     let ground = adds_same (λ (held : List Toned). ground_text chart.frame chart.title.now held
     chart.rows.now chart.shown.now chart.jobs.now chart.slices.now chart.until)
     (c.deref.ensures.value ∙ c.in_ok-held.ensures.held) c.put_ground.ensures in
-    whole_of c.whole.result _ (adds_both (adds_both (adds_both (adds_both (adds_both
-    (adds_both ground c.put_lanes.ensures) c.put_jobs.ensures) c.put_all_marks.ensures)
-    c.put_misses.ensures) c.put_waits.ensures) c.put_slices.ensures) c.new-page.ensures.empty c.whole.ensures
+    whole_of c.whole.result _ (adds_both (adds_both ground c.put_lanes.ensures) c.put_run.ensures)
+    c.new-page.ensures.empty c.whole.ensures

@@ -3,7 +3,7 @@ use Rattle.std.proofs.lemmas.List.{at_drop_all}
 use Rattle.task_sheet.specs.Sheet.{CriticalSection}
 use Rattle.frames.specs.Locks.{noted_rows, noted_sections}
 use Rattle.frames.proofs.Folds.{fold_more}
-use Rattle.frames.proofs.locks.lock_names.Goals as goal
+use Rattle.frames.proofs.locks.note_rows.Goals as goal
 
 pub loop-row-preserved : goal.loop-row-preserved
 loop-row-preserved c =
@@ -23,7 +23,7 @@ returns c =
     let rows = c.args.rows.now in
     let all : length rows ≤ c.loop-row.row-index = omega (arith, c.loop-row-test.false) in
     record {
-      value = sym (at_drop_all (noted_rows c.loop-row.locks.items) rows c.loop-row.row-index all)
+      noted = sym (at_drop_all (noted_rows c.loop-row.locks.items) rows c.loop-row.row-index all)
           ∙ c.loop-row.invariant.noted;
       few = c.loop-row.invariant.few;
     }
