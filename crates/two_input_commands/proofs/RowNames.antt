@@ -72,13 +72,16 @@ found_below p U = some_of _ _ ∙ lies_below U
     more_below : (k n : ℕ) → nat_lt (1 + k) (suc n) ≡ nat_lt k n
     more_below k n = grind (arith, common_steps)
 
+    first_below : (n : ℕ) → nat_lt 0 (suc n) ≡ true
+    first_below n = grind (arith, common_steps)
+
     lies_below : (U : List Task) → nat_lt (position_or_len p U) (length U) ≡ list_any p U
     lies_below [] = refl
     lies_below (t ∷ U) = go (p t) (lies_below U)
       where
         go : (b : Bool) → nat_lt (position_or_len p U) (length U) ≡ list_any p U
             → nat_lt (cond (not b) (1 + position_or_len p U) 0) (length (t ∷ U)) ≡ (b || list_any p U)
-        go true later = refl
+        go true later = first_below (length U)
         go false later = more_below (position_or_len p U) (length U) ∙ later
 
 -- a task of one of two sets has a name where one of either has

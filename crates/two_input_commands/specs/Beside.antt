@@ -133,9 +133,9 @@ new_run_refusal r = r
 
 -- what comes of the list on a set, and on the new one that a text says, as the call asks for it
 pub record AreRuns (asking : Asking) (U V : List Task) (text : List ℕ) (was is : Simulated) : Type 0 where
-  pub was : SimulatesText U (list_of text) (Ok was)
+  pub before : SimulatesText U (list_of text) (Ok was)
   pub new : (by : Preference) × IsNew asking (new_of text) V by
-  pub is : SimulatesText V (list_of text) (Ok is)
+  pub after : SimulatesText V (list_of text) (Ok is)
 
 -- the answer on a set and such a text: both runs, with a view in whose window something lies
 pub record IsBeside (asking : Asking) (options : Options) (U : List Task) (text : List ℕ) (b : TwoRuns) : Type 0 where

@@ -218,16 +218,29 @@ fn tone_among(rows: &[TaskRow], name: Name, own: u64) -> u64
     own
 }
 
-// Rows, each with the tone that its task has among others.
-fn toned_as(others: &[TaskRow], rows: Vec<TaskRow>) -> Vec<TaskRow>
-    ensures { result.items ≡ map (toned_as others.now) rows.entry.items }
+// A row with the tone that its task has among others.
+fn toned_as(others: &[TaskRow], row: TaskRow) -> TaskRow
+    ensures { result ≡ toned_as others.now row }
 {
-    let mut toned = rows;
-    for k in 0..toned.len() {
-        let tone = tone_among(others, toned[k].sheet.name(), toned[k].tone);
-        toned[k].tone = tone;
-    }
+    let tone = tone_among(others, row.sheet.name(), row.tone);
+    let mut toned = row;
+    toned.tone = tone;
     toned
+}
+
+// The same of rows.
+fn all_toned_as(
+    alloc: Global,
+    others: &[TaskRow],
+    rows: Vec<TaskRow>,
+) -> Result<Vec<TaskRow>, AllocError>
+    ensures { IfOk result (λ toned. toned.items ≡ map (toned_as others.now) rows.items) }
+{
+    let mut toned = Vec::with_capacity(alloc, rows.len())?;
+    for row in rows {
+        toned.push(toned_as(others, row))?;
+    }
+    Ok(toned)
 }
 
 // What is drawn of a run with some rows.
@@ -269,7 +282,7 @@ fn picture_of_both(alloc: Global, tasks: &TaskSet, beside: &TwoRuns) -> Result<V
     let tones = task_tones(alloc, sets)?;
     let olds = rows_beside(alloc, tasks, &tones, beside, &beside.was)?;
     let rows = rows_beside(alloc, &beside.set, &tones, beside, &beside.is)?;
-    let news = toned_as(&olds, rows);
+    let news = all_toned_as(alloc, &olds, rows)?;
     let was = drawn_run(&olds, &beside.was);
     let is = drawn_run(&news, &beside.is);
     draw_beside(alloc, &was, &is, &beside.view)

@@ -22,7 +22,6 @@ pub(crate) struct Sets<'a> {
 
 impl Sets<'_> {
     // Whether a task of one of them has a name.
-    #[tactic(auto, using(crate::proofs::RowNames::named_in_both))]
     fn has(self, name: Name) -> bool
         ensures { result ≡ is_some (task_named (tasks_in self.entry) name) }
     {
