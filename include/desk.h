@@ -87,6 +87,11 @@ size_t desk_simulate(const uint8_t *set, size_t set_length, const uint8_t *relea
 size_t desk_draw(const uint8_t *set, size_t set_length, const uint8_t *releases, size_t releases_length, uint8_t *room,
                  size_t room_length, uint8_t *status);
 
+/* The same of two sets on one list, one before a change and one after it. The second text is the release list, a byte 0, and
+ * the new set; a byte 0 of the list has to be another one, as wrong in its line. */
+size_t desk_draw_beside(const uint8_t *set, size_t set_length, const uint8_t *both, size_t both_length, uint8_t *room,
+                        size_t room_length, uint8_t *status);
+
 /* What a trace of a node shows of each task, and which promises it breaks, at the levels of the best order or of that which
  * the trace gives; no time may be past what is promised, and each task is to have a job. */
 size_t desk_observe(const uint8_t *set, size_t set_length, const uint8_t *trace, size_t trace_length, uint8_t *room,
@@ -111,6 +116,7 @@ enum {
     DESK_PLAY = 12,
     DESK_OBSERVE = 13,
     DESK_WORST = 14,
+    DESK_DRAW_BESIDE = 15,
 };
 
 /* What the program writes on standard error beside that answer: the sentence for a refusal, or the notes on a set, each a

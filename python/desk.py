@@ -597,10 +597,10 @@ def toml(
 
 # The commands of include/desk.h, each at its number less 1, and those that take a second input.
 _COMMANDS = ("admit", "certify", "check", "limits", "settings", "explain")
-_COMMANDS += ("judge", "diff", "releases", "simulate", "draw", "play", "observe", "worst")
+_COMMANDS += ("judge", "diff", "releases", "simulate", "draw", "play", "observe", "worst", "draw_beside")
 # A line of a chain: behind those of all levels, and no level's has such words.
 _CHAIN = re.compile(r"chain \S+ (-|[0-9]+)( (of|misses) [0-9]+( least [0-9]+)?)?")
-_SECOND = ("check", "judge", "diff", "simulate", "draw", "observe", "worst")
+_SECOND = ("check", "judge", "diff", "simulate", "draw", "observe", "worst", "draw_beside")
 
 
 def _library() -> ctypes.CDLL:
@@ -1009,13 +1009,21 @@ def simulate(tasks: Sheets, releases: Text | Releases) -> Run | Infeasible:
     return Run(slices, jobs, text=said)
 
 
-def draw(tasks: Sheets, releases: Text | Releases) -> str | Infeasible:
-    """The same as a picture, an SVG document.
+def draw(tasks: Sheets, releases: Text | Releases, beside: Sheets | None = None) -> str | Infeasible:
+    """The same as a picture, an SVG document; with another set, its run stands beside.
 
-    >>> draw([Task("a", 10_000, 10_000, 6000)], "until 20000\\n0 a\\n").splitlines()[-1]
+    >>> before = [Task("a", 10_000, 10_000, 6000)]
+    >>> draw(before, "until 20000\\n0 a\\n").splitlines()[-1]
     '</svg>'
+    >>> after = draw(before, "until 20000\\n0 a\\n", beside=[Task("a", 10_000, 10_000, 5000)])
+    >>> "a: response 5000 us, before 6000 us" in after
+    True
     """
-    status, said = _ask("draw", tasks, releases)
+    if beside is None:
+        status, said = _ask("draw", tasks, releases)
+    else:
+        # (a byte 0 stands between the two)
+        status, said = _ask("draw_beside", tasks, _bytes(releases).replace(b"\0", b"\1") + b"\0" + _bytes(beside))
     return _no(said) if status else said
 
 

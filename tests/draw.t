@@ -436,3 +436,86 @@ An infeasible set and refused releases end as in `simulate`:
   $ printf 'x\n' | desk draw examples/shared-lock.toml -
   refused: BadLine 1
   [4]
+
+With `--beside` the list runs on a second set, too: each task's row in that stands below its row in the first, and where a job's
+response changed a mark says so. The heading counts for both:
+
+  $ sed 's/len = 4000/len = 1000/' examples/shared-lock.toml > shorter.toml
+  $ both() { desk draw examples/shared-lock.toml examples/shared-lock.releases --beside "$@"; }
+  $ both shorter.toml > run.svg
+  $ grep -o '>before: [^<]*\|>after: [^<]*' run.svg | cut -c 2-
+  before: tasks: 3, jobs: 3, until 100000 us, after: tasks: 3, jobs: 3, until 100000 us
+  before: no deadline missed, after: no deadline missed
+  before: tasks: 3, jobs: 3, until 100 ms, after: tasks: 3, jobs: 3, until 100 ms, responses changed: 2
+  $ sed -nE 's/.*<title>(.*, before .*)<.title>.*/\1/p' run.svg
+  mid: response 3900 us, before 6900 us
+  hi: response 1800 us, before 4800 us
+  $ pairs() { sed -nE 's/.*class="v" x="300" y="([0-9]+)">([^<]*)<.*class="(f[0-9])".*/\1 \2 \3/p; s/.*class="n" x="500" y="[0-9]*">.*<.title>([^<]*)<.text>/\1/p' "$1" | paste -d ' ' - - | sort -n | cut -d ' ' -f 2- | paste -sd '|'; }
+  $ pairs run.svg
+  3 f9 hi|3 f9 hi|2 f3 mid|2 f3 mid|1 f0 lo|1 f0 lo
+
+Where nothing changed there is no mark; a task keeps its tone where its level is another one, and one that only one set has
+leaves a place free:
+
+  $ both examples/shared-lock.toml | grep -c ', before '
+  0
+  [1]
+  $ both examples/shared-lock.toml | grep -o 'responses changed: [0-9]*'
+  responses changed: 0
+  $ { sed 's/deadline = 20000/deadline = 9000/; s/weight = [12]//' examples/shared-lock.toml; printf '[[task]]\nname = "new"\nperiod = 90000\ndeadline = 90000\ncost = 1\n'; } > turned.toml
+  $ both turned.toml --prefer deadline --tasks hi,mid,new > run.svg; pairs run.svg
+  3 f9 hi|3 f9 hi|2 f3 mid|4 f3 mid|2 f1 new
+
+A release that the first set refuses is refused as without `--beside`, one that the second refuses, and a fault of its, behind
+`new`. A name is refused that neither has. Of a set without an order that is printed, of the first such one:
+
+  $ sed 's/name = "hi"/name = "hx"/; s/len = 4000/len = 40000/' examples/shared-lock.toml > wrong.toml
+  $ both wrong.toml
+  refused: new SectionPastCost 3 1
+  (on standard error) wrong.toml: line 20, task 3 (lo): section 1: it ends past the cost: at 100 and len 40000 make 40100, cost 20000
+  [4]
+  $ sed 's/name = "hi"/name = "hx"/' examples/shared-lock.toml > other.toml
+  $ both other.toml
+  refused: new UnknownTask 3
+  (on standard error) examples/shared-lock.releases: line 4, "300 hi": the set has no task of that name
+  [4]
+  $ desk draw other.toml examples/shared-lock.releases --beside wrong.toml
+  refused: UnknownTask 3
+  [4]
+  $ { desk settings examples/shared-lock.toml; cat examples/shared-lock.releases; } > ordered.releases
+  $ desk draw examples/shared-lock.toml ordered.releases --beside other.toml
+  refused: new UnknownTask 3
+  (on standard error) ordered.releases: line 3, "thread hi 3": the set has no task of that name
+  [4]
+  $ both turned.toml --tasks hi,new,x
+  refused: NoSuchTask x
+  (on standard error) examples/shared-lock.toml: no task of either set is called "x"
+  [4]
+  $ both shorter.toml --from 100000
+  refused: EmptyWindow
+  [4]
+  $ printf 'until 10\n0 h\000i\n' | desk draw examples/shared-lock.toml - --beside shorter.toml
+  refused: BadLine 2
+  (on standard error) standard input: line 2, "0 h?i" has to be TIME NAME [LATE] [runs N], in whole microseconds
+  [4]
+  $ sed 's/cost = 2000$/cost = 15000/' examples/shared-lock.toml > full.toml
+  $ both full.toml
+  infeasible lo mid hi
+  (on standard error) note: no order passes, so there is no run: desk explain says why
+  [3]
+  $ desk draw examples/blocked-out.toml examples/shared-lock.releases --beside full.toml
+  infeasible hi
+  [3]
+  $ both none.toml
+  refused: ReadFailed
+  (on standard error) none.toml: can't be opened or read: No such file or directory
+  [7]
+  $ desk draw examples/shared-lock.toml - --beside - < examples/shared-lock.releases
+  (on standard error) standard input named twice
+  [2]
+  $ desk simulate examples/shared-lock.toml examples/shared-lock.releases --beside shorter.toml 2> said
+  [2]
+  $ both < examples/shared-lock.releases 2> said
+  [2]
+  $ both shorter.toml > run.svg
+  $ both - < shorter.toml | cmp - run.svg

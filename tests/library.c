@@ -68,7 +68,7 @@ static const struct {
     {"admit", DESK_ADMIT},     {"certify", DESK_CERTIFY}, {"check", DESK_CHECK},       {"limits", DESK_LIMITS},
     {"settings", DESK_SETTINGS}, {"explain", DESK_EXPLAIN}, {"judge", DESK_JUDGE},     {"diff", DESK_DIFF},
     {"releases", DESK_RELEASES}, {"simulate", DESK_SIMULATE}, {"draw", DESK_DRAW},     {"play", DESK_PLAY},
-    {"observe", DESK_OBSERVE}, {"worst", DESK_WORST},
+    {"observe", DESK_OBSERVE}, {"worst", DESK_WORST},     {"draw_beside", DESK_DRAW_BESIDE},
 };
 
 static uint8_t number_of(const char *command)
@@ -99,6 +99,7 @@ static size_t ask(const struct question *it, uint8_t *room, size_t length, uint8
     if (!strcmp(command, "diff")) return desk_diff(a.at, a.length, b.at, b.length, room, length, status);
     if (!strcmp(command, "simulate")) return desk_simulate(a.at, a.length, b.at, b.length, room, length, status);
     if (!strcmp(command, "draw")) return desk_draw(a.at, a.length, b.at, b.length, room, length, status);
+    if (!strcmp(command, "draw_beside")) return desk_draw_beside(a.at, a.length, b.at, b.length, room, length, status);
     if (!strcmp(command, "observe")) return desk_observe(a.at, a.length, b.at, b.length, room, length, status);
     hold(0, command);
     return 0;

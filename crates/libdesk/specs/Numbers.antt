@@ -2,7 +2,7 @@
 use Rattle.std.specs.Prelude.{ℕ, ◌==◌, if◌then◌else◌, List, Option, Some, None}
 use Rattle.std.specs.Borrow.{Bor}
 use Rattle.command_line.specs.declared.calls.OfOne.TheVariants.{Admit, Certify, Limits, Settings, Explain, Play}
-use Rattle.command_line.specs.declared.calls.OfTwo.TheVariants.{Check, Judge, Diff, Simulate, Draw, Observe}
+use Rattle.command_line.specs.declared.calls.OfTwo.TheVariants.{Check, Judge, Diff, Simulate, Draw, Observe, DrawBeside}
 use Rattle.libdesk.specs.declared.asked.Asked.{Asked}
 use Rattle.libdesk.specs.declared.asked.Asked.TheVariants.{One, Two, Releases, Worst}
 
@@ -23,4 +23,5 @@ command_of number first second until =
     else if number == 12 then Some (One Play first)
     else if number == 13 then Some (Two Observe first second)
     else if number == 14 then Some (Worst first second)
+    else if number == 15 then Some (Two DrawBeside first second)
     else None

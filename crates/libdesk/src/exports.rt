@@ -2,6 +2,7 @@
 ghost use Rattle.std.specs.Prelude.{◌≡◌, length, IfSome, None, Some, false, true};
 ghost use Rattle.set_commands.specs.Admit.{SaysAdmitted, SaysSettings};
 ghost use Rattle.set_commands.specs.Certify.{SaysCertified};
+ghost use Rattle.two_input_commands.specs.Beside.{SaysBeside};
 ghost use Rattle.two_input_commands.specs.Check.{SaysChecked};
 ghost use Rattle.two_input_commands.specs.Diff.{SaysCompared};
 ghost use Rattle.command_line.specs.Calls.{no_options};
@@ -209,6 +210,28 @@ pub extern "C" fn desk_draw(
         (Some releases.now)) room.old room.new result status.new }
 {
     answer(alloc, Asked::Two(OfTwo::Draw, set, releases), room, status)
+}
+
+/// What `desk draw` with `--beside` prints of a task set, and of a release list and a new set in one text: the list, a byte 0,
+/// and the set.
+#[unsafe(no_mangle)]
+pub extern "C" fn desk_draw_beside(
+    alloc: Global,
+    set: &[u8],
+    both: &[u8],
+    room: &mut [u8],
+    status: &mut u8,
+) -> usize
+    ensures room { length room.new ≡ length room.old }
+    ensures answer { AnswersCall (SaysBeside no_options (asking_of no_options) (Some set.now)
+        (Some both.now)) room.old room.new result status.new }
+{
+    answer(
+        alloc,
+        Asked::Two(OfTwo::DrawBeside, set, both),
+        room,
+        status,
+    )
 }
 
 /// What `desk observe` prints of a task set and a trace, with no tolerance, and where each task is to have a job.

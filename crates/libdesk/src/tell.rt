@@ -37,6 +37,17 @@ fn file<'a>(name: &'a str) -> Input<'a> {
     Input::One(Named::File(name))
 }
 
+// The second input of a command there.
+fn second_of<'a>(command: OfTwo) -> Input<'a> {
+    match command {
+        OfTwo::DrawBeside => Input::Both {
+            list: Named::File("releases"),
+            new: Named::File("changed"),
+        },
+        _ => file(name_of_second(command)),
+    }
+}
+
 // The call of the program that asks the same of files with these names.
 fn call_of<'a>(asked: Asked<'a>) -> Call<'a> {
     let options = Options::none();
@@ -49,7 +60,7 @@ fn call_of<'a>(asked: Asked<'a>) -> Call<'a> {
         Asked::Two(command, _, _) => Call::Two {
             command,
             first: file("set"),
-            second: file(name_of_second(command)),
+            second: second_of(command),
             options,
         },
         Asked::Worst(_, task) => Call::One {
@@ -93,6 +104,7 @@ pub(crate) fn command_of<'a>(
         12 => Asked::One(OfOne::Play, first),
         13 => Asked::Two(OfTwo::Observe, first, second),
         14 => Asked::Worst(first, second),
+        15 => Asked::Two(OfTwo::DrawBeside, first, second),
         _ => return None,
     })
 }

@@ -1,8 +1,8 @@
 //! That an answer comes where there is memory, and none into a room that is too small.
 use crate::exports::{
-    desk_admit, desk_certify, desk_check, desk_diff, desk_draw, desk_explain, desk_judge,
-    desk_limits, desk_observe, desk_play, desk_releases, desk_settings, desk_simulate, desk_tell,
-    desk_worst,
+    desk_admit, desk_certify, desk_check, desk_diff, desk_draw, desk_draw_beside, desk_explain,
+    desk_judge, desk_limits, desk_observe, desk_play, desk_releases, desk_settings, desk_simulate,
+    desk_tell, desk_worst,
 };
 use std::alloc::Global;
 
@@ -11,6 +11,10 @@ const SET: &[u8] = b"[[task]]\nname = \"x\"\nperiod = 1000\ndeadline = 1000\ncos
 const CERTIFICATE: &[u8] = b"desk-certificate 1\nbest 0\nend\n";
 
 const RELEASES: &[u8] = b"until 1000\n0 x\n";
+
+// The list, and the set as a new one.
+const BOTH: &[u8] =
+    b"until 1000\n0 x\n\0[[task]]\nname = \"x\"\nperiod = 1000\ndeadline = 1000\ncost = 900\n";
 
 // A call, and the texts that it is given.
 #[derive(Clone, Copy)]
@@ -28,6 +32,7 @@ enum Call {
     Diff(&'static [u8], &'static [u8]),
     Simulate(&'static [u8], &'static [u8]),
     Draw(&'static [u8], &'static [u8]),
+    DrawBeside(&'static [u8], &'static [u8]),
     Observe(&'static [u8], &'static [u8]),
 }
 
@@ -47,6 +52,7 @@ fn made(alloc: Global, call: Call, room: &mut [u8], status: &mut u8) -> usize {
         Call::Diff(set, changed) => desk_diff(alloc, set, changed, room, status),
         Call::Simulate(set, releases) => desk_simulate(alloc, set, releases, room, status),
         Call::Draw(set, releases) => desk_draw(alloc, set, releases, room, status),
+        Call::DrawBeside(set, both) => desk_draw_beside(alloc, set, both, room, status),
         Call::Observe(set, trace) => desk_observe(alloc, set, trace, room, status),
     }
 }
@@ -62,7 +68,7 @@ fn holds(alloc: Global, call: Call, room: &mut [u8], text: &[u8], wanted: u8) ->
 }
 
 // Calls, with what each puts into the room and its status.
-const ANSWERS: [(Call, &[u8], u8); 18] = [
+const ANSWERS: [(Call, &[u8], u8); 19] = [
     (Call::Admit(SET), b"admitted 1\n1 x 1000\n", 0),
     (Call::Admit(b"x = 1"), b"refused: UnknownKey 0 0\n", 4),
     (Call::Certify(b""), CERTIFICATE, 0),
@@ -97,6 +103,11 @@ const ANSWERS: [(Call, &[u8], u8); 18] = [
         Call::Simulate(SET, RELEASES),
         b"0 1000 x\njob x 0 1000\n",
         0,
+    ),
+    (
+        Call::DrawBeside(SET, b"until 1000\n0 x\n\0x = 1"),
+        b"refused: new UnknownKey 0 0\n",
+        4,
     ),
     (
         Call::Play(b"open 1\n"),
@@ -139,22 +150,24 @@ fn writes_nothing_into_too_little_room(rt: HostRuntime) {
     assert_eq!(rt; room, [0; 19]);
 }
 
+// Whether a call puts a document into a room.
+fn is_drawn(alloc: Global, call: Call) -> bool {
+    let (mut room, mut status) = ([0; 16384], 9);
+    let count = made(alloc, call, &mut room, &mut status);
+    status == 0
+        && count <= 16384
+        && room.starts_with(b"<?xml version=\"1.0\" encoding=\"UTF-8\"?>\n")
+        && room[..count.min(16384)].ends_with(b"</svg>\n")
+}
+
 #[test]
 fn draws(rt: HostRuntime) {
-    let (mut room, mut status) = ([0; 16384], 9);
-    let count = made(
-        rt.alloc(),
-        Call::Draw(SET, RELEASES),
-        &mut room,
-        &mut status,
-    );
-    assert!(rt; status == 0 && count <= 16384);
-    assert!(rt; room.starts_with(b"<?xml version=\"1.0\" encoding=\"UTF-8\"?>\n"));
-    assert!(rt; room[..count.min(16384)].ends_with(b"</svg>\n"));
+    assert!(rt; is_drawn(rt.alloc(), Call::Draw(SET, RELEASES)));
+    assert!(rt; is_drawn(rt.alloc(), Call::DrawBeside(SET, BOTH)));
 }
 
 // Numbers of commands with two inputs, with what is told of them and the status.
-const TOLD: [(u8, &[u8], &[u8], &[u8], u8); 8] = [
+const TOLD: [(u8, &[u8], &[u8], &[u8], u8); 9] = [
     (1, SET, b"", b"", 0),
     (
         1,
@@ -180,7 +193,14 @@ const TOLD: [(u8, &[u8], &[u8], &[u8], u8); 8] = [
     ),
     (14, b"", b"", b"note: the set has no task\n", 0),
     (0, SET, b"", b"", 2),
-    (15, SET, b"", b"", 2),
+    (
+        15,
+        SET,
+        b"until 10\n\0x = 1",
+        b"changed: unknown key x; a set has tasks, each headed by [[task]], and may have prefer in front of them, [node], [[interrupt]] and [[chain]]\n",
+        4,
+    ),
+    (16, SET, b"", b"", 2),
 ];
 
 #[test]
