@@ -232,5 +232,6 @@ In a random list the tasks of chains come exactly a period apart, as what is pro
   $ for task in camera plan wheel; do awk -v t=$task '$2 == t { if (n++) print $2, $1 - last; last = $1 }' random | sort | uniq -c | sed 's/^ *//'; done
   19 camera 10000
   9 plan 20000
-  38 wheel 5000
+  39 wheel 5000
   $ desk simulate examples/steer.toml random --tasks | tail -n 1
+  chain steer 37 age 37199 reaction 37199 bound 44200
