@@ -1,8 +1,8 @@
 -- Where the rows of two runs stand.
-use Rattle.std.proofs.Common.{◌≡◌, ◌∙◌, ℕ, zero, suc, ◌+◌, ◌*◌, ◌<◌, ◌≤◌, inl, inr, sym, ap, subst, refl}
+use Rattle.std.proofs.Common.{◌≡◌, ◌∙◌, ℕ, ◌+◌, ◌*◌, ◌<◌, ◌≤◌, inl, inr, sym, ap, subst, refl}
 use Rattle.std.proofs.lemmas.Grind.{common_steps}
-use Rattle.std.proofs.Common.{arith, Bool, true, false, List, [], ◌∷◌, ◌++◌, length, length-append, get_or, Option, None}
-use Rattle.std.specs.Prelude.{Some, All, map, flat_map, nat_lt, ◌==◌, position}
+use Rattle.std.proofs.Common.{arith, Bool, true, false, List, [], ◌∷◌, length, length-append, get_or, Option, None}
+use Rattle.std.specs.Prelude.{Some, All, map, flat_map, ◌==◌, position}
 use Rattle.std.specs.List.{filter, position_or_len}
 use Rattle.std.proofs.lemmas.Bool.{cases_Bool, lt-ltb, eqb-true, eqb-false, eq-eqb, ne_eqb}
 use Rattle.std.proofs.lemmas.List.{get_or_append_left, get_or-map, length-map}
@@ -180,11 +180,11 @@ in_below old new old_shown new_shown name s t distinct few within is other =
     first_is (λ r. r == t.rank) ranks s.k 0 (omega (arith, first.0, long))
     (eq-eqb (get_or ranks s.k 0) t.rank (at s.k first.0 ∙ here))
     (λ k less. ne_eqb (get_or ranks k 0) t.rank (λ same.
-      let lt : k < length old_shown = omega (arith, less, first.0) in
-      let rank = get_or old_shown k 0 in
-      let row = same_rank new new_shown (name_in old rank) t.rank
-      (spot_named new new_shown (name_in old rank)) refl free (sym (at k lt) ∙ same) in
-      let names = one_name new (name_in old rank) name t.rank row below.0 ∙ sym mine.1 in
-      let equal : rank ≡ s.rank = distinct rank s.rank
-      (All-get_or (λ r. r < length old) old_shown k 0 lt within) mine.0 names in
-      eqb-false rank s.rank (first.2 k less) equal))
+    let lt : k < length old_shown = omega (arith, less, first.0) in
+    let rank = get_or old_shown k 0 in
+    let row = same_rank new new_shown (name_in old rank) t.rank
+    (spot_named new new_shown (name_in old rank)) refl free (sym (at k lt) ∙ same) in
+    let names = one_name new (name_in old rank) name t.rank row below.0 ∙ sym mine.1 in
+    let equal : rank ≡ s.rank = distinct rank s.rank
+    (All-get_or (λ r. r < length old) old_shown k 0 lt within) mine.0 names in
+    eqb-false rank s.rank (first.2 k less) equal))
