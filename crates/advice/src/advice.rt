@@ -5,14 +5,14 @@ use crate::causes::LastError;
 use crate::sentence::{Known, sentence_of};
 use assignment::Placing;
 use ceilings::{LockTable, Tabled};
-use command_line::{Call, Input, OfNumber, OfOne, OfTwo, Options};
+use command_line::{Call, Input, Named, OfNumber, OfOne, OfTwo, Options};
 use desk_cli::{Audience, CommandRefusal, Status, Which, base_of};
 use explain::least_conflict;
 use preferences::Choice;
 use sentences::{
-    greatest_until, of_task, of_tasks, push_clean, put_chains_left_out, put_conflict, put_empty,
-    put_left_out, put_names_decide, put_notes, put_overload, put_overran, put_override, put_parted,
-    put_past_priorities, put_strange_threads, put_strangers, put_unrun, put_unseen,
+    greatest_until, of_neither, of_task, of_tasks, push_clean, put_chains_left_out, put_conflict,
+    put_empty, put_left_out, put_names_decide, put_notes, put_overload, put_overran, put_override,
+    put_parted, put_past_priorities, put_strange_threads, put_strangers, put_unrun, put_unseen,
 };
 use std::alloc::{AllocError, Global};
 use std::io::Write;
@@ -55,7 +55,7 @@ fn says_no_alone(call: Call<'_>) -> bool {
 fn is_run(call: Call<'_>) -> bool {
     match call {
         Call::Two { command, .. } => match command {
-            OfTwo::Simulate | OfTwo::Draw => true,
+            OfTwo::Simulate | OfTwo::Draw | OfTwo::DrawBeside => true,
             OfTwo::Check | OfTwo::Diff | OfTwo::Judge | OfTwo::Observe => false,
             OfTwo::Keep | OfTwo::WorstAt | OfTwo::ExplainAt | OfTwo::LimitsAt => false,
         },
@@ -80,7 +80,7 @@ fn is_check(call: Call<'_>) -> bool {
     match call {
         Call::Two { command, .. } => match command {
             OfTwo::Check => true,
-            OfTwo::Simulate | OfTwo::Draw => false,
+            OfTwo::Simulate | OfTwo::Draw | OfTwo::DrawBeside => false,
             OfTwo::Diff | OfTwo::Judge | OfTwo::Observe => false,
             OfTwo::Keep | OfTwo::WorstAt | OfTwo::ExplainAt | OfTwo::LimitsAt => false,
         },
@@ -92,7 +92,7 @@ fn is_check(call: Call<'_>) -> bool {
 fn is_diff(call: Call<'_>) -> bool {
     match call {
         Call::Two { command, .. } => match command {
-            OfTwo::Diff => true,
+            OfTwo::Diff | OfTwo::DrawBeside => true,
             OfTwo::Simulate | OfTwo::Draw => false,
             OfTwo::Check | OfTwo::Judge | OfTwo::Observe => false,
             OfTwo::Keep | OfTwo::WorstAt | OfTwo::ExplainAt | OfTwo::LimitsAt => false,
@@ -155,24 +155,50 @@ fn no_task_of(alloc: Global, set: &TaskSet, call: Call<'_>) -> Option<String> {
     }
 }
 
+// That neither set of a call on two has a task of a name that its words say.
+fn neither_of(alloc: Global, call: Call<'_>, name: Option<Name>) -> Option<String> {
+    match call {
+        Call::Two {
+            command: OfTwo::DrawBeside,
+            options,
+            ..
+        } => of_neither(alloc, options.rows?, name),
+        _ => None,
+    }
+}
+
 // The input of a call that a refusal is of.
 fn input_of(call: Call<'_>, which: Which) -> Input<'_> {
     match call {
         Call::One { input, .. } => input,
         Call::Two { first, second, .. } => match which {
             Which::First => first,
-            Which::Second => second,
+            Which::Second | Which::Third => second,
         },
         Call::Number { input, .. } => input,
     }
 }
 
-// The line that says what is wrong with an input.
-fn line_of(alloc: Global, input: Input<'_>, sentence: &str) -> Result<String, AllocError> {
+// Puts what a word names.
+fn push_named(line: &mut String, named: Named<'_>) -> Result<(), AllocError> {
+    match named {
+        Named::Standard => line.push_str("standard input"),
+        Named::File(path) => push_clean(line, path),
+    }
+}
+
+// The line that says what is wrong with an input, or with that part of it.
+fn line_of(
+    alloc: Global,
+    input: Input<'_>,
+    which: Which,
+    sentence: &str,
+) -> Result<String, AllocError> {
     let mut line = String::new(alloc);
-    match input {
-        Input::Standard => line.push_str("standard input")?,
-        Input::File(path) => push_clean(&mut line, path)?,
+    match (input, which) {
+        (Input::One(named), _) => push_named(&mut line, named)?,
+        (Input::Both { new, .. }, Which::Third) => push_named(&mut line, new)?,
+        (Input::Both { list, .. }, _) => push_named(&mut line, list)?,
     }
     line.push_str(": ")?;
     line.push_str(sentence)?;
@@ -228,7 +254,7 @@ impl<'a, W: Write + Drop> Advice<'a, W> {
 
     // Says what is wrong with an input.
     fn put_line(&mut self, which: Which, sentence: &str) {
-        if let Ok(line) = line_of(self.alloc, input_of(self.call, which), sentence) {
+        if let Ok(line) = line_of(self.alloc, input_of(self.call, which), which, sentence) {
             let _ = self.errors.write(line.as_bytes());
         }
     }
@@ -328,7 +354,10 @@ impl<'a, W: Write + Drop> Audience for Advice<'a, W> {
     }
 
     fn refused(&mut self, which: Which, bytes: &[u8], refusal: CommandRefusal) {
-        if let CommandRefusal::NoSuchTask { .. } = refusal {
+        if let CommandRefusal::NoSuchTask { name } = refusal {
+            if let Some(sentence) = neither_of(self.alloc, self.call, name) {
+                self.no_task = Some(sentence);
+            }
             self.put_no_task();
             return;
         }

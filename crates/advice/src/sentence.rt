@@ -87,7 +87,10 @@ pub(crate) fn sentence_of(
         ),
         CommandRefusal::Text(TextFault::BadLine { line }) => of_release_line(alloc, bytes, line),
         CommandRefusal::Run(fault) => of_list(alloc, known, bytes, fault),
-        CommandRefusal::Settings(fault) => of_settings(alloc, bytes, fault),
+        CommandRefusal::NewRun(fault) => of_run(alloc, bytes, None, fault),
+        CommandRefusal::Settings(fault) | CommandRefusal::NewSettings(fault) => {
+            of_settings(alloc, bytes, fault)
+        }
         CommandRefusal::Trace(fault) => of_trace(alloc, bytes, fault),
         CommandRefusal::Script(fault) => of_script(alloc, bytes, fault),
         CommandRefusal::EmptyWindow => of_view(alloc, bytes, known.options),

@@ -11,6 +11,8 @@ use task_sheet::{Members, Name, TaskSet};
 pub enum Which {
     First,
     Second,
+    /// The set in one text behind a release list.
+    Third,
 }
 
 /// Somebody who is told what became of a command's inputs, beside its answer. No contract speaks of what it does with

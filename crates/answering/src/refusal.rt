@@ -46,8 +46,12 @@ pub enum CommandRefusal {
     Text(TextFault),
     /// The release list was not run, or a job overran.
     Run(RunFault),
+    /// The same of the new set's run.
+    NewRun(RunFault),
     /// The settings' input is no settings of the set.
     Settings(SettingsFault),
+    /// The same of the new set.
+    NewSettings(SettingsFault),
     /// The trace's input is no trace of the set.
     Trace(TraceFault),
     /// The script's input is no script.
@@ -73,6 +77,14 @@ impl From<AllocError> for CommandRefusal {
 }
 
 impl CommandRefusal {
+    /// It is of what the new set's input says.
+    pub fn is_of_new(self) -> bool {
+        matches!(
+            self,
+            CommandRefusal::New(_) | CommandRefusal::NewDoubtful(_) | CommandRefusal::NewChain(_)
+        )
+    }
+
     /// The exit status.
     pub fn status(self) -> Status
         ensures { result ≡ status_of self }
@@ -97,8 +109,12 @@ impl CommandRefusal {
             CommandRefusal::Text(_) => Status::BadInput,
             CommandRefusal::Run(RunFault::OutOfMemory) => Status::OutOfMemory,
             CommandRefusal::Run(_) => Status::BadInput,
+            CommandRefusal::NewRun(RunFault::OutOfMemory) => Status::OutOfMemory,
+            CommandRefusal::NewRun(_) => Status::BadInput,
             CommandRefusal::Settings(SettingsFault::OutOfMemory) => Status::OutOfMemory,
             CommandRefusal::Settings(_) => Status::BadInput,
+            CommandRefusal::NewSettings(SettingsFault::OutOfMemory) => Status::OutOfMemory,
+            CommandRefusal::NewSettings(_) => Status::BadInput,
             CommandRefusal::Trace(TraceFault::OutOfMemory) => Status::OutOfMemory,
             CommandRefusal::Trace(_) => Status::BadInput,
             CommandRefusal::Script(ScriptFault::OutOfMemory) => Status::OutOfMemory,
@@ -496,6 +512,20 @@ fn write_run_fault<W: fmt::Write>(fault: RunFault, f: &mut fmt::Formatter<W>) ->
     }
 }
 
+// The same of the new set's run, which the line says; out of memory stands alone.
+fn write_new_run<W: fmt::Write>(fault: RunFault, f: &mut fmt::Formatter<W>) -> fmt::Result
+    ensures { DisplaysOnOk W.write_str_gives f.old result
+        (Some (words_of (CommandRefusal.NewRun fault))) f.new }
+{
+    match fault {
+        RunFault::OutOfMemory => f.write_str("OutOfMemory"),
+        _ => {
+            f.write_str("new ")?;
+            write_run_fault(fault, f)
+        }
+    }
+}
+
 // The name of a fault of settings, with its line or its name.
 fn write_settings_fault<W: fmt::Write>(
     fault: SettingsFault,
@@ -514,6 +544,20 @@ fn write_settings_fault<W: fmt::Write>(
         SettingsFault::MissingLock { name } => write!(f, "MissingLock {name}"),
         SettingsFault::WrongCeiling { name, .. } => write!(f, "WrongCeiling {name}"),
         SettingsFault::OutOfMemory => f.write_str("OutOfMemory"),
+    }
+}
+
+// The same of the new set, which the line says; out of memory stands alone.
+fn write_new_settings<W: fmt::Write>(fault: SettingsFault, f: &mut fmt::Formatter<W>) -> fmt::Result
+    ensures { DisplaysOnOk W.write_str_gives f.old result
+        (Some (words_of (CommandRefusal.NewSettings fault))) f.new }
+{
+    match fault {
+        SettingsFault::OutOfMemory => f.write_str("OutOfMemory"),
+        _ => {
+            f.write_str("new ")?;
+            write_settings_fault(fault, f)
+        }
     }
 }
 
@@ -562,7 +606,9 @@ fn write_words<W: fmt::Write>(refusal: CommandRefusal, f: &mut fmt::Formatter<W>
         CommandRefusal::Check(fault) => write_check_fault(fault, f),
         CommandRefusal::Text(fault) => write_text_fault(fault, f),
         CommandRefusal::Run(fault) => write_run_fault(fault, f),
+        CommandRefusal::NewRun(fault) => write_new_run(fault, f),
         CommandRefusal::Settings(fault) => write_settings_fault(fault, f),
+        CommandRefusal::NewSettings(fault) => write_new_settings(fault, f),
         CommandRefusal::Trace(fault) => write_trace_fault(fault, f),
         CommandRefusal::Script(fault) => write_script_fault(fault, f),
         CommandRefusal::Rush(fault) => write_rush_fault(fault, f),

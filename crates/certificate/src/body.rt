@@ -22,7 +22,7 @@ pub enum CertBody {
 
 impl Reader {
     // What stands between the first line and the last one.
-    #[tactic(auto, unfolding(crate::specs::Lines::body_at))]
+    #[tactic(auto, unfolding(crate::specs::CertificateLines::body_at))]
     fn body(self, at: &mut TextPlace<'_>) -> Result<CertBody, CertFault>
         ensures { Gives (λ body. (body_of body, at_place at.new)) result
             (body_at self.version (at_place at.old)) }
@@ -54,7 +54,7 @@ fn version_in(head: &[u8]) -> Option<CertVersion>
 }
 
 /// The certificate that the bytes are, or the first fault.
-#[tactic(auto, unfolding(crate::specs::Lines::certificate_in))]
+#[tactic(auto, unfolding(crate::specs::CertificateLines::certificate_in))]
 pub fn certificate_in(alloc: Global, bytes: &[u8]) -> Result<(CertVersion, CertBody), CertFault>
     ensures { Gives (λ x. let c : Cert = record { version = x.0; body = body_of x.1 } in c)
         result (certificate_in bytes.now) }

@@ -58,7 +58,7 @@ impl Reader {
     }
 
     // The next lines as level `k` with its failures.
-    #[tactic(auto, unfolding(crate::specs::Lines::level_read))]
+    #[tactic(auto, unfolding(crate::specs::CertificateLines::level_read))]
     fn level(self, k: u64, at: &mut TextPlace<'_>) -> Result<CertLevel, CertFault>
         ensures { Gives (λ level. (level, at_place at.new)) result
             (level_read self.version k (at_place at.old)) }

@@ -32,7 +32,7 @@ pub fn next_line<'a>(at: &mut TextPlace<'a>) -> Result<&'a [u8], CertFault>
 
 impl Reader {
     // The next line as a member.
-    #[tactic(auto, unfolding(crate::specs::Lines::member_at))]
+    #[tactic(auto, unfolding(crate::specs::CertificateLines::member_at))]
     fn member(self, at: &mut TextPlace<'_>) -> Result<CertFail, CertFault>
         ensures { Gives (λ fail. (fail, at_place at.new)) result
             (member_at self.version (at_place at.old)) }
@@ -60,7 +60,7 @@ impl Reader {
 }
 
 /// The last line is next, and nothing follows it: else `Truncated`, `BadLine` or `Trailing`.
-#[tactic(auto, using(crate::proofs::Loops::over_is), unfolding(crate::specs::Lines::end_at))]
+#[tactic(auto, using(crate::proofs::Loops::over_is), unfolding(crate::specs::CertificateLines::end_at))]
 pub fn end(at: &mut TextPlace<'_>) -> Result<(), CertFault>
     ensures { Gives (λ x. x) result (end_at (at_place at.old)) }
 {

@@ -2,6 +2,7 @@
 use Rattle.std.specs.Prelude.{ℕ, List, [], ◌∷◌, ◌++◌, codes, map, Option, Some, None}
 use Rattle.std.specs.Fmt.{decimal}
 use Rattle.task_sheet.specs.Sheet.{Task}
+use Rattle.lines.specs.Known.{some_words}
 use Rattle.ceiling_kernel.specs.declared.trace.Trace.{Trace}
 use Rattle.chains.specs.Parts.{bound_in}
 use Rattle.chains.specs.declared.bounds.Level.{Level}
@@ -12,24 +13,16 @@ use Rattle.chain_runs.specs.Outcomes.{outcome_of}
 use Rattle.chain_runs.specs.declared.slices.TaskSlice.{TaskSlice}
 use Rattle.chain_runs.specs.declared.outcome.ChainOutcome.{ChainOutcome}
 
--- a time, or `-` where there is none
-abbrev pub time_words : Option ℕ → List ℕ
-time_words None = codes "-"
-time_words (Some time) = decimal time
-
 -- how many outputs have a sample, the greatest age and the greatest reaction
 abbrev pub outcome_words : ChainOutcome → List ℕ
 outcome_words o =
-    codes " " ++ decimal o.outputs ++ codes " age " ++ time_words o.age ++ codes " reaction "
-    ++ time_words o.reaction
-
-abbrev pub bound_words : Option ℕ → List ℕ
-bound_words None = codes " bound -\n"
-bound_words (Some bound) = codes " bound " ++ decimal bound ++ codes "\n"
+    codes " " ++ decimal o.outputs ++ codes " age " ++ some_words o.age ++ codes " reaction "
+    ++ some_words o.reaction
 
 -- the line of a chain
 abbrev pub run_line : ChainData → ChainOutcome → (bound : Option ℕ) → List ℕ
-run_line chain o bound = codes "chain " ++ chain.name ++ outcome_words o ++ bound_words bound
+run_line chain o bound =
+    codes "chain " ++ chain.name ++ outcome_words o ++ codes " bound " ++ some_words bound ++ codes "\n"
 
 -- that of one in a run of these slices, which ends at a time, in an order whose levels have these responses
 abbrev pub run_chain_line : List Task → List Level → (until : ℕ) → List TaskSlice → ChainData → List ℕ

@@ -1,6 +1,7 @@
 //! What is printed of the chains of a run.
 ghost use Rattle.std.specs.Prelude.{◌≡◌, ◌++◌, IfOk, OnOk, map, string_bytes};
-ghost use Rattle.chain_runs.specs.RunChainLines.{bound_words, outcome_words, run_chain_line, run_chains_said, run_line, time_words};
+ghost use Rattle.lines.specs.Known.{some_words};
+ghost use Rattle.chain_runs.specs.RunChainLines.{outcome_words, run_chain_line, run_chains_said, run_line};
 ghost use Rattle.chain_runs.specs.Outcomes.{outcome_of};
 ghost use Rattle.chain_runs.specs.Outputs.{fresh, outputs_from};
 ghost use Rattle.chain_runs.specs.Slices.{slices_of};
@@ -11,18 +12,16 @@ use crate::slices::{TaskSlice, slices_of};
 use ceiling_kernel::Trace;
 use chain_tables::Chain;
 use chains::{Level, bound_of};
+use lines::{push_some, push_some_wide};
 use std::alloc::{AllocError, Global};
 use task_sheet::TaskSet;
 
 // A word and a time, or that there is none.
 fn push_time(text: &mut String, word: &str, time: Option<u64>) -> Result<(), AllocError>
-    ensures { OnOk result (string_bytes text.new ≡ string_bytes text.old ++ word.now ++ time_words time) }
+    ensures { OnOk result (string_bytes text.new ≡ string_bytes text.old ++ word.now ++ some_words time) }
 {
     text.push_str(word)?;
-    match time {
-        Some(time) => write!(text, "{time}"),
-        None => text.push_str("-"),
-    }
+    push_some(text, time)
 }
 
 // What a chain came to.
@@ -33,16 +32,6 @@ fn push_outcome(text: &mut String, outcome: ChainOutcome) -> Result<(), AllocErr
     write!(text, " {count}")?;
     push_time(text, " age ", outcome.age)?;
     push_time(text, " reaction ", outcome.reaction)
-}
-
-// Its bound, or that there is none.
-fn push_bound(text: &mut String, bound: Option<u128>) -> Result<(), AllocError>
-    ensures { OnOk result (string_bytes text.new ≡ string_bytes text.old ++ bound_words bound) }
-{
-    match bound {
-        Some(bound) => write!(text, " bound {bound}\n"),
-        None => text.push_str(" bound -\n"),
-    }
 }
 
 /// The line of a chain that comes to this in a run, with this bound.
@@ -57,7 +46,9 @@ pub fn push_run_line(
     let name = chain.name;
     write!(text, "chain {name}")?;
     push_outcome(text, outcome)?;
-    push_bound(text, bound)
+    text.push_str(" bound ")?;
+    push_some_wide(text, bound)?;
+    text.push_str("\n")
 }
 
 // The line of a chain in a run of these slices, which ends at `until`.

@@ -10,7 +10,8 @@ use Rattle.observed.specs.declared.promises.Promise.{Promise}
 use Rattle.chains.specs.Parts.{bound_in}
 use Rattle.chains.specs.declared.bounds.Level.{Level}
 use Rattle.chain_tables.specs.Chains.{ChainData}
-use Rattle.chain_runs.specs.RunChainLines.{run_line, time_words}
+use Rattle.lines.specs.Known.{some_words}
+use Rattle.chain_runs.specs.RunChainLines.{run_line}
 use Rattle.chain_runs.specs.Outcomes.{outcome_of}
 use Rattle.chain_runs.specs.declared.outcome.ChainOutcome.{ChainOutcome}
 use Rattle.chain_traces.specs.Executions.{executions_in}
@@ -37,7 +38,7 @@ is_old tolerance age (Some bound) = is_past tolerance bound age
 abbrev pub old_line : (tolerance : ℕ) → (name : List ℕ) → (age bound : Option ℕ) → List ℕ
 old_line tolerance name age bound =
     if is_old tolerance age bound
-    then codes "age " ++ name ++ codes " " ++ time_words age ++ codes " of " ++ time_words bound ++ codes "\n"
+    then codes "age " ++ name ++ codes " " ++ some_words age ++ codes " of " ++ some_words bound ++ codes "\n"
     else []
 
 -- the lines of a chain that comes to this, with this bound
@@ -62,7 +63,7 @@ is_fresh tolerance U levels end es chain =
 abbrev pub steady_line : (tolerance : ℕ) → List ChainData → SeenData → List ℕ
 steady_line tolerance chains s =
     if is_unsteady tolerance chains s
-    then codes "steady " ++ s.promise.name ++ codes " " ++ decimal s.arrival ++ codes " " ++ time_words s.gap
+    then codes "steady " ++ s.promise.name ++ codes " " ++ decimal s.arrival ++ codes " " ++ some_words s.gap
     ++ codes " of " ++ decimal (farthest s) ++ codes "\n"
     else []
 

@@ -2,7 +2,6 @@
 ghost use Rattle.std.specs.Prelude.{◌≡◌, ◌++◌, IfOk, OnOk, ◌&&◌, true, map, string_bytes};
 ghost use Rattle.std.specs.List.{list_all};
 ghost use Rattle.chains.specs.Parts.{bound_in};
-ghost use Rattle.chain_runs.specs.RunChainLines.{time_words};
 ghost use Rattle.chain_traces.specs.TraceChainLines.{AreSeen, chain_lines, is_fresh, is_old, level_of, lines_of, old_line, outcome_in, steady_line, steady_lines};
 
 use crate::executions::{Execution, executions_in};
@@ -11,6 +10,7 @@ use crate::steady::{any_unsteady, farthest, is_past, is_unsteady};
 use chain_runs::{ChainOutcome, outcome_of, push_run_line};
 use chain_tables::Chain;
 use chains::{Level, bound_of};
+use lines::{push_some, push_some_wide};
 use observed::{Observed, Promise, Seen, end_of};
 use std::alloc::{AllocError, Global};
 use task_sheet::{Name, TaskSet};
@@ -54,26 +54,6 @@ fn is_old(tolerance: u64, age: Option<u64>, bound: Option<u128>) -> bool
     }
 }
 
-// A time, or that there is none.
-fn push_time(text: &mut String, time: Option<u64>) -> Result<(), AllocError>
-    ensures { OnOk result (string_bytes text.new ≡ string_bytes text.old ++ time_words time) }
-{
-    match time {
-        Some(time) => write!(text, "{time}"),
-        None => text.push_str("-"),
-    }
-}
-
-// A bound, or that there is none.
-fn push_bound(text: &mut String, bound: Option<u128>) -> Result<(), AllocError>
-    ensures { OnOk result (string_bytes text.new ≡ string_bytes text.old ++ time_words bound) }
-{
-    match bound {
-        Some(bound) => write!(text, "{bound}"),
-        None => text.push_str("-"),
-    }
-}
-
 // The line of one that is.
 fn push_old(
     text: &mut String,
@@ -88,9 +68,9 @@ fn push_old(
         return Ok(());
     }
     write!(text, "age {name} ")?;
-    push_time(text, age)?;
+    push_some(text, age)?;
     text.push_str(" of ")?;
-    push_bound(text, bound)?;
+    push_some_wide(text, bound)?;
     text.push_str("\n")
 }
 
@@ -177,7 +157,7 @@ fn push_steady(
     let arrival = seen.arrival;
     let most = farthest(seen);
     write!(text, "steady {name} {arrival} ")?;
-    push_time(text, seen.gap)?;
+    push_some(text, seen.gap)?;
     writeln!(text, " of {most}")
 }
 

@@ -1,10 +1,10 @@
 -- The call that words name.
-use Rattle.std.specs.Prelude.{◌≡◌, ◌≢◌, ◌⊎◌, ◌≤◌, ℕ, List, [], ◌∷◌, Option, Some, None, Bool, true, false, not, ◌&&◌, IfSome, codes, option_map}
+use Rattle.std.specs.Prelude.{◌≡◌, ◌≢◌, ◌⊎◌, ◌≤◌, ℕ, List, [], ◌∷◌, Option, Some, None, Bool, true, false, not, ◌&&◌, ◌||◌, IfSome, codes, option_map}
 use Rattle.std.specs.Str.{bytes_eq}
 use Rattle.std.specs.Str.Parse.{digits_value, without_leading_plus}
 use Rattle.clap.specs.Words.{HasKind, IsUnsignedIn, Row, Text, fault_of, first_of, one_of, subcommand_of}
 use Rattle.command_line.specs.App.{desk_app}
-use Rattle.command_line.specs.Commands.{choice_id, input_of, least_of, most_of, number_choices, number_name, second_of, takes_of, verb_of, by_file}
+use Rattle.command_line.specs.Commands.{choice_id, input_of, least_of, most_of, number_choices, number_name, second_of, takes_of, verb_of, beside, by_file}
 use Rattle.command_line.specs.declared.calls.TheConstants.{MOST_PRIORITY, MOST_ROOM, MOST_SEED, MOST_TEAM, MOST_TOLERANCE, LATEST_END, LEAST_WIDTH, MOST_WIDTH, LEAST_PAPER, MOST_PAPER}
 use Rattle.command_line.specs.declared.calls.Choice.{Choice}
 use Rattle.command_line.specs.declared.calls.Choice.TheVariants.{All, Strict, Base, Room, LowerIsHigher, Seed, Tasks, Tolerance, Jobless, From, To, Width, Print, Team}
@@ -13,8 +13,10 @@ use Rattle.command_line.specs.declared.calls.Takes.TheVariants as takes
 use Rattle.command_line.specs.declared.calls.Preferred.{Preferred}
 use Rattle.command_line.specs.declared.calls.Preferred.TheVariants.{Weight, Deadline, Chains}
 use Rattle.command_line.specs.declared.calls.Options.{Options as OptionsData}
+use Rattle.command_line.specs.declared.calls.Named.{Named}
+use Rattle.command_line.specs.declared.calls.Named.TheVariants.{Standard, File}
 use Rattle.command_line.specs.declared.calls.Input.{Input}
-use Rattle.command_line.specs.declared.calls.Input.TheVariants.{Standard, File}
+use Rattle.command_line.specs.declared.calls.Input.TheVariants as input
 use Rattle.command_line.specs.declared.calls.OfOne.{OfOne}
 use Rattle.command_line.specs.declared.calls.OfOne.TheVariants.{Admit}
 use Rattle.command_line.specs.declared.calls.OfTwo.{OfTwo}
@@ -26,11 +28,16 @@ use Rattle.command_line.specs.declared.calls.Call.TheVariants.{One, Two, Number}
 use Rattle.command_line.specs.declared.words.WordsFault.{WordsFault}
 use Rattle.command_line.specs.declared.words.WordsFault.TheVariants as fault
 
--- the input that a word names: `-` names standard input, as no word does
-abbrev pub Names : Option Text → Input → Type 0
-Names None input = input ≡ Standard
+-- what a word names: `-` names standard input, as no word does
+abbrev pub Names : Option Text → Named → Type 0
+Names None named = named ≡ Standard
 Names (Some word) Standard = word ≡ codes "-"
 Names (Some word) (File path) = (path.now ≡ word) × (word ≢ codes "-")
+
+-- the input that a word names
+abbrev pub NamesInput : Option Text → Input → Type 0
+NamesInput word (input.One named) = Names word named
+NamesInput word (input.Both list new) = ⊥
 
 -- the text of a word is a number from the least to the most, and this is the number
 abbrev pub CountsWithin : (least most : ℕ) → Option Text → ℕ → Type 0
@@ -179,51 +186,67 @@ HaveNumbers options =
     × IfSome options.print (λ print. (LEAST_PAPER ≤ print) × (print ≤ MOST_PAPER))
     × IfSome options.team (λ team. (1 ≤ team) × (team ≤ MOST_TEAM))
 
--- the word of the option that names a command of one input a second one
+-- the word of an option that makes a command one of two inputs
 abbrev pub file_of : Option (Choice × OfTwo) → List Row → Option Text
 file_of None rows = None
 file_of (Some by) rows = first_of (choice_id by.0) rows
 
--- that option is given, makes this command of two inputs, and names this one
-abbrev pub NamesFile : Option (Choice × OfTwo) → List Row → OfTwo → Input → Type 0
-NamesFile None rows c second = ⊥
-NamesFile (Some by) rows c second =
+-- that option is given, makes this command of two inputs, and names this
+abbrev pub NamesFile : Option (Choice × OfTwo) → List Row → OfTwo → Named → Type 0
+NamesFile None rows c named = ⊥
+NamesFile (Some by) rows c named =
     (by.1 ≡ c) × (word : Text) × (first_of (choice_id by.0) rows ≡ Some word)
-    × Names (Some word) second
+    × Names (Some word) named
 
--- a command of two inputs and its second one: they are of a verb of two; or an option gives one of one input a second
+-- a command of two inputs and its second one: they are of a verb of two; or an option gives one of one input a second; or
+-- one names a set beside the second of a verb of two
 abbrev pub IsOfTwo : (word : Text) → List Row → OfTwo → Input → Type 0
-IsOfTwo word rows c second =
-    ((verb_of word ≡ Some (verb.Two c)) × Names (first_of (second_of c) rows) second)
+IsOfTwo word rows c (input.One second) =
+    ((verb_of word ≡ Some (verb.Two c)) × (file_of (beside c) rows ≡ None)
+    × Names (first_of (second_of c) rows) second)
     ⊎ ((o : OfOne) × (verb_of word ≡ Some (verb.One o)) × NamesFile (by_file o) rows c second)
+IsOfTwo word rows c (input.Both list new) =
+    (o : OfTwo) × (verb_of word ≡ Some (verb.Two o)) × Names (first_of (second_of o) rows) list
+    × NamesFile (beside o) rows c new
 
 -- the call that a command names, with what was found of its arguments
 abbrev pub IsCall : Option (Text × List Row) → Call → Type 0
 IsCall None call = ⊥
 IsCall (Some found) (One c input options) =
     (verb_of found.0 ≡ Some (verb.One c)) × (file_of (by_file c) found.1 ≡ None)
-    × Names (first_of (input_of (verb.One c)) found.1) input × AreOptions found.1 options
+    × NamesInput (first_of (input_of (verb.One c)) found.1) input × AreOptions found.1 options
 IsCall (Some found) (Two c first second options) =
-    IsOfTwo found.0 found.1 c second × Names (first_of (codes "SET") found.1) first
+    IsOfTwo found.0 found.1 c second × NamesInput (first_of (codes "SET") found.1) first
     × AreOptions found.1 options
 IsCall (Some found) (Number c input number options) =
     (verb_of found.0 ≡ Some (verb.Number c))
-    × Names (first_of (input_of (verb.Number c)) found.1) input
+    × NamesInput (first_of (input_of (verb.Number c)) found.1) input
     × Counts c (first_of (number_name c) found.1) number × AreOptions found.1 options
 
 -- no words call `admit` of standard input; else they call what `clap`'s matches of them name
 abbrev pub Calls : List Text → Call → Type 0
-Calls [] call = call ≡ One Admit Standard no_options
+Calls [] call = call ≡ One Admit (input.One Standard) no_options
 Calls (word ∷ words) call = IsCall (subcommand_of desk_app (word ∷ words)) call
 
--- the input is standard input
-abbrev pub is_standard : Input → Bool
+-- standard input is named
+abbrev pub is_standard : Named → Bool
 is_standard Standard = true
 is_standard (File path) = false
 
--- two inputs of the call are standard input
+-- an input has standard input in it
+abbrev pub has_standard : Input → Bool
+has_standard (input.One named) = is_standard named
+has_standard (input.Both list new) = is_standard list || is_standard new
+
+-- it has it twice
+abbrev pub has_twice : Input → Bool
+has_twice (input.One named) = false
+has_twice (input.Both list new) = is_standard list && is_standard new
+
+-- the words of the call name standard input twice
 abbrev pub is_twice : Call → Bool
-is_twice (Two c first second options) = is_standard first && is_standard second
+is_twice (Two c first second options) =
+    (has_standard first && has_standard second) || has_twice second
 is_twice _ = false
 
 -- a word is another than that of the order by slack

@@ -13,7 +13,7 @@ use Rattle.command_line.specs.declared.calls.OfNumber.TheVariants.{Releases, Rus
 use Rattle.command_line.specs.declared.calls.Verb.{Verb}
 use Rattle.command_line.specs.declared.calls.Verb.TheVariants.{One, Two, Number}
 use Rattle.command_line.specs.declared.calls.Choice.{Choice}
-use Rattle.command_line.specs.declared.calls.Choice.TheVariants.{Prefer, Strict, Task, Base, Room, LowerIsHigher, Seed, Tasks, Tolerance, Jobless, Keep, At, All, Sort, From, To, Width, Print, Title, Rows, Team}
+use Rattle.command_line.specs.declared.calls.Choice.TheVariants.{Prefer, Strict, Task, Base, Room, LowerIsHigher, Seed, Tasks, Tolerance, Jobless, Keep, At, Beside, All, Sort, From, To, Width, Print, Title, Rows, Team}
 use Rattle.command_line.specs.declared.calls.Takes.{Takes}
 use Rattle.command_line.specs.declared.calls.Takes.TheVariants as takes
 use Rattle.command_line.specs.declared.calls.TheConstants.{MOST_WORKERS, MOST_TEAM, MOST_PRIORITY, MOST_ROOM, MOST_SEED, MOST_TOLERANCE, LEAST_WIDTH, MOST_WIDTH, LEAST_PAPER, MOST_PAPER, LATEST_END}
@@ -33,7 +33,7 @@ commands =
     ∷ (codes "releases", Number Releases, Prefer ∷ Strict ∷ Seed ∷ [])
     ∷ (codes "worst", One Worst, Prefer ∷ Strict ∷ Task ∷ At ∷ [])
     ∷ (codes "simulate", Two Simulate, Prefer ∷ Strict ∷ Tasks ∷ [])
-    ∷ (codes "draw", Two Draw, Prefer ∷ Strict ∷ From ∷ To ∷ Width ∷ Print ∷ Title ∷ Rows ∷ [])
+    ∷ (codes "draw", Two Draw, Prefer ∷ Strict ∷ Beside ∷ From ∷ To ∷ Width ∷ Print ∷ Title ∷ Rows ∷ [])
     ∷ (codes "observe", Two Observe, Prefer ∷ Strict ∷ Tolerance ∷ Jobless ∷ [])
     ∷ (codes "script", One Script, Prefer ∷ Strict ∷ Team ∷ [])
     ∷ (codes "play", One Play, [])
@@ -70,6 +70,11 @@ by_file Explain = Some (At, of_two.ExplainAt)
 by_file Limits = Some (At, of_two.LimitsAt)
 by_file _ = None
 
+-- the option that names a set beside the inputs of a command of two, and the command that it then is
+abbrev pub beside : OfTwo → Option (Choice × OfTwo)
+beside Draw = Some (Beside, of_two.DrawBeside)
+beside _ = None
+
 -- the name of the number of a command that takes one
 abbrev pub number_name : OfNumber → Text
 number_name Releases = codes "UNTIL"
@@ -99,6 +104,7 @@ choice_name Tolerance = codes "tolerance"
 choice_name Jobless = codes "jobless"
 choice_name Keep = codes "keep"
 choice_name At = codes "at"
+choice_name Beside = codes "beside"
 choice_name All = codes "all"
 choice_name Sort = codes "sort"
 choice_name From = codes "from"
@@ -133,6 +139,7 @@ takes_of Tolerance = takes.Number 0 MOST_TOLERANCE
 takes_of Jobless = takes.Flag
 takes_of Keep = takes.Word
 takes_of At = takes.Word
+takes_of Beside = takes.Word
 takes_of All = takes.Flag
 takes_of Sort = takes.Word
 takes_of From = takes.Number 0 LATEST_END

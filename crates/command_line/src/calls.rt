@@ -1,8 +1,8 @@
 //! The calls of `desk`.
 ghost use Rattle.std.specs.Prelude.{◌≡◌, option_map, pos};
-ghost use Rattle.command_line.specs.Calls.{is_other_sort, is_standard, is_twice, sorts_other};
+ghost use Rattle.command_line.specs.Calls.{has_standard, has_twice, is_other_sort, is_standard, is_twice, sorts_other};
 ghost use Rattle.command_line.specs.Calls.{no_options};
-ghost use Rattle.command_line.specs.Commands.{by_file, choice_id, choice_name, input_of, least_of, long_of, most_of, number_name, second_of, takes_of};
+ghost use Rattle.command_line.specs.Commands.{beside, by_file, choice_id, choice_name, input_of, least_of, long_of, most_of, number_name, second_of, takes_of};
 
 /// The most threads that test the set of a commit.
 pub const MOST_WORKERS: usize = 8;
@@ -37,13 +37,23 @@ pub const MOST_PAPER: usize = 4;
 /// The greatest seed of a random release list.
 pub const MOST_SEED: usize = 4_294_967_295;
 
-/// An input that a word names.
+/// What a word names.
 #[derive(Clone, Copy)]
-pub enum Input<'a> {
+pub enum Named<'a> {
     /// The word `-`.
     Standard,
     /// A path.
     File(&'a str),
+}
+
+/// An input of a call.
+#[derive(Clone, Copy)]
+pub enum Input<'a> {
+    /// What one word names.
+    One(Named<'a>),
+    /// A release list and a task set in one text: the list, a byte 0, and the set. A byte 0 of the list is a byte 1 there,
+    /// which is as wrong in its line.
+    Both { list: Named<'a>, new: Named<'a> },
 }
 
 /// A command of one input.
@@ -90,6 +100,8 @@ pub enum OfTwo {
     ExplainAt,
     /// `limits SET --at SETTINGS`
     LimitsAt,
+    /// `draw SET RELEASES --beside NEW`
+    DrawBeside,
 }
 
 /// A command of an input and a number.
@@ -145,6 +157,8 @@ pub(crate) enum Choice {
     Keep,
     // `--at SETTINGS`
     At,
+    // `--beside NEW`
+    Beside,
     // `--all`
     All,
     // `--sort slack`
@@ -250,11 +264,33 @@ pub enum Call<'a> {
     },
 }
 
-impl Input<'_> {
+impl Named<'_> {
     fn is_standard(&self) -> bool
         ensures { result ≡ is_standard self.now }
     {
-        matches!(self, Input::Standard)
+        matches!(self, Named::Standard)
+    }
+}
+
+impl Input<'_> {
+    // It has standard input in it.
+    fn has_standard(&self) -> bool
+        ensures { result ≡ has_standard self.now }
+    {
+        match self {
+            Input::One(named) => named.is_standard(),
+            Input::Both { list, new } => list.is_standard() || new.is_standard(),
+        }
+    }
+
+    // It has it twice.
+    fn has_twice(&self) -> bool
+        ensures { result ≡ has_twice self.now }
+    {
+        match self {
+            Input::One(_) => false,
+            Input::Both { list, new } => list.is_standard() && new.is_standard(),
+        }
     }
 }
 
@@ -283,8 +319,18 @@ impl OfTwo {
             OfTwo::Judge | OfTwo::Keep => "SETTINGS",
             OfTwo::WorstAt | OfTwo::ExplainAt | OfTwo::LimitsAt => "SETTINGS",
             OfTwo::Diff => "NEW",
-            OfTwo::Simulate | OfTwo::Draw => "RELEASES",
+            OfTwo::Simulate | OfTwo::Draw | OfTwo::DrawBeside => "RELEASES",
             OfTwo::Observe => "TRACE",
+        }
+    }
+
+    // The option that names a set beside its inputs, and the command of two that it then is.
+    pub(crate) fn beside(self) -> Option<(Choice, OfTwo)>
+        ensures { result ≡ beside self }
+    {
+        match self {
+            OfTwo::Draw => Some((Choice::Beside, OfTwo::DrawBeside)),
+            _ => None,
         }
     }
 }
@@ -331,6 +377,7 @@ impl Choice {
             Choice::Jobless => "jobless",
             Choice::Keep => "keep",
             Choice::At => "at",
+            Choice::Beside => "beside",
             Choice::All => "all",
             Choice::Sort => "sort",
             Choice::From => "from",
@@ -372,6 +419,7 @@ impl Choice {
             | Choice::Task
             | Choice::Keep
             | Choice::At
+            | Choice::Beside
             | Choice::Title
             | Choice::Sort
             | Choice::Rows => Takes::Word,
@@ -421,6 +469,7 @@ impl Choice {
             Choice::Prefer | Choice::Sort => "ORDER",
             Choice::Task => "NAME",
             Choice::Keep | Choice::At => "SETTINGS",
+            Choice::Beside => "NEW",
             Choice::From | Choice::To => "T",
             Choice::Title => "TEXT",
             Choice::Rows => "NAMES",
@@ -456,6 +505,8 @@ impl Choice {
             Choice::Jobless => "It is meant that some task has no job",
             Choice::Keep => "Settings of a node whose order stays, and numbers as far as can be",
             Choice::At => "Settings that give the order, in place of the best one",
+            Choice::Beside =>
+                "A task set that runs the list, too: each task's row below that in SET",
             Choice::All => "What each task of a conflict needs, also of more than three",
             Choice::Sort =>
                 "How levels stand: slack, the least first, in place of the lowest first",
@@ -538,12 +589,14 @@ impl Call<'_> {
         }
     }
 
-    // Two inputs of the call are standard input.
+    // The words of the call name standard input twice.
     pub(crate) fn is_twice(&self) -> bool
         ensures { result ≡ is_twice self.now }
     {
         match self {
-            Call::Two { first, second, .. } => first.is_standard() && second.is_standard(),
+            Call::Two { first, second, .. } => {
+                first.has_standard() && second.has_standard() || second.has_twice()
+            }
             _ => false,
         }
     }

@@ -176,6 +176,7 @@ const COMMANDS: [Listed; 16] = [
         options: &[
             Choice::Prefer,
             Choice::Strict,
+            Choice::Beside,
             Choice::From,
             Choice::To,
             Choice::Width,
@@ -186,7 +187,7 @@ const COMMANDS: [Listed; 16] = [
         about: "Draws the run that simulate prints, as an SVG document",
         example: example!(
             "draw examples/shared-lock.toml examples/shared-lock.releases > run.svg",
-            "0 drawn, 3 infeasible, 4 the set or the list is refused"
+            "0 drawn, 3 infeasible, 4 an input or a word is refused"
         ),
     },
     Listed {

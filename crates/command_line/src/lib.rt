@@ -6,6 +6,7 @@ mod commands;
 mod words;
 
 pub use calls::{
-    Call, Input, MOST_PRIORITY, MOST_ROOM, MOST_TEAM, OfNumber, OfOne, OfTwo, Options, Preferred,
+    Call, Input, MOST_PRIORITY, MOST_ROOM, MOST_TEAM, Named, OfNumber, OfOne, OfTwo, Options,
+    Preferred,
 };
 pub use words::{WordsFault, read_words};

@@ -2,11 +2,11 @@
 ghost use Rattle.std.specs.Prelude.{◌≡◌, ℕ, List, map, Ok, Some, None, Err, IfOk, IfErr, IfSome, true, false};
 ghost use Rattle.clap.specs.Words.{FailsBy, fault_of, first_of, found_of, rows_of, subcommand_of, subcommand_rows_of};
 ghost use Rattle.command_line.specs.App.{desk_app};
-ghost use Rattle.command_line.specs.Commands.{by_file, input_of, number_name, verb_of};
-ghost use Rattle.command_line.specs.declared.calls.Verb.TheVariants.{One};
+ghost use Rattle.command_line.specs.Commands.{beside, by_file, input_of, number_name, second_of, verb_of};
+ghost use Rattle.command_line.specs.declared.calls.Verb.TheVariants.{One, Two};
 ghost use Rattle.command_line.specs.Calls.{AreOptions, Calls, Counts, Flags, HasNumber, IsCall, IsCommand, AreTakenWords, IsWordsFault, MayNumber, file_of, IsNumberOf, Names, NamesFile, Prefers, PrefersOther, SayChoices, TakesNumber, is_twice, sorts_other};
 
-use crate::calls::{Call, Choice, Input, OfNumber, OfOne, OfTwo, Options, Preferred, Verb};
+use crate::calls::{Call, Choice, Input, Named, OfNumber, OfOne, OfTwo, Options, Preferred, Verb};
 use crate::commands::{desk_command, verb_named};
 use clap::{ArgMatches, Error};
 use std::alloc::Global;
@@ -35,14 +35,14 @@ fn desk_matches<'a>(alloc: Global, words: &'a [&'a str]) -> Result<ArgMatches<'a
     desk.try_get_matches_from(words)
 }
 
-// The input that an argument names.
-fn input_at<'a>(matches: &ArgMatches<'a>, id: &str) -> Input<'a>
+// What an argument names.
+fn named_at<'a>(matches: &ArgMatches<'a>, id: &str) -> Named<'a>
     ensures { Names (first_of id.now (rows_of (found_of matches.now))) result }
 {
     match matches.get_str(id) {
-        None => Input::Standard,
-        Some("-") => Input::Standard,
-        Some(path) => Input::File(path),
+        None => Named::Standard,
+        Some("-") => Named::Standard,
+        Some(path) => Named::File(path),
     }
 }
 
@@ -121,24 +121,26 @@ fn number_at(matches: &ArgMatches<'_>, command: OfNumber) -> usize
     }
 }
 
-// The command of two inputs that an option makes of one, with the input that it names; none where it is not given.
-fn second_named<'a>(command: OfOne, found: &ArgMatches<'a>) -> Option<(OfTwo, Input<'a>)>
+// The command of two inputs that an option makes, with what it names; none where it is not given.
+fn file_named<'a>(by: Option<(Choice, OfTwo)>, found: &ArgMatches<'a>) -> Option<(OfTwo, Named<'a>)>
     ensures some { IfSome result (λ named.
-        NamesFile (by_file command) (rows_of (found_of found.now)) named.0 named.1) }
-    ensures none { result ≡ None → file_of (by_file command) (rows_of (found_of found.now)) ≡ None }
+        NamesFile by (rows_of (found_of found.now)) named.0 named.1) }
+    ensures none { result ≡ None → file_of by (rows_of (found_of found.now)) ≡ None }
 {
-    let (choice, of_two) = command.by_file()?;
+    let Some((choice, of_two)) = by else {
+        return None;
+    };
     match found.get_str(choice.id()) {
         None => None,
-        Some("-") => Some((of_two, Input::Standard)),
-        Some(path) => Some((of_two, Input::File(path))),
+        Some("-") => Some((of_two, Named::Standard)),
+        Some(path) => Some((of_two, Named::File(path))),
     }
 }
 
 // The call of a command of one input.
 fn call_of_one<'a>(
     command: OfOne,
-    input: Input<'a>,
+    input: Named<'a>,
     found: &ArgMatches<'a>,
     options: Options<'a>,
 ) -> Call<'a>
@@ -147,16 +149,45 @@ fn call_of_one<'a>(
         → AreOptions (rows_of (found_of found.now)) options.entry
         → IsCall (Some (name, rows_of (found_of found.now))) result }
 {
-    match second_named(command, found) {
+    match file_named(command.by_file(), found) {
         Some((of_two, second)) => Call::Two {
             command: of_two,
-            first: input,
-            second,
+            first: Input::One(input),
+            second: Input::One(second),
             options,
         },
         None => Call::One {
             command,
-            input,
+            input: Input::One(input),
+            options,
+        },
+    }
+}
+
+// The call of a command of two.
+fn call_of_two<'a>(
+    command: OfTwo,
+    first: Named<'a>,
+    found: &ArgMatches<'a>,
+    options: Options<'a>,
+) -> Call<'a>
+    ensures { (name : List ℕ) → verb_of name ≡ Some (Two command)
+        → Names (first_of (input_of (Two command)) (rows_of (found_of found.now))) first.entry
+        → AreOptions (rows_of (found_of found.now)) options.entry
+        → IsCall (Some (name, rows_of (found_of found.now))) result }
+{
+    let second = named_at(found, command.second());
+    match file_named(command.beside(), found) {
+        Some((of_two, new)) => Call::Two {
+            command: of_two,
+            first: Input::One(first),
+            second: Input::Both { list: second, new },
+            options,
+        },
+        None => Call::Two {
+            command,
+            first: Input::One(first),
+            second: Input::One(second),
             options,
         },
     }
@@ -172,18 +203,13 @@ fn call_named<'a>(name: &str, found: &ArgMatches<'a>, options: Options<'a>) -> C
         Some(verb) => verb,
         None => unreachable!(),
     };
-    let input = input_at(found, verb.input());
+    let input = named_at(found, verb.input());
     match verb {
         Verb::One(command) => call_of_one(command, input, found, options),
-        Verb::Two(command) => Call::Two {
-            command,
-            first: input,
-            second: input_at(found, command.second()),
-            options,
-        },
+        Verb::Two(command) => call_of_two(command, input, found, options),
         Verb::Number(command) => Call::Number {
             command,
-            input,
+            input: Input::One(input),
             number: number_at(found, command),
             options,
         },
@@ -218,7 +244,7 @@ pub fn read_words<'a>(alloc: Global, words: &'a [&'a str]) -> Result<Call<'a>, W
     if words.is_empty() {
         return Ok(Call::One {
             command: OfOne::Admit,
-            input: Input::Standard,
+            input: Input::One(Named::Standard),
             options: Options::none(),
         });
     }

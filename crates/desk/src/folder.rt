@@ -1,10 +1,10 @@
-//! A folder of the documents of teams.
+//! Documents in one text: those of a folder's teams, or a release list and a task set.
 
 use std::fs;
 use std::io::{self, Cursor, Error, ErrorKind, Read};
 use task_sheet::Name;
 
-/// The documents of a folder in one text, to be read. No contract can say what it is, as of a file.
+/// Documents in one text, to be read. No contract can say what it is, as of a file.
 #[derive(Drop)]
 pub(crate) struct Documents {
     text: Cursor<Vec<u8>>,
@@ -91,12 +91,18 @@ fn documents_in(rt: &HostRuntime, folder: &str) -> io::Result<Listed> {
     Ok(listed)
 }
 
-// The bytes of a file, the first of them where there are too many.
-fn bytes_of(rt: &HostRuntime, path: &str) -> io::Result<Vec<u8>> {
-    let mut file = fs::open(rt, path)?.take(ENOUGH as u64);
+/// The bytes of a reader, the first of them where there are too many.
+pub(crate) fn all_of<R: Read + Drop>(rt: &HostRuntime, reader: R) -> io::Result<Vec<u8>> {
+    let mut first = reader.take(ENOUGH as u64);
     let mut bytes = Vec::new(rt.alloc());
-    file.read_to_end(&mut bytes)?;
+    first.read_to_end(&mut bytes)?;
     Ok(bytes)
+}
+
+// Those of a file.
+fn bytes_of(rt: &HostRuntime, path: &str) -> io::Result<Vec<u8>> {
+    let file = fs::open(rt, path)?;
+    all_of(rt, file)
 }
 
 // The bytes of a document.
@@ -148,6 +154,26 @@ fn text_of(rt: &HostRuntime, folder: &str) -> io::Result<Vec<u8>> {
 /// and those of the teams, each behind a line `#% TEAM COUNT`, by their names.
 pub(crate) fn open_folder(rt: &HostRuntime, folder: &str) -> io::Result<Documents> {
     let text = text_of(rt, folder)?;
+    Ok(Documents {
+        text: Cursor::new(text),
+    })
+}
+
+// Puts a byte 1 for each byte 0, which is as wrong in a line of a list.
+fn replace_zeros(bytes: &mut [u8]) {
+    for byte in bytes.iter_mut() {
+        if *byte == 0 {
+            *byte = 1;
+        }
+    }
+}
+
+/// A release list and a task set in one text, a byte 0 between them.
+pub(crate) fn open_both(list: Vec<u8>, new: &[u8]) -> io::Result<Documents> {
+    let mut text = list;
+    replace_zeros(&mut text);
+    text.push(0)?;
+    text.extend_from_slice(new)?;
     Ok(Documents {
         text: Cursor::new(text),
     })

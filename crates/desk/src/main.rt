@@ -6,10 +6,10 @@ ghost use Rattle.std.specs.Prelude.{None};
 mod folder;
 mod noted;
 
-use crate::folder::{Documents, open_folder};
+use crate::folder::{Documents, all_of, open_both, open_folder};
 use crate::noted::{Closed, Noted, note};
 use advice::{Advice, LastError, tell_unwritten};
-use command_line::{Input, read_words};
+use command_line::{Input, Named, read_words};
 use desk_cli::{CommandRefusal, Status, refuse, refuse_words};
 use dispatch::{NotOpened, Opens, run_call};
 use either::{Either, Left, Right};
@@ -23,7 +23,7 @@ use std::thread::Threads;
 use std::{env, fs};
 use streams::Watched;
 
-/// An input, opened: a file, standard input, the documents of a folder, or a standard input that is closed.
+/// An input, opened: a file, standard input, documents in one text, or a standard input that is closed.
 type Source = Either<File, Either<Stdin, Either<Documents, Closed>>>;
 
 fn main(rt: HostRuntime) -> ExitCode {
@@ -138,6 +138,43 @@ struct Process<'a> {
     last: &'a LastError,
 }
 
+impl<'a> Process<'a> {
+    // What a word names, opened.
+    fn open_named(&self, named: Named<'_>) -> Result<Source, NotOpened> {
+        let source = match named {
+            Named::Standard if self.is_closed => Ok(Right(Right(Right(Closed)))),
+            Named::Standard => Ok(Right(Left(self.rt.stdin()))),
+            Named::File(_) if !self.is_guarded => return Err(NotOpened { is_new: false }),
+            Named::File(path) => note(self.last, open_path(self.rt, path)),
+        };
+        match source {
+            Ok(source) => Ok(source),
+            Err(_) => Err(NotOpened { is_new: false }),
+        }
+    }
+
+    // All that it has.
+    fn read_named(&self, named: Named<'_>) -> Result<Vec<u8>, NotOpened> {
+        let source = self.open_named(named)?;
+        match note(self.last, all_of(self.rt, source)) {
+            Ok(bytes) => Ok(bytes),
+            Err(_) => Err(NotOpened { is_new: false }),
+        }
+    }
+
+    // A release list and a task set in one text.
+    fn open_both(&self, list: Named<'_>, new: Named<'_>) -> Result<Source, NotOpened> {
+        let list = self.read_named(list)?;
+        let Ok(new) = self.read_named(new) else {
+            return Err(NotOpened { is_new: true });
+        };
+        match note(self.last, open_both(list, &new)) {
+            Ok(documents) => Ok(Right(Right(Left(documents)))),
+            Err(_) => Err(NotOpened { is_new: false }),
+        }
+    }
+}
+
 impl<'a> Opens for Process<'a> {
     type Source = Noted<'a, Source>;
 
@@ -149,14 +186,9 @@ impl<'a> Opens for Process<'a> {
 
     fn open(&self, input: Input<'_>) -> Result<Noted<'a, Source>, NotOpened> {
         let source = match input {
-            Input::Standard if self.is_closed => Ok(Right(Right(Right(Closed)))),
-            Input::Standard => Ok(Right(Left(self.rt.stdin()))),
-            Input::File(_) if !self.is_guarded => return Err(NotOpened),
-            Input::File(path) => note(self.last, open_path(self.rt, path)),
+            Input::One(named) => self.open_named(named)?,
+            Input::Both { list, new } => self.open_both(list, new)?,
         };
-        match source {
-            Ok(source) => Ok(Noted::new(source, self.last)),
-            Err(_) => Err(NotOpened),
-        }
+        Ok(Noted::new(source, self.last))
     }
 }

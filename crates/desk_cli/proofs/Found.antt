@@ -21,7 +21,7 @@ use Rattle.two_input_commands.specs.Simulate.{SaysSimulation}
 use Rattle.desk_cli.specs.declared.of_two.Found.{Found}
 use Rattle.desk_cli.specs.declared.of_two.Found.TheVariants.{Shown, Compared, Judged, Simulated}
 use Rattle.desk_cli.specs.declared.of_two.Found.TheVariants.{Reached, Drawn, Observed, Keeping}
-use Rattle.desk_cli.specs.declared.of_two.Found.TheVariants.{WorstAt, ExplainedAt, LimitedAt}
+use Rattle.desk_cli.specs.declared.of_two.Found.TheVariants.{WorstAt, ExplainedAt, LimitedAt, DrawnBeside}
 use Rattle.answering.specs.declared.refusal.CommandRefusal.{CommandRefusal}
 use Rattle.answering.specs.declared.refusal.CommandRefusal.TheVariants as refusal
 use Rattle.answering.specs.declared.status.Status.{Status}
@@ -88,6 +88,8 @@ module _ (options : Options) (by : Preference) (owners : List Owner) (chains : L
       λ set other has said. (Ok (U, owners, found), (by, text, has, finds), wrote, is)
   said_in command.ExplainAt (ExplainedAt sorted found told) finds wrote is = λ set other has said. rw (← finds.0)
       (Ok (U, owners, chains, (found, told)), (by, text, has, said, finds.1), wrote, is)
+  said_in command.DrawBeside (DrawnBeside runs) finds wrote is =
+      λ set other has said. (Ok (U, runs), (text, both _ set other has, finds), wrote, is)
   said_in _ _ finds wrote is = absurd finds
 
   -- the same; or that memory ran out for it, which is an answer of its own

@@ -4,9 +4,10 @@ use Rattle.command_line.specs.declared.calls.Options.{Options}
 use Rattle.command_line.specs.declared.calls.OfOne.{OfOne}
 use Rattle.command_line.specs.declared.calls.OfOne.TheVariants.{Admit, Certify, Limits, Settings, Explain, Worst, Script, Play}
 use Rattle.command_line.specs.declared.calls.OfTwo.{OfTwo}
-use Rattle.command_line.specs.declared.calls.OfTwo.TheVariants.{Check, Judge, Diff, Simulate, Draw, Observe, Keep, WorstAt, ExplainAt, LimitsAt}
+use Rattle.command_line.specs.declared.calls.OfTwo.TheVariants.{Check, Judge, Diff, Simulate, Draw, Observe, Keep, WorstAt, ExplainAt, LimitsAt, DrawBeside}
 use Rattle.set_commands.specs.Admit.{SaysAdmitted, SaysSettings}
 use Rattle.set_commands.specs.Certify.{SaysCertified}
+use Rattle.two_input_commands.specs.Beside.{SaysBeside}
 use Rattle.two_input_commands.specs.Check.{SaysChecked}
 use Rattle.two_input_commands.specs.Diff.{SaysCompared}
 use Rattle.two_input_commands.specs.Draw.{SaysDrawn}
@@ -59,3 +60,4 @@ TwoSay Keep options = SaysKeeping (base_of options) (room_of options) (asking_of
 TwoSay WorstAt options = SaysWorstAt (task_of options) (asking_of options)
 TwoSay LimitsAt options = SaysLimitsAt (task_of options) (asking_of options)
 TwoSay ExplainAt options = SaysExplainedAt (task_of options) (is_sorted options) (asking_of options)
+TwoSay DrawBeside options = SaysBeside options (asking_of options)

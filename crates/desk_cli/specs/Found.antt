@@ -9,6 +9,7 @@ use Rattle.owners.specs.declared.owner.Owner.{Owner}
 use Rattle.command_line.specs.declared.calls.OfTwo.{OfTwo}
 use Rattle.command_line.specs.declared.calls.OfTwo.TheVariants as command
 use Rattle.chain_tables.specs.Chains.{ChainData}
+use Rattle.two_input_commands.specs.Beside.{BesidesText, beside_said, beside_status}
 use Rattle.two_input_commands.specs.Check.{ChecksText, checked_line}
 use Rattle.answering.specs.Statuses.{placing_status}
 use Rattle.answering.specs.Chosen.{asking_of, base_of, is_sorted, room_of, task_of}
@@ -22,7 +23,7 @@ use Rattle.two_input_commands.specs.Observe.{IsObservationOf, ObservesText, Watc
 use Rattle.answering.specs.Printed.{IsPrinted}
 use Rattle.two_input_commands.specs.Simulate.{IsInOrder, ReachesText, SimulatesText, reached_said, simulation_said, simulation_status}
 use Rattle.desk_cli.specs.declared.of_two.Found.{Found}
-use Rattle.desk_cli.specs.declared.of_two.Found.TheVariants.{Shown, Compared, Judged, Simulated, Reached, Drawn, Observed, Keeping, WorstAt, ExplainedAt, LimitedAt}
+use Rattle.desk_cli.specs.declared.of_two.Found.TheVariants.{Shown, Compared, Judged, Simulated, Reached, Drawn, Observed, Keeping, WorstAt, ExplainedAt, LimitedAt, DrawnBeside}
 use Rattle.two_input_commands.specs.Keep.{IsKeptIn, IsOldOf, KeepsText, keeping_lines, keeping_status}
 use Rattle.two_input_commands.specs.WorstAt.{WorstsText}
 use Rattle.answering.specs.declared.refusal.CommandRefusal.{CommandRefusal}
@@ -62,6 +63,10 @@ FindsIn command.ExplainAt options by owners chains U text (Ok (ExplainedAt sorte
     (sorted ≡ is_sorted options) × ExplainsText (task_of options) chains U text (Ok (found, told))
 FindsIn command.ExplainAt options by owners chains U text (Err r) =
     ExplainsText (task_of options) chains U text (Err r)
+FindsIn command.DrawBeside options by owners chains U text (Ok (DrawnBeside runs)) =
+    BesidesText (asking_of options) options U text (Ok runs)
+FindsIn command.DrawBeside options by owners chains U text (Err r) =
+    BesidesText (asking_of options) options U text (Err r)
 FindsIn _ options by owners chains U text _ = ⊥
 
 -- what was found speaks of tasks that a set may have, and of a run in an order of the set
@@ -73,6 +78,7 @@ IsFoundOf U (Drawn drawing) = IsInOrder U drawing.answer
 IsFoundOf U (Observed leeway shown told) = IsObservationOf shown
 IsFoundOf U (Keeping node base room) = IsKeptIn U node.keeping × IsOldOf node
 IsFoundOf U (ExplainedAt sorted found told) = All (λ j. j.task < TASK_LIMIT) found.node.judged.items
+IsFoundOf U (DrawnBeside runs) = IsInOrder U runs.was × IsInOrder runs.set runs.is
 IsFoundOf U _ = Unit {0}
 
 -- what is printed of what was found of a set whose tasks these have
@@ -88,6 +94,7 @@ found_said owners U (Keeping node base room) = keeping_lines U base room node
 found_said owners U (WorstAt found) = string_bytes found.text
 found_said owners U (LimitedAt found) = string_bytes found.text
 found_said owners U (ExplainedAt sorted found told) = explained_at_lines sorted owners U found told
+found_said owners U (DrawnBeside runs) = beside_said U runs
 
 -- the exit status of what was found
 abbrev pub found_status : Found → Status
@@ -102,6 +109,7 @@ found_status (Keeping node base room) = keeping_status node.keeping
 found_status (WorstAt found) = judged_status found.node.judged.items
 found_status (LimitedAt found) = judged_status found.node.judged.items
 found_status (ExplainedAt sorted found told) = chained_status found.node.judged.items told.are_met
+found_status (DrawnBeside runs) = beside_status runs
 
 -- that is printed after what the writer held, with its status; or that there was no memory for it
 abbrev pub PrintsFound : List Owner → List Task → Found → (before after : Option (List ℕ)) → Status → Type 0

@@ -24,10 +24,11 @@ use streams::Watched;
 use task_sheet::{Members, Name, TaskSet};
 use two_input_commands::{
     ChainsTold, Compared, Drawing, InOrder, KeptNode, Observation, ReachedChains, Simulated,
-    chained_status, check_text, checked_line, compare_text, compared_text, draw_text, explain_at,
-    explained_at_text, judge_text, judged_said, judged_status, keep_text, keeping_status,
-    keeping_text, leeway_of, limits_at, print_drawing, print_observation, print_reached,
-    print_simulated, reach_text, simulate_text, watch_text, worst_at,
+    TwoRuns, beside_text, chained_status, check_text, checked_line, compare_text, compared_text,
+    draw_text, explain_at, explained_at_text, judge_text, judged_said, judged_status, keep_text,
+    keeping_status, keeping_text, leeway_of, limits_at, parts_of, print_beside, print_drawing,
+    print_observation, print_reached, print_simulated, reach_text, simulate_text, watch_text,
+    worst_at,
 };
 
 /// What a command finds of a set and a text.
@@ -61,6 +62,8 @@ pub enum Found {
     ExplainedAt(bool, InOrder, ChainsTold),
     /// How far the numbers of a set may go in the order that settings give.
     LimitedAt(InOrder),
+    /// What comes of a release list on a set and on the one that it becomes, to be shown as an SVG 1.1 document.
+    DrawnBeside(TwoRuns),
 }
 
 // What a command finds of a set that was read and of a text.
@@ -122,6 +125,10 @@ fn find(
             let (found, told) = explain_at(alloc, options.task, &both.chains, tasks, text)?;
             Ok(Found::ExplainedAt(is_sorted(options), found, told))
         }
+        OfTwo::DrawBeside => {
+            let asking = asking_of(options);
+            Ok(Found::DrawnBeside(beside_text(alloc, asking, options, tasks, text)?))
+        }
     }
 }
 
@@ -174,6 +181,7 @@ fn print_found<W: Write + Drop>(
             chained_status(&found.node.judged, told.are_met),
             output,
         ),
+        Found::DrawnBeside(runs) => print_beside(alloc, tasks, runs, output),
     }
 }
 
@@ -254,9 +262,30 @@ fn tell_found<P: Audience>(
         Found::Compared(compared) => people.compared(&compared.set),
         Found::Simulated(answer) | Found::Reached(answer, _) => tell_run(answer, tasks, people),
         Found::Drawn(drawing) => tell_run(&drawing.answer, tasks, people),
+        Found::DrawnBeside(runs) => {
+            people.compared(&runs.set);
+            tell_run(&runs.was, tasks, people);
+            tell_run(&runs.is, &runs.set, people);
+        }
         Found::Observed(_, shown, _) => tell_seen(shown, tasks, people),
         Found::Keeping { node, .. } => tell_kept(&node.keeping, tasks, text, people),
         _ => {}
+    }
+}
+
+// Which input a refusal is of, and its text: of the text of a list and a new set the one or the other.
+fn refused_part<'a>(
+    command: OfTwo,
+    answer: &Result<Found, CommandRefusal>,
+    text: &'a [u8],
+) -> (Which, &'a [u8]) {
+    match (command, answer) {
+        (OfTwo::DrawBeside, Err(refusal)) if refusal.is_of_new() => (
+            Which::Third,
+            parts_of(text).1,
+        ),
+        (OfTwo::DrawBeside, _) => (Which::Second, parts_of(text).0),
+        _ => (Which::Second, text),
     }
 }
 
@@ -274,7 +303,8 @@ fn say_both<W: Write + Drop, P: Audience>(
 {
     let tasks = &both.tasks;
     let answer = find(alloc, command, options, both, &both.text);
-    tell(&answer, tasks, Which::Second, &both.text, people);
+    let (which, text) = refused_part(command, &answer, &both.text);
+    tell(&answer, tasks, which, text, people);
     tell_found(&answer, tasks, &both.text, people);
     match answer {
         Ok(found) => print_found(alloc, &both.owners, tasks, &found, output),

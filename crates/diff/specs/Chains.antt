@@ -2,11 +2,11 @@
 use Rattle.std.specs.Prelude.{ℕ, ◌-◌, nat_le, nat_lt, Bool, true, false, ◌&&◌, List, [], ◌∷◌, ◌++◌, codes, slice_get, Option, Some, None, if◌then◌else◌}
 use Rattle.std.specs.Fmt.{decimal}
 use Rattle.task_sheet.specs.Sheet.{Task, same_bytes}
+use Rattle.lines.specs.Known.{some_words}
 use Rattle.lines.specs.Naming.{name_at}
 use Rattle.chains.specs.Parts.{bound_in}
 use Rattle.chains.specs.declared.bounds.Level.{Level}
 use Rattle.chain_tables.specs.Chains.{ChainData}
-use Rattle.diff.specs.Keys.{some_words}
 use Rattle.diff.specs.ChangeLines.{word_of}
 use Rattle.diff.specs.Whole.{same_number}
 use Rattle.diff.specs.declared.text.Kind.{Kind}

@@ -6,6 +6,7 @@ use Rattle.task_sheet.specs.Sheet.{CriticalSection, OutranksData, Named, AllOthe
 use Rattle.task_sheet.specs.declared.sheet.TheConstants.{SECTION_LIMIT}
 use Rattle.task_sheet.specs.Indexes.{some_below}
 use Rattle.task_sheet.specs.Overheads.{own_cost}
+use Rattle.lines.specs.Known.{some_words}
 use Rattle.diff.specs.Own.{own_at, own_len, own_jitter}
 
 -- ---- whether they do
@@ -46,11 +47,6 @@ is_changed weighs s t =
     || other_outranks s t)))))
 
 -- ---- what was, and what is
--- a number, or `-` for none
-abbrev pub some_words : Option ℕ → List ℕ
-some_words None = codes "-"
-some_words (Some n) = decimal n
-
 -- a word, and a number before and after
 abbrev pub pair_words : List ℕ → Option ℕ → Option ℕ → List ℕ
 pair_words word old new = word ++ some_words old ++ codes " " ++ some_words new

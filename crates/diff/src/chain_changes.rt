@@ -1,7 +1,6 @@
 //! What a change does to a set's chains.
 ghost use Rattle.std.specs.Prelude.{◌≡◌, ◌++◌, IfOk, OnOk, option_map, slice_get, string_bytes};
 ghost use Rattle.chains.specs.Parts.{bound_in};
-ghost use Rattle.diff.specs.Keys.{some_words};
 ghost use Rattle.diff.specs.Chains.{bound_effect, bounds_words, chain_changes, chain_edit, chain_effect, chain_gone, chain_keys, chain_kept, chain_moved, chain_named, chain_other, chain_rest, chain_words, each_chain, limit_words, plus_tasks, same_chain, same_name, same_tasks, slack_words, slacks_words, tasks_word, tasks_words};
 
 use crate::pairs::push_pair;
@@ -9,7 +8,7 @@ use crate::text::Kind;
 use crate::whole::same_number;
 use chain_tables::Chain;
 use chains::{Level, bound_of};
-use lines::push_name;
+use lines::{push_name, push_some_wide};
 use std::alloc::{AllocError, Global};
 use task_sheet::{Name, TaskSet};
 
@@ -81,16 +80,6 @@ fn chain_named<'a>(chains: &'a [Chain], name: Name) -> Option<&'a Chain>
 
 // ---- words
 
-// A bound, or `-` for none.
-fn push_bound(text: &mut String, bound: Option<u128>) -> Result<(), AllocError>
-    ensures { OnOk result (string_bytes text.new ≡ string_bytes text.old ++ some_words bound) }
-{
-    match bound {
-        Some(bound) => write!(text, "{bound}"),
-        None => text.push_str("-"),
-    }
-}
-
 // What a limit leaves of a bound.
 fn push_slack(text: &mut String, held: Held) -> Result<(), AllocError>
     ensures { OnOk result (string_bytes text.new ≡ string_bytes text.old ++ slack_words held.bound held.limit) }
@@ -113,9 +102,9 @@ fn push_bounds(text: &mut String, old: Held, new: Held) -> Result<(), AllocError
     ensures { OnOk result (string_bytes text.new ≡ string_bytes text.old ++ bounds_words old.bound new.bound) }
 {
     text.push_str(" bound ")?;
-    push_bound(text, old.bound)?;
+    push_some_wide(text, old.bound)?;
     text.push_str(" ")?;
-    push_bound(text, new.bound)
+    push_some_wide(text, new.bound)
 }
 
 // What the limits leave of them.

@@ -1,18 +1,9 @@
 //! What was, and what is.
 ghost use Rattle.std.specs.Prelude.{◌≡◌, ◌++◌, OnOk, string_bytes};
-ghost use Rattle.diff.specs.Keys.{number_words, pair_words, some_words};
+ghost use Rattle.diff.specs.Keys.{number_words, pair_words};
 
+use lines::push_some;
 use std::alloc::AllocError;
-
-// A number, or `-` for none.
-fn push_some(text: &mut String, number: Option<u64>) -> Result<(), AllocError>
-    ensures { OnOk result (string_bytes text.new ≡ string_bytes text.old ++ some_words number) }
-{
-    match number {
-        Some(number) => write!(text, "{number}"),
-        None => text.push_str("-"),
-    }
-}
 
 /// A word, and a number before and after.
 pub(crate) fn push_pair(

@@ -25,7 +25,10 @@ const NOT_OPENED: CommandRefusal = CommandRefusal::Input(InputFault::ReadFailed)
 
 /// An input was not opened.
 #[derive(Clone, Copy, Debug, PartialEq, Eq)]
-pub struct NotOpened;
+pub struct NotOpened {
+    /// Of a list and a set it is the set that was not.
+    pub is_new: bool,
+}
 
 /// What opens the inputs that words name.
 pub trait Opens {
@@ -67,6 +70,20 @@ fn open_one<O: Opens>(inputs: &O, input: Input<'_>) -> Option<Watched<O::Source>
     }
 }
 
+// A second input, where it is opened; or which it is that was not.
+fn open_second<O: Opens>(inputs: &O, input: Input<'_>) -> Result<Watched<O::Source>, Which>
+    ensures bytes { IfOk result (λ reader. O.Source.remaining reader.inner
+        ≡ O.bytes inputs.now input.entry) }
+    ensures fresh { IfOk result (λ reader. reader.has_failed ≡ false) }
+    ensures refused { OnErr result (O.may_refuse inputs.now input.entry) }
+{
+    match inputs.open(input) {
+        Ok(source) => Ok(Watched::new(source)),
+        Err(NotOpened { is_new: true }) => Err(Which::Third),
+        Err(NotOpened { is_new: false }) => Err(Which::Second),
+    }
+}
+
 // Two inputs; or the one that was not opened. The second is opened only where the first was.
 fn open_both<O: Opens>(
     inputs: &O,
@@ -83,7 +100,7 @@ fn open_both<O: Opens>(
         ⊎ O.may_refuse inputs.now second.entry) }
 {
     let first = open_one(inputs, first).ok_or(Which::First)?;
-    let second = open_one(inputs, second).ok_or(Which::Second)?;
+    let second = open_second(inputs, second)?;
     Ok((first, second))
 }
 

@@ -7,7 +7,7 @@ ghost use Rattle.libdesk.specs.Numbers.{command_of};
 use crate::asked::{Asked, run, task_word};
 use crate::hand_out::hand_out;
 use advice::Advice;
-use command_line::{Call, Input, OfNumber, OfOne, OfTwo, Options};
+use command_line::{Call, Input, Named, OfNumber, OfOne, OfTwo, Options};
 use std::alloc::Global;
 use std::cell::Cell;
 use streams::Watched;
@@ -27,9 +27,14 @@ fn name_of_second(command: OfTwo) -> &'static str {
         OfTwo::Judge | OfTwo::Keep => "settings",
         OfTwo::WorstAt | OfTwo::ExplainAt | OfTwo::LimitsAt => "settings",
         OfTwo::Diff => "changed",
-        OfTwo::Simulate | OfTwo::Draw => "releases",
+        OfTwo::Simulate | OfTwo::Draw | OfTwo::DrawBeside => "releases",
         OfTwo::Observe => "trace",
     }
+}
+
+// The file of a name.
+fn file<'a>(name: &'a str) -> Input<'a> {
+    Input::One(Named::File(name))
 }
 
 // The call of the program that asks the same of files with these names.
@@ -38,18 +43,18 @@ fn call_of<'a>(asked: Asked<'a>) -> Call<'a> {
     match asked {
         Asked::One(command, _) => Call::One {
             command,
-            input: Input::File(name_of_one(command)),
+            input: file(name_of_one(command)),
             options,
         },
         Asked::Two(command, _, _) => Call::Two {
             command,
-            first: Input::File("set"),
-            second: Input::File(name_of_second(command)),
+            first: file("set"),
+            second: file(name_of_second(command)),
             options,
         },
         Asked::Worst(_, task) => Call::One {
             command: OfOne::Worst,
-            input: Input::File("set"),
+            input: file("set"),
             options: Options {
                 task: task_word(task),
                 ..options
@@ -57,7 +62,7 @@ fn call_of<'a>(asked: Asked<'a>) -> Call<'a> {
         },
         Asked::Releases(_, until) => Call::Number {
             command: OfNumber::Releases,
-            input: Input::File("set"),
+            input: file("set"),
             number: until as usize,
             options,
         },

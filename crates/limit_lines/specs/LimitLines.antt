@@ -5,6 +5,7 @@ use Rattle.task_sheet.specs.declared.sheet.TheConstants.{PERIOD_FROM}
 use Rattle.task_sheet.specs.declared.node.TheConstants.{INTERRUPT_FROM}
 use Rattle.task_sheet.specs.Sheet.{Task, task_at}
 use Rattle.task_sheet.specs.Overheads.{calls, overhead_of}
+use Rattle.lines.specs.Known.{some_words}
 use Rattle.lines.specs.Naming.{name_at}
 use Rattle.assignment.specs.Places.{PlaceData}
 use Rattle.assignment.specs.Placings.{tasks_of_places}
@@ -58,11 +59,6 @@ label_of Jitter = codes " jitter "
 label_of (Len k along) = codes " section " ++ decimal (k + 1) ++ codes " len "
 label_of (InterruptCost k) = codes " cost "
 label_of (InterruptPeriod k) = codes " period "
-
--- a number, or `-` for none
-abbrev pub some_words : Option ℕ → List ℕ
-some_words None = codes "-"
-some_words (Some n) = decimal n
 
 -- the furthest value of the number of task i with which the order passes, where one is given
 abbrev pub AnswersIn : List Task → Option (List ℕ) → ℕ → Number → Option ℕ → Type 0

@@ -8,12 +8,13 @@ ghost use Rattle.limits.specs.Written.{node_of, written};
 ghost use Rattle.limit_lines.specs.Common.{AnswersSharedIn, AreAccountLines, AreCommonLines, AreInterruptLines, AreInterruptsLines, AreNodeLines, AreNodeLinesIf, AreNodeLinesOf, IsSharedLine, fault_words, is_shared_told, is_whole, room_words, shared_held, shared_label, shared_line};
 
 use crate::locks::locks_text;
-use crate::text::{number_text, push_some};
+use crate::text::number_text;
 use ceilings::Tabled;
 use limits::{
     Number, Shared, furthest_shared, most_shared, node_of, room_fault, shared_of, with_shared,
     written,
 };
+use lines::push_some;
 use overheads::PadFault;
 use owners::{Owner, push_interrupt};
 use std::alloc::{AllocError, Global};

@@ -6,9 +6,9 @@ ghost use Rattle.owners.specs.Followers.{follows};
 ghost use Rattle.limits.specs.Cuts.{AnswersMostOn, longest_on};
 ghost use Rattle.limit_lines.specs.Locks.{AnswersMostIn, AreLockLines, IsCutLine, IsLineOf, IsLockLine, is_cut_told, lock_line};
 
-use crate::text::push_some;
 use ceilings::Tabled;
 use limits::{longest_on, most_on};
+use lines::push_some;
 use owners::Owner;
 use std::alloc::{AllocError, Global};
 use task_sheet::Name;

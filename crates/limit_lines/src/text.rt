@@ -6,13 +6,13 @@ ghost use Rattle.task_sheet.specs.Orders.{IsFeasible, IsOrder};
 ghost use Rattle.task_sheet.specs.declared.sheet.TheConstants.{SECTION_LIMIT};
 ghost use Rattle.lines.specs.Naming.{name_at};
 ghost use Rattle.limits.specs.Numbers.{AnswersFurthest, HasNumber, MayHave, numbered, with_number};
-ghost use Rattle.limit_lines.specs.LimitLines.{AnswersFactorIn, AnswersIn, AreTaskLines, IsLast, IsNumberLine, along_words, before_words, end_words, factor_line, held_words, helps_own, is_told, label_of, leaves_own, len_at, less_of, moved_words, node_part, number_at, number_line, slack_in, slack_line, slack_of, some_words, stays, word_if};
+ghost use Rattle.limit_lines.specs.LimitLines.{AnswersFactorIn, AnswersIn, AreTaskLines, IsLast, IsNumberLine, along_words, before_words, end_words, factor_line, held_words, helps_own, is_told, label_of, leaves_own, len_at, less_of, moved_words, node_part, number_at, number_line, slack_in, slack_line, slack_of, stays, word_if};
 
 use assignment::Place;
 use ceilings::Tabled;
 use factor::{Slowdown, factor, factor_in_order};
 use limits::{Number, furthest, furthest_from, furthest_in_order, most_len, value_of};
-use lines::push_name;
+use lines::{push_name, push_some};
 use owners::{Owner, along};
 use std::alloc::{AllocError, Global};
 use task_sheet::{INTERRUPT_FROM, PERIOD_FROM, Sheet, TaskSet};
@@ -61,16 +61,6 @@ fn push_label(text: &mut String, number: Number) -> Result<(), AllocError>
         }
         Number::InterruptCost(_) => text.push_str(" cost "),
         Number::InterruptPeriod(_) => text.push_str(" period "),
-    }
-}
-
-// A number, or `-` for none.
-pub(crate) fn push_some(text: &mut String, number: Option<u64>) -> Result<(), AllocError>
-    ensures { OnOk result (string_bytes text.new ≡ string_bytes text.old ++ some_words number) }
-{
-    match number {
-        Some(number) => write!(text, "{number}"),
-        None => text.push_str("-"),
     }
 }
 

@@ -1,4 +1,5 @@
 pub mod TextLines
+pub mod Known
 pub mod Naming
 pub mod Steps
 pub mod Words

@@ -4,6 +4,7 @@
 
 mod cutting;
 mod kept_lines;
+mod known;
 pub mod laws;
 mod naming;
 mod next;
@@ -13,6 +14,7 @@ mod words;
 
 pub use cutting::cut;
 pub use kept_lines::{KeptLine, LineRow, next_kept, read_lines};
+pub use known::{push_some, push_some_wide};
 pub use naming::{push_name, push_names};
 pub use next::{complete_line, next_line};
 pub use numbers::{name_of, number_of};

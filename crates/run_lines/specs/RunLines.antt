@@ -3,6 +3,7 @@ use Rattle.std.specs.Prelude.{ℕ, Option, Some, None, List, [], ◌∷◌, ◌+
 use Rattle.std.specs.Fmt.{decimal}
 use Rattle.task_sheet.specs.Sheet.{Task}
 use Rattle.task_sheet.specs.Demand.{greatest_of}
+use Rattle.lines.specs.Known.{some_words}
 use Rattle.lines.specs.Naming.{name_at}
 use Rattle.ceiling_kernel.specs.declared.trace.JobRecord.{JobRecord}
 use Rattle.run_lines.specs.Reached.{done_of, response_of}
@@ -12,17 +13,12 @@ use Rattle.run_lines.specs.declared.bounds.TaskBound.{TaskBound}
 abbrev pub greatest_words : (done greatest : ℕ) → List ℕ
 greatest_words done greatest = if done == 0 then codes "-" else decimal greatest
 
--- the bound of a task, or `-` where it has none
-abbrev pub bound_words : Option ℕ → List ℕ
-bound_words (Some bound) = decimal bound
-bound_words None = codes "-"
-
 -- the task with a name and a bound: how many of its jobs are done, the greatest response among them, and its bound
 abbrev pub task_line : List ℕ → Option ℕ → List JobRecord → List ℕ
 task_line name bound jobs =
     codes "task " ++ name ++ codes " " ++ decimal (length (done_of name jobs)) ++ codes " "
     ++ greatest_words (length (done_of name jobs)) (greatest_of response_of (done_of name jobs))
-    ++ codes " " ++ bound_words bound ++ codes "\n"
+    ++ codes " " ++ some_words bound ++ codes "\n"
 
 -- a line for each task
 abbrev pub task_lines : List Task → List JobRecord → List TaskBound → List ℕ

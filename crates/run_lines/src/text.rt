@@ -2,12 +2,13 @@
 ghost use Rattle.std.specs.Prelude.{◌≡◌, ◌<◌, ◌++◌, length, IfOk, OnOk, string_bytes};
 ghost use Rattle.task_sheet.specs.Orders.{IsOrder};
 ghost use Rattle.lines.specs.Naming.{name_at};
-ghost use Rattle.run_lines.specs.RunLines.{bound_words, greatest_words, task_line, task_lines};
+ghost use Rattle.run_lines.specs.RunLines.{greatest_words, task_line, task_lines};
 ghost use Rattle.run_lines.specs.TaskBounds.{tasks_of_bounds};
 
 use crate::bounds::TaskBound;
 use crate::outcome::{Outcome, outcome_of};
 use ceiling_kernel::JobRecord;
+use lines::push_some;
 use std::alloc::{AllocError, Global};
 use task_sheet::{Name, TaskSet};
 
@@ -21,16 +22,6 @@ fn push_greatest(text: &mut String, outcome: Outcome) -> Result<(), AllocError>
     }
     let greatest = outcome.greatest;
     write!(text, "{greatest}")
-}
-
-// The bound of a task, or `-` where it has none.
-fn push_bound(text: &mut String, bound: Option<u64>) -> Result<(), AllocError>
-    ensures { OnOk result (string_bytes text.new ≡ string_bytes text.old ++ bound_words bound) }
-{
-    match bound {
-        Some(bound) => write!(text, "{bound}"),
-        None => text.push_str("-"),
-    }
 }
 
 // The name of a task.
@@ -58,7 +49,7 @@ fn push_task(
     write!(text, "task {name} {done} ")?;
     push_greatest(text, outcome)?;
     text.push_str(" ")?;
-    push_bound(text, bound.bound)?;
+    push_some(text, bound.bound)?;
     text.push_str("\n")
 }
 

@@ -65,7 +65,7 @@ fn value_in<'a>(key: &[u8], word: &'a [u8]) -> Option<&'a [u8]>
 }
 
 /// The value of the field `KEY=VALUE`, if it comes next.
-#[tactic(auto, unfolding(crate::specs::Rows::next_field))]
+#[tactic(auto, unfolding(crate::specs::ScriptWords::next_field))]
 pub(crate) fn next_field<'a>(key: &[u8], words: &mut Words<'a>) -> Option<&'a [u8]>
     ensures { (option_map (λ v. v.now) result, words.new) ≡ next_field key.now words.old }
 {
@@ -85,7 +85,7 @@ pub(crate) fn number_or_zero(value: Option<&[u8]>) -> Result<u64, RowFault>
 }
 
 /// The next word as a number.
-#[tactic(auto, unfolding(crate::specs::Rows::next_number))]
+#[tactic(auto, unfolding(crate::specs::ScriptWords::next_number))]
 pub(crate) fn next_number(words: &mut Words<'_>) -> Result<u64, RowFault>
     ensures { GivesRow (λ x. (x, words.new)) result (next_number words.old) }
 {
@@ -93,7 +93,7 @@ pub(crate) fn next_number(words: &mut Words<'_>) -> Result<u64, RowFault>
 }
 
 /// The next word as a draft, where so many were opened.
-#[tactic(auto, unfolding(crate::specs::Rows::next_draft))]
+#[tactic(auto, unfolding(crate::specs::ScriptWords::next_draft))]
 pub(crate) fn next_draft(opened: usize, words: &mut Words<'_>) -> Result<usize, RowFault>
     ensures { GivesRow (λ x. (x, words.new)) result (next_draft opened words.old) }
 {
@@ -101,7 +101,7 @@ pub(crate) fn next_draft(opened: usize, words: &mut Words<'_>) -> Result<usize, 
 }
 
 /// The next word as a name.
-#[tactic(auto, unfolding(crate::specs::Rows::next_name))]
+#[tactic(auto, unfolding(crate::specs::ScriptWords::next_name))]
 pub(crate) fn next_name(words: &mut Words<'_>) -> Result<Name, RowFault>
     ensures { GivesRow (λ x. (x, words.new)) result (next_name words.old) }
 {
@@ -109,7 +109,7 @@ pub(crate) fn next_name(words: &mut Words<'_>) -> Result<Name, RowFault>
 }
 
 /// The one word that is left as a draft.
-#[tactic(auto, unfolding(crate::specs::Rows::only_draft))]
+#[tactic(auto, unfolding(crate::specs::ScriptWords::only_draft))]
 pub(crate) fn only_draft(opened: usize, words: &mut Words<'_>) -> Result<usize, RowFault>
     ensures { GivesRow (λ x. x) result (only_draft opened words.old) }
 {
@@ -122,7 +122,7 @@ pub(crate) fn only_draft(opened: usize, words: &mut Words<'_>) -> Result<usize, 
 }
 
 /// The draft that the last word names; this one where there is no word.
-#[tactic(auto, unfolding(crate::specs::Rows::other_in))]
+#[tactic(auto, unfolding(crate::specs::ScriptWords::other_in))]
 pub(crate) fn other_of(
     opened: usize,
     draft: usize,

@@ -21,7 +21,7 @@ fn number_in(text: &[u8]) -> Result<u64, RowFault>
 }
 
 // The node whose four numbers these are.
-#[tactic(auto, unfolding(crate::specs::Rows::node_of))]
+#[tactic(auto, unfolding(crate::specs::ScriptWords::node_of))]
 fn node_from(job: &[u8], lock: &[u8], release: &[u8], late: &[u8]) -> Result<Node, RowFault>
     ensures { GivesRow (λ x. x) result
         (node_of (job.now ∷ lock.now ∷ release.now ∷ late.now ∷ [])) }
@@ -83,7 +83,7 @@ pub(crate) fn of_node(sheet: Sheet, node: Node) -> Result<Sheet, RowFault>
 }
 
 // The interrupt that a word is.
-#[tactic(auto, unfolding(crate::specs::Rows::interrupt_in))]
+#[tactic(auto, unfolding(crate::specs::ScriptWords::interrupt_in))]
 fn interrupt_of(word: &[u8]) -> Result<Interrupt, RowFault>
     ensures { GivesRow (λ x. x) result (interrupt_in word.now) }
 {

@@ -71,7 +71,7 @@ fn valid(values: Values, sections: Vec<Section>) -> Result<Sheet, RowFault>
 }
 
 // The sheet of these values and of the sections that are left.
-#[tactic(auto, unfolding(crate::specs::Rows::made_in))]
+#[tactic(auto, unfolding(crate::specs::ScriptWords::made_in))]
 fn made_of(alloc: Global, words: &mut Words<'_>, values: Values) -> Result<Sheet, RowFault>
     ensures gives { GivesRow (λ x. x) result (made_in values.name values.weight values.period
         values.deadline values.cost words.old) }
@@ -82,7 +82,7 @@ fn made_of(alloc: Global, words: &mut Words<'_>, values: Values) -> Result<Sheet
 }
 
 // The sheet of the values that are left.
-#[tactic(auto, unfolding(crate::specs::Rows::sheet_in))]
+#[tactic(auto, unfolding(crate::specs::ScriptWords::sheet_in))]
 fn sheet_of(alloc: Global, words: &mut Words<'_>) -> Result<Sheet, RowFault>
     ensures { GivesRow (λ x. x) result (sheet_in words.old) }
 {
@@ -102,7 +102,7 @@ fn sheet_of(alloc: Global, words: &mut Words<'_>) -> Result<Sheet, RowFault>
     with_interrupts(of_node(sheet, node)?, interrupts)
 }
 
-#[tactic(auto, unfolding(crate::specs::Rows::open_in))]
+#[tactic(auto, unfolding(crate::specs::ScriptWords::open_in))]
 fn open_of(words: &mut Words<'_>) -> Result<Row, RowFault>
     ensures { GivesRow (λ x. x) result (open_in words.old) }
 {
@@ -112,7 +112,7 @@ fn open_of(words: &mut Words<'_>) -> Result<Row, RowFault>
     }
 }
 
-#[tactic(auto, unfolding(crate::specs::Rows::put_in))]
+#[tactic(auto, unfolding(crate::specs::ScriptWords::put_in))]
 fn put_of(alloc: Global, opened: usize, words: &mut Words<'_>) -> Result<Row, RowFault>
     ensures { GivesRow (λ x. x) result (put_in opened words.old) }
 {
@@ -124,7 +124,7 @@ fn put_of(alloc: Global, opened: usize, words: &mut Words<'_>) -> Result<Row, Ro
     }
 }
 
-#[tactic(auto, unfolding(crate::specs::Rows::remove_in))]
+#[tactic(auto, unfolding(crate::specs::ScriptWords::remove_in))]
 fn remove_of(opened: usize, words: &mut Words<'_>) -> Result<Row, RowFault>
     ensures { GivesRow (λ x. x) result (remove_in opened words.old) }
 {
@@ -137,7 +137,7 @@ fn remove_of(opened: usize, words: &mut Words<'_>) -> Result<Row, RowFault>
     }
 }
 
-#[tactic(auto, unfolding(crate::specs::Rows::found_in))]
+#[tactic(auto, unfolding(crate::specs::ScriptWords::found_in))]
 fn found_of(opened: usize, words: &mut Words<'_>) -> Result<Row, RowFault>
     ensures { GivesRow (λ x. x) result (found_in opened words.old) }
 {
@@ -181,7 +181,7 @@ fn row_of(alloc: Global, opened: usize, word: &[u8], words: &mut Words<'_>) -> R
 }
 
 /// What a line says, where so many drafts were opened above it.
-#[tactic(auto, unfolding(crate::specs::Rows::row_in))]
+#[tactic(auto, unfolding(crate::specs::ScriptWords::row_in))]
 pub(crate) fn read_row(alloc: Global, opened: usize, line: &[u8]) -> Result<Row, RowFault>
     ensures { GivesRow (λ x. x) result (row_in opened (words line.now)) }
 {

@@ -43,7 +43,7 @@ fn is_all(text: &[u8]) -> bool
 }
 
 // Above which tasks one must stand, as a text says.
-#[tactic(auto, unfolding(crate::specs::Rows::over_in))]
+#[tactic(auto, unfolding(crate::specs::ScriptWords::over_in))]
 fn over_of(alloc: Global, text: &[u8]) -> Result<Outranks, RowFault>
     ensures { GivesRow outranks_of result (over_in text.now) }
 {
@@ -65,7 +65,7 @@ pub(crate) fn over_or_none(alloc: Global, value: Option<&[u8]>) -> Result<Outran
 }
 
 // The section that a word is.
-#[tactic(auto, unfolding(crate::specs::Rows::section_in))]
+#[tactic(auto, unfolding(crate::specs::ScriptWords::section_in))]
 fn section_of(alloc: Global, word: &[u8]) -> Result<Section, RowFault>
     ensures { GivesRow (λ x. x) result (section_in word.now) }
 {

@@ -2,8 +2,9 @@
 
 use crate::lists::{task_named, until_of};
 use crate::told::{Told, between};
+use lines::name_of;
 use std::alloc::Global;
-use task_sheet::TaskSet;
+use task_sheet::{Name, TaskSet};
 
 // The most tasks of a set that a sentence names.
 const MOST_NAMED: usize = 8;
@@ -45,6 +46,19 @@ pub fn of_tasks(alloc: Global, set: &TaskSet, words: &str) -> Option<String> {
     for word in words.split(',') {
         if !has_task(set, word) {
             return no_task(alloc, set, word);
+        }
+    }
+    None
+}
+
+/// What a person is told where neither of two sets has a task of a name that one of the words is, with a comma between two;
+/// none where memory is wanting.
+pub fn of_neither(alloc: Global, words: &str, name: Option<Name>) -> Option<String> {
+    for word in words.split(',') {
+        if name_of(word.as_bytes()) == name {
+            let mut told = Told::new(alloc);
+            told.quoted("no task of either set is called ", word.as_bytes());
+            return told.whole();
         }
     }
     None

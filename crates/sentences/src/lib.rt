@@ -27,7 +27,7 @@ mod traces;
 mod tree;
 mod values;
 
-pub use asked::{of_task, of_tasks, of_window};
+pub use asked::{of_neither, of_task, of_tasks, of_window};
 pub use chains::of_chains;
 pub use choices::{put_names_decide, put_override, put_past_priorities};
 pub use conflicts::{put_conflict, put_parted};

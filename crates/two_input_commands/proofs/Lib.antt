@@ -1,3 +1,4 @@
+mod BesideTexts
 mod Drawings
 pub mod Observations
 pub mod Ordered

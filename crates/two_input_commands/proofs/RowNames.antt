@@ -1,14 +1,19 @@
 -- The names of tasks that have rows in a picture.
-use Rattle.std.proofs.Common.{◌≡◌, ◌∙◌, ℕ, List, [], ◌∷◌, ◌++◌, Option, Some, None, false, ap, refl, sym}
+use Rattle.std.proofs.Common.{◌≡◌, ◌∙◌, ◌+◌, ℕ, suc, List, [], ◌∷◌, ◌++◌, Option, Some, None, Bool, true, false}
+use Rattle.std.proofs.Common.{◌||◌, not, cond, is_some, length, nat_lt, position, ap, ap₂, refl, sym, arith}
 use Rattle.std.proofs.Common.{append_assoc}
+use Rattle.std.specs.List.{list_any, position_or_len}
 use Rattle.std.specs.Option.{option_or}
-use Rattle.std.proofs.lemmas.List.Folds.{find-append}
-use Rattle.task_sheet.specs.Sheet.{Task}
+use Rattle.std.proofs.lemmas.Grind.{common_steps}
+use Rattle.std.proofs.lemmas.List.{map-append}
+use Rattle.std.proofs.lemmas.List.Folds.{find-append, list_any-append}
+use Rattle.task_sheet.specs.Sheet.{Task, same_bytes}
+use Rattle.ceiling_kernel.specs.Releases.{task_named}
 use Rattle.std.specs.Prelude.{Err}
 use Rattle.answering.specs.declared.refusal.CommandRefusal.{CommandRefusal}
 use Rattle.answering.specs.declared.refusal.CommandRefusal.TheVariants as refusal
 use Rattle.two_input_commands.specs.View.{AsksRows, Notes, first_unknown, is_all, is_nameless, known_name}
-use Rattle.two_input_commands.specs.View.{parts_of}
+use Rattle.two_input_commands.specs.View.{names_of, parts_of}
 
 -- behind names that are known the first that isn't is the first of those that follow
 pub unknown_behind : (U : List Task) (names more : List (List ℕ)) → first_unknown U names ≡ None
@@ -55,3 +60,38 @@ refused_row U text part old new rest (refusal.NoSuchTask name) all parts known w
 )
 refused_row U text part old new rest refusal.OutOfMemory all parts known why = tt
 refused_row U text part old new rest _ all parts known why = absurd why
+
+-- ---- two sets
+found_below : (p : Task → Bool) (U : List Task) → is_some (position p U) ≡ list_any p U
+found_below p U = some_of _ _ ∙ lies_below U
+  where
+    some_of : (b : Bool) (k : ℕ) → is_some (cond b (Some k) None) ≡ b
+    some_of true k = refl
+    some_of false k = refl
+
+    more_below : (k n : ℕ) → nat_lt (1 + k) (suc n) ≡ nat_lt k n
+    more_below k n = grind (arith, common_steps)
+
+    first_below : (n : ℕ) → nat_lt 0 (suc n) ≡ true
+    first_below n = grind (arith, common_steps)
+
+    lies_below : (U : List Task) → nat_lt (position_or_len p U) (length U) ≡ list_any p U
+    lies_below [] = refl
+    lies_below (t ∷ U) = go (p t) (lies_below U)
+      where
+        go : (b : Bool) → nat_lt (position_or_len p U) (length U) ≡ list_any p U
+            → nat_lt (cond (not b) (1 + position_or_len p U) 0) (length (t ∷ U)) ≡ (b || list_any p U)
+        go true later = first_below (length U)
+        go false later = more_below (position_or_len p U) (length U) ∙ later
+
+-- a task of one of two sets has a name where one of either has
+pub named_in_both : (U V : List Task) (name : List ℕ)
+    → is_some (task_named (U ++ V) name) ≡ (is_some (task_named U name) || is_some (task_named V name))
+named_in_both U V name =
+    let p : Task → Bool = λ t. same_bytes t.name name in
+    found_below p (U ++ V) ∙ list_any-append p U V
+    ∙ sym (ap₂ (λ a b. a || b) (found_below p U) (found_below p V))
+
+-- the names of the tasks of both
+pub names_in_both : (U V : List Task) → names_of (U ++ V) ≡ names_of U ++ names_of V
+names_in_both U V = map-append (λ (t : Task). t.name) U V

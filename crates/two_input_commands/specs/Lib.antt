@@ -1,3 +1,4 @@
+pub mod Beside
 pub mod Chained
 pub mod Check
 pub mod Diff

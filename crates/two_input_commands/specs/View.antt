@@ -10,10 +10,20 @@ use Rattle.frames.specs.declared.view.View.{View}
 use Rattle.answering.specs.Asked.{asked_task}
 use Rattle.answering.specs.declared.refusal.CommandRefusal.{CommandRefusal}
 use Rattle.answering.specs.declared.refusal.CommandRefusal.TheVariants as refusal
+use Rattle.two_input_commands.specs.declared.view.Sets.{Sets}
 use Rattle.two_input_commands.specs.declared.simulate.Simulated.{Simulated}
 use Rattle.two_input_commands.specs.declared.simulate.Simulated.TheVariants.{Infeasible, Ordered, Ran}
 
 -- ---- the rows
+-- the tasks of a set and of the one that it becomes, if there is one
+abbrev pub tasks_with : List Task → Option (List Task) → List Task
+tasks_with U None = U
+tasks_with U (Some V) = U ++ V
+
+-- the same of sets
+abbrev pub tasks_in : Sets → List Task
+tasks_in sets = tasks_with sets.old.now (option_map (λ set. set.now) sets.new)
+
 -- the parts of a word between its commas
 abbrev pub parts_of : List ℕ → List (List ℕ)
 parts_of word = slice_split (λ b. b == 44) word

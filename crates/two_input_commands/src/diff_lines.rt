@@ -84,7 +84,7 @@ fn chains_compared(alloc: Global, old: &Linked<'_>, new: &Linked<'_>) -> Result<
 
 // The set that a text says, as the call asks for it, by what it is taken, and its chains.
 #[tactic(auto, using(crate::proofs::NewRefusals::new_refused_as))]
-fn read_new(
+pub(crate) fn read_new(
     alloc: Global,
     asking: Asking,
     text: &[u8],

@@ -10,10 +10,11 @@ ghost use Rattle.frames.specs.Tones.{fitted_tone};
 ghost use Rattle.two_input_commands.specs.Draw.{DrawsText, IsUnread, answer_said, drawing_said, looks_of, number_named, picture_of, task_tones};
 ghost use Rattle.two_input_commands.specs.declared.simulate.Simulated.TheVariants.{Ordered, Ran};
 ghost use Rattle.answering.specs.Outcomes.{IsSaidOn};
+ghost use Rattle.two_input_commands.specs.View.{tasks_in};
 ghost use Rattle.two_input_commands.specs.Simulate.{IsInOrder, simulation_status};
 
 use crate::simulate::{OrderedRun, Run, Simulated, bounds_judged, simulate_text};
-use crate::view::{is_unseen, names_of, view_of};
+use crate::view::{Sets, all_names, is_unseen, view_of};
 use answering::{CommandRefusal, Status, print_bytes, print_stuck};
 use ceiling_kernel::{Release, Trace};
 use ceilings::{LockTable, Tabled};
@@ -57,18 +58,18 @@ fn number_named(settings: &[SettingRow], name: Name) -> Option<u64>
 // What rows have beside tasks and bounds: the numbers that settings give, the tones of names, which tasks have rows that are
 // shown, if that is said, and a list's releases.
 #[derive(Clone, Copy)]
-struct Looks<'a> {
-    settings: &'a [SettingRow],
-    tones: &'a [Toned],
-    names: &'a [Name],
-    releases: &'a [Release],
+pub(crate) struct Looks<'a> {
+    pub(crate) settings: &'a [SettingRow],
+    pub(crate) tones: &'a [Toned],
+    pub(crate) names: &'a [Name],
+    pub(crate) releases: &'a [Release],
 }
 
-// The tones of a set's tasks, by their names.
-fn task_tones(alloc: Global, set: &TaskSet) -> Result<Vec<Toned>, AllocError>
-    ensures { IfOk result (λ tones. tones.items ≡ task_tones set.now) }
+// The tones of the tasks of some sets, by their names.
+pub(crate) fn task_tones(alloc: Global, sets: Sets<'_>) -> Result<Vec<Toned>, AllocError>
+    ensures { IfOk result (λ tones. tones.items ≡ task_tones (tasks_in sets.entry)) }
 {
-    let names = names_of(alloc, set.sheets())?;
+    let names = all_names(alloc, sets)?;
     let mut sorted = Vec::new(alloc);
     note_names(&mut sorted, &names)?;
     tones_of(alloc, &sorted, TASK_TONES)
@@ -137,7 +138,7 @@ fn rows_of(
 }
 
 // The rows of an order, the highest level first.
-fn rows_in(
+pub(crate) fn rows_in(
     alloc: Global,
     set: &TaskSet,
     looks: &Looks<'_>,
@@ -169,7 +170,13 @@ fn picture_of(
     ensures { IfOk result (λ text. text.items
         ≡ picture_of set.now settings.now bounds.now view.now until releases.now trace.now) }
 {
-    let tones = task_tones(alloc, set)?;
+    let tones = task_tones(
+        alloc,
+        Sets {
+            old: set,
+            new: None,
+        },
+    )?;
     let looks = Looks {
         settings,
         tones: &tones,
@@ -229,7 +236,7 @@ fn picture_of_ordered(
 }
 
 // The settings in front of a list's text.
-fn settings_in(alloc: Global, text: &[u8]) -> Result<Vec<SettingRow>, CommandRefusal>
+pub(crate) fn settings_in(alloc: Global, text: &[u8]) -> Result<Vec<SettingRow>, CommandRefusal>
     ensures { MatchResult result (λ settings. settings_in text.now ≡ Ok settings.items)
         (λ r. IsUnread text.now r) }
 {
@@ -251,7 +258,14 @@ pub fn draw_text(
 {
     let answer = simulate_text(alloc, tasks, text)?;
     let settings = settings_in(alloc, text)?;
-    let view = view_of(alloc, options, tasks)?;
+    let view = view_of(
+        alloc,
+        options,
+        Sets {
+            old: tasks,
+            new: None,
+        },
+    )?;
     if is_unseen(&view, &answer) {
         return Err(CommandRefusal::EmptyWindow);
     }

@@ -1,6 +1,7 @@
 //! The commands of `desk` on a task set and a second input: what they find, and what is printed of it.
 #![tactic(auto)]
 
+mod beside;
 mod chained;
 mod check;
 mod diff_lines;
@@ -17,6 +18,7 @@ mod simulate;
 mod view;
 mod worst_at_lines;
 
+pub use beside::{TwoRuns, beside_text, parts_of, print_beside};
 pub use chained::{ChainsTold, chained_status};
 pub use check::{check_text, checked_line};
 pub use diff_lines::{Compared, compare_text, compared_text};

@@ -2,8 +2,8 @@ use Rattle.std.proofs.Common.{◌∙◌, refl, subst}
 use Rattle.clap.specs.Words.{found_of}
 use Rattle.clap.proofs.WalkLemmas.{first_value-rows}
 use Rattle.command_line.specs.Calls.{Names}
-use Rattle.command_line.specs.declared.calls.Input.TheVariants.{Standard, File}
-use Rattle.command_line.proofs.words.input_at.Goals as goal
+use Rattle.command_line.specs.declared.calls.Named.TheVariants.{Standard, File}
+use Rattle.command_line.proofs.words.named_at.Goals as goal
 
 pub returns-in-None : goal.returns-in-None
 returns-in-None c =

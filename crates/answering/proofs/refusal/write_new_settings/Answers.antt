@@ -1,0 +1,18 @@
+use Rattle.std.proofs.Common.{◌≡◌, ◌++◌, refl, arith}
+use Rattle.std.specs.Prelude.{codes}
+use Rattle.std.proofs.lemmas.Grind.{common_steps}
+use Rattle.judge.specs.declared.fault.SettingsFault.{SettingsFault}
+use Rattle.judge.specs.declared.fault.SettingsFault.TheVariants as settings
+use Rattle.answering.specs.Refusals.{settings_words, words_of}
+use Rattle.answering.specs.declared.refusal.CommandRefusal.TheVariants as refusal
+use Rattle.answering.proofs.refusal.write_new_settings.Goals as goal
+
+-- a fault that isn't out of memory stands behind the word
+behind_new : (fault : SettingsFault) → (fault ≡ settings.OutOfMemory → ⊥)
+    → codes "new " ++ settings_words fault ≡ words_of (refusal.NewSettings fault)
+behind_new settings.OutOfMemory other = absurd (other refl)
+behind_new _ other = refl
+
+pub returns-in_ok-write_str-in_default : goal.returns-in_ok-write_str-in_default
+returns-in_ok-write_str-in_default g c =
+    grind (arith, common_steps, behind_new c.args.fault c.in_default.not-OutOfMemory)

@@ -1,0 +1,310 @@
+//! `desk draw` with `--beside`.
+ghost use Rattle.std.specs.Prelude.{◌≡◌, ◌++◌, ◌≤◌, length, List, map, IfOk, MatchResult, Ok, Err, true};
+ghost use Rattle.task_sheet.specs.Sheet.{Task};
+ghost use Rattle.task_sheet.specs.declared.set.TheConstants.{TASK_LIMIT};
+ghost use Rattle.answering.specs.Outcomes.{IsSaidOn};
+ghost use Rattle.answering.specs.Printed.{IsPrinted};
+ghost use Rattle.drawn_runs.specs.DrawnRows.{rows_of};
+ghost use Rattle.picture.specs.Beside.{run_of};
+ghost use Rattle.two_input_commands.specs.Beside.{AreRuns, BesidesText, IsNoRuns, are_unseen, beside_said, beside_status, bounds_in, drawn_run, is_run, list_of, new_of, new_run_refusal, picture_of_both, releases_of, rows_drawn, toned_as, tone_among, until_of};
+ghost use Rattle.two_input_commands.specs.Draw.{looks_of, task_tones};
+ghost use Rattle.two_input_commands.specs.Simulate.{IsInOrder};
+
+use crate::diff_lines::read_new;
+use crate::draw::{Looks, rows_in, settings_in, task_tones};
+use crate::simulate::{Simulated, bounds_judged, simulate_text};
+use crate::view::{Sets, view_of};
+use answering::{CommandRefusal, Status, print_bytes, print_stuck};
+use ceiling_kernel::Release;
+use command_line::Options;
+use frames::{TaskRow, Toned, View};
+use judge::SettingRow;
+use picture::{DrawnRun, draw_beside};
+use preferences::Asking;
+use run_lines::bounds_of;
+use std::alloc::{AllocError, Global};
+use std::io::Write;
+use streams::Watched;
+use task_sheet::{Name, TaskSet};
+
+/// What comes of a release list on a set, and on the one that it becomes, and what is drawn of it.
+#[derive(Drop)]
+pub struct TwoRuns {
+    /// As `desk simulate` answers on the first set.
+    pub was: Simulated,
+    /// The new set.
+    pub set: TaskSet,
+    /// As `desk simulate` answers on that.
+    pub is: Simulated,
+    /// In front of the list.
+    pub settings: Vec<SettingRow>,
+    /// In whose window something lies.
+    pub view: View,
+}
+
+/// The parts of a text in front of its first byte 0 and behind it: a release list and a task set.
+pub fn parts_of(text: &[u8]) -> (&[u8], &[u8])
+    ensures list { result.0.now ≡ list_of text.now }
+    ensures new { result.1.now ≡ new_of text.now }
+{
+    for (i, b) in text.iter().enumerate() {
+        if *b == 0 {
+            let (front, rest) = text.split_at(i);
+            return (front, &rest[1..]);
+        }
+    }
+    (text, &[])
+}
+
+// Whether there is a run.
+fn is_run(answer: &Simulated) -> bool
+    ensures { result ≡ is_run answer.now }
+{
+    match answer {
+        Simulated::Ran(_) | Simulated::Ordered(_) => true,
+        Simulated::Infeasible(_) => false,
+    }
+}
+
+// Up to when it goes.
+fn until_of(answer: &Simulated) -> u64
+    ensures { result ≡ until_of answer.now }
+{
+    match answer {
+        Simulated::Ran(run) => run.until,
+        Simulated::Ordered(run) => run.until,
+        Simulated::Infeasible(_) => 0,
+    }
+}
+
+// Its releases.
+fn releases_of(answer: &Simulated) -> &[Release]
+    ensures { result.now ≡ releases_of answer.now }
+{
+    match answer {
+        Simulated::Ran(run) => &run.releases,
+        Simulated::Ordered(run) => &run.releases,
+        Simulated::Infeasible(_) => &[],
+    }
+}
+
+// Whether nothing of two runs lies in the window of a view.
+fn are_unseen(view: &View, was: &Simulated, is: &Simulated) -> bool
+    ensures { result ≡ are_unseen view.now was.now is.now }
+{
+    is_run(was) && is_run(is) && view.is_empty(until_of(was).max(until_of(is)))
+}
+
+// Why the new set has no run.
+fn new_run_refusal(refusal: CommandRefusal) -> CommandRefusal
+    ensures { result ≡ new_run_refusal refusal }
+{
+    match refusal {
+        CommandRefusal::Run(fault) => CommandRefusal::NewRun(fault),
+        CommandRefusal::Settings(fault) => CommandRefusal::NewSettings(fault),
+        other => other,
+    }
+}
+
+// What comes of a list on a set, and on the new one that a text says, and that set.
+fn run_both(
+    alloc: Global,
+    asking: Asking,
+    tasks: &TaskSet,
+    text: &[u8],
+) -> Result<(Simulated, TaskSet, Simulated), CommandRefusal>
+    ensures answer { MatchResult result
+        (λ runs. AreRuns asking tasks.now runs.1 text.now runs.0 runs.2)
+        (λ r. IsNoRuns asking tasks.now text.now r) }
+    ensures was { IfOk result (λ runs. IsInOrder tasks.now runs.0) }
+    ensures is { IfOk result (λ runs. IsInOrder runs.1 runs.2) }
+{
+    let (list, new) = parts_of(text);
+    let was = simulate_text(alloc, tasks, list)?;
+    let (set, _by, _chains) = read_new(alloc, asking, new)?;
+    match simulate_text(alloc, &set, list) {
+        Ok(is) => Ok((was, set, is)),
+        Err(refusal) => Err(new_run_refusal(refusal)),
+    }
+}
+
+/// What comes of a set and the text of a release list and a new set, and what is drawn of it.
+pub fn beside_text(
+    alloc: Global,
+    asking: Asking,
+    options: Options<'_>,
+    tasks: &TaskSet,
+    text: &[u8],
+) -> Result<TwoRuns, CommandRefusal>
+    ensures answer { BesidesText asking options.entry tasks.now text.now result }
+    ensures was { IfOk result (λ b. IsInOrder tasks.now b.was) }
+    ensures is { IfOk result (λ b. IsInOrder b.set b.is) }
+{
+    let (was, set, is) = run_both(alloc, asking, tasks, text)?;
+    let settings = settings_in(alloc, parts_of(text).0)?;
+    let sets = Sets {
+        old: tasks,
+        new: Some(&set),
+    };
+    let view = view_of(alloc, options, sets)?;
+    if are_unseen(&view, &was, &is) {
+        return Err(CommandRefusal::EmptyWindow);
+    }
+    Ok(TwoRuns {
+        was,
+        set,
+        is,
+        settings,
+        view,
+    })
+}
+
+// The rows of a set in a run.
+fn rows_drawn(
+    alloc: Global,
+    set: &TaskSet,
+    looks: &Looks<'_>,
+    answer: &Simulated,
+) -> Result<Vec<TaskRow>, AllocError>
+    requires { IsInOrder set.now answer.now }
+    ensures rows { IfOk result (λ rows. rows.items
+        ≡ rows_of set.now (looks_of looks.now) (bounds_in answer.now)) }
+    ensures few { IfOk result (λ rows. length rows.items ≤ TASK_LIMIT) }
+{
+    match answer {
+        Simulated::Ran(run) => {
+            let bounds = bounds_of(alloc, &run.places)?;
+            rows_in(alloc, set, looks, &bounds)
+        }
+        Simulated::Ordered(run) => {
+            let bounds = bounds_judged(alloc, &run.judged)?;
+            rows_in(alloc, set, looks, &bounds)
+        }
+        Simulated::Infeasible(_) => Ok(Vec::new(alloc)),
+    }
+}
+
+// The same with the tones that the tasks of both sets have, in the view of both.
+fn rows_beside(
+    alloc: Global,
+    set: &TaskSet,
+    tones: &[Toned],
+    beside: &TwoRuns,
+    answer: &Simulated,
+) -> Result<Vec<TaskRow>, AllocError>
+    requires { IsInOrder set.now answer.now }
+    ensures rows { (all : List Task) → tones.now ≡ task_tones all → IfOk result (λ rows. rows.items
+        ≡ rows_drawn all set.now beside.now.settings.items beside.now.view answer.now) }
+    ensures few { IfOk result (λ rows. length rows.items ≤ TASK_LIMIT) }
+{
+    let looks = Looks {
+        settings: &beside.settings,
+        tones,
+        names: &beside.view.tasks,
+        releases: releases_of(answer),
+    };
+    rows_drawn(alloc, set, &looks, answer)
+}
+
+// The tone of the first of some rows that is of a name's task, else this one.
+fn tone_among(rows: &[TaskRow], name: Name, own: u64) -> u64
+    ensures { result ≡ tone_among rows.now name own }
+{
+    for row in rows {
+        if row.sheet.name() == name {
+            return row.tone;
+        }
+    }
+    own
+}
+
+// A row with the tone that its task has among others.
+fn toned_as(others: &[TaskRow], row: TaskRow) -> TaskRow
+    ensures { result ≡ toned_as others.now row }
+{
+    let tone = tone_among(others, row.sheet.name(), row.tone);
+    let mut toned = row;
+    toned.tone = tone;
+    toned
+}
+
+// The same of rows.
+fn all_toned_as(
+    alloc: Global,
+    others: &[TaskRow],
+    rows: Vec<TaskRow>,
+) -> Result<Vec<TaskRow>, AllocError>
+    ensures { IfOk result (λ toned. toned.items ≡ map (toned_as others.now) rows.items) }
+{
+    let mut toned = Vec::with_capacity(alloc, rows.len())?;
+    for row in rows {
+        toned.push(toned_as(others, row))?;
+    }
+    Ok(toned)
+}
+
+// What is drawn of a run with some rows.
+fn drawn_run<'a>(rows: &'a [TaskRow], answer: &'a Simulated) -> DrawnRun<'a>
+    requires { is_run answer.now ≡ true }
+    ensures run { run_of result ≡ drawn_run rows.now answer.now }
+    ensures rows { result.rows.now ≡ rows.now }
+{
+    match answer {
+        Simulated::Ran(run) => DrawnRun {
+            rows,
+            until: run.until,
+            releases: &run.releases,
+            trace: &run.trace,
+        },
+        Simulated::Ordered(run) => DrawnRun {
+            rows,
+            until: run.until,
+            releases: &run.releases,
+            trace: &run.trace,
+        },
+        Simulated::Infeasible(_) => unreachable!(),
+    }
+}
+
+// The picture of the runs of a set and of the one that it becomes.
+fn picture_of_both(alloc: Global, tasks: &TaskSet, beside: &TwoRuns) -> Result<Vec<u8>, AllocError>
+    requires was { IsInOrder tasks.now beside.now.was }
+    requires is { IsInOrder beside.now.set beside.now.is }
+    requires old { is_run beside.now.was ≡ true }
+    requires new { is_run beside.now.is ≡ true }
+    ensures { IfOk result (λ text. text.items ≡ picture_of_both tasks.now beside.now.set
+        beside.now.settings.items beside.now.view beside.now.was beside.now.is) }
+{
+    let sets = Sets {
+        old: tasks,
+        new: Some(&beside.set),
+    };
+    let tones = task_tones(alloc, sets)?;
+    let olds = rows_beside(alloc, tasks, &tones, beside, &beside.was)?;
+    let rows = rows_beside(alloc, &beside.set, &tones, beside, &beside.is)?;
+    let news = all_toned_as(alloc, &olds, rows)?;
+    let was = drawn_run(&olds, &beside.was);
+    let is = drawn_run(&news, &beside.is);
+    draw_beside(alloc, &was, &is, &beside.view)
+}
+
+/// Prints what is drawn of both runs, or why there is none of one.
+pub fn print_beside<W: Write + Drop>(
+    alloc: Global,
+    tasks: &TaskSet,
+    beside: &TwoRuns,
+    output: &mut Watched<W>,
+) -> Status
+    requires was { IsInOrder tasks.now beside.now.was }
+    requires is { IsInOrder beside.now.set beside.now.is }
+    ensures { IsSaidOn (λ before after s. IsPrinted before after (beside_said tasks.now beside.now)
+        (beside_status beside.now) s) W.contents output.old output.new result }
+{
+    if let Simulated::Infeasible(members) = &beside.was {
+        return print_stuck(alloc, tasks, *members, output);
+    }
+    if let Simulated::Infeasible(members) = &beside.is {
+        return print_stuck(alloc, &beside.set, *members, output);
+    }
+    print_bytes(picture_of_both(alloc, tasks, beside), Status::Done, output)
+}
