@@ -206,8 +206,8 @@ scene_at f locks run shown = record {
 }
 
 -- the frame of one of them
-abbrev pub frame_in : (old new : Run) → View → Run → Frame
-frame_in old new v run =
+abbrev pub side_frame : (old new : Run) → View → Run → Frame
+side_frame old new v run =
     frame_beside (length run.rows) old.rows new.rows v run.until (end_of_both old new)
 
 -- where the rows before stand: above
@@ -221,12 +221,12 @@ new_places v old new = lower_places (below_of old.rows (chosen_of v old) new.row
 -- what is drawn of the one before
 abbrev pub old_scene : (old new : Run) → View → Scene
 old_scene old new v =
-    scene_at (frame_in old new v old) (locks_beside old.rows new.rows) old (old_places v old)
+    scene_at (side_frame old new v old) (locks_beside old.rows new.rows) old (old_places v old)
 
 -- and of the one after
 abbrev pub new_scene : (old new : Run) → View → Scene
 new_scene old new v =
-    scene_at (frame_in old new v new) (locks_beside old.rows new.rows) new (new_places v old new)
+    scene_at (side_frame old new v new) (locks_beside old.rows new.rows) new (new_places v old new)
 
 -- THE DOCUMENT OF TWO RUNS, as a view has them
 abbrev pub document_beside : (old new : Run) → View → List ℕ
