@@ -149,12 +149,14 @@ class ChainPart:
 @dataclass(frozen=True)
 class Bound:
     """The bound of a chain, None where a task of it misses its deadline, beside its limit, if it has one;
-    and, of `explain`, the parts that it is the sum of."""
+    of `explain`, the parts that it is the sum of; and where the best order misses the limit, how small the
+    bound could be in any order that passes: past the limit none meets it, else another one may."""
 
     chain: str
     bound: int | None
     limit: int | None
     parts: tuple[ChainPart, ...] = ()
+    least: int | None = None
 
     @property
     def met(self) -> bool:
@@ -597,7 +599,7 @@ def toml(
 _COMMANDS = ("admit", "certify", "check", "limits", "settings", "explain")
 _COMMANDS += ("judge", "diff", "releases", "simulate", "draw", "play", "observe", "worst", "draw_beside")
 # A line of a chain: behind those of all levels, and no level's has such words.
-_CHAIN = re.compile(r"chain \S+ (-|[0-9]+)( (of|misses) [0-9]+)?")
+_CHAIN = re.compile(r"chain \S+ (-|[0-9]+)( (of|misses) [0-9]+( least [0-9]+)?)?")
 _SECOND = ("check", "judge", "diff", "simulate", "draw", "observe", "worst", "draw_beside")
 
 
@@ -699,10 +701,10 @@ def _chained(lines: Sequence[str]) -> tuple[Sequence[str], tuple[Bound, ...]]:
         else:
             less = words[4] if words[2] == "less" else None
             found[-1][1].append(ChainPart(words[0], words[1], int(words[-1]), less))
-    bounds = (
-        Bound(name, _time(bound), int(limit[-1]) if limit else None, tuple(parts))
-        for (_, name, bound, *limit), parts in found
-    )
+    bounds = []
+    for (_, name, bound, *rest), parts in found:
+        limit, least = (int(rest[k]) if len(rest) > k else None for k in (1, 3))
+        bounds.append(Bound(name, _time(bound), limit, tuple(parts), least))
     return lines[:end], tuple(bounds)
 
 

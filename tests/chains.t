@@ -41,13 +41,13 @@ The bound is within its limit up to the microsecond; the lesser of both limits c
   2 plan 9200
   3 camera 2600
   4 wheel 600
-  chain steer 44200 misses 44199
+  chain steer 44200 misses 44199 least 42200
   [3]
   $ desk explain tight.toml > said
   [3]
   $ head -n 1 said; grep chain said
   admitted 4
-  chain steer 44200 misses 44199
+  chain steer 44200 misses 44199 least 42200
   $ desk judge tight.toml now > said
   [3]
   $ head -n 1 said; tail -n 1 said
@@ -56,9 +56,15 @@ The bound is within its limit up to the microsecond; the lesser of both limits c
   $ desk explain tight.toml --at now > said
   [3]
   $ { cat examples/steer.toml; echo 'age = 44199'; } | desk admit - | tail -n 1
-  chain steer 44200 misses 44199
+  chain steer 44200 misses 44199 least 42200
   $ grep -v reaction examples/steer.toml | desk admit - | tail -n 1
   chain steer 44200
+
+A miss in the best order, and in no other, ends with the least bound, below which no order that passes has one. Past the limit no
+order meets the chain; else it is open, and `prefer.t` has an order that meets one:
+
+  $ sed 's/45000/42199/' examples/steer.toml | desk admit - | tail -n 1
+  chain steer 44200 misses 42199 least 42200
 
 `settings` prints what it prints without chains, with the status of `admit`:
 
@@ -219,3 +225,12 @@ No other command's status counts limits:
   admitted 4
   was admitted 4
   changed chain steer bound 44200 44200 slack 800 -1 keys limit 45000 44199
+
+In a random list the tasks of chains come exactly a period apart, as what is promised of a chain asks; others may come later:
+
+  $ desk releases examples/steer.toml 200000 --seed 3 > random
+  $ for task in camera plan wheel; do awk -v t=$task '$2 == t { if (n++) print $2, $1 - last; last = $1 }' random | sort | uniq -c | sed 's/^ *//'; done
+  19 camera 10000
+  9 plan 20000
+  38 wheel 5000
+  $ desk simulate examples/steer.toml random --tasks | tail -n 1

@@ -204,14 +204,14 @@ the shortest. Only this order meets the chain:
   1 act 6000
   2 log 5000
   3 sense 3000
-  chain turn 36000 misses 35000
+  chain turn 36000 misses 35000 least 31000
   [3]
   $ desk admit --prefer deadline turn.toml
   admitted 3
   1 sense 6000
   2 act 3000
   3 log 2000
-  chain turn 38000 misses 35000
+  chain turn 38000 misses 35000 least 31000
   [3]
   $ desk admit --prefer chains turn.toml
   admitted 3

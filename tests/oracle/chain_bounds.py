@@ -1,15 +1,18 @@
 """The bounds of a set's chains in an order, and the lines that say them: DEFINITIONS.md, Chains; FORMATS.md, Chains."""
 
+import analysis
 
-def lines_of(tasks, order, responses, tell_parts=False):
-    """The lines of all chains of a set in an order, by the response of each task, none where it misses its deadline; and whether
-    each bound is within its limit."""
+
+def lines_of(tasks, order, responses, tell_parts=False, is_best=False):
+    """The lines of all chains of a set in an order, by the response of each task, none where it misses its deadline, in the best
+    order with least bounds; and whether each bound is within its limit."""
     text, all_met = [], True
     for chain in tasks.chains:
         found = parts_in(tasks, order, responses, chain)
         bound = bound_in(tasks, order, responses, chain)
         is_met = chain.limit is None or (bound is not None and bound <= chain.limit)
         limit = [] if chain.limit is None else ["of" if is_met else "misses", chain.limit]
+        limit += ["least", least_bound(tasks, indexes_of(tasks, chain))] if is_best and not is_met else []
         text.append(" ".join(map(str, ["chain", chain.name, "-" if bound is None else bound, *limit])) + "\n")
         if tell_parts:
             text += [f"  {words} {time}\n" for words, time in found or [] if time]
@@ -17,9 +20,14 @@ def lines_of(tasks, order, responses, tell_parts=False):
     return "".join(text), all_met
 
 
+def indexes_of(tasks, chain):
+    """The tasks of a chain."""
+    return [next(i for i, task in enumerate(tasks) if task.name == name) for name in chain.tasks]
+
+
 def parts_in(tasks, order, responses, chain):
     """The parts of a chain's bound, where each of its tasks has a response."""
-    indexes = [next(i for i, task in enumerate(tasks) if task.name == name) for name in chain.tasks]
+    indexes = indexes_of(tasks, chain)
     if any(responses[i] is None for i in indexes):
         return None
     return parts(tasks, order, responses, indexes)
@@ -44,4 +52,24 @@ def parts(tasks, order, responses, indexes):
             found.append((f"jitter {name}", tasks[i].jitter))
         else:
             found.append((f"response {name} less cost {tasks[c].name}", responses[i] - tasks[c].cost))
+    return found
+
+
+def above_at_least(tasks, i):
+    """The tasks that stand above task i in each order that passes: who may stand below all others that are left is placed
+    there, but for i."""
+    left = set(range(len(tasks)))
+    while others := [j for j in left if j != i and analysis.stands(tasks, j, left - {j})]:
+        left.remove(others[-1])
+    return left - {i}
+
+
+def least_bound(tasks, indexes):
+    """How small the bound could be in any order that passes: the least part of each task, by whom such an order needs above."""
+    found = 0
+    for i, c in zip(indexes, [*indexes[1:], None]):
+        above = above_at_least(tasks, i)
+        response = analysis.response_of(tasks, i, above)
+        least = response if c is None else response - tasks[c].cost if c in above else tasks[i].jitter
+        found += tasks[i].period + least
     return found

@@ -59,12 +59,12 @@ def admit(tasks):
         return admitted(tasks, None), INFEASIBLE
     bounds = bounds_of(tasks, order)
     levels = [f"{level} {tasks[i].name} {bounds[i]}\n" for level, i, _ in analysis.levels_of(order)]
-    return with_chains((admitted(tasks, order) + "".join(levels), 0), tasks, order, bounds)
+    return with_chains((admitted(tasks, order) + "".join(levels), 0), tasks, order, bounds, is_best=True)
 
 
-def with_chains(answer, tasks, order, responses, tell_parts=False):
+def with_chains(answer, tasks, order, responses, tell_parts=False, is_best=False):
     """An answer, and behind it the lines of chains; where one misses its limit, the status says so."""
-    lines, all_met = chain_bounds.lines_of(tasks, order, responses, tell_parts)
+    lines, all_met = chain_bounds.lines_of(tasks, order, responses, tell_parts, is_best)
     return answer[0] + lines, answer[1] if all_met else INFEASIBLE
 
 
@@ -138,7 +138,7 @@ def explain_all(tasks, task):
         text += decided(tasks, task)
     if order is None or task is not None:
         return "".join(text), 0 if order is not None else INFEASIBLE
-    return with_chains(("".join(text), 0), tasks, order, bounds_of(tasks, order), tell_parts=True)
+    return with_chains(("".join(text), 0), tasks, order, bounds_of(tasks, order), tell_parts=True, is_best=True)
 
 
 def conflict_line(tasks, conflict):

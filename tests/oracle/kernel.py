@@ -172,14 +172,16 @@ def words_of(task_rank, seed):
 
 
 def random_list(tasks, until, seed):
-    """The jobs of each task that are ready before the end, by time, those of one time by rank."""
-    ranked = []
+    """The jobs of each task that are ready before the end, by time, those of one time by rank. Those of chains' tasks come
+    exactly a period apart."""
+    ranked, steady = [], {it for chain in tasks.chains for it in chain.tasks}
     for rank, task in enumerate(tasks):
         words = words_of(rank, seed)
         draw = lambda below: (next(words) >> 32) * below >> 32
         arrival = draw(task.period)
         while arrival < until:
-            late, runs_cost, less, comes_late, gap = draw(task.jitter + 1), draw(4), draw(task.cost), draw(4), draw(task.period)
+            spread = 0 if task.name in steady else task.period
+            late, runs_cost, less, comes_late, gap = draw(task.jitter + 1), draw(4), draw(task.cost), draw(4), draw(spread)
             if arrival + late < until:
                 ranked.append((arrival, rank, late, None if runs_cost == 0 else 1 + less))
             arrival += task.period + (gap if comes_late == 0 else 0)

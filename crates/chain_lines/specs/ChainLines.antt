@@ -1,5 +1,5 @@
 -- The lines of chains in an order whose levels have responses.
-use Rattle.std.specs.Prelude.{◌≡◌, ℕ, ◌==◌, nat_le, Bool, true, false, is_some, List, [], ◌∷◌, ◌++◌, codes, sum_by, Option, Some, None, if◌then◌else◌}
+use Rattle.std.specs.Prelude.{◌≡◌, ℕ, ◌==◌, nat_le, Bool, true, false, is_some, List, [], ◌∷◌, ◌++◌, codes, drop, sum_by, Option, Some, None, if◌then◌else◌}
 use Rattle.std.specs.Fmt.{decimal}
 use Rattle.std.specs.List.{list_all}
 use Rattle.task_sheet.specs.Sheet.{Task}
@@ -55,10 +55,16 @@ abbrev pub limit_words : (bound limit : Option ℕ) → List ℕ
 limit_words bound None = []
 limit_words bound (Some limit) = met_word (is_met bound (Some limit)) ++ decimal limit
 
--- the line of a chain of this bound: it, beside the chain's limit
-abbrev pub chain_line : ChainData → (bound : Option ℕ) → List ℕ
-chain_line chain bound =
-    codes "chain " ++ chain.name ++ codes " " ++ some_words bound ++ limit_words bound chain.limit ++ codes "\n"
+-- a chain's least bound, where it is told
+abbrev pub least_words : Option ℕ → List ℕ
+least_words None = []
+least_words (Some least) = codes " least " ++ decimal least
+
+-- the line of a chain of this bound: it, beside the chain's limit, and its least bound, where that is told
+abbrev pub chain_line : ChainData → (bound least : Option ℕ) → List ℕ
+chain_line chain bound least =
+    codes "chain " ++ chain.name ++ codes " " ++ some_words bound ++ limit_words bound chain.limit
+    ++ least_words least ++ codes "\n"
 
 -- the parts are told, where they are asked for and all tasks of the chain have a response
 abbrev pub is_told : Telling → (bound : Option ℕ) → Bool
@@ -71,16 +77,24 @@ parts_said true U levels tasks =
     part_lines U (parts_of (node_in U (order_of levels)) (time_in levels) tasks)
 
 -- the lines of a chain in an order whose levels have these responses: its bound, and where that is told, the parts
-abbrev pub chain_said : Telling → List Task → List Level → ChainData → List ℕ
-chain_said telling U levels chain =
-    chain_line chain (bound_in U levels chain.tasks)
+abbrev pub chain_said : Telling → List Task → List Level → (least : Option ℕ) → ChainData → List ℕ
+chain_said telling U levels least chain =
+    chain_line chain (bound_in U levels chain.tasks) least
     ++ parts_said (is_told telling (bound_in U levels chain.tasks)) U levels chain.tasks
 
 -- ---- all chains
-abbrev pub chains_said : Telling → List Task → List Level → List ChainData → List ℕ
-chains_said telling U levels [] = []
-chains_said telling U levels (chain ∷ chains) =
-    chain_said telling U levels chain ++ chains_said telling U levels chains
+-- what a list of least bounds tells of the first chain; past its end nothing
+abbrev pub first_least : List (Option ℕ) → Option ℕ
+first_least [] = None
+first_least (least ∷ leasts) = least
+
+-- the lines of all, of which these least bounds are told
+abbrev pub chains_said : Telling → List Task → List Level → (leasts : List (Option ℕ)) → List ChainData
+    → List ℕ
+chains_said telling U levels leasts [] = []
+chains_said telling U levels leasts (chain ∷ chains) =
+    chain_said telling U levels (first_least leasts) chain
+    ++ chains_said telling U levels (drop 1 leasts) chains
 
 -- the bound of each chain is within its limit, where it has one
 abbrev pub all_met : List Task → List Level → List ChainData → Bool

@@ -1,7 +1,13 @@
-//! A law of what is printed of a chain: it is the contract of a function that does nothing.
+//! Laws of what is printed of a chain. Each is the contract of a function that does nothing.
 ghost use Rattle.chain_lines.specs.ChainLines.{PartsAreTheBound};
+ghost use Rattle.chain_lines.specs.Leasts.{NoOrderMeets};
 
 /// The parts that are printed of a chain come to the bound that is printed, which is that of the laws of chains.
 pub fn parts_are_the_bound()
     ensures { PartsAreTheBound }
+{}
+
+/// Where a chain's least bound is past its limit, no order that passes meets it, by this bound; else another order may.
+pub fn no_order_meets()
+    ensures { NoOrderMeets }
 {}

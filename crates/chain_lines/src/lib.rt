@@ -2,6 +2,8 @@
 #![tactic(auto)]
 
 pub mod laws;
+mod leasts;
 mod text;
 
+pub use leasts::least_bounds;
 pub use text::{Telling, all_met, chains_text};

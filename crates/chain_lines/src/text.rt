@@ -1,9 +1,9 @@
 //! What is printed of chains.
-ghost use Rattle.std.specs.Prelude.{◌≡◌, ◌++◌, IfOk, OnOk, string_bytes};
+ghost use Rattle.std.specs.Prelude.{◌≡◌, ◌++◌, IfOk, OnOk, drop, string_bytes};
 ghost use Rattle.lines.specs.Naming.{name_at};
 ghost use Rattle.ceiling_kernel.specs.Tick.{node_in};
 ghost use Rattle.chains.specs.Parts.{bound_in, order_of, parts_of, time_in};
-ghost use Rattle.chain_lines.specs.ChainLines.{all_met, both_lines, chain_line, chain_said, chains_said, is_met, is_told, kind_words, limit_words, met_word, part_line, part_lines, parts_said};
+ghost use Rattle.chain_lines.specs.ChainLines.{all_met, both_lines, chain_line, chain_said, chains_said, first_least, is_met, is_told, kind_words, least_words, limit_words, met_word, part_line, part_lines, parts_said};
 
 use chain_tables::Chain;
 use chains::{BoundPart, Level, PartKind, after_of, bound_of, wait_of};
@@ -119,14 +119,30 @@ fn push_limit(text: &mut String, bound: Option<u128>, limit: Option<u64>) -> Res
     write!(text, "{most}")
 }
 
-// The line of a chain of this bound.
-fn push_line(text: &mut String, chain: &Chain, bound: Option<u128>) -> Result<(), AllocError>
-    ensures { OnOk result (string_bytes text.new ≡ string_bytes text.old ++ chain_line chain.now bound) }
+// A chain's least bound, where it is told.
+fn push_least(text: &mut String, least: Option<u128>) -> Result<(), AllocError>
+    ensures { OnOk result (string_bytes text.new ≡ string_bytes text.old ++ least_words least) }
+{
+    let Some(least) = least else {
+        return Ok(());
+    };
+    write!(text, " least {least}")
+}
+
+// The line of a chain of this bound, and this least one, where it is told.
+fn push_line(
+    text: &mut String,
+    chain: &Chain,
+    bound: Option<u128>,
+    least: Option<u128>,
+) -> Result<(), AllocError>
+    ensures { OnOk result (string_bytes text.new ≡ string_bytes text.old ++ chain_line chain.now bound least) }
 {
     let name = chain.name;
     write!(text, "chain {name} ")?;
     push_some_wide(text, bound)?;
     push_limit(text, bound, chain.limit)?;
+    push_least(text, least)?;
     text.push_str("\n")
 }
 
@@ -146,13 +162,14 @@ fn push_chain(
     telling: Telling,
     set: &TaskSet,
     levels: &[Level],
+    least: Option<u128>,
     chain: &Chain,
 ) -> Result<(), AllocError>
     ensures { OnOk result (string_bytes text.new ≡ string_bytes text.old
-        ++ chain_said telling set.now levels.now chain.now) }
+        ++ chain_said telling set.now levels.now least chain.now) }
 {
     let bound = bound_of(set, levels, &chain.tasks);
-    push_line(text, chain, bound)?;
+    push_line(text, chain, bound, least)?;
     if is_told(telling, bound) {
         push_parts(text, set, levels, &chain.tasks)
     } else {
@@ -160,26 +177,51 @@ fn push_chain(
     }
 }
 
-/// The lines of chains in an order whose levels have these responses: of each its bound, beside its limit, and where that is
-/// told, the parts above 0 that it is the sum of. The error is out of memory.
+// The least bound that is told of the first of some chains, where one is.
+fn first_least(leasts: &[Option<u128>]) -> Option<u128>
+    ensures { result ≡ first_least leasts.now }
+{
+    match leasts.first() {
+        Some(least) => *least,
+        None => None,
+    }
+}
+
+// Those of the others.
+fn other_leasts(leasts: &[Option<u128>]) -> &[Option<u128>]
+    ensures { result.now ≡ drop 1 leasts.now }
+{
+    match leasts.split_first() {
+        Some((_, others)) => others,
+        None => leasts,
+    }
+}
+
+/// The lines of chains in an order whose levels have these responses: of each its bound, beside its limit, and the least
+/// one, where the list says one, chain by chain; past its end it says none. Where that is told, the parts above 0 that the
+/// bound is the sum of. The error is out of memory.
 pub fn chains_text(
     alloc: Global,
     telling: Telling,
     set: &TaskSet,
     levels: &[Level],
+    leasts: &[Option<u128>],
     chains: &[Chain],
 ) -> Result<String, AllocError>
-    ensures { IfOk result (λ text. string_bytes text ≡ chains_said telling set.now levels.now chains.now) }
+    ensures { IfOk result (λ text. string_bytes text
+        ≡ chains_said telling set.now levels.now leasts.now chains.now) }
 {
     let mut text = String::new(alloc);
+    let mut rest = leasts;
     for chain in chains {
-        push_chain(&mut text, telling, set, levels, chain)?;
+        push_chain(&mut text, telling, set, levels, first_least(rest), chain)?;
+        rest = other_leasts(rest);
     }
     Ok(text)
 }
 
-// Whether a chain's bound is within its limit.
-fn meets(set: &TaskSet, levels: &[Level], chain: &Chain) -> bool
+/// Whether a chain's bound is within its limit.
+pub(crate) fn meets(set: &TaskSet, levels: &[Level], chain: &Chain) -> bool
     ensures { result ≡ is_met (bound_in set.now levels.now chain.now.tasks) chain.now.limit }
 {
     is_met(bound_of(set, levels, &chain.tasks), chain.limit)

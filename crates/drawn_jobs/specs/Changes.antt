@@ -52,11 +52,16 @@ abbrev pub response_text : (arrival : ℕ) → (finish : Option ℕ) → List �
 response_text arrival None = codes "not done"
 response_text arrival (Some finish) = decimal (finish - arrival) ++ codes " us"
 
+-- what stands before that
+abbrev pub response_word : (finish : Option ℕ) → List ℕ
+response_word None = codes ": "
+response_word (Some finish) = codes ": response "
+
 -- a sign below the end of its response, and what that was before
 abbrev pub change_sign : Frame → (k : ℕ) → (old job : JobRecord) → List ℕ
 change_sign f k old job =
     concat (codes "<path class=\"ch\" d=\"M" ∷ decimal (x_of f (ended f job)) ∷ codes " "
-    ∷ decimal (top_of k + 360) ∷ codes "l-45 80h90z\"><title>" ∷ job.name ∷ codes ": response "
+    ∷ decimal (top_of k + 360) ∷ codes "l-45 80h90z\"><title>" ∷ job.name ∷ response_word job.finish
     ∷ response_text job.release job.finish ∷ codes ", before "
     ∷ response_text old.release old.finish ∷ codes "</title></path>\n" ∷ [])
 

@@ -20,9 +20,13 @@ abbrev pub busy_from : Frame → ℕ → List Slice → ℕ
 busy_from f before [] = before
 busy_from f before (s ∷ slices) = busy_from f (busy_with f before s) slices
 
--- for how much of the window slices execute, in thousandths
+-- how much of the window is before the end of the run
+abbrev pub seen_for : Frame → ℕ
+seen_for f = max (min f.to f.until - f.from) 1
+
+-- for how much of that slices execute, in thousandths
 abbrev pub busy_of : Frame → List Slice → ℕ
-busy_of f slices = 1000 * min (busy_from f 0 slices) (f.to - f.from) / (f.to - f.from)
+busy_of f slices = 1000 * min (busy_from f 0 slices) (seen_for f) / seen_for f
 
 -- the lane's name, how busy it is, and its line
 abbrev pub lane_head : Frame → List Slice → List ℕ

@@ -3,7 +3,7 @@ ghost use Rattle.std.specs.Prelude.{◌+◌, ◌<◌, ◌≡◌, ◌≤◌, ◌^
 ghost use Rattle.frames.specs.Page.{Adds};
 ghost use Rattle.frames.specs.declared.places.TheConstants.{PLACES_LIMIT};
 ghost use Rattle.frames.specs.PictureRows.{record_at};
-ghost use Rattle.drawn_jobs.specs.Changes.{all_changed, change_at, change_of, change_sign, changes_text, counted_with, done_by, has_changed, is_changed, response_text, same_finish, same_release};
+ghost use Rattle.drawn_jobs.specs.Changes.{all_changed, change_at, change_of, change_sign, changes_text, counted_with, done_by, has_changed, is_changed, response_text, response_word, same_finish, same_release};
 
 use crate::marks::is_shown;
 use ceiling_kernel::JobRecord;
@@ -87,6 +87,16 @@ fn put_response(job: &JobRecord, page: &mut Page)
     }
 }
 
+// What stands before that.
+fn response_word(finish: Option<u64>) -> &'static [u8]
+    ensures { result.now ≡ response_word finish }
+{
+    match finish {
+        None => b": ",
+        Some(_) => b": response ",
+    }
+}
+
 // A sign below the end of a response, and what that was before.
 fn put_change_sign(frame: Frame, k: usize, old: &JobRecord, job: &JobRecord, page: &mut Page)
     requires { k ≤ PLACES_LIMIT }
@@ -95,7 +105,7 @@ fn put_change_sign(frame: Frame, k: usize, old: &JobRecord, job: &JobRecord, pag
     page.number(b"<path class=\"ch\" d=\"M", x_of(frame, ended(frame, job)));
     page.number(b" ", top_of(k) + 360);
     page.name(b"l-45 80h90z\"><title>", job.name);
-    page.put(b": response ");
+    page.put(response_word(job.finish));
     put_response(job, page);
     page.put(b", before ");
     put_response(old, page);

@@ -1,7 +1,8 @@
 //! The lane of the processor.
-ghost use Rattle.std.specs.Prelude.{◌*◌, ◌+◌, ◌≡◌, ◌≤◌};
+ghost use Rattle.std.specs.Prelude.{◌*◌, ◌+◌, ◌<◌, ◌≡◌, ◌≤◌};
+ghost use Rattle.ceiling_kernel.specs.declared.accept.TheConstants.{HORIZON};
 ghost use Rattle.frames.specs.Page.{Adds};
-ghost use Rattle.drawn_jobs.specs.Lane.{busy_from, busy_of, edge_class, lane_bar, lane_by, lane_head, lane_label, lane_line, lane_right, lane_text, lanes_text, level_room};
+ghost use Rattle.drawn_jobs.specs.Lane.{busy_from, busy_of, edge_class, lane_bar, lane_by, lane_head, lane_label, lane_line, lane_right, lane_text, lanes_text, level_room, seen_for};
 ghost use Rattle.frames.specs.declared.frame.TheConstants.{RIGHTMOST};
 
 use ceiling_kernel::Slice;
@@ -23,11 +24,20 @@ fn busy_in(frame: Frame, slices: &[Slice]) -> u64
     busy
 }
 
-// For how much of the window, in thousandths.
+// How much of the window is before the end of the run.
+fn seen_for(frame: Frame) -> u64
+    ensures value { result ≡ seen_for frame }
+    ensures some { 0 < result }
+    ensures within { result ≤ HORIZON }
+{
+    frame.to.min(frame.until).saturating_sub(frame.from).max(1)
+}
+
+// For how much of that slices execute, in thousandths.
 fn busy_of(frame: Frame, slices: &[Slice]) -> u64
     ensures { result ≡ busy_of frame slices.now }
 {
-    let len = frame.to - frame.from;
+    let len = seen_for(frame);
     1_000 * busy_in(frame, slices).min(len) / len
 }
 

@@ -1,7 +1,7 @@
 -- Rows one below the other differ in their tones.
 use Rattle.std.proofs.Common.{◌≡◌, inl, inr, ℕ, ◌+◌, List, [], ◌∷◌, ◌++◌, Option, Some, None, true}
 use Rattle.std.proofs.Common.{arith, refl}
-use Rattle.std.specs.Prelude.{◌%◌, ◌==◌, not, if◌then◌else◌}
+use Rattle.std.specs.Prelude.{◌%◌, ◌==◌, not}
 use Rattle.std.proofs.lemmas.Bool.{and_parts, cases_Bool, eqb-true, ne_eqb}
 use Rattle.task_sheet.proofs.Common.{Task}
 use Rattle.ceiling_kernel.specs.declared.trace.Release.{Release}

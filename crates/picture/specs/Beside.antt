@@ -1,6 +1,6 @@
 -- Two runs of one release list in one document, one before a change and one after it: the row of each task as it was, and
 -- right below it the row of the same task as it is, with what changed marked.
-use Rattle.std.specs.Prelude.{ℕ, ◌+◌, ◌*◌, ◌/◌, min, max, Bool, false, ◌==◌, nat_lt, if◌then◌else◌, List, [], ◌∷◌, ◌++◌, length, codes}
+use Rattle.std.specs.Prelude.{ℕ, ◌+◌, ◌-◌, ◌*◌, ◌/◌, min, max, Bool, false, ◌==◌, nat_lt, if◌then◌else◌, List, [], ◌∷◌, ◌++◌, length, codes}
 use Rattle.std.specs.Fmt.{decimal}
 use Rattle.std.specs.List.{concat}
 use Rattle.ceiling_kernel.specs.declared.trace.Release.{Release}
@@ -10,7 +10,7 @@ use Rattle.frames.specs.declared.rows.Spot.{Spot}
 use Rattle.frames.specs.declared.rows.TaskRow.{TaskRow}
 use Rattle.frames.specs.declared.tones.Toned.{Toned}
 use Rattle.frames.specs.declared.view.View.{View}
-use Rattle.frames.specs.Frame.{Frame, frame_beside, frame_end, in_millis, step_of, top_of}
+use Rattle.frames.specs.Frame.{Frame, frame_beside, frame_end, in_millis, step_of, top_of, x_of}
 use Rattle.frames.specs.Locks.{locks_beside}
 use Rattle.frames.specs.Numbers.{time_text, unit_text}
 use Rattle.frames.specs.PictureRows.{at_places, each}
@@ -154,11 +154,22 @@ ground_beside old new title held was is =
     ++ locks_group new.frame (length new.shown) held
 
 -- ---- what happens
--- the lane of the processor, with a word that says of which run
+-- a line and words in a lane
+abbrev pub end_at : Frame → (x : ℕ) → List ℕ
+end_at f x =
+    concat (codes "<path class=\"en\" d=\"M" ∷ decimal x
+    ∷ codes " 1330v240\"/><text class=\"ba\" x=\"" ∷ decimal (min (x + 40) (frame_end f - 400))
+    ∷ codes "\" y=\"1498\">run ends</text>\n" ∷ [])
+
+-- the same where a run ends, if it does before the window
+abbrev pub end_text : Frame → List ℕ
+end_text f = if nat_lt f.until f.to then end_at f (x_of f f.until) else []
+
+-- the lane of the processor, with a word that says of which run, and where that ends
 abbrev pub lane_side : Scene → (word : List ℕ) → List ℕ
 lane_side c word =
     lane_line c.frame ++ lane_head c.frame c.slices ++ word_at word 1345
-    ++ lanes_text c.frame c.rows c.jobs c.slices
+    ++ lanes_text c.frame c.rows c.jobs c.slices ++ end_text c.frame
 
 -- that of one run, and below it, by a place, that of the other
 abbrev pub lanes_beside : (old new : Scene) → List ℕ
@@ -206,8 +217,8 @@ scene_at f locks run shown = record {
 }
 
 -- the frame of one of them
-abbrev pub frame_in : (old new : Run) → View → Run → Frame
-frame_in old new v run =
+abbrev pub side_frame : (old new : Run) → View → Run → Frame
+side_frame old new v run =
     frame_beside (length run.rows) old.rows new.rows v run.until (end_of_both old new)
 
 -- where the rows before stand: above
@@ -221,12 +232,12 @@ new_places v old new = lower_places (below_of old.rows (chosen_of v old) new.row
 -- what is drawn of the one before
 abbrev pub old_scene : (old new : Run) → View → Scene
 old_scene old new v =
-    scene_at (frame_in old new v old) (locks_beside old.rows new.rows) old (old_places v old)
+    scene_at (side_frame old new v old) (locks_beside old.rows new.rows) old (old_places v old)
 
 -- and of the one after
 abbrev pub new_scene : (old new : Run) → View → Scene
 new_scene old new v =
-    scene_at (frame_in old new v new) (locks_beside old.rows new.rows) new (new_places v old new)
+    scene_at (side_frame old new v new) (locks_beside old.rows new.rows) new (new_places v old new)
 
 -- THE DOCUMENT OF TWO RUNS, as a view has them
 abbrev pub document_beside : (old new : Run) → View → List ℕ

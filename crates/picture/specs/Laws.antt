@@ -1,14 +1,18 @@
 -- What the darker ticks and the missed deadlines mean, how wide a picture is, and that names stand in it as they are.
-use Rattle.std.specs.Prelude.{◌≡◌, ℕ, ◌+◌, ◌*◌, ◌<◌, ◌≤◌, ◌↔◌, Bool, true, false, Some, None, not, ◌&&◌, ◌==◌, nat_le, nat_lt, List, IsTrue}
+use Rattle.std.specs.Prelude.{◌≡◌, ℕ, ◌+◌, ◌*◌, ◌<◌, ◌≤◌, ◌↔◌, Bool, true, false, Some, None, not, ◌&&◌, ◌==◌, nat_le, nat_lt, List, IsTrue, All, length}
 use Rattle.std.specs.List.{list_all}
 use Rattle.task_sheet.specs.Sheet.{CriticalSection}
 use Rattle.task_sheet.specs.Name.{IsName}
 use Rattle.ceiling_kernel.specs.Tick.{is_inside}
 use Rattle.ceiling_kernel.specs.declared.trace.Slice.{Slice}
 use Rattle.ceiling_kernel.specs.declared.trace.JobRecord.{JobRecord}
+use Rattle.frames.specs.declared.rows.Spot.{Spot}
 use Rattle.frames.specs.declared.rows.TaskRow.{TaskRow}
 use Rattle.frames.specs.declared.view.View.{View}
 use Rattle.frames.specs.Frame.{Frame, frame_of}
+use Rattle.frames.specs.PictureRows.{name_in, spot_named}
+use Rattle.frames.specs.Places.{below_of, lower_places, upper_places}
+use Rattle.task_sheet.specs.declared.set.TheConstants.{TASK_LIMIT}
 use Rattle.frames.specs.Slices.{ticks_of}
 use Rattle.drawn_jobs.specs.Sections.{dark_from, dark_to}
 use Rattle.drawn_jobs.specs.Misses.{is_late}
@@ -77,3 +81,19 @@ LEAST_TYPE = 105
 abbrev pub IsTypeReadable : Type 0
 IsTypeReadable =
     (size : ℕ) → 6 * 254 * (10 * paper_width size) ≤ LEAST_TYPE * paper_wide size * 720
+
+-- no two rows are of one task
+abbrev pub AreDistinct : List TaskRow → Type 0
+AreDistinct rows =
+    (i j : ℕ) → i < length rows → j < length rows → name_in rows i ≡ name_in rows j → i ≡ j
+
+-- a task of which two runs show a row has it at an odd place of the one, and right below that in the other
+abbrev pub AreRowsBeside : Type 0
+AreRowsBeside =
+    (old new : List TaskRow) (old_shown new_shown : List ℕ) (name : List ℕ) (s t : Spot)
+    → AreDistinct old → length old ≤ TASK_LIMIT → length new ≤ TASK_LIMIT
+    → All (λ rank. rank < length old) old_shown → spot_named old old_shown name ≡ Some s
+    → spot_named new new_shown name ≡ Some t
+    → (spot_named old (upper_places old_shown) name ≡ Some (record { rank = s.rank; k = 2 * s.k + 1 }))
+    × (spot_named new (lower_places (below_of old old_shown new new_shown)) name
+    ≡ Some (record { rank = t.rank; k = 2 * s.k + 2 }))

@@ -114,8 +114,8 @@ fn chart_of<'a>(
 
 /// Returns one picture of two runs of a release list, before a change and after it, as a view has them: an SVG 1.1 document.
 /// The row of each task as it is stands right below the row of the same task as it was, and a job whose response changed has
-/// a sign. Memory is taken for the document, and for two counts of each job, four names of each lock and five numbers of each
-/// row.
+/// a sign. Memory is taken for the document, and for two counts of each job, five names of each lock and seven numbers of
+/// each row.
 pub fn draw_beside(
     alloc: Global,
     old: &DrawnRun<'_>,

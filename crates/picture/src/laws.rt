@@ -1,5 +1,5 @@
 //! Laws of the picture.
-ghost use Rattle.picture.specs.Laws.{AreMissesShown, AreNamesPlain, AreTicksDark, AreTonesFree, HasWidth, IsHeldBetween, IsTypeReadable};
+ghost use Rattle.picture.specs.Laws.{AreMissesShown, AreNamesPlain, AreRowsBeside, AreTicksDark, AreTonesFree, HasWidth, IsHeldBetween, IsTypeReadable};
 
 /// The darker ticks of a slice are those that its job executes inside the section.
 pub fn ticks_are_dark()
@@ -35,4 +35,9 @@ pub fn tones_are_free()
 /// On paper the least type is at least 6 points high, where no width is said.
 pub fn type_is_readable()
     ensures { IsTypeReadable }
+{}
+
+/// Of two runs side by side the row of a task in the one stands right above its row in the other.
+pub fn rows_are_beside()
+    ensures { AreRowsBeside }
 {}

@@ -2,9 +2,10 @@
 ghost use Rattle.std.specs.Prelude.{◌+◌, ◌*◌, ◌<◌, ◌≡◌, ◌≤◌, codes, length};
 ghost use Rattle.frames.specs.Page.{Adds};
 ghost use Rattle.frames.specs.PictureRows.{at_places, at_spot, spot_in};
+ghost use Rattle.frames.specs.declared.frame.TheConstants.{RIGHTMOST};
 ghost use Rattle.frames.specs.declared.locks.TheConstants.{LOCKS_LIMIT};
 ghost use Rattle.frames.specs.declared.places.TheConstants.{PLACES_LIMIT};
-ghost use Rattle.picture.specs.Beside.{ground_beside, head_beside, known_to, lane_side, lanes_beside, later_of, margin_side, margins_beside, missed_words, name_word, pair_text, pairs_text, side_words, sides_words, size_beside, styles_beside, unrun_beside, verdict_beside, what_beside, word_at};
+ghost use Rattle.picture.specs.Beside.{end_at, end_text, ground_beside, head_beside, known_to, lane_side, lanes_beside, later_of, margin_side, margins_beside, missed_words, name_word, pair_text, pairs_text, side_words, sides_words, size_beside, styles_beside, unrun_beside, verdict_beside, what_beside, word_at};
 ghost use Rattle.picture.specs.Waits.{scene_of};
 
 use crate::ground::{are_interrupted, put_size_head, put_ticks, put_unrun, put_window};
@@ -16,7 +17,7 @@ use drawn_jobs::{
 };
 use frames::{
     Chart, Frame, Page, TaskRow, Toned, end_of, in_millis, put_time, put_unit, start_of, step_of,
-    top_of,
+    top_of, x_of,
 };
 
 // A run: how many tasks and jobs it has, and when it ends.
@@ -236,14 +237,36 @@ pub(crate) fn put_ground_beside(old: &Chart<'_>, new: &Chart<'_>, held: &[Toned]
     put_locks_group(frame, places, held, page)
 }
 
-// The lane of the processor, with a word that says of which run.
+// A line and words in a lane.
+fn put_end_at(frame: Frame, x: u64, page: &mut Page)
+    requires { x ≤ RIGHTMOST }
+    ensures { Adds page.old page.new (end_at frame x) }
+{
+    let words = (x + 40).min(end_of(frame).saturating_sub(400));
+    page.number(b"<path class=\"en\" d=\"M", x);
+    page.number(b" 1330v240\"/><text class=\"ba\" x=\"", words);
+    page.put(b"\" y=\"1498\">run ends</text>\n")
+}
+
+// The same where a run ends, if it does before the window.
+fn put_end(frame: Frame, page: &mut Page)
+    ensures { Adds page.old page.new (end_text frame) }
+{
+    let until = frame.until;
+    if until < frame.to {
+        put_end_at(frame, x_of(frame, until), page)
+    }
+}
+
+// The lane of the processor, with a word that says of which run, and where that ends.
 fn put_lane_side(chart: &Chart<'_>, word: &[u8], page: &mut Page)
     ensures { Adds page.old page.new (lane_side (scene_of chart.now) word.now) }
 {
     put_lane_line(chart.frame, page);
     put_lane_head(chart, page);
     put_word(word, 1345, page);
-    put_lanes(chart, page)
+    put_lanes(chart, page);
+    put_end(chart.frame, page)
 }
 
 // That of one run, and below it, by a place, that of the other.

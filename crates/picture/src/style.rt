@@ -7,7 +7,9 @@ pub(crate) const BESIDE_STYLE: &str = concat!(
     ".ba{font:italic 105px sans-serif}",
     // a response that changed
     ".ch{fill:#a8007f}",
-    "@media(prefers-color-scheme:dark){.ch{fill:#ff8ae2}}",
+    // where a run ends
+    ".en{stroke:#333;stroke-width:14;fill:none}",
+    "@media(prefers-color-scheme:dark){.ch{fill:#ff8ae2}.en{stroke:#d5dae0}}",
     "</style>\n",
 );
 

@@ -8,5 +8,6 @@ pub mod FitLaws
 pub mod DensestLaws
 pub mod OrderLaws
 pub mod RandomLaws
+pub mod SteadyLaws
 pub mod RandomLists
 pub mod ReadBackLaws

@@ -25,6 +25,6 @@ pub fn lists_are_read_back()
         → ReadsBack until rs }
     ensures densest { (U : List Task) (until : ℕ) → IsTaskSet U → list_refusal U until ≡ None
         → ReadsBack until (densest_of U until) }
-    ensures random { (U : List Task) (until seed : ℕ) → IsTaskSet U
-        → random_refusal U until seed ≡ None → ReadsBack until (random_of U until seed) }
+    ensures random { (U : List Task) (steady : List ℕ) (until seed : ℕ) → IsTaskSet U
+        → random_refusal U steady until seed ≡ None → ReadsBack until (random_of U steady until seed) }
 {}

@@ -1,10 +1,11 @@
 //! A random release list of a set, by a fixed rule.
-ghost use Rattle.std.specs.Prelude.{◌≡◌, ◌<◌, ◌≤◌, ◌+◌, ◌++◌, ◌^◌, length, None, MatchResult, IfOk, nat_lt};
+ghost use Rattle.std.specs.List.{list_any};
+ghost use Rattle.std.specs.Prelude.{◌≡◌, ◌==◌, ◌<◌, ◌≤◌, ◌+◌, ◌++◌, ◌^◌, length, None, MatchResult, IfOk, nat_lt};
 ghost use Rattle.task_sheet.specs.Sheet.{IsValidSheet};
 ghost use Rattle.task_sheet.specs.TaskSet.{IsTaskSet};
 ghost use Rattle.ceiling_kernel.specs.declared.accept.TheConstants.{HORIZON, RELEASE_LIMIT};
 ghost use Rattle.ceiling_kernel.specs.Releases.{IsRefusal, refusal_of, refuse_if};
-ghost use Rattle.release_list.specs.Random.{word_after, word_before, drawn, late_after, runs_after, third_after, gap_after, if_ready, jobs_within, all_jobs, random_of, random_refusal};
+ghost use Rattle.release_list.specs.Random.{word_after, word_before, drawn, late_after, runs_after, third_after, gap_after, if_ready, jobs_within, all_jobs, spread_of, random_of, random_refusal};
 
 use ceiling_kernel::{HORIZON, RELEASE_LIMIT, Release, RunFault};
 use std::alloc::Global;
@@ -72,15 +73,16 @@ impl Generator {
         }
     }
 
-    // From its arrival to the next.
-    fn gap(&mut self, sheet: &Sheet) -> u64
-        requires { IsValidSheet sheet.now }
+    // From its arrival to the next, less than the spread more than a period later, or a period.
+    fn gap(&mut self, sheet: &Sheet, spread: u64) -> u64
+        requires valid { IsValidSheet sheet.now }
+        requires spread { spread ≤ sheet.now.period }
         ensures word { self.new.word ≡ word_after (word_after self.old.word) }
-        ensures gap { result ≡ gap_after sheet.now self.old.word }
+        ensures gap { result ≡ gap_after sheet.now spread self.old.word }
         ensures small { result ≤ sheet.now.period + sheet.now.period }
     {
         let waits = self.draw(4) == 0;
-        let extra = self.draw(sheet.period());
+        let extra = self.draw(spread);
         sheet.period() + if waits { extra } else { 0 }
     }
 }
@@ -111,43 +113,72 @@ fn push_if_ready(releases: &mut Vec<Release>, release: Release, until: u64) -> R
 // The jobs of a task are put behind others.
 fn push_jobs(
     sheet: &Sheet,
+    spread: u64,
     mut generator: Generator,
     until: u64,
     releases: &mut Vec<Release>,
 ) -> Result<(), RunFault>
     requires valid { IsValidSheet sheet.now }
+    requires spread { spread ≤ sheet.now.period }
     requires horizon { until ≤ HORIZON }
     requires few { length releases.old.items ≤ RELEASE_LIMIT }
     ensures { MatchResult result
-        (λ _. (releases.new.items ≡ releases.old.items ++ jobs_within sheet.now generator.word until until)
+        (λ _. (releases.new.items ≡ releases.old.items ++ jobs_within sheet.now spread generator.word until until)
         × (length releases.new.items ≤ RELEASE_LIMIT))
         (λ e. IsRefusal e
         (refuse_if (nat_lt RELEASE_LIMIT
-        (length (releases.old.items ++ jobs_within sheet.now generator.word until until))) RunFault.TooMany)) }
+        (length (releases.old.items ++ jobs_within sheet.now spread generator.word until until))) RunFault.TooMany)) }
 {
     let mut time = generator.draw(sheet.period());
     while time < until {
         let release = generator.release(sheet, time);
         push_if_ready(releases, release, until)?;
-        time += generator.gap(sheet);
+        time += generator.gap(sheet, spread);
     }
     Ok(())
 }
 
+// Whether the task of a rank is one of the steady ones.
+fn is_steady(steady: &[usize], rank: usize) -> bool
+    ensures { result ≡ list_any (λ k. k == rank) steady.now }
+{
+    steady.iter().any(|task| *task == rank)
+}
+
+// By less than how much more than a period jobs of a task may come apart.
+fn spread_of(sheet: &Sheet, steady: &[usize], rank: usize) -> u64
+    ensures value { result ≡ spread_of sheet.now steady.now rank }
+    ensures within { result ≤ sheet.now.period }
+{
+    if is_steady(steady, rank) {
+        0
+    } else {
+        sheet.period()
+    }
+}
+
 // The jobs of a set, task by task.
-fn jobs(alloc: Global, sheets: &[Sheet], until: u64, seed: u64) -> Result<Vec<Release>, RunFault>
+fn jobs(
+    alloc: Global,
+    sheets: &[Sheet],
+    steady: &[usize],
+    until: u64,
+    seed: u64,
+) -> Result<Vec<Release>, RunFault>
     requires set { IsTaskSet sheets.now }
     requires horizon { until ≤ HORIZON }
     ensures { MatchResult result
-        (λ releases. (releases.items ≡ all_jobs sheets.now until seed)
+        (λ releases. (releases.items ≡ all_jobs sheets.now steady.now until seed)
         × (length releases.items ≤ RELEASE_LIMIT))
         (λ e. IsRefusal e
-        (refuse_if (nat_lt RELEASE_LIMIT (length (all_jobs sheets.now until seed))) RunFault.TooMany)) }
+        (refuse_if (nat_lt RELEASE_LIMIT (length (all_jobs sheets.now steady.now until seed))) RunFault.TooMany)) }
 {
     let mut releases = Vec::new(alloc);
     for rank in 0..sheets.len() {
+        let sheet = &sheets[rank];
         push_jobs(
-            &sheets[rank],
+            sheet,
+            spread_of(sheet, steady, rank),
             Generator::of(seed, rank as u64),
             until,
             &mut releases,
@@ -157,19 +188,26 @@ fn jobs(alloc: Global, sheets: &[Sheet], until: u64, seed: u64) -> Result<Vec<Re
 }
 
 /// A random release list that a set allows up to `until`, the same for the same seed: jobs that may be late within their
-/// jitter, execute less than their cost, and come more than a period apart; all that are ready before `until`, by time,
-/// then by rank. Refused in this order: `PastHorizon`, `TooMany`. A kernel of the set refuses no such list.
-pub fn random(alloc: Global, set: &TaskSet, until: u64, seed: u64) -> Result<Vec<Release>, RunFault>
+/// jitter, execute less than their cost, and come more than a period apart, those of the tasks in `steady`, by their indexes,
+/// exactly a period; all that are ready before `until`, by time, then by rank. Refused in this order: `PastHorizon`,
+/// `TooMany`. A kernel of the set refuses no such list.
+pub fn random(
+    alloc: Global,
+    set: &TaskSet,
+    steady: &[usize],
+    until: u64,
+    seed: u64,
+) -> Result<Vec<Release>, RunFault>
     ensures list { MatchResult result
-        (λ releases. (random_refusal set.now until seed ≡ None)
-        × (releases.items ≡ random_of set.now until seed))
-        (λ e. IsRefusal e (random_refusal set.now until seed)) }
+        (λ releases. (random_refusal set.now steady.now until seed ≡ None)
+        × (releases.items ≡ random_of set.now steady.now until seed))
+        (λ e. IsRefusal e (random_refusal set.now steady.now until seed)) }
     ensures accepted { IfOk result (λ releases. refusal_of set.now releases.items until ≡ None) }
 {
     if until > HORIZON {
         return Err(RunFault::PastHorizon);
     }
-    let mut releases = jobs(alloc, set.sheets(), until, seed)?;
+    let mut releases = jobs(alloc, set.sheets(), steady, until, seed)?;
     match releases.sort_by_key(|release| release.time) {
         Ok(()) => Ok(releases),
         Err(_) => Err(RunFault::OutOfMemory),

@@ -12,7 +12,7 @@ use Rattle.answering.specs.declared.status.Status.{Status}
 use Rattle.answering.specs.declared.answer.OrderPart.TheVariants.{Levels, Settings}
 use Rattle.chain_tables.specs.Chains.{ChainData}
 use Rattle.chain_lines.specs.declared.text.Telling.TheVariants as telling
-use Rattle.set_commands.specs.Chained.{IsPlaced, chained_said, chained_status}
+use Rattle.set_commands.specs.Chained.{AreLeastOf, IsPlaced, chained_said, chained_status, levels_of}
 use Rattle.set_commands.specs.declared.chained.Placed.{Placed}
 use Rattle.owners.specs.Slack.{sorted_if}
 use Rattle.answering.specs.Owning.{HasChained, HasOwned}
@@ -44,28 +44,31 @@ OfPlaced says placed before after s =
     → says asking known before after s
 
 -- ---- desk admit and desk settings
--- a set with its chains, and its placing
+-- a set with its chains, its placing, and the least bounds of the chains that its order misses
 pub record AdmittedData : Type 0 where
   pub set : List Task
   pub chains : List ChainData
   pub placing : Placing
+  pub leasts : List (Option ℕ)
 
 -- the answer on what a reader has
 abbrev pub AnswersAdmitted : Asking → Option (List ℕ) → Result AdmittedData CommandRefusal → Type 0
 AnswersAdmitted asking known (Ok a) =
     HasSet asking known a.set × HasChained known a.set a.chains × IsPlacingOf a.set a.placing
+    × AreLeastOf a.set (levels_of a.placing) a.chains a.placing a.leasts
 AnswersAdmitted asking known (Err r) = HasNoSet asking known r
 
 -- what is printed of a placing: each level of its order, the lowest first, or by slack where it is asked for, and each chain in
--- it; or the line of its obstruction
-abbrev pub admitted_said : (sorted : Bool) → List Task → List ChainData → Placing → List ℕ
-admitted_said sorted U chains placing =
-    sorted_if sorted U (placing_said Levels U placing) ++ chained_said telling.Bound U chains placing
+-- it, with these least bounds; or the line of its obstruction
+abbrev pub admitted_said : (sorted : Bool) → List Task → (leasts : List (Option ℕ)) → List ChainData
+    → Placing → List ℕ
+admitted_said sorted U leasts chains placing =
+    sorted_if sorted U (placing_said Levels U placing) ++ chained_said telling.Bound U leasts chains placing
 
 -- the answer on what the reader had is printed after what the writer held, and the status is the answer's
 abbrev pub SaysAdmitted : (sorted : Bool) → OfOneSays
 SaysAdmitted sorted asking known before after s =
-    Prints (AnswersAdmitted asking known) (λ a. admitted_said sorted a.set a.chains a.placing)
+    Prints (AnswersAdmitted asking known) (λ a. admitted_said sorted a.set a.leasts a.chains a.placing)
     (λ a. chained_status a.set a.chains a.placing) before after s
 
 -- what a node is set to for the order, from a base on, with room, or the line of the obstruction, is printed so, with the same

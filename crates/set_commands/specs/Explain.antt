@@ -23,7 +23,7 @@ use Rattle.worst_lines.specs.Deciding.{IsDeciding}
 use Rattle.set_commands.specs.Admit.{OfOneSays, Places}
 use Rattle.chain_tables.specs.Chains.{ChainData}
 use Rattle.chain_lines.specs.declared.text.Telling.TheVariants as telling
-use Rattle.set_commands.specs.Chained.{chained_said, chained_status}
+use Rattle.set_commands.specs.Chained.{AreLeastOf, chained_said, chained_status, levels_of}
 use Rattle.answering.specs.OrderParts.{placing_first}
 use Rattle.answering.specs.Printed.{Prints}
 use Rattle.answering.specs.Owning.{HasChained, HasOwned}
@@ -48,12 +48,14 @@ AreDecided parted U asked (Stuck left) text =
     (judged : List JudgedTask) × IsDeciding U (order_judged judged) × AllJudged U judged
     × AreLevels parted U asked 1 judged text
 
--- a set, whose its tasks are, its chains, its placing, what explains the placing, and the lines of an order that decides
+-- a set, whose its tasks are, its chains, its placing, the least bounds of the chains that its order misses, what
+-- explains the placing, and the lines of an order that decides
 pub record ExplainedData : Type 0 where
   pub set : List Task
   pub owners : List Owner
   pub chains : List ChainData
   pub placing : Placing
+  pub leasts : List (Option ℕ)
   pub explanation : Explanation
   pub decided : List ℕ
 
@@ -62,6 +64,7 @@ abbrev pub AnswersExplained : (all : Bool) → Asking → Option (List ℕ)
     → Result ExplainedData CommandRefusal → Type 0
 AnswersExplained all asking known (Ok e) =
     HasOwned asking known e.set e.owners × HasChained known e.set e.chains × IsPlacingOf e.set e.placing
+    × AreLeastOf e.set (levels_of e.placing) e.chains e.placing e.leasts
     × Explains e.set e.placing e.explanation
     × AreDecided (parted_of (is_short all e.explanation)) e.set None e.placing e.decided
 AnswersExplained all asking known (Err r) = Places asking known (Err r)
@@ -89,7 +92,7 @@ abbrev pub explained_output : (all sorted : Bool) → ExplainedData → List ℕ
 explained_output all sorted e =
     (placing_first e.set e.placing
     ++ sorted_if sorted e.set (reasons_said e.owners e.set all e.explanation e.decided))
-    ++ chained_said telling.Parts e.set e.chains e.placing
+    ++ chained_said telling.Parts e.set e.leasts e.chains e.placing
 
 -- the answer on what the reader had is printed after what the writer held, and the status is the answer's
 abbrev pub SaysExplained : (all sorted : Bool) → OfOneSays

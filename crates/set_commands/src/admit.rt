@@ -7,7 +7,7 @@ ghost use Rattle.set_commands.specs.Chained.{IsPlaced};
 ghost use Rattle.answering.specs.OrderParts.{placing_said};
 ghost use Rattle.answering.specs.Outcomes.{IsRead, IsSaidOn, failed_read};
 
-use crate::chained::{Placed, chained_status, chained_text, levels_of};
+use crate::chained::{Placed, chained_status, chained_text, leasts_of, levels_of};
 use answering::{
     Audience, CommandRefusal, OrderPart, Status, joined, placing_text, print_bytes, print_made,
     read_owned,
@@ -35,8 +35,10 @@ pub fn place<R: Read + Drop, P: Audience>(
 {
     let (tasks, owners, chains) = read_owned(alloc, asking, set, people)?;
     let table = LockTable::new(alloc, &tasks)?;
-    let placing = place_all(alloc, &Tabled::of(&tasks, &table))?;
+    let tabled = Tabled::of(&tasks, &table);
+    let placing = place_all(alloc, &tabled)?;
     let levels = levels_of(alloc, &placing)?;
+    let leasts = leasts_of(alloc, &tabled, &placing, &levels, &chains)?;
     people.read(&tasks);
     people.placed(&tasks, &placing);
     Ok(Placed {
@@ -45,6 +47,7 @@ pub fn place<R: Read + Drop, P: Audience>(
         chains,
         placing,
         levels,
+        leasts,
     })
 }
 
@@ -69,7 +72,8 @@ fn levels_text(
 fn admitted_text(alloc: Global, sorted: bool, placed: &Placed) -> Result<Vec<u8>, AllocError>
     requires { IsPlaced placed.now }
     ensures { IfOk result (λ text. text.items
-        ≡ admitted_said sorted placed.now.tasks placed.now.chains.items placed.now.placing) }
+        ≡ admitted_said sorted placed.now.tasks placed.now.leasts.items placed.now.chains.items
+        placed.now.placing) }
 {
     let lines = levels_text(alloc, sorted, &placed.tasks, &placed.placing)?;
     let chains = chained_text(alloc, Telling::Bound, placed)?;

@@ -1,18 +1,20 @@
 //! The chains of a set in its best order.
 ghost use Rattle.std.specs.Prelude.{◌≡◌, IfOk, string_bytes};
-ghost use Rattle.set_commands.specs.Chained.{IsPlaced, chained_said, chained_status, level_at, levels_at, levels_of, met_status};
+ghost use Rattle.assignment.specs.Placings.{IsPlacingOf};
+ghost use Rattle.set_commands.specs.Chained.{AreLeastOf, IsPlaced, chained_said, chained_status, level_at, levels_at, levels_of, met_status};
 
 use answering::Status;
 use assignment::{Place, Placing};
-use chain_lines::{Telling, all_met, chains_text};
+use ceilings::Tabled;
+use chain_lines::{Telling, all_met, chains_text, least_bounds};
 use chain_tables::Chain;
 use chains::Level;
 use owners::Owner;
 use std::alloc::{AllocError, Global};
 use task_sheet::TaskSet;
 
-/// A set, whose its tasks are, its chains, what becomes of them all, and the levels of its best order; none where no order
-/// passes.
+/// A set, whose its tasks are, its chains, what becomes of them all, and the levels of its best order, with the least
+/// bounds of the chains that it misses; none where no order passes.
 #[derive(Drop)]
 pub struct Placed {
     pub tasks: TaskSet,
@@ -20,6 +22,7 @@ pub struct Placed {
     pub chains: Vec<Chain>,
     pub placing: Placing,
     pub levels: Vec<Level>,
+    pub leasts: Vec<Option<u128>>,
 }
 
 // The level of a place.
@@ -53,6 +56,24 @@ pub(crate) fn levels_of(alloc: Global, placing: &Placing) -> Result<Vec<Level>, 
     }
 }
 
+/// The least bounds of the chains that the order of a placing misses; none where no order passes. The error is out of
+/// memory.
+pub(crate) fn leasts_of(
+    alloc: Global,
+    set: &Tabled<'_>,
+    placing: &Placing,
+    levels: &[Level],
+    chains: &[Chain],
+) -> Result<Vec<Option<u128>>, AllocError>
+    requires { IsPlacingOf set.now placing.now }
+    ensures { IfOk result (λ leasts. AreLeastOf set.now levels.now chains.now placing.now leasts.items) }
+{
+    match placing {
+        Placing::Best(_) => least_bounds(alloc, set, levels, chains),
+        Placing::Stuck(_) => Ok(Vec::new(alloc)),
+    }
+}
+
 /// The lines of a set's chains in its best order; nothing where no order passes. The error is out of memory.
 pub(crate) fn chained_text(
     alloc: Global,
@@ -61,7 +82,8 @@ pub(crate) fn chained_text(
 ) -> Result<String, AllocError>
     requires { IsPlaced placed.now }
     ensures { IfOk result (λ text. string_bytes text
-        ≡ chained_said telling placed.now.tasks placed.now.chains.items placed.now.placing) }
+        ≡ chained_said telling placed.now.tasks placed.now.leasts.items placed.now.chains.items
+        placed.now.placing) }
 {
     match &placed.placing {
         Placing::Best(_) => chains_text(
@@ -69,6 +91,7 @@ pub(crate) fn chained_text(
             telling,
             &placed.tasks,
             &placed.levels,
+            &placed.leasts,
             &placed.chains,
         ),
         Placing::Stuck(_) => Ok(String::new(alloc)),

@@ -207,7 +207,8 @@ pub(crate) fn explained_text(
         × (text.items ≡ (placing_first placed.now.tasks placed.now.placing
         ++ sorted_if sorted placed.now.tasks
         (reasons_said placed.now.owners.items placed.now.tasks all explanation decided))
-        ++ chained_said Parts placed.now.tasks placed.now.chains.items placed.now.placing)) }
+        ++ chained_said Parts placed.now.tasks placed.now.leasts.items placed.now.chains.items
+        placed.now.placing)) }
 {
     let lines = whole_reasons_text(
         alloc,

@@ -1,31 +1,48 @@
 //! `desk releases`.
-ghost use Rattle.std.specs.Prelude.{None, Some};
+ghost use Rattle.std.specs.Prelude.{◌≡◌, None, Some, List, IfOk};
+ghost use Rattle.chain_tables.specs.Chains.{ChainData};
 ghost use Rattle.answering.specs.Chosen.{asking_of};
-ghost use Rattle.set_commands.specs.Releases.{Lists, ListsOf, SaysList};
+ghost use Rattle.set_commands.specs.Releases.{Lists, ListsOf, SaysList, chained_tasks};
 ghost use Rattle.answering.specs.Outcomes.{IsCarriedOut, IsRead, failed_read};
 
 use answering::{
-    Audience, CommandRefusal, Status, Which, asking_of, print, read_one, refuse, tell,
+    Audience, CommandRefusal, Status, Which, asking_of, print, read_owned, refuse, tell,
 };
-use ceiling_kernel::Release;
+use ceiling_kernel::{Release, RunFault};
+use chain_tables::Chain;
 use command_line::Options;
 use preferences::Asking;
 use release_list::{densest, list_text, random};
-use std::alloc::Global;
+use std::alloc::{AllocError, Global};
 use std::io::{Read, Write};
 use streams::Watched;
 use task_sheet::TaskSet;
 
-// The random list of a seed, or why there is none.
+// The tasks of chains.
+fn chained_tasks(alloc: Global, chains: &[Chain]) -> Result<Vec<usize>, AllocError>
+    ensures { IfOk result (λ tasks. tasks.items ≡ chained_tasks chains.now) }
+{
+    let mut tasks = Vec::new(alloc);
+    for chain in chains {
+        tasks.extend_from_slice(&chain.tasks)?;
+    }
+    Ok(tasks)
+}
+
+// The random list of a seed, or why there is none: jobs of the chains' tasks come exactly a period apart.
 fn random_list(
     alloc: Global,
     tasks: &TaskSet,
+    chains: &[Chain],
     until: u64,
     seed: usize,
 ) -> Result<Vec<Release>, CommandRefusal>
-    ensures { ListsOf (Some seed) until tasks.now result }
+    ensures { ListsOf (Some seed) until tasks.now chains.now result }
 {
-    match random(alloc, tasks, until, seed as u64) {
+    let Ok(steady) = chained_tasks(alloc, chains) else {
+        return Err(CommandRefusal::Run(RunFault::OutOfMemory));
+    };
+    match random(alloc, tasks, &steady, until, seed as u64) {
         Ok(releases) => Ok(releases),
         Err(fault) => Err(CommandRefusal::Run(fault)),
     }
@@ -33,7 +50,7 @@ fn random_list(
 
 // The densest list, or why there is none.
 fn densest_list(alloc: Global, tasks: &TaskSet, until: u64) -> Result<Vec<Release>, CommandRefusal>
-    ensures { ListsOf None until tasks.now result }
+    ensures { (chains : List ChainData) → ListsOf None until tasks.now chains result }
 {
     match densest(alloc, tasks, until) {
         Ok(releases) => Ok(releases),
@@ -45,13 +62,14 @@ fn densest_list(alloc: Global, tasks: &TaskSet, until: u64) -> Result<Vec<Releas
 fn list_of(
     alloc: Global,
     tasks: &TaskSet,
+    chains: &[Chain],
     until: u64,
     seed: Option<usize>,
 ) -> Result<Vec<Release>, CommandRefusal>
-    ensures { ListsOf seed until tasks.now result }
+    ensures { ListsOf seed until tasks.now chains.now result }
 {
     match seed {
-        Some(seed) => random_list(alloc, tasks, until, seed),
+        Some(seed) => random_list(alloc, tasks, chains, until, seed),
         None => densest_list(alloc, tasks, until),
     }
 }
@@ -68,14 +86,15 @@ fn list<R: Read + Drop, P: Audience>(
     ensures answer { Lists asking seed until (R.remaining set.old.inner) result }
     ensures read { IsRead failed_read set.old set.new result }
 {
-    let tasks = read_one(alloc, asking, set, people)?;
-    let releases = list_of(alloc, &tasks, until, seed);
+    let (tasks, _owners, chains) = read_owned(alloc, asking, set, people)?;
+    let releases = list_of(alloc, &tasks, &chains, until, seed);
     tell(&releases, &tasks, Which::First, b"", people);
     releases
 }
 
 /// `desk releases`: reads a task set, feasible or not, and prints a release list that it allows up to `until`, in
-/// microseconds: the random one of the seed that is chosen, or else the densest; or why the input, or the list, was refused.
+/// microseconds: the random one of the seed that is chosen, in which jobs of chains' tasks come exactly a period apart, or else
+/// the densest, in which all do; or why the input, or the list, was refused.
 /// No kernel of the set refuses the list.
 pub fn run_releases<R: Read + Drop, W: Write + Drop, P: Audience>(
     alloc: Global,

@@ -45,7 +45,7 @@ levels_placed (Stuck left) = []
 -- these are the lines of chains in that order, and whether the bound of each is within its limit
 pub record AreTold (telling : Telling) (U : List Task) (chains : List ChainData)
     (judged : List JudgedTask) (told : ChainsTold) : Type 0 where
-  pub text : string_bytes told.text ≡ chains_said telling U (levels_judged judged) chains
+  pub text : string_bytes told.text ≡ chains_said telling U (levels_judged judged) [] chains
   pub met : told.are_met ≡ all_met U (levels_judged judged) chains
 
 -- the exit status of an order and the chains in it

@@ -92,7 +92,7 @@ pub(crate) fn tell_chains(
     ensures { IfOk result (AreTold telling set.now chains.now judged.now) }
 {
     let levels = levels_judged(alloc, judged)?;
-    let text = chains_text(alloc, telling, set, &levels, chains)?;
+    let text = chains_text(alloc, telling, set, &levels, &[], chains)?;
     let are_met = all_met(set, &levels, chains);
     Ok(ChainsTold { text, are_met })
 }

@@ -1,4 +1,4 @@
-use Rattle.std.proofs.Common.{◌≡◌, ◌∙◌, ℕ, Bool, true, false, Option, Some, None, sym, if◌then◌else◌}
+use Rattle.std.proofs.Common.{◌≡◌, ◌∙◌, ℕ, Bool, true, false, Some, None, sym, if◌then◌else◌}
 use Rattle.ceiling_kernel.specs.Tick.{node_in}
 use Rattle.chains.specs.Parts.{order_of, time_in}
 use Rattle.chains.proofs.PartLaws.{come_to_law}

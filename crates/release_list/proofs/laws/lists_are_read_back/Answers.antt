@@ -16,6 +16,6 @@ returns-clause-densest c = λ U until set none.
     (legal set (fits U) until)
 
 pub returns-clause-random : goal.returns-clause-random
-returns-clause-random c = λ U until seed set none.
-    legal_again until (random_of U until seed) set (within_from until _ none).0
-    (legal_random U until seed set)
+returns-clause-random c = λ U steady until seed set none.
+    legal_again until (random_of U steady until seed) set (within_from until _ none).0
+    (legal_random U steady until seed set)

@@ -16,16 +16,16 @@ pub returns-in-Ok-clause-list : goal.returns-in-Ok-clause-list
 returns-in-Ok-clause-list c =
     let U : List Task = c.args.set.now in
     let jobs = rw c.sheets.ensures.same at c.in_ok-releases.ensures in
-    let few : length (all_jobs U c.args.until c.args.seed) ≤ 10000 =
+    let few : length (all_jobs U c.args.steady.now c.args.until c.args.seed) ≤ 10000 =
     omega (arith, ap length jobs.0, jobs.1) in
     let up = IsNonDecreasingBy-from_sort_by_key (λ (r : Release). r.time)
     c.sort_by_key.new.self.items c.in-Ok.ensures.sorted (λ a r q k. search rules) in
     let stable = c.in-Ok.ensures.stable (λ (r : Release). r.time)
     (answers_always _ _ _ (λ f a r q k. search rules)) in (
-      none_refused c.args.until (length (all_jobs U c.args.until c.args.seed))
+      none_refused c.args.until (length (all_jobs U c.args.steady.now c.args.until c.args.seed))
           c.if-until-gt-HORIZON.false few,
       sorted_is c.in_ok-releases.releases.items c.sort_by_key.new.self.items c.args.until
-          (λ r at. all_early U c.args.until c.args.seed r (subst (In r) jobs.0 at))
+          (λ r at. all_early U c.args.steady.now c.args.until c.args.seed r (subst (In r) jobs.0 at))
           (rises_from c.sort_by_key.new.self.items (λ i j d le lt. up i j no_release le lt)) stable
           ∙ ap (λ (rs : List Release). by_time rs c.args.until) jobs.0,
     )
@@ -37,7 +37,7 @@ returns-in-Ok-clause-accepted c =
     let long : length c.sort_by_key.new.self.items ≡ length c.in_ok-releases.releases.items =
     length_permutation c.in_ok-releases.releases.items c.sort_by_key.new.self.items
     c.in-Ok.ensures.permutation in
-    let few : length (random_of U c.args.until c.args.seed) ≤ 10000 =
+    let few : length (random_of U c.args.steady.now c.args.until c.args.seed) ≤ 10000 =
     omega (arith, ap length list.1, c.in_ok-releases.ensures.1) in
-    rw list.1 (random_accepted U c.args.until c.args.seed c.sheets.ensures.kept
+    rw list.1 (random_accepted U c.args.steady.now c.args.until c.args.seed c.sheets.ensures.kept
     c.if-until-gt-HORIZON.false few)

@@ -12,8 +12,9 @@ returns g c =
         set = c.args.placed.now.tasks;
         chains = c.args.placed.now.chains.items;
         placing = c.args.placed.now.placing;
+        leasts = c.args.placed.now.leasts.items;
       }),
-      ((has.0, has.1, has.2.set), said, c.requires.placing),
+      ((has.0, has.1, has.2.set), said, c.requires.placing, rw c.requires.levels at c.requires.leasts),
       rw lines at wrote,
       is ∙ c.chained_status-status.ensures,
     ))

@@ -32,10 +32,11 @@ returns-in-Reasons g c =
         owners = c.args.placed.now.owners.items;
         chains = c.args.placed.now.chains.items;
         placing = c.args.placed.now.placing;
+        leasts = c.args.placed.now.leasts.items;
         explanation = found.0;
         decided = found.1;
       }),
-      (has, said, c.requires.placing, found.2, found.3),
+      (has, said, c.requires.placing, rw c.requires.levels at c.requires.leasts, found.2, found.3),
       rw found.4 at wrote,
       is ∙ c.chained_status.ensures,
     ))

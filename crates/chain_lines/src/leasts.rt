@@ -1,0 +1,44 @@
+//! The least bounds of a set's chains.
+ghost use Rattle.std.specs.Prelude.{IfOk};
+ghost use Rattle.task_sheet.specs.Orders.{IsFeasible};
+ghost use Rattle.chain_lines.specs.ChainLines.{is_met};
+ghost use Rattle.chain_lines.specs.Leasts.{AreLeast, IsLeastTold};
+ghost use Rattle.chains.specs.Parts.{bound_in};
+
+use crate::text::meets;
+use ceilings::Tabled;
+use chain_tables::Chain;
+use chains::Level;
+use least_chains::least_bound;
+use std::alloc::{AllocError, Global};
+
+// The least bound of a chain whose bound isn't within its limit.
+fn least_told(set: &Tabled<'_>, levels: &[Level], chain: &Chain) -> Option<u128>
+    requires { IsFeasible set.now }
+    ensures { IsLeastTold (is_met (bound_in set.now levels.now chain.now.tasks) chain.now.limit)
+        set.now chain.now.tasks result }
+{
+    if meets(set.tasks(), levels, chain) {
+        None
+    } else {
+        Some(least_bound(set, &chain.tasks))
+    }
+}
+
+/// The least bound of each chain whose bound isn't within its limit in an order whose levels have these responses, of a
+/// set that some order passes; none of the others. The error is out of memory.
+pub fn least_bounds(
+    alloc: Global,
+    set: &Tabled<'_>,
+    levels: &[Level],
+    chains: &[Chain],
+) -> Result<Vec<Option<u128>>, AllocError>
+    requires { IsFeasible set.now }
+    ensures { IfOk result (λ leasts. AreLeast set.now levels.now chains.now leasts.items) }
+{
+    let mut leasts = Vec::with_capacity(alloc, chains.len())?;
+    for chain in chains {
+        leasts.push(least_told(set, levels, chain))?;
+    }
+    Ok(leasts)
+}

@@ -1,0 +1,3 @@
+pub mod AboveLaws
+pub mod PartLaws
+pub mod BoundLaws

@@ -1,0 +1,57 @@
+-- How small a chain's bound could be in any order that passes.
+use Rattle.std.specs.Prelude.{◌≡◌, ℕ, ◌+◌, ◌-◌, ◌≤◌, ◌==◌, ◌||◌, List, [], ◌∷◌, map, Option, Some, None, if◌then◌else◌}
+use Rattle.task_sheet.specs.Sheet.{Task, task_at}
+use Rattle.task_sheet.specs.Indexes.{Indexes, among}
+use Rattle.task_sheet.specs.Demand.{IsResponseOf}
+use Rattle.task_sheet.specs.Orders.{IsPassingOrder}
+use Rattle.assignment.specs.Places.{PlaceData}
+use Rattle.ceiling_kernel.specs.Tick.{node_in}
+use Rattle.ceiling_kernel.specs.Waits.{lateness_of}
+use Rattle.chains.specs.Gaps.{gap_of}
+use Rattle.chains.specs.Parts.{after_of, order_of, time_in}
+use Rattle.chains.specs.declared.bounds.Level.{Level}
+
+-- ---- an order that passes, with its responses
+-- task i has this response with the tasks H above it
+abbrev pub HasResponse : List Task → ℕ → Indexes → Option ℕ → Type 0
+HasResponse U i H None = ⊥
+HasResponse U i H (Some response) = IsResponseOf U i H response
+
+-- each level has that of its task below those after it
+abbrev pub HaveResponses : List Task → List Level → Type 0
+HaveResponses U [] = Unit {0}
+HaveResponses U (l ∷ levels) =
+    HasResponse U l.task (among (order_of levels)) l.response × HaveResponses U levels
+
+-- the levels of such an order
+pub record ArePassing (U : List Task) (levels : List Level) : Type 0 where
+  pub order : IsPassingOrder U (order_of levels)
+  pub each : HaveResponses U levels
+
+-- the levels of places
+abbrev pub levels_at : List PlaceData → List Level
+levels_at places = map (λ p. record { task = p.task; response = Some p.response }) places
+
+-- ---- the least part of a task
+-- how long the part behind its wait is, where it stands in front of these others
+abbrev pub part_in : List Task → List Level → ℕ → (others : List ℕ) → ℕ
+part_in U levels i others = (after_of (node_in U (order_of levels)) (time_in levels) i others).time
+
+-- in some order that passes that part is so long, and in none it is less
+pub record IsLeastPart (U : List Task) (i : ℕ) (others : List ℕ) (time : ℕ) : Type 0 where
+  pub reached : (levels : List Level) × ArePassing U levels × (part_in U levels i others ≡ time)
+  pub least : (levels : List Level) → ArePassing U levels → time ≤ part_in U levels i others
+
+-- what it comes to where the tasks H stand above in each order that passes, with this response: that, less the next
+-- one's cost; the jitter where the next one need not stand above
+abbrev pub least_time : List Task → ℕ → Indexes → (response : ℕ) → (others : List ℕ) → ℕ
+least_time U i H response [] = response
+least_time U i H response (c ∷ others) =
+    if (c == i) || H c then response - (task_at U c).cost else lateness_of (task_at U i)
+
+-- ---- the least bound of a chain: all gaps, and the least part of each task
+abbrev pub IsLeastBound : List Task → (tasks : List ℕ) → ℕ → Type 0
+IsLeastBound U [] bound = bound ≡ 0
+IsLeastBound U (i ∷ others) bound =
+    (time : ℕ) × (rest : ℕ) × IsLeastPart U i others time × IsLeastBound U others rest
+    × (bound ≡ gap_of (task_at U i) + time + rest)

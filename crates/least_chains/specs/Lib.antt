@@ -1,0 +1,2 @@
+pub mod LeastAbove
+pub mod LeastBound

@@ -1,0 +1,9 @@
+//! How small a chain's bound could be in any order that passes.
+#![tactic(auto)]
+
+mod above;
+pub mod laws;
+mod least;
+
+pub use above::above_at_least;
+pub use least::least_bound;
