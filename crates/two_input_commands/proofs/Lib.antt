@@ -1,3 +1,4 @@
+mod BesideRefusals
 mod BesideTexts
 mod Drawings
 pub mod Observations

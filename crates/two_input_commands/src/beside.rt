@@ -142,10 +142,7 @@ pub fn beside_text(
 {
     let (was, set, is) = run_both(alloc, asking, tasks, text)?;
     let settings = settings_in(alloc, parts_of(text).0)?;
-    let sets = Sets {
-        old: tasks,
-        new: Some(&set),
-    };
+    let sets = Sets::both(tasks, &set);
     let view = view_of(alloc, options, sets)?;
     if are_unseen(&view, &was, &is) {
         return Err(CommandRefusal::EmptyWindow);
@@ -275,10 +272,7 @@ fn picture_of_both(alloc: Global, tasks: &TaskSet, beside: &TwoRuns) -> Result<V
     ensures { IfOk result (λ text. text.items ≡ picture_of_both tasks.now beside.now.set
         beside.now.settings.items beside.now.view beside.now.was beside.now.is) }
 {
-    let sets = Sets {
-        old: tasks,
-        new: Some(&beside.set),
-    };
+    let sets = Sets::both(tasks, &beside.set);
     let tones = task_tones(alloc, sets)?;
     let olds = rows_beside(alloc, tasks, &tones, beside, &beside.was)?;
     let rows = rows_beside(alloc, &beside.set, &tones, beside, &beside.is)?;

@@ -1,5 +1,5 @@
 //! The view that the words of `desk draw` choose.
-ghost use Rattle.std.specs.Prelude.{◌≡◌, [], Ok, Err, Some, false, IfOk, option_map, MatchResult};
+ghost use Rattle.std.specs.Prelude.{◌≡◌, ◌++◌, [], Ok, Err, Some, false, IfOk, option_map, MatchResult};
 ghost use Rattle.std.specs.Option.{unwrap_or};
 ghost use Rattle.std.specs.Prelude.{is_some};
 ghost use Rattle.ceiling_kernel.specs.Releases.{task_named};
@@ -18,6 +18,16 @@ use task_sheet::{Name, Sheet, TaskSet};
 pub(crate) struct Sets<'a> {
     pub(crate) old: &'a TaskSet,
     pub(crate) new: Option<&'a TaskSet>,
+}
+
+impl<'a> Sets<'a> {
+    /// A set, and the one that it becomes.
+    pub(crate) fn both(old: &'a TaskSet, new: &'a TaskSet) -> Sets<'a>
+        ensures { tasks_in result ≡ old.now ++ new.now }
+    {
+        let new = Some(new);
+        Sets { old, new }
+    }
 }
 
 impl Sets<'_> {
