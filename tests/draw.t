@@ -477,7 +477,7 @@ A release that the first set refuses is refused as without `--beside`, one that 
   $ sed 's/name = "hi"/name = "hx"/' examples/shared-lock.toml > other.toml
   $ both other.toml
   refused: new UnknownTask 3
-  (on standard error) examples/shared-lock.releases: line 4, "300 hi": the set has no task of that name
+  (on standard error) examples/shared-lock.releases: on the new set, line 4, "300 hi": the set has no task of that name
   [4]
   $ desk draw other.toml examples/shared-lock.releases --beside wrong.toml
   refused: UnknownTask 3
@@ -485,7 +485,7 @@ A release that the first set refuses is refused as without `--beside`, one that 
   $ { desk settings examples/shared-lock.toml; cat examples/shared-lock.releases; } > ordered.releases
   $ desk draw examples/shared-lock.toml ordered.releases --beside other.toml
   refused: new UnknownTask 3
-  (on standard error) ordered.releases: line 3, "thread hi 3": the set has no task of that name
+  (on standard error) ordered.releases: on the new set, line 3, "thread hi 3": the set has no task of that name
   [4]
   $ both turned.toml --tasks hi,new,x
   refused: NoSuchTask x

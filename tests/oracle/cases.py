@@ -5,6 +5,7 @@ import time
 from dataclasses import dataclass, replace
 
 import analysis
+import beside
 import calls
 import commands
 import make_lines
@@ -97,6 +98,10 @@ def of_set(rng, subject):
         options.append(("tasks", None))
     if subject == "draw":
         options += view_of(rng, sheets)
+    if subject == "draw" and rng.random() < 0.4:
+        changed = make_sets.changed(rng, sheets) if rng.random() < 0.8 else sheets
+        inputs.append(set_input(rng, changed, 0.1, rng.choice([own, own, None]), node, interrupts))
+        return called(rng, subject, inputs, options, by="beside")
     if subject == "observe" and rng.random() < 0.3:
         options.append(("tolerance", rng.choice(["0", "1", "5", str(rng.randint(0, 5000)), "60000000", "60000001", "", "-1"])))
     if subject == "observe" and rng.random() < 0.3:
@@ -213,7 +218,7 @@ def called(rng, subject, inputs, options=(), number=None, by=None):
     for place, data in enumerate(inputs):
         is_piped = place == piped and isinstance(data, bytes)
         path = "-" if is_piped else f"input{place + 1}"
-        if by is not None and place == 1:
+        if by is not None and place == len(inputs) - 1:
             options.append((by, path))
         else:
             words.append(path)
@@ -238,7 +243,7 @@ def called(rng, subject, inputs, options=(), number=None, by=None):
 
 
 WORDS = ["-", "--", "set", "set", "none", "folder", "--prefer", "deadline", "--prefer=deadline", "--prefer=weight", "--prefer=name", "--prefer=",
-         "--task", "--task=a", "--task=", "--seed", "--seed=8", "--seed=4294967296", "--tasks", "--tasks=", "--tasks=a,a", "--from", "--from=8", "--to=60000001", "--width=959", "--width=960", "--print=4", "--print=5", "--print", "--title", "--title=x", "--tolerance", "--tolerance=8", "--jobless", "--jobless=1", "--base=1", "--base=0", "--base", "--room", "--room=1", "--lower-is-higher", "--lower-is-higher=1", "--keep", "--keep=set", "--keep=-", "--at", "--at=set", "--at=-", "-x", "--x",
+         "--task", "--task=a", "--task=", "--seed", "--seed=8", "--seed=4294967296", "--tasks", "--tasks=", "--tasks=a,a", "--from", "--from=8", "--to=60000001", "--width=959", "--width=960", "--print=4", "--print=5", "--print", "--title", "--title=x", "--tolerance", "--tolerance=8", "--jobless", "--jobless=1", "--base=1", "--base=0", "--base", "--room", "--room=1", "--lower-is-higher", "--lower-is-higher=1", "--keep", "--keep=set", "--keep=-", "--beside", "--beside=set", "--beside=-", "--at", "--at=set", "--at=-", "-x", "--x",
          "", "0", "1", "8", "9", "+8", "007", "+", "++8", "0x8", "-8", " 8", "8_0", "60000000", "60000001", "1" * 25]  # fmt: skip
 
 
@@ -277,9 +282,11 @@ def fault_of(case, stdout, stderr, status):
     if wanted.text is commands.HELPED:
         return None if printed else "no help"
     if wanted.text is commands.DRAWN:
-        tasks, said = inputs_of(case)
-        call = calls.call_of(case.words, commands.COMMANDS)
-        return picture.fault(stdout, picture.View(**commands.keywords(call)), tasks, *said)
+        tasks, said, *new = inputs_of(case)
+        view = picture.View(**commands.keywords(calls.call_of(case.words, commands.COMMANDS)))
+        if new:
+            return beside.fault(stdout, view, tasks, new[0].read(), *said)
+        return picture.fault(stdout, view, tasks, *said)
     return None if printed == wanted.text else "other bytes"
 
 

@@ -428,6 +428,38 @@ def draw(tasks, said, **options):
     return DRAWN, 0
 
 
+class NewSet:
+    """A new set that is read behind what comes before it."""
+
+    def __init__(self, call, data):
+        self.call, self.data, self.tasks = call, data, None
+
+    def read(self):
+        self.tasks = strictly(self.call, read_change, read_change(self.data, self.call.options.get("prefer")))
+        return self.tasks
+
+
+def draw_beside(tasks, said, new, **options):
+    """Refusals as those of `simulate`, then the new set's, then those of its run, then those of a view."""
+    text, status = simulate(tasks, said)
+    changed = new.read()
+    try:
+        other, other_status = simulate(changed, said)
+    except Refused as refusal:
+        raise refusal.behind("new") from None
+    view = picture.View(**options)
+    names = {task.name for task in [*tasks, *changed]}
+    for word in view.named():
+        if word not in names:
+            raise no_such_task(word)
+    if status != 0 or other_status != 0:
+        return (text, status) if status != 0 else (other, other_status)
+    start, stop = view.window(max(picture.cut(it, *said)[0] for it in (tasks, changed)))
+    if start >= stop:
+        raise Refused(4, "EmptyWindow")
+    return DRAWN, 0
+
+
 def play(rows):
     return desk.played(rows), 0
 
@@ -487,6 +519,7 @@ AT = {**OF_TASK, "at": calls.any_word}
 TIME = calls.number_within(0, kernel.HORIZON)
 VIEW = {"from": TIME, "to": TIME, "width": calls.number_within(960, 16_000), "print": calls.number_within(3, 4), "title": calls.any_word, "tasks": calls.any_word}
 
+BESIDE = on_set(draw_beside, kernel.read_releases, NewSet, options={**PREFERS, **VIEW})
 LEEWAY = {"tolerance": calls.number_within(0, observed.TOLERANCE_MOST), "jobless": calls.FLAG}
 
 
@@ -502,7 +535,7 @@ COMMANDS = {
     "simulate": on_set(simulate, kernel.read_releases, options={**PREFERS, "tasks": calls.FLAG}),
     "releases": on_set(releases, number=(0, kernel.HORIZON), options={**PREFERS, "seed": calls.number_within(0, 2**32 - 1)}),
     "worst": on_set(of_task(worst.worst), options=AT, by_file=("at", WORST_AT)),
-    "draw": on_set(draw, kernel.read_releases, options={**PREFERS, **VIEW}),
+    "draw": on_set(draw, kernel.read_releases, options={**PREFERS, **VIEW, "beside": calls.any_word}, by_file=("beside", BESIDE)),
     "observe": on_set(observe, observed.read_trace, options={**PREFERS, **LEEWAY}),
     "script": on_set(script, number=(1, scripts.TEAMS), may_lack=True),
     "play": calls.Command(play, (scripts.read_script,)),
@@ -546,6 +579,8 @@ def told(call, said, text, status):
         lines.append(f'--prefer {prefer} overrides the set\'s prefer = "{tasks.own}"')
     if call.command is COMMANDS["diff"]:
         lines += notes(others[0])
+    elif call.command is BESIDE:
+        lines += notes(others[1].tasks) + notes_of_both(call, tasks, *others, status)
     else:
         lines += ["the set has no task"] * (not tasks) + notes(tasks)
         if tasks and call.options.get("base", 1) + len(tasks) - 1 > 99:
@@ -607,6 +642,15 @@ def notes_of(call, tasks, others, text, status):
         has_own = bool(others[0][0]) or not seen
         return ([] if has_own else names_decide(call, tasks)) + ["the trace has no job of " + ", ".join(unseen)] * bool(unseen)
     return []
+
+
+def notes_of_both(call, tasks, said, new, status):
+    """What is noted of two runs: of the first all, of the new set's its end."""
+    order = picture.order_of(tasks, said[0])
+    lines = [] if order is None else ([] if said[0] else names_decide(call, tasks)) + left_out(tasks) + overran(picture.cut(tasks, *said)[2])
+    if picture.order_of(new.tasks, said[0]) is not None:
+        lines += overran(picture.cut(new.tasks, *said)[2])
+    return lines + ["no order passes, so there is no run: desk explain says why"] * (status == INFEASIBLE)
 
 
 def names_decide(call, tasks):
@@ -680,7 +724,8 @@ def read_inputs(call, files, stdin):
     if any(len(text) > INPUT_MOST for text in data):
         raise Refused(4, "InputTooLong")
     preference = call.options.get("prefer")
-    return [
-        strictly(call, reader, reader(text, preference)) if reader in OF_A_PREFERENCE else reader(text)
-        for reader, text in zip(call.command.readers, data)
-    ]
+    if call.command is BESIDE and len(data[1]) + 1 + len(data[2]) > INPUT_MOST:
+        raise Refused(4, "InputTooLong")
+    read = {NewSet: lambda text: NewSet(call, text)}
+    read |= {reader: lambda text, reader=reader: strictly(call, reader, reader(text, preference)) for reader in OF_A_PREFERENCE}
+    return [read.get(reader, reader)(text) for reader, text in zip(call.command.readers, data)]

@@ -174,7 +174,7 @@ def words_of(task_rank, seed):
 def random_list(tasks, until, seed):
     """The jobs of each task that are ready before the end, by time, those of one time by rank. Those of chains' tasks come
     exactly a period apart."""
-    ranked, steady = [], {it for chain in tasks.chains for it in chain.tasks}
+    ranked, steady = [], {it for chain in getattr(tasks, "chains", ()) for it in chain.tasks}
     for rank, task in enumerate(tasks):
         words = words_of(rank, seed)
         draw = lambda below: (next(words) >> 32) * below >> 32

@@ -55,6 +55,14 @@ fn of_list(alloc: Global, known: Known<'_>, bytes: &[u8], fault: RunFault) -> Op
     }
 }
 
+// What is wrong with a list on a new set.
+fn on_new(alloc: Global, sentence: Option<String>) -> Option<String> {
+    let sentence = sentence?;
+    let mut text = String::from_str(alloc, "on the new set, ").ok()?;
+    text.push_str(sentence.as_str()).ok()?;
+    Some(text)
+}
+
 // That nothing of a list's run lies in the window that words choose.
 fn of_view(alloc: Global, bytes: &[u8], options: Options<'_>) -> Option<String> {
     of_window(alloc, bytes, options.from.unwrap_or(0), options.to)
@@ -87,10 +95,9 @@ pub(crate) fn sentence_of(
         ),
         CommandRefusal::Text(TextFault::BadLine { line }) => of_release_line(alloc, bytes, line),
         CommandRefusal::Run(fault) => of_list(alloc, known, bytes, fault),
-        CommandRefusal::NewRun(fault) => of_run(alloc, bytes, None, fault),
-        CommandRefusal::Settings(fault) | CommandRefusal::NewSettings(fault) => {
-            of_settings(alloc, bytes, fault)
-        }
+        CommandRefusal::NewRun(fault) => on_new(alloc, of_run(alloc, bytes, None, fault)),
+        CommandRefusal::Settings(fault) => of_settings(alloc, bytes, fault),
+        CommandRefusal::NewSettings(fault) => on_new(alloc, of_settings(alloc, bytes, fault)),
         CommandRefusal::Trace(fault) => of_trace(alloc, bytes, fault),
         CommandRefusal::Script(fault) => of_script(alloc, bytes, fault),
         CommandRefusal::EmptyWindow => of_view(alloc, bytes, known.options),

@@ -213,6 +213,13 @@ fn tell_overrun<P: Audience>(overrun: Option<Name>, people: &mut P) {
     }
 }
 
+// Tells the audience where a run ends that another stands beside.
+fn tell_end<P: Audience>(answer: &Simulated, people: &mut P) {
+    if let Simulated::Ordered(run) = answer {
+        tell_overrun(run.overrun, people);
+    }
+}
+
 // Tells the audience of a run, if there is one.
 fn tell_run<P: Audience>(answer: &Simulated, tasks: &TaskSet, people: &mut P) {
     match answer {
@@ -265,7 +272,7 @@ fn tell_found<P: Audience>(
         Found::DrawnBeside(runs) => {
             people.compared(&runs.set);
             tell_run(&runs.was, tasks, people);
-            tell_run(&runs.is, &runs.set, people);
+            tell_end(&runs.is, people);
         }
         Found::Observed(_, shown, _) => tell_seen(shown, tasks, people),
         Found::Keeping { node, .. } => tell_kept(&node.keeping, tasks, text, people),
