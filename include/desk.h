@@ -88,7 +88,7 @@ size_t desk_draw(const uint8_t *set, size_t set_length, const uint8_t *releases,
                  size_t room_length, uint8_t *status);
 
 /* The same of two sets on one list, one before a change and one after it. The second text is the release list, a byte 0, and
- * the new set; a byte 0 of the list has to be another one, as wrong in its line. */
+ * the new set. Where the list itself has a byte 0, put another there that is as wrong in its line, as 1. */
 size_t desk_draw_beside(const uint8_t *set, size_t set_length, const uint8_t *both, size_t both_length, uint8_t *room,
                         size_t room_length, uint8_t *status);
 
