@@ -121,7 +121,7 @@ What is said of chains stands last, as else:
   $ sed '1,/^load/d' said | cmp - chains
   $ sed 's/45000/44199/' examples/steer.toml | desk admit - --sort slack | tail -n 2
   1 log 17400
-  chain steer 44200 misses 44199
+  chain steer 44200 misses 44199 least 42200
 
 Another word is refused, and other commands don't take it:
 
