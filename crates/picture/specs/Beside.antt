@@ -155,15 +155,19 @@ ground_beside old new title held was is =
 
 -- ---- what happens
 -- a line and words in a lane
-abbrev pub end_at : Frame → (x : ℕ) → List ℕ
-end_at f x =
+abbrev pub end_at : Frame → (words : List ℕ) → (x : ℕ) → List ℕ
+end_at f words x =
     concat (codes "<path class=\"en\" d=\"M" ∷ decimal x
     ∷ codes " 1330v240\"/><text class=\"ba\" x=\"" ∷ decimal (min (x + 40) (frame_end f - 400))
-    ∷ codes "\" y=\"1498\">run ends</text>\n" ∷ [])
+    ∷ codes "\" y=\"1498\">" ∷ words ∷ codes "</text>\n" ∷ [])
 
--- the same where a run ends, if it does before the window
+-- the words, of a run that ends in the window, or has ended before it
+abbrev pub end_words : Frame → List ℕ
+end_words f = if nat_lt f.until f.from then codes "run has ended" else codes "run ends"
+
+-- the same where a run ends, if it does before the window's end
 abbrev pub end_text : Frame → List ℕ
-end_text f = if nat_lt f.until f.to then end_at f (x_of f f.until) else []
+end_text f = if nat_lt f.until f.to then end_at f (end_words f) (x_of f f.until) else []
 
 -- the lane of the processor, with a word that says of which run, and where that ends
 abbrev pub lane_side : Scene → (word : List ℕ) → List ℕ

@@ -5,7 +5,7 @@ ghost use Rattle.frames.specs.PictureRows.{at_places, at_spot, spot_in};
 ghost use Rattle.frames.specs.declared.frame.TheConstants.{RIGHTMOST};
 ghost use Rattle.frames.specs.declared.locks.TheConstants.{LOCKS_LIMIT};
 ghost use Rattle.frames.specs.declared.places.TheConstants.{PLACES_LIMIT};
-ghost use Rattle.picture.specs.Beside.{end_at, end_text, ground_beside, head_beside, known_to, lane_side, lanes_beside, later_of, margin_side, margins_beside, missed_words, name_word, pair_text, pairs_text, side_words, sides_words, size_beside, styles_beside, unrun_beside, verdict_beside, what_beside, word_at};
+ghost use Rattle.picture.specs.Beside.{end_at, end_text, ground_beside, head_beside, known_to, lane_side, lanes_beside, later_of, margin_side, margins_beside, missed_words, name_word, pair_text, pairs_text, side_words, sides_words, size_beside, styles_beside, unrun_beside, verdict_beside, what_beside, word_at, end_words};
 ghost use Rattle.picture.specs.Waits.{scene_of};
 
 use crate::ground::{are_interrupted, put_size_head, put_ticks, put_unrun, put_window};
@@ -238,23 +238,36 @@ pub(crate) fn put_ground_beside(old: &Chart<'_>, new: &Chart<'_>, held: &[Toned]
 }
 
 // A line and words in a lane.
-fn put_end_at(frame: Frame, x: u64, page: &mut Page)
+fn put_end_at(frame: Frame, words: &[u8], x: u64, page: &mut Page)
     requires { x ≤ RIGHTMOST }
-    ensures { Adds page.old page.new (end_at frame x) }
+    ensures { Adds page.old page.new (end_at frame words.now x) }
 {
-    let words = (x + 40).min(end_of(frame).saturating_sub(400));
+    let place = (x + 40).min(end_of(frame).saturating_sub(400));
     page.number(b"<path class=\"en\" d=\"M", x);
-    page.number(b" 1330v240\"/><text class=\"ba\" x=\"", words);
-    page.put(b"\" y=\"1498\">run ends</text>\n")
+    page.number(b" 1330v240\"/><text class=\"ba\" x=\"", place);
+    page.put(b"\" y=\"1498\">");
+    page.put(words);
+    page.put(b"</text>\n")
 }
 
-// The same where a run ends, if it does before the window.
+// The words, of a run that ends in the window, or has ended before it.
+fn end_words(frame: Frame) -> &'static [u8]
+    ensures { result.now ≡ end_words frame }
+{
+    if frame.until < frame.from {
+        b"run has ended"
+    } else {
+        b"run ends"
+    }
+}
+
+// The same where a run ends, if it does before the window's end.
 fn put_end(frame: Frame, page: &mut Page)
     ensures { Adds page.old page.new (end_text frame) }
 {
     let until = frame.until;
     if until < frame.to {
-        put_end_at(frame, x_of(frame, until), page)
+        put_end_at(frame, end_words(frame), x_of(frame, until), page)
     }
 }
 
