@@ -5,7 +5,7 @@ use Rattle.std.specs.Fmt.{decimal}
 use Rattle.std.specs.List.{concat}
 use Rattle.ceiling_kernel.specs.declared.trace.JobRecord.{JobRecord}
 use Rattle.frames.specs.declared.rows.TaskRow.{TaskRow}
-use Rattle.frames.specs.Frame.{Frame, sees, frame_end, top_of}
+use Rattle.frames.specs.Frame.{Frame, sees, top_of, x_of}
 use Rattle.frames.specs.Boxes.{span_text}
 use Rattle.frames.specs.Numbers.{known_text}
 
@@ -49,12 +49,12 @@ sign_text wanted class x y shape =
     ∷ shape ∷ codes "\"/>\n" ∷ [])
     else []
 
--- signs in row k at the beginning and at the end, for what goes on before the window and behind it
+-- signs in row k at the beginning and at the end, or where the run ends, for what goes on before the window and behind it
 abbrev pub signs_text : Frame → (k : ℕ) → (back on : Bool) → List ℕ
 signs_text f k back on =
     sign_text back (codes "a") f.left (top_of k + 195)
     (codes "m-20 0l-60 60 60 60m-60-120l-60 60 60 60")
-    ++ sign_text on (codes "a") (frame_end f) (top_of k + 195)
+    ++ sign_text on (codes "a") (x_of f f.until) (top_of k + 195)
     (codes "m20 0l60 60-60 60m60-120l60 60-60 60")
 
 -- those of a job

@@ -13,7 +13,7 @@ ghost use Rattle.drawn_jobs.specs.Jobs.{goes_back, goes_on, job_signs, job_text,
 use crate::band::put_place;
 use ceiling_kernel::JobRecord;
 use frames::{
-    Bar, Chart, Frame, Lane, Page, TaskRow, bar_of, end_of, ended, name_of, put_bar, put_known,
+    Bar, Chart, Frame, Lane, Page, TaskRow, bar_of, ended, name_of, put_bar, put_known,
     sees_between, sees_from, start_of, top_of, x_after, x_of,
 };
 
@@ -82,7 +82,16 @@ pub(crate) fn put_sign(wanted: bool, head: &[u8], x: u64, y: u64, shape: &[u8], 
     }
 }
 
-// Signs at the beginning and at the end, for what goes on before the window and behind it.
+// Where the run ends in the window; the window's end, if it does later.
+fn run_end(frame: Frame) -> u64
+    ensures value { result ≡ x_of frame frame.until }
+    ensures within { result ≤ RIGHTMOST }
+{
+    let until = frame.until;
+    x_of(frame, until)
+}
+
+// Signs at the beginning and at the end, or where the run ends, for what goes on before the window and behind it.
 pub(crate) fn put_signs(lane: &Lane<'_>, back: bool, on: bool, page: &mut Page)
     ensures { Adds page.old page.new (signs_text lane.now.frame lane.now.spot.k back on) }
 {
@@ -91,7 +100,7 @@ pub(crate) fn put_signs(lane: &Lane<'_>, back: bool, on: bool, page: &mut Page)
     let shape = b"m-20 0l-60 60 60 60m-60-120l-60 60 60 60\"/>\n";
     put_sign(back, head, start_of(lane.frame), y, shape, page);
     let shape = b"m20 0l60 60-60 60m60-120l60 60-60 60\"/>\n";
-    put_sign(on, head, end_of(lane.frame), y, shape, page)
+    put_sign(on, head, run_end(lane.frame), y, shape, page)
 }
 
 // Those of a job.
