@@ -536,6 +536,31 @@ Tasks and times that are asked for
   $ view --from 5000 --to 4000
   standard input: its run ends at 100000: nothing of it lies from 5000 to 4000; --to has to be after --from
   [4]
+  $ { desk settings examples/shared-lock.toml; desk releases examples/shared-lock.toml 100000; } > ordered
+  $ said draw examples/shared-lock.toml ordered --from 200000
+  ordered: nothing of its run lies from 200000 on
+  [4]
+
+Beside a new set: what belongs to which
+
+  $ both() { said draw examples/shared-lock.toml examples/shared-lock.releases --beside "$@"; }
+  $ both /dev/zero
+  examples/shared-lock.releases: with the new set longer than the 16777216 bytes that an input may have
+  [4]
+  $ sed 's/cost = 2000$/cost = 15000/' examples/shared-lock.toml > full.toml
+  $ both full.toml
+  note: no order of the new set passes, so there is no picture: desk explain says why
+  [3]
+  $ said draw full.toml examples/shared-lock.releases --beside full.toml
+  note: no order of the first set passes, so there is no picture: desk explain says why
+  [3]
+  $ { cat examples/shared-lock.toml; printf '[[interrupt]]\nperiod = 9000\ncost = 9\n'; } > timed.toml
+  $ both timed.toml > run.svg
+  note: what timers and interrupts take is in the bounds, and not in the run
+  $ said draw timed.toml examples/shared-lock.releases --beside timed.toml > run.svg
+  note: what timers and interrupts take is in the bounds, and not in the run
+  $ printf 'thread lo 1\nthread mid 2\nthread hi 3\nuntil 30000\n0 hi\n3000 hi\n' > soon
+  $ sed 's/period = 10000/period = 3000/; s/deadline = 10000/deadline = 3000/' examples/shared-lock.toml > fast.toml
 
 Notes
 -----

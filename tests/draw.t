@@ -501,10 +501,11 @@ A release that the first set refuses is refused as without `--beside`, one that 
   $ sed 's/cost = 2000$/cost = 15000/' examples/shared-lock.toml > full.toml
   $ both full.toml
   infeasible lo mid hi
-  (on standard error) note: no order passes, so there is no run: desk explain says why
+  (on standard error) note: no order of the new set passes, so there is no picture: desk explain says why
   [3]
   $ desk draw examples/blocked-out.toml examples/shared-lock.releases --beside full.toml
   infeasible hi
+  (on standard error) note: no order of the first set passes, so there is no picture: desk explain says why
   [3]
   $ both none.toml
   refused: ReadFailed

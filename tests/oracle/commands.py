@@ -580,7 +580,7 @@ def told(call, said, text, status):
     if call.command is COMMANDS["diff"]:
         lines += notes(others[0])
     elif call.command is BESIDE:
-        lines += notes(others[1].tasks) + notes_of_both(call, tasks, *others, status)
+        lines += notes(others[1].tasks) + notes_of_both(tasks, *others, status)
     else:
         lines += ["the set has no task"] * (not tasks) + notes(tasks)
         if tasks and call.options.get("base", 1) + len(tasks) - 1 > 99:
@@ -644,13 +644,15 @@ def notes_of(call, tasks, others, text, status):
     return []
 
 
-def notes_of_both(call, tasks, said, new, status):
-    """What is noted of two runs: of the first all, of the new set's its end."""
-    order = picture.order_of(tasks, said[0])
-    lines = [] if order is None else ([] if said[0] else names_decide(call, tasks)) + left_out(tasks) + overran(picture.cut(tasks, *said)[2])
-    if picture.order_of(new.tasks, said[0]) is not None:
-        lines += overran(picture.cut(new.tasks, *said)[2])
-    return lines + ["no order passes, so there is no run: desk explain says why"] * (status == INFEASIBLE)
+def notes_of_both(tasks, said, new, status):
+    """What is noted of two runs: once what they lack, then the end of each, and whose no it is."""
+    passes = [picture.order_of(it, said[0]) is not None for it in (tasks, new.tasks)]
+    lines = (left_out(tasks) or left_out(new.tasks)) * passes[0]
+    for it in [it for it, is_run in zip((tasks, new.tasks), passes) if is_run]:
+        name = picture.cut(it, *said)[2]
+        lines += [] if name is None else [f"of the two runs one ends where a job of {name} is ready and the one before it isn't done"]
+    which = "new" if passes[0] else "first"
+    return lines + [f"no order of the {which} set passes, so there is no picture: desk explain says why"] * (status == INFEASIBLE)
 
 
 def names_decide(call, tasks):

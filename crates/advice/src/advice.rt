@@ -10,9 +10,10 @@ use desk_cli::{Audience, CommandRefusal, Status, Which, base_of};
 use explain::least_conflict;
 use preferences::Choice;
 use sentences::{
-    greatest_until, of_neither, of_task, of_tasks, push_clean, put_chains_left_out, put_conflict,
-    put_empty, put_left_out, put_names_decide, put_notes, put_overload, put_overran, put_override,
-    put_parted, put_past_priorities, put_strange_threads, put_strangers, put_unrun, put_unseen,
+    greatest_until, leaves_out, of_neither, of_task, of_tasks, push_clean, put_chains_left_out,
+    put_conflict, put_empty, put_left_out, put_names_decide, put_notes, put_one_overran,
+    put_overload, put_overran, put_override, put_parted, put_past_priorities, put_strange_threads,
+    put_strangers, put_unrun, put_unrun_of, put_unseen,
 };
 use std::alloc::{AllocError, Global};
 use std::io::Write;
@@ -34,6 +35,9 @@ pub struct Advice<'a, W: Write + Drop> {
     is_unpreferred: bool,
     // Whether the set has chains.
     has_chains: bool,
+    // Whether there was a run, and whether the new set has timers or interrupts, which its run lacks.
+    has_run: bool,
+    lacks_in_new: bool,
     // The set of a call that runs a list or checks a certificate, for what these break.
     set: Option<TaskSet>,
     errors: Watched<W>,
@@ -114,6 +118,11 @@ fn asks_densest(call: Call<'_>) -> bool {
         },
         _ => false,
     }
+}
+
+// Whether a call shows two runs.
+fn is_of_two(call: Call<'_>) -> bool {
+    is_run(call) && is_diff(call)
 }
 
 // What the words of a call choose.
@@ -222,6 +231,8 @@ impl<'a, W: Write + Drop> Advice<'a, W> {
             no_task: None,
             is_unpreferred: false,
             has_chains: false,
+            has_run: false,
+            lacks_in_new: false,
             set: None,
             errors,
         }
@@ -272,7 +283,12 @@ impl<'a, W: Write + Drop> Advice<'a, W> {
 
     /// The call has ended.
     pub fn ended(&mut self, status: Status) {
-        if status == Status::Infeasible && is_run(self.call) {
+        if status != Status::Infeasible || !is_run(self.call) {
+            return;
+        }
+        if is_of_two(self.call) {
+            let _ = put_unrun_of(self.has_run, &mut self.errors);
+        } else {
             let _ = put_unrun(&mut self.errors);
         }
     }
@@ -303,17 +319,24 @@ impl<'a, W: Write + Drop> Audience for Advice<'a, W> {
     }
 
     fn in_best_order(&mut self, set: &TaskSet) {
-        if self.is_unpreferred {
+        if self.is_unpreferred && !is_diff(self.call) {
             let _ = put_names_decide(set, &mut self.errors);
         }
     }
 
     fn ran(&mut self, set: &TaskSet) {
-        let _ = put_left_out(set, &mut self.errors);
+        self.has_run = true;
+        if leaves_out(set) || self.lacks_in_new {
+            let _ = put_left_out(&mut self.errors);
+        }
     }
 
     fn overran(&mut self, name: Name) {
-        let _ = put_overran(name, &mut self.errors);
+        if is_of_two(self.call) {
+            let _ = put_one_overran(name, &mut self.errors);
+        } else {
+            let _ = put_overran(name, &mut self.errors);
+        }
     }
 
     fn seen(&mut self, set: &TaskSet, tasks: Members) {
@@ -325,6 +348,7 @@ impl<'a, W: Write + Drop> Audience for Advice<'a, W> {
     }
 
     fn compared(&mut self, new: &TaskSet) {
+        self.lacks_in_new = is_of_two(self.call) && leaves_out(new);
         let _ = self.put_oddities(new);
     }
 
@@ -366,6 +390,7 @@ impl<'a, W: Write + Drop> Audience for Advice<'a, W> {
             options: options_of(self.call),
             greatest_until: self.greatest_until,
             set: self.set.as_ref(),
+            is_both: matches!(input_of(self.call, which), Input::Both { .. }),
         };
         if let Some(sentence) = sentence_of(self.alloc, known, bytes, refusal) {
             self.put_line(which, sentence.as_str());

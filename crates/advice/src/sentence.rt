@@ -23,6 +23,8 @@ pub(crate) struct Known<'a> {
     pub(crate) greatest_until: Option<u64>,
     /// The set of a call that runs a list or checks a certificate.
     pub(crate) set: Option<&'a TaskSet>,
+    /// Whether the input is a list and a new set.
+    pub(crate) is_both: bool,
 }
 
 // That an input could not be opened or read, and why.
@@ -33,16 +35,17 @@ fn unread(alloc: Global, last: &LastError) -> Result<String, AllocError> {
 }
 
 // What is wrong with an input that was not read; none where memory ran out.
-fn of_input(alloc: Global, last: &LastError, fault: InputFault) -> Option<String> {
+fn of_input(alloc: Global, known: Known<'_>, fault: InputFault) -> Option<String> {
     match fault {
         InputFault::TooLong => {
-            String::from_str(
-                alloc,
-                "longer than the 16777216 bytes that an input may have",
-            )
-            .ok()
+            let words = if known.is_both {
+                "with the new set longer than the 16777216 bytes that an input may have"
+            } else {
+                "longer than the 16777216 bytes that an input may have"
+            };
+            String::from_str(alloc, words).ok()
         }
-        InputFault::ReadFailed => unread(alloc, last).ok(),
+        InputFault::ReadFailed => unread(alloc, known.last).ok(),
         InputFault::OutOfMemory => None,
     }
 }
@@ -77,7 +80,7 @@ pub(crate) fn sentence_of(
     refusal: CommandRefusal,
 ) -> Option<String> {
     match refusal {
-        CommandRefusal::Input(fault) => of_input(alloc, known.last, fault),
+        CommandRefusal::Input(fault) => of_input(alloc, known, fault),
         CommandRefusal::Set(fault) | CommandRefusal::New(fault) => of_set_text(alloc, bytes, fault),
         CommandRefusal::Doubtful(doubt) | CommandRefusal::NewDoubtful(doubt) => {
             of_doubt(alloc, bytes, doubt)

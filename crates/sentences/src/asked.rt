@@ -1,6 +1,6 @@
 //! That what a call asks for isn't there: a task, or a part of a run.
 
-use crate::lists::{task_named, until_of};
+use crate::lists::{has_order, task_named, until_of};
 use crate::told::{Told, between};
 use lines::name_of;
 use std::alloc::Global;
@@ -67,10 +67,15 @@ pub fn of_neither(alloc: Global, words: &str, name: Option<Name>) -> Option<Stri
 /// What a person is told where nothing of a list's run lies in the window that is asked for; none where memory runs out.
 pub fn of_window(alloc: Global, bytes: &[u8], from: usize, to: Option<usize>) -> Option<String> {
     let mut told = Told::new(alloc);
-    told.numbers(
-        "its run ends at {}: nothing of it lies from {}",
-        &[until_of(bytes), from as u64],
-    );
+    if has_order(bytes) {
+        // (where such a run ends is not known here)
+        told.number("nothing of its run lies from ", from as u64);
+    } else {
+        told.numbers(
+            "its run ends at {}: nothing of it lies from {}",
+            &[until_of(bytes), from as u64],
+        );
+    }
     match to {
         Some(to) => {
             told.number(" to ", to as u64);

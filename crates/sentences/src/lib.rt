@@ -38,7 +38,10 @@ pub use notes::put_notes;
 pub use overload::put_overload;
 pub use puts::of_script;
 pub use records::{of_certificate, of_check};
-pub use runs::{put_chains_left_out, put_left_out, put_overran, put_unrun, put_unseen};
+pub use runs::{
+    leaves_out, put_chains_left_out, put_left_out, put_one_overran, put_overran, put_unrun,
+    put_unrun_of, put_unseen,
+};
 pub use shown::push_clean;
 pub use strangers::{put_empty, put_strange_threads, put_strangers};
 pub use traces::of_trace;

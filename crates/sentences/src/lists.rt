@@ -179,6 +179,16 @@ fn time_at(line: &[u8], place: u64) -> u64 {
     number_of(word_at(line, place)).unwrap_or(0)
 }
 
+/// Whether settings stand in front of a list.
+pub(crate) fn has_order(bytes: &[u8]) -> bool {
+    for line in bytes.split(is_line_end) {
+        if !is_skipped(line) && has_word(line, 0, b"thread") {
+            return true;
+        }
+    }
+    false
+}
+
 /// The time of the line until.
 pub(crate) fn until_of(bytes: &[u8]) -> u64 {
     time_at(release_at(bytes, 0), 1)

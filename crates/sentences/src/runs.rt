@@ -10,19 +10,33 @@ pub fn put_unrun<W: Write + Drop>(out: &mut Watched<W>) -> Result<(), WriteFaile
     out.write(b"note: no order passes, so there is no run: desk explain says why\n")
 }
 
-/// Writes a note where the set of a run has timers or interrupts, which a run doesn't have. It takes no memory.
-pub fn put_left_out<W: Write + Drop>(
-    set: &TaskSet,
+/// Writes a note that there aren't two runs, since no order of the new set passes, or of the first. It takes no memory.
+pub fn put_unrun_of<W: Write + Drop>(
+    is_new: bool,
     out: &mut Watched<W>,
 ) -> Result<(), WriteFailed> {
+    let which = if is_new { "new" } else { "first" };
+    let pieces = [
+        "note: no order of the ",
+        which,
+        " set passes, so there is no picture: desk explain says why\n",
+    ];
+    write_note(&pieces, out)
+}
+
+/// Whether a set has timers or interrupts, which a run doesn't have.
+pub fn leaves_out(set: &TaskSet) -> bool {
     for sheet in set.sheets() {
         if sheet.interrupts_some() {
-            return out.write(
-                b"note: what timers and interrupts take is in the bounds, and not in the run\n",
-            );
+            return true;
         }
     }
-    Ok(())
+    false
+}
+
+/// Writes a note of a run of such a set. It takes no memory.
+pub fn put_left_out<W: Write + Drop>(out: &mut Watched<W>) -> Result<(), WriteFailed> {
+    out.write(b"note: what timers and interrupts take is in the bounds, and not in the run\n")
 }
 
 /// Writes a note that the chains of a set are in no script. It takes no memory.
@@ -34,6 +48,19 @@ pub fn put_chains_left_out<W: Write + Drop>(out: &mut Watched<W>) -> Result<(), 
 pub fn put_overran<W: Write + Drop>(name: Name, out: &mut Watched<W>) -> Result<(), WriteFailed> {
     let pieces = [
         "note: the run ends where a job of ",
+        name.as_str(),
+        " is ready and the one before it isn't done\n",
+    ];
+    write_note(&pieces, out)
+}
+
+/// The same of one of two runs.
+pub fn put_one_overran<W: Write + Drop>(
+    name: Name,
+    out: &mut Watched<W>,
+) -> Result<(), WriteFailed> {
+    let pieces = [
+        "note: of the two runs one ends where a job of ",
         name.as_str(),
         " is ready and the one before it isn't done\n",
     ];
