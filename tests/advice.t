@@ -549,18 +549,18 @@ Beside a new set: what belongs to which
   [4]
   $ sed 's/cost = 2000$/cost = 15000/' examples/shared-lock.toml > full.toml
   $ both full.toml
+  note: the costs over the periods come to more than 1: no order can pass
   note: no order of the new set passes, so there is no picture: desk explain says why
   [3]
   $ said draw full.toml examples/shared-lock.releases --beside full.toml
+  note: the costs over the periods come to more than 1: no order can pass
   note: no order of the first set passes, so there is no picture: desk explain says why
   [3]
   $ { cat examples/shared-lock.toml; printf '[[interrupt]]\nperiod = 9000\ncost = 9\n'; } > timed.toml
-  $ both timed.toml > run.svg
+  $ both timed.toml
   note: what timers and interrupts take is in the bounds, and not in the run
-  $ said draw timed.toml examples/shared-lock.releases --beside timed.toml > run.svg
+  $ said draw timed.toml examples/shared-lock.releases --beside timed.toml
   note: what timers and interrupts take is in the bounds, and not in the run
-  $ printf 'thread lo 1\nthread mid 2\nthread hi 3\nuntil 30000\n0 hi\n3000 hi\n' > soon
-  $ sed 's/period = 10000/period = 3000/; s/deadline = 10000/deadline = 3000/' examples/shared-lock.toml > fast.toml
 
 Notes
 -----
