@@ -40,6 +40,7 @@ The pictures of README.md and docs/FORMATS.md are those of the commands beside t
   $ desk releases examples/shared-lock.toml 100000 | desk draw examples/shared-lock.toml - | cmp - docs/picture-1.svg
   $ desk draw examples/jitter.toml examples/late.releases | cmp - docs/picture-2.svg
   $ desk worst examples/robot.toml | desk draw examples/robot.toml - | cmp - docs/picture-3.svg
+  $ desk releases examples/three-tasks.toml 60000 | desk draw examples/three-tasks.toml - --beside examples/three-tasks-weighted.toml | cmp - docs/picture-4.svg
 
 A window: what lies in it is drawn, and cut at its edges, where two chevrons show what goes on; the margin's figures are those
 of the run, but the heading names the window, for which the processor is busy. Its scale begins in it:
