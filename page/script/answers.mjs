@@ -22,7 +22,8 @@ export function notes_of({ told }) {
 }
 
 // The chains whose bounds are past their limits, or have none.
-const missed_in = lines => lines.filter(it => /^chain \S+ (-|\d+) misses \d+( least \d+)?$/.test(it));
+const MISSED_CHAIN = /^chain \S+ (-|\d+) misses \d+( least \d+)?$/;
+const missed_in = lines => lines.filter(it => MISSED_CHAIN.test(it));
 
 // `admit`: how many tasks, or the names that stand in the way, or a refusal. (`explain` has the
 // levels.)
