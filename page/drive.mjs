@@ -34,7 +34,7 @@ const is_in_time = what => {
 
 try {
   sow(seed);
-  expect(statSync(PAGE).size < 500000, `the page has ${statSync(PAGE).size} bytes`);
+  expect(statSync(PAGE).size < 520000, `the page has ${statSync(PAGE).size} bytes`);
   await browser.looks(1400, 1000, 'light');
   await browser.open(PAGE_URL);
   const first = await look();
