@@ -175,7 +175,7 @@ int main(int count, char **words)
     struct answer told = asked(&question);
     hold(told.status == answer.status, "the same status beside what is told");
     hold_unknown(0);
-    hold_unknown(DESK_WORST + 1);
+    hold_unknown(DESK_DRAW_BESIDE + 1);
     fwrite(answer.text.at, 1, answer.text.length, stdout);
     fwrite(told.text.at, 1, told.text.length, stderr);
     free(answer.text.at);
