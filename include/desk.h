@@ -45,10 +45,10 @@ enum {
 /* The best order of a task set, or the tasks of its greatest obstruction. */
 size_t desk_admit(const uint8_t *set, size_t set_length, uint8_t *room, size_t room_length, uint8_t *status);
 
-/* The certificate of that verdict. */
+/* The certificate of that verdict, with the chains of a best order. */
 size_t desk_certify(const uint8_t *set, size_t set_length, uint8_t *room, size_t room_length, uint8_t *status);
 
-/* What a certificate shows of a task set. */
+/* What a certificate shows of a task set and its chains. */
 size_t desk_check(const uint8_t *set, size_t set_length, const uint8_t *certificate, size_t certificate_length,
                   uint8_t *room, size_t room_length, uint8_t *status);
 
@@ -79,6 +79,10 @@ size_t desk_releases(const uint8_t *set, size_t set_length, uint64_t until, uint
 size_t desk_worst(const uint8_t *set, size_t set_length, const uint8_t *task, size_t task_length, uint8_t *room,
                   size_t room_length, uint8_t *status);
 
+/* The release list of the run that the bound of the chain whose name this is describes. With NULL and 0 as desk_worst. */
+size_t desk_worst_chain(const uint8_t *set, size_t set_length, const uint8_t *chain, size_t chain_length, uint8_t *room,
+                        size_t room_length, uint8_t *status);
+
 /* What a simulated kernel does with a release list, at the levels of the best order or of that which the list gives. */
 size_t desk_simulate(const uint8_t *set, size_t set_length, const uint8_t *releases, size_t releases_length,
                      uint8_t *room, size_t room_length, uint8_t *status);
@@ -91,6 +95,11 @@ size_t desk_draw(const uint8_t *set, size_t set_length, const uint8_t *releases,
  * the new set. Where the list itself has a byte 0, put another there that is as wrong in its line, as 1. */
 size_t desk_draw_beside(const uint8_t *set, size_t set_length, const uint8_t *both, size_t both_length, uint8_t *room,
                         size_t room_length, uint8_t *status);
+
+/* The same as desk_draw, and in the picture the way of a datum along a chain. The second text is the release list, a byte
+ * 0, and the chain's name; without a name as desk_draw. Where the list itself has a byte 0, as above. */
+size_t desk_draw_chain(const uint8_t *set, size_t set_length, const uint8_t *both, size_t both_length, uint8_t *room,
+                       size_t room_length, uint8_t *status);
 
 /* What a trace of a node shows of each task, and which promises it breaks, at the levels of the best order or of that which
  * the trace gives; no time may be past what is promised, and each task is to have a job. */
@@ -117,6 +126,8 @@ enum {
     DESK_OBSERVE = 13,
     DESK_WORST = 14,
     DESK_DRAW_BESIDE = 15,
+    DESK_WORST_CHAIN = 16,
+    DESK_DRAW_CHAIN = 17,
 };
 
 /* What the program writes on standard error beside that answer: the sentence for a refusal, or the notes on a set, each a

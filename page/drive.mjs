@@ -13,6 +13,7 @@ import { all_execution, conflicts, grips, judging, mending, teams } from './driv
 import {
   long_texts, moving, other_forms, preference, sections, sorting, the_table,
 } from './driving/editing.mjs';
+import { of_chains } from './driving/chains.mjs';
 import { delays } from './driving/delays.mjs';
 import { baseline, files, kept_baselines } from './driving/keeping.mjs';
 import { keys, looks, names } from './driving/looking.mjs';
@@ -34,7 +35,7 @@ const is_in_time = what => {
 
 try {
   sow(seed);
-  expect(statSync(PAGE).size < 520000, `the page has ${statSync(PAGE).size} bytes`);
+  expect(statSync(PAGE).size < 560000, `the page has ${statSync(PAGE).size} bytes`);
   await browser.looks(1400, 1000, 'light');
   await browser.open(PAGE_URL);
   const first = await look();
@@ -45,8 +46,8 @@ try {
   // Firefox shows nobody its tree of names and roles.
   const in_chromium = is_firefox ? [] : [names, skipping];
   const scenes = [the_table, moving, preference, sorting, sections, other_forms, long_texts,
-    grips, all_execution, conflicts, mending, of_a_node, baseline, kept_baselines, judging, teams,
-    files, the_run, slices, worst_cases, tracing, keys, looks, delays, ...in_chromium];
+    grips, all_execution, conflicts, mending, of_a_node, of_chains, baseline, kept_baselines,
+    judging, teams, files, the_run, slices, worst_cases, tracing, keys, looks, delays, ...in_chromium];
   for (const scene of scenes.filter(it => !SCENES || SCENES.split(',').includes(it.name))) {
     const before = tally.failed, begun = Date.now();
     try {

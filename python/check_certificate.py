@@ -16,7 +16,11 @@ the same in every order. So a chain that climbs from 1 past the limit, each numb
 demand of the one before it, leaves no such time, and what can't stand below some tasks can't stand
 below more. `best`: each level's number is such a time, and an order better than this has, at the
 lowest level where they differ, a task of smaller rank, which the chains refute. `none`: in each
-order one member is below all other members, and is refuted.
+order one member is below all other members, and is refuted. A chain of the set, which hands data
+from task to task, gets no older than the sum of its tasks' periods, of what each hands over to the
+next, and of the last one's response: a job that arrives so much later than one of the task before
+it reads what that one wrote. Where each task reads as it arrives and writes a deadline later, both
+are the deadline. `chain` gives no less than this sum by the levels' numbers.
 """
 import re
 import sys
@@ -29,7 +33,8 @@ NUMBER = "(?:0|[1-9][0-9]{0,9})"
 SET = {"task": list, "prefer": str, "node": dict, "interrupt": list, "chain": list}
 NODE = {"job": int, "lock": int, "release": int, "late": int}
 INTERRUPT = {"period": int, "cost": int}
-CHAIN = {"name": str, "tasks": list, "age": int, "reaction": int}
+CHAIN = {"name": str, "tasks": list, "age": int, "reaction": int, "writes": str}
+LONGEST = 1_000_000_000
 TASK = {"name": str, "weight": int, "period": int, "deadline": int, "cost": int, "jitter": int,
         "section": list, "outranks": list}
 SECTION = {"locks": list, "at": int, "len": int}
@@ -101,15 +106,22 @@ def check_task(it):
         raise ValueError
 
 
-def are_chains(tables, tasks):
-    """Whether these say chains of the tasks, of which no certificate speaks."""
-    chains = [values(table, CHAIN, age=1, reaction=1) for table in tables]
+def chains_of(tables, tasks):
+    """The chains of the tasks that these say, each with the lesser of its limits, or none."""
+    left_out = {"age": LONGEST, "reaction": LONGEST, "writes": "finish"}
+    chains = [values(table, CHAIN, **left_out) for table in tables]
     names = {it.name for it in tasks}
-    return are_names([it.name for it in chains], 16) and all(
+    is_valid = are_names([it.name for it in chains], 16) and all(
         it.tasks and are_names(it.tasks, 8) and names.issuperset(it.tasks)
-        and 1 <= it.age <= 1_000_000_000 and 1 <= it.reaction <= 1_000_000_000
+        and 1 <= it.age <= LONGEST and 1 <= it.reaction <= LONGEST
+        and it.writes in ("finish", "deadline")
         for it in chains
     )  # fmt: skip
+    if not is_valid:
+        raise ValueError
+    for it, table in zip(chains, tables):
+        it.limit = min(it.age, it.reaction) if table.keys() & {"age", "reaction"} else None
+    return chains
 
 
 def place_of(name, chains):
@@ -119,7 +131,7 @@ def place_of(name, chains):
 
 def read_set(text):
     """The tasks by rank, which is by weight and then by name, each with what the node takes, if the
-    set says it; and the interrupts. Where deadlines are preferred, a task's weight is the number of
+    set says it; the interrupts; and the chains. Where deadlines are preferred, a task's weight is the number of
     tasks of a longer limit; where chains are, of those nearer to the end of one, or as near and of a
     longer limit."""
     left_out = {"task": [], "prefer": "weight", "node": {}, "interrupt": [], "chain": []}
@@ -132,21 +144,23 @@ def read_set(text):
         raise ValueError
     tasks = [task_of(table, node) for table in root.task]
     if text.startswith(b"#% ") or root.prefer not in ("weight", "deadline", "chains") \
-            or not are_names([it.name for it in tasks], 32) or not are_chains(root.chain, tasks):
+            or not are_names([it.name for it in tasks], 32):
         raise ValueError
+    chains = chains_of(root.chain, tasks)
     if root.prefer != "weight":
-        chains = [it["tasks"] for it in root.chain] if root.prefer == "chains" else []
-        wanted = [(place_of(it.name, chains), -it.limit) for it in tasks]
+        lists = [it.tasks for it in chains if it.writes == "finish"] if root.prefer == "chains" else []
+        wanted = [(place_of(it.name, lists), -it.limit) for it in tasks]
         for it, own in zip(tasks, wanted):
             it.weight = sum(other < own for other in wanted)
-    return sorted(tasks, key=lambda it: (it.weight, it.name)), interrupts
+    return sorted(tasks, key=lambda it: (it.weight, it.name)), interrupts, chains
 
 
 def read_certificate(text):
-    """The version, `best` or `none`, and the levels or members. A level is its task's name, its
-    number and its reasons; a member is a reason: a name, and a chain or the name behind `over`."""
+    """The version, `best` or `none`, the levels or members, and what is said of the set's chains. A
+    level is its task's name, its number and its reasons; a member is a reason: a name, and a chain
+    or the name behind `over`. Of a set's chain a name and a number are said, in version 5."""
     *lines, rest = text.decode("latin-1").split("\n")
-    if lines and not re.fullmatch("desk-certificate [124]", lines[0]):
+    if lines and not re.fullmatch("desk-certificate [1245]", lines[0]):
         raise Refused("BadHead")
     over = f"| over {NAME}" if lines and not lines[0].endswith("1") else ""
     place = 1
@@ -177,10 +191,13 @@ def read_certificate(text):
         else:
             name, number = wanted(f"level {k} ({NAME}) ({NUMBER})")
             rows.append((name, int(number), [*iter(lambda: reason(following, "fails"), None)]))
+    said = []
+    while claim == "best" and lines[0].endswith("5") and (found := following(f"chain ({NAME}) ({NUMBER})")):
+        said.append((found[0], int(found[1])))
     wanted("end")
     if place < len(lines) or rest:
         raise Refused("Trailing")
-    return int(lines[0][-1]), claim, rows
+    return int(lines[0][-1]), claim, rows, said
 
 
 def jobs_within(it, time):
@@ -216,20 +233,40 @@ def refutes(tasks, interrupts, task, above, reason):
     return reason[0] == 1 and rises and max([0, *reason[:-1]]) <= task.limit < reason[-1]
 
 
-def needed_version(tasks, interrupts):
-    """The version that the set needs."""
+def needed_version(tasks, interrupts, shows_chains):
+    """The version that the set needs, if its certificate shows chains or not."""
+    if shows_chains:
+        return 5
     if interrupts and tasks or any(it.timer for it in tasks):
         return 4
     must_outrank_any = any(must_outrank(it, other) for it in tasks for other in tasks)
     return 2 if must_outrank_any or any(it.jitter for it in tasks) else 1
 
 
-def check(tasks, interrupts, version, claim, rows):
+def bound_of(named, rows, chain):
+    """What a chain's parts come to by the numbers of the levels: each task's period, and before a task
+    below the jitter, before one above the response less its cost; at last the response. Of tasks that
+    write at their deadlines each period and deadline."""
+    if chain.writes == "deadline":
+        return sum(named[name].period + named[name].deadline for name in chain.tasks)
+    places = {row[0]: place for place, row in enumerate(rows)}
+    total = 0
+    for name, after in zip(chain.tasks, [*chain.tasks[1:], None]):
+        it, response = named[name], rows[places[name]][1] + named[name].jitter
+        total += it.period
+        if after is None:
+            total += response
+        else:
+            total += it.jitter if places[after] < places[name] else response - named[after].cost
+    return total
+
+
+def check(tasks, interrupts, chains, version, claim, rows, said):
     """What the certificate shows. Each rule goes over all of it before the next one."""
     named = {it.name: it for it in tasks}
     order = [named.get(row[0]) for row in rows]
-    needed = needed_version(tasks, interrupts)
-    if version < needed or version == 4 != needed:
+    needed = needed_version(tasks, interrupts, claim == "best" and chains)
+    if version < needed or version in (4, 5) and version != needed:
         raise Refused("WrongVersion")
     is_short = claim == "best" and len(rows) < len(tasks)
     if None in order or len({it.name for it in order}) < len(rows) or is_short:
@@ -265,17 +302,25 @@ def check(tasks, interrupts, version, claim, rows):
         missing = [it for it in better(level) if it not in [name for name, _ in reasons]]
         if missing:
             raise Refused(f"MissingFail {level} {missing[0]}")
-    return "best"
+    if [name for name, _ in said] != [it.name for it in chains]:
+        raise Refused("WrongChains")
+    lines = ["best"]
+    for chain, (name, number) in zip(chains, said):
+        if number < bound_of(named, rows, chain):
+            raise Refused(f"BadAge {name}")
+        limit = "" if chain.limit is None else f" {'of' if number <= chain.limit else 'misses'} {chain.limit}"
+        lines.append(f"chain {name} {number}{limit}")
+    return "\n".join(lines)
 
 
 def said(set_text, certificate_text):
-    """The line that is printed, and the status."""
+    """The lines that are printed, and the status."""
     try:
-        tasks, interrupts = read_set(set_text)
+        them = read_set(set_text)
     except (TypeError, ValueError, RecursionError):
         return "refused: set", 4
     try:
-        return check(tasks, interrupts, *read_certificate(certificate_text)), 0
+        return check(*them, *read_certificate(certificate_text)), 0
     except Refused as fault:
         return f"refused: {fault}", 5
 

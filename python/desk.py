@@ -104,13 +104,15 @@ class Task:
 
 @dataclass(frozen=True)
 class Chain:
-    """A chain of a set: its tasks by name, the first one first, and the longest age and reaction in
-    microseconds."""
+    """A chain of a set: its tasks by name, the first one first, the longest age and reaction in
+    microseconds, and whether each job reads as it begins and writes at its `finish`, or reads as it
+    arrives and writes a `deadline` later."""
 
     name: str
     tasks: Sequence[str]
     age: int | None = None
     reaction: int | None = None
+    writes: str = "finish"
 
 
 @dataclass(frozen=True, kw_only=True)
@@ -137,8 +139,8 @@ class Level:
 
 @dataclass(frozen=True)
 class ChainPart:
-    """A part of a chain's bound: `kind` is wait, jitter or response, of a `task`; a response may be
-    `less` the cost of the next one."""
+    """A part of a chain's bound: `kind` is wait, jitter, response or deadline, of a `task`; a response
+    may be `less` the cost of the next one."""
 
     kind: str
     task: str
@@ -190,9 +192,11 @@ class Certificate(_Answer):
 
 @dataclass(frozen=True)
 class Checked(_Answer):
-    """What a certificate shows: the best order, or (`best` is false) that none passes."""
+    """What a certificate shows: the best order, with its numbers of the set's chains in place of their
+    bounds, or (`best` is false) that none passes."""
 
     best: bool
+    chains: tuple[Bound, ...] = ()
 
     def __bool__(self) -> bool:
         return self.best
@@ -292,10 +296,22 @@ class Factor:
 
 
 @dataclass(frozen=True)
+class Reach:
+    """A number of a task, its value, and the furthest with which the best order passes and a chain is
+    met, where that order passes further on."""
+
+    task: str
+    number: str
+    value: int
+    furthest: int
+
+
+@dataclass(frozen=True)
 class Limits(_Answer):
     """How far each number may go. Of a refused set (`answer` is a no) those that mend it are here
     alone, each with the least that does; `slack` is empty then, and `locks` have the most that each
-    section of a lock may take. `interrupts` are by `interrupt K`, in a folder's behind their team."""
+    section of a lock may take. `interrupts` are by `interrupt K`, in a folder's behind their team. Of
+    chains with a limit `chain_slack` has what the bounds leave of met ones, `chains` how far numbers may go."""
 
     answer: Infeasible | None
     tasks: Mapping[str, tuple[Limit, ...]]
@@ -304,6 +320,8 @@ class Limits(_Answer):
     locks: Mapping[str, Limit]
     slack: Mapping[str, int]
     factor: Factor | None
+    chain_slack: Mapping[str, int] = field(default_factory=dict)
+    chains: Mapping[str, tuple[Reach, ...]] = field(default_factory=dict)
 
     def __bool__(self) -> bool:
         return self.answer is None
@@ -357,7 +375,7 @@ class Change:
 @dataclass(frozen=True)
 class ChainChange:
     """The same of a chain: its bound, and what that leaves of its limit, which may be less than nothing;
-    of keys `tasks`, as `a+b`, and `limit`."""
+    of keys `tasks`, as `a+b`, `limit`, and `writes`."""
 
     kind: str
     chain: str
@@ -404,7 +422,8 @@ class Worst(_Answer):
     """The worst case of a task in the best order, or, of a refused set, in one that decides, whose
     `settings` are here and in the text of `releases`; then it is false. `kind` is `comes`, and the
     task's job takes `response` of its bound, the `limit`; `misses`, and it misses its deadline, the
-    `limit`; or says why the `releases` show neither, with the `other` task where it names one."""
+    `limit`; or says why the `releases` show neither, with the `other` task where it names one. Of
+    a `chain` it is the run that its bound describes, with the greatest age there and the bound."""
 
     admitted: bool
     task: str | None
@@ -414,6 +433,7 @@ class Worst(_Answer):
     other: str | None = None
     settings: Settings | None = None
     releases: Releases | None = None
+    chain: str | None = None
 
     def __bool__(self) -> bool:
         return self.admitted
@@ -480,17 +500,20 @@ class Broken:
 @dataclass(frozen=True)
 class ChainSeen:
     """How many outputs of a chain have a sample in a trace, how old what stands of it got and the longest
-    reaction, None where there is none, beside its bound."""
+    reaction, None where there is none, beside its bound. Where it got older than it may, `most` is how
+    old that is: the bound, of tasks that write at their deadlines with jitters of those whose jobs don't
+    say when they were ready."""
 
     chain: str
     outputs: int
     age: int | None
     reaction: int | None
     bound: int | None
+    most: int | None = None
 
     @property
     def kept(self) -> bool:
-        return None in (self.age, self.bound) or self.age <= self.bound
+        return self.most is None
 
 
 @dataclass(frozen=True)
@@ -592,15 +615,18 @@ def toml(
     for it in chains:
         said += ["[[chain]]", f"name = {word(it.name)}", f"tasks = {words(it.tasks)}"]
         said += [f"{key} = {value}" for key in ("age", "reaction") if (value := getattr(it, key)) is not None]
+        said += [f"writes = {word(it.writes)}"] * (it.writes != "finish")
     return "".join(line + "\n" for line in said)
 
 
 # The commands of include/desk.h, each at its number less 1, and those that take a second input.
 _COMMANDS = ("admit", "certify", "check", "limits", "settings", "explain")
 _COMMANDS += ("judge", "diff", "releases", "simulate", "draw", "play", "observe", "worst", "draw_beside")
+_COMMANDS += ("worst_chain", "draw_chain")
 # A line of a chain: behind those of all levels, and no level's has such words.
 _CHAIN = re.compile(r"chain \S+ (-|[0-9]+)( (of|misses) [0-9]+( least [0-9]+)?)?")
 _SECOND = ("check", "judge", "diff", "simulate", "draw", "observe", "worst", "draw_beside")
+_SECOND += ("worst_chain", "draw_chain")
 
 
 def _library() -> ctypes.CDLL:
@@ -740,10 +766,11 @@ def check(tasks: Sheets, certificate: Text | Certificate) -> Checked:
 
     >>> one = [Task("a", 10_000, 10_000, 6000)]
     >>> check(one, certify(one))
-    Checked(best=True)
+    Checked(best=True, chains=())
     """
     said = _ask("check", tasks, certificate)[1]
-    return Checked(said == "best\n", text=said)
+    first, *lines = said.splitlines()
+    return Checked(first == "best", _chained(lines)[1], text=said)
 
 
 def _team(words: Sequence[str]) -> str | None:
@@ -857,14 +884,27 @@ def limits(tasks: Sheets) -> Limits:
     >>> found = limits([Task("top", 1000, 1000, 700, sections=[Section(["m"], 0, 9)]), low])
     >>> found.locks["m"]
     Limit(number='len', value=400, in_order=None, most=300, along=None, held_by=None)
+    >>> tasks = [Task("a", 10_000, 10_000, 2000), Task("b", 5000, 5000, 1000)]
+    >>> found = limits(toml(tasks, chains=[Chain("ab", ["a", "b"], age=19_000)]))
+    >>> found.chain_slack, found.chains["ab"][0]
+    ({'ab': 1000}, Reach(task='a', number='cost', value=2000, furthest=3000))
     """
     status, said = _ask("limits", tasks)
     _, *lines = said.splitlines()
     rows: dict[str, tuple[Limit, ...]] = {}
     interrupts: dict[str, tuple[Limit, ...]] = {}
     node, locks, slack, factor = (), {}, {}, None
+    chain_slack: dict[str, int] = {}
+    chains: dict[str, tuple[Reach, ...]] = {}
     for name, *words in (it.split() for it in lines):
-        if name == "all" and (len(words) == 3 or words == ["-", "-"]):
+        if name == "chain" and words[2:] and words[1][0].isalpha():
+            chain, task, *number = words
+            if task == "slack" and not number[1:]:
+                chain_slack[chain] = int(number[0])
+            else:
+                reach = Reach(task, " ".join(number[:-2]), int(number[-2]), int(number[-1]))
+                chains[chain] = (*chains.get(chain, ()), reach)
+        elif name == "all" and (len(words) == 3 or words == ["-", "-"]):
             factor = Factor(_time(words[0]), _time(words[1]), words[2] if words[2:] else None)
         elif len(words) == 2 and words[0] == "slack":
             slack[name] = int(words[1])
@@ -878,7 +918,7 @@ def limits(tasks: Sheets) -> Limits:
         elif len(words) >= 4:
             rows[name] = (*rows.get(name, ()), _limit(words))
     answer = _no(said) if status else None
-    return Limits(answer, rows, interrupts, node, locks, slack, factor, text=said)
+    return Limits(answer, rows, interrupts, node, locks, slack, factor, chain_slack, chains, text=said)
 
 
 def settings(tasks: Sheets) -> Settings | Infeasible:
@@ -962,9 +1002,10 @@ def _set_to(lines: Iterable[str]) -> Settings:
     return Settings(found["thread"], found["mutex"], text="".join(it + "\n" for it in lines))
 
 
-def worst(tasks: Sheets, task: str = "") -> Worst:
+def worst(tasks: Sheets, task: str = "", chain: str = "") -> Worst:
     """The worst case of this task, or of the one of least slack; of a refused set that of the highest
-    task that doesn't meet its deadline, in an order that decides.
+    task that doesn't meet its deadline, in an order that decides. With a chain the run that its bound
+    describes.
 
     >>> found = worst([Task("a", 10_000, 10_000, 6000), Task("b", 5000, 5000, 1000)])
     >>> found.task, found.response, found.limit, found.releases.jobs[0]
@@ -974,8 +1015,12 @@ def worst(tasks: Sheets, task: str = "") -> Worst:
     >>> late = [Task("a", 10_000, 9000, 6000), Task("b", 10_000, 9000, 6000)]
     >>> simulate(late, worst(late).releases).jobs[0]
     Job(task='a', arrival=0, finish=12000)
+    >>> alone = toml([Task("a", 10_000, 10_000, 6000)], chains=[Chain("c", ["a"])])
+    >>> found = worst(alone, chain="c")
+    >>> found.chain, found.response, found.limit
+    ('c', 16000, 16000)
     """
-    status, said = _ask("worst", tasks, task.encode())
+    status, said = _ask("worst_chain", tasks, chain.encode()) if chain else _ask("worst", tasks, task.encode())
     lines = said.splitlines()
     words = lines.pop(0).split()[1:] if lines[0].startswith("#") else [None, None]
     name, kind, *more = words
@@ -990,7 +1035,8 @@ def worst(tasks: Sheets, task: str = "") -> Worst:
         order, said_list = ("".join(it + "\n" for it in part) for part in (lines[:first], lines[first:]))
         times["settings"] = _set_to(lines[:first]) if status else None
         times["releases"] = _list(said_list, order)
-    return Worst(status == 0, name, kind, other=more[0] if more else None, **times, text=said)
+    whose = {"task": None, "chain": name} if chain else {"task": name}
+    return Worst(status == 0, kind=kind, other=more[0] if more else None, **whose, **times, text=said)
 
 
 def simulate(tasks: Sheets, releases: Text | Releases) -> Run | Infeasible:
@@ -1009,8 +1055,11 @@ def simulate(tasks: Sheets, releases: Text | Releases) -> Run | Infeasible:
     return Run(slices, jobs, text=said)
 
 
-def draw(tasks: Sheets, releases: Text | Releases, beside: Sheets | None = None) -> str | Infeasible:
-    """The same as a picture, an SVG document; with another set, its run stands beside.
+def draw(
+    tasks: Sheets, releases: Text | Releases, beside: Sheets | None = None, chain: str = ""
+) -> str | Infeasible:
+    """The same as a picture, an SVG document; with another set, its run stands beside; with a chain of
+    the set, the way of its oldest datum is in it. Not with both.
 
     >>> before = [Task("a", 10_000, 10_000, 6000)]
     >>> draw(before, "until 20000\\n0 a\\n").splitlines()[-1]
@@ -1018,12 +1067,19 @@ def draw(tasks: Sheets, releases: Text | Releases, beside: Sheets | None = None)
     >>> after = draw(before, "until 20000\\n0 a\\n", beside=[Task("a", 10_000, 10_000, 5000)])
     >>> "a: response 5000 us, before 6000 us" in after
     True
+    >>> alone = toml([Task("a", 10_000, 10_000, 6000)], chains=[Chain("c", ["a"])])
+    >>> "chain c: age 16 ms of bound 16 ms" in draw(alone, worst(alone, chain="c").releases, chain="c")
+    True
     """
-    if beside is None:
+    if beside is not None and chain:
+        raise ValueError("a picture of two sets shows no way along a chain")
+    if beside is None and not chain:
         status, said = _ask("draw", tasks, releases)
     else:
-        # (a byte 0 stands between the two)
-        status, said = _ask("draw_beside", tasks, _bytes(releases).replace(b"\0", b"\1") + b"\0" + _bytes(beside))
+        # (a byte 0 stands between the list and what comes behind it)
+        other = chain.encode() if chain else _bytes(beside)
+        both = _bytes(releases).replace(b"\0", b"\1") + b"\0" + other
+        status, said = _ask("draw_chain" if chain else "draw_beside", tasks, both)
     return _no(said) if status else said
 
 
@@ -1049,7 +1105,9 @@ def observe(tasks: Sheets, trace: Text | Run) -> Observed | Judged | Infeasible:
             jobless.append(name)
         elif kind == "chain":
             chains.append(ChainSeen(name, int(words[0]), *map(_time, words[2::2])))
-        elif kind != "age":  # (the chain's line says it, too)
+        elif kind == "age":
+            chains[-1] = replace(chains[-1], most=int(words[-1]))
+        else:
             broken.append(_broken(kind, name, words))
     return Observed(tuple(seen), tuple(jobless), tuple(broken), tuple(chains), text=said)
 

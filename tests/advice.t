@@ -266,13 +266,13 @@ Certificates
 
   $ certificate() { printf "$1" | said check examples/three-tasks.toml -; }
   $ certificate 'desk-certificate 3\nnone 0\nend\n'
-  standard input: line 1 has to be desk-certificate 1, 2 or 4; it is "desk-certificate 3"
+  standard input: line 1 has to be desk-certificate 1, 2, 4 or 5; it is "desk-certificate 3"
   [5]
   $ certificate 'desk-certificate 1\r\nnone 0\r\nend\r\n'
-  standard input: line 1 has to be desk-certificate 1, 2 or 4; it is "desk-certificate 1?"; it ends with CR and LF, where LF alone is wanted
+  standard input: line 1 has to be desk-certificate 1, 2, 4 or 5; it is "desk-certificate 1?"; it ends with CR and LF, where LF alone is wanted
   [5]
   $ certificate 'desk-certificate 1\nbest 3\nlevel 2 c 20000\n'
-  standard input: line 3, "level 2 c 20000": no such line may stand here; after the head come best N, for each level from 1 level K NAME NUMBER and lines fails NAME REASON, or none N and lines member NAME REASON, then end
+  standard input: line 3, "level 2 c 20000": no such line may stand here; after the head come best N, for each level from 1 level K NAME NUMBER and lines fails NAME REASON, then, in version 5, lines chain NAME NUMBER, or none N and lines member NAME REASON, then end
   [5]
   $ certificate 'desk-certificate 1\nnone 0\n'
   standard input: the complete lines stop before the line end; each line ends with LF, the last, too
@@ -284,7 +284,7 @@ Certificates
   standard input: none without members shows nothing
   [5]
   $ said check examples/jitter.toml examples/three-tasks.cert
-  examples/three-tasks.cert: its version doesn't serve for this set: one with release of [node] or an interrupt needs 4, and no other takes it; else one with jitter, late of [node] or outranks needs 2
+  examples/three-tasks.cert: its version doesn't serve for this set: best of one with chains needs 5, and nothing else takes it; else one with release of [node] or an interrupt needs 4, and no other takes it; else one with jitter, late of [node] or outranks needs 2
   [5]
   $ certificate 'desk-certificate 1\nbest 0\nend\n'
   standard input: its levels don't name each task of the set once, or a member is no task or named twice
@@ -406,7 +406,7 @@ A byte order mark, and CR in front of LF:
   standard input: line 1, "until 100?" has to be until N, in whole microseconds; it ends with CR and LF, where LF alone is wanted
   [4]
   $ certificate '\357\273\277desk-certificate 1\r\nbest 0\r\n'
-  standard input: line 1 has to be desk-certificate 1, 2 or 4; it is "?desk-certificate 1?"; it begins with a byte order mark, which only a set may have; it ends with CR and LF, where LF alone is wanted
+  standard input: line 1 has to be desk-certificate 1, 2, 4 or 5; it is "?desk-certificate 1?"; it begins with a byte order mark, which only a set may have; it ends with CR and LF, where LF alone is wanted
   [5]
   $ printf '\357\273\277thread lo 1\n' | said judge examples/shared-lock.toml -
   standard input: line 1, "?thread lo 1" has to be thread NAME NUMBER or mutex NAME NUMBER, with a number from 1 to 1000000; it begins with a byte order mark, which only a set may have

@@ -115,6 +115,7 @@ The desk's own certificates are accepted, that of a full set, too:
   >   desk check $set own.cert
   > done | sort -u
   best
+  chain steer 44200 of 45000
   no order
   $ for n in $(seq 0 31); do
   >   echo "[[task]]"; echo "name = 't$n'"; echo "period = 10000"; echo "deadline = 10000"; echo "cost = 100"
@@ -126,3 +127,38 @@ The desk's own certificates are accepted, that of a full set, too:
   level 1 t0 3200
   $ desk check 32.toml 32.cert
   best
+
+Chains
+------
+
+A best order of a set with chains has version 5, and behind its levels each chain with its bound, whatever else the set has;
+without an order none has a line:
+
+  $ desk certify examples/steer.toml
+  desk-certificate 5
+  best 4
+  level 1 log 17400
+  level 2 plan 9200
+  level 3 camera 2600
+  level 4 wheel 600
+  chain steer 44200
+  end
+  $ desk certify examples/steer.toml | cmp - examples/steer.cert
+  $ { cat examples/steer.toml; printf '[node]\njob = 20\nrelease = 10\nlate = 15\n'; } > node.toml
+  $ desk admit node.toml | tail -n 1
+  chain steer 44375 of 45000
+  $ desk certify node.toml
+  desk-certificate 5
+  best 4
+  level 1 log 17560
+  level 2 plan 9290
+  level 3 camera 2660
+  level 4 wheel 650
+  chain steer 44375
+  end
+  $ { grep -v prefer examples/steer.toml; printf '[[task]]\nname = "more"\nperiod = 5000\ndeadline = 500\ncost = 501\n'; } | desk certify -
+  desk-certificate 1
+  none 1
+  member more 1 501
+  end
+  [3]

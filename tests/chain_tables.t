@@ -15,10 +15,10 @@ all else.
   > END
   $ refusal() { { cat tasks.toml; printf "$1"; } > set.toml; desk "${2:-certify}" set.toml; }
   $ refusal '[[chain]]\nname = "steer"\ntasks = ["camera", "plan"]\nage = 45000\n' | head -n 2
-  desk-certificate 1
+  desk-certificate 5
   best 2
 
-Of a document, for each chain in turn: its keys, the kinds of its values, names, how many tasks, and limits:
+Of a document, for each chain in turn: its keys, the kinds of its values, names, how many tasks, limits, and when they write:
 
   $ { echo 'chain = [1]'; cat tasks.toml; } > set.toml; desk admit set.toml
   refused: WrongKind 0 0 chain
@@ -26,7 +26,7 @@ Of a document, for each chain in turn: its keys, the kinds of its values, names,
   [4]
   $ refusal '[[chain]]\nname = "steer"\ntasks = ["plan"]\n[[chain]]\nlimit = 1\n'
   refused: ChainUnknownKey 2
-  (on standard error) set.toml: line 14, chain 2: unknown key limit; a chain has name, tasks, age, reaction
+  (on standard error) set.toml: line 14, chain 2: unknown key limit; a chain has name, tasks, age, reaction, writes
   [4]
   $ refusal '[[chain]]\nname = "steer"\n'
   refused: ChainMissingKey 1 tasks
@@ -38,7 +38,7 @@ Of a document, for each chain in turn: its keys, the kinds of its values, names,
   [4]
   $ refusal '[[chain]]\nname = "steer"\ntasks = ["plan"]\nage = -1\n'
   refused: ChainWrongKind 1 age
-  (on standard error) set.toml: line 11, chain 1 (steer): age has to be a whole number of microseconds from 0, without quotes; it is -1
+  (on standard error) set.toml: line 11, chain 1 (steer): age has to be a whole number of microseconds from 1, without quotes; it is -1
   [4]
   $ refusal '[[chain]]\nname = "steer"\ntasks = ["plan", "9"]\n'
   refused: BadChainName 1
@@ -55,6 +55,17 @@ Of a document, for each chain in turn: its keys, the kinds of its values, names,
   $ refusal '[[chain]]\nname = "steer"\ntasks = ["plan"]\nage = 1\nreaction = 1000000001\n'
   refused: BadLimit 1 reaction
   (on standard error) set.toml: line 11, chain 1 (steer): reaction has to be from 1 to 1000000000; it is 1000000001
+  [4]
+  $ refusal '[[chain]]\nname = "steer"\ntasks = ["plan"]\nage = 1\nwrites = "end"\n'
+  refused: BadWrites 1
+  (on standard error) set.toml: line 11, chain 1 (steer): writes has to be "finish" or "deadline"; it is the string "end"
+  [4]
+  $ refusal '[[chain]]\nname = "steer"\ntasks = ["9"]\nage = -1\nwrites = ["deadline"]\n' | head -n 1
+  refused: ChainWrongKind 1 age
+  (on standard error) set.toml: line 11, chain 1 (steer): age has to be a whole number of microseconds from 1, without quotes; it is -1
+  $ refusal '[[chain]]\nname = "steer"\ntasks = ["9"]\nage = 0\nwrites = ["deadline"]\n'
+  refused: ChainWrongKind 1 writes
+  (on standard error) set.toml: line 11, chain 1 (steer): writes has to be "finish" or "deadline"; it is an array
   [4]
 
 Then how many there are, and their names; of a chain that stands twice the second:
@@ -91,7 +102,7 @@ Each document of a folder has chains, of all teams' tasks; no two of one name:
   (on standard error) node: drive.toml: line 6, chain 1 (9): name: "9" is no name; a name is 1 to 24 of the letters a to z and A to Z, digits, _ and -, a letter first
   [4]
   $ sed -i 's/"9"/"wheels"/' node/drive.toml; desk certify node | head -n 2
-  desk-certificate 1
+  desk-certificate 5
   best 3
   $ sed 's/"wheel"\]/"tire"]/' node/node.toml > with; cp node/node.toml kept; cp with node/node.toml; desk certify node
   refused: ChainTask all tire

@@ -227,6 +227,103 @@ EmptySet: no member
   refused: EmptySet
   [5]
 
+WrongChains, BadAge: the lines of chains
+----------------------------------------
+
+Behind `best` stands each chain with its number, which may be greater than its bound; a missed limit is no fault:
+
+  $ desk check examples/steer.toml examples/steer.cert
+  best
+  chain steer 44200 of 45000
+  $ steer() { sed "$1" examples/steer.cert | desk check examples/steer.toml -; }
+  $ steer 's/44200/45001/'
+  best
+  chain steer 45001 misses 45000
+  $ steer 's/44200/9999999999/'
+  best
+  chain steer 9999999999 misses 45000
+  $ grep -v reaction examples/steer.toml | desk check - examples/steer.cert
+  best
+  chain steer 44200
+  $ steer 's/44200/44199/'
+  refused: BadAge steer
+  [5]
+
+A greater number of a level counts, of a task of the chain:
+
+  $ steer 's/plan 9200/plan 9300/'
+  refused: BadAge steer
+  [5]
+  $ steer 's/plan 9200/plan 9300/; s/44200/44300/'
+  best
+  chain steer 44300 of 45000
+  $ steer 's/log 17400/log 17500/'
+  best
+  chain steer 44200 of 45000
+
+The set's chains, each once, in order:
+
+  $ steer '/chain/d'
+  refused: WrongChains
+  [5]
+  $ steer 's/chain steer/chain wheel/'
+  refused: WrongChains
+  [5]
+  $ steer 's/chain.*/&\n&/'
+  refused: WrongChains
+  [5]
+  $ { cat examples/steer.toml; printf '[[chain]]\nname = "see"\ntasks = ["camera"]\nage = 12600\n'; } > two.toml
+  $ desk certify two.toml > two.cert
+  $ desk check two.toml two.cert
+  best
+  chain steer 44200 of 45000
+  chain see 12600 of 12600
+  $ { head -n 6 two.cert; echo 'chain see 12600'; echo 'chain steer 44200'; echo end; } | desk check two.toml -
+  refused: WrongChains
+  [5]
+  $ sed 's/44200/1/; s/12600/1/' two.cert | desk check two.toml -
+  refused: BadAge steer
+  [5]
+
+All else comes first, and version 5 is for such sets alone:
+
+  $ steer 's/44200/1/; s/wheel 600/wheel 599/'
+  refused: BadPass 4
+  [5]
+  $ steer 's/cate 5/cate 4/; /chain/d'
+  refused: WrongVersion
+  [5]
+  $ sed 's/cate 1/cate 5/' examples/three-tasks.cert | desk check examples/three-tasks.toml -
+  refused: WrongVersion
+  [5]
+  $ steer '/chain/d; /level/d; s/best 4/none 0/'
+  refused: WrongVersion
+  [5]
+
+The lines stand behind the levels, in version 5 alone, and behind no members:
+
+  $ steer 's/cate 5/cate 4/'
+  refused: BadLine 7
+  [5]
+  $ steer '/^chain/d; s/^level 4/chain steer 44200\n&/'
+  refused: BadLine 6
+  [5]
+  $ steer '/level/d; s/best 4/none 0/'
+  refused: BadLine 3
+  [5]
+  $ steer 's/44200/& 1/'
+  refused: BadLine 7
+  [5]
+  $ steer 's/44200/044200/'
+  refused: BadLine 7
+  [5]
+  $ steer 's/44200/12345678901/'
+  refused: BadLine 7
+  [5]
+  $ steer 's/chain steer/chain 9/'
+  refused: BadLine 7
+  [5]
+
 Which refusal comes first
 -------------------------
 
@@ -274,7 +371,7 @@ The first line, each later line, the end, what follows:
   $ text 'desk-certificate 3\n'
   refused: BadHead
   [5]
-  $ text 'desk-certificate 5\n'
+  $ text 'desk-certificate 6\n'
   refused: BadHead
   [5]
   $ text 'desk-certificate 1\r\nbest 0\nend\n'

@@ -41,6 +41,7 @@ The pictures of README.md and docs/FORMATS.md are those of the commands beside t
   $ desk draw examples/jitter.toml examples/late.releases | cmp - docs/picture-2.svg
   $ desk worst examples/robot.toml | desk draw examples/robot.toml - | cmp - docs/picture-3.svg
   $ desk releases examples/three-tasks.toml 60000 | desk draw examples/three-tasks.toml - --beside examples/three-tasks-weighted.toml | cmp - docs/picture-4.svg
+  $ desk draw examples/steer.toml examples/steer.releases --chain steer | cmp - docs/picture-5.svg
 
 A window: what lies in it is drawn, and cut at its edges, where two chevrons show what goes on; the margin's figures are those
 of the run, but the heading names the window, for which the processor is busy. Its scale begins in it:
@@ -521,3 +522,84 @@ A release that the first set refuses is refused as without `--beside`, one that 
   [2]
   $ both shorter.toml > run.svg
   $ both - < shorter.toml | cmp - run.svg
+
+With `--chain` the way of what gets oldest behind a chain, from the last job back, and how long it stands; the one of what comes
+next is drawn first. Of what lies outside the window nothing is shown:
+
+  $ way() { desk draw examples/steer.toml examples/steer.releases --chain steer "$@"; }
+  $ way | sed -nE 's/.*class="y([ab]).*<title>(steer: .*)<.title>.*/\1 \2/p'
+  b steer: waits for wheel 49199 to 53598 us
+  b steer: wheel 53598 to 54198 us
+  b steer: waits for plan 32000 to 39999 us
+  b steer: plan 39999 to 49199 us
+  b steer: camera 30000 to 32000 us
+  a steer: waits for wheel 29199 to 48598 us
+  a steer: wheel 48598 to 49198 us
+  a steer: waits for plan 12000 to 19999 us
+  a steer: plan 19999 to 29199 us
+  a steer: camera 10000 to 12000 us
+  a steer: stands behind wheel 49198 to 54198 us
+  $ way | grep -o 'chain steer: .*bound [^<]*'
+  chain steer: age 44.198 ms of bound 44.2 ms
+  $ desk simulate --tasks examples/steer.toml examples/steer.releases | grep ^chain
+  chain steer 8 age 44198 reaction 44198 bound 44200
+  $ way --from 20000 --to 36000 | sed -nE 's/.*class="y([ab]).*<title>(steer: .*)<.title>.*/\1 \2/p; s/.*(chain steer: .*bound [^<]*).*/\1/p'
+  a steer: waits for wheel 29199 to 33598 us
+  a steer: wheel 33598 to 34198 us
+  a steer: plan 19999 to 29199 us
+  a steer: stands behind wheel 34198 to 36000 us
+  chain steer: age 26 ms of bound 44.2 ms
+
+Before anything has come along the chain nothing stands, and nothing is drawn of it but a line:
+
+  $ way --to 30000 | grep -c 'class="y[ab]'
+  0
+  [1]
+  $ way --to 30000 | grep -o 'chain steer: .*bound [^<]*'
+  chain steer: age - of bound 44.2 ms
+
+All but what is laid over it is the picture without `--chain`; with `--tasks` the chain's rows are there, too:
+
+  $ desk draw examples/steer.toml examples/steer.releases > plain.svg
+  $ way | grep -v 'class="y[abt]\|^<text x="100" y="3705"' | awk '/^<style/ && n++ { next } { print }' | cmp - plain.svg
+  $ way --tasks log | cmp - docs/picture-5.svg
+
+What is replaced at the window's first instant is not in it any more:
+
+  $ printf '[[task]]\nname = "x"\nperiod = 1000\ndeadline = 1000\ncost = 1\n[[chain]]\nname = "c"\ntasks = ["x"]\n' > one.toml
+  $ printf 'until 1500\n0 x\n1000 x\n' > twice
+  $ desk draw one.toml twice --chain c --from 1000 | grep -o 'chain c: .*bound [^<]*'
+  chain c: age 1001 us of bound 1001 us
+  $ desk draw one.toml twice --chain c --from 1001 | grep -o 'chain c: .*bound [^<]*'
+  chain c: age 500 us of bound 1001 us
+
+Of tasks that write at their deadlines the way goes from each arrival to the deadline:
+
+  $ timed() { printf '[[task]]\nname = "%s"\nperiod = 10000\ndeadline = %s\ncost = 1000\n' cam 9000 act 8000; printf '[[chain]]\nname = "timed"\ntasks = ["cam", "act"]\nwrites = "deadline"\n'; }
+  $ timed > timed.toml; desk worst timed.toml --chain timed > built
+  $ desk draw timed.toml built --chain timed | sed -nE 's/.*class="y([ab]).*<title>(timed: .*)<.title>.*/\1 \2/p; s/.*(chain timed: .*bound [^<]*).*/\1/p'
+  b timed: waits for act 19000 to 28999 us
+  b timed: act 28999 to 36999 us
+  b timed: cam 10000 to 19000 us
+  a timed: waits for act 9000 to 18999 us
+  a timed: act 18999 to 26999 us
+  a timed: cam 0 to 9000 us
+  a timed: stands behind act 26999 to 36999 us
+  chain timed: age 36.999 ms of bound 37 ms
+
+A name is refused that no chain has, behind all that is refused without it; two runs have no way:
+
+  $ desk draw examples/steer.toml examples/steer.releases --chain plan
+  refused: NoSuchChain plan
+  (on standard error) examples/steer.toml: no chain is called "plan": the set has steer
+  [4]
+  $ desk draw examples/steer.toml examples/steer.releases --chain 'a b' 2> said
+  refused: NoSuchChain
+  [4]
+  $ desk draw examples/steer.toml examples/steer.releases --chain plan --from 70000
+  refused: EmptyWindow
+  [4]
+  $ desk draw examples/steer.toml examples/steer.releases --chain steer --beside examples/steer.toml
+  refused: ChainBeside
+  (on standard error) examples/steer.releases: a picture of two runs shows no way along a chain
+  [4]

@@ -1,7 +1,7 @@
-/* Calls the static library as include/desk.h says: `library COMMAND FILE [FILE|UNTIL|TASK]` prints the answer, what is told of it
- * to standard error, and ends with its status. Each of the two is asked for with no room, with one byte too few, and with
- * bytes to spare, by four threads at once; the program aborts where these answers or their surroundings are not as the
- * header says.
+/* Calls the static library as include/desk.h says: `library COMMAND FILE [FILE|UNTIL|TASK|CHAIN]` prints the answer, what is
+ * told of it to standard error, and ends with its status. Each of the two is asked for with no room, with one byte too few,
+ * with just as many as it has, and with bytes to spare, by four threads at once; the program aborts where these answers or
+ * their surroundings are not as the header says.
  */
 #include "desk.h"
 #include <pthread.h>
@@ -69,6 +69,7 @@ static const struct {
     {"settings", DESK_SETTINGS}, {"explain", DESK_EXPLAIN}, {"judge", DESK_JUDGE},     {"diff", DESK_DIFF},
     {"releases", DESK_RELEASES}, {"simulate", DESK_SIMULATE}, {"draw", DESK_DRAW},     {"play", DESK_PLAY},
     {"observe", DESK_OBSERVE}, {"worst", DESK_WORST},     {"draw_beside", DESK_DRAW_BESIDE},
+    {"worst_chain", DESK_WORST_CHAIN}, {"draw_chain", DESK_DRAW_CHAIN},
 };
 
 static uint8_t number_of(const char *command)
@@ -92,6 +93,7 @@ static size_t ask(const struct question *it, uint8_t *room, size_t length, uint8
     if (!strcmp(command, "settings")) return desk_settings(a.at, a.length, room, length, status);
     if (!strcmp(command, "explain")) return desk_explain(a.at, a.length, room, length, status);
     if (!strcmp(command, "worst")) return desk_worst(a.at, a.length, b.at, b.length, room, length, status);
+    if (!strcmp(command, "worst_chain")) return desk_worst_chain(a.at, a.length, b.at, b.length, room, length, status);
     if (!strcmp(command, "play")) return desk_play(a.at, a.length, room, length, status);
     if (!strcmp(command, "releases")) return desk_releases(a.at, a.length, it->until, room, length, status);
     if (!strcmp(command, "check")) return desk_check(a.at, a.length, b.at, b.length, room, length, status);
@@ -100,6 +102,7 @@ static size_t ask(const struct question *it, uint8_t *room, size_t length, uint8
     if (!strcmp(command, "simulate")) return desk_simulate(a.at, a.length, b.at, b.length, room, length, status);
     if (!strcmp(command, "draw")) return desk_draw(a.at, a.length, b.at, b.length, room, length, status);
     if (!strcmp(command, "draw_beside")) return desk_draw_beside(a.at, a.length, b.at, b.length, room, length, status);
+    if (!strcmp(command, "draw_chain")) return desk_draw_chain(a.at, a.length, b.at, b.length, room, length, status);
     if (!strcmp(command, "observe")) return desk_observe(a.at, a.length, b.at, b.length, room, length, status);
     hold(0, command);
     return 0;
@@ -117,7 +120,7 @@ static void *answered(void *argument)
     uint8_t status = MARK;
     size_t needed = ask(it->question, NULL, 0, &it->status);
     size_t length = needed + SPARE;
-    uint8_t *room = taken(length);
+    uint8_t *room = taken(length), *exact = taken(needed);
     memset(room, MARK, length);
     if (needed > 0) {
         hold(ask(it->question, room, needed - 1, &status) == needed && status == it->status, "the same count and status");
@@ -125,6 +128,9 @@ static void *answered(void *argument)
     }
     hold(ask(it->question, room, length, &status) == needed && status == it->status, "the same count and status again");
     hold(is_marked(room + needed, SPARE), "the rest of the room is left as it was");
+    hold(ask(it->question, exact, needed, &status) == needed && status == it->status, "the same where it just fits");
+    hold(!memcmp(exact, room, needed), "the same text where it just fits");
+    free(exact);
     it->text = (struct bytes){room, needed};
     return NULL;
 }
@@ -161,11 +167,11 @@ static void hold_unknown(uint8_t number)
 
 int main(int count, char **words)
 {
-    hold(count == 3 || count == 4, "usage: library COMMAND FILE [FILE|UNTIL|TASK]");
+    hold(count == 3 || count == 4, "usage: library COMMAND FILE [FILE|UNTIL|TASK|CHAIN]");
     struct question question = {words[1], read_file(words[2]), {NULL, 0}, 0, 0};
     if (!strcmp(words[1], "releases")) {
         question.until = strtoull(words[3], NULL, 10);
-    } else if (count == 4 && !strcmp(words[1], "worst")) {
+    } else if (count == 4 && !strncmp(words[1], "worst", 5)) {
         question.second = (struct bytes){(uint8_t *)strdup(words[3]), strlen(words[3])};
     } else if (count == 4) {
         question.second = read_file(words[3]);
@@ -175,7 +181,7 @@ int main(int count, char **words)
     struct answer told = asked(&question);
     hold(told.status == answer.status, "the same status beside what is told");
     hold_unknown(0);
-    hold_unknown(DESK_DRAW_BESIDE + 1);
+    hold_unknown(DESK_DRAW_CHAIN + 1);
     fwrite(answer.text.at, 1, answer.text.length, stdout);
     fwrite(told.text.at, 1, told.text.length, stderr);
     free(answer.text.at);

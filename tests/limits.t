@@ -426,6 +426,14 @@ Those of the node's document come first, as its own:
   two interrupt 1 cost 300 6300 6300
   two interrupt 1 period 10000 477 477
 
+`explain` counts the same over all documents, the node's first:
+
+  $ desk explain three --task y | grep interrupt
+    interrupt 1 1 jobs 100
+    interrupt 2 1 jobs 400
+    interrupt 3 1 jobs 200
+    interrupt 4 1 jobs 300
+
 One that takes nine tenths of all time is the one change that mends the set; one that takes all of it, where x fills the rest:
 
   $ sed -i 's/cost = 100 }/cost = 900 }/' both/one.toml

@@ -94,8 +94,8 @@ Played, it admits as `admit` does, with the same levels and responses, and refus
   $ desk script examples/shared-lock.toml 2 | desk rush - 2 | head -n 1
   1 team 2 admitted 1
 
-Without a number each team has a draft of its own, in the order of the documents, and what is on the account of the whole
-set's first task stays there. Played, the book has the folder's set:
+Without a number each team has a draft of its own, in the order of the documents, with the interrupts that it says; the first
+task of the set has those of a document without tasks. Played, the book has the folder's set:
 
   $ mkdir node
   $ task() { printf '[[task]]\nname = "%s"\nperiod = %s\ndeadline = %s\ncost = %s\n' $1 $2 $2 $3; }
@@ -116,6 +116,14 @@ set's first task stays there. Played, the book has the folder's set:
   2
   $ desk admit node | sed 's/^\([0-9]* [a-z]*\) /level \1 X /' | sed 1d > wanted
   $ desk script node | desk play - | sed -n 's/^\(level [0-9]* [a-z]*\) [0-9]*/\1 X/p' | cmp - wanted
+  $ mkdir both; cp node/arm.toml node/cam.toml both
+  $ printf '[[interrupt]]\nperiod = 2000\ncost = 20\n' >> both/arm.toml
+  $ printf '[[interrupt]]\nperiod = 1000\ncost = 10\n' >> both/cam.toml
+  $ desk script both | grep irq
+  put 1 b 0 20000 20000 1000 irq=2000:20
+  put 2 a 0 10000 10000 1000 irq=1000:10
+  $ desk admit both | sed 's/^\([0-9]* [a-z]*\) /level \1 X /' | sed 1d > wanted
+  $ desk script both | desk play - | sed -n 's/^\(level [0-9]* [a-z]*\) [0-9]*/\1 X/p' | cmp - wanted
 
 One document is one team's, of an empty set there is none, and more teams than a script has are refused:
 

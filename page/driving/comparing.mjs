@@ -14,6 +14,7 @@ const PARTS = { cost: it => `own cost: ${it[1]} µs`, jitter: it => `jitter: ${i
 // Each bar has the account's numbers, a part for each part of it, and their widths.
 function compare_bars(what, explain, { bars }) {
   const [accounted] = explain.text.split(/\nload \d+\n/);
+  const is_yes = accounted.startsWith('admitted ');
   const blocks = accounted.split(/\n(?! )/).slice(1).filter(it => !it.startsWith('conflict '));
   const drawn = bars.filter(it => it.is_drawn);
   const timed = blocks.filter(it => / \d+ of \d+(\n|$)/.test(it));
@@ -38,11 +39,54 @@ function compare_bars(what, explain, { bars }) {
     expect(bar.places.every(([left], at) => Math.abs(left - (ends[at - 1] ?? 0)) < .02) &&
       Math.abs(ends.at(-1) - 100 * time / scale) < .2,
       `${what}: the parts of ${name} don't touch: ${bar.places}`);
-    equal(bar.is_bad, explain.status === 3, `${what}: red of ${name}`);
+    equal(bar.is_bad, !is_yes, `${what}: red of ${name}`);
   }
-  if (explain.status === 0)
+  if (is_yes)
     equal(bars.map(it => it.name).join(), blocks.map(it => it.split(' ')[1]).reverse().join(),
       `${what}: order of the bars`);
+}
+// Each chain that `explain` says has a row with its bound beside its limit, its parts and their
+// widths, and what `limits` says that is left of it.
+const CHAIN_PARTS = { wait: 'wait for', jitter: 'jitter of', response: 'response of',
+  deadline: 'deadline of' };
+const chain_part = it => `${CHAIN_PARTS[it[0]]} ${it[1]}` +
+  `${it[2] === 'less' ? `, less the cost of ${it[4]}` : ''}`;
+function compare_chains(what, explain, limits, { chains }) {
+  const [, said] = explain.text.startsWith('admitted ') ? explain.text.split(/\nload \d+\n/) : [];
+  const blocks = said ? said.trimEnd().split(/\n(?! )/) : [];
+  equal(chains.filter(it => it.is_drawn).length, blocks.length, `${what}: bars of chains`);
+  for (const block of blocks) {
+    const [head, ...lines] = block.split('\n'), parts = lines.map(it => it.trim().split(' '));
+    const [, name, time, , limit, , least] = head.split(' ');
+    const row = chains.find(it => it.name === name);
+    if (!row) return expect(false, `${what}: no bar of chain ${name}`);
+    const late = Number(time) - Number(limit), whole = limit ?? time;
+    equal(digits(row.told), limit === undefined ? `${time} µs` : `${time} of ${limit} µs` +
+      `${late > 0 ? ` ${late} too long` : ''}${least ? `, at least ${least} in any order` : ''}`,
+      `${what}: chain ${name}`);
+    equal(row.is_bad, late > 0, `${what}: red of chain ${name}`);
+    const of_whole = / \([\d.]+ % of the (limit|bound)\)/g;
+    equal(digits(row.parts.join('|')).replace(of_whole, ''),
+      parts.map(it => `${chain_part(it)}: ${it.at(-1)} µs`).join('|'), `${what}: parts of ${name}`);
+    const scale = Math.max(time, whole);
+    expect(row.widths.every((it, at) => Math.abs(it - 100 * parts[at].at(-1) / scale) < .01) &&
+      (limit === undefined ? row.end === null : Math.abs(row.end - 100 * limit / scale) < .01),
+      `${what}: chain ${name} is ${row.widths} wide, ends at ${row.end}`);
+    const slack = limits.text.match(new RegExp(`^chain ${name} (slack \\d+)$`, 'm'))?.[1] ?? '';
+    equal(digits(row.room), slack, `${what}: slack of chain ${name}`);
+  }
+}
+// What a row of a chain shows that is opened: its parts, and how far numbers may go with it met.
+export function compare_opened(what, name, { answers, chains }) {
+  const { parts, opened } = chains.find(it => it.name === name);
+  const reaches = [...answers.limits.text.matchAll(/^chain (\S+) (\S+) (.+) (\d+) (\d+)$/gm)]
+    .filter(it => it[1] === name).map(([, , task, key, value, furthest]) => `${task}: ` +
+      `${key.replace(/^section (\d+) len$/, 'length of section $1')}|${value}|${furthest}`);
+  const told = parts.map(it =>
+    digits(it).replace(/: (\d+) µs \((.*) of the (limit|bound)\)$/, '|$1|$2'));
+  expect(reaches.length > 0, `${what}: no number may go anywhere with ${name} met`);
+  equal(opened.map(digits).join('\n'), [...told, ...reaches].join('\n'),
+    `${what}: what ${name} shows`);
 }
 // What becomes of each task in the order behind the conflict, and who blocks one that misses.
 const FATES = { misses: it => `misses ${it[3]} µs, needs ${it[5]}`,
@@ -94,13 +138,16 @@ export function compare_set(what, set, seen) {
   const wanted = Object.fromEntries(
     ['admit', 'settings', 'certify', 'limits'].map(it => [it, native(it, [set])]));
   wanted.explain = native('explain', [set], ['--all']);
+  // (a chain that misses its limit is a no, too)
+  const is_yes = wanted.admit.text.startsWith('admitted ');
+  const is_no = wanted.admit.status === 3 && !is_yes;
   if (wanted.certify.status !== 4) wanted.check = native('check', [set, wanted.certify.text]);
-  if (wanted.admit.status === 0) {
+  if (is_yes) {
     wanted.releases = native('releases', [set], [answers.releases.text.split(/\s/)[1]]);
     wanted.simulate = native('simulate', [set, wanted.releases.text]);
     wanted.draw = native('draw', [set, wanted.releases.text]);
   }
-  if (wanted.admit.status === 3) wanted.worst = native('worst', [set]);
+  if (is_no) wanted.worst = native('worst', [set]);
   for (const [name, it] of Object.entries(wanted))
     same(`${what}: ${name}`, answers[name], it, it.text.length < 200000 ? shown[`printed-${name}`] :
       undefined);
@@ -108,11 +155,14 @@ export function compare_set(what, set, seen) {
   kinds[kind] = (kinds[kind] ?? 0) + 1;
   expect(Object.keys(answers).every(it => wanted[it] || ['play', 'judge', 'observe'].includes(it)),
     `${what}: more answers than wanted: ${Object.keys(answers)}`);
-  equal(shown.settings, wanted.settings.status === 0 ? wanted.settings.text : '',
+  equal(shown.settings, is_yes ? wanted.settings.text : '',
     `${what}: settings to copy`);
   equal(seen.trouble, '', `${what}: trouble`);
-  if (wanted.explain.status !== 4) compare_bars(what, wanted.explain, seen);
-  if (wanted.admit.status === 0 && seen.is_tabled)
+  if (wanted.explain.status !== 4) {
+    compare_bars(what, wanted.explain, seen);
+    compare_chains(what, wanted.explain, wanted.limits, seen);
+  }
+  if (is_yes && seen.is_tabled)
     for (const [name, , cost, in_order, most] of wanted.limits.text.split('\n').slice(1)
       .map(it => it.split(' ')).filter(it => it[1] === 'cost')) {
       const deadline =
@@ -126,9 +176,9 @@ export function compare_set(what, set, seen) {
         `cost ${cost} ≤ ${in_order}${most === in_order ? '' : ` (${most})`}`,
         `${what}: how far the cost of ${name} may go`);
     }
-  if (wanted.admit.status === 3) compare_mends(what, wanted.limits.text, seen.mends);
-  if (wanted.explain.status === 3) compare_order(what, wanted.explain, seen.conflict);
-  if (wanted.admit.status === 3)
+  if (is_no) compare_mends(what, wanted.limits.text, seen.mends);
+  if (is_no) compare_order(what, wanted.explain, seen.conflict);
+  if (is_no)
     expect(seen.conflict && seen.verdict ===
       `No order passes: ${wanted.admit.text.trim().split(' ').slice(1).join(', ')}`,
       `${what}: ${seen.verdict}`);

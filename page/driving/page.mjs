@@ -51,6 +51,17 @@ async function looked() {
       .reduce((sum, part) => sum + parseFloat(part.style.width), 0),
       end: parseFloat(it.querySelector('.track > .end')?.style.left),
   }));
+  const chains = [...document.querySelectorAll('#chains > .bar')].map(it => ({
+    name: it.querySelector('.who').textContent, told: it.querySelector('.told').textContent,
+    room: it.querySelector('.room').textContent, is_bad: it.classList.contains('is-bad'),
+    is_drawn: !it.querySelector('.track').hidden,
+    fields: [...it.querySelectorAll('.overhead input')].map(it => it.value),
+    parts: [...it.querySelectorAll('.track > .part')].map(part => part.dataset.tip),
+    widths: [...it.querySelectorAll('.track > .part')].map(part => parseFloat(part.style.width)),
+    end: parseFloat(it.querySelector('.track > .end')?.style.left),
+    opened: [...it.querySelectorAll('.sum tr')].map(row =>
+      [...row.querySelectorAll('td')].map(cell => cell.textContent).join('|')).filter(it => it),
+  }));
   const rows = [...document.querySelectorAll('#table [data-row]')]
     .map(it => Object.fromEntries(
     [...it.querySelectorAll('[data-cell]')].map(cell => [cell.dataset.cell, cell.value])));
@@ -58,7 +69,7 @@ async function looked() {
     [...document.querySelectorAll('[id]')].map(it => [it.id, it.textContent]));
   const slices = [...document.getElementById('picture').shadowRoot.querySelectorAll('.e > title')]
     .map(it => it.textContent);
-  return { answers, bars, rows, shown, slices, verdict: text('verdict'),
+  return { answers, bars, chains, rows, shown, slices, verdict: text('verdict'),
     trouble: text('trouble'), conflict: document.getElementById('conflict').hidden ? '' :
     text('conflict'),
     mends: [...document.querySelectorAll('#mends button')].map(it => it.textContent),

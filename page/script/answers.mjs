@@ -48,17 +48,27 @@ function read_part(line) {
   return { kind, time: Number(words[1]) };
 }
 
+// A line of a chain, with its bound and its limit, or of a part of that bound.
+function read_chain(chains, line) {
+  const words = line.trim().split(' '), [kind, name, bound, , limit, , least] = words;
+  if (!line.startsWith('  '))
+    return chains.push(
+      { name, time: number(bound), limit: number(limit), least: number(least), parts: [] });
+  const less = words[2] === 'less' ? words[4] : null;
+  chains.at(-1)?.parts.push({ kind, by: name, less, time: Number(words.at(-1)) });
+}
+
 // `explain`: the account of each task from the lowest level up, or of each of the minimal conflict;
-// the load; and behind it, of a conflict, what becomes of each task in an order that decides, with
-// the parts of what it needs where it misses its deadline. Chains aren't shown.
+// the load; and behind it the chains, or, of a conflict, what becomes of each task in an order that
+// decides, with the parts of what it needs where it misses its deadline.
 export function read_explain({ text, status }) {
   if (status !== 0 && status !== 3) return null;
-  const found = { accounts: [], conflict: null, load: null, order: [] };
+  const found = { accounts: [], conflict: null, load: null, order: [], chains: [] };
   const [first, ...lines] = lines_of(text), is_admitted = first?.startsWith('admitted ');
   for (const line of lines) {
-    if (is_admitted && found.load !== null) break;
     const words = line.split(' ');
-    if (line.startsWith('  '))
+    if (is_admitted && found.load !== null) read_chain(found.chains, line);
+    else if (line.startsWith('  '))
       (found.load === null ? found.accounts : found.order).at(-1)?.parts.push(read_part(line));
     else if (status === 3 && words[0] === 'conflict' && !found.conflict)
       found.conflict = words.slice(1);
@@ -89,15 +99,28 @@ function read_limit(all) {
     in_order: words.length > end + 3 ? Number(words[end + 2]) : null };
   return { key, section, value, in_order, most, along, held };
 }
+// A line of a chain in `limits`: what its bound leaves of its limit, or a number of a task, its
+// value and the furthest with the chain met.
+function read_reach(chains, [, chain, name, ...words]) {
+  if (!chains.has(chain)) chains.set(chain, { slack: null, reaches: [] });
+  const it = chains.get(chain), [value, furthest] = words.slice(-2).map(number);
+  const is_section = words[0] === 'section', key = is_section ? 'len' : words[0];
+  if (words.length === 1) it.slack = value;
+  else it.reaches.push(
+    { name, key, section: is_section ? Number(words[1]) : null, value, furthest });
+}
 // `limits`: for each task its numbers and how far each may go, for what is no task's in the words
-// of its line; and the factor on all execution. Of a refused set these are changes that mend it.
+// of its line; for each chain with a limit the same with it met; and the factor on all execution.
+// Of a refused set these are changes that mend it.
 export function read_limits({ text, status }) {
   if (status !== 0 && status !== 3) return null;
   const found =
-    { tasks: new Map(), common: [], all: undefined, first: null, is_whole: status === 0 };
+    { tasks: new Map(), common: [], chains: new Map(), all: undefined, first: null,
+    is_whole: status === 0 };
   for (const words of lines_of(text).slice(1).map(it => it.split(' '))) {
     const [name, word] = words;
-    if (name === 'all' && (words.length === 4 || word === '-'))
+    if (name === 'chain' && /^[A-Za-z]/.test(words[2] ?? '')) read_reach(found.chains, words);
+    else if (name === 'all' && (words.length === 4 || word === '-'))
       Object.assign(found, { all: number(words[2]), in_order: number(word), first: words[3] });
     else if (words[2] === 'len') found.common.push(read_common(words)); // (of a lock)
     else if (/^(cost|period|deadline|jitter|section)$/.test(word) && words.length > 4)
@@ -191,9 +214,9 @@ function read_break([kind, name, time, value, ...words]) {
     by: words.includes('by') ? after('by') : null,
     after: words.includes('after') ? words.slice(words.indexOf('after') + 1) : null };
 }
-// `age CHAIN AGE of BOUND`: of a chain, not of a job.
-const read_age = ([kind, name, value, , bound]) => ({ kind, name: `chain ${name}`, time: null,
-  value: Number(value), promised: Number(bound), by: null, after: null });
+// `age CHAIN AGE of MOST`: of a chain, not of a job.
+const read_age = ([kind, name, value, , most]) => ({ kind, name: `chain ${name}`, time: null,
+  value: Number(value), promised: Number(most), by: null, after: null });
 const NO_BREAKS = ['task', 'jobless', 'chain'];
 export function read_observe({ text, status, told }) {
   if (status !== 0 && status !== 3)

@@ -1,5 +1,6 @@
 // A bar for each task: its bound against its deadline, made of the parts that `explain` prints;
-// below it the cost as a grip, with how far `limits` lets it go.
+// below it the cost as a grip, with how far `limits` lets it go. What bars of chains have in common
+// with them.
 import { limit_of } from './answers.mjs';
 import { coloured, element, grouped, plural, us } from './dom.mjs';
 import { arrange_children } from './ordering.mjs';
@@ -7,7 +8,7 @@ import { safely } from './trouble.mjs';
 import { Turns } from './turns.mjs';
 
 const LETTER = 7.4;
-const percent = (time, deadline) => `${(100 * time / deadline).toFixed(1)} %`;
+export const percent = (time, limit) => `${(100 * time / limit).toFixed(1)} %`;
 
 function part_told(part) {
   if (part.kind === 'above')
@@ -28,8 +29,11 @@ const label_of = part => part.kind === 'above' ? part.by :
 function bound_told(account, deadline) {
   if (account?.over) return [`must stand above ${account.over}`];
   if (!account) return [deadline === null ? '' : `deadline ${us(deadline)}`];
-  const late = account.time - deadline;
-  return [element('b', grouped(account.time)), ` of ${us(deadline)}`,
+  return of_limit_told(account.time, deadline);
+}
+export function of_limit_told(time, limit) {
+  const late = time - limit;
+  return [element('b', grouped(time)), ` of ${us(limit)}`,
     late > 0 ? element('span.beyond', ` ${grouped(late)} too long`) : ''];
 }
 const NO_COST = 'no cost of its own would do';
@@ -39,7 +43,7 @@ function reach_told({ in_order, most }, cost) {
   return `up to ${grouped(in_order)} in this order` +
     (most === in_order ? '' : `, ${grouped(most)} in another`);
 }
-function moved_told(before, now) {
+export function moved_told(before, now) {
   const by = now.time - before.time, told = [];
   if (now.level !== before.level)
     told.push(`${now.level > before.level ? '▲' : '▼'} level ${before.level} → ${now.level}`);
@@ -49,6 +53,58 @@ function moved_told(before, now) {
 // A number of a task as it is called.
 export const number_told = ({ key, section }) => section === null ? key :
   `length of section ${section}`;
+
+// A part in a row's track, behind the one before it: what is there already is changed.
+export function piece_of(row, place, { kind, width, text, tip, of }) {
+  const it = row.pieces[place] ??= element('i'), known = [kind, width, text, tip, of].join();
+  if (it.known === known) return it;
+  Object.assign(it, { known, className: `part ${kind}` });
+  it.style.width = `${width}%`;
+  if (it.textContent !== text) it.textContent = text;
+  Object.assign(it.dataset, { tip, of });
+  return coloured(it, of);
+}
+// The pieces of a row's track, up to a time; with the limit, if there is one, and how long it was
+// before.
+export function fill_track(row, pieces, { time, limit, scale, before, label }) {
+  const at = it => `${100 * it / scale}%`;
+  if (limit !== null && time > limit) {
+    row.past ??= element('i.past');
+    Object.assign(row.past.style, { left: at(limit), width: at(time - limit), opacity: .55 });
+    pieces.push(row.past);
+  }
+  if (limit !== null) {
+    row.end ??= element('i.end');
+    row.end.style.left = at(limit);
+    pieces.push(row.end);
+  }
+  if (typeof before === 'number' && before !== time) {
+    row.ghost ??= element('i.before');
+    row.ghost.style.width = at(Math.min(scale, before));
+    pieces.push(row.ghost);
+  }
+  const drawn = row.track.children;
+  if (drawn.length !== pieces.length || pieces.some((it, place) => it !== drawn[place]))
+    row.track.replaceChildren(...pieces);
+  if (row.track.getAttribute('aria-label') !== label) row.track.setAttribute('aria-label', label);
+}
+// A pointer over a part says what it is.
+export function tips(host, tip) {
+  const hover = ({ target, clientX: x, clientY: y }) => {
+    const part = target.closest('[data-tip]');
+    tip(part && { text: part.dataset.tip, of: part.dataset.of ?? '', x, y });
+  };
+  for (const it of ['pointerover', 'pointerdown']) host.addEventListener(it, hover);
+  host.addEventListener('pointerleave', () => tip(null));
+}
+export const faint_percent = (...of) => element('span.faint', percent(...of));
+// A table with a name, its heads, and rows of what stands in them.
+export function told_table(label, heads, rows) {
+  const head = element('tr', ...heads.map(it => element('th', { scope: 'col' }, it)));
+  const body = rows.map(it => element('tr', ...it.map(inside => element('td', inside))));
+  return element('table', { 'aria-label': label }, head, ...body);
+}
+
 const PULL =
   'Pull: the cost of the task (arrows: a hundredth, with shift a tenth; ' +
   'End: as far as this order lets it)';
@@ -57,11 +113,9 @@ export class Bars {
   // `grow` sets a task's cost, `point` shows a section in the table, `tip` says what a pointer is
   // on, `run` shows a task's worst case.
   constructor(host, { grow, point, tip, run }) {
-    Object.assign(this, { host, grow, point, tip, run });
+    Object.assign(this, { host, grow, point, run });
     Object.assign(this, { rows: new Map(), pulled: null, pulls: 0, given: null });
-    for (const it of ['pointerover', 'pointerdown'])
-      host.addEventListener(it, event => this.hover(event));
-    host.addEventListener('pointerleave', () => this.tip(null));
+    tips(host, tip);
     this.width = host.clientWidth;
     this.turns = new Turns(safely(it => this.show_row(it)), safely(() => this.order(this.names)));
     new ResizeObserver(([{ contentRect }]) => {
@@ -69,13 +123,6 @@ export class Bars {
       this.width = contentRect.width;
       if (this.given) this.show(this.given);
     }).observe(host);
-  }
-
-  hover(event) {
-    const part = event.target.closest('[data-tip]');
-    this.tip(
-      part && { text: part.dataset.tip, of: part.dataset.of ?? '', x: event.clientX,
-      y: event.clientY });
   }
 
   // What stands for a task that no line of `explain` accounts for: others than those of a conflict.
@@ -199,17 +246,6 @@ export class Bars {
   draw_sum(row) {
     row.sum.replaceChildren(...row.sum.hidden ? [] : row.open());
   }
-  // A part in a row's track, behind the one before it: what is there already is changed.
-  piece(row, place, { kind, width, text, tip, of }) {
-    const it = row.pieces[place] ??= element('i'), known = [kind, width, text, tip, of].join();
-    if (it.known === known) return it;
-    Object.assign(it, { known, className: `part ${kind}` });
-    it.style.width = `${width}%`;
-    if (it.textContent !== text) it.textContent = text;
-    Object.assign(it.dataset, { tip, of });
-    return coloured(it, of);
-  }
-
   draw_track(row, name, account, deadline, before, scale) {
     row.track.hidden = !account || account.time === undefined;
     if (row.track.hidden) return;
@@ -218,28 +254,11 @@ export class Bars {
       const told = label_of(part), of = part.by ?? name;
       const tip = `${part_told(part)} (${percent(part.time, deadline)} of the deadline)`;
       const text = told.length * LETTER < part.time * wide - 4 ? told : '';
-      return this.piece(row, place, { kind: part.kind, width: at(part.time), text, tip, of });
+      return piece_of(row, place, { kind: part.kind, width: at(part.time), text, tip, of });
     });
-    if (account.time > deadline) {
-      row.past ??= element('i.past');
-      Object.assign(row.past.style,
-        { left: `${at(deadline)}%`, width: `${at(account.time - deadline)}%`, opacity: .55 });
-      pieces.push(row.past);
-    }
-    row.end ??= element('i.end');
-    row.end.style.left = `${at(deadline)}%`;
-    pieces.push(row.end);
-    if (before?.time !== undefined && before.time !== account.time) {
-      row.ghost ??= element('i.before');
-      row.ghost.style.width = `${Math.min(100, at(before.time))}%`;
-      pieces.push(row.ghost);
-    }
-    const drawn = row.track.children;
-    if (drawn.length !== pieces.length || pieces.some((it, place) => it !== drawn[place]))
-      row.track.replaceChildren(...pieces);
     const told = account.parts.map(part_told).join('; ');
-    const label = `${name}: ${account.time} of ${deadline} microseconds: ${told}`;
-    if (row.track.getAttribute('aria-label') !== label) row.track.setAttribute('aria-label', label);
+    fill_track(row, pieces, { time: account.time, limit: deadline, scale, before: before?.time,
+      label: `${name}: ${account.time} of ${deadline} microseconds: ${told}` });
   }
 
   draw_growth(row, growth, can_edit, is_accounted) {
@@ -275,12 +294,9 @@ export class Bars {
     if (account?.over)
       return element('p.faint', `It misses nothing itself: it must stand above ${account.over}.`);
     if (!account) return element('p.faint', 'The conflict does not need this task.');
-    const head = element('tr',
-      ...['part', 'µs', 'of the deadline'].map(it => element('th', { scope: 'col' }, it)));
-    const cells = it => [element('td', this.part_named(it)), element('td', grouped(it.time)),
-      element('td.faint', percent(it.time, deadline))];
-    const rows = account.parts.map(it => element('tr', ...cells(it)));
-    return element('table', { 'aria-label': `parts of the bound of ${name}` }, head, ...rows);
+    return told_table(`parts of the bound of ${name}`, ['part', 'µs', 'of the deadline'],
+      account.parts.map(it =>
+        [this.part_named(it), grouped(it.time), faint_percent(it.time, deadline)]));
   }
   // How far each number of the task may go.
   reaches(name, limits) {

@@ -40,7 +40,7 @@ const BROKEN = {
     us(it.promised),
   foreign: it => `waits ${us(it.value)} for ${it.by}, which the set doesn't have`,
   idle: it => `waits ${us(it.value)} while nobody executes`,
-  age: it => `acts on what is ${us(it.value)} old, and its bound is ${us(it.promised)}`,
+  age: it => `acts on what is ${us(it.value)} old, and may on ${us(it.promised)} at most`,
   steady: it => `arrives ${us(it.value)} after the one before, and for its chain at most ` +
     `${us(it.promised)} after it`,
 };

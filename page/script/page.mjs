@@ -2,6 +2,7 @@
 import { fill_part, typed_in_area } from './area.mjs';
 import { ask, ask_node, ask_script, ask_trace, lanes, open_lanes } from './asking.mjs';
 import { Bars } from './bars.mjs';
+import { Chains } from './chains.mjs';
 import {
   heard_of_baseline, heard_of_changes, pin_baseline, save_baseline, set_baseline, unpin_baseline,
 } from './baseline.mjs';
@@ -39,6 +40,7 @@ parts.bars = new Bars(at('bars'), { grow: safely(grow), point, tip: safely(tip),
     choose_run(name);
     at('run-of').focus();
   }) });
+parts.chains = new Chains(at('chains'), edit, safely(tip));
 parts.scale = new Scale(at('scale'), {
   execution: () => execution_of(state.document),
   apply: (base, permille) => edit(scaled(state.document, base, permille), 'scale'),
@@ -143,6 +145,7 @@ on('share', 'click', async () => {
   await copy(location.href, `a link of ${grouped(location.href.length)} letters`);
 });
 on('add', 'click', () => parts.table.add());
+on('add-chain', 'click', () => parts.chains.added());
 on('sorted', 'change', () => parts.table.sort(at('sorted').value));
 on('by-deadline', 'click', prefer_deadlines);
 on('pin', 'click', pin_baseline);

@@ -8,7 +8,7 @@ import { offer } from './files.mjs';
 import { fates, judgement } from './judging.mjs';
 import { lanes } from './asking.mjs';
 import { lead, line_named } from './leading.mjs';
-import { cell_refused, node_refused, span_refused } from './refusals.mjs';
+import { cell_refused, chain_refused, node_refused, span_refused } from './refusals.mjs';
 import { show_lines, show_printed, unprint } from './printing.mjs';
 import {
   is_of_one, settle_run, show_choices, show_late_run, show_picture, undrawn,
@@ -73,8 +73,11 @@ export function show_verdict(admit) {
   state.is_stale = admit.kind === 'refused';
   const wrong = admit.refusal ? cell_refused(admit.refusal) : null;
   const of_node = admit.refusal ? node_refused(admit.refusal) : null;
-  lead('set', admit.refusal ? span_refused(admit.sentence, wrong, of_node, state.document) : null);
+  const of_chain = admit.refusal ? chain_refused(admit.refusal, state.document) : null;
+  lead('set', admit.refusal ?
+    span_refused(admit.sentence, wrong, of_node ?? of_chain, state.document) : null);
   parts.overhead.mark(of_node);
+  parts.chains.mark(of_chain);
   parts.table.show(
     state.document, { wrong, bad: admit.kind === 'infeasible' ? admit.names : [] });
   at('answer').classList.toggle('is-stale', state.is_stale);
@@ -136,15 +139,18 @@ export function show_facts() {
     at('facts').replaceChildren(...facts);
 }
 export function draw_bars() {
-  if (!state.explained) return;
   const { tasks, why } = state.document;
+  const { explained, limits, baseline: was } = state;
+  parts.chains.show(state.document, { explained, limits, was });
+  at('chain-legend').hidden = !at('chains').childNodes.length;
+  if (!explained) return;
   parts.bars.show({
-    explained: state.explained, limits: state.limits, was: state.baseline, can_edit: why === null,
+    explained, limits, was, can_edit: why === null,
     deadlines: new Map(why === null ?
       tasks.map(it => [name_of(it), number_in(it, 'deadline')]) : []),
     costs: why === null ? parts.table.costs() : new Map(),
   });
-  parts.scale.show(state.limits?.all, why === null && tasks.length > 0);
+  parts.scale.show(limits?.all, why === null && tasks.length > 0);
   show_difference();
 }
 function show_settings(text) {
@@ -182,7 +188,7 @@ export function show_document() {
   at('untabled').hidden = why === null;
   const only = 'so only the text is edited; the desk answers to it all the same.';
   if (why !== null) write(at('untabled'), `The table doesn't follow this text (${why}), ${only}`);
-  at('add').disabled = why !== null;
+  at('add').disabled = at('add-chain').disabled = why !== null;
   at('by-deadline').disabled = why !== null;
   const is_so = string_in(root, 'prefer') === 'deadline';
   at('by-deadline').setAttribute('aria-pressed', is_so);

@@ -14,6 +14,8 @@ import make_traces
 import picture
 import rushes
 import sets
+import ways
+from chains import Chain
 from refusals import Refused
 
 # how often each command is asked
@@ -56,7 +58,7 @@ SECOND_INPUTS = {
 
 
 # commands whose answers speak of chains
-OF_CHAINS = ("admit", "explain", "judge", "settings", "diff", "simulate", "observe")
+OF_CHAINS = ("admit", "certify", "check", "explain", "limits", "judge", "settings", "diff", "simulate", "draw", "observe")
 
 
 def of_set(rng, subject):
@@ -71,10 +73,11 @@ def of_set(rng, subject):
     is_by_chains = (prefer or own) == "chains"
     chains = make_sets.chains(rng, tasks) if rng.random() < (0.7 if is_by_chains else 0.5 if subject in OF_CHAINS else 0.1) else []
     if is_by_chains:
-        tasks = sets.by_chains(tasks, [chain["tasks"] for chain in chains])
+        tasks = sets.by_chains(tasks, [chain["tasks"] for chain in chains if chain.get("writes") != "deadline"])
     inputs = [set_input(rng, sheets, 0.08 if subject in SECOND_INPUTS else 0.3, own, node, interrupts, chains)]
     if subject in SECOND_INPUTS:
-        inputs.append(SECOND_INPUTS[subject](rng, tasks))
+        more = [[Chain(table["name"], tuple(table["tasks"]), None, table.get("writes", "finish")) for table in chains]] if subject == "check" else []
+        inputs.append(SECOND_INPUTS[subject](rng, tasks, *more))
     if subject == "diff":
         nodes = [node, node, None, {**(node or {}), "job": 40, "release": rng.choice([20, 40])}]
         others = [interrupts, interrupts, interrupts[1:], make_sets.interrupts(rng)]
@@ -85,6 +88,8 @@ def of_set(rng, subject):
     options += [("strict", None)] * (rng.random() < 0.15)
     if subject in ("explain", "limits", "worst") and rng.random() < 0.3:
         options.append(("task", rng.choice([*(sheet.name for sheet in sheets), "none", "0", ""])))
+    if subject == "worst" and rng.random() < (0.7 if chains else 0.05):
+        options.append(("chain", rng.choice([chain["name"] for chain in chains] * 3 + ["none", "0", ""])))
     if subject == "explain" and rng.random() < 0.4:
         options.append(("all", None))
     if subject in ("admit", "explain", "judge") and rng.random() < 0.3:
@@ -98,6 +103,8 @@ def of_set(rng, subject):
         options.append(("tasks", None))
     if subject == "draw":
         options += view_of(rng, sheets)
+        if rng.random() < (0.7 if chains else 0.1):
+            options.append(("chain", rng.choice([*[it["name"] for it in chains if isinstance(it.get("name"), str)] * 4, "none", "a b"])))
     if subject == "draw" and rng.random() < 0.4:
         changed = make_sets.changed(rng, sheets) if rng.random() < 0.8 else sheets
         inputs.append(set_input(rng, changed, 0.1, rng.choice([own, own, None]), node, interrupts))
@@ -283,9 +290,13 @@ def fault_of(case, stdout, stderr, status):
         return None if printed else "no help"
     if wanted.text is commands.DRAWN:
         tasks, said, *new = inputs_of(case)
-        view = picture.View(**commands.keywords(calls.call_of(case.words, commands.COMMANDS)))
+        words = commands.keywords(calls.call_of(case.words, commands.COMMANDS))
+        chain = words.pop("chain", None)
+        view = picture.View(**words)
         if new:
             return beside.fault(stdout, view, tasks, new[0].read(), *said)
+        if chain is not None:
+            return ways.fault(stdout, view, tasks, *said, chain)
         return picture.fault(stdout, view, tasks, *said)
     return None if printed == wanted.text else "other bytes"
 

@@ -10,14 +10,22 @@ def lines_of(tasks, order, responses, tell_parts=False, is_best=False):
     for chain in tasks.chains:
         found = parts_in(tasks, order, responses, chain)
         bound = bound_in(tasks, order, responses, chain)
-        is_met = chain.limit is None or (bound is not None and bound <= chain.limit)
-        limit = [] if chain.limit is None else ["of" if is_met else "misses", chain.limit]
-        limit += ["least", least_bound(tasks, indexes_of(tasks, chain))] if is_best and not is_met else []
-        text.append(" ".join(map(str, ["chain", chain.name, "-" if bound is None else bound, *limit])) + "\n")
+        is_met = meets(chain, bound)
+        text.append(line_of(chain, bound, least_bound(tasks, chain) if is_best and not is_met else None))
         if tell_parts:
             text += [f"  {words} {time}\n" for words, time in found or [] if time]
         all_met = all_met and is_met
     return "".join(text), all_met
+
+
+def meets(chain, bound):
+    return chain.limit is None or (bound is not None and bound <= chain.limit)
+
+
+def line_of(chain, bound, least=None):
+    limit = [] if chain.limit is None else ["of" if meets(chain, bound) else "misses", chain.limit]
+    limit += [] if least is None else ["least", least]
+    return " ".join(map(str, ["chain", chain.name, "-" if bound is None else bound, *limit])) + "\n"
 
 
 def indexes_of(tasks, chain):
@@ -30,7 +38,7 @@ def parts_in(tasks, order, responses, chain):
     indexes = indexes_of(tasks, chain)
     if any(responses[i] is None for i in indexes):
         return None
-    return parts(tasks, order, responses, indexes)
+    return parts(tasks, order, responses, indexes, chain.writes)
 
 
 def bound_in(tasks, order, responses, chain):
@@ -39,14 +47,28 @@ def bound_in(tasks, order, responses, chain):
     return None if found is None else sum(time for _, time in found)
 
 
-def parts(tasks, order, responses, indexes):
+def bound_of(tasks, order, chain):
+    """What they come to in an order in which each task has a response."""
+    levels = analysis.levels_of(order)
+    return bound_in(tasks, order, {i: analysis.response_of(tasks, i, above) for _, i, above in levels}, chain)
+
+
+def is_met(tasks, order, chain):
+    """Whether an order passes, and the bound in it is within the chain's limit."""
+    return analysis.is_passing_order(tasks, order) and bound_of(tasks, order, chain) <= chain.limit
+
+
+def parts(tasks, order, responses, indexes, writes):
     """What a chain's bound is the sum of, as words and a time: before each task the wait for its next job, behind each but the
-    last what is handed over to the next, and at last the response."""
+    last what is handed over to the next, and at last the response; where the tasks write at their deadlines, behind each its
+    own."""
     found = []
     for i, c in zip(indexes, [*indexes[1:], None]):
         name = tasks[i].name
         found.append((f"wait {name}", tasks[i].period))
-        if c is None:
+        if writes == "deadline":
+            found.append((f"deadline {name}", tasks[i].deadline))
+        elif c is None:
             found.append((f"response {name}", responses[i]))
         elif order.index(c) < order.index(i):
             found.append((f"jitter {name}", tasks[i].jitter))
@@ -64,8 +86,11 @@ def above_at_least(tasks, i):
     return left - {i}
 
 
-def least_bound(tasks, indexes):
+def least_bound(tasks, chain):
     """How small the bound could be in any order that passes: the least part of each task, by whom such an order needs above."""
+    indexes = indexes_of(tasks, chain)
+    if chain.writes == "deadline":
+        return sum(tasks[i].period + tasks[i].deadline for i in indexes)
     found = 0
     for i, c in zip(indexes, [*indexes[1:], None]):
         above = above_at_least(tasks, i)

@@ -12,23 +12,31 @@ def lines_of(tasks, order, responses, slices, jobs, until):
 
 
 def line_of(tasks, order, responses, chain, starts, jobs, until):
-    finished = [[job for job in jobs if job.task.name == name and job.finish is not None] for name in chain.tasks]
-    outputs = sorted((job.finish, sample_of(finished, starts, job)) for job in finished[-1])
+    written = [writes_of(chain, name, starts, jobs) for name in chain.tasks]
+    outputs = [(time, sample_of(written[:-1], read)) for time, read in written[-1] if time <= until]
     samples = [(finish, sample) for finish, sample in outputs if sample is not None]
     bound = chain_bounds.bound_in(tasks, order, responses, chain)
     words = ["chain", chain.name, len(samples), "age", age(outputs, until), "reaction", reaction(samples), "bound", bound]
     return " ".join("-" if word is None else str(word) for word in words) + "\n"
 
 
-def sample_of(finished, starts, job):
-    """The start of the first job of an output's path, where it has one: back from each job to the newest that was finished when
-    it started."""
-    for jobs in reversed(finished[:-1]):
-        done = [other for other in jobs if other.finish <= starts[job]]
+def writes_of(chain, name, starts, jobs):
+    """When the jobs of a task write, each with when it read: at its finish and its start, or at its deadline and its arrival."""
+    own = [job for job in jobs if job.task.name == name]
+    if chain.writes == "deadline":
+        return sorted((job.release.arrival + job.task.deadline, job.release.arrival) for job in own)
+    return sorted((job.finish, starts[job]) for job in own if job.finish is not None)
+
+
+def sample_of(written, read):
+    """When the first job of an output's path read, where it has one: back from each job to the newest that was written when it
+    read."""
+    for writes in reversed(written):
+        done = [other for other in writes if other[0] <= read]
         if not done:
             return None
-        job = max(done, key=lambda other: other.finish)
-    return starts[job]
+        _, read = max(done)
+    return read
 
 
 def age(outputs, until):

@@ -5,21 +5,22 @@ import chain_runs
 
 
 def lines_of(tasks, order, responses, owned, jobs, seen, end, tolerance):
-    """A line for each chain, and of one whose greatest age is past its bound another; then one for each job of their tasks that
+    """A line for each chain, and of one that gets too old another; then one for each job of their tasks that
     isn't steady. Whether there are any but the first is said, too."""
     starts = {}
     for part, owner in owned:
         starts.setdefault(owner, part.start)
     lines, broken = [], []
     for chain in tasks.chains:
-        outputs = outputs_of(chain, jobs, starts)
+        outputs = outputs_of(chain, jobs, starts) if chain.writes == "finish" else deadline_outputs(tasks, chain, jobs, end)
         samples = [(finish, sample) for finish, sample in outputs if sample is not None]
         age = chain_runs.age(outputs, end)
         bound = chain_bounds.bound_in(tasks, order, responses, chain)
         words = ["chain", chain.name, len(samples), "age", age, "reaction", chain_runs.reaction(samples), "bound", bound]
         lines.append(" ".join("-" if word is None else str(word) for word in words))
-        if age is not None and bound is not None and age - bound > tolerance:
-            broken.append(f"age {chain.name} {age} of {bound}")
+        most = bound if bound is None or chain.writes == "finish" else bound + sum(late_of(name, seen) for name in chain.tasks)
+        if age is not None and most is not None and age - most > tolerance:
+            broken.append(f"age {chain.name} {age} of {most}")
             lines.append(broken[-1])
     linked = {name for chain in tasks.chains for name in chain.tasks}
     for one in seen:
@@ -30,15 +31,31 @@ def lines_of(tasks, order, responses, owned, jobs, seen, end, tolerance):
     return lines, bool(broken)
 
 
+def late_of(name, seen):
+    """How late the jobs of a task may be seen to arrive: by its jitter, where one doesn't say when it was ready."""
+    return max((one.task.jitter for one in seen if one.job.name == name and one.job.ready is None), default=0)
+
+
 def outputs_of(chain, jobs, starts):
     """When each output comes, and its sample, if it has one."""
-    written = [done(name, jobs, starts) for name in chain.tasks]
+    return back([done(name, jobs, starts) for name in chain.tasks])
+
+
+def back(written):
+    """Of what the jobs of a chain's tasks write, when, each with when it read: that of the last one, each with its sample."""
     found = []
     for finish, start in written[-1]:
         for before in reversed(written[:-1]):
             start = max((it for it in before if it[0] <= start), default=(0, None))[1] if start is not None else None
         found.append((finish, start))
     return found
+
+
+def deadline_outputs(tasks, chain, jobs, end):
+    """The same where tasks write at their deadlines: each job reads as it arrives."""
+    deadlines = {task.name: task.deadline for task in tasks}
+    written = [sorted((job.arrival + deadlines[name], job.arrival) for job in jobs if job.name == name) for name in chain.tasks]
+    return [(finish, sample) for finish, sample in back(written) if finish <= end]
 
 
 def done(name, jobs, starts):

@@ -12,7 +12,9 @@ KINDS = {
     "tasks": lambda value: are(value, str),
     "age": is_number,
     "reaction": is_number,
+    "writes": lambda value: isinstance(value, str),
 }
+WRITES = ("finish", "deadline")
 NEEDED, LIMITS = ("name", "tasks"), ("age", "reaction")
 CHAINS_MOST, TASKS_MOST, LIMIT_MOST = 16, 8, 1_000_000_000
 
@@ -21,6 +23,7 @@ class Chain(NamedTuple):
     name: str
     tasks: tuple  # names, the first one first
     limit: Optional[int]
+    writes: str  # when its tasks do
 
 
 def read_chain(table, place):
@@ -43,7 +46,10 @@ def read_chain(table, place):
     for key in LIMITS:
         if key in table and not 1 <= table[key] <= LIMIT_MOST:
             raise Refused(4, "BadLimit", place, key)
-    return Chain(table["name"], tasks, min((table[key] for key in LIMITS if key in table), default=None))
+    writes = table.get("writes", WRITES[0])
+    if writes not in WRITES:
+        raise Refused(4, "BadWrites", place)
+    return Chain(table["name"], tasks, min((table[key] for key in LIMITS if key in table), default=None), writes)
 
 
 def document_chains(tree):

@@ -69,7 +69,7 @@ def with_chains(answer, tasks, order, responses, tell_parts=False, is_best=False
 
 
 def certify(tasks):
-    return certificate.certify(tasks), 0 if analysis.is_feasible(tasks) else INFEASIBLE
+    return certificate.certify(tasks, tasks.chains), 0 if analysis.is_feasible(tasks) else INFEASIBLE
 
 
 def check(tasks, said):
@@ -79,6 +79,11 @@ def check(tasks, said):
 def no_such_task(word):
     """The refusal where a word names no task."""
     return Refused(4, "NoSuchTask", *[word] * is_name(word))
+
+
+def no_such_chain(word):
+    """The refusal where a word names no chain."""
+    return Refused(4, "NoSuchChain", *[word] * is_name(word))
 
 
 def of_task(command):
@@ -228,6 +233,29 @@ def parts(tasks, i, above, window):
     return [f"  {line}\n" for line in said]
 
 
+def chain_named(tasks, word):
+    """The chain that a word names."""
+    for chain in tasks.chains:
+        if chain.name == word:
+            return chain
+    raise Refused(4, "NoSuchChain", *[word] * is_name(word))
+
+
+def worst_of(tasks, task=None, chain=None):
+    """The run of a chain where one is named, else the worst case of a task."""
+    if chain is not None:
+        return worst.of_chain(tasks, chain_named(tasks, chain))
+    return of_task(worst.worst)(tasks, task=task)
+
+
+def worst_at(tasks, rows, task=None, chain=None):
+    """The same in an order that is given."""
+    if chain is not None:
+        order = settings.node_order(tasks, rows)
+        return worst.of_chain_at(tasks, order, chain_named(tasks, chain))
+    return at_settings(worst.worst_at)(tasks, rows, task=task)
+
+
 @of_task
 def limits_of(tasks, task):
     order = analysis.best_order(tasks)
@@ -287,7 +315,28 @@ def limits_in(tasks, order, task):
         in_this = lambda other, permille: limits.is_passing_at(other, order, permille)
         own = None if order is None else limits.factor(tasks, in_this)
         text.append(f"all {or_dash(own)} {or_dash(greatest)}{fails}\n")
-    return "".join(text)
+    return "".join(text + (limits_with_chains(tasks, order, task) if is_passing else []))
+
+
+def limits_with_chains(tasks, order, task):
+    """What each chain's bound leaves of its limit in an order that passes, and how far the numbers of a task may go, or of all,
+    with the chain met, where that is less than the order lets them."""
+    text = []
+    for chain in tasks.chains:
+        if chain.limit is None:
+            continue
+        slack = chain.limit - chain_bounds.bound_of(tasks, order, chain)
+        if task is None and slack >= 0:
+            text.append(f"chain {chain.name} slack {slack}\n")
+        for i, sheet in enumerate(tasks):
+            for number in limits.growing_of(sheet) if task in (None, i) else ():
+                most = limits.furthest(tasks, i, number, lambda other: chain_bounds.is_met(other, order, chain))
+                in_order = limits.furthest(tasks, i, number, lambda other: analysis.is_passing_order(other, order))
+                own = own_of(sheet, number, most)
+                if own is not None and most != in_order:
+                    value = own_of(sheet, number, number.value(sheet))
+                    text.append(f"chain {chain.name} {sheet.name} {number.words()} {value} {own}\n")
+    return text
 
 
 def along_with(sheet, number, values):
@@ -328,18 +377,24 @@ def read_change(data, preference):
         raise refusal.behind("new") from None
 
 
+def met_status(tasks, order):
+    """The status of an order that passes, by the limits of chains."""
+    return 0 if chain_bounds.lines_of(tasks, order, bounds_of(tasks, order))[1] else INFEASIBLE
+
+
 def settings_of(tasks, base=1, room=0):
     order = analysis.best_order(tasks)
     if order is None:
         return admitted(tasks, None), INFEASIBLE
-    all_met = chain_bounds.lines_of(tasks, order, bounds_of(tasks, order))[1]
-    return settings.settings(tasks, order, base, room), 0 if all_met else INFEASIBLE
+    return settings.settings(tasks, order, base, room), met_status(tasks, order)
 
 
 def keep(tasks, rows, base=1, room=0):
     kept = settings.kept_order(tasks, rows)
     old = {name: number for _, name, number in settings.of_kind(rows, "thread")}
-    return settings.keep(tasks, kept, old, base, room)
+    order = settings.best_keeping(tasks, kept)
+    said, status = settings.keep(tasks, kept, old, base, room)
+    return said, status if order is None else met_status(tasks, order)
 
 
 def judge(tasks, rows, lower_is_higher=False):
@@ -387,8 +442,18 @@ def script(tasks, team=None):
     teams_of = list(dict.fromkeys(tasks.owners.values())) or [None] * bool(tasks)
     if len(teams_of) > scripts.TEAMS:
         raise Refused(4, "TooManyTeams")
-    parts = [[task for task in tasks if tasks.owners.get(task.name) == it] for it in teams_of]
+    parts = [[task for task in accounted(tasks) if tasks.owners.get(task.name) == it] for it in teams_of]
     return "".join(draft(number, number, part) for number, part in enumerate(parts, 1)), 0
+
+
+def accounted(tasks):
+    """The tasks, each with the interrupts that its team says, if it is the first of it; the first of all with those of a document
+    without tasks, too."""
+    said, own = (tasks[0].interrupts if tasks else ()), [[] for _ in tasks]
+    for interrupt, (team, _) in zip(said, tasks.sources):
+        place = next((k for k, task in enumerate(tasks) if team is not None and tasks.owners.get(task.name) == team), 0)
+        own[place].append(interrupt)
+    return [task._replace(interrupts=tuple(it)) for task, it in zip(tasks, own)]
 
 
 def draft(number, team, tasks):
@@ -412,20 +477,23 @@ def observe(tasks, said, tolerance=0, is_jobless=False):
     return observed.observe(tasks, order, numbers, *trace, tolerance, is_jobless)
 
 
-def draw(tasks, said, **options):
-    """Refusals as those of `simulate`, then those of a view; what a picture has to show is another module's."""
+def draw(tasks, said, chain=None, **options):
+    """Refusals as those of `simulate`, then those of a view, then that of a chain; what a picture has to show is another
+    module's."""
     text, status = simulate(tasks, said)
     view = picture.View(**options)
+    is_known = chain is None or any(it.name == chain for it in tasks.chains)
     names = {task.name for task in tasks}
     for word in view.named():
         if word not in names:
             raise no_such_task(word)
-    if status != 0:
-        return text, status
-    start, stop = view.window(picture.cut(tasks, *said)[0])
-    if start >= stop:
-        raise Refused(4, "EmptyWindow")
-    return DRAWN, 0
+    if status == 0:
+        start, stop = view.window(picture.cut(tasks, *said)[0])
+        if start >= stop:
+            raise Refused(4, "EmptyWindow")
+    if not is_known:
+        raise no_such_chain(chain)
+    return (text, status) if status != 0 else (DRAWN, 0)
 
 
 class NewSet:
@@ -509,9 +577,9 @@ def on_set(run, *readers, number=(), options=PREFERS, by_file=(), may_lack=False
 
 
 KEEP = on_set(keep, settings.read_settings)
-WORST_AT, LIMITS_AT = [
-    on_set(at_settings(command), settings.read_settings, options=OF_TASK) for command in (worst.worst_at, limits_at)
-]
+OF_CHAIN = {**OF_TASK, "chain": calls.any_word}
+WORST_AT = on_set(worst_at, settings.read_settings, options=OF_CHAIN)
+LIMITS_AT = on_set(at_settings(limits_at), settings.read_settings, options=OF_TASK)
 OF_ALL = {**OF_TASK, "all": calls.FLAG}
 OF_ALL |= SORT
 EXPLAIN_AT = on_set(by_slack(explain_at), settings.read_settings, options=OF_ALL)
@@ -519,7 +587,8 @@ AT = {**OF_TASK, "at": calls.any_word}
 TIME = calls.number_within(0, kernel.HORIZON)
 VIEW = {"from": TIME, "to": TIME, "width": calls.number_within(960, 16_000), "print": calls.number_within(3, 4), "title": calls.any_word, "tasks": calls.any_word}
 
-BESIDE = on_set(draw_beside, kernel.read_releases, NewSet, options={**PREFERS, **VIEW})
+WITH_CHAIN = {**PREFERS, **VIEW, "chain": calls.any_word}
+BESIDE = on_set(draw_beside, kernel.read_releases, NewSet, options=WITH_CHAIN)
 LEEWAY = {"tolerance": calls.number_within(0, observed.TOLERANCE_MOST), "jobless": calls.FLAG}
 
 
@@ -534,8 +603,8 @@ COMMANDS = {
     "diff": on_set(diff, read_change),
     "simulate": on_set(simulate, kernel.read_releases, options={**PREFERS, "tasks": calls.FLAG}),
     "releases": on_set(releases, number=(0, kernel.HORIZON), options={**PREFERS, "seed": calls.number_within(0, 2**32 - 1)}),
-    "worst": on_set(of_task(worst.worst), options=AT, by_file=("at", WORST_AT)),
-    "draw": on_set(draw, kernel.read_releases, options={**PREFERS, **VIEW, "beside": calls.any_word}, by_file=("beside", BESIDE)),
+    "worst": on_set(worst_of, options={**AT, **OF_CHAIN}, by_file=("at", WORST_AT)),
+    "draw": on_set(draw, kernel.read_releases, options={**WITH_CHAIN, "beside": calls.any_word}, by_file=("beside", BESIDE)),
     "observe": on_set(observe, observed.read_trace, options={**PREFERS, **LEEWAY}),
     "script": on_set(script, number=(1, scripts.TEAMS), may_lack=True),
     "play": calls.Command(play, (scripts.read_script,)),
@@ -625,10 +694,10 @@ def notes_of(call, tasks, others, text, status):
     """What is noted of the answer itself."""
     command = next((name for name in COMMANDS if COMMANDS[name] is call.command), "keep" if call.command is KEEP else "")
     if command == "keep":
-        return strange_threads(tasks, others[0]) + parted(text)
+        return strange_threads(tasks, others[0]) + parted(text) + chain_missed(text, status)
     if command in OF_THE_ORDER:
         if status != INFEASIBLE or text.startswith(("admitted ", "thread ")):
-            return names_decide(call, tasks)
+            return names_decide(call, tasks) + chain_missed(text, status)
         return conflict(tasks) if command in ("admit", "settings") else []
     if command in ("simulate", "draw"):
         if status == INFEASIBLE:
@@ -642,6 +711,12 @@ def notes_of(call, tasks, others, text, status):
         has_own = bool(others[0][0]) or not seen
         return ([] if has_own else names_decide(call, tasks)) + ["the trace has no job of " + ", ".join(unseen)] * bool(unseen)
     return []
+
+
+def chain_missed(text, status):
+    """Beside settings of an order in which a chain misses its limit."""
+    is_missed = status == INFEASIBLE and text.startswith("thread ")
+    return ["in this order a chain misses its limit: desk judge says which"] * is_missed
 
 
 def notes_of_both(tasks, said, new, status):
@@ -718,6 +793,11 @@ def parted(text):
     return [f"with {high} above {low}, and those below as they are, no order passes: without the line of one it may move"]
 
 
+def chain_beside(text):
+    """A picture of two runs has no way along a chain: the list is refused unread."""
+    raise Refused(4, "ChainBeside")
+
+
 def read_inputs(call, files, stdin):
     """All are opened, then all are read, then all are parsed."""
     data = [stdin if path == "-" else teams.text_of(path, files) for path in call.paths]
@@ -730,4 +810,6 @@ def read_inputs(call, files, stdin):
         raise Refused(4, "InputTooLong")
     read = {NewSet: lambda text: NewSet(call, text)}
     read |= {reader: lambda text, reader=reader: strictly(call, reader, reader(text, preference)) for reader in OF_A_PREFERENCE}
+    if call.command is BESIDE and "chain" in call.options:
+        read[kernel.read_releases] = chain_beside
     return [read.get(reader, reader)(text) for reader, text in zip(call.command.readers, data)]

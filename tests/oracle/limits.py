@@ -91,6 +91,11 @@ def numbers_of(task):
     return [Number("cost"), Number("period"), Number("deadline"), Number("jitter"), *lengths]
 
 
+def growing_of(task):
+    """Those of which more asks more at the same period and deadline."""
+    return [number for number in numbers_of(task) if number.kind not in ("period", "deadline")]
+
+
 def numbered(tasks, i, number, value):
     """The set with another value of a number; all else stays, and so do the ranks."""
     return tasks[:i] + (number.with_value(tasks[i], value),) + tasks[i + 1 :]

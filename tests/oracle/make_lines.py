@@ -9,7 +9,7 @@ import kernel
 import make_sets
 import scripts
 import settings
-from certificate import Best, Fails, Level, Nothing
+from certificate import Best, Fails, Level, Nothing, Of
 from lines import Faulty
 from refusals import Refused
 from sets import ALL, by_rank
@@ -75,24 +75,26 @@ def with_gaps(rng, data):
 # Certificates
 
 
-def certificate_of(rng, tasks):
-    """Of a set: its own, another one that is ready, or one of a set that is near it; at times damaged."""
+def certificate_of(rng, tasks, chains):
+    """Of a set with these chains: its own, another one that is ready, or one of a set that is near it; at times damaged."""
     kind = rng.random()
     if kind < 0.25:
-        text = certificate.certify(tasks)
+        text = certificate.certify(tasks, chains)
     elif kind < 0.45 and tasks:
-        text = certificate.certify(by_rank(make_sets.near(rng, list(tasks))))
+        near = by_rank(make_sets.near(rng, list(tasks)))
+        names = {task.name for task in near}
+        text = certificate.certify(near, [chain for chain in chains if names.issuperset(chain.tasks)])
     else:
-        text = other_certificate(rng, tasks)
+        text = other_certificate(rng, tasks, chains)
     data = text.encode()
     return damaged_lines(rng, data) if rng.random() < 0.35 else data
 
 
-def other_certificate(rng, tasks):
+def other_certificate(rng, tasks, chains):
     """As ready as it comes: greater numbers, chains that leap less, other obstructions, other orders."""
-    needed = certificate.needed_version(tasks)
-    version = rng.choice([1, 2, 4] if rng.random() < 0.1 else {1: [1, 2], 2: [2], 4: [4]}[needed])
-    body = certificate.verdict_of(tasks)
+    body = certificate.verdict_of(tasks, chains)
+    needed = certificate.needed_version(tasks, isinstance(body, Best) and chains)
+    version = rng.choice([1, 2, 4, 5] if rng.random() < 0.1 else {1: [1, 2], 2: [2], 4: [4], 5: [5]}[needed])
     if isinstance(body, Nothing):
         members = body.members
         index = {task.name: i for i, task in enumerate(tasks)}
@@ -114,7 +116,15 @@ def other_certificate(rng, tasks):
         )
         for level in levels
     ]
-    return certificate.spelling(version, Best(levels))
+    said = [Of(chain.name, loose_sum(rng, certificate.sum_of(tasks, levels, chain))) for chain in chains]
+    if said and rng.random() < 0.1:
+        said = rng.choice([said[1:], said + said[:1], rng.sample(said, len(said)), [Of(rng.choice(said).chain, 1)]])
+    return certificate.spelling(version, Best(levels, said))
+
+
+def loose_sum(rng, number):
+    """The least number of a chain, a greater one, or one less."""
+    return max(0, number + rng.choice([0, 0, 0, 0, 1, rng.randint(0, 5000), 1_000_000, -1] if rng.random() < 0.7 else [0]))
 
 
 def loose_fails(rng, fails, tasks):

@@ -133,10 +133,13 @@ def chains(rng, tasks):
     out = []
     for name in rng.sample([*NAMES, "steer", "chain"], rng.choice([1, 1, 1, 2, 3, 16])):
         own = rng.sample(range(len(tasks)), min(len(tasks), rng.choice([1, 2, 2, 3, 3, 4, 8])))
+        writes = rng.choice(["finish", "finish", "deadline"])
         bound = 10 ** rng.uniform(3, 9)
         if order is not None:
-            bound = sum(time for _, time in chain_bounds.parts(tasks, order, bounds, own))
+            bound = sum(time for _, time in chain_bounds.parts(tasks, order, bounds, own, writes))
         table = {"name": name, "tasks": [names[i] for i in own]}
+        if writes == "deadline" or rng.random() < 0.1:
+            table["writes"] = writes
         for key in ("age", "reaction"):
             if rng.random() < 0.5:
                 table[key] = min(1_000_000_000, max(1, int(bound) + rng.choice([-1, 0, 1, 500, -500, 10_000])))
@@ -156,6 +159,8 @@ def other_chains(rng, tables, names):
             table["age"] = rng.choice([1, 1_000_000_000, rng.randint(1, 1_000_000)])
         if rng.random() < 0.1:
             table.pop("age", None)
+        if rng.random() < 0.1:
+            table["writes"] = rng.choice(["finish", "deadline"])
     if names and rng.random() < 0.3:
         out.append({"name": rng.choice([*NAMES, "steer", "chain"]), "tasks": rng.sample(names, min(len(names), 2))})
     rng.shuffle(out)
@@ -168,8 +173,8 @@ def wrong_chains(rng, tables):
     tables = copy.deepcopy(tables)
     for _ in range(rng.choice([1, 1, 2])):
         table = rng.choice(tables)
-        key = rng.choice(["name", "tasks", "age", "reaction", "offsets", "task"])
-        kind = rng.randrange(7)
+        key = rng.choice(["name", "tasks", "age", "reaction", "writes", "offsets", "task"])
+        kind = rng.randrange(8)
         if kind == 0:
             table.pop(key, None)
         elif kind == 1:
@@ -182,6 +187,8 @@ def wrong_chains(rng, tables):
         elif kind == 4:
             table["name"] = rng.choice(tables).get("name", "a")
         elif kind == 5:
+            table["writes"] = rng.choice(["finish", "deadline", "Deadline", "finish ", "", "at", True, ["deadline"]])
+        elif kind == 6:
             tables += [{**copy.deepcopy(table), "name": f"c{k}"} for k in range(rng.choice([14, 15, 16]))]
         else:
             tables += [copy.deepcopy(table)]

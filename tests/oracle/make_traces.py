@@ -46,10 +46,9 @@ def run_of(rng, tasks, order):
         slices, jobs = kernel.run(tasks, order, analysis.ceilings(tasks, order), until, releases[:400])
     except Refused:
         return [], []
-    return (
-        [Slice(part.start, part.stop, part.job.task.name) for part in slices],
-        [Job(job.task.name, job.release.arrival, job.finish) for job in jobs],
-    )
+    late = rng.random() < 0.3  # (a job that doesn't say when it was ready may be seen to arrive then)
+    seen = [Job(job.task.name, job.release.arrival + late * job.release.late, job.finish) for job in jobs]
+    return [Slice(part.start, part.stop, part.job.task.name) for part in slices], sorted(seen, key=lambda job: job.arrival)
 
 
 def spelled(rng, slices, jobs):

@@ -57,7 +57,7 @@ def preferred(sheets, preference, documents):
     if preference != "chains":
         return by_rank(sheets)
     try:
-        return by_chains(sheets, [chain.tasks for _, chain in chains.read_written(documents)])
+        return by_chains(sheets, [chain.tasks for _, chain in chains.read_written(documents) if chain.writes == "finish"])
     except Refused:
         return by_chains(sheets, [])
 

@@ -1,6 +1,11 @@
-"""The worst case of a task as a release list: DEFINITIONS.md, The worst case as a run; FORMATS.md, worst."""
+"""The worst case of a task, and the run that a chain's bound describes, as release lists: DEFINITIONS.md, The worst case as a
+run, Chains of tasks; FORMATS.md, worst."""
+
+from typing import NamedTuple
 
 import analysis
+import chain_bounds
+import chain_runs
 import kernel
 import settings
 
@@ -126,3 +131,108 @@ def worst_in(tasks, order, i, front):
     i = whose(tasks, order) if i is None else i
     words, listed = run(tasks, order, i)
     return f"# {tasks[i].name} {words}\n" + front(tasks, order) + kernel.release_list(*listed)
+
+
+# ---- of a chain
+class Aim(NamedTuple):
+    task: int
+    above: list
+    arrival: int
+    ready: int
+    response: int
+
+
+def begin_of(tasks, indexes):
+    """Each task of the chain has had a job by then, and whatever leads up to an aim arrives at time 0 or later."""
+    return max([tasks[i].period for i in indexes] + [max(task.cost, task.jitter) for task in tasks])
+
+
+def aims_of(tasks, order, responses, chain):
+    """Of each task of a chain the job that its bound counts: a period after one that comes a tick too early to read the one
+    before it; and when the last one's bound ends."""
+    indexes = chain_bounds.indexes_of(tasks, chain)
+    early, aims = begin_of(tasks, indexes), []
+    for i, (_, behind) in zip(indexes, chain_bounds.parts_in(tasks, order, responses, chain)[1::2]):
+        arrival, above = early + tasks[i].period, order[order.index(i) + 1 :]
+        aims.append(Aim(i, above, arrival, arrival + tasks[i].jitter, responses[i]))
+        early = arrival + behind - 1
+    return aims, early + 1
+
+
+def windows_of(tasks, aims, i, until):
+    """From when and up to when jobs of a task may arrive: of one outside the chain against each aim that it stands above, or
+    whose first blocker it is, then of one job."""
+    own = [aim for aim in aims if aim.task == i]
+    if own:
+        return [(own[0].arrival % tasks[i].period, until)]
+    windows = []
+    for aim in aims:
+        if i in aim.above:
+            windows.append((aim.ready - tasks[i].jitter, aim.arrival + aim.response))
+        elif analysis.blocking_of(tasks, aim.task, set(aim.above)):
+            name, number, _ = analysis.first_blocker(tasks, aim.task, set(aim.above))
+            if tasks[i].name == name:
+                start = aim.ready - tasks[i].sections[number - 1].at - 1
+                windows.append((start, start + 1))
+    return windows
+
+
+def arrivals_of(tasks, aims, i, until):
+    """As soon as may be, in the first window that isn't over."""
+    time, found = 0, []
+    while True:
+        time = next((max(time, start) for start, stop in windows_of(tasks, aims, i, until) if time < min(stop, until)), until)
+        if time >= until:
+            return found
+        found.append(time)
+        time += tasks[i].period
+
+
+def chain_run(tasks, order, responses, chain):
+    """The end and the releases: a job is as late as it may be where it is then ready with an aim, before the end."""
+    aims, until = aims_of(tasks, order, responses, chain)
+    readies = {aim.ready for aim in aims}
+    releases = []
+    for i, task in enumerate(tasks):
+        for time in arrivals_of(tasks, aims, i, until):
+            is_late = time + task.jitter in readies and time + task.jitter < until
+            releases.append(kernel.Release(time, task.name, task.jitter if is_late else 0))
+    return until, sorted(releases, key=lambda release: release.arrival)
+
+
+def chain_words(tasks, order, responses, chain):
+    """What is said of a chain in an order, and the end and the releases of its run up to the first overrun."""
+    bound = None if order is None else chain_bounds.bound_in(tasks, order, responses, chain)
+    if bound is None:
+        return "no-bound", (0, [])
+    if begin_of(tasks, chain_bounds.indexes_of(tasks, chain)) + bound >= kernel.HORIZON:
+        return "past-horizon", (0, [])
+    until, releases = chain_run(tasks, order, responses, chain)
+    if len(releases) > kernel.RELEASES_MOST:
+        return "too-many-releases", (0, [])
+    ceilings = analysis.ceilings(tasks, order)
+    until, releases, _ = kernel.cut(tasks, order, ceilings, until, releases)
+    slices, jobs = kernel.run(tasks, order, ceilings, until, releases)
+    starts = {part.job: part.start for part in reversed(slices)}
+    words = chain_runs.line_of(tasks, order, responses, chain, starts, jobs, until).split()
+    return f"{words[4]} of {bound}", (until, releases)
+
+
+def chain_lines(tasks, order, responses, chain, front):
+    words, listed = chain_words(tasks, order, responses, chain)
+    return f"# {chain.name} {words}\n" + front + kernel.release_list(*listed)
+
+
+def of_chain(tasks, chain):
+    """What is printed of a chain, and the status."""
+    best = analysis.best_order(tasks)
+    if best is None:
+        return chain_lines(tasks, None, {}, chain, settings.settings(tasks, order_for(tasks, None))), 3
+    return chain_lines(tasks, best, settings.bounds_in(tasks, best), chain, ""), 0
+
+
+def of_chain_at(tasks, order, chain):
+    """The same in an order that a node has."""
+    responses = settings.bounds_in(tasks, order)
+    status = 3 if None in responses.values() else 0
+    return chain_lines(tasks, order, responses, chain, settings.settings(tasks, order)), status

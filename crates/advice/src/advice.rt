@@ -5,15 +5,16 @@ use crate::causes::LastError;
 use crate::sentence::{Known, sentence_of};
 use assignment::Placing;
 use ceilings::{LockTable, Tabled};
+use chain_tables::Chain;
 use command_line::{Call, Input, Named, OfNumber, OfOne, OfTwo, Options};
 use desk_cli::{Audience, CommandRefusal, Status, Which, base_of};
 use explain::least_conflict;
 use preferences::Choice;
 use sentences::{
-    greatest_until, leaves_out, of_neither, of_task, of_tasks, push_clean, put_chains_left_out,
-    put_conflict, put_empty, put_left_out, put_names_decide, put_notes, put_one_overran,
-    put_overload, put_overran, put_override, put_parted, put_past_priorities, put_strange_threads,
-    put_strangers, put_unrun, put_unrun_of, put_unseen,
+    greatest_until, leaves_out, of_chain, of_neither, of_task, of_tasks, push_clean,
+    put_chain_missed, put_chains_left_out, put_conflict, put_empty, put_left_out, put_names_decide,
+    put_notes, put_one_overran, put_overload, put_overran, put_override, put_parted,
+    put_past_priorities, put_strange_threads, put_strangers, put_unrun, put_unrun_of, put_unseen,
 };
 use std::alloc::{AllocError, Global};
 use std::io::Write;
@@ -29,12 +30,13 @@ pub struct Advice<'a, W: Write + Drop> {
     last: &'a LastError,
     // Up to when the densest list of the set is short enough, where the call asks for that list.
     greatest_until: Option<u64>,
-    // That the set has no task of a name that the call's words say.
+    // That the set has no task or no chain of a name that the call's words say.
     no_task: Option<String>,
     // Whether nobody says by what the set is preferred.
     is_unpreferred: bool,
-    // Whether the set has chains.
+    // Whether the set has chains, and whether the answer is of an order that passes.
     has_chains: bool,
+    has_order: bool,
     // Whether there was a run, and whether the new set has timers or interrupts, which its run lacks.
     has_run: bool,
     lacks_in_new: bool,
@@ -64,6 +66,24 @@ fn is_run(call: Call<'_>) -> bool {
             OfTwo::Keep | OfTwo::WorstAt | OfTwo::ExplainAt | OfTwo::LimitsAt => false,
         },
         _ => false,
+    }
+}
+
+// Whether a call prints the settings of an order.
+fn is_settings(call: Call<'_>) -> bool {
+    match call {
+        Call::One { command, .. } => match command {
+            OfOne::Settings => true,
+            OfOne::Admit | OfOne::Limits | OfOne::Explain | OfOne::Worst => false,
+            OfOne::Certify | OfOne::Script | OfOne::Play => false,
+        },
+        Call::Two { command, .. } => match command {
+            OfTwo::Keep => true,
+            OfTwo::Check | OfTwo::Diff | OfTwo::Judge | OfTwo::Observe => false,
+            OfTwo::Simulate | OfTwo::Draw | OfTwo::DrawBeside => false,
+            OfTwo::WorstAt | OfTwo::ExplainAt | OfTwo::LimitsAt => false,
+        },
+        Call::Number { .. } => false,
     }
 }
 
@@ -157,7 +177,10 @@ fn rows_of<'a>(call: Call<'a>) -> Option<&'a str> {
 
 // That the set has no task of a name that the words of a call say.
 fn no_task_of(alloc: Global, set: &TaskSet, call: Call<'_>) -> Option<String> {
-    match (options_of(call).task, rows_of(call)) {
+    let options = options_of(call);
+    match (options.task, rows_of(call)) {
+        // (a chain is asked about in its place)
+        (Some(_), _) if options.chain.is_some() => None,
         (Some(word), _) => of_task(alloc, set, word),
         (None, Some(words)) => of_tasks(alloc, set, words),
         (None, None) => None,
@@ -231,6 +254,7 @@ impl<'a, W: Write + Drop> Advice<'a, W> {
             no_task: None,
             is_unpreferred: false,
             has_chains: false,
+            has_order: false,
             has_run: false,
             lacks_in_new: false,
             set: None,
@@ -270,7 +294,7 @@ impl<'a, W: Write + Drop> Advice<'a, W> {
         }
     }
 
-    // Says that the set has no task of a name that the words say, where that is so.
+    // Says that the set has no task or no chain of a name that the words say, where that is so.
     fn put_no_task(&mut self) -> bool {
         match self.no_task.take() {
             Some(sentence) => {
@@ -283,7 +307,13 @@ impl<'a, W: Write + Drop> Advice<'a, W> {
 
     /// The call has ended.
     pub fn ended(&mut self, status: Status) {
-        if status != Status::Infeasible || !is_run(self.call) {
+        if status != Status::Infeasible {
+            return;
+        }
+        if is_settings(self.call) && self.has_order {
+            let _ = put_chain_missed(&mut self.errors);
+        }
+        if !is_run(self.call) {
             return;
         }
         if is_of_two(self.call) {
@@ -306,6 +336,7 @@ impl<'a, W: Write + Drop> Audience for Advice<'a, W> {
         requires { IsPlacingOf set.now placing.now }
     {
         let Placing::Stuck(greatest) = placing else {
+            self.has_order = true;
             self.in_best_order(set);
             return;
         };
@@ -347,6 +378,10 @@ impl<'a, W: Write + Drop> Audience for Advice<'a, W> {
         let _ = put_strange_threads(self.alloc, set, settings, &mut self.errors);
     }
 
+    fn kept(&mut self) {
+        self.has_order = true;
+    }
+
     fn compared(&mut self, new: &TaskSet) {
         self.lacks_in_new = is_of_two(self.call) && leaves_out(new);
         let _ = self.put_oddities(new);
@@ -373,8 +408,11 @@ impl<'a, W: Write + Drop> Audience for Advice<'a, W> {
         }
     }
 
-    fn chained(&mut self, has_chains: bool) {
-        self.has_chains = has_chains;
+    fn chained(&mut self, chains: &[Chain]) {
+        self.has_chains = !chains.is_empty();
+        if let (None, Some(word)) = (&self.no_task, options_of(self.call).chain) {
+            self.no_task = of_chain(self.alloc, chains, word);
+        }
     }
 
     fn refused(&mut self, which: Which, bytes: &[u8], refusal: CommandRefusal) {
@@ -382,6 +420,10 @@ impl<'a, W: Write + Drop> Audience for Advice<'a, W> {
             if let Some(sentence) = neither_of(self.alloc, self.call, name) {
                 self.no_task = Some(sentence);
             }
+            self.put_no_task();
+            return;
+        }
+        if let CommandRefusal::NoSuchChain { .. } = refusal {
             self.put_no_task();
             return;
         }

@@ -104,12 +104,16 @@ pub(crate) fn sentence_of(
         CommandRefusal::Trace(fault) => of_trace(alloc, bytes, fault),
         CommandRefusal::Script(fault) => of_script(alloc, bytes, fault),
         CommandRefusal::EmptyWindow => of_view(alloc, bytes, known.options),
+        CommandRefusal::ChainBeside => {
+            String::from_str(alloc, "a picture of two runs shows no way along a chain").ok()
+        }
         CommandRefusal::TooManyTeams => {
             String::from_str(alloc, "more than 8 teams have tasks, and a script has 8").ok()
         }
         CommandRefusal::Text(TextFault::OutOfMemory)
         | CommandRefusal::Rush(_)
         | CommandRefusal::NoSuchTask { .. }
+        | CommandRefusal::NoSuchChain { .. }
         | CommandRefusal::OutOfMemory => None,
     }
 }

@@ -1,6 +1,8 @@
--- The task that a word names.
+-- The task or the chain that a word names.
 use Rattle.std.specs.Prelude.{ℕ, List, Option, Some, None}
-use Rattle.task_sheet.specs.Sheet.{Task}
+use Rattle.std.specs.List.{find}
+use Rattle.task_sheet.specs.Sheet.{Task, same_bytes}
+use Rattle.chain_tables.specs.Chains.{ChainData}
 use Rattle.ceiling_kernel.specs.Releases.{task_named}
 use Rattle.lines.specs.Words.{name_in}
 use Rattle.answering.specs.declared.refusal.CommandRefusal.{CommandRefusal}
@@ -18,3 +20,16 @@ asked_task U word = named_task U (name_in word)
 -- no task has the name; where the word is no name, it isn't repeated
 abbrev pub no_such_task : List ℕ → CommandRefusal
 no_such_task word = refusal.NoSuchTask (name_in word)
+
+-- the chain of a set that has the name that a word is
+abbrev pub named_chain : List ChainData → Option (List ℕ) → Option ChainData
+named_chain chains None = None
+named_chain chains (Some name) = find (λ c. same_bytes c.name name) chains
+
+-- the same by the word
+abbrev pub asked_chain : List ChainData → List ℕ → Option ChainData
+asked_chain chains word = named_chain chains (name_in word)
+
+-- no chain has the name
+abbrev pub no_such_chain : List ℕ → CommandRefusal
+no_such_chain word = refusal.NoSuchChain (name_in word)

@@ -52,3 +52,7 @@ is_sorted options = is_some options.sort
 -- the word that names the task that is asked about
 abbrev pub task_of : Options → Option (List ℕ)
 task_of options = option_map (λ word. word.now) options.task
+
+-- the word that names the chain that is asked about
+abbrev pub chain_of : Options → Option (List ℕ)
+chain_of options = option_map (λ word. word.now) options.chain

@@ -5,6 +5,7 @@ pub mod OutcomeLines
 pub mod OrderParts
 pub mod Outcomes
 pub mod Owning
+pub mod Phrases
 pub mod Printed
 pub mod Refusals
 pub mod Sets

@@ -189,6 +189,7 @@ chain_cause_words (chains.BadName place) = at_task (codes "BadChainName") place
 chain_cause_words (chains.Length place) = at_task (codes "ChainLength") place
 chain_cause_words (chains.TaskTwice place) = at_task (codes "ChainTaskTwice") place
 chain_cause_words (chains.BadLimit place key) = at_task (codes "BadLimit") place ++ codes " " ++ word_of key
+chain_cause_words (chains.BadWrites place) = at_task (codes "BadWrites") place
 chain_cause_words chains.TooManyChains = codes "TooManyChains"
 chain_cause_words (chains.SameName place) = at_task (codes "SameChain") place
 
@@ -223,6 +224,8 @@ check_words (check.BadPass level) = at_task (codes "BadPass") level
 check_words (check.BadChain level name) = at_name (codes "BadChain") level name
 check_words (check.MissingFail level name) = at_name (codes "MissingFail") level name
 check_words check.EmptySet = codes "EmptySet"
+check_words check.WrongChains = codes "WrongChains"
+check_words (check.BadAge name) = codes "BadAge " ++ name
 
 -- the fault of a text
 abbrev pub text_words : TextFault → List ℕ
@@ -311,6 +314,9 @@ words_of (refusal.Script fault) = script_words fault
 words_of (refusal.Rush fault) = rush_words fault
 words_of (refusal.NoSuchTask (Some name)) = codes "NoSuchTask " ++ name
 words_of (refusal.NoSuchTask None) = codes "NoSuchTask"
+words_of (refusal.NoSuchChain (Some name)) = codes "NoSuchChain " ++ name
+words_of (refusal.NoSuchChain None) = codes "NoSuchChain"
+words_of refusal.ChainBeside = codes "ChainBeside"
 words_of refusal.EmptyWindow = codes "EmptyWindow"
 words_of refusal.TooManyTeams = codes "TooManyTeams"
 words_of refusal.OutOfMemory = codes "OutOfMemory"
@@ -353,6 +359,8 @@ status_of (refusal.Script script.OutOfMemory) = status.OutOfMemory
 status_of (refusal.Script _) = status.BadInput
 status_of (refusal.Rush _) = status.OutOfMemory
 status_of (refusal.NoSuchTask _) = status.BadInput
+status_of (refusal.NoSuchChain _) = status.BadInput
+status_of refusal.ChainBeside = status.BadInput
 status_of refusal.EmptyWindow = status.BadInput
 status_of refusal.TooManyTeams = status.BadInput
 status_of refusal.OutOfMemory = status.OutOfMemory

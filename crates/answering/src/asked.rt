@@ -1,10 +1,13 @@
-//! The task that a word names.
-ghost use Rattle.std.specs.Prelude.{◌≡◌, ◌<◌, length, IfSome};
-ghost use Rattle.answering.specs.Asked.{asked_task, no_such_task};
+//! The task or the chain that a word names.
+ghost use Rattle.std.specs.Prelude.{◌≡◌, ◌<◌, length, option_map, IfSome};
+ghost use Rattle.std.specs.List.{find};
+ghost use Rattle.task_sheet.specs.Sheet.{same_bytes};
+ghost use Rattle.answering.specs.Asked.{asked_chain, asked_task, no_such_task, no_such_chain};
 
 use crate::refusal::CommandRefusal;
+use chain_tables::Chain;
 use lines::name_of;
-use task_sheet::TaskSet;
+use task_sheet::{Name, TaskSet};
 
 /// The index of the task that a word names.
 pub fn find_task(set: &TaskSet, word: &str) -> Option<usize>
@@ -22,6 +25,37 @@ pub fn no_such_task(word: &str) -> CommandRefusal
     ensures { result ≡ no_such_task word.now }
 {
     CommandRefusal::NoSuchTask {
+        name: name_of(word.as_bytes()),
+    }
+}
+
+// The chain that has a name.
+fn named_chain(chains: &[Chain], name: Name) -> Option<&Chain>
+    ensures { option_map (λ c. c.now) result ≡ find (λ c. same_bytes c.name name) chains.now }
+{
+    for chain in chains {
+        if chain.name == name {
+            return Some(chain);
+        }
+    }
+    None
+}
+
+/// The chain that a word names.
+pub fn find_chain<'a>(chains: &'a [Chain], word: &str) -> Option<&'a Chain>
+    ensures { option_map (λ c. c.now) result ≡ asked_chain chains.now word.now }
+{
+    match name_of(word.as_bytes()) {
+        Some(name) => named_chain(chains, name),
+        None => None,
+    }
+}
+
+/// That no chain has the name that a word says.
+pub fn no_such_chain(word: &str) -> CommandRefusal
+    ensures { result ≡ no_such_chain word.now }
+{
+    CommandRefusal::NoSuchChain {
         name: name_of(word.as_bytes()),
     }
 }

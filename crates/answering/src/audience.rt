@@ -3,6 +3,7 @@ ghost use Rattle.assignment.specs.Placings.{IsPlacingOf};
 
 use crate::refusal::CommandRefusal;
 use assignment::Placing;
+use chain_tables::Chain;
 use preferences::Choice;
 use task_sheet::{Members, Name, TaskSet};
 
@@ -40,6 +41,9 @@ pub trait Audience {
     /// A set is to keep the order that settings give.
     fn keeping(&mut self, set: &TaskSet, settings: &[u8]);
 
+    /// It keeps it: the answer that follows is of the best order that does.
+    fn kept(&mut self);
+
     /// A new set was read beside the first.
     fn compared(&mut self, new: &TaskSet);
 
@@ -49,8 +53,8 @@ pub trait Audience {
     /// A set was read by a preference, and who says so; it may still be refused for what is read beside it.
     fn preferred(&mut self, set: &TaskSet, choice: Choice);
 
-    /// That set has chains, or none.
-    fn chained(&mut self, has_chains: bool);
+    /// That set has these chains.
+    fn chained(&mut self, chains: &[Chain]);
 
     /// An input was refused; its bytes are empty where it was not read, and where the number beside it was refused.
     fn refused(&mut self, which: Which, bytes: &[u8], refusal: CommandRefusal);
@@ -75,13 +79,15 @@ impl Audience for Nobody {
 
     fn keeping(&mut self, _set: &TaskSet, _settings: &[u8]) {}
 
+    fn kept(&mut self) {}
+
     fn compared(&mut self, _new: &TaskSet) {}
 
     fn parted(&mut self, _set: &TaskSet, _low: usize, _high: usize) {}
 
     fn preferred(&mut self, _set: &TaskSet, _choice: Choice) {}
 
-    fn chained(&mut self, _has_chains: bool) {}
+    fn chained(&mut self, _chains: &[Chain]) {}
 
     fn refused(&mut self, _which: Which, _bytes: &[u8], _refusal: CommandRefusal) {}
 }

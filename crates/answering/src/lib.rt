@@ -5,12 +5,13 @@ mod answer;
 mod asked;
 mod audience;
 mod output;
+mod phrase;
 mod refusal;
 mod sets;
 mod status;
 
 pub use answer::{OrderPart, infeasible_text, joined, placing_text, print_stuck};
-pub use asked::{find_task, no_such_task};
+pub use asked::{find_chain, find_task, no_such_chain, no_such_task};
 pub use audience::{Audience, Nobody, Which};
 pub use output::{print, print_bytes, print_made, refuse, refuse_words};
 pub use refusal::CommandRefusal;

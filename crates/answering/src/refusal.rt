@@ -1,9 +1,12 @@
 //! Why a command was refused, and the line that says so.
-ghost use Rattle.std.specs.Prelude.{◌≡◌, Some};
-ghost use Rattle.std.specs.Fmt.{DisplaysOnOk};
+ghost use Rattle.std.specs.Prelude.{◌≡◌, ◌++◌, ℕ, List, Some};
 ghost use Rattle.answering.specs.declared.refusal.CommandRefusal.TheVariants.{OutOfMemory};
 ghost use Rattle.answering.specs.Refusals.{cause_words, certificate_words, chain_cause_words, chain_words, check_words, doubt_words, fault_words, lone_cause_words, node_words, outranks_words, padding_words, refusal_line, run_words, rush_words, script_words, settings_words, status_of, teams_words, text_words, trace_words, whose_words, words_of};
+ghost use Rattle.answering.specs.Phrases.{AreParts, first_words, part_words, phrase_words, unknown_words};
 
+use crate::phrase::Field::{Named, Number, Place, Word};
+use crate::phrase::Phrase::{Alone, Four, One, Three, Two};
+use crate::phrase::{Front, Phrase, write_part};
 use crate::status::Status;
 use ceiling_kernel::RunFault;
 use cert_checker::CheckFault;
@@ -60,6 +63,10 @@ pub enum CommandRefusal {
     Rush(RushFault),
     /// No task of the set has the name that was asked about; none where the word is no name.
     NoSuchTask { name: Option<Name> },
+    /// No chain of the set has the name that was asked about; none where the word is no name.
+    NoSuchChain { name: Option<Name> },
+    /// The way along a chain was asked for in a picture of two runs, which shows none.
+    ChainBeside,
     /// Nothing of the run lies in the window that was asked for.
     EmptyWindow,
     /// More teams have tasks than a script has.
@@ -121,6 +128,8 @@ impl CommandRefusal {
             CommandRefusal::Script(_) => Status::BadInput,
             CommandRefusal::Rush(_) => Status::OutOfMemory,
             CommandRefusal::NoSuchTask { .. } => Status::BadInput,
+            CommandRefusal::NoSuchChain { .. } => Status::BadInput,
+            CommandRefusal::ChainBeside => Status::BadInput,
             CommandRefusal::EmptyWindow => Status::BadInput,
             CommandRefusal::TooManyTeams => Status::BadInput,
             CommandRefusal::OutOfMemory => Status::OutOfMemory,
@@ -128,49 +137,44 @@ impl CommandRefusal {
     }
 }
 
-// The name of a sheet's fault, with the places of the task and of the section.
-fn write_cause<W: fmt::Write>(
-    task: usize,
-    cause: SheetCause,
-    f: &mut fmt::Formatter<W>,
-) -> fmt::Result
-    ensures { DisplaysOnOk W.write_str_gives f.old result (Some (cause_words task cause)) f.new }
+// The name of a sheet's fault, and the place of the section where it is of one.
+fn cause_parts(cause: SheetCause) -> (&'static str, Option<usize>)
+    ensures { AreParts cause result.0.now result.1 }
 {
     match cause {
-        SheetCause::BadWeight => write!(f, "BadWeight {task}"),
-        SheetCause::BadPeriod => write!(f, "BadPeriod {task}"),
-        SheetCause::DeadlineZero => write!(f, "DeadlineZero {task}"),
-        SheetCause::DeadlinePastPeriod => write!(f, "DeadlinePastPeriod {task}"),
-        SheetCause::CostZero => write!(f, "CostZero {task}"),
-        SheetCause::CostPastPeriod => write!(f, "CostPastPeriod {task}"),
-        SheetCause::TooManySections => write!(f, "TooManySections {task}"),
-        SheetCause::NoLocks { section } => write!(f, "NoLocks {task} {section}"),
-        SheetCause::TooManyLocks { section } => write!(f, "TooManyLocks {task} {section}"),
-        SheetCause::LockTwice { section } => write!(f, "LockTwice {task} {section}"),
-        SheetCause::LenZero { section } => write!(f, "LenZero {task} {section}"),
-        SheetCause::Overlap { section } => write!(f, "Overlap {task} {section}"),
-        SheetCause::SectionPastCost { section } => write!(f, "SectionPastCost {task} {section}"),
+        SheetCause::BadWeight => ("BadWeight", None),
+        SheetCause::BadPeriod => ("BadPeriod", None),
+        SheetCause::DeadlineZero => ("DeadlineZero", None),
+        SheetCause::DeadlinePastPeriod => ("DeadlinePastPeriod", None),
+        SheetCause::CostZero => ("CostZero", None),
+        SheetCause::CostPastPeriod => ("CostPastPeriod", None),
+        SheetCause::TooManySections => ("TooManySections", None),
+        SheetCause::NoLocks { section } => ("NoLocks", Some(section)),
+        SheetCause::TooManyLocks { section } => ("TooManyLocks", Some(section)),
+        SheetCause::LockTwice { section } => ("LockTwice", Some(section)),
+        SheetCause::LenZero { section } => ("LenZero", Some(section)),
+        SheetCause::Overlap { section } => ("Overlap", Some(section)),
+        SheetCause::SectionPastCost { section } => ("SectionPastCost", Some(section)),
     }
 }
 
-// The name of the fault of a sheet that stands alone, with the place of the section.
-fn write_lone_cause<W: fmt::Write>(cause: SheetCause, f: &mut fmt::Formatter<W>) -> fmt::Result
-    ensures { DisplaysOnOk W.write_str_gives f.old result (Some (lone_cause_words cause)) f.new }
+// The fault of a task's sheet, with the places of the task and of the section.
+fn cause_phrase(task: usize, cause: SheetCause) -> Phrase
+    ensures { phrase_words result ≡ cause_words task cause }
 {
-    match cause {
-        SheetCause::BadWeight => f.write_str("BadWeight"),
-        SheetCause::BadPeriod => f.write_str("BadPeriod"),
-        SheetCause::DeadlineZero => f.write_str("DeadlineZero"),
-        SheetCause::DeadlinePastPeriod => f.write_str("DeadlinePastPeriod"),
-        SheetCause::CostZero => f.write_str("CostZero"),
-        SheetCause::CostPastPeriod => f.write_str("CostPastPeriod"),
-        SheetCause::TooManySections => f.write_str("TooManySections"),
-        SheetCause::NoLocks { section } => write!(f, "NoLocks {section}"),
-        SheetCause::TooManyLocks { section } => write!(f, "TooManyLocks {section}"),
-        SheetCause::LockTwice { section } => write!(f, "LockTwice {section}"),
-        SheetCause::LenZero { section } => write!(f, "LenZero {section}"),
-        SheetCause::Overlap { section } => write!(f, "Overlap {section}"),
-        SheetCause::SectionPastCost { section } => write!(f, "SectionPastCost {section}"),
+    match cause_parts(cause) {
+        (name, None) => One(name, Place(task)),
+        (name, Some(section)) => Two(name, Place(task), Place(section)),
+    }
+}
+
+// The fault of a sheet that stands alone, with the place of the section.
+fn lone_cause_phrase(cause: SheetCause) -> Phrase
+    ensures { phrase_words result ≡ lone_cause_words cause }
+{
+    match cause_parts(cause) {
+        (name, None) => Alone(name),
+        (name, Some(section)) => One(name, Place(section)),
     }
 }
 
@@ -185,438 +189,412 @@ fn outranks_name(cause: OutranksCause) -> &'static str
     }
 }
 
-// The name of a script's fault, with its line.
-fn write_script_fault<W: fmt::Write>(fault: ScriptFault, f: &mut fmt::Formatter<W>) -> fmt::Result
-    ensures { DisplaysOnOk W.write_str_gives f.old result (Some (script_words fault)) f.new }
+// A script's fault, with its line.
+fn script_part(fault: ScriptFault) -> (Front, Phrase)
+    ensures { part_words result.0 (phrase_words result.1) ≡ script_words fault }
 {
     match fault {
-        ScriptFault::BadLine { line } => write!(f, "BadLine {line}"),
-        ScriptFault::Sheet { line, cause } => {
-            write!(f, "line {line} ")?;
-            write_lone_cause(cause, f)
-        }
-        ScriptFault::BadJitter { line } => write!(f, "line {line} BadJitter"),
-        ScriptFault::Outranks { line, cause } => {
-            let name = outranks_name(cause);
-            write!(f, "line {line} {name}")
-        }
-        ScriptFault::BadOverhead { line } => write!(f, "line {line} BadOverhead"),
-        ScriptFault::BadInterrupt { line } => write!(f, "line {line} BadInterrupt"),
-        ScriptFault::OutOfMemory => f.write_str("OutOfMemory"),
+        ScriptFault::BadLine { line } => (Front::Nothing, One("BadLine", Number(line))),
+        ScriptFault::Sheet { line, cause } => (Front::Line(line), lone_cause_phrase(cause)),
+        ScriptFault::BadJitter { line } => (
+            Front::Nothing,
+            Two("line", Number(line), Word("BadJitter")),
+        ),
+        ScriptFault::Outranks { line, cause } => (Front::Line(line), Alone(outranks_name(cause))),
+        ScriptFault::BadOverhead { line } => (
+            Front::Nothing,
+            Two("line", Number(line), Word("BadOverhead")),
+        ),
+        ScriptFault::BadInterrupt { line } => (
+            Front::Nothing,
+            Two("line", Number(line), Word("BadInterrupt")),
+        ),
+        ScriptFault::OutOfMemory => (Front::Nothing, Alone("OutOfMemory")),
     }
 }
 
-// The name of a set's fault, with its fields.
-fn write_fault<W: fmt::Write>(fault: SetFault, f: &mut fmt::Formatter<W>) -> fmt::Result
-    ensures { DisplaysOnOk W.write_str_gives f.old result (Some (fault_words fault)) f.new }
+// A set's fault, with its fields.
+fn fault_phrase(fault: SetFault) -> Phrase
+    ensures { phrase_words result ≡ fault_words fault }
 {
     match fault {
-        SetFault::Syntax => f.write_str("Syntax"),
-        SetFault::UnknownKey { task, section } => write!(f, "UnknownKey {task} {section}"),
-        SetFault::MissingKey { task, section, key } => {
-            let word = key.word();
-            write!(f, "MissingKey {task} {section} {word}")
-        }
-        SetFault::WrongKind { task, section, key } => {
-            let word = key.word();
-            write!(f, "WrongKind {task} {section} {word}")
-        }
-        SetFault::BadPreference => f.write_str("BadPreference"),
-        SetFault::UnknownOverhead => f.write_str("UnknownOverhead"),
-        SetFault::BadOverhead { key } => {
-            let word = key.word();
-            write!(f, "BadOverhead {word}")
-        }
-        SetFault::BadInterrupt { interrupt } => write!(f, "BadInterrupt {interrupt}"),
-        SetFault::TooManyInterrupts => f.write_str("TooManyInterrupts"),
-        SetFault::BadName { task, section } => write!(f, "BadName {task} {section}"),
-        SetFault::Sheet { task, cause } => write_cause(task, cause, f),
-        SetFault::BadJitter { task } => write!(f, "BadJitter {task}"),
-        SetFault::Outranks { task, cause } => {
-            let name = outranks_name(cause);
-            write!(f, "{name} {task}")
-        }
-        SetFault::SameName { task } => write!(f, "SameName {task}"),
-        SetFault::TooManyTasks => f.write_str("TooManyTasks"),
-        SetFault::OutOfMemory => f.write_str("OutOfMemory"),
+        SetFault::Syntax => Alone("Syntax"),
+        SetFault::UnknownKey { task, section } => Two("UnknownKey", Place(task), Place(section)),
+        SetFault::MissingKey { task, section, key } => Three(
+            "MissingKey",
+            Place(task),
+            Place(section),
+            Word(key.word()),
+        ),
+        SetFault::WrongKind { task, section, key } => Three(
+            "WrongKind",
+            Place(task),
+            Place(section),
+            Word(key.word()),
+        ),
+        SetFault::BadPreference => Alone("BadPreference"),
+        SetFault::UnknownOverhead => Alone("UnknownOverhead"),
+        SetFault::BadOverhead { key } => One("BadOverhead", Word(key.word())),
+        SetFault::BadInterrupt { interrupt } => One("BadInterrupt", Place(interrupt)),
+        SetFault::TooManyInterrupts => Alone("TooManyInterrupts"),
+        SetFault::BadName { task, section } => Two("BadName", Place(task), Place(section)),
+        SetFault::Sheet { task, cause } => cause_phrase(task, cause),
+        SetFault::BadJitter { task } => One("BadJitter", Place(task)),
+        SetFault::Outranks { task, cause } => One(outranks_name(cause), Place(task)),
+        SetFault::SameName { task } => One("SameName", Place(task)),
+        SetFault::TooManyTasks => Alone("TooManyTasks"),
+        SetFault::OutOfMemory => Alone("OutOfMemory"),
     }
 }
 
-// The name of the fault of a node's document, with the team and the key.
-fn write_node_fault<W: fmt::Write>(fault: NodeFault, f: &mut fmt::Formatter<W>) -> fmt::Result
-    ensures { DisplaysOnOk W.write_str_gives f.old result (Some (node_words fault)) f.new }
+// The fault of a node's document, with the team and the key.
+fn node_phrase(fault: NodeFault) -> Phrase
+    ensures { phrase_words result ≡ node_words fault }
 {
     match fault {
-        NodeFault::Syntax => f.write_str("Syntax"),
-        NodeFault::UnknownRoot => f.write_str("UnknownKey"),
-        NodeFault::Says { fault } => write_fault(fault, f),
-        NodeFault::BadStrict => f.write_str("WrongKind 0 0 strict"),
-        NodeFault::NoLocks => f.write_str("WrongKind 0 0 locks"),
-        NodeFault::BadLockName => f.write_str("BadLock"),
-        NodeFault::BadLock { name } => write!(f, "BadLock {name}"),
-        NodeFault::TooManyLocks => f.write_str("TooManyLocks"),
-        NodeFault::NoTeams => f.write_str("WrongKind"),
-        NodeFault::BadName => f.write_str("BadName"),
-        NodeFault::NoBudget { team } => write!(f, "WrongKind {team}"),
-        NodeFault::UnknownKey { team } => write!(f, "UnknownKey {team}"),
+        NodeFault::Syntax => Alone("Syntax"),
+        NodeFault::UnknownRoot => Alone("UnknownKey"),
+        NodeFault::Says { fault } => fault_phrase(fault),
+        NodeFault::BadStrict => Alone("WrongKind 0 0 strict"),
+        NodeFault::NoLocks => Alone("WrongKind 0 0 locks"),
+        NodeFault::BadLockName => Alone("BadLock"),
+        NodeFault::BadLock { name } => One("BadLock", Named(name)),
+        NodeFault::TooManyLocks => Alone("TooManyLocks"),
+        NodeFault::NoTeams => Alone("WrongKind"),
+        NodeFault::BadName => Alone("BadName"),
+        NodeFault::NoBudget { team } => One("WrongKind", Named(team)),
+        NodeFault::UnknownKey { team } => One("UnknownKey", Named(team)),
         NodeFault::NoNumber { team, quantity } => {
-            let word = quantity.word();
-            write!(f, "WrongKind {team} {word}")
+            Two("WrongKind", Named(team), Word(quantity.word()))
         }
-        NodeFault::NoRight { team } => write!(f, "WrongKind {team} node"),
-        NodeFault::OutOfMemory => f.write_str("OutOfMemory"),
+        NodeFault::NoRight { team } => Two("WrongKind", Named(team), Word("node")),
+        NodeFault::OutOfMemory => Alone("OutOfMemory"),
     }
 }
 
-// The name of what a node doesn't leave room for, with the task.
-fn write_padding_fault<W: fmt::Write>(fault: PadFault, f: &mut fmt::Formatter<W>) -> fmt::Result
-    ensures { DisplaysOnOk W.write_str_gives f.old result (Some (padding_words fault)) f.new }
+// What a node doesn't leave room for, with the task.
+fn padding_phrase(fault: PadFault) -> Phrase
+    ensures { phrase_words result ≡ padding_words fault }
 {
     match fault {
-        PadFault::CostPastPeriod { task } => write!(f, "PaddedCost {task}"),
-        PadFault::JitterPastDeadline { task } => write!(f, "PaddedJitter {task}"),
-        PadFault::OutOfMemory => f.write_str("OutOfMemory"),
+        PadFault::CostPastPeriod { task } => One("PaddedCost", Named(task)),
+        PadFault::JitterPastDeadline { task } => One("PaddedJitter", Named(task)),
+        PadFault::OutOfMemory => Alone("OutOfMemory"),
     }
 }
 
-// Which section of which task takes a lock that isn't listed.
-fn write_unknown_lock<W: fmt::Write>(
-    team: Name,
-    task: Name,
-    section: usize,
-    lock: Name,
-    f: &mut fmt::Formatter<W>,
-) -> fmt::Result
-    ensures { DisplaysOnOk W.write_str_gives f.old result
-        (Some (teams_words (TeamsFault.UnknownLock team task section lock))) f.new }
-{
-    write!(f, "UnknownLock {team} {task} ")?;
-    write!(f, "{section} {lock}")
-}
-
-// The fault of a task's sheet, behind its team and its name.
-fn write_renamed<W: fmt::Write>(
-    team: Name,
-    task: Name,
-    cause: SheetCause,
-    f: &mut fmt::Formatter<W>,
-) -> fmt::Result
-    ensures { DisplaysOnOk W.write_str_gives f.old result
-        (Some (teams_words (TeamsFault.Renamed team task cause))) f.new }
-{
-    write!(f, "team {team} task {task} ")?;
-    write_lone_cause(cause, f)
-}
-
-// The name of the fault of a set's text, with its fields: that of a team's document stands behind the team.
-fn write_teams_fault<W: fmt::Write>(fault: TeamsFault, f: &mut fmt::Formatter<W>) -> fmt::Result
-    ensures { DisplaysOnOk W.write_str_gives f.old result (Some (teams_words fault)) f.new }
+// The fault of a set's text, with its fields: that of a team's document stands behind the team.
+fn teams_part(fault: TeamsFault) -> (Front, Phrase)
+    ensures { part_words result.0 (phrase_words result.1) ≡ teams_words fault }
 {
     match fault {
-        TeamsFault::Alone { fault } => write_fault(fault, f),
-        TeamsFault::BadHead { part } => write!(f, "BadHead {part}"),
-        TeamsFault::Of { team, fault } => {
-            write!(f, "team {team} ")?;
-            write_fault(fault, f)
-        }
-        TeamsFault::Taken { team, task, other } => write!(f, "TakenName {team} {task} {other}"),
-        TeamsFault::NodesOwn { team, key } => {
-            let word = key.word();
-            write!(f, "NodesOwn {team} {word}")
-        }
+        TeamsFault::Alone { fault } => (Front::Nothing, fault_phrase(fault)),
+        TeamsFault::BadHead { part } => (Front::Nothing, One("BadHead", Place(part))),
+        TeamsFault::Of { team, fault } => (Front::Team(team), fault_phrase(fault)),
+        TeamsFault::Taken { team, task, other } => (
+            Front::Nothing,
+            Three("TakenName", Named(team), Named(task), Named(other)),
+        ),
+        TeamsFault::NodesOwn { team, key } => (
+            Front::Nothing,
+            Two("NodesOwn", Named(team), Word(key.word())),
+        ),
         TeamsFault::UnknownLock {
             team,
             task,
             section,
             lock,
-        } => write_unknown_lock(team, task, section, lock, f),
-        TeamsFault::Renamed { team, task, cause } => write_renamed(team, task, cause, f),
-        TeamsFault::OtherPreference { team, other } => write!(f, "OtherPreference {team} {other}"),
-        TeamsFault::OtherNode { team, other } => write!(f, "OtherNode {team} {other}"),
-        TeamsFault::TooManyInterrupts => f.write_str("TooManyInterrupts"),
-        TeamsFault::Node { fault } => {
-            f.write_str("node ")?;
-            write_node_fault(fault, f)
-        }
-        TeamsFault::NoSuchTeam { team } => write!(f, "NoSuchTeam {team}"),
+        } => (
+            Front::Nothing,
+            Four(
+                "UnknownLock",
+                Named(team),
+                Named(task),
+                Place(section),
+                Named(lock),
+            ),
+        ),
+        TeamsFault::Renamed { team, task, cause } => (
+            Front::Task(team, task),
+            lone_cause_phrase(cause),
+        ),
+        TeamsFault::OtherPreference { team, other } => (
+            Front::Nothing,
+            Two("OtherPreference", Named(team), Named(other)),
+        ),
+        TeamsFault::OtherNode { team, other } => (
+            Front::Nothing,
+            Two("OtherNode", Named(team), Named(other)),
+        ),
+        TeamsFault::TooManyInterrupts => (Front::Nothing, Alone("TooManyInterrupts")),
+        TeamsFault::Node { fault } => (Front::Node, node_phrase(fault)),
+        TeamsFault::NoSuchTeam { team } => (Front::Nothing, One("NoSuchTeam", Named(team))),
         TeamsFault::PastBudget {
             team,
             quantity,
             number,
             limit,
-        } => {
-            let word = quantity.word();
-            write!(f, "PastBudget {team} {word} {number} {limit}")
-        }
-        TeamsFault::Padded { fault } => write_padding_fault(fault, f),
-        TeamsFault::TooManyTasks => f.write_str("TooManyTasks"),
-        TeamsFault::OutOfMemory => f.write_str("OutOfMemory"),
+        } => (
+            Front::Nothing,
+            Four(
+                "PastBudget",
+                Named(team),
+                Word(quantity.word()),
+                Number(number),
+                Number(limit),
+            ),
+        ),
+        TeamsFault::Padded { fault } => (Front::Nothing, padding_phrase(fault)),
+        TeamsFault::TooManyTasks => (Front::Nothing, Alone("TooManyTasks")),
+        TeamsFault::OutOfMemory => (Front::Nothing, Alone("OutOfMemory")),
     }
 }
 
-// The same of the new set's text, which the line says; out of memory stands alone.
-fn write_new_fault<W: fmt::Write>(fault: TeamsFault, f: &mut fmt::Formatter<W>) -> fmt::Result
-    ensures { DisplaysOnOk W.write_str_gives f.old result (Some (words_of (CommandRefusal.New fault)))
-        f.new }
-{
-    match fault {
-        TeamsFault::OutOfMemory => f.write_str("OutOfMemory"),
-        _ => {
-            f.write_str("new ")?;
-            write_teams_fault(fault, f)
-        }
-    }
-}
-
-// The name of what may be a mistake in a set, with two names.
-fn write_doubt<W: fmt::Write>(doubt: Doubt, f: &mut fmt::Formatter<W>) -> fmt::Result
-    ensures { DisplaysOnOk W.write_str_gives f.old result (Some (doubt_words doubt)) f.new }
+// What may be a mistake in a set, with two names.
+fn doubt_phrase(doubt: Doubt) -> Phrase
+    ensures { phrase_words result ≡ doubt_words doubt }
 {
     match doubt {
-        Doubt::LoneLock { task, lock } => write!(f, "LoneLock {task} {lock}"),
-        Doubt::NoSuchName { task, name } => write!(f, "NoSuchName {task} {name}"),
-        Doubt::NamesDecide { lower, higher } => write!(f, "NamesDecide {lower} {higher}"),
+        Doubt::LoneLock { task, lock } => Two("LoneLock", Named(task), Named(lock)),
+        Doubt::NoSuchName { task, name } => Two("NoSuchName", Named(task), Named(name)),
+        Doubt::NamesDecide { lower, higher } => Two("NamesDecide", Named(lower), Named(higher)),
     }
 }
 
-// The same of the new set, which the line says.
-fn write_new_doubt<W: fmt::Write>(doubt: Doubt, f: &mut fmt::Formatter<W>) -> fmt::Result
-    ensures { DisplaysOnOk W.write_str_gives f.old result
-        (Some (words_of (CommandRefusal.NewDoubtful doubt))) f.new }
-{
-    f.write_str("new ")?;
-    write_doubt(doubt, f)
-}
-
-// The name of the fault of a document's chains, with the chain's place and the key.
-fn write_chain_cause<W: fmt::Write>(cause: ChainCause, f: &mut fmt::Formatter<W>) -> fmt::Result
-    ensures { DisplaysOnOk W.write_str_gives f.old result (Some (chain_cause_words cause)) f.new }
+// The fault of a document's chains, with the chain's place and the key.
+fn chain_cause_phrase(cause: ChainCause) -> Phrase
+    ensures { phrase_words result ≡ chain_cause_words cause }
 {
     match cause {
-        ChainCause::UnknownKey { chain } => write!(f, "ChainUnknownKey {chain}"),
-        ChainCause::MissingKey { chain, key } => {
-            let word = key.word();
-            write!(f, "ChainMissingKey {chain} {word}")
-        }
+        ChainCause::UnknownKey { chain } => One("ChainUnknownKey", Place(chain)),
+        ChainCause::MissingKey { chain, key } => Two(
+            "ChainMissingKey",
+            Place(chain),
+            Word(key.word()),
+        ),
         ChainCause::WrongKind { chain, key } => {
-            let word = key.word();
-            write!(f, "ChainWrongKind {chain} {word}")
+            Two("ChainWrongKind", Place(chain), Word(key.word()))
         }
-        ChainCause::BadName { chain } => write!(f, "BadChainName {chain}"),
-        ChainCause::Length { chain } => write!(f, "ChainLength {chain}"),
-        ChainCause::TaskTwice { chain } => write!(f, "ChainTaskTwice {chain}"),
-        ChainCause::BadLimit { chain, key } => {
-            let word = key.word();
-            write!(f, "BadLimit {chain} {word}")
-        }
-        ChainCause::TooManyChains => f.write_str("TooManyChains"),
-        ChainCause::SameName { chain } => write!(f, "SameChain {chain}"),
+        ChainCause::BadName { chain } => One("BadChainName", Place(chain)),
+        ChainCause::Length { chain } => One("ChainLength", Place(chain)),
+        ChainCause::TaskTwice { chain } => One("ChainTaskTwice", Place(chain)),
+        ChainCause::BadLimit { chain, key } => Two("BadLimit", Place(chain), Word(key.word())),
+        ChainCause::BadWrites { chain } => One("BadWrites", Place(chain)),
+        ChainCause::TooManyChains => Alone("TooManyChains"),
+        ChainCause::SameName { chain } => One("SameChain", Place(chain)),
     }
 }
 
 // Whose document has the chains, where there are several.
-fn write_whose<W: fmt::Write>(whose: Whose, f: &mut fmt::Formatter<W>) -> fmt::Result
-    ensures { DisplaysOnOk W.write_str_gives f.old result (Some (whose_words whose)) f.new }
+fn front_of(whose: Whose) -> Front
+    ensures { (words : List ℕ) → part_words result words ≡ whose_words whose ++ words }
 {
     match whose {
-        Whose::Alone => f.write_str(""),
-        Whose::Node => f.write_str("node "),
-        Whose::Team { team } => write!(f, "team {team} "),
+        Whose::Alone => Front::Nothing,
+        Whose::Node => Front::Node,
+        Whose::Team { team } => Front::Team(team),
     }
 }
 
-// The name of the fault of a set's chains, with its fields.
-fn write_chain_fault<W: fmt::Write>(fault: ChainFault, f: &mut fmt::Formatter<W>) -> fmt::Result
-    ensures { DisplaysOnOk W.write_str_gives f.old result (Some (chain_words fault)) f.new }
+// The fault of a set's chains, with its fields.
+fn chain_part(fault: ChainFault) -> (Front, Phrase)
+    ensures { part_words result.0 (phrase_words result.1) ≡ chain_words fault }
 {
     match fault {
-        ChainFault::Document { whose, cause } => {
-            write_whose(whose, f)?;
-            write_chain_cause(cause, f)
-        }
-        ChainFault::Taken { team, chain, other } => write!(f, "TakenChain {team} {chain} {other}"),
-        ChainFault::TooManyChains => f.write_str("TooManyChains"),
-        ChainFault::NoSuchTask { chain, task } => write!(f, "ChainTask {chain} {task}"),
-        ChainFault::OutOfMemory => f.write_str("OutOfMemory"),
+        ChainFault::Document { whose, cause } => (front_of(whose), chain_cause_phrase(cause)),
+        ChainFault::Taken { team, chain, other } => (
+            Front::Nothing,
+            Three("TakenChain", Named(team), Named(chain), Named(other)),
+        ),
+        ChainFault::TooManyChains => (Front::Nothing, Alone("TooManyChains")),
+        ChainFault::NoSuchTask { chain, task } => (
+            Front::Nothing,
+            Two("ChainTask", Named(chain), Named(task)),
+        ),
+        ChainFault::OutOfMemory => (Front::Nothing, Alone("OutOfMemory")),
     }
 }
 
-// The same of the new set's chains, which the line says; out of memory stands alone.
-fn write_new_chain<W: fmt::Write>(fault: ChainFault, f: &mut fmt::Formatter<W>) -> fmt::Result
-    ensures { DisplaysOnOk W.write_str_gives f.old result
-        (Some (words_of (CommandRefusal.NewChain fault))) f.new }
+// A fault of a certificate's text, with its line.
+fn certificate_phrase(fault: CertFault) -> Phrase
+    ensures { phrase_words result ≡ certificate_words fault }
 {
     match fault {
-        ChainFault::OutOfMemory => f.write_str("OutOfMemory"),
-        _ => {
-            f.write_str("new ")?;
-            write_chain_fault(fault, f)
-        }
+        CertFault::BadHead => Alone("BadHead"),
+        CertFault::BadLine { line } => One("BadLine", Number(line)),
+        CertFault::Truncated => Alone("Truncated"),
+        CertFault::Trailing => Alone("Trailing"),
+        CertFault::OutOfMemory => Alone("OutOfMemory"),
     }
 }
 
-// The name of a fault of a certificate's text, with its line.
-fn write_certificate_fault<W: fmt::Write>(
-    fault: CertFault,
-    f: &mut fmt::Formatter<W>,
-) -> fmt::Result
-    ensures { DisplaysOnOk W.write_str_gives f.old result (Some (certificate_words fault)) f.new }
+// What a certificate fails to show, with its fields.
+fn check_phrase(fault: CheckFault) -> Phrase
+    ensures { phrase_words result ≡ check_words fault }
 {
     match fault {
-        CertFault::BadHead => f.write_str("BadHead"),
-        CertFault::BadLine { line } => write!(f, "BadLine {line}"),
-        CertFault::Truncated => f.write_str("Truncated"),
-        CertFault::Trailing => f.write_str("Trailing"),
-        CertFault::OutOfMemory => f.write_str("OutOfMemory"),
+        CheckFault::WrongVersion => Alone("WrongVersion"),
+        CheckFault::WrongTasks { level } => One("WrongTasks", Place(level)),
+        CheckFault::BadPass { level } => One("BadPass", Place(level)),
+        CheckFault::BadChain { level, name } => Two("BadChain", Place(level), Named(name)),
+        CheckFault::MissingFail { level, name } => Two("MissingFail", Place(level), Named(name)),
+        CheckFault::EmptySet => Alone("EmptySet"),
+        CheckFault::WrongChains => Alone("WrongChains"),
+        CheckFault::BadAge { name } => One("BadAge", Named(name)),
     }
 }
 
-// The name of what a certificate fails to show, with its fields.
-fn write_check_fault<W: fmt::Write>(fault: CheckFault, f: &mut fmt::Formatter<W>) -> fmt::Result
-    ensures { DisplaysOnOk W.write_str_gives f.old result (Some (check_words fault)) f.new }
+// A fault of a text, with its line.
+fn text_phrase(fault: TextFault) -> Phrase
+    ensures { phrase_words result ≡ text_words fault }
 {
     match fault {
-        CheckFault::WrongVersion => f.write_str("WrongVersion"),
-        CheckFault::WrongTasks { level } => write!(f, "WrongTasks {level}"),
-        CheckFault::BadPass { level } => write!(f, "BadPass {level}"),
-        CheckFault::BadChain { level, name } => write!(f, "BadChain {level} {name}"),
-        CheckFault::MissingFail { level, name } => write!(f, "MissingFail {level} {name}"),
-        CheckFault::EmptySet => f.write_str("EmptySet"),
+        TextFault::BadLine { line } => One("BadLine", Number(line)),
+        TextFault::OutOfMemory => Alone("OutOfMemory"),
     }
 }
 
-// The name of a fault of a text, with its line.
-fn write_text_fault<W: fmt::Write>(fault: TextFault, f: &mut fmt::Formatter<W>) -> fmt::Result
-    ensures { DisplaysOnOk W.write_str_gives f.old result (Some (text_words fault)) f.new }
+// What stopped a simulation, with its fields.
+fn run_phrase(fault: RunFault) -> Phrase
+    ensures { phrase_words result ≡ run_words fault }
 {
     match fault {
-        TextFault::BadLine { line } => write!(f, "BadLine {line}"),
-        TextFault::OutOfMemory => f.write_str("OutOfMemory"),
+        RunFault::Unsorted { place } => One("Unsorted", Place(place)),
+        RunFault::UnknownTask { place } => One("UnknownTask", Place(place)),
+        RunFault::TooSoon { place } => One("TooSoon", Place(place)),
+        RunFault::TooLate { place } => One("TooLate", Place(place)),
+        RunFault::OutsideCost { place } => One("OutsideCost", Place(place)),
+        RunFault::PastHorizon => Alone("PastHorizon"),
+        RunFault::TooMany => Alone("TooMany"),
+        RunFault::Overrun { name, time } => Two("Overrun", Named(name), Number(time)),
+        RunFault::OutOfMemory => Alone("OutOfMemory"),
     }
 }
 
-// The name of what stopped a simulation, with its fields.
-fn write_run_fault<W: fmt::Write>(fault: RunFault, f: &mut fmt::Formatter<W>) -> fmt::Result
-    ensures { DisplaysOnOk W.write_str_gives f.old result (Some (run_words fault)) f.new }
+// A fault of settings, with its line or its name.
+fn settings_phrase(fault: SettingsFault) -> Phrase
+    ensures { phrase_words result ≡ settings_words fault }
 {
     match fault {
-        RunFault::Unsorted { place } => write!(f, "Unsorted {place}"),
-        RunFault::UnknownTask { place } => write!(f, "UnknownTask {place}"),
-        RunFault::TooSoon { place } => write!(f, "TooSoon {place}"),
-        RunFault::TooLate { place } => write!(f, "TooLate {place}"),
-        RunFault::OutsideCost { place } => write!(f, "OutsideCost {place}"),
-        RunFault::PastHorizon => f.write_str("PastHorizon"),
-        RunFault::TooMany => f.write_str("TooMany"),
-        RunFault::Overrun { name, time } => write!(f, "Overrun {name} {time}"),
-        RunFault::OutOfMemory => f.write_str("OutOfMemory"),
+        SettingsFault::BadLine { line } => One("BadLine", Number(line)),
+        SettingsFault::UnknownTask { line } => One("UnknownTask", Number(line)),
+        SettingsFault::UnknownLock { line } => One("UnknownLock", Number(line)),
+        SettingsFault::SameTask { line } => One("SameTask", Number(line)),
+        SettingsFault::SameLock { line } => One("SameLock", Number(line)),
+        SettingsFault::SameNumber { line } => One("SameNumber", Number(line)),
+        SettingsFault::MissingTask { name } => One("MissingTask", Named(name)),
+        SettingsFault::MissingLock { name } => One("MissingLock", Named(name)),
+        SettingsFault::WrongCeiling { name, .. } => One("WrongCeiling", Named(name)),
+        SettingsFault::OutOfMemory => Alone("OutOfMemory"),
     }
 }
 
-// The same of the new set's run, which the line says; out of memory stands alone.
-fn write_new_run<W: fmt::Write>(fault: RunFault, f: &mut fmt::Formatter<W>) -> fmt::Result
-    ensures { DisplaysOnOk W.write_str_gives f.old result
-        (Some (words_of (CommandRefusal.NewRun fault))) f.new }
+// A fault of a trace, with its line.
+fn trace_phrase(fault: TraceFault) -> Phrase
+    ensures { phrase_words result ≡ trace_words fault }
 {
     match fault {
-        RunFault::OutOfMemory => f.write_str("OutOfMemory"),
-        _ => {
-            f.write_str("new ")?;
-            write_run_fault(fault, f)
-        }
+        TraceFault::BadLine { line } => One("BadLine", Number(line)),
+        TraceFault::SliceOverlap { line } => One("SliceOverlap", Number(line)),
+        TraceFault::JobUnsorted { line } => One("JobUnsorted", Number(line)),
+        TraceFault::TooManyLines => Alone("TooManyLines"),
+        TraceFault::NoJob { line } => One("NoJob", Number(line)),
+        TraceFault::OutOfMemory => Alone("OutOfMemory"),
     }
 }
 
-// The name of a fault of settings, with its line or its name.
-fn write_settings_fault<W: fmt::Write>(
-    fault: SettingsFault,
-    f: &mut fmt::Formatter<W>,
-) -> fmt::Result
-    ensures { DisplaysOnOk W.write_str_gives f.old result (Some (settings_words fault)) f.new }
+// Why lines were not run to the end.
+fn rush_phrase(fault: RushFault) -> Phrase
+    ensures { phrase_words result ≡ rush_words fault }
 {
-    match fault {
-        SettingsFault::BadLine { line } => write!(f, "BadLine {line}"),
-        SettingsFault::UnknownTask { line } => write!(f, "UnknownTask {line}"),
-        SettingsFault::UnknownLock { line } => write!(f, "UnknownLock {line}"),
-        SettingsFault::SameTask { line } => write!(f, "SameTask {line}"),
-        SettingsFault::SameLock { line } => write!(f, "SameLock {line}"),
-        SettingsFault::SameNumber { line } => write!(f, "SameNumber {line}"),
-        SettingsFault::MissingTask { name } => write!(f, "MissingTask {name}"),
-        SettingsFault::MissingLock { name } => write!(f, "MissingLock {name}"),
-        SettingsFault::WrongCeiling { name, .. } => write!(f, "WrongCeiling {name}"),
-        SettingsFault::OutOfMemory => f.write_str("OutOfMemory"),
-    }
+    Alone(match fault {
+        RushFault::OutOfMemory => "OutOfMemory",
+        RushFault::ThreadRefused => "ThreadRefused",
+        RushFault::Foreign => "Foreign",
+        RushFault::Behind => "Behind",
+        RushFault::ReceiptMismatch => "ReceiptMismatch",
+    })
 }
 
-// The same of the new set, which the line says; out of memory stands alone.
-fn write_new_settings<W: fmt::Write>(fault: SettingsFault, f: &mut fmt::Formatter<W>) -> fmt::Result
-    ensures { DisplaysOnOk W.write_str_gives f.old result
-        (Some (words_of (CommandRefusal.NewSettings fault))) f.new }
+// That no task or no chain has a name; none where the word is no name.
+fn unknown_phrase(what: &'static str, name: Option<Name>) -> Phrase
+    ensures { phrase_words result ≡ unknown_words what.now name }
 {
-    match fault {
-        SettingsFault::OutOfMemory => f.write_str("OutOfMemory"),
-        _ => {
-            f.write_str("new ")?;
-            write_settings_fault(fault, f)
-        }
+    match name {
+        Some(name) => One(what, Named(name)),
+        None => Alone(what),
     }
 }
 
-// The name of a fault of a trace, with its line.
-fn write_trace_fault<W: fmt::Write>(fault: TraceFault, f: &mut fmt::Formatter<W>) -> fmt::Result
-    ensures { DisplaysOnOk W.write_str_gives f.old result (Some (trace_words fault)) f.new }
-{
-    match fault {
-        TraceFault::BadLine { line } => write!(f, "BadLine {line}"),
-        TraceFault::SliceOverlap { line } => write!(f, "SliceOverlap {line}"),
-        TraceFault::JobUnsorted { line } => write!(f, "JobUnsorted {line}"),
-        TraceFault::TooManyLines => f.write_str("TooManyLines"),
-        TraceFault::NoJob { line } => write!(f, "NoJob {line}"),
-        TraceFault::OutOfMemory => f.write_str("OutOfMemory"),
-    }
-}
-
-// The name of why lines were not run to the end.
-fn write_rush_fault<W: fmt::Write>(fault: RushFault, f: &mut fmt::Formatter<W>) -> fmt::Result
-    ensures { DisplaysOnOk W.write_str_gives f.old result (Some (rush_words fault)) f.new }
-{
-    match fault {
-        RushFault::OutOfMemory => f.write_str("OutOfMemory"),
-        RushFault::ThreadRefused => f.write_str("ThreadRefused"),
-        RushFault::Foreign => f.write_str("Foreign"),
-        RushFault::Behind => f.write_str("Behind"),
-        RushFault::ReceiptMismatch => f.write_str("ReceiptMismatch"),
-    }
-}
-
-// The name of a refusal, with its fields.
-fn write_words<W: fmt::Write>(refusal: CommandRefusal, f: &mut fmt::Formatter<W>) -> fmt::Result
-    ensures { DisplaysOnOk W.write_str_gives f.old result (Some (words_of refusal)) f.new }
+// What a refusal says: of which part, and what, as of the first set.
+fn part_of(refusal: CommandRefusal) -> (Front, Phrase)
+    ensures { part_words result.0 (phrase_words result.1) ≡ first_words refusal }
 {
     match refusal {
-        CommandRefusal::Input(InputFault::TooLong) => f.write_str("InputTooLong"),
-        CommandRefusal::Input(InputFault::OutOfMemory) => f.write_str("OutOfMemory"),
-        CommandRefusal::Input(InputFault::ReadFailed) => f.write_str("ReadFailed"),
-        CommandRefusal::Set(fault) => write_teams_fault(fault, f),
-        CommandRefusal::New(fault) => write_new_fault(fault, f),
-        CommandRefusal::Doubtful(doubt) => write_doubt(doubt, f),
-        CommandRefusal::NewDoubtful(doubt) => write_new_doubt(doubt, f),
-        CommandRefusal::Chain(fault) => write_chain_fault(fault, f),
-        CommandRefusal::NewChain(fault) => write_new_chain(fault, f),
-        CommandRefusal::Certificate(fault) => write_certificate_fault(fault, f),
-        CommandRefusal::Check(fault) => write_check_fault(fault, f),
-        CommandRefusal::Text(fault) => write_text_fault(fault, f),
-        CommandRefusal::Run(fault) => write_run_fault(fault, f),
-        CommandRefusal::NewRun(fault) => write_new_run(fault, f),
-        CommandRefusal::Settings(fault) => write_settings_fault(fault, f),
-        CommandRefusal::NewSettings(fault) => write_new_settings(fault, f),
-        CommandRefusal::Trace(fault) => write_trace_fault(fault, f),
-        CommandRefusal::Script(fault) => write_script_fault(fault, f),
-        CommandRefusal::Rush(fault) => write_rush_fault(fault, f),
-        CommandRefusal::NoSuchTask { name: Some(name) } => write!(f, "NoSuchTask {name}"),
-        CommandRefusal::NoSuchTask { name: None } => f.write_str("NoSuchTask"),
-        CommandRefusal::EmptyWindow => f.write_str("EmptyWindow"),
-        CommandRefusal::TooManyTeams => f.write_str("TooManyTeams"),
-        CommandRefusal::OutOfMemory => f.write_str("OutOfMemory"),
+        CommandRefusal::Input(InputFault::TooLong) => (Front::Nothing, Alone("InputTooLong")),
+        CommandRefusal::Input(InputFault::ReadFailed) => (Front::Nothing, Alone("ReadFailed")),
+        CommandRefusal::Set(fault) | CommandRefusal::New(fault) => teams_part(fault),
+        CommandRefusal::Doubtful(doubt) | CommandRefusal::NewDoubtful(doubt) => {
+            (Front::Nothing, doubt_phrase(doubt))
+        }
+        CommandRefusal::Chain(fault) | CommandRefusal::NewChain(fault) => chain_part(fault),
+        CommandRefusal::Certificate(fault) => (Front::Nothing, certificate_phrase(fault)),
+        CommandRefusal::Check(fault) => (Front::Nothing, check_phrase(fault)),
+        CommandRefusal::Text(fault) => (Front::Nothing, text_phrase(fault)),
+        CommandRefusal::Run(fault) | CommandRefusal::NewRun(fault) => {
+            (Front::Nothing, run_phrase(fault))
+        }
+        CommandRefusal::Settings(fault) | CommandRefusal::NewSettings(fault) => {
+            (Front::Nothing, settings_phrase(fault))
+        }
+        CommandRefusal::Trace(fault) => (Front::Nothing, trace_phrase(fault)),
+        CommandRefusal::Script(fault) => script_part(fault),
+        CommandRefusal::Rush(fault) => (Front::Nothing, rush_phrase(fault)),
+        CommandRefusal::NoSuchTask { name } => (Front::Nothing, unknown_phrase("NoSuchTask", name)),
+        CommandRefusal::NoSuchChain { name } => {
+            (Front::Nothing, unknown_phrase("NoSuchChain", name))
+        }
+        CommandRefusal::ChainBeside => (Front::Nothing, Alone("ChainBeside")),
+        CommandRefusal::EmptyWindow => (Front::Nothing, Alone("EmptyWindow")),
+        CommandRefusal::TooManyTeams => (Front::Nothing, Alone("TooManyTeams")),
+        CommandRefusal::Input(InputFault::OutOfMemory) | CommandRefusal::OutOfMemory => {
+            (Front::Nothing, Alone("OutOfMemory"))
+        }
+    }
+}
+
+// What stands in front of that where it is of the new set; out of memory stands alone.
+fn new_word(refusal: CommandRefusal) -> &'static str
+    ensures { result.now ++ first_words refusal ≡ words_of refusal }
+{
+    match refusal {
+        CommandRefusal::New(TeamsFault::OutOfMemory)
+        | CommandRefusal::NewChain(ChainFault::OutOfMemory)
+        | CommandRefusal::NewRun(RunFault::OutOfMemory)
+        | CommandRefusal::NewSettings(SettingsFault::OutOfMemory) => "",
+        CommandRefusal::New(_)
+        | CommandRefusal::NewDoubtful(_)
+        | CommandRefusal::NewChain(_)
+        | CommandRefusal::NewRun(_)
+        | CommandRefusal::NewSettings(_) => "new ",
+        CommandRefusal::Input(_)
+        | CommandRefusal::Set(_)
+        | CommandRefusal::Doubtful(_)
+        | CommandRefusal::Chain(_)
+        | CommandRefusal::Certificate(_)
+        | CommandRefusal::Check(_)
+        | CommandRefusal::Text(_)
+        | CommandRefusal::Run(_)
+        | CommandRefusal::Settings(_)
+        | CommandRefusal::Trace(_)
+        | CommandRefusal::Script(_)
+        | CommandRefusal::Rush(_)
+        | CommandRefusal::NoSuchTask { .. }
+        | CommandRefusal::NoSuchChain { .. }
+        | CommandRefusal::ChainBeside
+        | CommandRefusal::EmptyWindow
+        | CommandRefusal::TooManyTeams
+        | CommandRefusal::OutOfMemory => "",
     }
 }
 
@@ -624,8 +602,10 @@ impl fmt::Display for CommandRefusal {
     ghost output = { λ refusal. Some (refusal_line refusal) };
 
     fn fmt<W: fmt::Write>(&self, f: &mut fmt::Formatter<W>) -> fmt::Result {
-        f.write_str("refused: ")?;
-        write_words(*self, f)?;
+        let new = new_word(*self);
+        let (front, phrase) = part_of(*self);
+        write!(f, "refused: {new}")?;
+        write_part(front, &phrase, f)?;
         f.write_str("\n")
     }
 }

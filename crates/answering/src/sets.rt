@@ -137,7 +137,7 @@ fn set_told<P: Audience>(
     match &read {
         Ok(preferred) => {
             people.preferred(&preferred.set, preferred.choice);
-            people.chained(!preferred.chains.is_empty());
+            people.chained(&preferred.chains);
         }
         Err(fault) => people.refused(Which::First, bytes, asked_refusal(*fault)),
     }

@@ -1,5 +1,5 @@
 -- The certificate of a verdict is accepted.
-use Rattle.std.proofs.Common.{◌≡◌, ℕ, ◌+◌, ◌<◌, ◌≤◌, true, cond, nat_lt, List, [], ◌∷◌, length}
+use Rattle.std.proofs.Common.{◌≡◌, ℕ, ◌+◌, ◌<◌, ◌≤◌, true, false, cond, nat_lt, List, [], ◌∷◌, length}
 use Rattle.std.proofs.Common.{Some, None, refl, sym, ◌∙◌, ap, subst, arith}
 use Rattle.std.specs.Prelude.{unwrap_or}
 use Rattle.std.specs.List.{AllByRecursion}
@@ -7,7 +7,7 @@ use Rattle.std.proofs.lemmas.Bool.{lt-ltb, ltb-true}
 use Rattle.task_sheet.proofs.Common.{Task, task_at, IsTaskSet, Indexes, IsPart, among}
 use Rattle.task_sheet.proofs.Common.{without_index, all_of, IsOrderOf, ReasonData, FailureData}
 use Rattle.task_sheet.proofs.Common.{LevelData, VerdictData, Admitted, Infeasible, tasks_of}
-use Rattle.task_sheet.proofs.Common.{order_of, IsVerdictOf, AllReady, IsReadyOrder, IsReadySet}
+use Rattle.task_sheet.proofs.Common.{order_of, IsVerdictOf, AllReady, IsReadySet}
 use Rattle.task_sheet.specs.Verdicts.{Chain, Over}
 use Rattle.task_sheet.specs.Ready.{time_of}
 use Rattle.task_sheet.proofs.TaskLaws.{AllTasks-from_set, place_of_name}
@@ -15,14 +15,18 @@ use Rattle.task_sheet.proofs.IndexLaws.{IsOrderOf-head, IsOrderOf-rest, without-
 use Rattle.task_sheet.proofs.IndexLaws.{order-below}
 use Rattle.task_sheet.proofs.VerdictLaws.{IsBestOrder-ready, IsStuck-ready}
 use Rattle.certificate.specs.CertificateOf.{reason_named, fails_named, levels_named, body_named}
-use Rattle.certificate.specs.CertificateOf.{certificate_of, IsKnownReason, IsKnownFail}
+use Rattle.certificate.specs.CertificateOf.{certificate_of, chains_shown, shows_chains, IsKnownReason, IsKnownFail}
+use Rattle.chain_tables.specs.Chains.{ChainData}
+use Rattle.cert_checker.specs.Ages.{sum_in}
+use Rattle.cert_checker.specs.Numbers.{IsChainOf, numbers_of}
+use Rattle.cert_checker.proofs.NumberLaws.{bound-is, numbers-plain}
 use Rattle.certificate.specs.Versions.{version_for}
 use Rattle.certificate.specs.declared.version.CertVersion.{CertVersion}
-use Rattle.certificate.specs.declared.version.CertVersion.TheVariants.{First, Second, Fourth}
+use Rattle.certificate.specs.declared.version.CertVersion.TheVariants.{First, Second, Fourth, Fifth}
 use Rattle.certificate.proofs.VerdictSpelling.{fails-below, fails-told, verdict-spelled}
 use Rattle.certificate.proofs.ReadingLaws.{reads_back}
 use Rattle.cert_checker.specs.Ready.{task_by_name, reason_by_index, failures_of, levels_of}
-use Rattle.cert_checker.specs.Ready.{may_serve, IsReadyBody, IsReady}
+use Rattle.cert_checker.specs.Ready.{may_serve, AreReadyChains, IsReadyBody, IsReady}
 use Rattle.cert_checker.specs.Answers.{kind_of, kind_of_verdict, IsAccepted}
 use Rattle.cert_checker.proofs.ReadyLaws.{faultless}
 
@@ -32,6 +36,7 @@ serves-own : (version : CertVersion) → may_serve version version ≡ true
 serves-own First = refl
 serves-own Second = refl
 serves-own Fourth = refl
+serves-own Fifth = refl
 
 -- the response is its time and the jitter
 response-own : (U : List Task) (l : LevelData) → 1 ≤ time_of U l
@@ -70,20 +75,35 @@ module _ (U : List Task) (set : IsTaskSet U) where
       rw (
         task-own l.task lt,
         response-own U l ready.0.positive,
-        failures-own l.fails (fails-told U set L l.fails below ready.0.refuted).0,
+        failures-own l.fails (fails-told U set false L l.fails below ready.0.refuted).0,
         levels-own (without_index L l.task) levels (IsOrderOf-rest L l.task (order_of levels) each)
             (without-part_of (length U) L l.task part) ready.1,
       ) refl
 
-  body-ready : (v : VerdictData) → IsVerdictOf U v → IsReadyBody U (body_named U v)
-  body-ready (Admitted levels) h =
+  -- the numbers of the chains are what their parts come to
+  numbers-ready : (levels : List LevelData) → IsOrderOf (all_of U) (order_of levels)
+      → (chains : List ChainData) → AllByRecursion (IsChainOf U) chains
+      → AreReadyChains U levels chains (numbers_of U chains (Admitted levels))
+  numbers-ready levels each [] are = tt
+  numbers-ready levels each (c ∷ chains) are =
+      let bound = bound-is U levels each c are.0 in
+      let least : sum_in c.writes U levels c.tasks
+      ≤ unwrap_or (Some (sum_in c.writes U levels c.tasks)) 0 =
+      omega arith in
+      (refl, rw bound least, numbers-ready levels each chains are.1)
+
+  body-ready : (chains : List ChainData) (v : VerdictData) → AllByRecursion (IsChainOf U) chains
+      → IsVerdictOf U v
+      → IsReadyBody U chains (body_named U v) (chains_shown (body_named U v) (numbers_of U chains v))
+  body-ready chains (Admitted levels) are h =
       let ready = IsBestOrder-ready U (AllTasks-from_set U set) levels h in
-      subst (IsReadyOrder U)
-      (sym (levels-own (all_of U) levels ready.each_once (λ k is. is) ready.ready)) ready
-  body-ready (Infeasible members) h =
+      let own = levels-own (all_of U) levels ready.each_once (λ k is. is) ready.ready in
+      let chained = numbers-ready levels ready.each_once chains are in
+      rw own (ready, chained)
+  body-ready chains (Infeasible members) are h =
       let ready = IsStuck-ready U members h in
       let L = among (tasks_of members) in
-      let known = (fails-told U set L members (order-below (length U) L (tasks_of members)
+      let known = (fails-told U set false L members (order-below (length U) L (tasks_of members)
       ready.distinct ready.within) ready.refuted).0 in
       subst (IsReadySet U) (sym (failures-own members known)) ready
 
@@ -91,15 +111,30 @@ module _ (U : List Task) (set : IsTaskSet U) where
   same-kind (Admitted levels) = refl
   same-kind (Infeasible members) = refl
 
-  pub verdict-accepted : (v : VerdictData) → IsVerdictOf U v → IsAccepted U v
-  verdict-accepted v h =
-      let spelled = verdict-spelled U set v h in
-      let ready : IsReady U (certificate_of U v) =
-      record { version = serves-own (version_for U); body = body-ready v h } in
+  -- numbers are shown where there are chains
+  same-shown : (chains : List ChainData) (v : VerdictData)
+      → shows_chains (body_named U v) (numbers_of U chains v) ≡ shows_chains (body_named U v) chains
+  same-shown [] (Admitted levels) = refl
+  same-shown (c ∷ chains) (Admitted levels) = refl
+  same-shown chains (Infeasible members) = refl
+
+  pub verdict-accepted : (chains : List ChainData) (v : VerdictData)
+      → AllByRecursion (IsChainOf U) chains → IsVerdictOf U v
+      → IsAccepted U chains v (certificate_of U v (numbers_of U chains v))
+  verdict-accepted chains v are h =
+      let numbers = numbers_of U chains v in
+      let c = certificate_of U v numbers in
+      let spelled = verdict-spelled U set v numbers h (numbers-plain U set chains v are h) in
+      let shown = same-shown chains v in
+      let version : may_serve (version_for (shows_chains (body_named U v) numbers) U)
+      (version_for (shows_chains (body_named U v) chains) U) ≡ true =
+      rw shown (serves-own (version_for (shows_chains (body_named U v) chains) U)) in
+      let ready : IsReady U chains c =
+      record { version = version; body = body-ready chains v are h } in
       record {
         spelled = spelled;
-        read_back = reads_back (certificate_of U v) spelled;
+        read_back = reads_back c spelled;
         ready = ready;
-        faultless = (faultless U (certificate_of U v)).1 ready;
+        faultless = (faultless U chains c).1 ready;
         kind = same-kind v;
       }

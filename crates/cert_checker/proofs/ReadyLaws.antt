@@ -3,28 +3,34 @@ use Rattle.std.proofs.Common.{◌≡◌, ◌↔◌, ℕ, suc, ◌+◌, ◌<◌, 
 use Rattle.std.proofs.Common.{not, List, [], ◌∷◌, length, Option, Some, None, refl, ap, arith}
 use Rattle.std.specs.Bool.{Decides}
 use Rattle.std.specs.Option.{option_or}
+use Rattle.std.specs.Prelude.{nat_le}
+use Rattle.std.proofs.lemmas.Slice.Eq.{bytes_eq-Decides}
 use Rattle.std.specs.List.{AllByRecursion}
 use Rattle.std.proofs.lemmas.Bool.{and_parts, both_ways, or_left, ltb-true, eq-eqb, not-true}
 use Rattle.std.proofs.lemmas.Bool.Decides.{nat_tests, Decides-and, Decides-ltb}
 use Rattle.task_sheet.proofs.Common.{Task, task_at, Indexes, IsPart, no_index, without_index, among}
 use Rattle.task_sheet.proofs.Common.{demand_of, limit_of, all_of, must_outrank, must_outrank_any, IsOrderOf}
-use Rattle.task_sheet.proofs.Common.{tasks_of, order_of, AllReady, IsReadyOrder, IsReadySet}
+use Rattle.task_sheet.proofs.Common.{LevelData, tasks_of, order_of, AllReady, IsReadyOrder, IsReadySet}
 use Rattle.task_sheet.specs.Ready.{time_of, Refutes, AllRefuted, IsReadyLevel}
 use Rattle.task_sheet.proofs.IndexLaws.{IsOrderOf-head, IsOrderOf-rest, without-part_of}
 use Rattle.task_sheet.proofs.IndexLaws.{order-below}
 use Rattle.certificate.specs.Body.{CertReasonData, Chain, Over, Fail, CertLevelData, Body, Best}
 use Rattle.certificate.specs.Body.{NoOrder, Cert}
+use Rattle.certificate.specs.CertificateOf.{shows_chains}
+use Rattle.certificate.specs.declared.value.CertChain.{CertChain}
 use Rattle.certificate.specs.Versions.{version_for}
+use Rattle.chain_tables.specs.Chains.{ChainData}
 use Rattle.certificate.proofs.VerdictSpelling.{fails-below}
 use Rattle.cert_checker.specs.Ready.{task_by_name, reason_by_index, failures_of, level_by_index}
-use Rattle.cert_checker.specs.Ready.{levels_of, may_serve, IsReadyBody, IsReady}
+use Rattle.cert_checker.specs.Ready.{levels_of, may_serve, AreReadyChains, IsReadyBody, IsReady}
+use Rattle.cert_checker.specs.Ages.{sum_in}
 use Rattle.cert_checker.specs.CertificateFaults.{fault_unless, are_new, has_all, are_lesser, time_stands}
 use Rattle.cert_checker.specs.CertificateFaults.{refutes, is_refuted, bad_fail, first_unnamed, missing_at}
 use Rattle.cert_checker.specs.CertificateFaults.{level_fault, levels_fault, order_fault, set_fault, body_fault}
-use Rattle.cert_checker.specs.CertificateFaults.{check_fault}
+use Rattle.cert_checker.specs.CertificateFaults.{are_named, bad_age, chains_fault, check_fault}
 use Rattle.cert_checker.specs.declared.fault.CheckFault.{CheckFault}
 use Rattle.cert_checker.specs.declared.fault.CheckFault.TheVariants.{WrongVersion, BadChain}
-use Rattle.cert_checker.specs.declared.fault.CheckFault.TheVariants.{EmptySet}
+use Rattle.cert_checker.specs.declared.fault.CheckFault.TheVariants.{EmptySet, WrongChains, BadAge}
 use Rattle.cert_checker.specs.declared.levels.LevelCheck.{LevelCheck}
 use Rattle.cert_checker.specs.declared.levels.LevelCheck.TheVariants.{Tasks, Pass, Chains, Missing}
 use Rattle.cert_checker.proofs.Tests.{at_most, as_said, chain-decides}
@@ -224,15 +230,59 @@ set-ready U cs ready =
     rw (named, (fails-none U 0 (among ks) cs).1 (known, ready.refuted))
     ((set-some U cs).1 ready.some)
 
--- ---- the whole
-body-none : (U : List Task) (b : Body) → (body_fault U b ≡ None) ↔ IsReadyBody U b
-body-none U (Best levels) = (order-without_fault U levels, order-ready U levels)
-body-none U (NoOrder members) = (set-without_fault U members, set-ready U members)
+-- ---- the chains
+module _ (U : List Task) (levels : List LevelData) where
+  enough : (c : ChainData) (s : CertChain)
+      → (fault_unless (nat_le (sum_in c.writes U levels c.tasks) s.number) (BadAge c.name) ≡ None)
+      ↔ (sum_in c.writes U levels c.tasks ≤ s.number)
+  enough c s = none-unless _ (BadAge c.name) (at_most (sum_in c.writes U levels c.tasks) s.number)
 
-pub faultless : (U : List Task) (c : Cert) → (check_fault U c ≡ None) ↔ IsReady U c
-faultless U c =
+  chains-sound : (chains : List ChainData) (said : List CertChain) → are_named chains said ≡ true
+      → bad_age U levels chains said ≡ None → AreReadyChains U levels chains said
+  chains-sound [] [] named none = tt
+  chains-sound [] (s ∷ said) named none = absurd cc
+  chains-sound (c ∷ chains) [] named none = absurd cc
+  chains-sound (c ∷ chains) (s ∷ said) named none =
+      let name = and_parts _ _ named in
+      let a = none-or _ _ none in (
+        (bytes_eq-Decides s.name c.name).0 name.0,
+        (enough c s).0 a.0,
+        chains-sound chains said name.1 a.1,
+      )
+
+  chains-complete : (chains : List ChainData) (said : List CertChain)
+      → AreReadyChains U levels chains said
+      → (are_named chains said ≡ true) × (bad_age U levels chains said ≡ None)
+  chains-complete [] [] ready = (refl, refl)
+  chains-complete [] (s ∷ said) ready = absurd ready
+  chains-complete (c ∷ chains) [] ready = absurd ready
+  chains-complete (c ∷ chains) (s ∷ said) ready =
+      let others = chains-complete chains said ready.2 in (
+        rw ((bytes_eq-Decides s.name c.name).1 ready.0) others.0,
+        rw ((enough c s).1 ready.1) others.1,
+      )
+
+  chains-none : (chains : List ChainData) (said : List CertChain)
+      → (chains_fault U levels chains said ≡ None) ↔ AreReadyChains U levels chains said
+  chains-none chains said = (
+    λ e. let g = guard-none _ _ WrongChains e in chains-sound chains said g.0 g.1,
+    λ ready. let both = chains-complete chains said ready in rw both.0 both.1,
+  )
+
+-- ---- the whole
+body-none : (U : List Task) (chains : List ChainData) (b : Body) (said : List CertChain)
+    → (body_fault U chains b said ≡ None) ↔ IsReadyBody U chains b said
+body-none U chains (Best levels) said = none-both _ _
+    (order-without_fault U levels, order-ready U levels)
+    (chains-none U (levels_of U levels) chains said)
+body-none U chains (NoOrder members) said = (set-without_fault U members, set-ready U members)
+
+pub faultless : (U : List Task) (chains : List ChainData) (c : Cert)
+    → (check_fault U chains c ≡ None) ↔ IsReady U chains c
+faultless U chains c =
     let both = none-both _ _ (none-unless _ WrongVersion
-    (as_said (may_serve c.version (version_for U)))) (body-none U c.body) in (
+    (as_said (may_serve c.version (version_for (shows_chains c.body chains) U))))
+    (body-none U chains c.body c.chains) in (
       λ e. let p = both.0 e in record { version = p.0; body = p.1 },
       λ h. both.1 (h.version, h.body),
     )

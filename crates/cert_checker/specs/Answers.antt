@@ -2,11 +2,11 @@
 use Rattle.std.specs.Prelude.{◌≡◌, ℕ, List, [], None, Ok}
 use Rattle.task_sheet.specs.Sheet.{Task}
 use Rattle.task_sheet.specs.Verdicts.{VerdictData, Admitted, Infeasible, order_of}
-use Rattle.certificate.specs.Body.{Body, HasSpelling}
+use Rattle.certificate.specs.Body.{Body, Cert, HasSpelling}
+use Rattle.chain_tables.specs.Chains.{ChainData}
 use Rattle.certificate.specs.Body as says
 use Rattle.certificate.specs.Spelling.{spelling}
 use Rattle.certificate.specs.CertificateLines.{certificate_in}
-use Rattle.certificate.specs.CertificateOf.{certificate_of}
 use Rattle.cert_checker.specs.Ready.{levels_of, IsReady}
 use Rattle.cert_checker.specs.CertificateFaults.{check_fault}
 use Rattle.cert_checker.specs.declared.checking.Checked.{Checked}
@@ -27,10 +27,10 @@ abbrev pub kind_of_verdict : VerdictData → Checked
 kind_of_verdict (Admitted levels) = Best
 kind_of_verdict (Infeasible members) = NoOrder
 
--- the certificate of a verdict is written, read back, ready, faultless and of the verdict's kind
-pub record IsAccepted (U : List Task) (v : VerdictData) : Type 0 where
-  pub spelled : HasSpelling (certificate_of U v)
-  pub read_back : certificate_in (spelling (certificate_of U v)) ≡ Ok (certificate_of U v)
-  pub ready : IsReady U (certificate_of U v)
-  pub faultless : check_fault U (certificate_of U v) ≡ None
-  pub kind : kind_of (certificate_of U v).body ≡ kind_of_verdict v
+-- a certificate of a verdict on a set with these chains is written, read back, ready, faultless and of the verdict's kind
+pub record IsAccepted (U : List Task) (chains : List ChainData) (v : VerdictData) (c : Cert) : Type 0 where
+  pub spelled : HasSpelling c
+  pub read_back : certificate_in (spelling c) ≡ Ok c
+  pub ready : IsReady U chains c
+  pub faultless : check_fault U chains c ≡ None
+  pub kind : kind_of c.body ≡ kind_of_verdict v

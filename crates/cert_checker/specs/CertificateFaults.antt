@@ -1,20 +1,24 @@
 -- The first fault of a certificate: each check goes over the whole of it before the next.
-use Rattle.std.specs.Prelude.{ℕ, zero, suc, ◌+◌, Bool, true, ◌&&◌, not, ◌==◌, nat_lt, nat_le, List}
+use Rattle.std.specs.Prelude.{ℕ, zero, suc, ◌+◌, Bool, true, false, ◌&&◌, not, ◌==◌, nat_lt, nat_le, List}
 use Rattle.std.specs.Prelude.{[], ◌∷◌, length, Option, Some, None, if◌then◌else◌}
 use Rattle.std.specs.Option.{option_or}
-use Rattle.task_sheet.specs.Sheet.{Task, task_at}
+use Rattle.task_sheet.specs.Sheet.{Task, task_at, same_bytes}
 use Rattle.task_sheet.specs.Indexes.{Indexes, no_index, with_index, without_index, among}
 use Rattle.task_sheet.specs.Demand.{demand_of, limit_of}
 use Rattle.task_sheet.specs.Orders.{all_of, must_outrank, must_outrank_any}
-use Rattle.task_sheet.specs.Verdicts.{tasks_of, order_of}
+use Rattle.task_sheet.specs.Verdicts.{LevelData, tasks_of, order_of}
 use Rattle.certificate.specs.Body.{CertReasonData, Chain, Over, Fail, CertLevelData, Body, Best, NoOrder, Cert}
+use Rattle.certificate.specs.declared.value.CertChain.{CertChain}
+use Rattle.certificate.specs.CertificateOf.{shows_chains}
 use Rattle.certificate.specs.Versions.{version_for}
 use Rattle.cert_checker.specs.Ready.{task_by_name, failures_of, levels_of, may_serve}
+use Rattle.chain_tables.specs.Chains.{ChainData}
+use Rattle.cert_checker.specs.Ages.{sum_in}
 use Rattle.cert_checker.specs.Chains.{are_chain}
 use Rattle.cert_checker.specs.declared.fault.CheckFault.{CheckFault}
 use Rattle.cert_checker.specs.declared.fault.CheckFault.TheVariants.{WrongVersion, WrongTasks}
 use Rattle.cert_checker.specs.declared.fault.CheckFault.TheVariants.{BadPass, BadChain, MissingFail}
-use Rattle.cert_checker.specs.declared.fault.CheckFault.TheVariants.{EmptySet}
+use Rattle.cert_checker.specs.declared.fault.CheckFault.TheVariants.{EmptySet, WrongChains, BadAge}
 use Rattle.cert_checker.specs.declared.levels.LevelCheck.{LevelCheck}
 use Rattle.cert_checker.specs.declared.levels.LevelCheck.TheVariants.{Tasks, Pass, Chains, Missing}
 
@@ -105,8 +109,29 @@ levels_fault U asked place L (l ∷ ls) =
     option_or (level_fault U asked place L l)
     (levels_fault U asked (place + 1) (without_index L (task_by_name U l.name)) ls)
 
+-- ---- the chains
+-- these are the chains by name, in order
+abbrev pub are_named : List ChainData → (said : List CertChain) → Bool
+are_named [] [] = true
+are_named (c ∷ chains) (s ∷ said) = same_bytes s.name c.name && are_named chains said
+are_named _ _ = false
+
+-- the first of the chains whose number is below what its parts come to
+abbrev pub bad_age : List Task → List LevelData → List ChainData → (said : List CertChain) → Option CheckFault
+bad_age U levels [] said = None
+bad_age U levels (c ∷ chains) [] = None
+bad_age U levels (c ∷ chains) (s ∷ said) =
+    option_or (fault_unless (nat_le (sum_in c.writes U levels c.tasks) s.number) (BadAge c.name))
+    (bad_age U levels chains said)
+
+-- the first fault of what is said of chains: WrongChains, BadAge
+abbrev pub chains_fault : List Task → List LevelData → List ChainData → (said : List CertChain)
+    → Option CheckFault
+chains_fault U levels chains said =
+    if are_named chains said then bad_age U levels chains said else Some WrongChains
+
 -- ---- the whole
--- the first fault of a `best` certificate: WrongTasks, BadPass, BadChain, MissingFail
+-- the first fault of a `best` certificate's levels: WrongTasks, BadPass, BadChain, MissingFail
 abbrev pub order_fault : List Task → List CertLevelData → Option CheckFault
 order_fault U levels =
     if are_new (length U) no_index (order_of (levels_of U levels))
@@ -117,6 +142,12 @@ order_fault U levels =
     (levels_fault U Missing 1 (all_of U) levels)))
     else Some (WrongTasks 0)
 
+-- that of a `best` certificate: its levels', then what is said of chains
+abbrev pub best_fault : List Task → List ChainData → List CertLevelData → (said : List CertChain)
+    → Option CheckFault
+best_fault U chains levels said =
+    option_or (order_fault U levels) (chains_fault U (levels_of U levels) chains said)
+
 -- the first fault of a `none` certificate: WrongTasks, BadChain, EmptySet
 abbrev pub set_fault : List Task → List Fail → Option CheckFault
 set_fault U members =
@@ -125,13 +156,13 @@ set_fault U members =
     (fault_unless (not (length members == 0)) EmptySet)
     else Some (WrongTasks 0)
 
--- the first fault of a body, an order's or a set's
-abbrev pub body_fault : List Task → Body → Option CheckFault
-body_fault U (Best levels) = order_fault U levels
-body_fault U (NoOrder members) = set_fault U members
+-- the first fault of a body, an order's with what is said of chains, or a set's
+abbrev pub body_fault : List Task → List ChainData → Body → (said : List CertChain) → Option CheckFault
+body_fault U chains (Best levels) said = best_fault U chains levels said
+body_fault U chains (NoOrder members) said = set_fault U members
 
--- the first fault of a certificate: WrongVersion, and then its body's
-abbrev pub check_fault : List Task → Cert → Option CheckFault
-check_fault U c =
-    option_or (fault_unless (may_serve c.version (version_for U)) WrongVersion)
-    (body_fault U c.body)
+-- the first fault of a certificate, of a set with these chains: WrongVersion, and then its body's
+abbrev pub check_fault : List Task → List ChainData → Cert → Option CheckFault
+check_fault U chains c =
+    option_or (fault_unless (may_serve c.version (version_for (shows_chains c.body chains) U)) WrongVersion)
+    (body_fault U chains c.body c.chains)

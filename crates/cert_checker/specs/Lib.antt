@@ -1,3 +1,6 @@
+pub mod Ages
+pub mod Bounded
+pub mod Numbers
 pub mod Ready
 pub mod Chains
 pub mod CertificateFaults

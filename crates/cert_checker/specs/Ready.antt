@@ -1,14 +1,18 @@
--- A certificate's names as the tasks of a set, and what it has to show.
-use Rattle.std.specs.Prelude.{◌≡◌, ℕ, ◌+◌, Bool, true, false, List, length, map, position}
+-- A certificate's names as the tasks of a set, and what it has to show of these and the set's chains.
+use Rattle.std.specs.Prelude.{◌≡◌, ℕ, ◌+◌, ◌≤◌, Bool, true, false, List, [], ◌∷◌, length, map, position}
 use Rattle.std.specs.Prelude.{unwrap_or}
 use Rattle.task_sheet.specs.Sheet.{Task, task_at, same_bytes}
 use Rattle.task_sheet.specs.Verdicts as verdict
 use Rattle.task_sheet.specs.Verdicts.{ReasonData, FailureData, LevelData}
 use Rattle.task_sheet.specs.Ready.{IsReadyOrder, IsReadySet}
 use Rattle.certificate.specs.Body.{CertReasonData, Chain, Over, Fail, CertLevelData, Body, Best, NoOrder, Cert}
+use Rattle.certificate.specs.declared.value.CertChain.{CertChain}
+use Rattle.certificate.specs.CertificateOf.{shows_chains}
 use Rattle.certificate.specs.Versions.{version_for}
+use Rattle.chain_tables.specs.Chains.{ChainData}
+use Rattle.cert_checker.specs.Ages.{sum_in}
 use Rattle.certificate.specs.declared.version.CertVersion.{CertVersion}
-use Rattle.certificate.specs.declared.version.CertVersion.TheVariants.{First, Second, Fourth}
+use Rattle.certificate.specs.declared.version.CertVersion.TheVariants.{First, Second, Fourth, Fifth}
 
 -- the task with a name; a name that no task has stands past the end of the set
 abbrev pub task_by_name : List Task → List ℕ → ℕ
@@ -39,25 +43,30 @@ level_by_index U l = record {
 abbrev pub levels_of : List Task → List CertLevelData → List LevelData
 levels_of U ls = map (level_by_index U) ls
 
--- the body is ready for the set: it shows its order best, or that no order passes
-abbrev pub IsReadyBody : List Task → Body → Type 0
-IsReadyBody U (Best levels) = IsReadyOrder U (levels_of U levels)
-IsReadyBody U (NoOrder members) = IsReadySet U (failures_of U members)
+-- what is said of each chain of the set, in order, is its name, and no less than what its parts come to
+abbrev pub AreReadyChains : List Task → List LevelData → List ChainData → (said : List CertChain) → Type 0
+AreReadyChains U levels [] [] = Unit {0}
+AreReadyChains U levels (c ∷ chains) (s ∷ said) =
+    (s.name ≡ c.name) × (sum_in c.writes U levels c.tasks ≤ s.number) × AreReadyChains U levels chains said
+AreReadyChains U levels _ _ = ⊥
 
--- a certificate of a version may speak of a set that needs one: the fourth serves where it is needed and nowhere
--- else, the second also where the first would do
+-- the body is ready for the set: it shows its order best, and what is said of its chains; or that no order passes
+abbrev pub IsReadyBody : List Task → List ChainData → Body → (said : List CertChain) → Type 0
+IsReadyBody U chains (Best levels) said =
+    IsReadyOrder U (levels_of U levels) × AreReadyChains U (levels_of U levels) chains said
+IsReadyBody U chains (NoOrder members) said = IsReadySet U (failures_of U members)
+
+-- a certificate of a version may speak of a set that needs one: the fourth and the fifth serve where they are needed and
+-- nowhere else, the second also where the first would do
 abbrev pub may_serve : (version needed : CertVersion) → Bool
 may_serve First First = true
-may_serve First Second = false
-may_serve First Fourth = false
 may_serve Second First = true
 may_serve Second Second = true
-may_serve Second Fourth = false
-may_serve Fourth First = false
-may_serve Fourth Second = false
 may_serve Fourth Fourth = true
+may_serve Fifth Fifth = true
+may_serve _ _ = false
 
--- the certificate is ready for the set: its version serves the set, and its body is ready
-pub record IsReady (U : List Task) (c : Cert) : Type 0 where
-  pub version : may_serve c.version (version_for U) ≡ true
-  pub body : IsReadyBody U c.body
+-- the certificate is ready for the set with these chains: its version serves, and its body is ready
+pub record IsReady (U : List Task) (chains : List ChainData) (c : Cert) : Type 0 where
+  pub version : may_serve c.version (version_for (shows_chains c.body chains) U) ≡ true
+  pub body : IsReadyBody U chains c.body c.chains

@@ -3,14 +3,19 @@ ghost use Rattle.std.specs.Prelude.{◌≡◌, ◌↔◌, IfOk, IfErr, IsOk, Mat
 ghost use Rattle.task_sheet.specs.Orders.{IsBest, IsFeasible};
 ghost use Rattle.cert_checker.specs.Ready.{may_serve, IsReady};
 ghost use Rattle.cert_checker.specs.Answers.{kind_of, order_in};
-ghost use Rattle.cert_checker.specs.CertificateFaults.{order_fault, set_fault, body_fault, check_fault};
+ghost use Rattle.certificate.specs.CertificateOf.{shows_chains};
+ghost use Rattle.cert_checker.specs.CertificateFaults.{order_fault, best_fault, set_fault, body_fault, check_fault};
 ghost use Rattle.certificate.specs.BodyOf.{body_of};
 
-use crate::chains::bad_fail;
+use crate::ages::chains_fault;
 use crate::fault::CheckFault;
 use crate::levels::{LevelCheck, levels_fault};
 use crate::naming::{is_order, tasks_of};
-use certificate::{CertBody, CertFail, CertLevel, CertVersion, Certificate, version_for};
+use crate::refuting::bad_fail;
+use certificate::{
+    CertBody, CertChain, CertFail, CertLevel, CertVersion, Certificate, version_for,
+};
+use chain_tables::Chain;
 use task_sheet::TaskSet;
 
 /// What a certificate shows.
@@ -65,19 +70,50 @@ fn may_serve(version: CertVersion, needed: CertVersion) -> bool
         (CertVersion::First, CertVersion::First) => true,
         (CertVersion::Second, CertVersion::First | CertVersion::Second) => true,
         (CertVersion::Fourth, CertVersion::Fourth) => true,
+        (CertVersion::Fifth, CertVersion::Fifth) => true,
         _ => false,
     }
 }
 
-// What a body shows, or its first fault.
-fn shown(set: &TaskSet, body: &CertBody) -> Result<Checked, CheckFault>
-    ensures { MatchResult result
-        (λ kind. (body_fault set.now (body_of body.now) ≡ None)
-        × (kind ≡ kind_of (body_of body.now)))
-        (λ fault. body_fault set.now (body_of body.now) ≡ Some fault) }
+// The first fault of a `best` certificate, with what it says of chains.
+fn best_fault(
+    set: &TaskSet,
+    chains: &[Chain],
+    levels: &[CertLevel],
+    said: &[CertChain],
+) -> Option<CheckFault>
+    ensures { result ≡ best_fault set.now chains.now levels.now said.now }
+{
+    if let Some(fault) = order_fault(set, levels) {
+        return Some(fault);
+    }
+    chains_fault(set, levels, chains, said)
+}
+
+// Whether a certificate shows the chains of a set: that of a best order does, if there are some.
+fn shows_chains(body: &CertBody, chains: &[Chain]) -> bool
+    ensures { result ≡ shows_chains (body_of body.now) chains.now }
 {
     match body {
-        CertBody::Best(levels) => match order_fault(set, levels) {
+        CertBody::Best(_) => !chains.is_empty(),
+        CertBody::NoOrder(_) => false,
+    }
+}
+
+// What a body shows with what is said of chains, or its first fault.
+fn shown(
+    set: &TaskSet,
+    chains: &[Chain],
+    body: &CertBody,
+    said: &[CertChain],
+) -> Result<Checked, CheckFault>
+    ensures { MatchResult result
+        (λ kind. (body_fault set.now chains.now (body_of body.now) said.now ≡ None)
+        × (kind ≡ kind_of (body_of body.now)))
+        (λ fault. body_fault set.now chains.now (body_of body.now) said.now ≡ Some fault) }
+{
+    match body {
+        CertBody::Best(levels) => match best_fault(set, chains, levels, said) {
             None => Ok(Checked::Best),
             Some(fault) => Err(fault),
         },
@@ -89,29 +125,35 @@ fn shown(set: &TaskSet, body: &CertBody) -> Result<Checked, CheckFault>
 }
 
 // What the certificate shows, or its first fault.
-fn judged(set: &TaskSet, certificate: &Certificate) -> Result<Checked, CheckFault>
+fn judged(set: &TaskSet, chains: &[Chain], certificate: &Certificate) -> Result<Checked, CheckFault>
     ensures { MatchResult result
-        (λ kind. (check_fault set.now certificate.now ≡ None)
+        (λ kind. (check_fault set.now chains.now certificate.now ≡ None)
         × (kind ≡ kind_of certificate.now.body))
-        (λ fault. check_fault set.now certificate.now ≡ Some fault) }
+        (λ fault. check_fault set.now chains.now certificate.now ≡ Some fault) }
 {
-    if !may_serve(certificate.version(), version_for(set)) {
+    let body = certificate.body();
+    let needed = version_for(shows_chains(body, chains), set);
+    if !may_serve(certificate.version(), needed) {
         return Err(CheckFault::WrongVersion);
     }
-    shown(set, certificate.body())
+    shown(set, chains, body, certificate.chains())
 }
 
-/// Checks a certificate against a set, whoever wrote it: by the numbers alone, in the order of the
-/// faults, each over the whole certificate before the next. It takes no memory.
-pub fn check(set: &TaskSet, certificate: &Certificate) -> Result<Checked, CheckFault>
-    ensures ready { IsOk result ↔ IsReady set.now certificate.now }
+/// Checks a certificate against a set and its chains, whoever wrote it: by the numbers alone, in the
+/// order of the faults, each over the whole certificate before the next. It takes no memory.
+pub fn check(
+    set: &TaskSet,
+    chains: &[Chain],
+    certificate: &Certificate,
+) -> Result<Checked, CheckFault>
+    ensures ready { IsOk result ↔ IsReady set.now chains.now certificate.now }
     ensures kind { IfOk result (λ kind. kind ≡ kind_of certificate.now.body) }
-    ensures fault { IfErr result (λ fault. check_fault set.now certificate.now ≡ Some fault) }
+    ensures fault { IfErr result (λ fault. check_fault set.now chains.now certificate.now ≡ Some fault) }
     ensures best { result ≡ Ok Checked.Best
         → IsBest set.now (order_in set.now certificate.now.body) }
     ensures no_order { result ≡ Ok Checked.NoOrder → ¬ IsFeasible set.now }
 {
     // Its contract says that the set is one of at most 32 valid sheets.
     let _sheets = set.sheets();
-    judged(set, certificate)
+    judged(set, chains, certificate)
 }

@@ -6,9 +6,10 @@ use task_sheet::Name;
 /// whole certificate.
 #[derive(Clone, Copy, Debug)]
 pub enum CheckFault {
-    /// The certificate's version doesn't serve for the set: it is the fourth, and no task of the set has
-    /// a timer that takes time or an interrupt on its account; or an earlier one, and some task has; or
-    /// the first, and some task has jitter or must stand above another one.
+    /// The certificate's version doesn't serve for the set: it is the fifth, and it shows no order or the
+    /// set has no chains; or another one, and both; it is the fourth, and no task of the set has a timer
+    /// that takes time or an interrupt on its account; or an earlier one, and some task has; or the first,
+    /// and some task has jitter or must stand above another one.
     WrongVersion,
     /// At level 0 the levels do not name the set's tasks each once, or a member is no task or named
     /// twice; at another the failures are not of remaining tasks of smaller rank than the chosen
@@ -25,4 +26,8 @@ pub enum CheckFault {
     MissingFail { level: usize, name: Name },
     /// A set without members.
     EmptySet,
+    /// Its chains are not the set's, in their order.
+    WrongChains,
+    /// The chain's number is less than what its parts come to.
+    BadAge { name: Name },
 }

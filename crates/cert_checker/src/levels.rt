@@ -8,9 +8,9 @@ ghost use Rattle.certificate.specs.Body.{CertLevelData};
 ghost use Rattle.cert_checker.specs.Ready.{task_by_name, failures_of};
 ghost use Rattle.cert_checker.specs.CertificateFaults.{fault_unless, are_lesser, first_unnamed, missing_at, level_fault, levels_fault};
 
-use crate::chains::{bad_fail, time_stands};
 use crate::fault::CheckFault;
 use crate::naming::task_by_name;
+use crate::refuting::{bad_fail, time_stands};
 use certificate::{CertFail, CertLevel};
 use task_sheet::{Members, Name, TaskSet};
 

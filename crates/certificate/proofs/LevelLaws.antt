@@ -2,7 +2,6 @@
 use Rattle.std.proofs.Common.{◌≡◌, ℕ, ◌+◌, eq-eqb, true, List, [], ◌∷◌, ◌++◌, Option, Some, None}
 use Rattle.std.proofs.Common.{Ok, refl, sym, ap, ◌∙◌, append_assoc, arith}
 use Rattle.std.specs.Prelude.{codes}
-use Rattle.std.specs.List.{AllByRecursion, join_with_byte}
 use Rattle.std.specs.Fmt.{decimal}
 use Rattle.std.proofs.lemmas.Bool.{eqb-true, and_parts}
 use Rattle.std.proofs.lemmas.Option.{cond_some}
@@ -10,19 +9,17 @@ use Rattle.std.proofs.lemmas.Slice.Eq.{bytes_eq-Decides}
 use Rattle.task_sheet.specs.Name.{is_name, IsName}
 use Rattle.certificate.specs.Body.{Fail, CertLevelData, IsShort, IsFailText, IsLevelText}
 use Rattle.certificate.specs.Spelling.{fail_line, fail_lines, level_spelling}
-use Rattle.lines.specs.TextLines.{parts}
 use Rattle.lines.specs.Words.{words, number_in}
 use Rattle.certificate.specs.Words.{fail_in}
-use Rattle.certificate.specs.CertificateLines.{At, level_head, level_in, fails_case, fails_from, level_read}
+use Rattle.certificate.specs.CertificateLines.{At, level_head, level_in, fails_from, level_read}
 use Rattle.certificate.specs.declared.version.CertVersion.{CertVersion}
 use Rattle.lines.proofs.NumberLaws.{number_takes, number_again}
-use Rattle.lines.proofs.Parts.{parts_some}
-use Rattle.certificate.proofs.Loops.{fails_line}
+use Rattle.certificate.proofs.FrontLaws.{IsSpelled, BeginsNone, front_take, front_none, front_again}
 use Rattle.certificate.proofs.WordLaws.{name_word, number_word, line_of, words_take, IsLine}
-use Rattle.certificate.proofs.WordLaws.{words_again, parts_again, cond_given}
+use Rattle.certificate.proofs.WordLaws.{words_again, cond_given}
 use Rattle.certificate.proofs.FailLaws.{fail_words, fail_takes, fail_again, fail_plain}
 use Rattle.certificate.proofs.FailLaws.{fail_line_is}
-use Rattle.certificate.proofs.LineLaws.{left, at_text, bind_ok, ok_is, wanted_ok, line_takes}
+use Rattle.certificate.proofs.LineLaws.{left, bind_ok, ok_is, wanted_ok, line_takes}
 use Rattle.certificate.proofs.LineLaws.{line_again, Reads}
 
 -- the words of a level's line
@@ -91,57 +88,33 @@ level_text_is k l rest = simp append_assoc
 
 module _ (v : CertVersion) where
   -- ---- the failures of a level
-  -- of these parts the failures at the front were taken
-  abbrev IsTaken : List (List ℕ) → List Fail × At → Type 0
-  IsTaken ps x = (join_with_byte 10 ps ≡ fail_lines (codes "fails") x.0 ++ left x.1)
-      × AllByRecursion (IsFailText v) x.0
-
-  fails_take : (ps : List (List ℕ)) (n : ℕ) → IsTaken ps (fails_from v ps n)
-  unfolding fails_from
-  fails_take [] n = (refl, tt)
-  fails_take (l ∷ []) n = (refl, tt)
-  fails_take (l ∷ x ∷ xs) n = by (fail_in v (codes "fails") (words l)) refl
-      (fails_from v (x ∷ xs) (n + 1)) (fails_take (x ∷ xs) (n + 1))
-    where
-      by : (o : Option Fail) → fail_in v (codes "fails") (words l) ≡ o → (rest : List Fail × At)
-          → IsTaken (x ∷ xs) rest
-          → IsTaken (l ∷ x ∷ xs) (fails_case o (record { parts = l ∷ x ∷ xs; line = n }) rest)
-      by None is rest h = (refl, tt)
-      by (Some f) is rest h =
-          let t = fail_takes v (codes "fails") (words l) f is in (
-            rw (h.0, words_take l _ t.0)
-                (sym (append_assoc (fail_line (codes "fails") f) _ _
-                ∙ fail_line_is v (codes "fails") f _ t.1)),
-            (t.1, h.1),
-          )
-
   -- no line of a failure comes first
   abbrev pub BeginsNoFailure : List ℕ → Type 0
-  BeginsNoFailure rest = (n : ℕ) → fails_from v (parts rest) n ≡ ([], at_text rest n)
+  BeginsNoFailure rest = BeginsNone (fail_in v (codes "fails")) (fail_line (codes "fails"))
+      (IsFailText v) rest
 
   pub no_failure : {ws : List (List ℕ)} (text rest : List ℕ) → IsLine ws
       → text ≡ line_of ws ++ 10 ∷ rest → fail_in v (codes "fails") ws ≡ None
       → BeginsNoFailure text
-  no_failure {ws} text rest line e none n = rw (parts_again text rest line e)
-      (fails_line v (line_of ws) (parts rest) n (parts_some rest)
-      ∙ rw (words_again line, none) refl)
+  no_failure text rest line e none = front_none (fail_in v (codes "fails"))
+      (fail_line (codes "fails")) (IsFailText v) text rest line e none
 
-  fails_again : (fs : List Fail) (rest : List ℕ) (n : ℕ) → AllByRecursion (IsFailText v) fs
-      → BeginsNoFailure rest → (m : ℕ)
-      × (fails_from v (parts (fail_lines (codes "fails") fs ++ rest)) n ≡ (fs, at_text rest m))
-  fails_again [] rest n fits none = (n, none n)
-  fails_again (f ∷ fs) rest n fits none =
-      let more : List ℕ = fail_lines (codes "fails") fs ++ rest in
-      let line : List ℕ = line_of (fail_words (codes "fails") f) in
-      let plain = fail_plain v (codes "fails") f (name_word (codes "fails") refl) fits.0 in
-      let cut = parts_again (fail_lines (codes "fails") (f ∷ fs) ++ rest) more plain
-      (append_assoc (fail_line (codes "fails") f) (fail_lines (codes "fails") fs) rest
-      ∙ fail_line_is v (codes "fails") f more fits.0) in
-      let others = fails_again fs rest (n + 1) fits.1 none in (
-        others.0,
-        ap (λ (ps : List (List ℕ)). fails_from v ps n) cut
-            ∙ fails_line v line (parts more) n (parts_some more)
-            ∙ rw (words_again plain, fail_again v (codes "fails") f fits.0, others.1) refl,
+  fail_spelled : (f : Fail) → IsFailText v f
+      → IsSpelled (fail_in v (codes "fails")) (fail_line (codes "fails")) f
+  fail_spelled f fits = record {
+    words = fail_words (codes "fails") f;
+    plain = fail_plain v (codes "fails") f (name_word (codes "fails") refl) fits;
+    is = λ rest. fail_line_is v (codes "fails") f rest fits;
+    again = fail_again v (codes "fails") f fits;
+  }
+
+  fail_taken : (l : List ℕ) (f : Fail) → fail_in v (codes "fails") (words l) ≡ Some f
+      → ((rest : List ℕ) → l ++ 10 ∷ rest ≡ fail_line (codes "fails") f ++ rest) × IsFailText v f
+  fail_taken l f is =
+      let t = fail_takes v (codes "fails") (words l) f is in (
+        λ rest. ap (λ (y : List ℕ). y ++ 10 ∷ rest) (words_take l _ t.0)
+            ∙ sym (fail_line_is v (codes "fails") f rest t.1),
+        t.1,
       )
 
   -- ---- a level
@@ -152,7 +125,8 @@ module _ (v : CertVersion) where
       let l = bind_ok _ _ x e in
       let h = bind_ok _ _ x l.2 in
       let t = level_takes k (words l.0.0) h.0 (wanted_ok _ _ _ h.1) in
-      let f = fails_take l.0.1.parts l.0.1.line in
+      let f = front_take (fail_in v (codes "fails")) (fail_line (codes "fails")) (IsFailText v)
+      fail_taken l.0.1.parts l.0.1.line in
       let fails : List Fail × At = fails_from v l.0.1.parts l.0.1.line in
       let made : CertLevelData = record { name = h.0.0; time = h.0.1; fails = fails.0 } in
       let whole : left a ≡ level_text k made ++ left fails.1 =
@@ -169,7 +143,8 @@ module _ (v : CertVersion) where
   unfolding level_read
   read_again k l rest n short fits none =
       let plain = level_plain k l.name l.time short fits.name fits.short in
-      let fails = fails_again l.fails rest (n + 1) fits.fails none in
+      let fails = front_again (fail_in v (codes "fails")) (fail_line (codes "fails")) (IsFailText v)
+      fail_spelled l.fails rest (n + 1) fits.fails none in
       let line = line_again (level_text k l ++ rest) _ n plain (level_text_is k l rest) in
       record {
         next = fails.0;

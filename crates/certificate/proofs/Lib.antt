@@ -3,6 +3,8 @@ pub mod WordLaws
 pub mod FailLaws
 pub mod LineLaws
 pub mod MemberLaws
+pub mod FrontLaws
+pub mod ChainLaws
 pub mod LevelLaws
 pub mod ReadingLaws
 pub mod Sent

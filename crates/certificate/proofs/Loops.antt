@@ -2,7 +2,7 @@
 use Rattle.std.proofs.Common.{◌≡◌, ℕ, suc, ◌-◌, ◌+◌, ◌≤◌, ◌<◌, ◌==◌, Bool, true, false, cond, ◌&&◌}
 use Rattle.std.proofs.Common.{List, [], ◌∷◌, ◌++◌, length, Option, Some, None, Result, Ok, Err}
 use Rattle.std.proofs.Common.{refl, sym, ap, ◌∙◌, append_assoc, arith}
-use Rattle.std.specs.Prelude.{bytes_eq, codes, IsTrue}
+use Rattle.std.specs.Prelude.{bytes_eq, IsTrue}
 use Rattle.std.proofs.lemmas.List.{append-nil}
 use Rattle.std.proofs.lemmas.List.Splits.{join_with_byte-slice_split}
 use Rattle.task_sheet.specs.Name.{is_name}
@@ -10,11 +10,10 @@ use Rattle.lines.specs.TextLines.{parts}
 use Rattle.lines.specs.Steps.{◌>>=◌}
 use Rattle.lines.specs.Words.{words}
 use Rattle.lines.proofs.Parts.{words_some}
-use Rattle.certificate.specs.Body.{Fail}
 use Rattle.certificate.specs.Words as options
 use Rattle.certificate.specs.Words.{numbers_before, reason_in, fail_in}
-use Rattle.certificate.specs.CertificateLines.{At, Fails, line_from, is_at_end, items_at, fails_from}
-use Rattle.certificate.specs.CertificateLines.{fails_case}
+use Rattle.certificate.specs.CertificateLines.{At, Fails, line_from, is_at_end, items_at}
+use Rattle.certificate.specs.CertificateLines.{front_case, front_from}
 use Rattle.certificate.specs.declared.version.CertVersion.{CertVersion}
 use Rattle.certificate.specs.declared.fault.CertFault.{CertFault}
 use Rattle.certificate.specs.declared.fault.CertFault.TheVariants.{OutOfMemory}
@@ -59,14 +58,14 @@ line_is l xs n some = rw (some_first xs some).2 refl
 pub over_is : (bytes : List ℕ) → is_at_end (parts bytes) ≡ (length bytes == 0)
 over_is bytes = ap (λ (x : List ℕ). length x == 0) (join_with_byte-slice_split 10 bytes)
 
-pub fails_line : (v : CertVersion) (l : List ℕ) (xs : List (List ℕ)) (n : ℕ) → 0 < length xs
-    → fails_from v (l ∷ xs) n ≡ fails_case (fail_in v (codes "fails") (words l))
-    (record { parts = l ∷ xs; line = n }) (fails_from v xs (n + 1))
-unfolding fails_from
-fails_line v l xs n some = rw (some_first xs some).2 refl
+pub front_line : {X : Type 0} (item : List (List ℕ) → Option X) (l : List ℕ) (xs : List (List ℕ))
+    (n : ℕ) → 0 < length xs → front_from item (l ∷ xs) n
+    ≡ front_case (item (words l)) (record { parts = l ∷ xs; line = n }) (front_from item xs (n + 1))
+unfolding front_from
+front_line item l xs n some = rw (some_first xs some).2 refl
 
--- failures, and then others
-abbrev pub onto : List Fail → List Fail × At → List Fail × At
+-- items, and then others
+abbrev pub onto : {X : Type 0} → List X → List X × At → List X × At
 onto front x = (front ++ x.0, x.1)
 
 -- ---- items

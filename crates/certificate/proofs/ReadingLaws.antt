@@ -10,28 +10,29 @@ use Rattle.std.proofs.lemmas.Option.{same_Some}
 use Rattle.std.proofs.lemmas.Slice.Eq.{bytes_eq-Decides}
 use Rattle.std.proofs.lemmas.List.{append-nil}
 use Rattle.std.proofs.lemmas.List.Splits.{join_with_byte-slice_split}
+use Rattle.certificate.specs.declared.value.CertChain.{CertChain}
 use Rattle.certificate.specs.declared.version.CertVersion.{CertVersion}
-use Rattle.certificate.specs.declared.version.CertVersion.TheVariants.{First, Second, Fourth}
+use Rattle.certificate.specs.declared.version.CertVersion.TheVariants.{First, Second, Fourth, Fifth}
 use Rattle.certificate.specs.Body.{Fail, CertLevelData, IsFailText, IsLevelText, IsBodyText}
-use Rattle.certificate.specs.Body.{HasSpelling, Body, Best, NoOrder, Cert}
+use Rattle.certificate.specs.Body.{HasSpelling, Body, Best, NoOrder, Cert, may_chain}
 use Rattle.certificate.specs.Spelling.{fail_line, fail_lines, count_line, head_text, level_spelling}
-use Rattle.certificate.specs.Spelling.{level_spellings, body_text, spelling}
+use Rattle.certificate.specs.Spelling.{level_spellings, body_text, chain_lines, spelling}
 use Rattle.lines.specs.TextLines.{parts}
 use Rattle.lines.specs.Words.{words}
-use Rattle.certificate.specs.Words.{fail_in}
 use Rattle.lines.specs.Steps.{◌>>=◌}
 use Rattle.certificate.specs.CertificateLines.{At, items_at, certificate_in, count_in, member_at, level_read}
-use Rattle.certificate.specs.CertificateLines.{body_case, body_at, version_in, versioned, Gives}
+use Rattle.certificate.specs.CertificateLines.{body_case, body_at, chains_from, version_in, versioned, Gives}
 use Rattle.certificate.specs.declared.fault.CertFault.{CertFault}
 use Rattle.certificate.specs.declared.fault.CertFault.TheVariants.{Trailing}
 use Rattle.certificate.proofs.WordLaws.{IsWord, name_word, number_word, line_of, IsLine}
 use Rattle.certificate.proofs.WordLaws.{words_again}
 use Rattle.certificate.proofs.LineLaws.{left, bind_ok, ok_is, line_takes, line_again, Reads, texts}
 use Rattle.certificate.proofs.LineLaws.{items_take, items_again, count_takes, count_plain}
-use Rattle.certificate.proofs.LineLaws.{count_again, end_plain, end_takes, end_again, closed}
+use Rattle.certificate.proofs.LineLaws.{count_again, end_takes, end_again, closed}
 use Rattle.certificate.proofs.LineLaws.{closed_bind}
 use Rattle.certificate.proofs.MemberLaws.{member_takes, member_again}
-use Rattle.certificate.proofs.LevelLaws.{level_text, BeginsNoFailure, no_failure, read_takes}
+use Rattle.certificate.proofs.ChainLaws.{chains_take, chains_again, no_failure_first}
+use Rattle.certificate.proofs.LevelLaws.{level_text, BeginsNoFailure, read_takes}
 use Rattle.certificate.proofs.LevelLaws.{read_again, begins_none}
 
 -- what stands between the first line and the last one, by how it is read
@@ -131,7 +132,7 @@ module _ (v : CertVersion) where
 
 -- ---- the first line
 version_takes : (head : List ℕ) (v : CertVersion) → version_in head ≡ Some v → head ≡ head_text v
-version_takes head v = by First _ (by Second _ (by Fourth None (λ e. absurd cc)))
+version_takes head v = by First _ (by Second _ (by Fourth _ (by Fifth None (λ e. absurd cc))))
   where
     by : (u : CertVersion) (o : Option CertVersion) → (o ≡ Some v → head ≡ head_text v)
         → cond (bytes_eq head (head_text u)) (Some u) o ≡ Some v → head ≡ head_text v
@@ -148,6 +149,7 @@ abbrev head_words : CertVersion → List (List ℕ)
 head_words First = codes "desk-certificate" ∷ codes "1" ∷ []
 head_words Second = codes "desk-certificate" ∷ codes "2" ∷ []
 head_words Fourth = codes "desk-certificate" ∷ codes "4" ∷ []
+head_words Fifth = codes "desk-certificate" ∷ codes "5" ∷ []
 
 digit_plain : (d : ℕ) → d < 10 → IsLine (codes "desk-certificate" ∷ ((48 + d) ∷ []) ∷ [])
 digit_plain d few = record {
@@ -162,25 +164,34 @@ head_plain : (v : CertVersion) → IsLine (head_words v)
 head_plain First = digit_plain 1 (omega arith)
 head_plain Second = digit_plain 2 (omega arith)
 head_plain Fourth = digit_plain 4 (omega arith)
+head_plain Fifth = digit_plain 5 (omega arith)
 
 head_again : (v : CertVersion) → (head_text v ≡ line_of (head_words v))
     × (version_in (line_of (head_words v)) ≡ Some v)
 head_again First = (refl, refl)
 head_again Second = (refl, refl)
 head_again Fourth = (refl, refl)
+head_again Fifth = (refl, refl)
 
 -- ---- a certificate
 versioned_takes : (o : Option CertVersion) (a : At) (c : Cert) → versioned o a ≡ Ok c
-    → (o ≡ Some c.version) × (left a ≡ body_text c.body ++ codes "end\n") × HasSpelling c
+    → (o ≡ Some c.version) × (left a ≡ body_text c.body ++ (chain_lines c.chains ++ codes "end\n"))
+    × HasSpelling c
 versioned_takes None a c e = absurd cc
 versioned_takes (Some v) a c e =
     let b = bind_ok _ _ c e in
     let o = bind_ok _ _ c b.2 in
     let t = body_takes v a b.0 b.1 in
-    let made : Cert = record { version = v; body = b.0.0 } in
-    let whole = t.0 ∙ ap (λ (y : List ℕ). body_text b.0.0 ++ y) (end_takes b.0.1 o.1) in
+    let may = may_chain v b.0.0 in
+    let said : List CertChain × At = chains_from may b.0.1.parts b.0.1.line in
+    let chains = chains_take may b.0.1.parts b.0.1.line in
+    let made : Cert = record { version = v; body = b.0.0; chains = said.0 } in
+    let whole : left a ≡ body_text b.0.0 ++ (chain_lines said.0 ++ codes "end\n") =
+    t.0 ∙ ap (λ (y : List ℕ). body_text b.0.0 ++ y)
+    (chains.0 ∙ ap (λ (y : List ℕ). chain_lines said.0 ++ y) (end_takes said.1 o.1)) in
+    let fits : HasSpelling made = record { body = t.1; chains = chains.1 } in
     let same : made ≡ c = ok_is made c o.2 in
-    rw (← same) (refl, whole, t.1)
+    rw (← same) (refl, whole, fits)
 
 pub certificate_takes : (bytes : List ℕ) (c : Cert) → certificate_in bytes ≡ Ok c
     → (bytes ≡ spelling c) × HasSpelling c
@@ -199,14 +210,16 @@ certificate_takes bytes c e =
 -- a spelling and what follows it: the certificate where nothing follows, else the bytes that trail
 certificate_again : (c : Cert) (rest : List ℕ) → HasSpelling c
     → certificate_in (spelling c ++ rest) ≡ closed (length rest == 0) c
-unfolding certificate_in fail_in
+unfolding certificate_in
 certificate_again c rest fits =
-    let behind : List ℕ = codes "end\n" ++ rest in
+    let may = may_chain c.version c.body in
+    let behind : List ℕ = chain_lines c.chains ++ (codes "end\n" ++ rest) in
     let head = line_again (spelling c ++ rest) (body_text c.body ++ behind) 1 (head_plain c.version)
     (rw (← (head_again c.version).0) (simp append_assoc)) in
-    let none = no_failure c.version behind rest end_plain refl refl in
-    let body = body_again c.version c.body behind 2 fits none in
-    rw (head, (head_again c.version).1, body.is, end_again rest body.next)
+    let none = no_failure_first c.version may c.chains rest fits.chains in
+    let body = body_again c.version c.body behind 2 fits.body none in
+    let chains = chains_again may c.chains rest body.next fits.chains in
+    rw (head, (head_again c.version).1, body.is, chains.1, end_again rest chains.0)
     (closed_bind (length rest == 0) tt c)
 
 pub reads_back : (b : Cert) → HasSpelling b → certificate_in (spelling b) ≡ Ok b

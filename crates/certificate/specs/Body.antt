@@ -1,10 +1,11 @@
 -- What a certificate says, as plain data.
-use Rattle.std.specs.Prelude.{ℕ, ◌^◌, ◌<◌, ◌≤◌, List, length}
+use Rattle.std.specs.Prelude.{◌≡◌, ℕ, ◌^◌, ◌<◌, ◌≤◌, Bool, true, false, List, [], length}
 use Rattle.std.specs.List.{AllByRecursion}
 use Rattle.task_sheet.specs.Name.{IsName}
 use Rattle.task_sheet.specs.declared.set.TheConstants.{TASK_LIMIT}
+use Rattle.certificate.specs.declared.value.CertChain.{CertChain}
 use Rattle.certificate.specs.declared.version.CertVersion.{CertVersion}
-use Rattle.certificate.specs.declared.version.CertVersion.TheVariants.{First, Second, Fourth}
+use Rattle.certificate.specs.declared.version.CertVersion.TheVariants.{First, Second, Fourth, Fifth}
 
 -- why a task fails: numbers, or the name of a task above which it must stand
 pub data CertReasonData : Type 0 where
@@ -27,10 +28,11 @@ pub data Body : Type 0 where
   Best : List CertLevelData → Body
   NoOrder : List Fail → Body
 
--- a certificate: its version, and what it says
+-- a certificate: its version, what it says, and of which chains
 pub record Cert : Type 0 where
   pub version : CertVersion
   pub body : Body
+  pub chains : List CertChain
 
 -- ---- what has a spelling
 
@@ -44,6 +46,7 @@ IsReasonText v (Chain numbers) = (0 < length numbers) × AllByRecursion IsShort 
 IsReasonText First (Over other) = ⊥
 IsReasonText Second (Over other) = IsName other
 IsReasonText Fourth (Over other) = IsName other
+IsReasonText Fifth (Over other) = IsName other
 
 -- a name, and a reason that can be written
 pub record IsFailText (v : CertVersion) (f : Fail) : Type 0 where
@@ -61,6 +64,22 @@ abbrev pub IsBodyText : CertVersion → Body → Type 0
 IsBodyText v (Best levels) = (length levels ≤ TASK_LIMIT) × AllByRecursion (IsLevelText v) levels
 IsBodyText v (NoOrder members) = (length members ≤ TASK_LIMIT) × AllByRecursion (IsFailText v) members
 
+-- a name, and a number of at most ten digits
+pub record IsChainText (c : CertChain) : Type 0 where
+  pub name : IsName c.name
+  pub short : IsShort c.number
+
+-- from version 5 on chains may stand behind levels
+abbrev pub may_chain : CertVersion → Body → Bool
+may_chain Fifth (Best levels) = true
+may_chain _ body = false
+
+-- chains that can be written, where they may stand
+abbrev pub AreChainsText : (may : Bool) → List CertChain → Type 0
+AreChainsText true chains = AllByRecursion IsChainText chains
+AreChainsText false chains = chains ≡ []
+
 -- the certificate can be written
-abbrev pub HasSpelling : Cert → Type 0
-HasSpelling c = IsBodyText c.version c.body
+pub record HasSpelling (c : Cert) : Type 0 where
+  pub body : IsBodyText c.version c.body
+  pub chains : AreChainsText (may_chain c.version c.body) c.chains

@@ -3,15 +3,16 @@ use Rattle.std.specs.Prelude.{◌≡◌, ℕ, zero, suc, ◌+◌, List, [], ◌�
 use Rattle.std.specs.List.{join_with_byte}
 use Rattle.task_sheet.specs.Name.{is_name}
 use Rattle.task_sheet.specs.declared.set.TheConstants.{TASK_LIMIT}
-use Rattle.certificate.specs.Body.{Fail, CertLevelData, Body, Best, NoOrder, Cert}
+use Rattle.certificate.specs.Body.{Fail, CertLevelData, Body, Best, NoOrder, Cert, may_chain}
+use Rattle.certificate.specs.declared.value.CertChain.{CertChain}
 use Rattle.certificate.specs.Spelling.{head_text}
 use Rattle.certificate.specs.declared.version.CertVersion.{CertVersion}
-use Rattle.certificate.specs.declared.version.CertVersion.TheVariants.{First, Second, Fourth}
+use Rattle.certificate.specs.declared.version.CertVersion.TheVariants.{First, Second, Fourth, Fifth}
 use Rattle.lines.specs.TextLines.{parts}
 use Rattle.lines.specs.Steps.{◌>>=◌}
 use Rattle.lines.specs.Words.{words, number_in}
 use Rattle.lines.specs.declared.place.TextPlace.{TextPlace}
-use Rattle.certificate.specs.Words.{fail_in}
+use Rattle.certificate.specs.Words.{fail_in, chain_if}
 use Rattle.certificate.specs.declared.fault.CertFault.{CertFault}
 use Rattle.certificate.specs.declared.fault.CertFault.TheVariants.{BadHead, BadLine, Truncated, Trailing, OutOfMemory}
 
@@ -113,18 +114,27 @@ level_in k (w ∷ m ∷ name ∷ n ∷ []) =
     if bytes_eq w (codes "level") then level_head k name (number_in m) (number_in n) else None
 level_in k (w ∷ m ∷ name ∷ n ∷ x ∷ xs) = None
 
--- one failure more, or the end of them
-abbrev pub fails_case : Option Fail → At → List Fail × At → List Fail × At
-fails_case None here rest = ([], here)
-fails_case (Some c) here rest = (c ∷ rest.0, rest.1)
+-- one item more, or the end of them
+abbrev pub front_case : {X : Type 0} → Option X → At → List X × At → List X × At
+front_case None here rest = ([], here)
+front_case (Some x) here rest = (x ∷ rest.0, rest.1)
+
+-- the lines at the front whose words are such items, and what follows them
+unfoldable pub front_from : {X : Type 0} → (List (List ℕ) → Option X) → List (List ℕ) → ℕ
+    → List X × At
+front_from item [] line = ([], record { parts = []; line = line })
+front_from item (l ∷ []) line = ([], record { parts = l ∷ []; line = line })
+front_from item (l ∷ x ∷ xs) line =
+    front_case (item (words l)) (record { parts = l ∷ x ∷ xs; line = line })
+    (front_from item (x ∷ xs) (line + 1))
 
 -- the lines of failures at the front, and what follows them
-unfoldable pub fails_from : CertVersion → List (List ℕ) → ℕ → List Fail × At
-fails_from v [] line = ([], record { parts = []; line = line })
-fails_from v (l ∷ []) line = ([], record { parts = l ∷ []; line = line })
-fails_from v (l ∷ x ∷ xs) line =
-    fails_case (fail_in v (codes "fails") (words l))
-    (record { parts = l ∷ x ∷ xs; line = line }) (fails_from v (x ∷ xs) (line + 1))
+abbrev pub fails_from : CertVersion → List (List ℕ) → ℕ → List Fail × At
+fails_from v ps line = front_from (fail_in v (codes "fails")) ps line
+
+-- the lines of chains at the front, where they may stand, and what follows them
+abbrev pub chains_from : (may : Bool) → List (List ℕ) → ℕ → List CertChain × At
+chains_from may ps line = front_from (chain_if may) ps line
 
 -- the next lines as level k with its failures
 unfoldable pub level_read : CertVersion → ℕ → At → Result (CertLevelData × At) CertFault
@@ -160,6 +170,7 @@ version_in head =
     if bytes_eq head (head_text First) then Some First
     else if bytes_eq head (head_text Second) then Some Second
     else if bytes_eq head (head_text Fourth) then Some Fourth
+    else if bytes_eq head (head_text Fifth) then Some Fifth
     else None
 
 -- the certificate that follows a first line
@@ -167,8 +178,12 @@ abbrev pub versioned : Option CertVersion → At → Result Cert CertFault
 versioned None a = Err BadHead
 versioned (Some v) a = do
   body ← body_at v a
-  end ← end_at body.1
-  Ok (record { version = v; body = body.0 })
+  end ← end_at (chains_from (may_chain v body.0) body.1.parts body.1.line).1
+  Ok (record {
+    version = v;
+    body = body.0;
+    chains = (chains_from (may_chain v body.0) body.1.parts body.1.line).0;
+  })
 
 -- the certificate that the bytes are, or the first fault
 unfoldable pub certificate_in : List ℕ → Result Cert CertFault

@@ -1,10 +1,11 @@
--- The certificate of a verdict: its numbers and reasons, with the names of the tasks.
-use Rattle.std.specs.Prelude.{ℕ, ◌<◌, ◌≤◌, List, length, map, All}
+-- The certificate of a verdict: its numbers and reasons, with the names of the tasks, and of chains.
+use Rattle.std.specs.Prelude.{ℕ, ◌<◌, ◌≤◌, Bool, true, false, List, [], ◌∷◌, length, map, All}
 use Rattle.task_sheet.specs.Sheet.{Task, task_at}
 use Rattle.task_sheet.specs.Verdicts as verdict
 use Rattle.task_sheet.specs.Verdicts.{ReasonData, FailureData, LevelData, VerdictData, Admitted, Infeasible}
 use Rattle.task_sheet.specs.Ready.{time_of}
 use Rattle.certificate.specs.Body.{CertReasonData, Chain, Over, Fail, CertLevelData, Body, Best, NoOrder, Cert}
+use Rattle.certificate.specs.declared.value.CertChain.{CertChain}
 use Rattle.certificate.specs.Versions.{version_for}
 
 -- a reason, by the other task's name
@@ -34,9 +35,24 @@ abbrev pub body_named : List Task → VerdictData → Body
 body_named U (Admitted levels) = Best (levels_named U levels)
 body_named U (Infeasible members) = NoOrder (fails_named U members)
 
--- the certificate of a verdict on a set
-abbrev pub certificate_of : List Task → VerdictData → Cert
-certificate_of U v = record { version = version_for U; body = body_named U v }
+-- a best order shows the chains, if there are some
+abbrev pub shows_chains : {X : Type 0} → Body → List X → Bool
+shows_chains (Best levels) [] = false
+shows_chains (Best levels) (c ∷ chains) = true
+shows_chains (NoOrder members) chains = false
+
+-- those of them that are shown
+abbrev pub chains_shown : Body → List CertChain → List CertChain
+chains_shown (Best levels) chains = chains
+chains_shown (NoOrder members) chains = []
+
+-- the certificate of a verdict on a set with these chains
+abbrev pub certificate_of : List Task → VerdictData → List CertChain → Cert
+certificate_of U v chains = record {
+  version = version_for (shows_chains (body_named U v) chains) U;
+  body = body_named U v;
+  chains = chains_shown (body_named U v) chains;
+}
 
 -- the reason names a task of a set of n, or none
 abbrev pub IsKnownReason : ℕ → ReasonData → Type 0

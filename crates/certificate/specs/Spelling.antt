@@ -3,8 +3,9 @@ use Rattle.std.specs.Prelude.{ℕ, ◌+◌, List, [], ◌∷◌, ◌++◌, lengt
 use Rattle.std.specs.List.{flat_map}
 use Rattle.std.specs.Fmt.{decimal}
 use Rattle.certificate.specs.Body.{CertReasonData, Chain, Over, Fail, CertLevelData, Body, Best, NoOrder, Cert}
+use Rattle.certificate.specs.declared.value.CertChain.{CertChain}
 use Rattle.certificate.specs.declared.version.CertVersion.{CertVersion}
-use Rattle.certificate.specs.declared.version.CertVersion.TheVariants.{First, Second, Fourth}
+use Rattle.certificate.specs.declared.version.CertVersion.TheVariants.{First, Second, Fourth, Fifth}
 
 -- each number after a space
 abbrev pub numbers_text : List ℕ → List ℕ
@@ -33,11 +34,20 @@ level_spellings k [] = []
 level_spellings k (l ∷ ls) =
     level_spelling k l ++ (fail_lines (codes "fails") l.fails ++ level_spellings (k + 1) ls)
 
+-- the line of a chain
+abbrev pub chain_line : CertChain → List ℕ
+chain_line c = codes "chain " ++ c.name ++ 32 ∷ decimal c.number ++ 10 ∷ []
+
+-- a line for each chain
+abbrev pub chain_lines : List CertChain → List ℕ
+chain_lines cs = flat_map chain_line cs
+
 -- the first line without its end
 abbrev pub head_text : CertVersion → List ℕ
 head_text First = codes "desk-certificate 1"
 head_text Second = codes "desk-certificate 2"
 head_text Fourth = codes "desk-certificate 4"
+head_text Fifth = codes "desk-certificate 5"
 
 -- the first line
 abbrev pub head_line : CertVersion → List ℕ
@@ -55,4 +65,4 @@ body_text (NoOrder members) =
 
 -- the bytes of a certificate
 abbrev pub spelling : Cert → List ℕ
-spelling c = head_line c.version ++ body_text c.body ++ codes "end\n"
+spelling c = head_line c.version ++ body_text c.body ++ chain_lines c.chains ++ codes "end\n"

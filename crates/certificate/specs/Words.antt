@@ -1,14 +1,15 @@
--- What the words of a line with a failure say.
-use Rattle.std.specs.Prelude.{ℕ, List, [], ◌∷◌, ◌++◌, ◌&&◌, bytes_eq, codes, Option, Some, None, option_map, if◌then◌else◌}
+-- What the words of a line with a failure, or a chain, say.
+use Rattle.std.specs.Prelude.{ℕ, Bool, true, false, List, [], ◌∷◌, ◌++◌, ◌&&◌, bytes_eq, codes, Option, Some, None, option_map, if◌then◌else◌}
 use Rattle.std.specs.Option.{option_or}
 use Rattle.std.specs.Global.{Vec}
 use Rattle.task_sheet.specs.Name.{is_name}
 use Rattle.lines.specs.Words.{number_in}
 use Rattle.certificate.specs.Body.{CertReasonData, Chain, Over, Fail}
+use Rattle.certificate.specs.declared.value.CertChain.{CertChain}
 use Rattle.certificate.specs.ReasonOf.{reason_seen}
 use Rattle.certificate.specs.declared.value.CertReason.{CertReason}
 use Rattle.certificate.specs.declared.version.CertVersion.{CertVersion}
-use Rattle.certificate.specs.declared.version.CertVersion.TheVariants.{First, Second, Fourth}
+use Rattle.certificate.specs.declared.version.CertVersion.TheVariants.{First, Second, Fourth, Fifth}
 
 infixl 10 ◌>>=◌
 -- goes on where there is a value
@@ -37,6 +38,7 @@ abbrev pub later_in : CertVersion → List (List ℕ) → Option CertReasonData
 later_in First ws = None
 later_in Second ws = over_in ws
 later_in Fourth ws = over_in ws
+later_in Fifth ws = over_in ws
 
 -- numbers, or what a later version allows in their place
 unfoldable pub reason_in : CertVersion → List (List ℕ) → Option CertReasonData
@@ -50,6 +52,25 @@ fail_in v word (w ∷ name ∷ []) = None
 fail_in v word (w ∷ name ∷ n ∷ ns) =
     if bytes_eq w word && is_name name then
     (reason_in v (n ∷ ns) >>= λ reason. Some (record { name = name; reason = reason })) else None
+
+-- a chain of a name, if there is a number
+abbrev pub chain_named : List ℕ → Option ℕ → Option CertChain
+chain_named name None = None
+chain_named name (Some number) = Some (record { name = name; number = number })
+
+-- the word `chain`, a name, and a number
+abbrev pub chain_in : List (List ℕ) → Option CertChain
+chain_in [] = None
+chain_in (w ∷ []) = None
+chain_in (w ∷ name ∷ []) = None
+chain_in (w ∷ name ∷ n ∷ []) =
+    if bytes_eq w (codes "chain") && is_name name then chain_named name (number_in n) else None
+chain_in (w ∷ name ∷ n ∷ x ∷ xs) = None
+
+-- the same, where chains may stand
+abbrev pub chain_if : (may : Bool) → List (List ℕ) → Option CertChain
+chain_if false ws = None
+chain_if true ws = chain_in ws
 
 -- the items of a vector, if there is one
 abbrev pub found : Option (Vec ℕ) → Option (List ℕ)

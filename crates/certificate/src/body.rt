@@ -1,15 +1,16 @@
 //! A whole certificate.
-ghost use Rattle.std.specs.Prelude.{◌≡◌};
-ghost use Rattle.certificate.specs.Body.{Cert};
-ghost use Rattle.certificate.specs.BodyOf.{body_of};
-ghost use Rattle.certificate.specs.CertificateLines.{Gives, at_place, body_at, version_in, certificate_in};
+ghost use Rattle.std.specs.Prelude.{◌≡◌, IfOk};
+ghost use Rattle.certificate.specs.Body.{may_chain};
+ghost use Rattle.certificate.specs.BodyOf.{body_of, cert_of};
+ghost use Rattle.certificate.specs.CertificateLines.{Gives, at_place, body_at, chains_from, version_in, certificate_in};
 
 use crate::fault::CertFault;
 use crate::reading::{Reader, count_of, end, is_word, next_line};
-use crate::value::{CertFail, CertLevel};
+use crate::value::{CertChain, CertFail, CertLevel};
 use crate::version::CertVersion;
-use lines::TextPlace;
-use std::alloc::Global;
+use crate::words::chain_if;
+use lines::{TextPlace, complete_line};
+use std::alloc::{AllocError, Global};
 
 /// What a certificate says.
 #[derive(Drop)]
@@ -18,6 +19,14 @@ pub enum CertBody {
     Best(Vec<CertLevel>),
     /// The members of a set of which none may stand below the others.
     NoOrder(Vec<CertFail>),
+}
+
+/// What a certificate is made of: its version, what it says, and of which chains.
+#[derive(Drop)]
+pub struct Parts {
+    pub version: CertVersion,
+    pub body: CertBody,
+    pub chains: Vec<CertChain>,
 }
 
 impl Reader {
@@ -38,6 +47,34 @@ impl Reader {
     }
 }
 
+// Whether chains may stand behind a body: from version 5 on, behind levels.
+fn may_chain(version: CertVersion, body: &CertBody) -> bool
+    ensures { result ≡ may_chain version (body_of body.now) }
+{
+    match (version, body) {
+        (CertVersion::Fifth, CertBody::Best(_)) => true,
+        _ => false,
+    }
+}
+
+// The chains of the lines `chain` that come next, where they may stand.
+fn chains(alloc: Global, may: bool, at: &mut TextPlace<'_>) -> Result<Vec<CertChain>, AllocError>
+    ensures { IfOk result (λ chains. (chains.items, at_place at.new)
+        ≡ chains_from may (at_place at.old).parts at.old.line) }
+{
+    let mut chains = Vec::new(alloc);
+    loop {
+        let Some((line, after)) = complete_line(*at) else {
+            return Ok(chains);
+        };
+        let Some(chain) = chain_if(may, line) else {
+            return Ok(chains);
+        };
+        chains.push(chain)?;
+        *at = after;
+    }
+}
+
 // The version that a first line names.
 fn version_in(head: &[u8]) -> Option<CertVersion>
     ensures { result ≡ version_in head.now }
@@ -48,6 +85,8 @@ fn version_in(head: &[u8]) -> Option<CertVersion>
         Some(CertVersion::Second)
     } else if is_word(head, b"desk-certificate 4") {
         Some(CertVersion::Fourth)
+    } else if is_word(head, b"desk-certificate 5") {
+        Some(CertVersion::Fifth)
     } else {
         None
     }
@@ -55,15 +94,19 @@ fn version_in(head: &[u8]) -> Option<CertVersion>
 
 /// The certificate that the bytes are, or the first fault.
 #[tactic(auto, unfolding(crate::specs::CertificateLines::certificate_in))]
-pub fn certificate_in(alloc: Global, bytes: &[u8]) -> Result<(CertVersion, CertBody), CertFault>
-    ensures { Gives (λ x. let c : Cert = record { version = x.0; body = body_of x.1 } in c)
-        result (certificate_in bytes.now) }
+pub fn certificate_in(alloc: Global, bytes: &[u8]) -> Result<Parts, CertFault>
+    ensures { Gives cert_of result (certificate_in bytes.now) }
 {
     let mut at = TextPlace::start(bytes);
     let Some(version) = version_in(next_line(&mut at)?) else {
         return Err(CertFault::BadHead);
     };
     let body = Reader { alloc, version }.body(&mut at)?;
+    let chains = chains(alloc, may_chain(version, &body), &mut at)?;
     end(&mut at)?;
-    Ok((version, body))
+    Ok(Parts {
+        version,
+        body,
+        chains,
+    })
 }

@@ -1,9 +1,9 @@
 //! Certificates.
-ghost use Rattle.std.specs.Prelude.{◌≡◌, true, IfOk, OnOk, OnErr};
+ghost use Rattle.std.specs.Prelude.{◌≡◌, true, All, IfOk, OnOk, OnErr};
 ghost use Rattle.std.specs.Io.KnownBytes.{Appends};
-ghost use Rattle.certificate.specs.Body.{Cert, HasSpelling};
+ghost use Rattle.certificate.specs.Body.{Cert, HasSpelling, IsChainText};
 ghost use Rattle.certificate.specs.BodyOf.{body_of};
-ghost use Rattle.certificate.specs.CertificateOf.{certificate_of};
+ghost use Rattle.certificate.specs.CertificateOf.{certificate_of, chains_shown, shows_chains};
 ghost use Rattle.assignment.specs.Verdict.{verdict_set, verdict_of};
 ghost use Rattle.certificate.specs.Spelling.{spelling};
 ghost use Rattle.certificate.specs.CertificateLines.{Gives, certificate_in};
@@ -11,6 +11,7 @@ ghost use Rattle.certificate.specs.CertificateLines.{Gives, certificate_in};
 use crate::body::{CertBody, certificate_in};
 use crate::fault::CertFault;
 use crate::naming::body_of;
+use crate::value::CertChain;
 use crate::version::{CertVersion, version_for};
 use crate::writing::put_certificate;
 use assignment::Verdict;
@@ -24,6 +25,7 @@ use streams::{Outlet, Watched, WriteFailed};
 pub struct Certificate {
     version: CertVersion,
     body: CertBody,
+    chains: Vec<CertChain>,
 }
 
 impl Model for Certificate {
@@ -32,24 +34,62 @@ impl Model for Certificate {
 
     ghost Value = { Cert };
 
-    ghost view = { λ c. record { version = c.version; body = body_of c.body } };
+    ghost view = { λ c. record { version = c.version; body = body_of c.body; chains = c.chains.items } };
 
-    ghost invariant = { λ c. HasSpelling (record { version = c.version; body = body_of c.body }) };
+    ghost invariant = { λ c. HasSpelling (record {
+      version = c.version;
+      body = body_of c.body;
+      chains = c.chains.items;
+    }) };
+}
+
+// Whether chains are shown: of a best order, if there are some.
+fn shows_chains(body: &CertBody, chains: &[CertChain]) -> bool
+    ensures { result ≡ shows_chains (body_of body.now) chains.now }
+{
+    match body {
+        CertBody::Best(_) => !chains.is_empty(),
+        CertBody::NoOrder(_) => false,
+    }
+}
+
+// Those of them that are shown.
+fn chains_shown(
+    alloc: Global,
+    body: &CertBody,
+    chains: &[CertChain],
+) -> Result<Vec<CertChain>, AllocError>
+    ensures { IfOk result (λ shown. shown.items ≡ chains_shown (body_of body.now) chains.now) }
+{
+    match body {
+        CertBody::Best(_) => Vec::from_slice(alloc, chains),
+        CertBody::NoOrder(_) => Ok(Vec::new(alloc)),
+    }
 }
 
 impl Certificate {
-    /// The certificate of a verdict: its numbers and reasons, with the names of the tasks, of the version that serves the
-    /// set. The error is out of memory.
-    pub fn of(alloc: Global, verdict: &Verdict) -> Result<Certificate, AllocError>
+    /// The certificate of a verdict: its numbers and reasons, with the names of the tasks, and, of a best order, these chains
+    /// with their numbers, of the version that serves the set. The error is out of memory.
+    pub fn of(
+        alloc: Global,
+        verdict: &Verdict,
+        chains: &[CertChain],
+    ) -> Result<Certificate, AllocError>
+        requires { All IsChainText chains.now }
         ensures { IfOk result (λ c. c ≡ certificate_of (verdict_set verdict.now)
-            (verdict_of verdict.now)) }
+            (verdict_of verdict.now) chains.now) }
     {
         let set = verdict.set();
         // Its contract says that the set is one of at most 32 valid sheets.
         let _sheets = set.sheets();
         let body = body_of(alloc, verdict)?;
-        let version = version_for(set);
-        Ok(Certificate { version, body })
+        let version = version_for(shows_chains(&body, chains), set);
+        let chains = chains_shown(alloc, &body, chains)?;
+        Ok(Certificate {
+            version,
+            body,
+            chains,
+        })
     }
 
     /// The version of the certificate.
@@ -67,6 +107,13 @@ impl Certificate {
         &self.body
     }
 
+    /// The chains of which it speaks, each with a number.
+    pub fn chains(&self) -> &[CertChain]
+        ensures { result.now ≡ self.now.chains }
+    {
+        &self.chains
+    }
+
     /// Writes the spelling, through a buffer of 16,384 bytes. The error comes where the writer fails, or has failed:
     /// how much of the spelling went out is then open.
     pub fn write<W: Write + Drop>(&self, out: &mut Watched<W>) -> Result<(), WriteFailed>
@@ -76,7 +123,7 @@ impl Certificate {
         ensures failed { OnErr result (out.new.has_failed ≡ true) }
     {
         let mut outlet = Outlet::new(out);
-        put_certificate(self.version, &self.body, &mut outlet)?;
+        put_certificate(self.version, &self.body, &self.chains, &mut outlet)?;
         outlet.send()
     }
 }
@@ -90,7 +137,11 @@ pub fn read(alloc: Global, bytes: &[u8]) -> Result<Certificate, CertFault>
     ensures exact { Gives (λ c. c) result (certificate_in bytes.now) }
 {
     match certificate_in(alloc, bytes) {
-        Ok((version, body)) => Ok(Certificate { version, body }),
+        Ok(parts) => Ok(Certificate {
+            version: parts.version,
+            body: parts.body,
+            chains: parts.chains,
+        }),
         Err(fault) => Err(fault),
     }
 }

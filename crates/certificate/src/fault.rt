@@ -8,7 +8,7 @@ use thiserror::Error;
 /// The fault that the bytes show first, or out of memory. Lines are counted from 1.
 #[derive(Clone, Copy, Debug, PartialEq, Eq, Error)]
 pub enum CertFault {
-    /// The first complete line is not `desk-certificate` and a version, 1, 2 or 4.
+    /// The first complete line is not `desk-certificate` and a version, 1, 2, 4 or 5.
     #[error("the first line is no certificate's")]
     BadHead,
     /// A later complete line is not one that may stand at its place.

@@ -16,5 +16,5 @@ mod writing;
 pub use body::CertBody;
 pub use certificate::{Certificate, read};
 pub use fault::CertFault;
-pub use value::{CertFail, CertLevel, CertReason};
+pub use value::{CertChain, CertFail, CertLevel, CertReason};
 pub use version::{CertVersion, version_for};

@@ -28,6 +28,14 @@ impl Model for CertFail {
     ghost view = { λ f. record { name = f.name; reason = reason_seen f.reason } };
 }
 
+/// A chain of tasks, by its name, and a number that is no less than its bound.
+#[derive(Clone, Copy)]
+pub struct CertChain {
+    pub name: Name,
+    /// In microseconds.
+    pub number: u64,
+}
+
 /// A level's task, a time that covers its demand, and the tasks that fail there.
 #[derive(Drop)]
 pub struct CertLevel {

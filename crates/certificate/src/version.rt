@@ -17,6 +17,8 @@ pub enum CertVersion {
     Second,
     /// For sets with timers or interrupts: what these take of a window is in its numbers.
     Fourth,
+    /// For best orders of sets with chains, whatever else these have.
+    Fifth,
 }
 
 // Whether a task must stand above one of these.
@@ -49,12 +51,15 @@ fn has_interrupts(set: &TaskSet) -> bool
     set.sheets().iter().any(|sheet| sheet.interrupts_some())
 }
 
-/// The version that a set needs: the fourth where some task has a timer that takes time, or an interrupt on its
-/// account; else the first where no task of it must stand above another one of it or has jitter.
-pub fn version_for(set: &TaskSet) -> CertVersion
-    ensures { result ≡ version_for set.now }
+/// The version that a set needs: the fifth where chains are shown; else the fourth where some task has a timer that takes
+/// time, or an interrupt on its account; else the first where no task of it must stand above another one of it or has
+/// jitter.
+pub fn version_for(shows_chains: bool, set: &TaskSet) -> CertVersion
+    ensures { result ≡ version_for shows_chains set.now }
 {
-    if has_interrupts(set) {
+    if shows_chains {
+        CertVersion::Fifth
+    } else if has_interrupts(set) {
         CertVersion::Fourth
     } else if some_bound(set) || has_jitter(set) {
         CertVersion::Second

@@ -1,10 +1,11 @@
-//! The words of a line with a failure.
-ghost use Rattle.std.specs.Prelude.{◌≡◌, IfOk};
+//! The words of a line with a failure, or a chain.
+ghost use Rattle.std.specs.Prelude.{◌≡◌, None, if◌then◌else◌, IfOk};
+ghost use Rattle.task_sheet.specs.Name.{is_name};
 ghost use Rattle.lines.specs.Words.{words};
-ghost use Rattle.certificate.specs.Words.{numbers_in, over_in, later_in, reason_in, fail_in, found, reason_told};
+ghost use Rattle.certificate.specs.Words.{numbers_in, over_in, later_in, reason_in, fail_in, chain_named, chain_in, chain_if, found, reason_told};
 
 use crate::reading::{Reader, is_word};
-use crate::value::{CertFail, CertReason};
+use crate::value::{CertChain, CertFail, CertReason};
 use crate::version::CertVersion;
 use lines::{cut, number_of};
 use std::alloc::{AllocError, Global};
@@ -51,8 +52,38 @@ fn later_of(version: CertVersion, text: &[u8]) -> Option<CertReason>
 {
     match version {
         CertVersion::First => None,
-        CertVersion::Second | CertVersion::Fourth => over_of(text),
+        CertVersion::Second | CertVersion::Fourth | CertVersion::Fifth => over_of(text),
     }
+}
+
+// The chain of a name and a number, where the one is a name and there is the other.
+fn chain_named(name: &[u8], number: Option<u64>) -> Option<CertChain>
+    ensures { result ≡ (if is_name name.now then chain_named name.now number else None) }
+{
+    match (Name::read(name), number) {
+        (Ok(name), Some(number)) => Some(CertChain { name, number }),
+        _ => None,
+    }
+}
+
+// The chain of a line of the word `chain`, a name and a number.
+fn chain_in(line: &[u8]) -> Option<CertChain>
+    ensures { result ≡ chain_in (words line.now) }
+{
+    let (word, rest) = cut(line, b' ')?;
+    let (name, rest) = cut(rest, b' ')?;
+    match cut(rest, b' ') {
+        Some((_number, _more)) => None,
+        None if is_word(word, b"chain") => chain_named(name, number_of(rest)),
+        None => None,
+    }
+}
+
+/// The same, where chains may stand.
+pub fn chain_if(may: bool, line: &[u8]) -> Option<CertChain>
+    ensures { result ≡ chain_if may (words line.now) }
+{
+    if may { chain_in(line) } else { None }
 }
 
 impl Reader {

@@ -3,11 +3,11 @@ ghost use Rattle.std.specs.Fmt.{decimal};
 ghost use Rattle.certificate.specs.Body.{Cert};
 ghost use Rattle.certificate.specs.ReasonOf.{reason_seen};
 ghost use Rattle.certificate.specs.BodyOf.{body_of};
-ghost use Rattle.certificate.specs.Spelling.{numbers_text, reason_text, fail_line, fail_lines, level_spelling, level_spellings, head_line, count_line, body_text, spelling};
+ghost use Rattle.certificate.specs.Spelling.{numbers_text, reason_text, fail_line, fail_lines, level_spelling, level_spellings, chain_line, chain_lines, head_line, count_line, body_text, spelling};
 ghost use Rattle.streams.specs.Puts.{Puts};
 
 use crate::body::CertBody;
-use crate::value::{CertFail, CertLevel, CertReason};
+use crate::value::{CertChain, CertFail, CertLevel, CertReason};
 use crate::version::CertVersion;
 use itoa::Buffer;
 use std::io::Write;
@@ -135,6 +135,27 @@ fn put_body<W: Write + Drop>(body: &CertBody, out: &mut Outlet<'_, W>) -> Result
     }
 }
 
+// The line of a chain.
+fn put_chain<W: Write + Drop>(chain: &CertChain, out: &mut Outlet<'_, W>) -> Result<(), WriteFailed>
+    ensures { Puts W.contents out.old out.new result (chain_line chain.now) }
+{
+    out.put(b"chain ")?;
+    put_line(chain.name.bytes(), chain.number, out)
+}
+
+// A line for each chain.
+fn put_chains<W: Write + Drop>(
+    chains: &[CertChain],
+    out: &mut Outlet<'_, W>,
+) -> Result<(), WriteFailed>
+    ensures { Puts W.contents out.old out.new result (chain_lines chains.now) }
+{
+    for chain in chains {
+        put_chain(chain, out)?;
+    }
+    Ok(())
+}
+
 // The first line.
 fn put_head<W: Write + Drop>(
     version: CertVersion,
@@ -146,6 +167,7 @@ fn put_head<W: Write + Drop>(
         CertVersion::First => out.put(b"desk-certificate 1\n"),
         CertVersion::Second => out.put(b"desk-certificate 2\n"),
         CertVersion::Fourth => out.put(b"desk-certificate 4\n"),
+        CertVersion::Fifth => out.put(b"desk-certificate 5\n"),
     }
 }
 
@@ -153,12 +175,14 @@ fn put_head<W: Write + Drop>(
 pub fn put_certificate<W: Write + Drop>(
     version: CertVersion,
     body: &CertBody,
+    chains: &[CertChain],
     out: &mut Outlet<'_, W>,
 ) -> Result<(), WriteFailed>
-    ensures { let c : Cert = record { version = version; body = body_of body.now } in
+    ensures { let c : Cert = record { version = version; body = body_of body.now; chains = chains.now } in
         Puts W.contents out.old out.new result (spelling c) }
 {
     put_head(version, out)?;
     put_body(body, out)?;
+    put_chains(chains, out)?;
     out.put(b"end\n")
 }

@@ -6,6 +6,7 @@ use Rattle.std.proofs.lemmas.List.{at_drop_more, at_drop_all}
 use Rattle.task_sheet.proofs.Common.{Task}
 use Rattle.chains.specs.Parts.{bound_in}
 use Rattle.chains.specs.declared.bounds.Level.{Level}
+use Rattle.chains.specs.declared.bounds.Writes.{Writes}
 use Rattle.chain_tables.specs.Chains.{ChainData}
 use Rattle.least_chains.specs.LeastBound.{ArePassing, IsLeastBound}
 use Rattle.least_chains.proofs.BoundLaws.{least-held}
@@ -21,7 +22,8 @@ module _ (U : List Task) (levels : List Level) where
   pub goes-on : (chains : List ChainData) (k : ℕ) (chain : ChainData) (leasts leasts' : List (Option ℕ))
       (least : Option ℕ) → k < length chains → chain ≡ get_or chains k chain
       → leasts' ≡ leasts ++ least ∷ []
-      → IsLeastTold (is_met (bound_in U levels chain.tasks) chain.limit) U chain.tasks least
+      → IsLeastTold (is_met (bound_in chain.writes U levels chain.tasks) chain.limit) chain.writes U chain.tasks
+      least
       → GoesOn chains k leasts → GoesOn chains (k + 1) leasts'
   goes-on chains k chain leasts leasts' least lt item pushed is so rest more =
       let left : drop k chains ≡ chain ∷ drop (k + 1) chains =
@@ -38,11 +40,11 @@ module _ (U : List Task) (levels : List Level) where
       (so [] (subst (λ xs. AreLeast U levels xs []) (sym left) refl))
 
   -- where the least bound is past the limit, no bound is within it
-  pub never-met : (tasks : List ℕ) (least limit : ℕ) → IsLeastBound U tasks least → limit < least
-      → ArePassing U levels → is_met (bound_in U levels tasks) (Some limit) ≡ false
-  never-met tasks least limit is past are = by (bound_in U levels tasks) refl
+  pub never-met : (writes : Writes) (tasks : List ℕ) (least limit : ℕ) → IsLeastBound writes U tasks least
+      → limit < least → ArePassing U levels → is_met (bound_in writes U levels tasks) (Some limit) ≡ false
+  never-met writes tasks least limit is past are = by (bound_in writes U levels tasks) refl
     where
-      by : (o : Option ℕ) → bound_in U levels tasks ≡ o → is_met o (Some limit) ≡ false
+      by : (o : Option ℕ) → bound_in writes U levels tasks ≡ o → is_met o (Some limit) ≡ false
       by None said = refl
       by (Some bound) said =
-          lt-leb bound limit (omega (arith, past, least-held U tasks least bound levels is are said))
+          lt-leb bound limit (omega (arith, past, least-held writes U tasks least bound levels is are said))

@@ -11,7 +11,8 @@ use Rattle.chains.specs.Parts.{after_of, bound_in, order_of, parts_of, time_in, 
 use Rattle.chains.specs.declared.bounds.Level.{Level}
 use Rattle.chains.specs.declared.bounds.BoundPart.{BoundPart}
 use Rattle.chains.specs.declared.bounds.PartKind.{PartKind}
-use Rattle.chains.specs.declared.bounds.PartKind.TheVariants.{Wait, Jitter, Handover, Response}
+use Rattle.chains.specs.declared.bounds.PartKind.TheVariants.{Wait, Jitter, Handover, Response, Deadline}
+use Rattle.chains.specs.declared.bounds.Writes.{Writes}
 use Rattle.chain_tables.specs.Chains.{ChainData}
 use Rattle.chain_lines.specs.declared.text.Telling.{Telling}
 use Rattle.chain_lines.specs.declared.text.Telling.TheVariants.{Bound, Parts}
@@ -24,6 +25,7 @@ kind_words U task Jitter = codes "  jitter " ++ name_at U task
 kind_words U task (Handover next) =
     codes "  response " ++ name_at U task ++ codes " less cost " ++ name_at U next
 kind_words U task Response = codes "  response " ++ name_at U task
+kind_words U task Deadline = codes "  deadline " ++ name_at U task
 
 -- the line of a part; nothing where it is 0
 abbrev pub part_line : List Task → BoundPart → List ℕ
@@ -35,10 +37,10 @@ part_lines U [] = []
 part_lines U (p ∷ parts) = part_line U p ++ part_lines U parts
 
 -- those of both parts of a task that stands in front of these others
-abbrev pub both_lines : List Task → List Level → ℕ → (others : List ℕ) → List ℕ
-both_lines U levels task others =
+abbrev pub both_lines : Writes → List Task → List Level → ℕ → (others : List ℕ) → List ℕ
+both_lines writes U levels task others =
     part_line U (wait_of U task)
-    ++ part_line U (after_of (node_in U (order_of levels)) (time_in levels) task others)
+    ++ part_line U (after_of writes (node_in U (order_of levels)) (time_in levels) task others)
 
 -- ---- a chain
 -- a bound is within a limit, where there is one: no bound is within none
@@ -71,16 +73,17 @@ abbrev pub is_told : Telling → (bound : Option ℕ) → Bool
 is_told Bound bound = false
 is_told Parts bound = is_some bound
 
-abbrev pub parts_said : Bool → List Task → List Level → (tasks : List ℕ) → List ℕ
-parts_said false U levels tasks = []
-parts_said true U levels tasks =
-    part_lines U (parts_of (node_in U (order_of levels)) (time_in levels) tasks)
+abbrev pub parts_said : Bool → Writes → List Task → List Level → (tasks : List ℕ) → List ℕ
+parts_said false writes U levels tasks = []
+parts_said true writes U levels tasks =
+    part_lines U (parts_of writes (node_in U (order_of levels)) (time_in levels) tasks)
 
 -- the lines of a chain in an order whose levels have these responses: its bound, and where that is told, the parts
 abbrev pub chain_said : Telling → List Task → List Level → (least : Option ℕ) → ChainData → List ℕ
 chain_said telling U levels least chain =
-    chain_line chain (bound_in U levels chain.tasks) least
-    ++ parts_said (is_told telling (bound_in U levels chain.tasks)) U levels chain.tasks
+    chain_line chain (bound_in chain.writes U levels chain.tasks) least
+    ++ parts_said (is_told telling (bound_in chain.writes U levels chain.tasks)) chain.writes U levels
+    chain.tasks
 
 -- ---- all chains
 -- what a list of least bounds tells of the first chain; past its end nothing
@@ -99,12 +102,13 @@ chains_said telling U levels leasts (chain ∷ chains) =
 -- the bound of each chain is within its limit, where it has one
 abbrev pub all_met : List Task → List Level → List ChainData → Bool
 all_met U levels chains =
-    list_all (λ (chain : ChainData). is_met (bound_in U levels chain.tasks) chain.limit) chains
+    list_all (λ (chain : ChainData). is_met (bound_in chain.writes U levels chain.tasks) chain.limit)
+    chains
 
 -- a bound that is printed is what the parts come to, and the bound of the laws of chains, by the responses of the levels
 abbrev pub PartsAreTheBound : Type 0
 PartsAreTheBound =
-    (U : List Task) (levels : List Level) (first : ℕ) (others : List ℕ) (bound : ℕ)
-    → bound_in U levels (first ∷ others) ≡ Some bound
-    → (sum_by (λ p. p.time) (parts_of (node_in U (order_of levels)) (time_in levels) (first ∷ others)) ≡ bound)
-    × (bound ≡ bound_of (node_in U (order_of levels)) (time_in levels) first others)
+    (writes : Writes) (U : List Task) (levels : List Level) (first : ℕ) (others : List ℕ) (bound : ℕ)
+    → bound_in writes U levels (first ∷ others) ≡ Some bound
+    → (sum_by (λ p. p.time) (parts_of writes (node_in U (order_of levels)) (time_in levels) (first ∷ others)) ≡ bound)
+    × (bound ≡ bound_of writes (node_in U (order_of levels)) (time_in levels) first others)

@@ -15,13 +15,13 @@ use std::alloc::{AllocError, Global};
 // The least bound of a chain whose bound isn't within its limit.
 fn least_told(set: &Tabled<'_>, levels: &[Level], chain: &Chain) -> Option<u128>
     requires { IsFeasible set.now }
-    ensures { IsLeastTold (is_met (bound_in set.now levels.now chain.now.tasks) chain.now.limit)
-        set.now chain.now.tasks result }
+    ensures { IsLeastTold (is_met (bound_in chain.now.writes set.now levels.now chain.now.tasks) chain.now.limit)
+        chain.now.writes set.now chain.now.tasks result }
 {
     if meets(set.tasks(), levels, chain) {
         None
     } else {
-        Some(least_bound(set, &chain.tasks))
+        Some(least_bound(set, chain.writes, &chain.tasks))
     }
 }
 

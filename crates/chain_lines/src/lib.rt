@@ -6,4 +6,4 @@ mod leasts;
 mod text;
 
 pub use leasts::least_bounds;
-pub use text::{Telling, all_met, chains_text};
+pub use text::{Telling, all_met, chains_text, push_line};

@@ -6,7 +6,7 @@ ghost use Rattle.chains.specs.Parts.{bound_in, order_of, parts_of, time_in};
 ghost use Rattle.chain_lines.specs.ChainLines.{all_met, both_lines, chain_line, chain_said, chains_said, first_least, is_met, is_told, kind_words, least_words, limit_words, met_word, part_line, part_lines, parts_said};
 
 use chain_tables::Chain;
-use chains::{BoundPart, Level, PartKind, after_of, bound_of, wait_of};
+use chains::{BoundPart, Level, PartKind, Writes, after_of, bound_of, wait_of};
 use lines::{push_name, push_some_wide};
 use std::alloc::{AllocError, Global};
 use task_sheet::TaskSet;
@@ -40,6 +40,7 @@ fn push_kind(text: &mut String, set: &TaskSet, part: BoundPart) -> Result<(), Al
             push_task(text, " less cost ", set, next)
         }
         PartKind::Response => push_task(text, "  response ", set, part.task),
+        PartKind::Deadline => push_task(text, "  deadline ", set, part.task),
     }
 }
 
@@ -60,14 +61,15 @@ fn push_both(
     text: &mut String,
     set: &TaskSet,
     levels: &[Level],
+    writes: Writes,
     task: usize,
     others: &[usize],
 ) -> Result<(), AllocError>
     ensures { OnOk result (string_bytes text.new ≡ string_bytes text.old
-        ++ both_lines set.now levels.now task others.now) }
+        ++ both_lines writes set.now levels.now task others.now) }
 {
     push_part(text, set, wait_of(set, task))?;
-    push_part(text, set, after_of(set, levels, task, others))
+    push_part(text, set, after_of(set, levels, writes, task, others))
 }
 
 // The lines of the parts of a chain of tasks.
@@ -75,14 +77,16 @@ fn push_parts(
     text: &mut String,
     set: &TaskSet,
     levels: &[Level],
+    writes: Writes,
     tasks: &[usize],
 ) -> Result<(), AllocError>
     ensures { OnOk result (string_bytes text.new ≡ string_bytes text.old
-        ++ part_lines set.now (parts_of (node_in set.now (order_of levels.now)) (time_in levels.now) tasks.now)) }
+        ++ part_lines set.now
+        (parts_of writes (node_in set.now (order_of levels.now)) (time_in levels.now) tasks.now)) }
 {
     let mut rest = tasks;
     while let Some((task, others)) = rest.split_first() {
-        push_both(text, set, levels, *task, others)?;
+        push_both(text, set, levels, writes, *task, others)?;
         rest = others;
     }
     Ok(())
@@ -129,8 +133,8 @@ fn push_least(text: &mut String, least: Option<u128>) -> Result<(), AllocError>
     write!(text, " least {least}")
 }
 
-// The line of a chain of this bound, and this least one, where it is told.
-fn push_line(
+/// The line of a chain of this bound, and this least one, where it is told. The error is out of memory.
+pub fn push_line(
     text: &mut String,
     chain: &Chain,
     bound: Option<u128>,
@@ -168,10 +172,10 @@ fn push_chain(
     ensures { OnOk result (string_bytes text.new ≡ string_bytes text.old
         ++ chain_said telling set.now levels.now least chain.now) }
 {
-    let bound = bound_of(set, levels, &chain.tasks);
+    let bound = bound_of(set, levels, chain.writes, &chain.tasks);
     push_line(text, chain, bound, least)?;
     if is_told(telling, bound) {
-        push_parts(text, set, levels, &chain.tasks)
+        push_parts(text, set, levels, chain.writes, &chain.tasks)
     } else {
         Ok(())
     }
@@ -222,9 +226,12 @@ pub fn chains_text(
 
 /// Whether a chain's bound is within its limit.
 pub(crate) fn meets(set: &TaskSet, levels: &[Level], chain: &Chain) -> bool
-    ensures { result ≡ is_met (bound_in set.now levels.now chain.now.tasks) chain.now.limit }
+    ensures { result ≡ is_met (bound_in chain.now.writes set.now levels.now chain.now.tasks) chain.now.limit }
 {
-    is_met(bound_of(set, levels, &chain.tasks), chain.limit)
+    is_met(
+        bound_of(set, levels, chain.writes, &chain.tasks),
+        chain.limit,
+    )
 }
 
 /// Whether the bound of each chain is within its limit, where it has one.

@@ -1,5 +1,8 @@
 pub mod TickLaws
+pub mod OrderLaws
+pub mod PathLaws
 pub mod OutputLaws
+pub mod DeadlineLaws
 pub mod RunLaws
 pub mod AgeLaws
 pub mod TurnLaws

@@ -1,6 +1,6 @@
 -- What goes by with each slice is what the chain's tasks have read and written: so what comes of the last one is its outputs.
 use Rattle.std.proofs.Common.{ℕ, suc, ap₂, ◌-◌, ◌<◌, ◌≤◌, ◌≡◌, inl, inr, refl, sym, ap, ◌∙◌, subst, arith}
-use Rattle.std.proofs.Common.{true, false, not, ◌==◌, List, [], ◌∷◌, length, map, Option, Some, None}
+use Rattle.std.proofs.Common.{true, false, not, ◌==◌, List, [], ◌∷◌, map, Option, Some, None}
 use Rattle.std.proofs.lemmas.Bool.{cases_Bool, cases_eq, cases_lt, eq-eqb, ne_eqb, true≢false}
 use Rattle.std.proofs.lemmas.Option.{none-some, same_Some}
 use Rattle.ceiling_kernel.specs.Readings.{IsFinishAt}
@@ -9,25 +9,16 @@ use Rattle.ceiling_kernel.proofs.Common.{Node, Job, job_at, executed_before, pic
 use Rattle.ceiling_kernel.proofs.FinishLaws.{done_grows}
 use Rattle.ceiling_kernel.proofs.MachineLaws.{start_of, own_of}
 use Rattle.chains.specs.Starts.{IsStartAt}
-use Rattle.chains.specs.Paths.{IsNewest, Reads, LeadsTo, last_task}
+use Rattle.chains.specs.Paths.{IsNewest, last_task}
+use Rattle.chains.specs.declared.bounds.Writes.TheVariants.{AtFinish}
 use Rattle.chain_runs.specs.Outputs.{fresh, read_by, after_own, after_slice, output_at, along, last_output}
-use Rattle.chain_runs.specs.Runs.{IsSampled}
 use Rattle.chain_runs.specs.declared.slices.TaskSlice.{TaskSlice}
 use Rattle.chain_runs.specs.declared.outputs.ChainOutput.{ChainOutput}
 use Rattle.chain_runs.specs.declared.outputs.Station.{Station}
-use Rattle.chain_runs.proofs.TickLaws.{InFlight, OnlyPicks, NoneComes, picked_parts, still}
-use Rattle.chain_runs.proofs.TickLaws.{comes_picked, newest_later, newest_before}
-use Rattle.chain_runs.proofs.TickLaws.{finish_apart, finish_picked, start_once, one_flies}
-
--- what is kept of a sample is one, or there is none
-abbrev pub Is : (ℕ → Type 0) → Option ℕ → Type 0
-Is P None = (s : ℕ) → P s → ⊥
-Is P (Some s) = P s
-
-pub is_same : (P Q : ℕ → Type 0) (o : Option ℕ) → ((s : ℕ) → P s → Q s) → ((s : ℕ) → Q s → P s)
-    → Is P o → Is Q o
-is_same P Q None to from is = λ s has. is s (from s has)
-is_same P Q (Some s) to from is = to s is
+use Rattle.chain_runs.proofs.OrderLaws.{newest_once, turns_finish}
+use Rattle.chain_runs.proofs.PathLaws.{HasRead, Is, NoneComes, Sampled, Stands, has_read, is_same, no_cons, stands_on}
+use Rattle.chain_runs.proofs.TickLaws.{InFlight, OnlyPicks, comes_picked, finish_picked}
+use Rattle.chain_runs.proofs.TickLaws.{one_flies, picked_parts, still}
 
 task_kept : (s : TaskSlice) (offered : Option ℕ) (st : Station) → (after_slice s offered st).task ≡ st.task
 task_kept s offered st =
@@ -40,64 +31,10 @@ tasks_kept s offered [] = refl
 tasks_kept s offered (st ∷ sts) =
     ap₂ (λ (i : ℕ) (tasks : List ℕ). i ∷ tasks) (task_kept s offered st) (tasks_kept s st.written sts)
 
-no_cons : (i : ℕ) (others : List ℕ) → ◌≡◌ {A = List ℕ} [] (i ∷ others) → ⊥
-no_cons i others e = (let z : 0 ≡ suc (length others) = ap length e in absurd (omega arith))
-
 module _ (node : Node) (jobs : List Job) where
-  -- ---- samples, from the first task on
-  -- a job has read a sample that stands behind what a job of the task before has written
-  abbrev pub HasRead : (i : ℕ) → (S : ℕ → ℕ → Type 0) → ℕ → ℕ → Type 0
-  HasRead i S q s =
-      (u : ℕ) × IsStartAt node jobs q u × ((p : ℕ) × IsNewest node jobs i u p × S p s)
-
-  abbrev pub Stands : (i : ℕ) → (S : ℕ → ℕ → Type 0) → (t : ℕ) → ℕ → Type 0
-  Stands i S t s = (p : ℕ) × IsNewest node jobs i t p × S p s
-
-  abbrev pub Sampled : (i : ℕ) → (others : List ℕ) → (S : ℕ → ℕ → Type 0) → ℕ → ℕ → Type 0
-  Sampled i [] S = S
-  Sampled i (c ∷ others) S = Sampled c others (HasRead i S)
-
-  pub leads_own : (i : ℕ) (others : List ℕ) (p k : ℕ) → LeadsTo node jobs i others p k
-      → (job_at jobs k).task ≡ last_task i others → (job_at jobs p).task ≡ i
-  leads_own i [] p k same own = ap (λ x. (job_at jobs x).task) same ∙ own
-  leads_own i (c ∷ others) p k leads own =
-      let reads : Reads node jobs c leads.0 i p = leads.1 in reads.newest.own
-
-  sampled_from : (i : ℕ) (others : List ℕ) (S : ℕ → ℕ → Type 0) (k s p : ℕ) → S p s
-      → LeadsTo node jobs i others p k → Sampled i others S k s
-  sampled_from i [] S k s p has same = subst (λ x. S x s) same has
-  sampled_from i (c ∷ others) S k s p has leads =
-      let reads : Reads node jobs c leads.0 i p = leads.1 in
-      sampled_from c others (HasRead i S) k s leads.0
-      (reads.start, reads.started, (p, reads.newest, has)) leads.2
-
-  sampled_to : (i : ℕ) (others : List ℕ) (S : ℕ → ℕ → Type 0) (k s : ℕ)
-      → (job_at jobs k).task ≡ last_task i others → Sampled i others S k s
-      → (p : ℕ) × S p s × LeadsTo node jobs i others p k
-  sampled_to i [] S k s own has = (k, has, refl)
-  sampled_to i (c ∷ others) S k s own has =
-      let b : (q : ℕ) × HasRead i S q s × LeadsTo node jobs c others q k =
-      sampled_to c others (HasRead i S) k s own has in
-      let reads : Reads node jobs c b.0 i b.1.2.0 = record {
-        own = leads_own c others b.0 k b.2 own;
-        start = b.1.0;
-        started = b.1.1;
-        newest = b.1.2.1;
-      } in
-      (b.1.2.0, b.1.2.2, (b.0, reads, b.2))
-
-  pub sampled_is : (i : ℕ) (others : List ℕ) (k : ℕ) (o : Option ℕ)
-      → (job_at jobs k).task ≡ last_task i others
-      → Is (Sampled i others (IsStartAt node jobs) k) o → IsSampled node jobs i others k o
-  sampled_is i others k None own is = λ s of.
-      is s (sampled_from i others (IsStartAt node jobs) k s of.job of.started of.path)
-  sampled_is i others k (Some s) own is =
-      let b = sampled_to i others (IsStartAt node jobs) k s own is in
-      record { job = b.0; started = b.1; path = b.2 }
-
   -- ---- what is known of a task at a time
   pub record IsAt (S : ℕ → ℕ → Type 0) (t : ℕ) (st : Station) : Type 0 where
-    pub written : Is (Stands st.task S t) st.written
+    pub written : Is (Stands AtFinish node jobs st.task S t) st.written
     pub read : (q : ℕ) → (job_at jobs q).task ≡ st.task → InFlight node jobs t q
         → (st.runs ≡ true) × Is (S q) st.read
     pub flies : st.runs ≡ true
@@ -105,13 +42,13 @@ module _ (node : Node) (jobs : List Job) where
 
   abbrev pub AllAt : (S : ℕ → ℕ → Type 0) → (t : ℕ) → List Station → Type 0
   AllAt S t [] = Unit {0}
-  AllAt S t (st ∷ sts) = IsAt S t st × AllAt (HasRead st.task S) t sts
+  AllAt S t (st ∷ sts) = IsAt S t st × AllAt (HasRead AtFinish node jobs st.task S) t sts
 
   -- before the first tick
   first_at : (S : ℕ → ℕ → Type 0) (i : ℕ) → IsAt S 0 (fresh i)
   first_at S i = record {
     written = λ s has.
-        let newest : IsNewest node jobs i 0 has.0 = has.1 in
+        let newest : IsNewest AtFinish node jobs i 0 has.0 = has.1 in
         let in_time = newest.in_time in
         let some = newest.finished.some in
         omega arith;
@@ -121,23 +58,23 @@ module _ (node : Node) (jobs : List Job) where
 
   pub all_first : (S : ℕ → ℕ → Type 0) (tasks : List ℕ) → AllAt S 0 (map fresh tasks)
   all_first S [] = tt
-  all_first S (i ∷ tasks) = (first_at S i, all_first (HasRead i S) tasks)
+  all_first S (i ∷ tasks) = (first_at S i, all_first (HasRead AtFinish node jobs i S) tasks)
 
   -- what comes of task i with a slice of job j, from these samples
   abbrev pub Comes : (s : TaskSlice) → (t j i : ℕ) → (R : ℕ → ℕ → Type 0) → Option ChainOutput → Type 0
-  Comes s t j i R None = NoneComes node jobs i t s.stop
+  Comes s t j i R None = NoneComes AtFinish node jobs i t s.stop
   Comes s t j i R (Some o) =
       (o.finish ≡ s.stop) × ((job_at jobs j).task ≡ i) × IsFinishAt node jobs j s.stop
       × Is (R j) o.sample
 
   abbrev ComesOf : (s : TaskSlice) → (t j : ℕ) → (S : ℕ → ℕ → Type 0) → Option ChainOutput → List ℕ → Type 0
   ComesOf s t j S o [] = Unit {0}
-  ComesOf s t j S o (i ∷ others) = Comes s t j (last_task i others) (Sampled i others S) o
+  ComesOf s t j S o (i ∷ others) = Comes s t j (last_task i others) (Sampled AtFinish node jobs i others S) o
 
   -- a slice has gone by
   pub record Passed (s : TaskSlice) (t j : ℕ) (sts : List Station) (i : ℕ) (others : List ℕ) : Type 0 where
     pub after : AllAt (IsStartAt node jobs) s.stop (along s (Some s.start) sts)
-    pub comes : Comes s t j (last_task i others) (Sampled i others (IsStartAt node jobs))
+    pub comes : Comes s t j (last_task i others) (Sampled AtFinish node jobs i others (IsStartAt node jobs))
         (last_output None s (Some s.start) sts)
     pub early : (q g : ℕ) → IsFinishAt node jobs q g → t < g → g ≤ s.stop → g ≡ s.stop
 
@@ -197,7 +134,7 @@ module _ (node : Node) (jobs : List Job) where
             ],
           )
 
-      none_start : (i : ℕ) → NoneComes node jobs i t s.start
+      none_start : (i : ℕ) → NoneComes AtFinish node jobs i t s.start
       none_start i q g mine is hi =
           elim (cases_lt t g) [
             | inr kept ↦ kept
@@ -205,7 +142,7 @@ module _ (node : Node) (jobs : List Job) where
           ]
 
       -- of the tasks of other jobs, and of its own where it goes on, none comes at all
-      none_other : (i : ℕ) → (i ≡ s.task → s.ends ≡ false) → NoneComes node jobs i t s.stop
+      none_other : (i : ℕ) → (i ≡ s.task → s.ends ≡ false) → NoneComes AtFinish node jobs i t s.stop
       none_other i goes_on q g mine is hi =
           elim (cases_lt t g) [
             | inr kept ↦ kept
@@ -256,10 +193,7 @@ module _ (node : Node) (jobs : List Job) where
             let differ : (q : ℕ) → (job_at jobs q).task ≡ st.task → q ≡ j → ⊥ =
             λ q mine same. ne (sym mine ∙ (ap (λ x. (job_at jobs x).task) same ∙ sym own)) in
             record {
-              written = is_same (Stands st.task S t) (Stands st.task S s.stop) st.written
-                  (λ u has. (has.0, newest_later node jobs st.task t s.stop has.0 (omega arith) none has.1, has.2))
-                  (λ u has. (has.0, newest_before node jobs st.task t s.stop has.0 (omega arith) none has.1, has.2))
-                  is_at.written;
+              written = stands_on AtFinish node jobs st.task t s.stop S st.written (omega arith) none is_at.written;
               read = λ q mine flies. is_at.read q mine (flew q (differ q mine) flies);
               flies = λ runs.
                   let f = is_at.flies runs in
@@ -272,11 +206,8 @@ module _ (node : Node) (jobs : List Job) where
         at_open mine goes =
             let none = none_other st.task (λ e. goes) in
             let here : Is (S j) (read_by st offered) = reading mine in
-            let stays : Is (Stands st.task S s.stop) st.written =
-            is_same (Stands st.task S t) (Stands st.task S s.stop) st.written
-            (λ u has. (has.0, newest_later node jobs st.task t s.stop has.0 (omega arith) none has.1, has.2))
-            (λ u has. (has.0, newest_before node jobs st.task t s.stop has.0 (omega arith) none has.1, has.2))
-            is_at.written in
+            let stays : Is (Stands AtFinish node jobs st.task S s.stop) st.written =
+            stands_on AtFinish node jobs st.task t s.stop S st.written (omega arith) none is_at.written in
             record {
               written = rw goes stays;
               read = λ q of flies. elim (cases_eq q j) [
@@ -291,7 +222,7 @@ module _ (node : Node) (jobs : List Job) where
         at_end mine ends =
             let fin : IsFinishAt node jobs j s.stop = ended ends in
             let parts = picked_parts node jobs s.start j runs_first in
-            let newest : IsNewest node jobs st.task s.stop j = record {
+            let newest : IsNewest AtFinish node jobs st.task s.stop j = record {
               is_job = parts.0;
               own = sym own ∙ sym mine;
               finish = s.stop;
@@ -299,15 +230,11 @@ module _ (node : Node) (jobs : List Job) where
               in_time = omega arith;
               last = λ q g lt of is by. by;
             } in
-            let alone : (p : ℕ) → IsNewest node jobs st.task s.stop p → p ≡ j = λ p is.
-            let in_time = is.in_time in
-            let last = is.last j s.stop parts.0 (sym own ∙ sym mine) fin (omega arith) in
-            let at : is.finish ≡ s.stop = omega arith in
-            finish_apart node jobs p j s.stop (subst (λ x. IsFinishAt node jobs p x) at is.finished) fin in
-            let now : Is (Stands st.task S s.stop) (read_by st offered) =
-            is_same (S j) (Stands st.task S s.stop) (read_by st offered)
+            let now : Is (Stands AtFinish node jobs st.task S s.stop) (read_by st offered) =
+            is_same (S j) (Stands AtFinish node jobs st.task S s.stop) (read_by st offered)
             (λ u has. (j, newest, has))
-            (λ u has. subst (λ x. S x u) (alone has.0 has.1) has.2)
+            (λ u has. subst (λ x. S x u) (newest_once AtFinish node jobs (turns_finish node jobs no_overrun) st.task
+            s.stop has.0 j has.1 newest) has.2)
             (reading mine) in
             record {
               written = rw ends now;
@@ -333,16 +260,10 @@ module _ (node : Node) (jobs : List Job) where
             ]
 
         -- what it offers the next task
-        pub offers_next : IsStartAt node jobs j s.start → Is (HasRead st.task S j) st.written
+        pub offers_next : IsStartAt node jobs j s.start → Is (HasRead AtFinish node jobs st.task S j) st.written
         offers_next start =
-            let none = none_start st.task in
-            is_same (Stands st.task S t) (HasRead st.task S j) st.written
-            (λ u has. (s.start, start, (has.0, newest_later node jobs st.task t s.start has.0 le none has.1, has.2)))
-            (λ u has.
-            let once : has.0 ≡ s.start = start_once node jobs j has.0 s.start has.1 start in
-            let newest = subst (λ x. IsNewest node jobs st.task x has.2.0) once has.2.1 in
-            (has.2.0, newest_before node jobs st.task t s.start has.2.0 le none newest, has.2.2))
-            is_at.written
+            has_read AtFinish node jobs st.task j s.start S st.written start
+            (stands_on AtFinish node jobs st.task t s.start S st.written le (none_start st.task) is_at.written)
 
         -- what it writes
         pub comes_at : Comes s t j st.task S (output_at s offered st)
@@ -362,25 +283,25 @@ module _ (node : Node) (jobs : List Job) where
       all_after S offered [] at offers = tt
       all_after S offered (st ∷ sts) at offers = (
         at_after S offered st at.0 offers,
-        subst (λ i. AllAt (HasRead i S) s.stop (along s st.written sts)) (sym (task_kept s offered st))
-            (all_after (HasRead st.task S) st.written sts at.1 (offers_next S offered st at.0 offers)),
+        subst (λ i. AllAt (HasRead AtFinish node jobs i S) s.stop (along s st.written sts)) (sym (task_kept s offered st))
+            (all_after (HasRead AtFinish node jobs st.task S) st.written sts at.1 (offers_next S offered st at.0 offers)),
       )
 
       comes_along : (S : ℕ → ℕ → Type 0) (offered : Option ℕ) (st : Station) (sts : List Station)
           (found : Option ChainOutput) → AllAt S t (st ∷ sts)
           → (IsStartAt node jobs j s.start → Is (S j) offered)
           → Comes s t j (last_task st.task (map (λ (x : Station). x.task) sts))
-          (Sampled st.task (map (λ (x : Station). x.task) sts) S)
+          (Sampled AtFinish node jobs st.task (map (λ (x : Station). x.task) sts) S)
           (last_output found s offered (st ∷ sts))
       comes_along S offered st [] found at offers = comes_at S offered st at.0 offers
       comes_along S offered st (st' ∷ sts) found at offers =
-          comes_along (HasRead st.task S) st.written st' sts (output_at s offered st) at.1
+          comes_along (HasRead AtFinish node jobs st.task S) st.written st' sts (output_at s offered st) at.1
           (offers_next S offered st at.0 offers)
 
       all_come : (S : ℕ → ℕ → Type 0) (offered : Option ℕ) (sts : List Station) (i : ℕ)
           (others : List ℕ) → map (λ (x : Station). x.task) sts ≡ i ∷ others → AllAt S t sts
           → (IsStartAt node jobs j s.start → Is (S j) offered)
-          → Comes s t j (last_task i others) (Sampled i others S) (last_output None s offered sts)
+          → Comes s t j (last_task i others) (Sampled AtFinish node jobs i others S) (last_output None s offered sts)
       all_come S offered [] i others e at offers = absurd (no_cons i others e)
       all_come S offered (st ∷ sts) i others e at offers =
           subst (ComesOf s t j S (last_output None s offered (st ∷ sts))) e

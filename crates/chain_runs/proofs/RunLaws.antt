@@ -16,6 +16,7 @@ use Rattle.ceiling_kernel.proofs.ReleaseLaws.{job_is, jobs_length}
 use Rattle.ceiling_kernel.proofs.SliceLaws.{longest_runs}
 use Rattle.chains.specs.Starts.{IsStartAt}
 use Rattle.chains.specs.Paths.{last_task}
+use Rattle.chains.specs.declared.bounds.Writes.TheVariants.{AtFinish, AtDeadline}
 use Rattle.chains.proofs.OrderLaws.{finishes_by}
 use Rattle.chain_runs.specs.Slices.{is_finish, slice_by, slice_of}
 use Rattle.chain_runs.specs.Outputs.{fresh, along, last_output, outputs_from, with_output}
@@ -23,9 +24,10 @@ use Rattle.chain_runs.specs.Runs.{AreOutputs, IsOutput, OutputsAreTheRuns}
 use Rattle.chain_runs.specs.declared.slices.TaskSlice.{TaskSlice}
 use Rattle.chain_runs.specs.declared.outputs.ChainOutput.{ChainOutput}
 use Rattle.chain_runs.specs.declared.outputs.Station.{Station}
-use Rattle.chain_runs.proofs.TickLaws.{NoneComes, finish_picked, finish_once, picked_parts}
-use Rattle.chain_runs.proofs.OutputLaws.{AllAt, Comes, Passed, Sampled, all_first, passes, sampled_is}
-use Rattle.chain_runs.proofs.OutputLaws.{tasks_kept}
+use Rattle.chain_runs.proofs.TickLaws.{finish_picked, finish_once, picked_parts}
+use Rattle.chain_runs.proofs.PathLaws.{NoneComes, Sampled, sampled_is}
+use Rattle.chain_runs.proofs.OutputLaws.{AllAt, Comes, Passed, all_first, passes, tasks_kept}
+use Rattle.chain_runs.proofs.DeadlineLaws.{deadlines_law}
 
 -- the record of a job
 record_in : (node : Node) (jobs : List Job) (t k : ℕ) (rs : List Release) (j : ℕ) → j < length rs
@@ -109,12 +111,12 @@ module _ (node : Node) (rs : List Release) (until : ℕ) (trace : Trace)
   -- ---- the outputs from a time on
   -- from an earlier time, where none comes between
   earlier : (t u : ℕ) (os : List ChainOutput) → t ≤ u
-      → NoneComes node jobs (last_task first others) t u
-      → AreOutputs node jobs first others u until os → AreOutputs node jobs first others t until os
+      → NoneComes AtFinish node jobs (last_task first others) t u
+      → AreOutputs AtFinish node jobs first others u until os → AreOutputs AtFinish node jobs first others t until os
   earlier t u [] le none are = λ q g own is by.
       let at = are q g own is by in none q g own is at
   earlier t u (o ∷ os) le none are =
-      let k : (k : ℕ) × IsOutput node jobs first others u o k = are.2 in (
+      let k : (k : ℕ) × IsOutput AtFinish node jobs first others u o k = are.2 in (
         omega (arith, are.0),
         are.1,
         (
@@ -136,7 +138,7 @@ module _ (node : Node) (rs : List Release) (until : ℕ) (trace : Trace)
   pub outputs_by : (ss : List Slice) (sts : List Station) (t : ℕ)
       → map (λ (st : Station). st.task) sts ≡ first ∷ others
       → AllAt node jobs (IsStartAt node jobs) t sts → AreLongestRuns (picked node jobs) t until ss
-      → AreOutputs node jobs first others t until (outputs_from sts (map by_task ss))
+      → AreOutputs AtFinish node jobs first others t until (outputs_from sts (map by_task ss))
   outputs_by [] sts t e at runs = λ q g own is by.
       elim (cases_lt t g) [
         | inr kept ↦ kept
@@ -153,15 +155,15 @@ module _ (node : Node) (rs : List Release) (until : ℕ) (trace : Trace)
       let passed : Passed node jobs x t s.job sts first others =
       passes node jobs ran.1 x t s.job le some runs.3 runs.4 (owned s lt) (ended s lt)
       (opened s lt some in_run runs.4) sts first others e at in
-      let rest : AreOutputs node jobs first others s.stop until
+      let rest : AreOutputs AtFinish node jobs first others s.stop until
       (outputs_from (along x (Some s.start) sts) (map by_task ss)) =
       outputs_by ss (along x (Some s.start) sts) s.stop (tasks_kept x (Some s.start) sts ∙ e)
       passed.after runs.6 in
-      subst (λ y. AreOutputs node jobs first others t until (outputs_from sts (y ∷ map by_task ss)))
+      subst (λ y. AreOutputs AtFinish node jobs first others t until (outputs_from sts (y ∷ map by_task ss)))
       (sym (as_is s lt))
       (elim (last_output None x (Some s.start) sts) as (λ o. Comes node jobs x t s.job
-      (last_task first others) (Sampled node jobs first others (IsStartAt node jobs)) o
-      → AreOutputs node jobs first others t until (with_output o (outputs_from
+      (last_task first others) (Sampled AtFinish node jobs first others (IsStartAt node jobs)) o
+      → AreOutputs AtFinish node jobs first others t until (with_output o (outputs_from
       (along x (Some s.start) sts) (map by_task ss)))) [
         | None ↦ λ none. earlier t s.stop (outputs_from (along x (Some s.start) sts) (map by_task ss)) (omega arith) none rest
         | Some o ↦ λ comes. (
@@ -173,22 +175,24 @@ module _ (node : Node) (rs : List Release) (until : ℕ) (trace : Trace)
               is_job = lt;
               own = comes.1;
               finished = subst (IsFinishAt node jobs s.job) (sym comes.0) comes.2;
-              sampled = sampled_is node jobs first others s.job o.sample comes.1 comes.3;
+              sampled = sampled_is AtFinish node jobs first others s.job o.sample comes.1 comes.3;
               next = λ q g own is lo. elim (cases_lt s.stop g) [
                 | inl past ↦ omega (arith, comes.0)
                 | inr low ↦ omega (arith, comes.0, passed.early q g is lo low)
               ];
             },
           ),
-          subst (λ f. AreOutputs node jobs first others f until (outputs_from
+          subst (λ f. AreOutputs AtFinish node jobs first others f until (outputs_from
               (along x (Some s.start) sts) (map by_task ss))) (sym comes.0) rest,
         )
       ] passed.comes)
 
 pub outputs_law : OutputsAreTheRuns
-outputs_law node rs until trace first others ran =
+outputs_law AtFinish node rs until trace first others valid ran =
     let jobs = jobs_of node.tasks rs in
     let longest = subst (AreLongestRuns (picked node jobs) 0 until) (sym ran.2.slices)
     (longest_runs node jobs until) in
     outputs_by node rs until trace ran first others trace.slices.items (map fresh (first ∷ others)) 0
     (fresh_tasks (first ∷ others)) (all_first node jobs (IsStartAt node jobs) (first ∷ others)) longest
+outputs_law AtDeadline node rs until trace first others valid ran =
+    deadlines_law node rs until trace first others valid ran

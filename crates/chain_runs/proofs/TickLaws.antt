@@ -6,10 +6,9 @@ use Rattle.std.proofs.lemmas.Bool.{cases_lt, cases_order}
 use Rattle.ceiling_kernel.specs.Readings.{IsFinishAt}
 use Rattle.ceiling_kernel.specs.Waits.{NoOverrun}
 use Rattle.ceiling_kernel.proofs.Common.{Node, Job, job_at, executed_before, picked}
-use Rattle.ceiling_kernel.proofs.MachineLaws.{IsPick, picked_is, pending_parts, own_of}
+use Rattle.ceiling_kernel.proofs.MachineLaws.{IsPick, picked_is, pending_parts}
 use Rattle.ceiling_kernel.proofs.FinishLaws.{done_grows}
 use Rattle.chains.specs.Starts.{IsStartAt}
-use Rattle.chains.specs.Paths.{IsNewest}
 use Rattle.chains.proofs.TickLaws.{tick_cases}
 use Rattle.chains.proofs.NewestLaws.{started}
 use Rattle.chains.proofs.OrderLaws.{finish_by}
@@ -64,41 +63,11 @@ module _ (node : Node) (jobs : List Job) where
       ap (λ x. executed_before node jobs x q) (sym e)
       ∙ still_by q t (u - t) (λ v lo hi. never v lo (omega arith))
 
-  -- no job of task i finishes after t and until u
-  abbrev pub NoneComes : (i t u : ℕ) → Type 0
-  NoneComes i t u = (q g : ℕ) → (job_at jobs q).task ≡ i → IsFinishAt node jobs q g → g ≤ u → g ≤ t
-
   -- who finishes after t and until u is picked between
   pub comes_picked : (j t u q g : ℕ) → OnlyPicks j t u → IsFinishAt node jobs q g → t < g → g ≤ u
       → q ≡ j
   comes_picked j t u q g only is lo hi =
       only (g - 1) q (omega arith) (omega arith) (finish_picked q g is)
-
-  -- the newest job of a task stays the newest until the next comes
-  pub newest_later : (i t u p : ℕ) → t ≤ u → NoneComes i t u → IsNewest node jobs i t p
-      → IsNewest node jobs i u p
-  newest_later i t u p le none is =
-      let in_time = is.in_time in
-      record {
-        is_job = is.is_job;
-        own = is.own;
-        finish = is.finish;
-        finished = is.finished;
-        in_time = omega arith;
-        last = λ q g lt own fin by. is.last q g lt own fin (none q g own fin by);
-      }
-
-  pub newest_before : (i t u p : ℕ) → t ≤ u → NoneComes i t u → IsNewest node jobs i u p
-      → IsNewest node jobs i t p
-  newest_before i t u p le none is =
-      record {
-        is_job = is.is_job;
-        own = is.own;
-        finish = is.finish;
-        finished = is.finished;
-        in_time = none p is.finish is.own is.finished is.in_time;
-        last = λ q g lt own fin by. is.last q g lt own fin (omega arith);
-      }
 
   -- a job finishes once
   pub finish_once : (q f g : ℕ) → IsFinishAt node jobs q f → IsFinishAt node jobs q g → f ≡ g
@@ -123,24 +92,6 @@ module _ (node : Node) (jobs : List Job) where
             let after = is.after in
             absurd (omega (arith, done_grows node jobs q f s by))
       ]
-
-  -- a job starts once
-  not_later : (j s t : ℕ) → IsStartAt node jobs j s → IsStartAt node jobs j t → s ≤ t
-  not_later j s t first second =
-      elim (cases_lt t s) [
-        | inr ge ↦ ge
-        | inl before ↦
-            let none = first.first in
-            absurd (omega (
-              arith,
-              own_of node jobs t j second.runs,
-              done_grows node jobs j (suc t) s (omega arith),
-            ))
-      ]
-
-  pub start_once : (j s t : ℕ) → IsStartAt node jobs j s → IsStartAt node jobs j t → s ≡ t
-  start_once j s t one other =
-      omega (arith, not_later j s t one other, not_later j t s other one)
 
   -- while no job overruns the one before it, a job in flight is the one of its task that is picked next
   pub one_flies : NoOverrun node jobs → (t u q j : ℕ) → t ≤ u

@@ -1,5 +1,7 @@
 pub mod Slices
 pub mod Outputs
+pub mod DeadlineOutputs
+pub mod ChainOutputs
 pub mod Outcomes
 pub mod Runs
 pub mod RunChainLines

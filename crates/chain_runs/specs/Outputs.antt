@@ -1,10 +1,7 @@
--- The outputs of a chain in a run. Each task has a register that keeps what its last finished job wrote; a job reads the
--- register of the task before it when it begins, and writes its own when it finishes. Of what is written only the sample
--- counts that stands behind it.
-use Rattle.std.specs.Prelude.{ℕ, false, not, ◌&&◌, ◌==◌, List, [], ◌∷◌, map, Option, Some, None, if◌then◌else◌}
-use Rattle.task_sheet.specs.Sheet.{Task}
-use Rattle.ceiling_kernel.specs.declared.trace.Trace.{Trace}
-use Rattle.chain_runs.specs.Slices.{slices_of}
+-- The outputs of a chain in a run whose tasks write at their finishes. Each task has a register that keeps what its last
+-- finished job wrote; a job reads the register of the task before it when it begins, and writes its own when it finishes. Of
+-- what is written only the sample counts that stands behind it.
+use Rattle.std.specs.Prelude.{ℕ, false, not, ◌&&◌, ◌==◌, List, [], ◌∷◌, Option, Some, None, if◌then◌else◌}
 use Rattle.chain_runs.specs.declared.slices.TaskSlice.{TaskSlice}
 use Rattle.chain_runs.specs.declared.outputs.ChainOutput.{ChainOutput}
 use Rattle.chain_runs.specs.declared.outputs.Station.{Station}
@@ -60,7 +57,3 @@ outputs_from sts [] = []
 outputs_from sts (s ∷ ss) =
     with_output (last_output None s (Some s.start) sts)
     (outputs_from (along s (Some s.start) sts) ss)
-
--- what comes of a chain in a run
-abbrev pub outputs_of : List Task → Trace → (tasks : List ℕ) → List ChainOutput
-outputs_of U trace tasks = outputs_from (map fresh tasks) (slices_of U trace)

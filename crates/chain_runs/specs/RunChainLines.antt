@@ -1,5 +1,5 @@
 -- The lines of the chains of a run.
-use Rattle.std.specs.Prelude.{ℕ, List, [], ◌∷◌, ◌++◌, codes, map, Option, Some, None}
+use Rattle.std.specs.Prelude.{ℕ, List, [], ◌∷◌, ◌++◌, codes, Option}
 use Rattle.std.specs.Fmt.{decimal}
 use Rattle.task_sheet.specs.Sheet.{Task}
 use Rattle.lines.specs.Known.{some_words}
@@ -7,10 +7,8 @@ use Rattle.ceiling_kernel.specs.declared.trace.Trace.{Trace}
 use Rattle.chains.specs.Parts.{bound_in}
 use Rattle.chains.specs.declared.bounds.Level.{Level}
 use Rattle.chain_tables.specs.Chains.{ChainData}
-use Rattle.chain_runs.specs.Slices.{slices_of}
-use Rattle.chain_runs.specs.Outputs.{fresh, outputs_from}
+use Rattle.chain_runs.specs.ChainOutputs.{outputs_of}
 use Rattle.chain_runs.specs.Outcomes.{outcome_of}
-use Rattle.chain_runs.specs.declared.slices.TaskSlice.{TaskSlice}
 use Rattle.chain_runs.specs.declared.outcome.ChainOutcome.{ChainOutcome}
 
 -- how many outputs have a sample, the greatest age and the greatest reaction
@@ -24,18 +22,14 @@ abbrev pub run_line : ChainData → ChainOutcome → (bound : Option ℕ) → Li
 run_line chain o bound =
     codes "chain " ++ chain.name ++ outcome_words o ++ codes " bound " ++ some_words bound ++ codes "\n"
 
--- that of one in a run of these slices, which ends at a time, in an order whose levels have these responses
-abbrev pub run_chain_line : List Task → List Level → (until : ℕ) → List TaskSlice → ChainData → List ℕ
-run_chain_line U levels until slices chain =
-    run_line chain (outcome_of until (outputs_from (map fresh chain.tasks) slices))
-    (bound_in U levels chain.tasks)
+-- that of one in a run that ends at a time, in an order whose levels have these responses
+abbrev pub run_chain_line : List Task → List Level → (until : ℕ) → Trace → ChainData → List ℕ
+run_chain_line U levels until trace chain =
+    run_line chain (outcome_of until (outputs_of chain.writes U until trace chain.tasks))
+    (bound_in chain.writes U levels chain.tasks)
 
 -- those of all
-abbrev pub chain_lines : List Task → List Level → (until : ℕ) → List TaskSlice → List ChainData → List ℕ
-chain_lines U levels until slices [] = []
-chain_lines U levels until slices (chain ∷ chains) =
-    run_chain_line U levels until slices chain ++ chain_lines U levels until slices chains
-
 abbrev pub run_chains_said : List Task → List Level → (until : ℕ) → Trace → List ChainData → List ℕ
-run_chains_said U levels until trace chains =
-    chain_lines U levels until (slices_of U trace) chains
+run_chains_said U levels until trace [] = []
+run_chains_said U levels until trace (chain ∷ chains) =
+    run_chain_line U levels until trace chain ++ run_chains_said U levels until trace chains

@@ -1,56 +1,65 @@
 -- What the outputs of a chain are in a run of the kernel, by the words of chains.
 use Rattle.std.specs.Prelude.{◌≡◌, ◌⊎◌, ℕ, ◌+◌, ◌-◌, ◌<◌, ◌≤◌, List, [], ◌∷◌, length, Option, Some, None, Ok}
 use Rattle.ceiling_kernel.specs.Tick.{Node, Job, job_at}
-use Rattle.ceiling_kernel.specs.Readings.{IsFinishAt}
 use Rattle.ceiling_kernel.specs.Releases.{jobs_of}
 use Rattle.ceiling_kernel.specs.Runs.{Runs}
 use Rattle.ceiling_kernel.specs.declared.trace.Release.{Release}
 use Rattle.ceiling_kernel.specs.declared.trace.Trace.{Trace}
 use Rattle.ceiling_kernel.specs.Waits.{IsNode}
+use Rattle.chains.specs.Starts.{IsWrittenAt}
 use Rattle.chains.specs.Paths.{IsNewest, IsSampleOf, last_task}
 use Rattle.chains.specs.Gaps.{AreSteady, OthersSteady}
 use Rattle.chains.specs.Reactions.{ReactsBy}
 use Rattle.chains.specs.Bounds.{AllAct, bound_of}
+use Rattle.chains.specs.declared.bounds.Writes.{Writes}
+use Rattle.chains.specs.declared.bounds.Writes.TheVariants.{AtFinish, AtDeadline}
 use Rattle.chain_runs.specs.Outcomes.{ages_of, reactions_of}
-use Rattle.chain_runs.specs.Outputs.{outputs_of}
+use Rattle.chain_runs.specs.ChainOutputs.{outputs_of}
 use Rattle.chain_runs.specs.declared.outputs.ChainOutput.{ChainOutput}
 
+-- where tasks write at their deadlines, these are those of a valid set: after 0, and within the period
+abbrev pub WritesInTime : Writes → Node → Type 0
+WritesInTime AtFinish node = Unit {0}
+WritesInTime AtDeadline node = IsNode node
+
 -- the sample of output k of a chain, or that it has none
-abbrev pub IsSampled : Node → List Job → (first : ℕ) → (others : List ℕ) → (k : ℕ) → Option ℕ → Type 0
-IsSampled node jobs first others k None = (s : ℕ) → IsSampleOf node jobs first others k s → ⊥
-IsSampled node jobs first others k (Some s) = IsSampleOf node jobs first others k s
+abbrev pub IsSampled : Writes → Node → List Job → (first : ℕ) → (others : List ℕ) → (k : ℕ) → Option ℕ → Type 0
+IsSampled writes node jobs first others k None =
+    (s : ℕ) → IsSampleOf writes node jobs first others k s → ⊥
+IsSampled writes node jobs first others k (Some s) = IsSampleOf writes node jobs first others k s
 
 -- an output is job k of the chain's last task, with its sample, and the first that comes after a time
-pub record IsOutput (node : Node) (jobs : List Job) (first : ℕ) (others : List ℕ) (after : ℕ)
-    (o : ChainOutput) (k : ℕ) : Type 0 where
+pub record IsOutput (writes : Writes) (node : Node) (jobs : List Job) (first : ℕ) (others : List ℕ)
+    (after : ℕ) (o : ChainOutput) (k : ℕ) : Type 0 where
   pub is_job : k < length jobs
   pub own : (job_at jobs k).task ≡ last_task first others
-  pub finished : IsFinishAt node jobs k o.finish
-  pub sampled : IsSampled node jobs first others k o.sample
-  pub next : (q g : ℕ) → (job_at jobs q).task ≡ last_task first others → IsFinishAt node jobs q g
-      → after < g
+  pub finished : IsWrittenAt writes node jobs k o.finish
+  pub sampled : IsSampled writes node jobs first others k o.sample
+  pub next : (q g : ℕ) → (job_at jobs q).task ≡ last_task first others
+      → IsWrittenAt writes node jobs q g → after < g
       → o.finish ≤ g
 
--- The outputs that come after a time and until another, one after the other, are these: each is a finished job of the chain's
--- last task, and no such job is left out.
-abbrev pub AreOutputs : Node → List Job → (first : ℕ) → (others : List ℕ) → (after until : ℕ)
+-- The outputs that come after a time and until another, one after the other, are these: each is what a job of the chain's last
+-- task writes, and no such job is left out.
+abbrev pub AreOutputs : Writes → Node → List Job → (first : ℕ) → (others : List ℕ) → (after until : ℕ)
     → List ChainOutput → Type 0
-AreOutputs node jobs first others after until [] =
-    (q g : ℕ) → (job_at jobs q).task ≡ last_task first others → IsFinishAt node jobs q g
+AreOutputs writes node jobs first others after until [] =
+    (q g : ℕ) → (job_at jobs q).task ≡ last_task first others → IsWrittenAt writes node jobs q g
     → g ≤ until
     → g ≤ after
-AreOutputs node jobs first others after until (o ∷ os) =
+AreOutputs writes node jobs first others after until (o ∷ os) =
     (after < o.finish) × (o.finish ≤ until)
-    × ((k : ℕ) × IsOutput node jobs first others after o k)
-    × AreOutputs node jobs first others o.finish until os
+    × ((k : ℕ) × IsOutput writes node jobs first others after o k)
+    × AreOutputs writes node jobs first others o.finish until os
 
 -- the outputs that are found of a chain in a run
 abbrev pub OutputsAreTheRuns : Type 0
 OutputsAreTheRuns =
-    (node : Node) (rs : List Release) (until : ℕ) (trace : Trace) (first : ℕ) (others : List ℕ)
-    → Runs node rs until (Ok trace)
-    → AreOutputs node (jobs_of node.tasks rs) first others 0 until
-    (outputs_of node.tasks trace (first ∷ others))
+    (writes : Writes) (node : Node) (rs : List Release) (until : ℕ) (trace : Trace) (first : ℕ)
+    (others : List ℕ)
+    → WritesInTime writes node → Runs node rs until (Ok trace)
+    → AreOutputs writes node (jobs_of node.tasks rs) first others 0 until
+    (outputs_of writes node.tasks until trace (first ∷ others))
 
 -- ---- ages and reactions
 -- what is found, where it is, is at most a time
@@ -61,82 +70,88 @@ AtMost most (Some found) = found ≤ most
 -- whatever stands of a chain at a time of the run, is no older than the greatest age that is found
 abbrev pub NoneIsOlder : Type 0
 NoneIsOlder =
-    (node : Node) (rs : List Release) (until : ℕ) (trace : Trace) (first : ℕ) (others : List ℕ)
-    → Runs node rs until (Ok trace)
+    (writes : Writes) (node : Node) (rs : List Release) (until : ℕ) (trace : Trace) (first : ℕ)
+    (others : List ℕ)
+    → WritesInTime writes node → Runs node rs until (Ok trace)
     → (t k s : ℕ) → t ≤ until
-    → IsNewest node (jobs_of node.tasks rs) (last_task first others) t k
-    → IsSampleOf node (jobs_of node.tasks rs) first others k s
-    → (age : ℕ) × (ages_of until (outputs_of node.tasks trace (first ∷ others)) ≡ Some age)
+    → IsNewest writes node (jobs_of node.tasks rs) (last_task first others) t k
+    → IsSampleOf writes node (jobs_of node.tasks rs) first others k s
+    → (age : ℕ)
+    × (ages_of until (outputs_of writes node.tasks until trace (first ∷ others)) ≡ Some age)
     × (t ≤ s + age)
 
 -- an age of a chain's output in a run: the output stands at that time or just before
-pub record IsAge (node : Node) (jobs : List Job) (first : ℕ) (others : List ℕ) (until age : ℕ)
+pub record IsAge (writes : Writes) (node : Node) (jobs : List Job) (first : ℕ) (others : List ℕ)
+    (until age : ℕ)
     : Type 0 where
   pub output : ℕ
   pub sample : ℕ
-  pub sampled : IsSampleOf node jobs first others output sample
+  pub sampled : IsSampleOf writes node jobs first others output sample
   pub time : ℕ
   pub in_run : time ≤ until
-  pub stands : IsNewest node jobs (last_task first others) time output
-      ⊎ IsNewest node jobs (last_task first others) (time - 1) output
+  pub stands : IsNewest writes node jobs (last_task first others) time output
+      ⊎ IsNewest writes node jobs (last_task first others) (time - 1) output
   pub is : sample + age ≡ time
 
 -- the greatest age that is found is one
 abbrev pub AgesAreReached : Type 0
 AgesAreReached =
-    (node : Node) (rs : List Release) (until : ℕ) (trace : Trace) (first : ℕ) (others : List ℕ)
-    (age : ℕ)
-    → Runs node rs until (Ok trace)
-    → ages_of until (outputs_of node.tasks trace (first ∷ others)) ≡ Some age
-    → IsAge node (jobs_of node.tasks rs) first others until age
+    (writes : Writes) (node : Node) (rs : List Release) (until : ℕ) (trace : Trace) (first : ℕ)
+    (others : List ℕ) (age : ℕ)
+    → WritesInTime writes node → Runs node rs until (Ok trace)
+    → ages_of until (outputs_of writes node.tasks until trace (first ∷ others)) ≡ Some age
+    → IsAge writes node (jobs_of node.tasks rs) first others until age
 
 -- an event just after the sample of an output, where it is acted on in the run at all, is within the greatest reaction that is
 -- found
 abbrev pub NoneIsSlower : Type 0
 NoneIsSlower =
-    (node : Node) (rs : List Release) (until : ℕ) (trace : Trace) (first : ℕ) (others : List ℕ)
-    → Runs node rs until (Ok trace)
+    (writes : Writes) (node : Node) (rs : List Release) (until : ℕ) (trace : Trace) (first : ℕ)
+    (others : List ℕ)
+    → WritesInTime writes node → Runs node rs until (Ok trace)
     → (k f s : ℕ) → (job_at (jobs_of node.tasks rs) k).task ≡ last_task first others
-    → IsFinishAt node (jobs_of node.tasks rs) k f
-    → IsSampleOf node (jobs_of node.tasks rs) first others k s
-    → ReactsBy node (jobs_of node.tasks rs) first others (s + 1) until
-    → (reaction : ℕ) × (reactions_of (outputs_of node.tasks trace (first ∷ others)) ≡ Some reaction)
-    × ReactsBy node (jobs_of node.tasks rs) first others (s + 1) (s + reaction)
+    → IsWrittenAt writes node (jobs_of node.tasks rs) k f
+    → IsSampleOf writes node (jobs_of node.tasks rs) first others k s
+    → ReactsBy writes node (jobs_of node.tasks rs) first others (s + 1) until
+    → (reaction : ℕ)
+    × (reactions_of (outputs_of writes node.tasks until trace (first ∷ others)) ≡ Some reaction)
+    × ReactsBy writes node (jobs_of node.tasks rs) first others (s + 1) (s + reaction)
 
 -- a reaction to an event just after the sample of an output: it is acted on at that time in the run, and not before
-pub record IsReaction (node : Node) (jobs : List Job) (first : ℕ) (others : List ℕ) (until reaction : ℕ)
+pub record IsReaction (writes : Writes) (node : Node) (jobs : List Job) (first : ℕ) (others : List ℕ)
+    (until reaction : ℕ)
     : Type 0 where
   pub output : ℕ
   pub own : (job_at jobs output).task ≡ last_task first others
   pub finish : ℕ
-  pub finished : IsFinishAt node jobs output finish
+  pub finished : IsWrittenAt writes node jobs output finish
   pub sample : ℕ
-  pub sampled : IsSampleOf node jobs first others output sample
+  pub sampled : IsSampleOf writes node jobs first others output sample
   pub time : ℕ
   pub in_run : time ≤ until
-  pub acted : ReactsBy node jobs first others (sample + 1) time
-  pub soonest : (by : ℕ) → ReactsBy node jobs first others (sample + 1) by → time ≤ by
+  pub acted : ReactsBy writes node jobs first others (sample + 1) time
+  pub soonest : (by : ℕ) → ReactsBy writes node jobs first others (sample + 1) by → time ≤ by
   pub is : sample + reaction ≡ time
 
 -- the greatest reaction that is found is one
 abbrev pub ReactionsAreReached : Type 0
 ReactionsAreReached =
-    (node : Node) (rs : List Release) (until : ℕ) (trace : Trace) (first : ℕ) (others : List ℕ)
-    (reaction : ℕ)
-    → Runs node rs until (Ok trace)
-    → reactions_of (outputs_of node.tasks trace (first ∷ others)) ≡ Some reaction
-    → IsReaction node (jobs_of node.tasks rs) first others until reaction
+    (writes : Writes) (node : Node) (rs : List Release) (until : ℕ) (trace : Trace) (first : ℕ)
+    (others : List ℕ) (reaction : ℕ)
+    → WritesInTime writes node → Runs node rs until (Ok trace)
+    → reactions_of (outputs_of writes node.tasks until trace (first ∷ others)) ≡ Some reaction
+    → IsReaction writes node (jobs_of node.tasks rs) first others until reaction
 
 -- in a run of which the laws of chains speak the greatest age and the greatest reaction are within the chain's bound
 abbrev pub RunsAreWithin : Type 0
 RunsAreWithin =
-    (node : Node) (rs : List Release) (until : ℕ) (trace : Trace) (response : ℕ → ℕ) (first : ℕ)
-    (others : List ℕ)
+    (writes : Writes) (node : Node) (rs : List Release) (until : ℕ) (trace : Trace) (response : ℕ → ℕ)
+    (first : ℕ) (others : List ℕ)
     → IsNode node → Runs node rs until (Ok trace)
     → AllAct node (jobs_of node.tasks rs) response first others
     → AreSteady node (jobs_of node.tasks rs) until first
     → OthersSteady node (jobs_of node.tasks rs) until first others
-    → AtMost (bound_of node response first others)
-    (ages_of until (outputs_of node.tasks trace (first ∷ others)))
-    × AtMost (bound_of node response first others)
-    (reactions_of (outputs_of node.tasks trace (first ∷ others)))
+    → AtMost (bound_of writes node response first others)
+    (ages_of until (outputs_of writes node.tasks until trace (first ∷ others)))
+    × AtMost (bound_of writes node response first others)
+    (reactions_of (outputs_of writes node.tasks until trace (first ∷ others)))

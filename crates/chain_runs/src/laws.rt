@@ -1,8 +1,8 @@
 //! The laws of a chain's outputs. Each is the contract of a function that does nothing.
 ghost use Rattle.chain_runs.specs.Runs.{AgesAreReached, NoneIsOlder, NoneIsSlower, OutputsAreTheRuns, ReactionsAreReached, RunsAreWithin};
 
-/// The outputs that are found of a chain in a run are the finished jobs of its last task, one after the other, each with the
-/// sample that its path begins with.
+/// The outputs that are found of a chain in a run are what the jobs of its last task write, one after the other, each
+/// with the sample that its path begins with. Where they write at their deadlines, these and all below speak of valid sets.
 pub fn outputs_are_the_runs()
     ensures { OutputsAreTheRuns }
 {}

@@ -1,9 +1,14 @@
 //! The outputs of a chain in a run.
 ghost use Rattle.std.specs.Prelude.{◌≡◌, IfOk, None, Some, map};
+ghost use Rattle.chain_runs.specs.ChainOutputs.{outputs_of};
 ghost use Rattle.chain_runs.specs.Outputs.{after_slice, along, fresh, last_output, output_at, outputs_from, read_by};
 
-use crate::slices::TaskSlice;
+use crate::deadline_outputs::{intervals_of, outputs_by};
+use crate::slices::{TaskSlice, slices_of};
+use ceiling_kernel::Trace;
+use chains::Writes;
 use std::alloc::{AllocError, Global};
+use task_sheet::TaskSet;
 
 /// What is known of a task of a chain: whether a job of it has begun and isn't finished, the sample that stands behind what
 /// that job has read, and the one behind what its last finished job wrote, where there are such; in microseconds.
@@ -89,9 +94,9 @@ fn fresh(alloc: Global, tasks: &[usize]) -> Result<Vec<Station>, AllocError>
     Ok(stations)
 }
 
-/// The outputs of a chain of tasks, by their indexes, the first one first, in a run of these slices, by time: the finished
-/// jobs of its last task, each with the sample that its path begins with. The error is out of memory.
-pub fn outputs_of(
+/// The outputs of a chain of tasks that write at their finishes, by their indexes, the first one first, in a run of these slices,
+/// by time: the finished jobs of its last task, each with the sample that its path begins with. The error is out of memory.
+pub fn outputs_from(
     alloc: Global,
     slices: &[TaskSlice],
     tasks: &[usize],
@@ -106,4 +111,28 @@ pub fn outputs_of(
         }
     }
     Ok(outputs)
+}
+
+/// The outputs of a chain of tasks, by their indexes, the first one first, in a run that ends at `until`, by time: what jobs of
+/// its last task write, each with the sample that its path begins with. The error is out of memory.
+pub fn outputs_of(
+    alloc: Global,
+    set: &TaskSet,
+    until: u64,
+    trace: &Trace,
+    writes: Writes,
+    tasks: &[usize],
+) -> Result<Vec<ChainOutput>, AllocError>
+    ensures { IfOk result (λ outputs. outputs.items ≡ outputs_of writes set.now until trace.now tasks.now) }
+{
+    match writes {
+        Writes::AtFinish => {
+            let slices = slices_of(alloc, set, trace)?;
+            outputs_from(alloc, &slices, tasks)
+        }
+        Writes::AtDeadline => {
+            let intervals = intervals_of(alloc, set, trace)?;
+            outputs_by(alloc, until, &intervals, tasks)
+        }
+    }
 }

@@ -26,7 +26,7 @@ fn is_finish(finish: Option<u64>, time: u64) -> bool
 }
 
 // The index of a job's task; the number of tasks where its name is unknown.
-fn task_of(set: &TaskSet, job: JobRecord) -> usize
+pub(crate) fn task_of(set: &TaskSet, job: JobRecord) -> usize
     ensures { result ≡ task_of set.now job }
 {
     set.find(job.name).unwrap_or(set.len())

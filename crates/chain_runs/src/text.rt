@@ -1,14 +1,10 @@
 //! What is printed of the chains of a run.
-ghost use Rattle.std.specs.Prelude.{◌≡◌, ◌++◌, IfOk, OnOk, map, string_bytes};
+ghost use Rattle.std.specs.Prelude.{◌≡◌, ◌++◌, IfOk, OnOk, string_bytes};
 ghost use Rattle.lines.specs.Known.{some_words};
 ghost use Rattle.chain_runs.specs.RunChainLines.{outcome_words, run_chain_line, run_chains_said, run_line};
-ghost use Rattle.chain_runs.specs.Outcomes.{outcome_of};
-ghost use Rattle.chain_runs.specs.Outputs.{fresh, outputs_from};
-ghost use Rattle.chain_runs.specs.Slices.{slices_of};
 
 use crate::outcome::{ChainOutcome, outcome_of};
 use crate::outputs::outputs_of;
-use crate::slices::{TaskSlice, slices_of};
 use ceiling_kernel::Trace;
 use chain_tables::Chain;
 use chains::{Level, bound_of};
@@ -51,22 +47,23 @@ pub fn push_run_line(
     text.push_str("\n")
 }
 
-// The line of a chain in a run of these slices, which ends at `until`.
+// The line of a chain in a run that ends at `until`.
 fn push_chain(
     text: &mut String,
     set: &TaskSet,
     levels: &[Level],
     chain: &Chain,
     until: u64,
-    slices: &[TaskSlice],
+    trace: &Trace,
     alloc: Global,
 ) -> Result<(), AllocError>
     ensures { OnOk result (string_bytes text.new ≡ string_bytes text.old
-        ++ run_chain_line set.now levels.now until slices.now chain.now) }
+        ++ run_chain_line set.now levels.now until trace.now chain.now) }
 {
-    let outputs = outputs_of(alloc, slices, &chain.tasks)?;
+    let (writes, tasks) = (chain.writes, chain.tasks.as_slice());
+    let outputs = outputs_of(alloc, set, until, trace, writes, tasks)?;
     let outcome = outcome_of(until, &outputs);
-    push_run_line(text, chain, outcome, bound_of(set, levels, &chain.tasks))
+    push_run_line(text, chain, outcome, bound_of(set, levels, writes, tasks))
 }
 
 /// The lines of chains in a run that ends at `until`, in an order whose levels have these responses: of each how many outputs
@@ -82,10 +79,9 @@ pub fn run_chains_text(
     ensures { IfOk result (λ text. string_bytes text
         ≡ run_chains_said set.now levels.now until trace.now chains.now) }
 {
-    let slices = slices_of(alloc, set, trace)?;
     let mut text = String::new(alloc);
     for chain in chains {
-        push_chain(&mut text, set, levels, chain, until, &slices, alloc)?;
+        push_chain(&mut text, set, levels, chain, until, trace, alloc)?;
     }
     Ok(text)
 }

@@ -3,6 +3,7 @@ use Rattle.std.specs.Prelude.{◌≡◌, ◌⊎◌, ℕ, nat_le, List, [], ◌�
 use Rattle.std.specs.Option.{option_or}
 use Rattle.task_sheet.specs.Sheet.{Task, same_bytes}
 use Rattle.teams.specs.NodeDocument.{node_word}
+use Rattle.chains.specs.declared.bounds.Writes.{Writes}
 use Rattle.chain_tables.specs.Tables.{WrittenData, first_repeat}
 use Rattle.chain_tables.specs.Documents.{ReadsWritten}
 use Rattle.chain_tables.specs.declared.judging.TheConstants.{CHAIN_LIMIT}
@@ -12,11 +13,12 @@ use Rattle.chain_tables.specs.declared.fault.Whose.TheVariants as whose
 use Rattle.chain_tables.specs.declared.fault.ChainFault.{ChainFault}
 use Rattle.chain_tables.specs.declared.fault.ChainFault.TheVariants as fault
 
--- a chain of a set: its tasks by index, the first one first, and its limit, if it has one
+-- a chain of a set: its tasks by index, the first one first, its limit, if it has one, and when its tasks write
 pub record ChainData : Type 0 where
   pub name : List ℕ
   pub tasks : List ℕ
   pub limit : Option ℕ
+  pub writes : Writes
 
 -- the task of a set that has a name
 abbrev pub task_named : List Task → List ℕ → Option ℕ
@@ -28,7 +30,12 @@ index_of U name = unwrap_or (task_named U name) 0
 
 -- a chain that a document says
 abbrev pub chain_of : List Task → WrittenData → ChainData
-chain_of U w = record { name = w.name; tasks = map (index_of U) w.tasks; limit = w.limit }
+chain_of U w = record {
+  name = w.name;
+  tasks = map (index_of U) w.tasks;
+  limit = w.limit;
+  writes = w.writes;
+}
 
 -- ---- why chains are none together
 -- what stands for a document in place of a team

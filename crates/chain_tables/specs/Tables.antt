@@ -1,12 +1,15 @@
 -- What the tables of chains in a document's tree say, and the first reason for which they say none.
-use Rattle.std.specs.Prelude.{ℕ, ◌+◌, min, nat_le, ◌&&◌, Bool, true, List, [], ◌∷◌, ◌++◌, map, length, find, Option, Some, None, is_some, unwrap_or, option_map, if◌then◌else◌, not}
+use Rattle.std.specs.Prelude.{ℕ, ◌+◌, min, nat_le, ◌&&◌, ◌||◌, Bool, true, List, [], ◌∷◌, ◌++◌, codes, map, length, find, Option, Some, None, is_some, unwrap_or, option_map, if◌then◌else◌, not}
 use Rattle.std.specs.Option.{option_or}
 use Rattle.std.specs.List.{list_all}
 use Rattle.toml.specs.Data.{Members}
 use Rattle.task_sheet.specs.Name.{is_name}
 use Rattle.task_sheet.specs.Sheet.{repeats, same_bytes}
 use Rattle.task_sheet.specs.Tree.{chain_keys, first_missing, needed_chain_keys, number_at, number_or_zero, only_keys, strings_at, tables_at, text_at, value_at}
+use Rattle.task_sheet.specs.declared.keys.Key.{Key}
 use Rattle.task_sheet.specs.declared.keys.Key.TheVariants as key
+use Rattle.chains.specs.declared.bounds.Writes.{Writes}
+use Rattle.chains.specs.declared.bounds.Writes.TheVariants.{AtFinish, AtDeadline}
 use Rattle.chain_tables.specs.declared.judging.TheConstants.{CHAIN_LIMIT}
 use Rattle.chain_tables.specs.declared.table.TheConstants.{CHAIN_TASKS, LONGEST_LIMIT}
 use Rattle.chain_tables.specs.declared.fault.ChainCause.{ChainCause}
@@ -14,12 +17,13 @@ use Rattle.chain_tables.specs.declared.fault.ChainCause.TheVariants as cause
 use Rattle.chain_tables.specs.declared.fault.Whose.{Whose}
 use Rattle.chain_tables.specs.declared.documents.Repeat.{Repeat}
 
--- a chain as a document says it: its tasks by their names, the first one first
+-- a chain as a document says it: its tasks by their names, the first one first, and when they write
 pub record WrittenData : Type 0 where
   pub whose : Whose
   pub name : List ℕ
   pub tasks : List (List ℕ)
   pub limit : Option ℕ
+  pub writes : Writes
 
 -- the lesser of two limits, of which either may be absent
 abbrev pub lesser : Option ℕ → Option ℕ → Option ℕ
@@ -33,6 +37,20 @@ name_said ms = unwrap_or (text_at key.Name ms) []
 abbrev pub tasks_said : Members → List (List ℕ)
 tasks_said ms = unwrap_or (strings_at key.Tasks ms) []
 
+-- when tasks write that a word says; none where it is no such word
+abbrev pub writes_of : List ℕ → Option Writes
+writes_of word =
+    if same_bytes (codes "finish") word then Some AtFinish
+    else (if same_bytes (codes "deadline") word then Some AtDeadline else None)
+
+abbrev pub writes_by : Option (List ℕ) → Option Writes
+writes_by None = Some AtFinish
+writes_by (Some word) = writes_of word
+
+-- when those of a chain do: as they finish, where its table says nothing
+abbrev pub writes_said : Members → Option Writes
+writes_said ms = writes_by (text_at key.Writes ms)
+
 -- the chain that a table says; its limit is the lesser of those of its age and its reaction
 abbrev pub chain_at : Whose → Members → WrittenData
 chain_at whose ms = record {
@@ -40,6 +58,7 @@ chain_at whose ms = record {
   name = name_said ms;
   tasks = tasks_said ms;
   limit = lesser (number_at key.Age ms) (number_at key.Reaction ms);
+  writes = unwrap_or (writes_said ms) AtFinish;
 }
 
 -- ---- why a table says none
@@ -53,26 +72,32 @@ keys_fault chain ms =
     option_or (unless (only_keys chain_keys ms) (cause.UnknownKey chain))
     (option_map (cause.MissingKey chain) (first_missing needed_chain_keys ms))
 
+-- a string stands at a key, or nothing
+abbrev pub is_text_or_none : Key → Members → Bool
+is_text_or_none k ms = is_some (text_at k ms) || not (is_some (value_at k ms))
+
 -- the kinds of the values
 abbrev pub kinds_fault : ℕ → Members → Option ChainCause
 kinds_fault chain ms =
     option_or (unless (is_some (text_at key.Name ms)) (cause.WrongKind chain key.Name))
     (option_or (unless (is_some (strings_at key.Tasks ms)) (cause.WrongKind chain key.Tasks))
     (option_or (unless (is_some (number_or_zero (value_at key.Age ms))) (cause.WrongKind chain key.Age))
-    (unless (is_some (number_or_zero (value_at key.Reaction ms))) (cause.WrongKind chain key.Reaction))))
+    (option_or (unless (is_some (number_or_zero (value_at key.Reaction ms))) (cause.WrongKind chain key.Reaction))
+    (unless (is_text_or_none key.Writes ms) (cause.WrongKind chain key.Writes)))))
 
 -- a limit, where one is there, is from 1 to the longest
 abbrev pub is_within : Option ℕ → Bool
 is_within None = true
 is_within (Some limit) = nat_le 1 limit && nat_le limit LONGEST_LIMIT
 
--- how many tasks there are, that none stands twice, and the limits
+-- how many tasks there are, that none stands twice, the limits, and when they write
 abbrev pub values_fault : ℕ → List (List ℕ) → Members → Option ChainCause
 values_fault chain tasks ms =
     option_or (unless (nat_le 1 (length tasks) && nat_le (length tasks) CHAIN_TASKS) (cause.Length chain))
     (option_or (unless (not (repeats tasks)) (cause.TaskTwice chain))
     (option_or (unless (is_within (number_at key.Age ms)) (cause.BadLimit chain key.Age))
-    (unless (is_within (number_at key.Reaction ms)) (cause.BadLimit chain key.Reaction))))
+    (option_or (unless (is_within (number_at key.Reaction ms)) (cause.BadLimit chain key.Reaction))
+    (unless (is_some (writes_said ms)) (cause.BadWrites chain)))))
 
 -- a table's keys, the kinds of its values, its names, and then the values
 abbrev pub table_fault : ℕ → Members → Option ChainCause

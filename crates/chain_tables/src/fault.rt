@@ -21,6 +21,8 @@ pub enum ChainCause {
     TaskTwice { chain: usize },
     /// The limit at a key isn't from 1 to 1,000,000,000.
     BadLimit { chain: usize, key: Key },
+    /// When its tasks write is neither `finish` nor `deadline`.
+    BadWrites { chain: usize },
     /// There are more than 16 chains.
     TooManyChains,
     /// The chain is the first with the name of one before it.

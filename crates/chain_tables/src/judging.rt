@@ -6,6 +6,7 @@ ghost use Rattle.chain_tables.specs.Chains.{HasChains, HasNoChains, chain_of, in
 use crate::documents::{Repeat, first_repeat, read_written};
 use crate::fault::{ChainFault, Whose};
 use crate::table::Written;
+use chains::Writes;
 use std::alloc::{AllocError, Global};
 use std::marker::Model;
 use task_sheet::{Name, TaskSet};
@@ -13,13 +14,14 @@ use task_sheet::{Name, TaskSet};
 /// The most chains of a set.
 pub const CHAIN_LIMIT: usize = 16;
 
-/// A chain of a set: its name, its tasks by index, the first one first, and the limit of its bound in microseconds, if it has
-/// one.
+/// A chain of a set: its name, its tasks by index, the first one first, the limit of its bound in microseconds, if it has
+/// one, and when its tasks write.
 #[derive(Drop)]
 pub struct Chain {
     pub name: Name,
     pub tasks: Vec<usize>,
     pub limit: Option<u64>,
+    pub writes: Writes,
 }
 
 impl Model for Chain {
@@ -27,7 +29,12 @@ impl Model for Chain {
 
     ghost Value = { ChainData };
 
-    ghost view = { λ c. record { name = c.name; tasks = c.tasks.items; limit = c.limit } };
+    ghost view = { λ c. record {
+      name = c.name;
+      tasks = c.tasks.items;
+      limit = c.limit;
+      writes = c.writes;
+    } };
 }
 
 // What stands for the node in place of a team.
@@ -127,6 +134,7 @@ fn chain_of(alloc: Global, set: &TaskSet, written: &Written) -> Result<Chain, Al
         name: written.name,
         tasks,
         limit: written.limit,
+        writes: written.writes,
     })
 }
 
@@ -143,7 +151,7 @@ fn chains_of(alloc: Global, set: &TaskSet, written: &[Written]) -> Result<Vec<Ch
 
 /// The chains that a set's text says, in the order of its documents and within them as written; the text is the set's. Refused in
 /// this order: document by document, the node's first, of each table `UnknownKey`, `MissingKey`, `WrongKind`, `BadName`, `Length`, `TaskTwice`,
-/// `BadLimit`, then `TooManyChains` and `SameName`; of all together `TooManyChains`, `Taken`, `NoSuchTask`.
+/// `BadLimit`, `BadWrites`, then `TooManyChains` and `SameName`; of all together `TooManyChains`, `Taken`, `NoSuchTask`.
 pub fn read_chains(alloc: Global, text: &[u8], set: &TaskSet) -> Result<Vec<Chain>, ChainFault>
     ensures { MatchResult result (λ chains. HasChains text.now set.now chains.items)
         (λ fault. HasNoChains text.now set.now fault) }

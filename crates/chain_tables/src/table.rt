@@ -4,9 +4,10 @@ ghost use Rattle.std.specs.List.{list_all};
 ghost use Rattle.toml.specs.View.{table_view};
 ghost use Rattle.task_sheet.specs.Name.{is_name};
 ghost use Rattle.task_sheet.specs.Tree.{number_at, number_or_zero, value_at};
-ghost use Rattle.chain_tables.specs.Tables.{chain_at, is_within, keys_fault, kinds_fault, lesser, name_said, table_fault, tasks_said, values_fault};
+ghost use Rattle.chain_tables.specs.Tables.{chain_at, is_text_or_none, is_within, keys_fault, kinds_fault, lesser, name_said, table_fault, tasks_said, values_fault, writes_by, writes_of, writes_said};
 
 use crate::fault::{ChainCause, ChainFault, Whose};
+use chains::Writes;
 use std::alloc::{AllocError, Global};
 use std::marker::Model;
 use task_sheet::{
@@ -21,13 +22,14 @@ pub const CHAIN_TASKS: usize = 8;
 /// The longest limit of a chain, in microseconds.
 pub const LONGEST_LIMIT: u64 = 1_000_000_000;
 
-/// A chain as a document says it, its tasks by their names, the first one first.
+/// A chain as a document says it, its tasks by their names, the first one first, and when they write.
 #[derive(Drop)]
 pub struct Written {
     pub whose: Whose,
     pub name: Name,
     pub tasks: Vec<Name>,
     pub limit: Option<u64>,
+    pub writes: Writes,
 }
 
 impl Model for Written {
@@ -40,6 +42,7 @@ impl Model for Written {
       name = w.name;
       tasks = w.tasks.items;
       limit = w.limit;
+      writes = w.writes;
     } };
 }
 
@@ -66,6 +69,13 @@ fn may_be_number(key: Key, table: &Table) -> bool
     }
 }
 
+// Whether a string stands at a key, or nothing.
+fn may_be_text(key: Key, table: &Table) -> bool
+    ensures { result ≡ is_text_or_none key (table_view table.now) }
+{
+    text_at(key, table).is_some() || value_at(key, table).is_none()
+}
+
 // The first of the values that is of another kind.
 fn kinds_fault(chain: usize, table: &Table) -> Option<ChainCause>
     ensures { result ≡ kinds_fault chain (table_view table.now) }
@@ -78,6 +88,8 @@ fn kinds_fault(chain: usize, table: &Table) -> Option<ChainCause>
         Key::Age
     } else if !may_be_number(Key::Reaction, table) {
         Key::Reaction
+    } else if !may_be_text(Key::Writes, table) {
+        Key::Writes
     } else {
         return None;
     };
@@ -91,6 +103,29 @@ fn is_within(limit: Option<u64>) -> bool
     match limit {
         Some(limit) => 1 <= limit && limit <= LONGEST_LIMIT,
         None => true,
+    }
+}
+
+// When the tasks write that a word says; none where it is no such word.
+fn writes_of(word: &str) -> Option<Writes>
+    ensures { result ≡ writes_of word.now }
+{
+    if "finish" == word {
+        Some(Writes::AtFinish)
+    } else if "deadline" == word {
+        Some(Writes::AtDeadline)
+    } else {
+        None
+    }
+}
+
+// When those of a chain do: as they finish, where its table says nothing.
+fn writes_said(table: &Table) -> Option<Writes>
+    ensures { result ≡ writes_said (table_view table.now) }
+{
+    match text_at(Key::Writes, table) {
+        Some(word) => writes_of(word),
+        None => Some(Writes::AtFinish),
     }
 }
 
@@ -111,6 +146,9 @@ fn values_fault(chain: usize, tasks: &[Name], table: &Table) -> Option<ChainCaus
     if !is_within(number_at(Key::Reaction, table)) {
         let key = Key::Reaction;
         return Some(ChainCause::BadLimit { chain, key });
+    }
+    if writes_said(table).is_none() {
+        return Some(ChainCause::BadWrites { chain });
     }
     None
 }
@@ -179,11 +217,13 @@ fn read_chain(
         return Ok(Err(cause));
     }
     let limit = lesser(number_at(Key::Age, table), number_at(Key::Reaction, table));
+    let writes = writes_said(table).unwrap_or(Writes::AtFinish);
     Ok(Ok(Written {
         whose: *whose,
         name,
         tasks,
         limit,
+        writes,
     }))
 }
 

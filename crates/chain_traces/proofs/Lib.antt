@@ -1,0 +1,2 @@
+mod DeadlineOutputLaws
+mod LateLaws

@@ -1,5 +1,5 @@
--- The outputs of a chain in a trace, each with the sample that stands behind it. A job reads as its first slice begins, and
--- writes at its finish.
+-- The outputs of a chain in a trace whose tasks write at their finishes, each with the sample that stands behind it. A job reads as
+-- its first slice begins, and writes at its finish.
 use Rattle.std.specs.Prelude.{ℕ, nat_le, Bool, false, not, ◌&&◌, ◌==◌, List, [], ◌∷◌, map, Option, Some, None, if◌then◌else◌}
 use Rattle.chain_runs.specs.Outputs.{with_output}
 use Rattle.chain_runs.specs.declared.outputs.ChainOutput.{ChainOutput}

@@ -9,54 +9,91 @@ use Rattle.observed.specs.SeenJob.{SeenData}
 use Rattle.observed.specs.declared.promises.Promise.{Promise}
 use Rattle.chains.specs.Parts.{bound_in}
 use Rattle.chains.specs.declared.bounds.Level.{Level}
+use Rattle.chains.specs.declared.bounds.Writes.{Writes}
+use Rattle.chains.specs.declared.bounds.Writes.TheVariants.{AtFinish, AtDeadline}
 use Rattle.chain_tables.specs.Chains.{ChainData}
 use Rattle.lines.specs.Known.{some_words}
 use Rattle.chain_runs.specs.RunChainLines.{run_line}
 use Rattle.chain_runs.specs.Outcomes.{outcome_of}
 use Rattle.chain_runs.specs.declared.outcome.ChainOutcome.{ChainOutcome}
+use Rattle.chain_runs.specs.declared.outputs.ChainOutput.{ChainOutput}
+use Rattle.chain_traces.specs.DeadlineOutputs.{deadline_outputs}
 use Rattle.chain_traces.specs.Executions.{executions_in}
+use Rattle.chain_traces.specs.Lates.{most_of}
 use Rattle.chain_traces.specs.Outputs.{outputs_in}
 use Rattle.chain_traces.specs.Steady.{farthest, is_past, is_unsteady}
 use Rattle.chain_traces.specs.declared.executions.Execution.{Execution}
+use Rattle.chain_traces.specs.declared.scene.Scene.{Scene}
 use Rattle.chain_traces.specs.declared.text.ChainsSeen.{ChainsSeen}
 
 -- the levels of an order of which these are the promises
 abbrev pub level_of : Promise → Level
 level_of p = record { task = p.task; response = Some p.bound }
 
--- ---- a chain
--- what it comes to until the end of a trace of these slices
-abbrev pub outcome_in : (end : ℕ) → List Execution → ChainData → ChainOutcome
-outcome_in end es chain = outcome_of end (outputs_in end es chain.tasks)
+-- what is let pass of a trace, the set and the levels of an order, the jobs that are seen, by arrivals, the slices, by time, and when
+-- it ends
+pub record SceneData : Type 0 where
+  pub tolerance : ℕ
+  pub set : List Task
+  pub levels : List Level
+  pub seen : List SeenData
+  pub executions : List Execution
+  pub end : ℕ
 
--- an age is past a bound, where there are both, by more than is let pass
-abbrev pub is_old : (tolerance : ℕ) → (age bound : Option ℕ) → Bool
+abbrev pub scene_of : Scene → SceneData
+scene_of s = record {
+  tolerance = s.tolerance;
+  set = s.set.now;
+  levels = s.levels.now;
+  seen = s.seen.now;
+  executions = s.executions.now;
+  end = s.end;
+}
+
+-- ---- a chain
+-- what comes of a chain of tasks until the end
+abbrev pub outputs_of : Writes → SceneData → (tasks : List ℕ) → List ChainOutput
+outputs_of AtFinish s tasks = outputs_in s.end s.executions tasks
+outputs_of AtDeadline s tasks = deadline_outputs s.set s.end tasks s.seen
+
+abbrev pub outcome_in : SceneData → ChainData → ChainOutcome
+outcome_in s chain = outcome_of s.end (outputs_of chain.writes s chain.tasks)
+
+-- its bound, and what its age is held against
+abbrev pub bound_of : SceneData → ChainData → Option ℕ
+bound_of s chain = bound_in chain.writes s.set s.levels chain.tasks
+
+abbrev pub most_in : SceneData → ChainData → Option ℕ
+most_in s chain = most_of chain.writes s.seen chain.tasks (bound_of s chain)
+
+-- an age is past that, where there are both, by more than is let pass
+abbrev pub is_old : (tolerance : ℕ) → (age most : Option ℕ) → Bool
 is_old tolerance age None = false
-is_old tolerance age (Some bound) = is_past tolerance bound age
+is_old tolerance age (Some most) = is_past tolerance most age
 
 -- the line of one that is
-abbrev pub old_line : (tolerance : ℕ) → (name : List ℕ) → (age bound : Option ℕ) → List ℕ
-old_line tolerance name age bound =
-    if is_old tolerance age bound
-    then codes "age " ++ name ++ codes " " ++ some_words age ++ codes " of " ++ some_words bound ++ codes "\n"
+abbrev pub old_line : (tolerance : ℕ) → (name : List ℕ) → (age most : Option ℕ) → List ℕ
+old_line tolerance name age most =
+    if is_old tolerance age most
+    then codes "age " ++ name ++ codes " " ++ some_words age ++ codes " of " ++ some_words most ++ codes "\n"
     else []
 
--- the lines of a chain that comes to this, with this bound
-abbrev pub lines_of : (tolerance : ℕ) → ChainData → ChainOutcome → (bound : Option ℕ) → List ℕ
-lines_of tolerance chain o bound =
-    run_line chain o bound ++ old_line tolerance chain.name o.age bound
+-- the lines of a chain that comes to this
+abbrev pub lines_of : (tolerance : ℕ) → ChainData → ChainOutcome → (bound most : Option ℕ) → List ℕ
+lines_of tolerance chain o bound most =
+    run_line chain o bound ++ old_line tolerance chain.name o.age most
 
-abbrev pub chain_lines : (tolerance : ℕ) → List Task → List Level → (end : ℕ) → List Execution
-    → List ChainData → List ℕ
-chain_lines tolerance U levels end es [] = []
-chain_lines tolerance U levels end es (chain ∷ chains) =
-    lines_of tolerance chain (outcome_in end es chain) (bound_in U levels chain.tasks)
-    ++ chain_lines tolerance U levels end es chains
+abbrev pub chain_line : SceneData → ChainData → List ℕ
+chain_line s chain =
+    lines_of s.tolerance chain (outcome_in s chain) (bound_of s chain) (most_in s chain)
 
--- what stands of it is never past its bound
-abbrev pub is_fresh : (tolerance : ℕ) → List Task → List Level → (end : ℕ) → List Execution → ChainData → Bool
-is_fresh tolerance U levels end es chain =
-    not (is_old tolerance (outcome_in end es chain).age (bound_in U levels chain.tasks))
+abbrev pub chain_lines : SceneData → List ChainData → List ℕ
+chain_lines s [] = []
+chain_lines s (chain ∷ chains) = chain_line s chain ++ chain_lines s chains
+
+-- what stands of it is never past that
+abbrev pub is_fresh : SceneData → ChainData → Bool
+is_fresh s chain = not (is_old s.tolerance (outcome_in s chain).age (most_in s chain))
 
 -- ---- jobs
 -- the line of a job of a chain's task that isn't steady
@@ -73,20 +110,28 @@ steady_lines tolerance chains (s ∷ ss) =
     steady_line tolerance chains s ++ steady_lines tolerance chains ss
 
 -- ---- all
--- the lines of chains in a trace, in an order of which these are the promises: of each what it comes to, and then the jobs of
--- their tasks that aren't steady, by arrivals
+-- a trace, of which so much is let pass, where these jobs are seen of a set in an order of which these are the promises
+abbrev pub scene_in : (tolerance : ℕ) → List Task → List Promise → List SeenData → TraceLines → SceneData
+scene_in tolerance U promises seen trace = record {
+  tolerance = tolerance;
+  set = U;
+  levels = map level_of promises;
+  seen = seen;
+  executions = executions_in U trace;
+  end = end_of trace.slices.items trace.jobs.items;
+}
+
+-- the lines of chains in it: of each what it comes to, and then the jobs of their tasks that aren't steady, by arrivals
 abbrev pub chains_said : (tolerance : ℕ) → List Task → List ChainData → List Promise → List SeenData → TraceLines
     → List ℕ
 chains_said tolerance U chains promises seen trace =
-    chain_lines tolerance U (map level_of promises) (end_of trace.slices.items trace.jobs.items)
-    (executions_in U trace) chains
+    chain_lines (scene_in tolerance U promises seen trace) chains
     ++ steady_lines tolerance chains seen
 
--- none is past its bound, and each such job is steady
+-- none gets too old, and each such job is steady
 abbrev pub are_kept : (tolerance : ℕ) → List Task → List ChainData → List Promise → List SeenData → TraceLines → Bool
 are_kept tolerance U chains promises seen trace =
-    list_all (is_fresh tolerance U (map level_of promises) (end_of trace.slices.items trace.jobs.items)
-    (executions_in U trace)) chains
+    list_all (is_fresh (scene_in tolerance U promises seen trace)) chains
     && not (list_any (is_unsteady tolerance chains) seen)
 
 -- these lines, and whether that is so

@@ -1,4 +1,4 @@
-//! The outputs of a chain in a trace.
+//! The outputs of a chain in a trace whose tasks write at their finishes.
 ghost use Rattle.std.specs.Prelude.{◌≡◌, IfOk, None, Some, map};
 ghost use Rattle.chain_traces.specs.Outputs.{along, begun, fresh, is_job, is_over, last_output, output_by, outputs_in, settled, written_at};
 

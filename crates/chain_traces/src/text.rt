@@ -1,22 +1,24 @@
 //! What is printed of the chains of a trace.
 ghost use Rattle.std.specs.Prelude.{◌≡◌, ◌++◌, IfOk, OnOk, ◌&&◌, true, map, string_bytes};
 ghost use Rattle.std.specs.List.{list_all};
-ghost use Rattle.chains.specs.Parts.{bound_in};
-ghost use Rattle.chain_traces.specs.TraceChainLines.{AreSeen, chain_lines, is_fresh, is_old, level_of, lines_of, old_line, outcome_in, steady_line, steady_lines};
+ghost use Rattle.chain_traces.specs.TraceChainLines.{AreSeen, bound_of, chain_line, chain_lines, is_fresh, is_old, level_of, lines_of, most_in, old_line, outcome_in, outputs_of, scene_in, scene_of, steady_line, steady_lines};
 
-use crate::executions::{Execution, executions_in};
+use crate::deadlines::deadline_outputs;
+use crate::executions::executions_in;
+use crate::lates::most_of;
 use crate::outputs::outputs_in;
+use crate::scene::Scene;
 use crate::steady::{any_unsteady, farthest, is_past, is_unsteady};
-use chain_runs::{ChainOutcome, outcome_of, push_run_line};
+use chain_runs::{ChainOutcome, ChainOutput, outcome_of, push_run_line};
 use chain_tables::Chain;
-use chains::{Level, bound_of};
+use chains::{Level, Writes, bound_of};
 use lines::{push_some, push_some_wide};
 use observed::{Observed, Promise, Seen, end_of};
 use std::alloc::{AllocError, Global};
 use task_sheet::{Name, TaskSet};
 use trace_text::TraceLines;
 
-/// What is printed of a set's chains in a trace, and whether none is past its bound and each job of their tasks is steady.
+/// What is printed of a set's chains in a trace, and whether none is ever too old and each job of their tasks is steady.
 #[derive(Drop)]
 pub struct ChainsSeen {
     pub text: String,
@@ -44,12 +46,12 @@ fn levels_of(alloc: Global, promises: &[Promise]) -> Result<Vec<Level>, AllocErr
     Ok(levels)
 }
 
-// An age is past a bound, by more than is let pass.
-fn is_old(tolerance: u64, age: Option<u64>, bound: Option<u128>) -> bool
-    ensures { result ≡ is_old tolerance age bound }
+// An age is past what it is held against, by more than is let pass.
+fn is_old(tolerance: u64, age: Option<u64>, most: Option<u128>) -> bool
+    ensures { result ≡ is_old tolerance age most }
 {
-    match bound {
-        Some(bound) => is_past(tolerance, bound, age),
+    match most {
+        Some(most) => is_past(tolerance, most, age),
         None => false,
     }
 }
@@ -60,17 +62,17 @@ fn push_old(
     tolerance: u64,
     name: Name,
     age: Option<u64>,
-    bound: Option<u128>,
+    most: Option<u128>,
 ) -> Result<(), AllocError>
-    ensures { OnOk result (string_bytes text.new ≡ string_bytes text.old ++ old_line tolerance name age bound) }
+    ensures { OnOk result (string_bytes text.new ≡ string_bytes text.old ++ old_line tolerance name age most) }
 {
-    if !is_old(tolerance, age, bound) {
+    if !is_old(tolerance, age, most) {
         return Ok(());
     }
     write!(text, "age {name} ")?;
     push_some(text, age)?;
     text.push_str(" of ")?;
-    push_some_wide(text, bound)?;
+    push_some_wide(text, most)?;
     text.push_str("\n")
 }
 
@@ -81,25 +83,33 @@ fn push_chain(
     chain: &Chain,
     outcome: ChainOutcome,
     bound: Option<u128>,
+    most: Option<u128>,
 ) -> Result<(), AllocError>
     ensures { OnOk result (string_bytes text.new ≡ string_bytes text.old
-        ++ lines_of tolerance chain.now outcome bound) }
+        ++ lines_of tolerance chain.now outcome bound most) }
 {
     push_run_line(text, chain, outcome, bound)?;
-    push_old(text, tolerance, chain.name, outcome.age, bound)
+    push_old(text, tolerance, chain.name, outcome.age, most)
 }
 
-// A trace's slices, when it ends, and what is let pass of it, in an order of these levels.
-#[derive(Clone, Copy)]
-struct Scene<'a> {
-    tolerance: u64,
-    set: &'a TaskSet,
-    levels: &'a [Level],
-    end: u64,
-    executions: &'a [Execution],
+// What comes of a chain.
+fn outputs_of(
+    alloc: Global,
+    scene: &Scene<'_>,
+    chain: &Chain,
+) -> Result<Vec<ChainOutput>, AllocError>
+    ensures { IfOk result (λ outputs. outputs.items
+        ≡ outputs_of chain.now.writes (scene_of scene.now) chain.now.tasks) }
+{
+    match chain.writes {
+        Writes::AtFinish => outputs_in(alloc, scene.end, scene.executions, &chain.tasks),
+        Writes::AtDeadline => {
+            deadline_outputs(alloc, scene.set, scene.end, &chain.tasks, scene.seen)
+        }
+    }
 }
 
-// The lines of a chain of a trace, and whether it is within its bound.
+// The lines of a chain of a trace, and whether it is never too old.
 fn see_chain(
     alloc: Global,
     text: &mut String,
@@ -107,19 +117,18 @@ fn see_chain(
     chain: &Chain,
 ) -> Result<bool, AllocError>
     ensures lines { OnOk result (string_bytes text.new ≡ string_bytes text.old
-        ++ lines_of scene.now.tolerance chain.now (outcome_in scene.now.end scene.now.executions.now chain.now)
-        (bound_in scene.now.set.now scene.now.levels.now chain.now.tasks)) }
-    ensures is { IfOk result (λ b. b ≡ is_fresh scene.now.tolerance scene.now.set.now scene.now.levels.now
-        scene.now.end scene.now.executions.now chain.now) }
+        ++ chain_line (scene_of scene.now) chain.now) }
+    ensures is { IfOk result (λ b. b ≡ is_fresh (scene_of scene.now) chain.now) }
 {
-    let outputs = outputs_in(alloc, scene.end, scene.executions, &chain.tasks)?;
+    let outputs = outputs_of(alloc, scene, chain)?;
     let outcome = outcome_of(scene.end, &outputs);
-    let bound = bound_of(scene.set, scene.levels, &chain.tasks);
-    push_chain(text, scene.tolerance, chain, outcome, bound)?;
-    Ok(!is_old(scene.tolerance, outcome.age, bound))
+    let bound = bound_of(scene.set, scene.levels, chain.writes, &chain.tasks);
+    let most = most_of(scene, chain, bound);
+    push_chain(text, scene.tolerance, chain, outcome, bound, most)?;
+    Ok(!is_old(scene.tolerance, outcome.age, most))
 }
 
-// The lines of chains of a trace, and whether each is within its bound.
+// The lines of chains of a trace, and whether none is ever too old.
 fn see_all(
     alloc: Global,
     text: &mut String,
@@ -127,10 +136,8 @@ fn see_all(
     chains: &[Chain],
 ) -> Result<bool, AllocError>
     ensures lines { OnOk result (string_bytes text.new ≡ string_bytes text.old
-        ++ chain_lines scene.now.tolerance scene.now.set.now scene.now.levels.now scene.now.end
-        scene.now.executions.now chains.now) }
-    ensures are { IfOk result (λ b. b ≡ list_all (is_fresh scene.now.tolerance scene.now.set.now
-        scene.now.levels.now scene.now.end scene.now.executions.now) chains.now) }
+        ++ chain_lines (scene_of scene.now) chains.now) }
+    ensures are { IfOk result (λ b. b ≡ list_all (is_fresh (scene_of scene.now)) chains.now) }
 {
     let mut are_kept = true;
     for chain in chains {
@@ -177,7 +184,7 @@ fn push_unsteady(
     Ok(())
 }
 
-/// What is printed of a set's chains in a trace, beside what it shows of the set's jobs, and whether none is past its bound and
+/// What is printed of a set's chains in a trace, beside what it shows of the set's jobs, and whether none is ever too old and
 /// each job of their tasks is steady, but for what is let pass. The error is out of memory.
 pub fn see_chains(
     alloc: Global,
@@ -196,8 +203,9 @@ pub fn see_chains(
         tolerance,
         set,
         levels: &levels,
-        end: end_of(&trace.slices, &trace.jobs),
+        seen: &observed.seen,
         executions: &executions,
+        end: end_of(&trace.slices, &trace.jobs),
     };
     let mut text = String::new(alloc);
     let are_fresh = see_all(alloc, &mut text, &scene, chains)?;

@@ -5,6 +5,7 @@ pub mod CalmLaws
 pub mod AboveLaws
 pub mod HandoverLaws
 pub mod OrderLaws
+pub mod WriteLaws
 pub mod AgeLaws
 pub mod NewestLaws
 pub mod ReactionLaws

@@ -8,7 +8,9 @@ use Rattle.chains.specs.Gaps.{gap_of}
 use Rattle.chains.specs.Bounds.{bound_of}
 use Rattle.chains.specs.declared.bounds.Level.{Level}
 use Rattle.chains.specs.declared.bounds.BoundPart.{BoundPart}
-use Rattle.chains.specs.declared.bounds.PartKind.TheVariants.{Wait, Jitter, Handover, Response}
+use Rattle.chains.specs.declared.bounds.PartKind.TheVariants.{Wait, Jitter, Handover, Response, Deadline}
+use Rattle.chains.specs.declared.bounds.Writes.{Writes}
+use Rattle.chains.specs.declared.bounds.Writes.TheVariants.{AtFinish, AtDeadline}
 
 -- ---- levels
 -- the order of levels, the lowest first
@@ -38,25 +40,38 @@ handed_of node i c r =
     then record { kind = Jitter; task = i; time = lateness_of (task_at node.tasks i) }
     else record { kind = Handover c; task = i; time = r - (task_at node.tasks c).cost }
 
--- the part of a task behind its wait: the handover to the first of the others, or its response
-abbrev pub after_of : Node → (response : ℕ → ℕ) → ℕ → List ℕ → BoundPart
-after_of node response i [] = record { kind = Response; task = i; time = response i }
-after_of node response i (c ∷ others) = handed_of node i c (response i)
+-- the part of a task behind its wait: the handover to the first of the others, or its response; its deadline, where it writes
+-- then
+abbrev pub after_of : Writes → Node → (response : ℕ → ℕ) → ℕ → List ℕ → BoundPart
+after_of AtFinish node response i [] = record { kind = Response; task = i; time = response i }
+after_of AtFinish node response i (c ∷ others) = handed_of node i c (response i)
+after_of AtDeadline node response i others =
+    record { kind = Deadline; task = i; time = (task_at node.tasks i).deadline }
 
 -- the parts of a chain's bound
-abbrev pub parts_of : Node → (response : ℕ → ℕ) → List ℕ → List BoundPart
-parts_of node response [] = []
-parts_of node response (i ∷ others) =
-    wait_of node.tasks i ∷ after_of node response i others ∷ parts_of node response others
+abbrev pub parts_of : Writes → Node → (response : ℕ → ℕ) → List ℕ → List BoundPart
+parts_of writes node response [] = []
+parts_of writes node response (i ∷ others) =
+    wait_of node.tasks i ∷ after_of writes node response i others
+    ∷ parts_of writes node response others
 
 -- the bound of a chain in an order whose levels have responses: what its parts come to, where each of its tasks has one
-abbrev pub bound_in : List Task → List Level → List ℕ → Option ℕ
-bound_in U levels tasks =
+abbrev pub bound_in : Writes → List Task → List Level → List ℕ → Option ℕ
+bound_in writes U levels tasks =
     if list_all (has_response levels) tasks
-    then Some (sum_by (λ p. p.time) (parts_of (node_in U (order_of levels)) (time_in levels) tasks))
+    then Some (sum_by (λ p. p.time)
+    (parts_of writes (node_in U (order_of levels)) (time_in levels) tasks))
     else None
 
 -- the parts come to the bound
-abbrev pub PartsComeTo : Node → (response : ℕ → ℕ) → (first : ℕ) → (others : List ℕ) → Type 0
-PartsComeTo node response first others =
-    sum_by (λ p. p.time) (parts_of node response (first ∷ others)) ≡ bound_of node response first others
+abbrev pub PartsComeTo : Writes → Node → (response : ℕ → ℕ) → (first : ℕ) → (others : List ℕ) → Type 0
+PartsComeTo writes node response first others =
+    sum_by (λ p. p.time) (parts_of writes node response (first ∷ others))
+    ≡ bound_of writes node response first others
+
+-- THE BOUND AT DEADLINES STANDS: whatever the order, where the chain has one
+abbrev pub NoOrderMoves : Type 0
+NoOrderMoves =
+    (U : List Task) (levels others : List Level) (tasks : List ℕ) (one other : ℕ)
+    → bound_in AtDeadline U levels tasks ≡ Some one → bound_in AtDeadline U others tasks ≡ Some other
+    → one ≡ other

@@ -1,11 +1,11 @@
 -- How long until a chain acts on an event.
 use Rattle.std.specs.Prelude.{◌≡◌, ℕ, ◌+◌, ◌<◌, ◌≤◌, List, [], ◌∷◌, length}
 use Rattle.ceiling_kernel.specs.Tick.{Node, Job, job_at}
-use Rattle.ceiling_kernel.specs.Readings.{IsFinishAt}
-use Rattle.chains.specs.Starts.{IsStartAt}
 use Rattle.chains.specs.Paths.{last_task, IsSampleOf}
 use Rattle.chains.specs.Gaps.{AreSteady, OthersSteady}
 use Rattle.chains.specs.Bounds.{AllAct, bound_of, delay_of}
+use Rattle.chains.specs.Starts.{IsReadAt, IsWrittenAt}
+use Rattle.chains.specs.declared.bounds.Writes.{Writes}
 
 -- a job of task i arrives by z
 abbrev pub HasBegun : List Job → (z i : ℕ) → Type 0
@@ -18,35 +18,35 @@ OthersBegun jobs z i [] = Unit {0}
 OthersBegun jobs z i (c ∷ others) = HasBegun jobs z c × OthersBegun jobs z c others
 
 -- an output that is finished by a time, and has its sample at z or later
-pub record ReactsBy (node : Node) (jobs : List Job) (first : ℕ) (others : List ℕ) (z by : ℕ)
+pub record ReactsBy (writes : Writes) (node : Node) (jobs : List Job) (first : ℕ) (others : List ℕ) (z by : ℕ)
     : Type 0 where
   pub output : ℕ
   pub own : (job_at jobs output).task ≡ last_task first others
   pub finish : ℕ
-  pub finished : IsFinishAt node jobs output finish
+  pub finished : IsWrittenAt writes node jobs output finish
   pub in_time : finish ≤ by
   pub sample : ℕ
-  pub sampled : IsSampleOf node jobs first others output sample
+  pub sampled : IsSampleOf writes node jobs first others output sample
   pub later : z ≤ sample
 
 -- once all tasks of a chain have begun, an event is acted on within the bound, until the end of the run
-abbrev pub ReactionsHold : Node → List Job → Type 0
-ReactionsHold node jobs =
+abbrev pub ReactionsHold : Writes → Node → List Job → Type 0
+ReactionsHold writes node jobs =
     (until : ℕ) (response : ℕ → ℕ) (first : ℕ) (others : List ℕ)
     → AllAct node jobs response first others
     → AreSteady node jobs until first → OthersSteady node jobs until first others
     → (z : ℕ) → HasBegun jobs z first → OthersBegun jobs z first others
-    → z + bound_of node response first others ≤ until
-    → ReactsBy node jobs first others z (z + bound_of node response first others)
+    → z + bound_of writes node response first others ≤ until
+    → ReactsBy writes node jobs first others z (z + bound_of writes node response first others)
 
 -- what job q of the first task samples, or a later sample, is acted on within the bound less the first gap, counted from the
 -- arrival of the job: the first task may be sporadic
-abbrev pub SamplesAreActedOn : Node → List Job → Type 0
-SamplesAreActedOn node jobs =
+abbrev pub SamplesAreActedOn : Writes → Node → List Job → Type 0
+SamplesAreActedOn writes node jobs =
     (until : ℕ) (response : ℕ → ℕ) (first : ℕ) (others : List ℕ)
     → AllAct node jobs response first others → OthersSteady node jobs until first others
-    → (q s : ℕ) → (job_at jobs q).task ≡ first → IsStartAt node jobs q s
+    → (q s : ℕ) → (job_at jobs q).task ≡ first → IsReadAt writes node jobs q s
     → OthersBegun jobs (job_at jobs q).arrival first others
-    → (job_at jobs q).arrival + delay_of node response first others ≤ until
-    → ReactsBy node jobs first others s
-    ((job_at jobs q).arrival + delay_of node response first others)
+    → (job_at jobs q).arrival + delay_of writes node response first others ≤ until
+    → ReactsBy writes node jobs first others s
+    ((job_at jobs q).arrival + delay_of writes node response first others)

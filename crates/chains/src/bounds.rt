@@ -5,6 +5,7 @@ ghost use Rattle.task_sheet.specs.Sheet.{task_at};
 ghost use Rattle.ceiling_kernel.specs.Tick.{level_in_order, node_in};
 ghost use Rattle.chains.specs.Gaps.{gap_of};
 ghost use Rattle.chains.specs.Parts.{after_of, bound_in, has_response, order_of, parts_of, response_in, time_in, wait_of};
+ghost use Rattle.chains.specs.declared.bounds.Writes.TheVariants.{AtFinish};
 ghost use Rattle.ceiling_kernel.specs.Waits.{lateness_of};
 
 use task_sheet::TaskSet;
@@ -15,6 +16,15 @@ use task_sheet::TaskSet;
 pub struct Level {
     pub task: usize,
     pub response: Option<u64>,
+}
+
+/// When the tasks of a chain read and write.
+#[derive(Clone, Copy, Debug, PartialEq, Eq)]
+pub enum Writes {
+    /// Each job reads as it begins, and writes as it finishes.
+    AtFinish,
+    /// Each job reads as it arrives, and writes a deadline later (logical execution time).
+    AtDeadline,
 }
 
 /// What a part of a chain's bound is.
@@ -28,6 +38,8 @@ pub enum PartKind {
     Handover { next: usize },
     /// The response of the last task.
     Response,
+    /// The task's deadline, where it writes then.
+    Deadline,
 }
 
 /// A part of a chain's bound, by the index of its task, in microseconds.
@@ -64,6 +76,16 @@ fn cost_at(set: &TaskSet, task: usize) -> u64
 {
     match set.get(task) {
         Some(sheet) => sheet.cost(),
+        None => 0,
+    }
+}
+
+// The deadline of the task at an index.
+fn deadline_at(set: &TaskSet, task: usize) -> u64
+    ensures { result ≡ (task_at set.now task).deadline }
+{
+    match set.get(task) {
+        Some(sheet) => sheet.deadline(),
         None => 0,
     }
 }
@@ -110,10 +132,10 @@ pub fn wait_of(set: &TaskSet, task: usize) -> BoundPart
     }
 }
 
-/// The part behind it: what is handed over from a task to the first of these others, or the task's response where there is
-/// none.
-pub fn after_of(set: &TaskSet, levels: &[Level], task: usize, others: &[usize]) -> BoundPart
-    ensures { result ≡ after_of (node_in set.now (order_of levels.now)) (time_in levels.now) task others.now }
+// What is handed over at its finish from a task to the first of these others, or the task's response where there is none.
+fn at_finish(set: &TaskSet, levels: &[Level], task: usize, others: &[usize]) -> BoundPart
+    ensures { result ≡ after_of AtFinish (node_in set.now (order_of levels.now)) (time_in levels.now)
+        task others.now }
 {
     let Some(next) = others.first() else {
         let (kind, time) = (PartKind::Response, time_of(levels, task));
@@ -128,6 +150,28 @@ pub fn after_of(set: &TaskSet, levels: &[Level], task: usize, others: &[usize]) 
     BoundPart { kind, task, time }
 }
 
+/// The part behind it: what is handed over from a task to the first of these others, or the task's response where there is
+/// none; its deadline, where the tasks write then.
+pub fn after_of(
+    set: &TaskSet,
+    levels: &[Level],
+    writes: Writes,
+    task: usize,
+    others: &[usize],
+) -> BoundPart
+    ensures { result ≡ after_of writes (node_in set.now (order_of levels.now)) (time_in levels.now)
+        task others.now }
+{
+    match writes {
+        Writes::AtFinish => at_finish(set, levels, task, others),
+        Writes::AtDeadline => BoundPart {
+            kind: PartKind::Deadline,
+            task,
+            time: deadline_at(set, task),
+        },
+    }
+}
+
 // Each of the tasks has a response.
 fn have_responses(levels: &[Level], tasks: &[usize]) -> bool
     ensures { result ≡ list_all (has_response levels.now) tasks.now }
@@ -138,15 +182,15 @@ fn have_responses(levels: &[Level], tasks: &[usize]) -> bool
 }
 
 // What the parts come to.
-fn sum_of(set: &TaskSet, levels: &[Level], tasks: &[usize]) -> u128
+fn sum_of(set: &TaskSet, levels: &[Level], writes: Writes, tasks: &[usize]) -> u128
     ensures { result ≡ sum_by (λ p. p.time)
-        (parts_of (node_in set.now (order_of levels.now)) (time_in levels.now) tasks.now) }
+        (parts_of writes (node_in set.now (order_of levels.now)) (time_in levels.now) tasks.now) }
 {
     let mut sum = 0;
     let mut rest = tasks;
     while let Some((task, others)) = rest.split_first() {
         sum += wait_of(set, *task).time as u128;
-        sum += after_of(set, levels, *task, others).time as u128;
+        sum += after_of(set, levels, writes, *task, others).time as u128;
         rest = others;
     }
     sum
@@ -154,11 +198,11 @@ fn sum_of(set: &TaskSet, levels: &[Level], tasks: &[usize]) -> u128
 
 /// The bound of a chain of tasks, by their indexes, the first one first, in microseconds: what its parts come to; none
 /// where one of them misses its deadline.
-pub fn bound_of(set: &TaskSet, levels: &[Level], tasks: &[usize]) -> Option<u128>
-    ensures { result ≡ bound_in set.now levels.now tasks.now }
+pub fn bound_of(set: &TaskSet, levels: &[Level], writes: Writes, tasks: &[usize]) -> Option<u128>
+    ensures { result ≡ bound_in writes set.now levels.now tasks.now }
 {
     if have_responses(levels, tasks) {
-        Some(sum_of(set, levels, tasks))
+        Some(sum_of(set, levels, writes, tasks))
     } else {
         None
     }

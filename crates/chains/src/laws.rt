@@ -4,10 +4,11 @@ ghost use Rattle.ceiling_kernel.specs.Tick.{Node, Job};
 ghost use Rattle.ceiling_kernel.specs.Waits.{IsNode, AreLegalJobs};
 ghost use Rattle.chains.specs.Handovers.{HandoversHold, ResponsesCount};
 ghost use Rattle.chains.specs.Orders.{SamplesKeepOrder};
-ghost use Rattle.chains.specs.Bounds.{PartsAddUp};
+ghost use Rattle.chains.specs.Bounds.{PartsAddUp, WritesAreDone};
 ghost use Rattle.chains.specs.Ages.{AgesHold, OutputsAreFresh, SamplesNeverGoBack, AgesAreReactions, PathsGoOn};
 ghost use Rattle.chains.specs.Reactions.{ReactionsHold, SamplesAreActedOn};
-ghost use Rattle.chains.specs.Parts.{PartsComeTo};
+ghost use Rattle.chains.specs.Parts.{NoOrderMoves, PartsComeTo};
+ghost use Rattle.chains.specs.declared.bounds.Writes.{Writes};
 
 /// A job that arrives a handover or more after a job of another task starts when that one is finished, whatever the jobs
 /// do within their tasks' sheets.
@@ -21,10 +22,10 @@ pub fn handovers_hold()
 pub fn samples_keep_order()
     ensures jobs { (node : Node) (jobs : List Job) → IsNode node → AreLegalJobs node jobs
         → SamplesKeepOrder node jobs }
-    ensures samples { (node : Node) (jobs : List Job) → IsNode node → AreLegalJobs node jobs
-        → SamplesNeverGoBack node jobs }
-    ensures paths { (node : Node) (jobs : List Job) → IsNode node → AreLegalJobs node jobs
-        → PathsGoOn node jobs }
+    ensures samples { (writes : Writes) (node : Node) (jobs : List Job) → IsNode node → AreLegalJobs node jobs
+        → SamplesNeverGoBack writes node jobs }
+    ensures paths { (writes : Writes) (node : Node) (jobs : List Job) → IsNode node → AreLegalJobs node jobs
+        → PathsGoOn writes node jobs }
 {}
 
 /// The age of what a chain's last task wrote stays below the chain's bound, from its first path to the end of the run,
@@ -32,35 +33,46 @@ pub fn samples_keep_order()
 /// each job. The other tasks may even miss. When an output comes, its age is within the bound less the last gap, and the
 /// last task may be sporadic.
 pub fn ages_hold()
-    ensures bound { (node : Node) (jobs : List Job) → IsNode node → AreLegalJobs node jobs
-        → AgesHold node jobs }
-    ensures fresh { (node : Node) (jobs : List Job) → IsNode node → AreLegalJobs node jobs
-        → OutputsAreFresh node jobs }
+    ensures bound { (writes : Writes) (node : Node) (jobs : List Job) → IsNode node → AreLegalJobs node jobs
+        → AgesHold writes node jobs }
+    ensures fresh { (writes : Writes) (node : Node) (jobs : List Job) → IsNode node → AreLegalJobs node jobs
+        → OutputsAreFresh writes node jobs }
 {}
 
 /// Once all tasks of a chain have begun, each event is acted on within the chain's bound, until the end of the run: by then an
 /// output comes whose sample is of that time or later. It assumes what the age does. What a job samples is acted on within
 /// the bound less the first gap from its arrival, and the first task may be sporadic.
 pub fn reactions_hold()
-    ensures bound { (node : Node) (jobs : List Job) → IsNode node → AreLegalJobs node jobs
-        → ReactionsHold node jobs }
-    ensures samples { (node : Node) (jobs : List Job) → IsNode node → AreLegalJobs node jobs
-        → SamplesAreActedOn node jobs }
+    ensures bound { (writes : Writes) (node : Node) (jobs : List Job) → IsNode node → AreLegalJobs node jobs
+        → ReactionsHold writes node jobs }
+    ensures samples { (writes : Writes) (node : Node) (jobs : List Job) → IsNode node → AreLegalJobs node jobs
+        → SamplesAreActedOn writes node jobs }
 {}
 
 /// As long as an output stands, none has come of a later sample: from just after its sample to the next output that has one is
 /// both an age and a reaction.
 pub fn ages_are_reactions()
-    ensures { (node : Node) (jobs : List Job) → IsNode node → AreLegalJobs node jobs
-        → AgesAreReactions node jobs }
+    ensures { (writes : Writes) (node : Node) (jobs : List Job) → IsNode node → AreLegalJobs node jobs
+        → AgesAreReactions writes node jobs }
 {}
 
 /// A chain's bound is what its parts come to; the first gap and the delay of a sample; and the age of an output that comes and
 /// the last gap. A response counts the cost of each task above, so that a handover takes it off whole.
 pub fn parts_add_up()
-    ensures parts { (node : Node) (response : ℕ → ℕ) (first : ℕ) (others : List ℕ)
-        → PartsComeTo node response first others }
-    ensures bound { (node : Node) (response : ℕ → ℕ) (first : ℕ) (others : List ℕ)
-        → PartsAddUp node response first others }
+    ensures parts { (writes : Writes) (node : Node) (response : ℕ → ℕ) (first : ℕ) (others : List ℕ)
+        → PartsComeTo writes node response first others }
+    ensures bound { (writes : Writes) (node : Node) (response : ℕ → ℕ) (first : ℕ) (others : List ℕ)
+        → PartsAddUp writes node response first others }
     ensures costs { (node : Node) → IsNode node → ResponsesCount node }
+{}
+
+/// Where a task passes, each of its jobs has executed all when it writes, be that at its deadline.
+pub fn writes_are_done()
+    ensures { (writes : Writes) (node : Node) (jobs : List Job) → IsNode node → AreLegalJobs node jobs
+        → WritesAreDone writes node jobs }
+{}
+
+/// Where a chain's tasks write at their deadlines, its bound is the same in each order that has one.
+pub fn no_order_moves()
+    ensures { NoOrderMoves }
 {}

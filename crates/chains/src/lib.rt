@@ -4,4 +4,4 @@
 mod bounds;
 pub mod laws;
 
-pub use bounds::{BoundPart, Level, PartKind, after_of, bound_of, wait_of};
+pub use bounds::{BoundPart, Level, PartKind, Writes, after_of, bound_of, wait_of};

@@ -131,6 +131,7 @@ pub record AreOptions (given : List Row) (options : OptionsData) : Type 0 where
   pub prefer : Prefers given options.prefer
   pub is_strict : Flags Strict given options.is_strict
   pub task : option_map (λ s. s.now) options.task ≡ first_of (codes "task") given
+  pub chain : option_map (λ s. s.now) options.chain ≡ first_of (codes "chain") given
   pub all : Flags All given options.all
   pub sort : option_map (λ s. s.now) options.sort ≡ first_of (codes "sort") given
   pub base : IsNumberOf Base given options.base
@@ -155,6 +156,7 @@ no_options =
       prefer = None;
       is_strict = false;
       task = None;
+      chain = None;
       all = false;
       sort = None;
       base = None;

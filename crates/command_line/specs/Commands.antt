@@ -13,7 +13,7 @@ use Rattle.command_line.specs.declared.calls.OfNumber.TheVariants.{Releases, Rus
 use Rattle.command_line.specs.declared.calls.Verb.{Verb}
 use Rattle.command_line.specs.declared.calls.Verb.TheVariants.{One, Two, Number}
 use Rattle.command_line.specs.declared.calls.Choice.{Choice}
-use Rattle.command_line.specs.declared.calls.Choice.TheVariants.{Prefer, Strict, Task, Base, Room, LowerIsHigher, Seed, Tasks, Tolerance, Jobless, Keep, At, Beside, All, Sort, From, To, Width, Print, Title, Rows, Team}
+use Rattle.command_line.specs.declared.calls.Choice.TheVariants.{Prefer, Strict, Task, Chain, Base, Room, LowerIsHigher, Seed, Tasks, Tolerance, Jobless, Keep, At, Beside, All, Sort, From, To, Width, Print, Title, Rows, Team}
 use Rattle.command_line.specs.declared.calls.Takes.{Takes}
 use Rattle.command_line.specs.declared.calls.Takes.TheVariants as takes
 use Rattle.command_line.specs.declared.calls.TheConstants.{MOST_WORKERS, MOST_TEAM, MOST_PRIORITY, MOST_ROOM, MOST_SEED, MOST_TOLERANCE, LEAST_WIDTH, MOST_WIDTH, LEAST_PAPER, MOST_PAPER, LATEST_END}
@@ -31,9 +31,9 @@ commands =
     ∷ (codes "certify", One Certify, Prefer ∷ Strict ∷ [])
     ∷ (codes "check", Two Check, Prefer ∷ Strict ∷ [])
     ∷ (codes "releases", Number Releases, Prefer ∷ Strict ∷ Seed ∷ [])
-    ∷ (codes "worst", One Worst, Prefer ∷ Strict ∷ Task ∷ At ∷ [])
+    ∷ (codes "worst", One Worst, Prefer ∷ Strict ∷ Task ∷ Chain ∷ At ∷ [])
     ∷ (codes "simulate", Two Simulate, Prefer ∷ Strict ∷ Tasks ∷ [])
-    ∷ (codes "draw", Two Draw, Prefer ∷ Strict ∷ Beside ∷ From ∷ To ∷ Width ∷ Print ∷ Title ∷ Rows ∷ [])
+    ∷ (codes "draw", Two Draw, Prefer ∷ Strict ∷ Beside ∷ From ∷ To ∷ Width ∷ Print ∷ Title ∷ Rows ∷ Chain ∷ [])
     ∷ (codes "observe", Two Observe, Prefer ∷ Strict ∷ Tolerance ∷ Jobless ∷ [])
     ∷ (codes "script", One Script, Prefer ∷ Strict ∷ Team ∷ [])
     ∷ (codes "play", One Play, [])
@@ -95,6 +95,7 @@ abbrev pub choice_name : Choice → Text
 choice_name Prefer = codes "prefer"
 choice_name Strict = codes "strict"
 choice_name Task = codes "task"
+choice_name Chain = codes "chain"
 choice_name Base = codes "base"
 choice_name Room = codes "room"
 choice_name LowerIsHigher = codes "lower-is-higher"
@@ -130,6 +131,7 @@ abbrev pub takes_of : Choice → Takes
 takes_of Prefer = takes.Word
 takes_of Strict = takes.Flag
 takes_of Task = takes.Word
+takes_of Chain = takes.Word
 takes_of Base = takes.Number 1 MOST_PRIORITY
 takes_of Room = takes.Number 0 MOST_ROOM
 takes_of LowerIsHigher = takes.Flag

@@ -139,6 +139,8 @@ pub(crate) enum Choice {
     Strict,
     // `--task NAME`
     Task,
+    // `--chain NAME`
+    Chain,
     // `--base N`
     Base,
     // `--room N`
@@ -208,6 +210,8 @@ pub struct Options<'a> {
     pub is_strict: bool,
     /// `--task NAME`: the task that is asked about.
     pub task: Option<&'a str>,
+    /// `--chain NAME`: the chain that is asked about, or whose way a picture shows.
+    pub chain: Option<&'a str>,
     /// `--all`: what each task of a conflict needs, however many there are.
     pub all: bool,
     /// `--sort slack`: by what the lines of levels stand; no other word where words were read.
@@ -368,6 +372,7 @@ impl Choice {
             Choice::Prefer => "prefer",
             Choice::Strict => "strict",
             Choice::Task => "task",
+            Choice::Chain => "chain",
             Choice::Base => "base",
             Choice::Room => "room",
             Choice::LowerIsHigher => "lower-is-higher",
@@ -417,6 +422,7 @@ impl Choice {
         match self {
             Choice::Prefer
             | Choice::Task
+            | Choice::Chain
             | Choice::Keep
             | Choice::At
             | Choice::Beside
@@ -467,7 +473,7 @@ impl Choice {
     pub(crate) fn value_name<'a>(self) -> &'a str {
         match self {
             Choice::Prefer | Choice::Sort => "ORDER",
-            Choice::Task => "NAME",
+            Choice::Task | Choice::Chain => "NAME",
             Choice::Keep | Choice::At => "SETTINGS",
             Choice::Beside => "NEW",
             Choice::From | Choice::To => "T",
@@ -494,6 +500,7 @@ impl Choice {
             Choice::Prefer => "What decides among the orders that pass: weight, deadline or chains",
             Choice::Strict => "Refuses a set that may have a mistake, for what is a note else",
             Choice::Task => "The task that is asked about, alone",
+            Choice::Chain => "The chain whose worst case is built, or whose way is drawn",
             Choice::Base => "The least priority, from 1 to 999969",
             Choice::Room => "How many numbers stay free beside each given anew, if they fit",
             Choice::LowerIsHigher => "The smaller number is the higher priority",
@@ -533,6 +540,7 @@ impl<'a> Options<'a> {
             prefer: None,
             is_strict: false,
             task: None,
+            chain: None,
             all: false,
             sort: None,
             base: None,

@@ -153,7 +153,13 @@ const COMMANDS: [Listed; 16] = [
     Listed {
         verb: Verb::One(OfOne::Worst),
         word: "worst",
-        options: &[Choice::Prefer, Choice::Strict, Choice::Task, Choice::At],
+        options: &[
+            Choice::Prefer,
+            Choice::Strict,
+            Choice::Task,
+            Choice::Chain,
+            Choice::At,
+        ],
         about: "Prints the release list of a task's worst case: its latest response, or a missed deadline",
         example: example!(
             "worst examples/shared-lock.toml --task lo",
@@ -183,6 +189,7 @@ const COMMANDS: [Listed; 16] = [
             Choice::Print,
             Choice::Title,
             Choice::Rows,
+            Choice::Chain,
         ],
         about: "Draws the run that simulate prints, as an SVG document",
         example: example!(

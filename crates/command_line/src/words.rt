@@ -90,6 +90,7 @@ fn options_at<'a>(matches: &ArgMatches<'a>) -> Option<Options<'a>>
         prefer,
         is_strict: flag_chosen(matches, Choice::Strict),
         task: matches.get_str("task"),
+        chain: matches.get_str("chain"),
         base: number_chosen(matches, Choice::Base),
         all: flag_chosen(matches, Choice::All),
         sort: matches.get_str("sort"),

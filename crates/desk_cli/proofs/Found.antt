@@ -1,5 +1,5 @@
 -- What is printed of what a command finds is what the command says.
-use Rattle.std.proofs.Common.{◌≡◌, ℕ, true, false, List, Option, Ok, Err, inl, inr}
+use Rattle.std.proofs.Common.{◌≡◌, ℕ, true, false, List, Option, Some, None, Ok, Err, inl, inr}
 use Rattle.std.specs.Io.KnownBytes.{Appends}
 use Rattle.task_sheet.specs.Sheet.{Task}
 use Rattle.task_sheet.specs.declared.prefer.Preference.{Preference}
@@ -13,14 +13,17 @@ use Rattle.answering.specs.Outcomes.{failed_read}
 use Rattle.answering.specs.Printed.{IsPrinted}
 use Rattle.answering.specs.Refusals.{refusal_line, status_of}
 use Rattle.desk_cli.specs.Saying.{SaysOfBoth}
-use Rattle.answering.specs.Chosen.{asking_of}
+use Rattle.answering.specs.Chosen.{asking_of, chain_of, task_of}
 use Rattle.answering.specs.Owning.{HasChained, HaveOwned}
 use Rattle.chain_tables.specs.Chains.{ChainData}
 use Rattle.answering.specs.Sets.{HaveBoth}
 use Rattle.two_input_commands.specs.Simulate.{SaysSimulation}
+use Rattle.two_input_commands.specs.Beside.{AsksBeside}
+use Rattle.two_input_commands.specs.Way.{IsUndrawn, SaysDrawing}
+use Rattle.two_input_commands.specs.WorstAt.{WorstsText}
 use Rattle.desk_cli.specs.declared.of_two.Found.{Found}
 use Rattle.desk_cli.specs.declared.of_two.Found.TheVariants.{Shown, Compared, Judged, Simulated}
-use Rattle.desk_cli.specs.declared.of_two.Found.TheVariants.{Reached, Drawn, Observed, Keeping}
+use Rattle.desk_cli.specs.declared.of_two.Found.TheVariants.{Reached, Drawn, DrawnWay, Observed, Keeping}
 use Rattle.desk_cli.specs.declared.of_two.Found.TheVariants.{WorstAt, ExplainedAt, LimitedAt, DrawnBeside}
 use Rattle.answering.specs.declared.refusal.CommandRefusal.{CommandRefusal}
 use Rattle.answering.specs.declared.refusal.CommandRefusal.TheVariants as refusal
@@ -32,6 +35,21 @@ pub never_unread : (c : OfTwo) (options : Options) (by : Preference) (owners : L
     (chains : List ChainData) (U : List Task) (text : List ℕ)
     → FindsIn c options by owners chains U text (Err failed_read) → ⊥
 never_unread command.Check options by owners chains U text never = never
+never_unread command.Draw options by owners chains U text never =
+    elim (chain_of options) as (λ w. IsUndrawn w options chains U text failed_read → ⊥) [
+      | Some word ↦ λ unread. unread
+      | None ↦ λ unread. unread
+    ] never
+never_unread command.WorstAt options by owners chains U text never =
+    elim (chain_of options) as (λ w. WorstsText w (task_of options) chains U text (Err failed_read) → ⊥) [
+      | Some word ↦ λ unread. unread
+      | None ↦ λ unread. unread
+    ] never
+never_unread command.DrawBeside options by owners chains U text never =
+    elim (chain_of options) as (λ w. AsksBeside w (asking_of options) options U text (Err failed_read) → ⊥) [
+      | Some word ↦ λ unread. unread
+      | None ↦ λ unread. unread
+    ] never
 never_unread _ options by owners chains U text never = never
 
 module _ (options : Options) (by : Preference) (owners : List Owner) (chains : List ChainData)
@@ -51,13 +69,27 @@ module _ (options : Options) (by : Preference) (owners : List Owner) (chains : L
         | true ↦ λ set other has said. (Err r, (chains, inr (U, text, both _ set other has, why)), wrote, is)
         | false ↦ λ set other has said. (Err r, inr (U, text, both _ set other has, why), wrote, is)
       ]
+  refused_in command.Draw r why wrote is =
+      elim (chain_of options) as (λ w. IsUndrawn w options chains U text r → (set other : Option (List ℕ))
+      → HaveOwned (asking_of options) set other by U owners text → HasChained set U chains
+      → SaysDrawing w options (asking_of options) set other before after s) [
+        | Some word ↦ λ why set other has said.
+            (Err r, (chains, inr (U, text, both _ set other has, why)), wrote, is)
+        | None ↦ λ why set other has said. (Err r, inr (U, text, both _ set other has, why), wrote, is)
+      ] why
   refused_in command.Diff r why wrote is =
       λ set other has said. (Err r, (by, chains, inr (U, text, both _ set other has, why)), wrote, is)
   refused_in command.ExplainAt r why wrote is =
       λ set other has said. (Err r, (chains, inr (U, text, both _ set other has, why)), wrote, is)
   refused_in command.Observe r why wrote is =
       λ set other has said. (Err r, (chains, inr (U, text, both _ set other has, why)), wrote, is)
+  refused_in command.Check r why wrote is =
+      λ set other has said. (Err r, (chains, inr (U, text, both _ set other has, why)), wrote, is)
+  refused_in command.WorstAt r why wrote is =
+      λ set other has said. (Err r, (chains, inr (U, text, both _ set other has, why)), wrote, is)
   refused_in command.Judge r why wrote is =
+      λ set other has said. (Err r, (chains, inr (U, text, both _ set other has, why)), wrote, is)
+  refused_in command.Keep r why wrote is =
       λ set other has said. (Err r, (chains, inr (U, text, both _ set other has, why)), wrote, is)
   refused_in _ r why wrote is =
       λ set other has said. (Err r, inr (U, text, both _ set other has, why), wrote, is)
@@ -66,8 +98,8 @@ module _ (options : Options) (by : Preference) (owners : List Owner) (chains : L
   said_in : (c : OfTwo) (found : Found) → FindsIn c options by owners chains U text (Ok found)
       → Appends before after (found_said owners U found) → s ≡ found_status found
       → SaysOfBoth c options by owners chains U text before after s
-  said_in command.Check (Shown kind) finds wrote is =
-      λ set other has said. (Ok kind, (U, text, both _ set other has, finds), wrote, is)
+  said_in command.Check (Shown shown) finds wrote is =
+      λ set other has said. (Ok (U, owners, chains, shown), (by, text, has, said, finds), wrote, is)
   said_in command.Diff (Compared c) finds wrote is =
       λ set other has said. (Ok (U, owners, chains, c), (by, text, has, said, finds), wrote, is)
   said_in command.Judge (Judged sorted node told) finds wrote is = λ set other has said. rw (← finds.0)
@@ -76,16 +108,18 @@ module _ (options : Options) (by : Preference) (owners : List Owner) (chains : L
       λ set other has said. rw finds.0 (Ok (U, answer), (text, both _ set other has, finds.1), wrote, is)
   said_in command.Simulate (Reached answer told) finds wrote is = λ set other has said. rw finds.0
       (Ok (U, owners, chains, (answer, told)), (by, text, has, said, finds.1), wrote, is)
-  said_in command.Draw (Drawn drawing) finds wrote is =
-      λ set other has said. (Ok (U, drawing), (text, both _ set other has, finds), wrote, is)
+  said_in command.Draw (Drawn drawing) finds wrote is = λ set other has said.
+      rw finds.0 (Ok (U, drawing), (text, both _ set other has, finds.1), wrote, is)
+  said_in command.Draw (DrawnWay drawn) finds wrote is = λ set other has said. rw finds.1
+      (Ok (U, owners, chains, drawn), (by, text, has, said, finds.2), wrote, is)
   said_in command.Observe (Observed leeway sight told) finds wrote is = λ set other has said. rw (← finds.0)
       (Ok (U, owners, chains, (sight, told)), (by, text, has, said, finds.1), wrote, is)
   said_in command.Keep (Keeping node base room) finds wrote is = λ set other has said.
-      rw (← finds.0, ← finds.1) (Ok (U, node), (text, both _ set other has, finds.2), wrote, is)
+      rw (← finds.0, ← finds.1) (Ok (U, owners, chains, node), (by, text, has, said, finds.2), wrote, is)
   said_in command.WorstAt (WorstAt worst) finds wrote is =
-      λ set other has said. (Ok (U, worst), (text, both _ set other has, finds), wrote, is)
+      λ set other has said. (Ok (U, owners, chains, worst), (by, text, has, said, finds), wrote, is)
   said_in command.LimitsAt (LimitedAt found) finds wrote is =
-      λ set other has said. (Ok (U, owners, found), (by, text, has, finds), wrote, is)
+      λ set other has said. (Ok (U, owners, found), (by, text, chains, has, said, finds), wrote, is)
   said_in command.ExplainAt (ExplainedAt sorted found told) finds wrote is = λ set other has said. rw (← finds.0)
       (Ok (U, owners, chains, (found, told)), (by, text, has, said, finds.1), wrote, is)
   said_in command.DrawBeside (DrawnBeside runs) finds wrote is =

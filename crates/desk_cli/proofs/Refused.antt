@@ -4,18 +4,20 @@ use Rattle.std.specs.Io.KnownBytes.{Appends}
 use Rattle.command_line.specs.declared.calls.OfOne.{OfOne}
 use Rattle.command_line.specs.declared.calls.OfOne.TheVariants.{Limits, Explain, Worst, Script, Play}
 use Rattle.command_line.specs.declared.calls.OfTwo.{OfTwo}
-use Rattle.command_line.specs.declared.calls.OfTwo.TheVariants.{Judge, Simulate, Diff, Observe, ExplainAt}
+use Rattle.command_line.specs.declared.calls.OfTwo.TheVariants.{Check, Judge, Simulate, Draw, Diff, Observe, Keep, ExplainAt, WorstAt}
 use Rattle.command_line.specs.declared.calls.Options.{Options}
 use Rattle.preferences.specs.declared.asking.Asking.{Asking}
 use Rattle.task_sheet.specs.declared.prefer.Preference.TheVariants.{Weights}
 use Rattle.desk_cli.specs.Commands.{OneSays, TwoSay, first_asking}
-use Rattle.answering.specs.Chosen.{asking_of, is_sorted, task_of, team_chosen}
+use Rattle.answering.specs.Chosen.{asking_of, chain_of, is_sorted, task_of, team_chosen}
 use Rattle.set_commands.specs.OneTask.{AnswersOfTask, SaysPart}
 use Rattle.set_commands.specs.Script.{SaysScript}
+use Rattle.set_commands.specs.WorstChain.{AnswersOfChain, SaysWorstOf}
 use Rattle.set_commands.proofs.ScriptLaws.{no_parts}
 use Rattle.set_commands.specs.declared.one_task.TaskPart.{TaskPart}
 use Rattle.set_commands.specs.declared.one_task.TaskPart.TheVariants as part
 use Rattle.two_input_commands.specs.Simulate.{SaysSimulation}
+use Rattle.two_input_commands.specs.Way.{SaysDrawing}
 use Rattle.desk_cli.specs.Saying.{IsRefusalOf}
 use Rattle.answering.specs.Refusals.{refusal_line, status_of}
 use Rattle.answering.specs.Sets.{HasNoSet, HaveNotBoth}
@@ -39,6 +41,16 @@ module _ (before after : Option (List ℕ)) (s : Status) (r : CommandRefusal)
   part_refused part.Limits None asking known why = (Err r, why, wrote, is)
   part_refused _ None asking known why = (Err r, why, wrote, is)
 
+  no_chain : (word : List ℕ) (asking : Asking) (known : Option (List ℕ)) (r : CommandRefusal)
+      → HasNoSet asking known r → AnswersOfChain word asking known (Err r)
+  no_chain word asking known (refusal.NoSuchChain name) why = absurd why
+  no_chain word asking known _ why = why
+
+  worst_refused : (chain task : Option (List ℕ)) (asking : Asking) (known : Option (List ℕ))
+      → HasNoSet asking known r → SaysWorstOf chain task asking known before after s
+  worst_refused (Some word) task asking known why = (Err r, no_chain word asking known r why, wrote, is)
+  worst_refused None task asking known why = part_refused part.Worst task asking known why
+
   script_refused : (team : Option ℕ) (asking : Asking) (known : Option (List ℕ))
       → HasNoSet asking known r → SaysScript asking team known before after s
   script_refused (Some team) asking known why = (Err r, why, wrote, is)
@@ -51,7 +63,7 @@ module _ (before after : Option (List ℕ)) (s : Status) (r : CommandRefusal)
   one_refused Explain options known why =
       part_refused (part.Reasons options.all (is_sorted options)) (task_of options) (asking_of options) known why
   one_refused Worst options known why =
-      part_refused part.Worst (task_of options) (asking_of options) known why
+      worst_refused (chain_of options) (task_of options) (asking_of options) known why
   one_refused Script options known why =
       script_refused (team_chosen options) (asking_of options) known why
   one_refused Play options known why = (refusal_line r, wrote, inl (r, why, refl, is))
@@ -70,8 +82,17 @@ module _ (before after : Option (List ℕ)) (s : Status) (r : CommandRefusal)
         | true ↦ (Err r, ([], inl why), wrote, is)
         | false ↦ (Err r, inl why, wrote, is)
       ]
+  two_refused Draw options first second why =
+      elim (chain_of options) as
+      (λ w. SaysDrawing w options (asking_of options) first second before after s) [
+        | Some word ↦ (Err r, ([], inl why), wrote, is)
+        | None ↦ (Err r, inl why, wrote, is)
+      ]
   two_refused Diff options first second why = (Err r, (Weights, [], inl why), wrote, is)
   two_refused ExplainAt options first second why = (Err r, ([], inl why), wrote, is)
+  two_refused Check options first second why = (Err r, ([], inl why), wrote, is)
   two_refused Judge options first second why = (Err r, ([], inl why), wrote, is)
+  two_refused WorstAt options first second why = (Err r, ([], inl why), wrote, is)
   two_refused Observe options first second why = (Err r, ([], inl why), wrote, is)
+  two_refused Keep options first second why = (Err r, ([], inl why), wrote, is)
   two_refused _ options first second why = (Err r, inl why, wrote, is)

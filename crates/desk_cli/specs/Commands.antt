@@ -10,7 +10,6 @@ use Rattle.set_commands.specs.Certify.{SaysCertified}
 use Rattle.two_input_commands.specs.Beside.{SaysBeside}
 use Rattle.two_input_commands.specs.Check.{SaysChecked}
 use Rattle.two_input_commands.specs.Diff.{SaysCompared}
-use Rattle.two_input_commands.specs.Draw.{SaysDrawn}
 use Rattle.two_input_commands.specs.ExplainAt.{SaysExplainedAt}
 use Rattle.two_input_commands.specs.Judge.{SaysJudged}
 use Rattle.two_input_commands.specs.LimitsAt.{SaysLimitsAt}
@@ -18,12 +17,14 @@ use Rattle.two_input_commands.specs.Observe.{SaysObserved, leeway_of}
 use Rattle.two_input_commands.specs.Keep.{SaysKeeping}
 use Rattle.set_commands.specs.OneTask.{SaysPart}
 use Rattle.set_commands.specs.Script.{SaysScript}
+use Rattle.set_commands.specs.WorstChain.{SaysWorstOf}
 use Rattle.script_commands.specs.Play.{SaysPlayed}
 use Rattle.two_input_commands.specs.Simulate.{SaysSimulation}
+use Rattle.two_input_commands.specs.Way.{SaysDrawing}
 use Rattle.two_input_commands.specs.WorstAt.{SaysWorstAt}
 use Rattle.set_commands.specs.declared.one_task.TaskPart.TheVariants as part
 use Rattle.answering.specs.declared.status.Status.{Status}
-use Rattle.answering.specs.Chosen.{asking_of, base_of, is_sorted, room_of, task_of, team_chosen}
+use Rattle.answering.specs.Chosen.{asking_of, base_of, chain_of, is_sorted, room_of, task_of, team_chosen}
 use Rattle.preferences.specs.ReadsAsked.{lenient}
 use Rattle.preferences.specs.declared.asking.Asking.{Asking}
 
@@ -37,7 +38,7 @@ OneSays Limits options = SaysPart part.Limits (task_of options) (asking_of optio
 OneSays Settings options = SaysSettings (base_of options) (room_of options) (asking_of options)
 OneSays Explain options =
     SaysPart (part.Reasons options.all (is_sorted options)) (task_of options) (asking_of options)
-OneSays Worst options = SaysPart part.Worst (task_of options) (asking_of options)
+OneSays Worst options = SaysWorstOf (chain_of options) (task_of options) (asking_of options)
 OneSays Script options = SaysScript (asking_of options) (team_chosen options)
 OneSays Play options = SaysPlayed
 
@@ -54,10 +55,10 @@ TwoSay Check options = SaysChecked (asking_of options)
 TwoSay Judge options = SaysJudged options.lower_is_higher (is_sorted options) (asking_of options)
 TwoSay Diff options = SaysCompared (asking_of options)
 TwoSay Simulate options = SaysSimulation options.by_task (asking_of options)
-TwoSay Draw options = SaysDrawn options (asking_of options)
+TwoSay Draw options = SaysDrawing (chain_of options) options (asking_of options)
 TwoSay Observe options = SaysObserved (leeway_of options) (asking_of options)
 TwoSay Keep options = SaysKeeping (base_of options) (room_of options) (asking_of options)
-TwoSay WorstAt options = SaysWorstAt (task_of options) (asking_of options)
+TwoSay WorstAt options = SaysWorstAt (chain_of options) (task_of options) (asking_of options)
 TwoSay LimitsAt options = SaysLimitsAt (task_of options) (asking_of options)
 TwoSay ExplainAt options = SaysExplainedAt (task_of options) (is_sorted options) (asking_of options)
 TwoSay DrawBeside options = SaysBeside options (asking_of options)

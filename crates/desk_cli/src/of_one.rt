@@ -8,8 +8,8 @@ use answering::{Audience, Status, asking_of, base_of, is_sorted, refuse, room_of
 use command_line::{OfOne, Options};
 use script_commands::{lines_of, play};
 use set_commands::{
-    Placed, TaskPart, decide, place, print_verdict, run_script, say_admitted, say_part,
-    say_settings,
+    Placed, TaskPart, certified, place, print_certificate, run_script, say_admitted, say_part,
+    say_settings, say_worst,
 };
 use std::alloc::Global;
 use std::io::{Read, Write};
@@ -40,7 +40,7 @@ fn say_placing<W: Write + Drop>(
             };
             say_part(alloc, part, task, placed, output)
         }
-        OfOne::Worst => say_part(alloc, TaskPart::Worst, task, placed, output),
+        OfOne::Worst => say_worst(alloc, options.chain, task, placed, output),
         OfOne::Certify => unreachable!(),
         OfOne::Script => unreachable!(),
         OfOne::Play => unreachable!(),
@@ -62,8 +62,8 @@ pub fn carry_out<R: Read + Drop, W: Write + Drop, P: Audience>(
 {
     let asking = asking_of(options);
     match command {
-        OfOne::Certify => match decide(alloc, asking, input, people) {
-            Ok(verdict) => print_verdict(alloc, &verdict, output),
+        OfOne::Certify => match certified(alloc, asking, input, people) {
+            Ok(certificate) => print_certificate(&certificate, output),
             Err(refusal) => refuse(refusal, output),
         },
         OfOne::Script => run_script(alloc, options, input, output, people),

@@ -9,7 +9,6 @@ use answering::{
     Audience, Both, CommandRefusal, Status, Which, asking_of, base_of, is_sorted, placing_status,
     print, print_bytes, print_made, read_two, refuse, room_of, tell,
 };
-use cert_checker::Checked;
 use chain_traces::ChainsSeen;
 use command_line::{OfTwo, Options};
 use judge::JudgedNode;
@@ -23,19 +22,19 @@ use std::io::{Read, Write};
 use streams::Watched;
 use task_sheet::{Members, Name, TaskSet};
 use two_input_commands::{
-    ChainsTold, Compared, Drawing, InOrder, KeptNode, Observation, ReachedChains, Simulated,
-    TwoRuns, beside_text, chained_status, check_text, checked_line, compare_text, compared_text,
-    draw_text, explain_at, explained_at_text, judge_text, judged_said, judged_status, keep_text,
-    keeping_status, keeping_text, leeway_of, limits_at, parts_of, print_beside, print_drawing,
-    print_observation, print_reached, print_simulated, reach_text, simulate_text, watch_text,
-    worst_at,
+    ChainsTold, Compared, Drawing, DrawnWay, InOrder, KeptNode, Observation, ReachedChains, Shown,
+    Simulated, TwoRuns, beside_text, chained_status, check_text, compare_text, compared_text,
+    draw_text, draw_way, explain_at, explained_at_text, judge_text, judged_said, judged_status,
+    keep_text, keeping_status, keeping_text, leeway_of, limits_at, parts_of, print_beside,
+    print_drawing, print_observation, print_reached, print_simulated, print_way, reach_text,
+    simulate_text, watch_text, worst_at,
 };
 
 /// What a command finds of a set and a text.
 #[derive(Drop)]
 pub enum Found {
-    /// What a certificate shows.
-    Shown(Checked),
+    /// What is printed of a certificate that shows what it says.
+    Shown(Shown),
     /// What becomes of a set and of a new one.
     Compared(Compared),
     /// What becomes of the tasks in the order that settings give, and what is told of the chains; whether its lines are to
@@ -47,6 +46,8 @@ pub enum Found {
     Reached(Simulated, ReachedChains),
     /// The same, to be shown as an SVG 1.1 document.
     Drawn(Drawing),
+    /// The same with the way of a chain's datum in it.
+    DrawnWay(DrawnWay),
     /// What a trace shows, what of it is let pass, and what is told of the chains.
     Observed(Leeway, Observation, ChainsSeen),
     /// What becomes of a set that is to keep the order and the numbers that settings give, from the base on, with room.
@@ -80,7 +81,7 @@ fn find(
 {
     let tasks = &both.tasks;
     match command {
-        OfTwo::Check => Ok(Found::Shown(check_text(alloc, tasks, text)?)),
+        OfTwo::Check => Ok(Found::Shown(check_text(alloc, &both.chains, tasks, text)?)),
         OfTwo::Diff => Ok(Found::Compared(compare_text(
             alloc,
             asking_of(options),
@@ -102,22 +103,40 @@ fn find(
                 Ok(Found::Simulated(simulate_text(alloc, tasks, text)?))
             }
         }
-        OfTwo::Draw => Ok(Found::Drawn(draw_text(alloc, options, tasks, text)?)),
+        OfTwo::Draw => match options.chain {
+            Some(word) => Ok(Found::DrawnWay(draw_way(
+                alloc,
+                word,
+                options,
+                &both.chains,
+                tasks,
+                text,
+            )?)),
+            None => Ok(Found::Drawn(draw_text(alloc, options, tasks, text)?)),
+        },
         OfTwo::Observe => {
             let leeway = leeway_of(options);
             let (shown, told) = watch_text(alloc, leeway, &both.chains, tasks, text)?;
             Ok(Found::Observed(leeway, shown, told))
         }
         OfTwo::Keep => Ok(Found::Keeping {
-            node: keep_text(alloc, tasks, text)?,
+            node: keep_text(alloc, &both.chains, tasks, text)?,
             base: base_of(options),
             room: room_of(options),
         }),
-        OfTwo::WorstAt => Ok(Found::WorstAt(worst_at(alloc, options.task, tasks, text)?)),
+        OfTwo::WorstAt => Ok(Found::WorstAt(worst_at(
+            alloc,
+            options.chain,
+            options.task,
+            &both.chains,
+            tasks,
+            text,
+        )?)),
         OfTwo::LimitsAt => Ok(Found::LimitedAt(limits_at(
             alloc,
             options.task,
             &both.owners,
+            &both.chains,
             tasks,
             text,
         )?)),
@@ -144,7 +163,7 @@ fn print_found<W: Write + Drop>(
     ensures { IsSaidOn (PrintsFound owners.now tasks.now found.now) W.contents output.old output.new result }
 {
     match found {
-        Found::Shown(checked) => print(checked_line(*checked), Status::Done, output),
+        Found::Shown(shown) => print(shown.text.as_bytes(), Status::Done, output),
         Found::Compared(compared) => print_bytes(
             compared_text(alloc, owners, tasks, compared),
             placing_status(&compared.is),
@@ -158,12 +177,13 @@ fn print_found<W: Write + Drop>(
         Found::Simulated(answer) => print_simulated(alloc, tasks, answer, output),
         Found::Reached(answer, told) => print_reached(alloc, tasks, answer, told, output),
         Found::Drawn(drawing) => print_drawing(alloc, tasks, drawing, output),
+        Found::DrawnWay(drawn) => print_way(alloc, tasks, drawn, output),
         Found::Observed(leeway, shown, told) => {
             print_observation(alloc, tasks, *leeway, shown, told, output)
         }
         Found::Keeping { node, base, room } => print_made(
             keeping_text(alloc, tasks, *base, *room, node),
-            keeping_status(&node.keeping),
+            keeping_status(node),
             output,
         ),
         Found::WorstAt(found) => print(
@@ -250,8 +270,10 @@ fn tell_seen<P: Audience>(shown: &Observation, tasks: &TaskSet, people: &mut P) 
 // Tells the audience what became of a set that is to keep the order of settings.
 fn tell_kept<P: Audience>(keeping: &Keeping, tasks: &TaskSet, settings: &[u8], people: &mut P) {
     people.keeping(tasks, settings);
-    if let Keeping::Parted { low, high } = keeping {
-        people.parted(tasks, *low, *high);
+    match keeping {
+        Keeping::Kept(_) => people.kept(),
+        Keeping::Parted { low, high } => people.parted(tasks, *low, *high),
+        Keeping::Stuck(_) => {}
     }
 }
 
@@ -269,6 +291,7 @@ fn tell_found<P: Audience>(
         Found::Compared(compared) => people.compared(&compared.set),
         Found::Simulated(answer) | Found::Reached(answer, _) => tell_run(answer, tasks, people),
         Found::Drawn(drawing) => tell_run(&drawing.answer, tasks, people),
+        Found::DrawnWay(drawn) => tell_run(&drawn.answer, tasks, people),
         Found::DrawnBeside(runs) => {
             people.compared(&runs.set);
             tell_run(&runs.was, tasks, people);

@@ -3,14 +3,14 @@ use Rattle.std.proofs.Common.{◌≡◌, ◌∙◌, ℕ, ◌-◌, inl, inr, List
 use Rattle.std.proofs.Common.{Result, Ok, Err, slice_set, refl, sym, ap, subst}
 use Rattle.task_sheet.proofs.Common.{Task, task_at, FailureData, tasks_of}
 use Rattle.task_sheet.proofs.VerdictLaws.{IsStuck-one}
-use Rattle.assignment.specs.AssignmentData.{ObstructionData}
 use Rattle.assignment.specs.Questions.{QuestionData}
 use Rattle.drafts.specs.declared.change.Change.{Change}
 use Rattle.drafts.specs.declared.change.Refusal.{Refusal}
 use Rattle.drafts.specs.declared.draft.EditRefusal.{EditRefusal}
 use Rattle.drafts.specs.Applied.{OnNode, set_of, applied}
-use Rattle.drafts.specs.Machine.{Entry, Ruling, Admitted, Refused, Infeasible, IsRuling}
+use Rattle.drafts.specs.Machine.{Entry}
 use Rattle.drafts.specs.Books.{Book, logged, IsNextEntry}
+use Rattle.drafts.proofs.LogLaws.{answer-one}
 use Rattle.drafts.specs.Edits.{Draft, on_base, after_put, after_remove}
 use Rattle.desk_core.specs.declared.told.Told.{Told}
 use Rattle.desk_core.specs.declared.told.Told.TheVariants as told
@@ -71,30 +71,12 @@ found-one (Ok node) found q r s xs ys x y =
     )
 
 -- ---- decisions
-ruling-one : (version : ℕ) (outcome : Result OnNode Refusal) (a b : Ruling)
-    → IsRuling version outcome a → IsRuling version outcome b → a ≡ b
-ruling-one version (Err refusal) (Refused a) (Refused b) x y =
-    ap (λ (z : Refusal). Refused z) (x ∙ sym y)
-ruling-one version (Err refusal) (Refused a) b x y = absurd y
-ruling-one version (Ok node) (Admitted a) (Admitted b) x y =
-    ap (λ (z : ℕ). Admitted z) (x.1 ∙ sym y.1)
-ruling-one version (Ok node) (Admitted a) (Infeasible b) x y = absurd (y.0 x.0)
-ruling-one version (Ok node) (Admitted a) (Refused b) x y = absurd y
-ruling-one version (Ok node) (Infeasible a) (Infeasible b) x y =
-    let set : a.set ≡ b.set = x.1 ∙ sym y.1 in
-    let members : a.members ≡ b.members = IsStuck-one (set_of node) a.members b.members x.2 y.2 in
-    let same : a ≡ b = λ i. record { set = set i; members = members i } in
-    ap (λ (o : ObstructionData). Infeasible o) same
-ruling-one version (Ok node) (Infeasible a) (Admitted b) x y = absurd (x.0 y.0)
-ruling-one version (Ok node) (Infeasible a) (Refused b) x y = absurd y
-ruling-one version outcome a b x y = absurd x
-
 entry-one : (b : Book) (d : Draft) (place place' : ℕ) (e f : Entry) → IsNextEntry b d place e
     → IsNextEntry b d place' f → e ≡ f
 entry-one b d place place' e f x y =
     let team : e.team ≡ f.team = x.1 ∙ sym y.1 in
     let changes = x.2 ∙ sym y.2 in
-    let decision : e.decision ≡ f.decision = ruling-one b.desk.version
+    let decision : e.decision ≡ f.decision = answer-one b.desk.version
     (applied d.team b.desk.node d.changes) e.decision f.decision x.3 y.3 in
     λ i. record { team = team i; changes = changes i; decision = decision i }
 

@@ -6,6 +6,8 @@ use Rattle.lines.specs.Known.{some_words}
 use Rattle.lines.specs.Naming.{name_at}
 use Rattle.chains.specs.Parts.{bound_in}
 use Rattle.chains.specs.declared.bounds.Level.{Level}
+use Rattle.chains.specs.declared.bounds.Writes.{Writes}
+use Rattle.chains.specs.declared.bounds.Writes.TheVariants.{AtFinish, AtDeadline}
 use Rattle.chain_tables.specs.Chains.{ChainData}
 use Rattle.diff.specs.ChangeLines.{word_of}
 use Rattle.diff.specs.Whole.{same_number}
@@ -28,9 +30,17 @@ same_tasks U (task ∷ tasks) V [] = false
 same_tasks U (old ∷ olds) V (new ∷ news) =
     same_name (slice_get U old) (slice_get V new) && same_tasks U olds V news
 
+-- tasks write as they did
+abbrev pub same_writes : Writes → Writes → Bool
+same_writes AtFinish AtFinish = true
+same_writes AtDeadline AtDeadline = true
+same_writes _ _ = false
+
 -- two chains say the same, beside their names
 abbrev pub same_chain : List Task → ChainData → List Task → ChainData → Bool
-same_chain U old V new = same_tasks U old.tasks V new.tasks && same_number old.limit new.limit
+same_chain U old V new =
+    same_tasks U old.tasks V new.tasks && same_number old.limit new.limit
+    && same_writes old.writes new.writes
 
 -- the chain of a name, where there is one
 abbrev pub chain_named : List ChainData → List ℕ → Option ChainData
@@ -81,17 +91,29 @@ limit_words old new =
     if same_number old new then []
     else codes " limit " ++ some_words old ++ codes " " ++ some_words new
 
+-- what a document calls it
+abbrev pub writes_word : Writes → List ℕ
+writes_word AtFinish = codes "finish"
+writes_word AtDeadline = codes "deadline"
+
+-- when the tasks write before and after, where that is another
+abbrev pub writes_words : (old new : Writes) → List ℕ
+writes_words old new =
+    if same_writes old new then []
+    else codes " writes " ++ writes_word old ++ codes " " ++ writes_word new
+
 -- the keys in which a chain says something else
 unfoldable pub chain_keys : List Task → ChainData → List Task → ChainData → List ℕ
 chain_keys U old V new =
     codes " keys" ++ tasks_words U old.tasks V new.tasks ++ limit_words old.limit new.limit
+    ++ writes_words old.writes new.writes
 
 -- ---- each chain
 -- the line of a chain that is gone
 abbrev pub chain_gone_to : List Task → List Level → ChainData → Option ChainData → List ℕ
 chain_gone_to U was old (Some new) = []
 chain_gone_to U was old None =
-    chain_words Removed old.name (bound_in U was old.tasks) old.limit None None ++ codes "\n"
+    chain_words Removed old.name (bound_in old.writes U was old.tasks) old.limit None None ++ codes "\n"
 
 -- the same, where no new chain has its name
 abbrev pub chain_gone : List Task → List Level → List ChainData → ChainData → List ℕ
@@ -101,14 +123,15 @@ chain_gone U was news old = chain_gone_to U was old (chain_named news old.name)
 abbrev pub chain_other : List Task → List Level → ChainData → List Task → List Level → ChainData → List ℕ
 chain_other U was old V is new =
     if same_chain U old V new then []
-    else chain_words Changed new.name (bound_in U was old.tasks) old.limit (bound_in V is new.tasks) new.limit
+    else chain_words Changed new.name (bound_in old.writes U was old.tasks) old.limit
+    (bound_in new.writes V is new.tasks) new.limit
     ++ chain_keys U old V new ++ codes "\n"
 
 -- the line of what was done to a chain, which was there before or not
 abbrev pub chain_edit_of : List Task → List Level → Option ChainData → List Task → List Level → ChainData → List ℕ
 chain_edit_of U was (Some old) V is new = chain_other U was old V is new
 chain_edit_of U was None V is new =
-    chain_words Added new.name None None (bound_in V is new.tasks) new.limit ++ codes "\n"
+    chain_words Added new.name None None (bound_in new.writes V is new.tasks) new.limit ++ codes "\n"
 
 abbrev pub chain_edit : List Task → List Level → List ChainData → List Task → List Level → ChainData → List ℕ
 chain_edit U was olds V is new = chain_edit_of U was (chain_named olds new.name) V is new
@@ -133,7 +156,8 @@ chain_moved new (Some was) (Some is) = chain_effect new was is (bound_effect was
 -- the line of what comes of a change to a chain that it leaves as it was
 abbrev pub chain_kept : List Task → List Level → ChainData → List Task → List Level → ChainData → List ℕ
 chain_kept U was old V is new =
-    if same_chain U old V new then chain_moved new (bound_in U was old.tasks) (bound_in V is new.tasks)
+    if same_chain U old V new then
+    chain_moved new (bound_in old.writes U was old.tasks) (bound_in new.writes V is new.tasks)
     else []
 
 abbrev pub chain_rest_of : List Task → List Level → Option ChainData → List Task → List Level → ChainData → List ℕ

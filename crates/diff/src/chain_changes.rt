@@ -1,13 +1,13 @@
 //! What a change does to a set's chains.
 ghost use Rattle.std.specs.Prelude.{◌≡◌, ◌++◌, IfOk, OnOk, option_map, slice_get, string_bytes};
 ghost use Rattle.chains.specs.Parts.{bound_in};
-ghost use Rattle.diff.specs.Chains.{bound_effect, bounds_words, chain_changes, chain_edit, chain_effect, chain_gone, chain_keys, chain_kept, chain_moved, chain_named, chain_other, chain_rest, chain_words, each_chain, limit_words, plus_tasks, same_chain, same_name, same_tasks, slack_words, slacks_words, tasks_word, tasks_words};
+ghost use Rattle.diff.specs.Chains.{bound_effect, bounds_words, chain_changes, chain_edit, chain_effect, chain_gone, chain_keys, chain_kept, chain_moved, chain_named, chain_other, chain_rest, chain_words, each_chain, limit_words, plus_tasks, same_chain, same_name, same_tasks, same_writes, slack_words, slacks_words, tasks_word, tasks_words, writes_word, writes_words};
 
 use crate::pairs::push_pair;
 use crate::text::Kind;
 use crate::whole::same_number;
 use chain_tables::Chain;
-use chains::{Level, bound_of};
+use chains::{Level, Writes, bound_of};
 use lines::{push_name, push_some_wide};
 use std::alloc::{AllocError, Global};
 use task_sheet::{Name, TaskSet};
@@ -59,11 +59,24 @@ fn same_tasks(old: &TaskSet, olds: &[usize], new: &TaskSet, news: &[usize]) -> b
     others.is_empty()
 }
 
+// The tasks write as they did.
+fn same_writes(old: Writes, new: Writes) -> bool
+    ensures { result ≡ same_writes old new }
+{
+    match (old, new) {
+        (Writes::AtFinish, Writes::AtFinish) => true,
+        (Writes::AtDeadline, Writes::AtDeadline) => true,
+        _ => false,
+    }
+}
+
 // Two chains say the same, beside their names.
 fn same_chain(old: &TaskSet, was: &Chain, new: &TaskSet, is: &Chain) -> bool
     ensures { result ≡ same_chain old.now was.now new.now is.now }
 {
-    same_tasks(old, &was.tasks, new, &is.tasks) && same_number(was.limit, is.limit)
+    same_tasks(old, &was.tasks, new, &is.tasks)
+        && same_number(was.limit, is.limit)
+        && same_writes(was.writes, is.writes)
 }
 
 // The chain of a name.
@@ -189,15 +202,38 @@ fn push_limits(text: &mut String, old: Option<u64>, new: Option<u64>) -> Result<
     push_pair(text, " limit ", old, new)
 }
 
+// What a document calls it.
+fn writes_word(writes: Writes) -> &'static str
+    ensures { result.now ≡ writes_word writes }
+{
+    match writes {
+        Writes::AtFinish => "finish",
+        Writes::AtDeadline => "deadline",
+    }
+}
+
+// When the tasks write before and after, where that is another.
+fn push_writes(text: &mut String, old: Writes, new: Writes) -> Result<(), AllocError>
+    ensures { OnOk result (string_bytes text.new ≡ string_bytes text.old ++ writes_words old new) }
+{
+    if same_writes(old, new) {
+        return Ok(());
+    }
+    text.push_str(" writes ")?;
+    text.push_str(writes_word(old))?;
+    text.push_str(" ")?;
+    text.push_str(writes_word(new))
+}
+
 // ---- each chain
 
 // A chain's bound in a set, and its limit.
 fn bounded(side: &ChainSide<'_>, chain: &Chain) -> Held
-    ensures bound { result.bound ≡ bound_in side.now.set.now side.now.levels.now chain.now.tasks }
+    ensures bound { result.bound ≡ bound_in chain.now.writes side.now.set.now side.now.levels.now chain.now.tasks }
     ensures limit { result.limit ≡ chain.now.limit }
 {
     Held {
-        bound: bound_of(side.set, side.levels, &chain.tasks),
+        bound: bound_of(side.set, side.levels, chain.writes, &chain.tasks),
         limit: chain.limit,
     }
 }
@@ -251,7 +287,8 @@ fn push_chain_keys(
 {
     text.push_str(" keys")?;
     push_both_tasks(text, old, &was.tasks, new, &is.tasks)?;
-    push_limits(text, was.limit, is.limit)
+    push_limits(text, was.limit, is.limit)?;
+    push_writes(text, was.writes, is.writes)
 }
 
 // The line of a chain that was there before, and says something else.

@@ -50,7 +50,7 @@ pub fn slack_is_never_negative()
 {}
 
 /// Where there is no line of a chain, none has changed: none is gone, and each of the new set was there before with the same
-/// tasks and the same limit, and where there is a bound before and after, with the same.
+/// tasks, which write as they did, and the same limit, and where there is a bound before and after, with the same.
 pub fn silent_changes_no_chain()
     ensures { (U : List Task) (was : List Level) (olds : List ChainData) (V : List Task) (is : List Level)
         (news : List ChainData) → chain_changes U was olds V is news ≡ []

@@ -1,5 +1,5 @@
 -- The node's interrupts under changes: which stay, and that a demand counts them all.
-use Rattle.std.proofs.Common.{◌≡◌, ◌∙◌, ℕ, zero, suc, ◌+◌, ◌*◌, ◌<◌, ◌==◌, inl, inr, true, false}
+use Rattle.std.proofs.Common.{◌≡◌, ◌∙◌, ℕ, zero, suc, ◌+◌, ◌*◌, ◌<◌, ◌==◌, inl, inr}
 use Rattle.std.proofs.Common.{not, List, [], ◌∷◌, ◌++◌, length, drop, slice_get, sum_by, Some, Result}
 use Rattle.std.proofs.Common.{Ok, Err, refl, sym, ap, subst, add-one, append-nil, arith}
 use Rattle.std.specs.Prelude.{OnOk}

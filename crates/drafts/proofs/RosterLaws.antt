@@ -1,20 +1,19 @@
 -- Changes keep a roster by rank, with valid sheets and distinct names; so its sheets are a set.
-use Rattle.std.proofs.Common.{◌≡◌, ℕ, zero, suc, ◌+◌, ◌≤◌, inl, inr, Bool, true, false, not, nat_lt}
-use Rattle.std.proofs.Common.{nat_le, List, [], ◌∷◌, ◌++◌, length, insert, position, drop}
+use Rattle.std.proofs.Common.{◌≡◌, ℕ, zero, suc, ◌+◌, ◌≤◌, inl, inr, Bool, true, false, not}
+use Rattle.std.proofs.Common.{nat_le, List, [], ◌∷◌, length, insert, position, drop}
 use Rattle.std.proofs.Common.{slice_get, Some, None, Ok, Ordering, Less, Equal, Greater, refl, sym}
 use Rattle.std.proofs.Common.{◌∙◌, ap, add-one, arith}
-use Rattle.std.specs.List.{filter, AllByRecursion, list_any, position_or_len}
+use Rattle.std.specs.List.{filter, AllByRecursion, position_or_len}
 use Rattle.std.specs.List.Sorted.{IsStrictlySortedBy}
 use Rattle.std.specs.Ordering.{is_lt}
 use Rattle.std.proofs.lemmas.Bool.{cases_Bool, both_ways}
 use Rattle.std.proofs.lemmas.Bool.Decides.{nat_tests}
 use Rattle.std.proofs.lemmas.List.{length-map}
 use Rattle.std.proofs.lemmas.List.Sums.{prefix_len-le-length}
-use Rattle.std.proofs.lemmas.List.Folds.{list_any-append}
 use Rattle.std.proofs.lemmas.List.Elements.{All-from_recursion}
 use Rattle.std.proofs.lemmas.List.Sorted.{IsPermutation-sym}
 use Rattle.task_sheet.proofs.Common.{Task, IsValidSheet, same_bytes, rank_cmp, IsByRank, same_name}
-use Rattle.task_sheet.proofs.Common.{first_repeat, AreDistinct, IsTaskSet, sheets_fault}
+use Rattle.task_sheet.proofs.Common.{AreDistinct, IsTaskSet, sheets_fault}
 use Rattle.task_sheet.proofs.SetLaws.{rank_total, same_turned, below}
 use Rattle.task_sheet.proofs.Unique.{sorted_unique}
 use Rattle.task_sheet.specs.Sheet.{AreInterrupts, IsInterrupt}

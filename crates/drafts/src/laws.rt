@@ -8,7 +8,7 @@ ghost use Rattle.drafts.specs.Applied.{OnNode, applied, held, of_others, said_of
 ghost use Rattle.drafts.specs.Interrupts.{SayNone, interrupts_along, timers_within};
 ghost use Rattle.drafts.specs.Machine.{Entry, IsLegal, empty_desk, replay};
 ghost use Rattle.drafts.specs.Rosters.{IsRoster};
-ghost use Rattle.drafts.specs.Commits.{commits_of, PutTasks};
+ghost use Rattle.drafts.specs.Commits.{commits_of};
 
 /// The tasks with their teams are a finite map: what is held under a name after a task is put or taken out; and rosters
 /// that hold the same under each name are one list, whatever way they were reached.
@@ -27,7 +27,7 @@ pub fn tasks_are_a_map()
 /// What a log was asked determines what it says, and so its replay: of one list of commits, each a team and its
 /// changes, there is one legal log at most.
 pub fn log_is_one()
-    ensures { (first second : List Entry) → PutTasks first → commits_of first ≡ commits_of second
+    ensures { (first second : List Entry) → commits_of first ≡ commits_of second
         → IsLegal empty_desk first → IsLegal empty_desk second → first ≡ second }
 {}
 

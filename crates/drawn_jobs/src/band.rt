@@ -29,12 +29,8 @@ pub(crate) fn gap_of(frame: Frame) -> u64
 fn any_on(frame: Frame, name: Name, jobs: &[JobRecord]) -> bool
     ensures { result ≡ any_on frame name jobs.now }
 {
-    for job in jobs {
-        if job.name == name && goes_on(frame, job.finish) {
-            return true;
-        }
-    }
-    false
+    jobs.iter()
+        .any(|job| job.name == name && goes_on(frame, job.finish))
 }
 
 // The box of a band, how many jobs are in it, and when they arrive.

@@ -4,6 +4,5 @@ pub mod Lanes
 pub mod Executed
 pub mod Folds
 mod Chosen
-mod Finds
 mod Shown
 pub mod Tonings

@@ -1,6 +1,6 @@
 //! Locks: those of the rows, each once, by name, and their tones.
-ghost use Rattle.std.specs.Prelude.{◌≡◌, ◌≤◌, IfOk, OnOk, length};
-ghost use Rattle.frames.specs.Locks.{locks_beside, locks_of, name_place, noted, noted_names, noted_rows, noted_sections, place_of};
+ghost use Rattle.std.specs.Prelude.{◌<◌, ◌≡◌, ◌≤◌, IfOk, IfSome, OnOk, length, position};
+ghost use Rattle.frames.specs.Locks.{is_less, locks_beside, locks_of, name_place, noted, noted_names, noted_rows, noted_sections, place_of};
 ghost use Rattle.frames.specs.declared.locks.TheConstants.{LOCKS_LIMIT};
 
 use crate::rows::TaskRow;
@@ -15,12 +15,15 @@ pub const LOCKS_LIMIT: usize = 1_024;
 fn name_place(locks: &[Name], name: Name) -> Option<usize>
     ensures { result ≡ name_place locks.now name }
 {
-    for k in 0..locks.len() {
-        if locks[k] == name {
-            return Some(k);
-        }
-    }
-    None
+    locks.iter().position(|lock| *lock == name)
+}
+
+// The place of the first lock behind a name.
+fn first_behind(locks: &[Name], name: Name) -> Option<usize>
+    ensures place { result ≡ position (is_less name) locks.now }
+    ensures within { IfSome result (λ k. k < length locks.now) }
+{
+    locks.iter().position(|lock| name < *lock)
 }
 
 // Where a lock's name stands among some: before the first one behind it.
@@ -28,12 +31,7 @@ fn place_of(locks: &[Name], name: Name) -> usize
     ensures value { result ≡ place_of locks.now name }
     ensures within { result ≤ length locks.now }
 {
-    for k in 0..locks.len() {
-        if name < locks[k] {
-            return k;
-        }
-    }
-    locks.len()
+    first_behind(locks, name).unwrap_or(locks.len())
 }
 
 // Notes a lock, where it isn't among some.

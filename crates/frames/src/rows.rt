@@ -53,12 +53,7 @@ pub fn find_row(rows: &[TaskRow], name: Name) -> Option<usize>
     ensures place { result ≡ row_named rows.now name }
     ensures within { IfSome result (λ k. k < length rows.now) }
 {
-    for k in 0..rows.len() {
-        if rows[k].sheet.name() == name {
-            return Some(k);
-        }
-    }
-    None
+    rows.iter().position(|row| row.sheet.name() == name)
 }
 
 /// The place of a row among those that are shown.
@@ -66,12 +61,7 @@ pub fn place_in(shown: &[usize], rank: usize) -> Option<usize>
     ensures place { result ≡ place_in shown.now rank }
     ensures within { IfSome result (λ k. k < length shown.now) }
 {
-    for k in 0..shown.len() {
-        if shown[k] == rank {
-            return Some(k);
-        }
-    }
-    None
+    shown.iter().position(|other| *other == rank)
 }
 
 /// The spot of the task with a name, if it is shown.

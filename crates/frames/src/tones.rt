@@ -53,12 +53,7 @@ fn own_tone(name: Name, count: u64) -> u64
 fn has_tone(given: &[Toned], tone: u64) -> bool
     ensures { result ≡ has_tone given.now tone }
 {
-    for toned in given {
-        if toned.tone == tone {
-            return true;
-        }
-    }
-    false
+    given.iter().any(|toned| toned.tone == tone)
 }
 
 // Of so many tones from one on the first that none of some has.

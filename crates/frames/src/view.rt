@@ -73,12 +73,7 @@ pub(crate) fn window_end(view: &View, until: u64) -> u64
 fn is_released(releases: &[Release], name: Name) -> bool
     ensures { result ≡ is_released releases.now name }
 {
-    for release in releases {
-        if release.name == name {
-            return true;
-        }
-    }
-    false
+    releases.iter().any(|release| release.name == name)
 }
 
 // Whether a task has a row.

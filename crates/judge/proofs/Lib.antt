@@ -1,7 +1,6 @@
 pub mod JudgedLaws
 pub mod CopyLaws
 pub mod TaskLaws
-pub mod PlaceLaws
 pub mod FaultLaws
 pub mod NumberLaws
 pub mod TextLaws

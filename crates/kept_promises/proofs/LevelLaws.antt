@@ -6,15 +6,18 @@ use Rattle.std.proofs.lemmas.Bool.{cases_Bool, cases_eq, eq-eqb, ne_eqb, lt-ltb}
 use Rattle.std.proofs.lemmas.List.Sums.{position_or_len_is}
 use Rattle.std.proofs.lemmas.Slice.Eq.{bytes_eq-Decides}
 use Rattle.std.specs.List.{position_or_len}
-use Rattle.task_sheet.proofs.Common.{Task, same_bytes, task_at, IsTaskSet, among}
+use Rattle.task_sheet.proofs.Common.{Task, same_bytes, task_at, IsTaskSet, IsOrder, all_of, among}
+use Rattle.task_sheet.proofs.IndexLaws.{IsOrderOf-among}
 use Rattle.task_sheet.proofs.NameLaws.{same_own}
 use Rattle.task_sheet.proofs.TaskLaws.{place_of_name}
 use Rattle.assignment.specs.Places.{PlaceData}
 use Rattle.assignment.specs.Placings.{tasks_of_places}
+use Rattle.explain.specs.Accounts.{AreInTime, IsInTime}
 use Rattle.ceiling_kernel.proofs.Common.{level_from, after_of}
 use Rattle.ceiling_kernel.specs.declared.trace.Release.{Release}
 use Rattle.ceiling_kernel.specs.declared.trace.Trace.{Trace}
 use Rattle.run_lines.specs.Responses.{AllDoneWithin, DoneWithin}
+use Rattle.observed.proofs.PlaceLaws.{order-within}
 use Rattle.observed.specs.Pieces.{level_of}
 use Rattle.observed.specs.Promises.{no_promise, number_at, promise_of, promises_from, promises_of}
 
@@ -51,6 +54,7 @@ pub record IsPlaced (U : List Task) (numbers : List ℕ) (low : ℕ) (places : L
       (slice_index_or (promises_from U numbers low places) k no_promise).name (task_at U i).name ≡ false
   pub after : after_of (tasks_of_places places) i ≡ tasks_of_places above
   pub level_is : (first : ℕ) → level_from first (tasks_of_places places) i ≡ first + level
+  pub in_time : AreInTime U places → IsInTime U (tasks_of_places above) place
   pub done : (rs : List Release) (until : ℕ) (trace : Trace) → AllDoneWithin U places rs until trace
       → DoneWithin U place rs until trace
 
@@ -74,6 +78,7 @@ placed_in U set numbers low (p ∷ places) i is small has =
               others = λ k lt. absurd (omega (arith, lt));
               after = rw t refl;
               level_is = λ first. rw t (omega arith);
+              in_time = λ all. all.0;
               done = λ rs until trace all. all.0;
             },
           )
@@ -100,6 +105,7 @@ placed_in U set numbers low (p ∷ places) i is small has =
               others = others_next U numbers low p places i found.0 own in_rest.others;
               after = rw f in_rest.after;
               level_is = λ first. rw f (in_rest.level_is (first + 1) ∙ omega arith);
+              in_time = λ all. in_rest.in_time all.1;
               done = λ rs until trace all. in_rest.done rs until trace all.1;
             },
           )
@@ -116,6 +122,17 @@ placed_in U set numbers low (p ∷ places) i is small has =
         (task_at U i).name ≡ false
     others_next U numbers low p places i level own rest zero lt = own
     others_next U numbers low p places i level own rest (suc k) lt = rest k (omega arith)
+
+-- each of the set does
+pub stands_at : (U : List Task) → IsTaskSet U → (numbers : List ℕ) (places : List PlaceData)
+    → IsOrder U (tasks_of_places places) → (i : ℕ) → i < length U
+    → (level : ℕ) × IsPlaced U numbers 0 places i level
+stands_at U set numbers places order i is =
+    let each : among (tasks_of_places places) ≡ all_of U =
+    IsOrderOf-among (all_of U) (tasks_of_places places) order in
+    let small : nat_lt i (length U) ≡ true = lt-ltb i (length U) is in
+    placed_in U set numbers 0 places i is (order-within U places order)
+    (ap (λ (H : ℕ → Bool). H i) each ∙ small)
 
 -- that is the level at which its name is found
 pub placed_level : (U : List Task) (numbers : List ℕ) (places : List PlaceData) (i level : ℕ)

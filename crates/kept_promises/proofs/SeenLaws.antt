@@ -10,9 +10,8 @@ use Rattle.std.proofs.lemmas.Bool.{le-leb, lt-leb, lt-ltb, cases_eq, and_parts, 
 use Rattle.std.proofs.lemmas.Bool.{leb-true, ltb-true, ne_eqb}
 use Rattle.std.proofs.lemmas.List.Quantifiers.{position-Some}
 use Rattle.std.proofs.lemmas.Slice.Eq.{bytes_eq-Decides}
-use Rattle.task_sheet.proofs.Common.{Task, no_task, same_bytes, task_at, among, all_of, blocking_of}
+use Rattle.task_sheet.proofs.Common.{Task, no_task, same_bytes, task_at, among, blocking_of}
 use Rattle.task_sheet.proofs.Common.{greatest_of}
-use Rattle.task_sheet.proofs.IndexLaws.{IsOrderOf-among}
 use Rattle.task_sheet.proofs.NameLaws.{same_own}
 use Rattle.assignment.specs.Places.{PlaceData}
 use Rattle.assignment.specs.Placings.{tasks_of_places}
@@ -33,13 +32,12 @@ use Rattle.ceiling_kernel.proofs.MachineLaws.{pending_parts, picked_is, idle_of,
 use Rattle.ceiling_kernel.proofs.MachineLaws.{start_of, works_of}
 use Rattle.ceiling_kernel.proofs.ReleaseLaws.{job_is, jobs_length}
 use Rattle.trace_text.specs.declared.rows.TraceJob.{TraceJob}
-use Rattle.observed.proofs.PlaceLaws.{order-within}
 use Rattle.observed.specs.Pieces.{is_of, job_of, level_of, homeless_line, is_homeless, pieces_of}
 use Rattle.observed.specs.Promises.{no_promise, promises_of}
 use Rattle.trace_text.specs.declared.reading.TraceLines.{TraceLines}
 use Rattle.kept_promises.specs.OfRuns.{AreOfRun}
 use Rattle.kept_promises.specs.PrintedRuns.{job_row, jobs_from, slice_row, slices_from}
-use Rattle.kept_promises.proofs.LevelLaws.{IsPlaced, placed_in, placed_level, position_is}
+use Rattle.kept_promises.proofs.LevelLaws.{IsPlaced, placed_level, position_is, stands_at}
 use Rattle.kept_promises.proofs.TickLaws.{IsRunSlice, hit, hit-le, hit_none, hit_outside, hits}
 use Rattle.kept_promises.proofs.TickLaws.{lies, lies_before, lies_after, piece, time_by, time_from}
 use Rattle.kept_promises.proofs.TickLaws.{total_run, total_same, total_start}
@@ -216,12 +214,7 @@ module _ {U : List Task} {places : List PlaceData} {lines : TraceLines}
 
   -- its level
   pub placed : (i : ℕ) → i < length U → (level : ℕ) × IsPlaced U numbers 0 places i level
-  placed i is =
-      let each : among (tasks_of_places places) ≡ all_of U =
-      IsOrderOf-among (all_of U) (tasks_of_places places) run.order in
-      let small : nat_lt i (length U) ≡ true = lt-ltb i (length U) is in
-      placed_in U run.set numbers 0 places i is (order-within U places run.order)
-      (ap (λ (H : ℕ → Bool). H i) each ∙ small)
+  placed = stands_at U run.set numbers places run.order
 
   pub level_named : (j : ℕ) → (lt : j < length rs) → level_of (promises_of U numbers places)
       (release_at rs j).name ≡ Some (placed (task_of j) (task_in j lt)).0
@@ -298,7 +291,7 @@ module _ {U : List Task} {places : List PlaceData} {lines : TraceLines}
         × (executed s.start s.job < executes s.job)
     first = tick_is s.start s.job (slice.own s.start (omega arith) slice.lasts)
 
-    slice_name : (slice_row records number s).name ≡ (release_at rs s.job).name
+    pub slice_name : (slice_row records number s).name ≡ (release_at rs s.job).name
     slice_name = ap (λ (x : JobRecord). x.name) (records_at node jobs until 0 rs s.job first.0)
 
     -- it ends by the finish of its job
@@ -397,12 +390,12 @@ module _ {U : List Task} {places : List PlaceData} {lines : TraceLines}
   are_longest = longest_runs node jobs until
 
   -- what the lines say
-  rows_are : lines.slices.items ≡ rows
+  pub rows_are : lines.slices.items ≡ rows
   rows_are = run.say.slices
       ∙ ap₂ (λ (js : List JobRecord) (ss : List Slice). slices_from js run.first ss) run.runs.2.jobs
       run.runs.2.slices
 
-  jobs_said : lines.jobs.items ≡ all
+  pub jobs_said : lines.jobs.items ≡ all
   jobs_said = run.say.jobs
       ∙ ap (jobs_from jobs_line) run.runs.2.jobs
 

@@ -42,7 +42,7 @@ total_same f a (suc b) le none = elim (cases_eq a (suc b)) [
 abbrev pub lies : (lo hi t : ℕ) → Bool
 lies lo hi t = nat_le lo t && nat_lt t hi
 
-lies_within : (lo hi t : ℕ) → lo ≤ t → t < hi → lies lo hi t ≡ true
+pub lies_within : (lo hi t : ℕ) → lo ≤ t → t < hi → lies lo hi t ≡ true
 lies_within lo hi t from to =
     and_from (nat_le lo t) (nat_lt t hi) (le-leb lo t from) (lt-ltb t hi to)
 

@@ -29,7 +29,7 @@ after-other : (j i : ℕ) (above : List ℕ) → j ≢ i → after_of (j ∷ abo
 after-other j i above ne = let apart = ne_eqb j i ne in rw apart refl
 
 -- all of them are in the order
-after-part : (order : List ℕ) (i : ℕ) → IsPart (among (after_of order i)) (among order)
+pub after-part : (order : List ℕ) (i : ℕ) → IsPart (among (after_of order i)) (among order)
 after-part [] i k h = h
 after-part (x ∷ order) i k h = elim (cases_Bool (x == i)) [
   | inl own ↦ or_right _ _ (rw own at h)

@@ -21,6 +21,7 @@ use Rattle.chains.specs.Parts.{order_of, response_in, time_in}
 use Rattle.chains.specs.declared.bounds.Level.{Level}
 use Rattle.chains.specs.declared.bounds.BoundPart.{BoundPart}
 use Rattle.chains.specs.declared.bounds.PartKind.TheVariants.{Jitter, Handover}
+use Rattle.chains.specs.declared.bounds.Writes.TheVariants.{AtFinish, AtDeadline}
 use Rattle.chains.proofs.CountLaws.{count_law}
 use Rattle.least_chains.specs.LeastAbove.{IsLeastAbove}
 use Rattle.least_chains.specs.LeastBound.{HaveResponses, ArePassing, HasResponse, IsLeastPart, least_time, part_in}
@@ -50,7 +51,7 @@ respond-at U (l ∷ levels) i all is = elim (cases_eq l.task i) [
 ]
 
 -- another one has none
-none-at : (levels : List Level) (i : ℕ) → among (order_of levels) i ≡ false
+pub none-at : (levels : List Level) (i : ℕ) → among (order_of levels) i ≡ false
     → response_in levels i ≡ None
 none-at [] i out = refl
 none-at (l ∷ levels) i out = elim (cases_eq l.task i) [
@@ -77,7 +78,7 @@ module _ (U : List Task) (set : IsTaskSet U) where
         (subst (λ xs. IsResponseOf U i (among xs) r) (sym same) is, each),
       )
 
-  passing-levels : (order : List ℕ) → IsPassingOrder U order
+  pub passing-levels : (order : List ℕ) → IsPassingOrder U order
       → (levels : List Level) × (order_of levels ≡ order) × ArePassing U levels
   passing-levels order passing =
       let named = IsOrderOf-among (all_of U) order passing.each_once in
@@ -117,7 +118,7 @@ module _ (U : List Task) (set : IsTaskSet U) where
     is_node = record { tasks = set; order = are.order.each_once }
 
     -- the response of a task of the set
-    own-response : (i : ℕ) → i < length U → IsResponseOf U i (above i) (time_in levels i)
+    pub own-response : (i : ℕ) → i < length U → IsResponseOf U i (above i) (time_in levels i)
     own-response i within =
         let named : among (order_of levels) i ≡ true =
         ap (λ (X : Indexes). X i) (IsOrderOf-among (all_of U) (order_of levels) are.order.each_once)
@@ -153,7 +154,7 @@ module _ (U : List Task) (set : IsTaskSet U) where
     ]
 
     -- a response counts the cost of each task above
-    counts-cost : (i c : ℕ) → i < length U → above i c ≡ true
+    pub counts-cost : (i c : ℕ) → i < length U → above i c ≡ true
         → (task_at U i).jitter + (task_at U c).cost ≤ time_in levels i
     counts-cost i c within is =
         let up = higher i c within is in
@@ -182,14 +183,14 @@ module _ (U : List Task) (set : IsTaskSet U) where
     -- what is handed over, by which of both stands higher
     handed : (i c : ℕ) (others : List ℕ) (b : Bool)
         → nat_lt (level_in_order node c) (level_in_order node i) ≡ b
-        → part_in U levels i (c ∷ others)
+        → part_in AtFinish U levels i (c ∷ others)
         ≡ cond b (task_at U i).jitter (time_in levels i - (task_at U c).cost)
     handed i c others true is = ap (λ b. (handed_by i c b).time) is
     handed i c others false is = ap (λ b. (handed_by i c b).time) is
 
     -- the part of a task, by who stands above it
-    part-is : (i : ℕ) → i < length U → (others : List ℕ)
-        → part_in U levels i others ≡ least_time U i (above i) (time_in levels i) others
+    pub part-is : (i : ℕ) → i < length U → (others : List ℕ)
+        → part_in AtFinish U levels i others ≡ least_time U i (above i) (time_in levels i) others
     part-is i within [] = refl
     part-is i within (c ∷ others) = elim (cases_eq c i) [
       | inl own ↦
@@ -213,7 +214,7 @@ module _ (U : List Task) (set : IsTaskSet U) where
 
     -- it is no less than the least one, by who stands above it in each order
     part-from : (i : ℕ) (H : Indexes) (r : ℕ) → i < length U → IsPart H (above i) → IsResponseOf U i H r
-        → (others : List ℕ) → least_time U i H r others ≤ part_in U levels i others
+        → (others : List ℕ) → least_time U i H r others ≤ part_in AtFinish U levels i others
     part-from i H r within part first others = subst (λ m. least_time U i H r others ≤ m)
         (sym (part-is i within others)) (by others)
       where
@@ -237,7 +238,7 @@ module _ (U : List Task) (set : IsTaskSet U) where
         ]
 
     -- a task that isn't of the set adds nothing
-    strange-part : (i : ℕ) (others : List ℕ) → length U ≤ i → part_in U levels i others ≡ 0
+    pub strange-part : (i : ℕ) (others : List ℕ) → length U ≤ i → part_in AtFinish U levels i others ≡ 0
     strange-part i others past =
         let named : among (order_of levels) i ≡ false =
         ap (λ (X : Indexes). X i) (IsOrderOf-among (all_of U) (order_of levels) are.order.each_once)
@@ -245,7 +246,7 @@ module _ (U : List Task) (set : IsTaskSet U) where
         let none : time_in levels i ≡ 0 = ap (λ o. unwrap_or o 0) (none-at levels i named) in
         by none others
       where
-        by : time_in levels i ≡ 0 → (others : List ℕ) → part_in U levels i others ≡ 0
+        by : time_in levels i ≡ 0 → (others : List ℕ) → part_in AtFinish U levels i others ≡ 0
         by none [] = none
         by none (c ∷ others) =
             let not_below = le-ltb (level_in_order node c) (level_in_order node i)
@@ -254,7 +255,8 @@ module _ (U : List Task) (set : IsTaskSet U) where
 
   -- ---- the least part
   pub least-part : (i : ℕ) (H : Indexes) (r : ℕ) → i < length U → IsLeastAbove U i H
-      → IsResponseOf U i H r → (others : List ℕ) → IsLeastPart U i others (least_time U i H r others)
+      → IsResponseOf U i H r → (others : List ℕ)
+      → IsLeastPart AtFinish U i others (least_time U i H r others)
   least-part i H r within is first others =
       let (order, passing, same) = is.reached in
       let (levels, ordered, are) = passing-levels order passing in
@@ -276,10 +278,17 @@ module _ (U : List Task) (set : IsTaskSet U) where
       }
 
   pub strange-least : (i : ℕ) (others : List ℕ) → length U ≤ i → IsFeasible U
-      → IsLeastPart U i others 0
+      → IsLeastPart AtFinish U i others 0
   strange-least i others past (order, passing) =
       let (levels, ordered, are) = passing-levels order passing in
       record {
         reached = (levels, are, strange-part levels are i others past);
         least = λ levels are. omega arith;
       }
+
+  -- a task that writes at its deadline does so in each order
+  pub deadline-least : (i : ℕ) (others : List ℕ) → IsFeasible U
+      → IsLeastPart AtDeadline U i others (task_at U i).deadline
+  deadline-least i others (order, passing) =
+      let (levels, ordered, are) = passing-levels order passing in
+      record { reached = (levels, are, refl); least = λ levels are. omega arith }

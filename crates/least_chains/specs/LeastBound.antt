@@ -10,6 +10,7 @@ use Rattle.ceiling_kernel.specs.Waits.{lateness_of}
 use Rattle.chains.specs.Gaps.{gap_of}
 use Rattle.chains.specs.Parts.{after_of, order_of, time_in}
 use Rattle.chains.specs.declared.bounds.Level.{Level}
+use Rattle.chains.specs.declared.bounds.Writes.{Writes}
 
 -- ---- an order that passes, with its responses
 -- task i has this response with the tasks H above it
@@ -34,24 +35,25 @@ levels_at places = map (λ p. record { task = p.task; response = Some p.response
 
 -- ---- the least part of a task
 -- how long the part behind its wait is, where it stands in front of these others
-abbrev pub part_in : List Task → List Level → ℕ → (others : List ℕ) → ℕ
-part_in U levels i others = (after_of (node_in U (order_of levels)) (time_in levels) i others).time
+abbrev pub part_in : Writes → List Task → List Level → ℕ → (others : List ℕ) → ℕ
+part_in writes U levels i others =
+    (after_of writes (node_in U (order_of levels)) (time_in levels) i others).time
 
 -- in some order that passes that part is so long, and in none it is less
-pub record IsLeastPart (U : List Task) (i : ℕ) (others : List ℕ) (time : ℕ) : Type 0 where
-  pub reached : (levels : List Level) × ArePassing U levels × (part_in U levels i others ≡ time)
-  pub least : (levels : List Level) → ArePassing U levels → time ≤ part_in U levels i others
+pub record IsLeastPart (writes : Writes) (U : List Task) (i : ℕ) (others : List ℕ) (time : ℕ) : Type 0 where
+  pub reached : (levels : List Level) × ArePassing U levels × (part_in writes U levels i others ≡ time)
+  pub least : (levels : List Level) → ArePassing U levels → time ≤ part_in writes U levels i others
 
--- what it comes to where the tasks H stand above in each order that passes, with this response: that, less the next
--- one's cost; the jitter where the next one need not stand above
+-- what it comes to at the task's finish, where the tasks H stand above in each order that passes, with this response: that,
+-- less the next one's cost; the jitter where the next one need not stand above
 abbrev pub least_time : List Task → ℕ → Indexes → (response : ℕ) → (others : List ℕ) → ℕ
 least_time U i H response [] = response
 least_time U i H response (c ∷ others) =
     if (c == i) || H c then response - (task_at U c).cost else lateness_of (task_at U i)
 
 -- ---- the least bound of a chain: all gaps, and the least part of each task
-abbrev pub IsLeastBound : List Task → (tasks : List ℕ) → ℕ → Type 0
-IsLeastBound U [] bound = bound ≡ 0
-IsLeastBound U (i ∷ others) bound =
-    (time : ℕ) × (rest : ℕ) × IsLeastPart U i others time × IsLeastBound U others rest
+abbrev pub IsLeastBound : Writes → List Task → (tasks : List ℕ) → ℕ → Type 0
+IsLeastBound writes U [] bound = bound ≡ 0
+IsLeastBound writes U (i ∷ others) bound =
+    (time : ℕ) × (rest : ℕ) × IsLeastPart writes U i others time × IsLeastBound writes U others rest
     × (bound ≡ gap_of (task_at U i) + time + rest)

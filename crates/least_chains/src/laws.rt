@@ -4,6 +4,8 @@ ghost use Rattle.task_sheet.specs.Sheet.{Task};
 ghost use Rattle.task_sheet.specs.Indexes.{Indexes};
 ghost use Rattle.chains.specs.Parts.{bound_in};
 ghost use Rattle.chains.specs.declared.bounds.Level.{Level};
+ghost use Rattle.chains.specs.declared.bounds.Writes.{Writes};
+ghost use Rattle.chains.specs.declared.bounds.Writes.TheVariants.{AtDeadline};
 ghost use Rattle.least_chains.specs.LeastAbove.{IsLeastAbove};
 ghost use Rattle.assignment.specs.Places.{PlaceData};
 ghost use Rattle.assignment.specs.Placings.{IsBestPlacing};
@@ -21,11 +23,15 @@ pub fn best_is_passing()
         → ArePassing U (levels_at places) }
 {}
 
-/// No order that passes has a bound below the least one, of which there is one at most.
+/// No order that passes has a bound below the least one, of which there is one at most. Where the tasks write at their
+/// deadlines, each order that has a bound has that one.
 pub fn least_is_held()
-    ensures held { (U : List Task) (tasks : List ℕ) (least bound : ℕ) (levels : List Level)
-        → IsLeastBound U tasks least → ArePassing U levels → bound_in U levels tasks ≡ Some bound
+    ensures held { (writes : Writes) (U : List Task) (tasks : List ℕ) (least bound : ℕ) (levels : List Level)
+        → IsLeastBound writes U tasks least → ArePassing U levels → bound_in writes U levels tasks ≡ Some bound
         → least ≤ bound }
-    ensures one { (U : List Task) (tasks : List ℕ) (first second : ℕ) → IsLeastBound U tasks first
-        → IsLeastBound U tasks second → first ≡ second }
+    ensures one { (writes : Writes) (U : List Task) (tasks : List ℕ) (first second : ℕ)
+        → IsLeastBound writes U tasks first → IsLeastBound writes U tasks second → first ≡ second }
+    ensures deadlines { (U : List Task) (tasks : List ℕ) (least bound : ℕ) (levels : List Level)
+        → IsLeastBound AtDeadline U tasks least → bound_in AtDeadline U levels tasks ≡ Some bound
+        → least ≡ bound }
 {}

@@ -3,11 +3,12 @@ ghost use Rattle.std.specs.Prelude.{◌≡◌, ◌<◌, length};
 ghost use Rattle.task_sheet.specs.Sheet.{task_at};
 ghost use Rattle.task_sheet.specs.Indexes.{indexes_of, IsPart};
 ghost use Rattle.task_sheet.specs.Orders.{all_of, IsFeasible};
+ghost use Rattle.chains.specs.declared.bounds.Writes.TheVariants.{AtFinish};
 ghost use Rattle.least_chains.specs.LeastBound.{IsLeastBound, IsLeastPart, least_time};
 
 use crate::above::above_at_least;
 use ceilings::Tabled;
-use chains::wait_of;
+use chains::{Writes, wait_of};
 use response_time::response_in_time;
 use task_sheet::Members;
 
@@ -29,9 +30,25 @@ fn cost_at(set: &Tabled<'_>, task: usize) -> u64
     }
 }
 
-// The least part behind the wait of a task in front of these others, where these stand above it in each order and this is
-// its response with them.
-fn least_time(set: &Tabled<'_>, task: usize, above: Members, response: u64, others: &[usize]) -> u64
+// The deadline of the task at an index.
+fn deadline_at(set: &Tabled<'_>, task: usize) -> u64
+    ensures { result ≡ (task_at set.now task).deadline }
+{
+    match set.sheets().get(task) {
+        Some(sheet) => sheet.deadline(),
+        None => 0,
+    }
+}
+
+/// The part behind the wait of a task in front of these others, where it writes as it finishes, these stand above it and
+/// this is its response with them, in microseconds; the least one, where they do in each order that passes.
+pub fn least_time(
+    set: &Tabled<'_>,
+    task: usize,
+    above: Members,
+    response: u64,
+    others: &[usize],
+) -> u64
     requires task { task < length set.now }
     requires part { IsPart (indexes_of above) (all_of set.now) }
     ensures { result ≡ least_time set.now task (indexes_of above) response others.now }
@@ -46,10 +63,10 @@ fn least_time(set: &Tabled<'_>, task: usize, above: Members, response: u64, othe
     }
 }
 
-// The least part behind the wait of a task in front of these others.
-fn least_part(set: &Tabled<'_>, task: usize, others: &[usize]) -> u64
+// The least part behind the wait of a task in front of these others, where it writes as it finishes.
+fn least_at_finish(set: &Tabled<'_>, task: usize, others: &[usize]) -> u64
     requires { IsFeasible set.now }
-    ensures { IsLeastPart set.now task others.now result }
+    ensures { IsLeastPart AtFinish set.now task others.now result }
 {
     // The set is valid: the proof has it from its sheets.
     let _ = set.sheets();
@@ -63,18 +80,31 @@ fn least_part(set: &Tabled<'_>, task: usize, others: &[usize]) -> u64
     }
 }
 
+// The least part by when the tasks write: at its deadline a task does so in each order.
+fn least_part(set: &Tabled<'_>, writes: Writes, task: usize, others: &[usize]) -> u64
+    requires { IsFeasible set.now }
+    ensures { IsLeastPart writes set.now task others.now result }
+{
+    // The set is valid: the proof has it from its sheets.
+    let _ = set.sheets();
+    match writes {
+        Writes::AtFinish => least_at_finish(set, task, others),
+        Writes::AtDeadline => deadline_at(set, task),
+    }
+}
+
 /// How small the bound of a chain of tasks, by their indexes, the first one first, could be in any order that passes,
 /// where one does, in microseconds: all gaps, and the least part of each task, which some order reaches. No order that
 /// passes has a bound below it.
-pub fn least_bound(set: &Tabled<'_>, tasks: &[usize]) -> u128
+pub fn least_bound(set: &Tabled<'_>, writes: Writes, tasks: &[usize]) -> u128
     requires { IsFeasible set.now }
-    ensures { IsLeastBound set.now tasks.now result }
+    ensures { IsLeastBound writes set.now tasks.now result }
 {
     let mut sum = 0;
     let mut rest = tasks;
     while let Some((task, others)) = rest.split_first() {
         sum += wait_of(set.tasks(), *task).time as u128;
-        sum += least_part(set, *task, others) as u128;
+        sum += least_part(set, writes, *task, others) as u128;
         rest = others;
     }
     sum

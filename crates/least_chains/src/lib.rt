@@ -6,4 +6,4 @@ pub mod laws;
 mod least;
 
 pub use above::above_at_least;
-pub use least::least_bound;
+pub use least::{least_bound, least_time};

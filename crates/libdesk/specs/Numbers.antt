@@ -4,7 +4,7 @@ use Rattle.std.specs.Borrow.{Bor}
 use Rattle.command_line.specs.declared.calls.OfOne.TheVariants.{Admit, Certify, Limits, Settings, Explain, Play}
 use Rattle.command_line.specs.declared.calls.OfTwo.TheVariants.{Check, Judge, Diff, Simulate, Draw, Observe, DrawBeside}
 use Rattle.libdesk.specs.declared.asked.Asked.{Asked}
-use Rattle.libdesk.specs.declared.asked.Asked.TheVariants.{One, Two, Releases, Worst}
+use Rattle.libdesk.specs.declared.asked.Asked.TheVariants.{One, Two, Releases, Worst, WorstChain, DrawChain}
 
 -- the command of a number, with what it takes of the inputs; there is none of another
 abbrev pub command_of : ℕ → (first second : Bor (List ℕ)) → (until : ℕ) → Option Asked
@@ -24,4 +24,6 @@ command_of number first second until =
     else if number == 13 then Some (Two Observe first second)
     else if number == 14 then Some (Worst first second)
     else if number == 15 then Some (Two DrawBeside first second)
+    else if number == 16 then Some (WorstChain first second)
+    else if number == 17 then Some (DrawChain first second)
     else None

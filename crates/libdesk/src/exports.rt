@@ -17,7 +17,7 @@ ghost use Rattle.two_input_commands.specs.Simulate.{SaysSimulated};
 ghost use Rattle.answering.specs.Chosen.{asking_of};
 ghost use Rattle.answering.specs.Statuses.{code_of};
 ghost use Rattle.libdesk.specs.Answers.{AnswersCall, TellsCall};
-ghost use Rattle.libdesk.specs.Asked.{AskedSays, SaysWorstAsked};
+ghost use Rattle.libdesk.specs.Asked.{AskedSays, SaysChainAsked, SaysWayAsked, SaysWorstAsked};
 ghost use Rattle.libdesk.specs.Numbers.{command_of};
 
 use crate::asked::{Asked, answer};
@@ -120,6 +120,22 @@ pub extern "C" fn desk_worst(
         room.old room.new result status.new }
 {
     answer(alloc, Asked::Worst(set, task), room, status)
+}
+
+/// What `desk worst` prints of a task set with `--chain` and the name of a chain; without a name as `desk_worst`.
+#[unsafe(no_mangle)]
+pub extern "C" fn desk_worst_chain(
+    alloc: Global,
+    set: &[u8],
+    chain: &[u8],
+    room: &mut [u8],
+    status: &mut u8,
+) -> usize
+    ensures room { length room.new ≡ length room.old }
+    ensures answer { AnswersCall (SaysChainAsked set.now chain.now)
+        room.old room.new result status.new }
+{
+    answer(alloc, Asked::WorstChain(set, chain), room, status)
 }
 
 /// What `desk check` prints of a task set and a certificate.
@@ -232,6 +248,23 @@ pub extern "C" fn desk_draw_beside(
         room,
         status,
     )
+}
+
+/// What `desk draw` with `--chain` prints of a task set, and of a release list and the name of a chain in one text: the list, a
+/// byte 0, and the name; without a name as `desk_draw`.
+#[unsafe(no_mangle)]
+pub extern "C" fn desk_draw_chain(
+    alloc: Global,
+    set: &[u8],
+    both: &[u8],
+    room: &mut [u8],
+    status: &mut u8,
+) -> usize
+    ensures room { length room.new ≡ length room.old }
+    ensures answer { AnswersCall (SaysWayAsked set.now both.now)
+        room.old room.new result status.new }
+{
+    answer(alloc, Asked::DrawChain(set, both), room, status)
 }
 
 /// What `desk observe` prints of a task set and a trace, with no tolerance, and where each task is to have a job.

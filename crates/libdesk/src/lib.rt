@@ -5,5 +5,3 @@ mod asked;
 mod exports;
 mod hand_out;
 mod tell;
-#[cfg(test)]
-mod tests;

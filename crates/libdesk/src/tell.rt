@@ -4,13 +4,14 @@ ghost use Rattle.libdesk.specs.Answers.{TellsCall};
 ghost use Rattle.libdesk.specs.Asked.{AskedSays};
 ghost use Rattle.libdesk.specs.Numbers.{command_of};
 
-use crate::asked::{Asked, run, task_word};
+use crate::asked::{Asked, chain_options, name_word, run};
 use crate::hand_out::hand_out;
 use advice::Advice;
 use command_line::{Call, Input, Named, OfNumber, OfOne, OfTwo, Options};
 use std::alloc::Global;
 use std::cell::Cell;
 use streams::Watched;
+use two_input_commands::parts_of;
 
 // What the first input of a command of one is called in include/desk.h.
 fn name_of_one(command: OfOne) -> &'static str {
@@ -67,9 +68,23 @@ fn call_of<'a>(asked: Asked<'a>) -> Call<'a> {
             command: OfOne::Worst,
             input: file("set"),
             options: Options {
-                task: task_word(task),
+                task: name_word(task),
                 ..options
             },
+        },
+        Asked::WorstChain(_, chain) => Call::One {
+            command: OfOne::Worst,
+            input: file("set"),
+            options: Options {
+                chain: name_word(chain),
+                ..options
+            },
+        },
+        Asked::DrawChain(_, both) => Call::Two {
+            command: OfTwo::Draw,
+            first: file("set"),
+            second: file("releases"),
+            options: chain_options(parts_of(both).1),
         },
         Asked::Releases(_, until) => Call::Number {
             command: OfNumber::Releases,
@@ -105,6 +120,8 @@ pub(crate) fn command_of<'a>(
         13 => Asked::Two(OfTwo::Observe, first, second),
         14 => Asked::Worst(first, second),
         15 => Asked::Two(OfTwo::DrawBeside, first, second),
+        16 => Asked::WorstChain(first, second),
+        17 => Asked::DrawChain(first, second),
         _ => return None,
     })
 }

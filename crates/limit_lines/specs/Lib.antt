@@ -1,3 +1,4 @@
 pub mod LimitLines
 pub mod Locks
 pub mod Common
+pub mod ChainReaches

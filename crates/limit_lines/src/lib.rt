@@ -2,11 +2,13 @@
 //! the node takes and of the locks, and the factor on all execution.
 #![tactic(auto)]
 
+mod chained;
 mod common;
 mod given;
 mod locks;
 mod text;
 
+pub use crate::chained::{chain_text, chains_task_text, chains_text};
 pub use crate::common::common_text;
 pub use crate::given::{order_given, places_given};
 pub use crate::text::{last_text, task_text};

@@ -18,7 +18,7 @@ use std::alloc::{AllocError, Global};
 use task_sheet::{INTERRUPT_FROM, PERIOD_FROM, Sheet, TaskSet};
 
 // The length of the section at a place of a task, with those behind it that move along.
-fn len_at(owners: &[Owner], sheet: &Sheet, place: usize) -> Number
+pub(crate) fn len_at(owners: &[Owner], sheet: &Sheet, place: usize) -> Number
     requires valid { IsValidSheet sheet.now }
     requires place { place < length sheet.now.sections }
     ensures same { result ≡ len_at owners.now sheet.now place }
@@ -46,7 +46,7 @@ fn number_at(owners: &[Owner], sheet: &Sheet, place: usize) -> Number
 }
 
 // What a line calls a number.
-fn push_label(text: &mut String, number: Number) -> Result<(), AllocError>
+pub(crate) fn push_label(text: &mut String, number: Number) -> Result<(), AllocError>
     requires { (place along : ℕ) → number ≡ Number.Len place along → place < SECTION_LIMIT }
     ensures { OnOk result (string_bytes text.new ≡ string_bytes text.old ++ label_of number) }
 {
@@ -65,7 +65,7 @@ fn push_label(text: &mut String, number: Number) -> Result<(), AllocError>
 }
 
 // What of a number of a task is the node's, in microseconds.
-fn node_part(sheet: &Sheet, number: Number) -> u64
+pub(crate) fn node_part(sheet: &Sheet, number: Number) -> u64
     requires valid { IsValidSheet sheet.now }
     requires has { HasNumber sheet.now number }
     ensures { result ≡ node_part number sheet.now }
@@ -94,7 +94,7 @@ fn less_of(part: u64, number: Option<u64>) -> Option<u64>
 }
 
 // Whether a value leaves a number of the task's own, where this is the node's.
-fn leaves_own(number: Number, part: u64, value: u64) -> bool
+pub(crate) fn leaves_own(number: Number, part: u64, value: u64) -> bool
     ensures { result ≡ leaves_own number part value }
 {
     match number {

@@ -68,7 +68,7 @@ module _ (V U : List Task) (easy : AreEasier V U) where
   limit-easier i = limit-near V U near i
 
   module _ (valid : AllTasks U) where
-    releases-easier : (k t : ℕ) → k < length U
+    pub releases-easier : (k t : ℕ) → k < length U
         → releases_within (task_at V k) t ≤ releases_within (task_at U k) t
     releases-easier k t lt =
         let e = easy.each k in
@@ -83,11 +83,11 @@ module _ (V U : List Task) (easy : AreEasier V U) where
               (task_at U k).period (omega (arith, e.jitter)),
         )
 
-    interference-easier : (k t : ℕ) → k < length U
+    pub interference-easier : (k t : ℕ) → k < length U
         → interference_of (task_at V k) t ≤ interference_of (task_at U k) t
     interference-easier k t lt = mul-le-mul (releases-easier k t lt) (easy.each k).cost
 
-    interrupts-easier : (t : ℕ) → interrupts_within V t ≤ interrupts_within U t
+    pub interrupts-easier : (t : ℕ) → interrupts_within V t ≤ interrupts_within U t
     interrupts-easier t =
         interrupts-less V U t easy.count (λ k lt.
         let e = easy.each k in

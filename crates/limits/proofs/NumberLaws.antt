@@ -175,6 +175,24 @@ pub furthest-one : (P : List Task → Type 0) (U : List Task) (i : ℕ) (number 
 furthest-one P U i number first second f s = same-far number first second
     (s.furthest first f.may f.feasible) (f.furthest second s.may s.feasible)
 
+-- the last distance from the easiest value with which it is feasible is that of the furthest
+pub last-of : (P : List Task → Type 0) (U : List Task) (i : ℕ) (number : Number) (easiest long : ℕ)
+    → IsSpan (task_at U i) number easiest long → (far : ℕ) → far ≤ long
+    → P (numbered U i number (at_distance number easiest far))
+    → ((more : ℕ) → far < more → more ≤ long
+    → ¬ P (numbered U i number (at_distance number easiest more)))
+    → IsFurthestFor P U i number (at_distance number easiest far)
+last-of P U i number easiest long span far within here fails = record {
+  may = span.may far within;
+  feasible = here;
+  furthest = λ other may feasible.
+      let there = span.all other may in
+      elim (cases_lt far there.0) [
+        | inl lt ↦ absurd (fails there.0 lt there.1 (rw there.2 at feasible))
+        | inr le ↦ rw there.2 (span.rises there.0 far le)
+      ];
+}
+
 module _ (P : List Task → Type 0) (eased : (V U : List Task) → AreEasier V U → AllTasks U → P U
     → P V)
     (U : List Task) (i : ℕ) (number : Number) (set : IsTaskSet U) (inside : i < length U) where
@@ -224,16 +242,7 @@ module _ (P : List Task → Type 0) (eased : (V U : List Task) → AreEasier V U
     pub last-passing : (far : ℕ) → far ≤ long → passes far
         → ((more : ℕ) → far < more → more ≤ long → ¬ passes more)
         → IsFurthestFor P U i number (at_distance number easiest far)
-    last-passing far within here fails = record {
-      may = span.may far within;
-      feasible = here;
-      furthest = λ other may feasible.
-          let there = span.all other may in
-          elim (cases_lt far there.0) [
-            | inl lt ↦ absurd (fails there.0 lt there.1 (rw there.2 at feasible))
-            | inr le ↦ rw there.2 (span.rises there.0 far le)
-          ];
-    }
+    last-passing = last-of P U i number easiest long span
 
 pub in_order-within : (U : List Task) (order : List ℕ) (i : ℕ) (number : Number) (most any : ℕ)
     → IsFurthestIn U order i number most → IsFurthest U i number any

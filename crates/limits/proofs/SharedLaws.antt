@@ -143,8 +143,3 @@ within-shared Release node value is le =
     record { job = is.job; lock = is.lock; late = is.late; release = le }
 within-shared Late node value is le =
     record { job = is.job; lock = is.lock; late = le; release = is.release }
-
--- the furthest is not past the greatest of all
-pub furthest-within : (W : List Task) (node : Node) (number : Shared) (order : Option (List ℕ))
-    (value : ℕ) → IsFurthestShared W node number order value → value ≤ most_shared number
-furthest-within W node number order value is = (said-within number node value is.may.said).1

@@ -14,7 +14,7 @@ use Rattle.limits.specs.declared.number.Number.TheVariants.{Cost, Period, Deadli
 use Rattle.limits.specs.declared.number.Number.TheVariants.{InterruptCost, InterruptPeriod}
 use Rattle.limits.specs.Numbers.{numbered, KeepsSections}
 
-same-placed : {R : Type 0} (of : Task → R) (x : Task) (U : List Task) (i : ℕ)
+pub same-placed : {R : Type 0} (of : Task → R) (x : Task) (U : List Task) (i : ℕ)
     → of x ≡ of (task_at U i) → (k : ℕ) → of (task_at (slice_set U i x) k) ≡ of (task_at U k)
 same-placed of x [] i same k = refl
 same-placed of x (y ∷ ys) zero same zero = same

@@ -9,7 +9,7 @@ ghost use Rattle.task_sheet.specs.Orders.{IsOrder};
 ghost use Rattle.limits.specs.Shared.{PassesIn};
 ghost use Rattle.limits.specs.Cuts.{AnswersMostOn, Following, cut, cut_len, cut_sections, cut_task, len_on, longest_in, longest_on, none_follows};
 
-use crate::numbered::with_parts;
+use crate::other_values::with_parts;
 use crate::shared::passes_in;
 use ceilings::{LockTable, Tabled};
 use other_numbers::times_of;

@@ -7,7 +7,7 @@ ghost use Rattle.limits.specs.Numbers.{HasNumber, IsSpan, MayHave, at_distance, 
 ghost use Rattle.limits.specs.InOrder.{AnswersFurthestIn, IsFurthestIn};
 
 use crate::number::Number;
-use crate::numbered::{keeps_sections, numbered};
+use crate::other_values::{keeps_sections, numbered};
 use crate::spans::{Span, at_distance, span_in};
 use assignment::least_over;
 use ceilings::{LockTable, Tabled};

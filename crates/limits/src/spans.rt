@@ -10,9 +10,9 @@ use ceilings::Tabled;
 use other_numbers::last_end;
 use task_sheet::{INTERRUPT_FROM, PERIOD_FROM, PERIOD_TO, Section, Sheet};
 
-/// The values from the easiest on.
+/// The values that a number may have, from the easiest on.
 #[derive(Clone, Copy)]
-pub(crate) struct Span {
+pub struct Span {
     /// The easiest value.
     pub easiest: u64,
     /// How many there are beyond it.
@@ -20,7 +20,7 @@ pub(crate) struct Span {
 }
 
 /// The value that is so far from the easiest one.
-pub(crate) fn at_distance(number: Number, easiest: u64, far: u64) -> u64
+pub fn at_distance(number: Number, easiest: u64, far: u64) -> u64
     requires fits { easiest + far < 18446744073709551616 }
     ensures { result ≡ at_distance number easiest far }
 {
@@ -152,7 +152,7 @@ fn span_of(sheet: &Sheet, number: Number) -> Span
 }
 
 /// Which values a number of a task of a set may have.
-pub(crate) fn span_in(set: &Tabled<'_>, task: usize, number: Number) -> Span
+pub fn span_in(set: &Tabled<'_>, task: usize, number: Number) -> Span
     requires task { task < length set.now }
     requires has { HasNumber (task_at set.now task) number }
     ensures span { IsSpan (task_at set.now task) number result.easiest result.length }

@@ -2,7 +2,7 @@
 use Rattle.std.proofs.Common.{◌≡◌, ◌∙◌, ◌+◌, ◌-◌, ◌*◌, ◌/◌, ◌%◌, ◌<◌, ◌≤◌, ℕ, zero, suc, inl, inr, List, [], ◌∷◌}
 use Rattle.std.proofs.Common.{◌++◌, length, drop, get_or, ap, refl, sym, subst, arith}
 use Rattle.std.proofs.Math.Nat.{mul-le-mul_left, mul-le-mul_right}
-use Rattle.std.proofs.lemmas.Nat.{div-add-mod'}
+use Rattle.std.proofs.lemmas.Nat.{div-add-mod', mod_below}
 use Rattle.std.proofs.lemmas.Bool.{cases_order}
 use Rattle.std.proofs.lemmas.List.{drop_more}
 use Rattle.std.proofs.lemmas.List.Elements.{All-append, All-cons, All-head, All-nil, All-tail}
@@ -72,6 +72,12 @@ pub bottom_carried : (d : Digit) (p carry : ℕ) → IsDigit d → p ≤ 1000000
 bottom_carried d p carry digit less small =
     let one : d.bottom * p ≤ d.bottom * 10000000 = mul-le-mul_left d.bottom less in
     omega (arith, one, digit.bottom)
+
+-- what the digits are multiplied by fits
+pub part_fits : (x p : ℕ) → x < 4294967296 → p ≤ 10000000 → x * p ≤ 42949672960000000
+part_fits x p digit less =
+    let one : x * p ≤ x * 10000000 = mul-le-mul_left x less in
+    omega (arith, one, digit)
 
 pub low_digit : (t s : ℕ) → IsDigit (record { top = t % 4294967296; bottom = s % 4294967296 })
 low_digit t s = record { top = omega arith; bottom = omega arith }
@@ -202,6 +208,21 @@ share_small p cost parts some short few =
     let more : cost * parts / p * 1 ≤ cost * parts / p * p = mul-le-mul_left (cost * parts / p) some in
     let one : cost * parts ≤ cost * 1000000 = mul-le-mul_left cost few in
     omega (arith, split, more, one, short)
+
+pub times_fit : (cost parts : ℕ) → cost ≤ 10000000 → parts ≤ 1000000 → cost * parts ≤ 10000000000000
+times_fit cost parts short few =
+    let one : cost * parts ≤ cost * 1000000 = mul-le-mul_left cost few in
+    omega (arith, one, short)
+
+pub rest_fits : (p cost parts : ℕ) → 1 ≤ p → p ≤ 10000000 → cost * parts % p ≤ 10000000
+rest_fits p cost parts some short =
+    let less : cost * parts % p < p = mod_below (cost * parts) p some in
+    omega (arith, less)
+
+pub short_whole : (i t b : ℕ) → t ≤ i * b → i ≤ 1000 → t ≤ 1000 * b
+short_whole i t b short few =
+    let more : i * b ≤ 1000 * b = mul-le-mul_right b few in
+    omega (arith, more)
 
 pub bottom_more : (b p rest periods : ℕ) → b * (p * rest) ≡ periods → b * p * rest ≡ periods
 bottom_more b p rest periods is = omega arith

@@ -24,15 +24,6 @@ position_is p xs i d lt before here =
     let small : nat_lt i (length xs) ≡ true = lt-ltb i (length xs) lt in
     rw (at, small) refl
 
-pub position_none : {X : Type 0} (p : X → Bool) (xs : List X) (d : X)
-    → ((k : ℕ) → k < length xs → p (get_or xs k d) ≡ false) → position p xs ≡ None
-position_none p xs d before =
-    let at = position_or_len_is p xs (length xs) d (omega arith) before
-    (λ lt. absurd (omega (arith, lt))) in
-    let large : nat_lt (length xs) (length xs) ≡ false =
-    le-ltb (length xs) (length xs) (omega arith) in
-    rw (at, large) refl
-
 -- stands past the end of a list of jobs
 abbrev pub no_job : TraceJob
 no_job = record { line = 0; name = []; arrival = 0; finish = None; ready = None }
@@ -243,16 +234,6 @@ swept_kept jobs time live kept next swept is =
       order = swept.order;
       alike = λ slice le lasts. ap (λ (xs : List Standing). place_in slice (xs ++ rest)) is
           ∙ (keep_alike time live rest slice le lasts ∙ swept.alike slice le lasts);
-    }
-
--- later
-pub swept_later : (jobs : List TraceJob) (a b : ℕ) (live : List Standing) (next : ℕ) → a ≤ b
-    → IsSwept jobs a live next → IsSwept jobs b live next
-swept_later jobs a b live next le swept =
-    record {
-      within = swept.within;
-      order = swept.order;
-      alike = λ slice at lasts. swept.alike slice (omega (arith, le, at)) lasts;
     }
 
 -- ---- the last job of a name

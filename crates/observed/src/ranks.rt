@@ -42,12 +42,10 @@ fn is_ceiling_in(set: &Tabled<'_>, promises: &[Promise], number: u64, section: &
     requires { All (λ p. p.task < length set.now) promises.now }
     ensures { result ≡ is_ceiling_in set.now promises.now number section.now }
 {
-    for lock in &section.locks {
-        if ceiling_in(set, promises, *lock) == number {
-            return true;
-        }
-    }
-    false
+    section
+        .locks
+        .iter()
+        .any(|lock| ceiling_in(set, promises, *lock) == number)
 }
 
 // It is that of a lock of one of these sections.
@@ -55,12 +53,9 @@ fn is_ceiling_of(set: &Tabled<'_>, promises: &[Promise], number: u64, sections: 
     requires { All (λ p. p.task < length set.now) promises.now }
     ensures { result ≡ list_any (λ s. is_ceiling_in set.now promises.now number s) sections.now }
 {
-    for section in sections {
-        if is_ceiling_in(set, promises, number, section) {
-            return true;
-        }
-    }
-    false
+    sections
+        .iter()
+        .any(|section| is_ceiling_in(set, promises, number, section))
 }
 
 // It is that of a lock of one of the task's sections.

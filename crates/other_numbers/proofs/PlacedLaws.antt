@@ -5,6 +5,7 @@ use Rattle.std.specs.List.{AllByRecursion}
 use Rattle.std.specs.List.Sorted.{IsStrictlySortedBy}
 use Rattle.std.proofs.lemmas.Bool.{cases_eq}
 use Rattle.std.proofs.lemmas.List.{length-set, get_or_default}
+use Rattle.std.proofs.lemmas.List.Elements.{All-set}
 use Rattle.task_sheet.proofs.Common.{Task, IsValidSheet, AllTasks, no_task, task_at, rank_cmp}
 use Rattle.task_sheet.proofs.Common.{IsByRank, same_name, AreDistinct, IsTaskSet, sheets_fault}
 use Rattle.task_sheet.proofs.SetLaws.{IsByRank-is, no_fault}
@@ -66,6 +67,16 @@ no_fault-placed : (U : List Task) (i : ℕ) (x : Task) → IsNamesake x (task_at
 no_fault-placed U i x same valid =
     no_fault (slice_set U i x) (distinct-placed U i x same valid.distinct)
     (omega (arith, valid.few, length-set U i x))
+
+-- with a valid sheet it is a set
+pub IsTaskSet-placed : (U : List Task) (i : ℕ) (x : Task) → IsNamesake x (task_at U i) → IsTaskSet U
+    → IsValidSheet x → IsTaskSet (slice_set U i x)
+IsTaskSet-placed U i x same set valid = record {
+  valid = All-set IsValidSheet U i x valid set.valid;
+  ranked = ranked-placed U i x same set.ranked;
+  distinct = distinct-placed U i x same set.distinct;
+  few = omega (arith, set.few, length-set U i x);
+}
 
 -- ---- sheets that are those of a set, with one that was read and made another
 module _ (U sheets read : List Task) (i : ℕ) (made old : Task) (other : Task → Task)

@@ -1,5 +1,6 @@
 pub mod OwnerLaws
 pub mod FollowerLaws
+pub mod AccountLaws
 pub mod PartLaws
 pub mod PlaceLaws
 pub mod StableSort

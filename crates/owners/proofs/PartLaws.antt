@@ -6,7 +6,8 @@ use Rattle.std.proofs.lemmas.List.{append-nil}
 use Rattle.std.proofs.lemmas.List.Sorted.{IsPermutation-append_right, IsPermutation-filter_both}
 use Rattle.std.proofs.lemmas.List.Sorted.{IsPermutation-refl, IsPermutation-trans}
 use Rattle.task_sheet.specs.Sheet.{Task}
-use Rattle.owners.specs.Parts.{all_of, has_task, parts_by}
+use Rattle.owners.specs.Owners.{has_task}
+use Rattle.owners.specs.Parts.{all_of, parts_by}
 use Rattle.owners.specs.declared.owner.Owner.{Owner}
 
 pub whole : (owners : List Owner) (teams : List (List ℕ)) (U : List Task)

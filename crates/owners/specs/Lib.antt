@@ -1,5 +1,6 @@
 pub mod Followers
 pub mod Owners
+pub mod Accounts
 pub mod NamedLines
 pub mod Slack
 pub mod Sorting

@@ -50,6 +50,10 @@ abbrev pub is_team : List ℕ → Option (List ℕ) → Bool
 is_team team None = false
 is_team team (Some said) = same_bytes said team
 
+-- a team has a task
+abbrev pub has_task : List Owner → (team : List ℕ) → Task → Bool
+has_task owners team t = is_team team (team_of owners t.name)
+
 -- the interrupt at a place is of this team
 abbrev pub is_interrupt_of : List Owner → (team : List ℕ) → ℕ → Bool
 is_interrupt_of owners team place = is_team team (interrupt_team owners place)

@@ -2,7 +2,8 @@
 use Rattle.std.specs.Prelude.{ℕ, Bool, not, List, [], ◌∷◌, ◌++◌, if◌then◌else◌}
 use Rattle.std.specs.List.{filter, list_any}
 use Rattle.task_sheet.specs.Sheet.{Task, same_bytes}
-use Rattle.owners.specs.Owners.{is_team, team_of}
+use Rattle.owners.specs.Accounts.{accounted}
+use Rattle.owners.specs.Owners.{has_task}
 use Rattle.owners.specs.declared.owner.Owner.{Owner}
 use Rattle.owners.specs.declared.owner.Owner.TheVariants.{Task as OwnedTask, Interrupt as OwnedInterrupt, Follower}
 
@@ -21,10 +22,6 @@ abbrev pub teams_from : (teams : List (List ℕ)) → List Owner → List (List 
 teams_from teams [] = teams
 teams_from teams (o ∷ owners) = teams_from (with_owner teams o) owners
 
--- a team has a task
-abbrev pub has_task : List Owner → (team : List ℕ) → Task → Bool
-has_task owners team t = is_team team (team_of owners t.name)
-
 -- the tasks of each team; and those that none of them has, where there are some
 abbrev pub parts_by : List Owner → (teams : List (List ℕ)) → List Task → List (List Task)
 parts_by owners [] [] = []
@@ -33,9 +30,9 @@ parts_by owners (team ∷ teams) U =
     filter (has_task owners team) U
     ∷ parts_by owners teams (filter (λ t. not (has_task owners team t)) U)
 
--- the parts of a set: of each team that has tasks its own, in the order of the documents
+-- the parts of a set: of each team that has tasks its own, with its interrupts, in the order of the documents
 abbrev pub parts_of : List Owner → List Task → List (List Task)
-parts_of owners U = parts_by owners (teams_from [] owners) U
+parts_of owners U = parts_by owners (teams_from [] owners) (accounted owners U)
 
 -- the tasks of parts
 abbrev pub all_of : List (List Task) → List Task

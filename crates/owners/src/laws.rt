@@ -3,6 +3,7 @@ ghost use Rattle.std.specs.Prelude.{◌≡◌, ℕ, List, Some};
 ghost use Rattle.std.specs.List.Sorted.{IsPermutation};
 ghost use Rattle.task_sheet.specs.Sheet.{Task};
 ghost use Rattle.owners.specs.Owners.{interrupt_of};
+ghost use Rattle.owners.specs.Accounts.{AccountsKeepTime, accounted};
 ghost use Rattle.owners.specs.Parts.{all_of, parts_of};
 ghost use Rattle.owners.specs.Slack.{by_slack};
 ghost use Rattle.owners.specs.Sorting.{IsSortedBySlack};
@@ -14,9 +15,15 @@ pub fn interrupts_are_told_apart()
         → interrupt_of owners b ≡ Some own → a ≡ b }
 {}
 
-/// Whoever has them, the parts of a set together are the set, each task once.
+/// Whoever has them, the parts of a set together are the set, each task once, but for whose account interrupts are on.
 pub fn parts_are_the_set()
-    ensures { (owners : List Owner) (U : List Task) → IsPermutation U (all_of (parts_of owners U)) }
+    ensures { (owners : List Owner) (U : List Task)
+        → IsPermutation (accounted owners U) (all_of (parts_of owners U)) }
+{}
+
+/// Whose account interrupts are on changes nothing of what they take in any window.
+pub fn accounts_keep_time()
+    ensures { AccountsKeepTime }
 {}
 
 /// Sorting by slack gives the stable sort of the lines by where they stand: it loses none and doubles none.

@@ -2,6 +2,7 @@
 //! beside a task, and the set's parts by teams.
 #![tactic(auto)]
 
+mod accounts;
 mod followers;
 pub mod laws;
 mod naming;

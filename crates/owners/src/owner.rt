@@ -51,8 +51,8 @@ pub(crate) fn team_of(owners: &[Owner], name: &[u8]) -> Option<Name>
     None
 }
 
-// Whose the interrupt at a place among all is, from 0.
-fn interrupt_team(owners: &[Owner], place: usize) -> Option<Name>
+/// Whose the interrupt at a place among all is, from 0.
+pub(crate) fn interrupt_team(owners: &[Owner], place: usize) -> Option<Name>
     ensures { result ≡ interrupt_team owners.now place }
 {
     let mut left = place;

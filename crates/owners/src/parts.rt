@@ -1,8 +1,10 @@
 //! A set's tasks by their teams.
 ghost use Rattle.std.specs.Prelude.{◌≡◌, IfOk, OnOk, map, not, []};
 ghost use Rattle.std.specs.List.{filter};
-ghost use Rattle.owners.specs.Parts.{has_task, is_among, parts_by, parts_of, teams_from, with_owner};
+ghost use Rattle.owners.specs.Owners.{has_task};
+ghost use Rattle.owners.specs.Parts.{is_among, parts_by, parts_of, teams_from, with_owner};
 
+use crate::accounts::accounted;
 use crate::owner::{Owner, team_of};
 use std::alloc::{AllocError, Global};
 use task_sheet::{Name, Sheet};
@@ -37,8 +39,8 @@ fn teams_of(alloc: Global, owners: &[Owner]) -> Result<Vec<Name>, AllocError>
     Ok(teams)
 }
 
-// Whether a team has a task.
-fn has_task(owners: &[Owner], team: Name, sheet: &Sheet) -> bool
+/// Whether a team has a task.
+pub(crate) fn has_task(owners: &[Owner], team: Name, sheet: &Sheet) -> bool
     ensures { result ≡ has_task owners.now team sheet.now }
 {
     match team_of(owners, sheet.name().bytes()) {
@@ -117,8 +119,9 @@ fn parts_by(
     Ok(parts)
 }
 
-/// The parts of a set: of each team that has tasks its own, by rank, in the order of the documents; where no team is named,
-/// as in a text of one document, all in one. The error is out of memory.
+/// The parts of a set: of each team that has tasks its own, by rank, in the order of the documents, with the interrupts that it
+/// says on the account of the first; where no team is named, as in a text of one document, all in one. The error is out of
+/// memory.
 pub fn parts_of(
     alloc: Global,
     owners: &[Owner],
@@ -128,5 +131,5 @@ pub fn parts_of(
         ≡ parts_of owners.now sheets.now) }
 {
     let teams = teams_of(alloc, owners)?;
-    parts_by(alloc, owners, &teams, sheets)
+    parts_by(alloc, owners, &teams, &accounted(alloc, owners, sheets)?)
 }

@@ -8,6 +8,8 @@ use Rattle.task_sheet.specs.Demand.{limit_of, greatest_of}
 use Rattle.task_sheet.specs.Orders.{IsPassingOrder}
 use Rattle.task_sheet.specs.declared.prefer.Preference.{Preference}
 use Rattle.task_sheet.specs.declared.prefer.Preference.TheVariants.{Weights, Deadline, Chains}
+use Rattle.chains.specs.declared.bounds.Writes.{Writes}
+use Rattle.chains.specs.declared.bounds.Writes.TheVariants.{AtFinish, AtDeadline}
 use Rattle.chain_tables.specs.Tables.{WrittenData}
 
 -- the tasks of a set, their weights replaced
@@ -37,9 +39,14 @@ abbrev pub tasks_from : List (List ℕ) → Option ℕ → ℕ
 tasks_from names None = 0
 tasks_from names (Some k) = length names - k
 
--- the place of a task from the end of a chain: 1 of the last; 0 of a task that the chain doesn't have
+-- the place of a task from the end of a chain: 1 of the last; 0 of a task that the chain doesn't have, and of all where its
+-- tasks write at their deadlines, since its bound is the same in each order then
+abbrev pub place_by : Writes → List ℕ → List (List ℕ) → ℕ
+place_by AtFinish name names = tasks_from names (position (λ n. same_bytes n name) names)
+place_by AtDeadline name names = 0
+
 abbrev pub place_in : List ℕ → WrittenData → ℕ
-place_in name w = tasks_from w.tasks (position (λ n. same_bytes n name) w.tasks)
+place_in name w = place_by w.writes name w.tasks
 
 -- its greatest place from the end of a chain; 0 where it is in none
 abbrev pub place_of : List WrittenData → Task → ℕ

@@ -4,11 +4,12 @@ ghost use Rattle.task_sheet.specs.declared.set.TheConstants.{TASK_LIMIT};
 ghost use Rattle.task_sheet.specs.declared.sheet.TheConstants.{WEIGHT_LIMIT};
 ghost use Rattle.task_sheet.specs.Rank.{IsByRank};
 ghost use Rattle.task_sheet.specs.Sheet.{same_bytes, weighing};
-ghost use Rattle.preferences.specs.Preferences.{longer_limits, tasks_from, place_in, place_of, is_behind, lower_tasks, weighed, weight_by, IsPreferred};
+ghost use Rattle.preferences.specs.Preferences.{longer_limits, tasks_from, place_by, place_in, place_of, is_behind, lower_tasks, weighed, weight_by, IsPreferred};
 ghost use Rattle.preferences.specs.ReadsPreferred.{AreChainsFor, ReadsPreferred};
 
 use crate::choice::Choice;
 use chain_tables::{ChainFault, Written, read_written};
+use chains::Writes;
 use std::alloc::{AllocError, AllocFailed, Global};
 use task_sheet::{Name, Preference, SetCause, Sheet, TaskSet};
 use teams::{TeamsFault, read_text};
@@ -47,11 +48,22 @@ fn tasks_from(names: &[Name], at: Option<usize>) -> u64
     }
 }
 
-// The place of a task from the end of a chain; 0 where the chain doesn't have it.
+// The place of a task from the end of a chain of these tasks; 0 where the chain doesn't have it, or its bound is the same in
+// each order.
+fn place_by(writes: Writes, name: Name, tasks: &[Name]) -> u64
+    ensures { result ≡ place_by writes name tasks.now }
+{
+    match writes {
+        Writes::AtFinish => tasks_from(tasks, position_in(name, tasks)),
+        Writes::AtDeadline => 0,
+    }
+}
+
+// The same of a chain.
 fn place_in(name: Name, chain: &Written) -> u64
     ensures { result ≡ place_in name chain.now }
 {
-    tasks_from(&chain.tasks, position_in(name, &chain.tasks))
+    place_by(chain.writes, name, &chain.tasks)
 }
 
 // Its greatest place from the end of a chain; 0 where it is in none.

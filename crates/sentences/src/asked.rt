@@ -1,12 +1,13 @@
-//! That what a call asks for isn't there: a task, or a part of a run.
+//! That what a call asks for isn't there: a task, a chain, or a part of a run.
 
 use crate::lists::{has_order, task_named, until_of};
 use crate::told::{Told, between};
+use chain_tables::Chain;
 use lines::name_of;
 use std::alloc::Global;
 use task_sheet::{Name, TaskSet};
 
-// The most tasks of a set that a sentence names.
+// The most tasks or chains of a set that a sentence names.
 const MOST_NAMED: usize = 8;
 
 // Whether a task of the set has the name that a word says.
@@ -41,7 +42,30 @@ pub fn of_task(alloc: Global, set: &TaskSet, word: &str) -> Option<String> {
     no_task(alloc, set, word)
 }
 
-/// The same of the first such name, of names with a comma between two.
+/// What a person is told where no chain of a set has the name that a word says; none where one has it, or memory is
+/// wanting.
+pub fn of_chain(alloc: Global, chains: &[Chain], word: &str) -> Option<String> {
+    let name = name_of(word.as_bytes());
+    if chains.iter().any(|chain| Some(chain.name) == name) {
+        return None;
+    }
+    let mut told = Told::new(alloc);
+    told.quoted("no chain is called ", word.as_bytes());
+    if chains.is_empty() {
+        told.words(": the set has none");
+        return told.whole();
+    }
+    told.words(": the set has");
+    for (i, chain) in chains.iter().take(MOST_NAMED).enumerate() {
+        told.name(between(i), chain.name);
+    }
+    if chains.len() > MOST_NAMED {
+        told.numbers(" and {} more", &[(chains.len() - MOST_NAMED) as u64]);
+    }
+    told.whole()
+}
+
+/// The same of the first such name of a task, of names with a comma between two.
 pub fn of_tasks(alloc: Global, set: &TaskSet, words: &str) -> Option<String> {
     for word in words.split(',') {
         if !has_task(set, word) {

@@ -3,7 +3,7 @@
 
 mod asked;
 mod causes;
-mod chains;
+mod chained;
 mod choices;
 mod conflicts;
 mod density;
@@ -27,8 +27,8 @@ mod traces;
 mod tree;
 mod values;
 
-pub use asked::{of_neither, of_task, of_tasks, of_window};
-pub use chains::of_chains;
+pub use asked::{of_chain, of_neither, of_task, of_tasks, of_window};
+pub use chained::of_chains;
 pub use choices::{put_names_decide, put_override, put_past_priorities};
 pub use conflicts::{put_conflict, put_parted};
 pub use density::{greatest_until, of_density};
@@ -39,8 +39,8 @@ pub use overload::put_overload;
 pub use puts::of_script;
 pub use records::{of_certificate, of_check};
 pub use runs::{
-    leaves_out, put_chains_left_out, put_left_out, put_one_overran, put_overran, put_unrun,
-    put_unrun_of, put_unseen,
+    leaves_out, put_chain_missed, put_chains_left_out, put_left_out, put_one_overran, put_overran,
+    put_unrun, put_unrun_of, put_unseen,
 };
 pub use shown::push_clean;
 pub use strangers::{put_empty, put_strange_threads, put_strangers};

@@ -14,7 +14,7 @@ pub fn of_certificate(alloc: Global, bytes: &[u8], fault: CertFault) -> Option<S
     let mut told = Told::new(alloc);
     match fault {
         CertFault::BadHead => {
-            told.words("line 1 has to be desk-certificate 1, 2 or 4");
+            told.words("line 1 has to be desk-certificate 1, 2, 4 or 5");
             told.quoted("; it is ", line_at(bytes, 1));
             tell_unseen(&mut told, bytes, 1);
         }
@@ -33,7 +33,7 @@ pub fn of_certificate(alloc: Global, bytes: &[u8], fault: CertFault) -> Option<S
 // What a certificate has behind its first line.
 const WANTED: &str =
     ": no such line may stand here; after the head come best N, for each level from 1 \
-    level K NAME NUMBER and lines fails NAME REASON, or none N and lines member NAME REASON, then end";
+    level K NAME NUMBER and lines fails NAME REASON, then, in version 5, lines chain NAME NUMBER, or none N and lines member NAME REASON, then end";
 
 /// What a person is told of what a certificate fails to show, with the set that it is of where that is at hand, and
 /// whether the call says by what the set is preferred; none where memory runs out.
@@ -47,7 +47,7 @@ pub fn of_check(
     let mut told = Told::new(alloc);
     match fault {
         CheckFault::WrongVersion => told.words(
-            "its version doesn't serve for this set: one with release of [node] or an interrupt needs 4, and no other takes it; else one with jitter, late of [node] or outranks needs 2",
+            "its version doesn't serve for this set: best of one with chains needs 5, and nothing else takes it; else one with release of [node] or an interrupt needs 4, and no other takes it; else one with jitter, late of [node] or outranks needs 2",
         ),
         CheckFault::WrongTasks { level } => tell_tasks(&mut told, level),
         CheckFault::BadPass { level } => tell_pass(&mut told, bytes, set, level),
@@ -60,6 +60,15 @@ pub fn of_check(
             );
         }
         CheckFault::EmptySet => told.words("none without members shows nothing"),
+        CheckFault::WrongChains => told.words(
+            "its lines chain have to name the set's chains, each once, as the documents say them",
+        ),
+        CheckFault::BadAge { name } => {
+            told.name("chain ", name);
+            told.words(
+                ": its number is below the sum of its periods, of what its tasks hand over and of the last one's response, by the numbers of the levels",
+            );
+        }
     }
     if !is_preferred && may_be_of_other(fault) {
         told.words(" (a certificate made with --prefer is checked with it)");

@@ -44,6 +44,11 @@ pub fn put_chains_left_out<W: Write + Drop>(out: &mut Watched<W>) -> Result<(), 
     out.write(b"note: a script has no chains: those of the set are left out\n")
 }
 
+/// Writes a note that a chain misses its limit in an order that is printed. It takes no memory.
+pub fn put_chain_missed<W: Write + Drop>(out: &mut Watched<W>) -> Result<(), WriteFailed> {
+    out.write(b"note: in this order a chain misses its limit: desk judge says which\n")
+}
+
 /// Writes a note that a run ends where a job of a task is ready and the one before it isn't finished. It takes no memory.
 pub fn put_overran<W: Write + Drop>(name: Name, out: &mut Watched<W>) -> Result<(), WriteFailed> {
     let pieces = [

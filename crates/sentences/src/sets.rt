@@ -233,6 +233,9 @@ fn tell_numbers(told: &mut Told, table: &Table) {
 
 // ---- kinds
 
+/// What a chain's table may say of when its tasks write.
+pub(crate) const WRITES_RULE: &str = "\"finish\" or \"deadline\"";
+
 // What a key's value has to be.
 fn kind_of(key: Key) -> &'static str {
     match key {
@@ -241,6 +244,7 @@ fn kind_of(key: Key) -> &'static str {
         Key::Interrupt => "an array of tables, each headed by [[interrupt]]",
         Key::Chain => "an array of tables, each headed by [[chain]]",
         Key::Name => "a string, in quotes",
+        Key::Writes => WRITES_RULE,
         Key::Prefer => "\"chains\", \"deadline\" or \"weight\"",
         Key::Node => "a table, headed by [node]",
         Key::Locks | Key::Tasks => "an array of strings, as [\"a\", \"b\"]",
@@ -255,9 +259,8 @@ fn kind_of(key: Key) -> &'static str {
         | Key::Job
         | Key::Lock
         | Key::Release
-        | Key::Late
-        | Key::Age
-        | Key::Reaction => "a whole number of microseconds from 0, without quotes",
+        | Key::Late => "a whole number of microseconds from 0, without quotes",
+        Key::Age | Key::Reaction => "a whole number of microseconds from 1, without quotes",
     }
 }
 

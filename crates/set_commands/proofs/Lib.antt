@@ -1,2 +1,3 @@
 pub mod ListedLimits
 pub mod ScriptLaws
+pub mod WorstChains

@@ -7,3 +7,4 @@ pub mod OneTask
 pub mod Releases
 pub mod Script
 pub mod Worst
+pub mod WorstChain

@@ -9,6 +9,7 @@ use Rattle.explain.specs.Explanations.{Explains}
 use Rattle.explain.specs.TaskLines.{task_lines}
 use Rattle.explain.specs.declared.explanation.Explanation.{Explanation}
 use Rattle.judge.specs.declared.explained.Parted.TheVariants.{Missed}
+use Rattle.chain_tables.specs.Chains.{ChainData}
 use Rattle.limit_lines.specs.LimitLines.{AreTaskLines, order_given, places_in}
 use Rattle.worst_lines.specs.WorstLines.{AreWorstLines}
 use Rattle.owners.specs.NamedLines.{named_lines}
@@ -17,10 +18,10 @@ use Rattle.owners.specs.declared.words.Naming.TheVariants as naming
 use Rattle.set_commands.specs.Admit.{OfOneSays, Places}
 use Rattle.answering.specs.Statuses.{placing_status}
 use Rattle.set_commands.specs.Explain.{AreDecided, SaysExplained}
-use Rattle.set_commands.specs.Limits.{SaysLimits}
+use Rattle.set_commands.specs.Limits.{ListsChainsOf, SaysLimits}
 use Rattle.answering.specs.OrderParts.{placing_first}
 use Rattle.answering.specs.Printed.{Prints}
-use Rattle.answering.specs.Owning.{HasOwned}
+use Rattle.answering.specs.Owning.{HasChained, HasOwned}
 use Rattle.set_commands.specs.Worst.{SaysWorst}
 use Rattle.set_commands.specs.declared.one_task.TaskPart.{TaskPart}
 use Rattle.set_commands.specs.declared.one_task.TaskPart.TheVariants.{Limits, Reasons, Worst}
@@ -29,21 +30,24 @@ use Rattle.answering.specs.declared.refusal.CommandRefusal.TheVariants as refusa
 use Rattle.answering.specs.declared.status.Status.{Status}
 use Rattle.answering.specs.Asked.{asked_task}
 
--- a text is what is said of a task of a placed set: how far its numbers may go, what explains its response, or that it has
--- none, or its worst case
-abbrev pub AreLinesOf : TaskPart → List Owner → List Task → Placing → ℕ → List ℕ → Type 0
-AreLinesOf Limits owners U placing task text =
-    AreTaskLines owners U (order_given placing) (places_in placing) task text
-AreLinesOf (Reasons all sorted) owners U placing task text =
+-- a text is what is said of a task of a placed set: how far its numbers may go, also with each chain met, what explains its
+-- response, or that it has none, or its worst case
+abbrev pub AreLinesOf : TaskPart → List Owner → List ChainData → List Task → Placing → ℕ → List ℕ → Type 0
+AreLinesOf Limits owners chains U placing task text =
+    (numbers : List ℕ) × (chained : List ℕ)
+    × AreTaskLines owners U (order_given placing) (places_in placing) task numbers
+    × ListsChainsOf owners chains U placing task chained × (text ≡ numbers ++ chained)
+AreLinesOf (Reasons all sorted) owners chains U placing task text =
     (explanation : Explanation) × (decided : List ℕ) × Explains U placing explanation
     × AreDecided Missed U (Some task) placing decided
     × (text ≡ named_lines naming.Reasons owners (task_lines U task explanation ++ decided))
-AreLinesOf Worst owners U placing task text = AreWorstLines U placing (Some task) text
+AreLinesOf Worst owners chains U placing task text = AreWorstLines U placing (Some task) text
 
--- a set, whose its tasks are, its placing, and what is said of a task
+-- a set, whose its tasks are, its chains, its placing, and what is said of a task
 pub record OfTaskData : Type 0 where
   pub set : List Task
   pub owners : List Owner
+  pub chains : List ChainData
   pub placing : Placing
   pub lines : List ℕ
 
@@ -51,9 +55,9 @@ pub record OfTaskData : Type 0 where
 abbrev pub AnswersOfTask : TaskPart → List ℕ → Asking → Option (List ℕ)
     → Result OfTaskData CommandRefusal → Type 0
 AnswersOfTask part word asking known (Ok d) =
-    HasOwned asking known d.set d.owners × IsPlacingOf d.set d.placing
+    HasOwned asking known d.set d.owners × HasChained known d.set d.chains × IsPlacingOf d.set d.placing
     × ((task : ℕ) × (asked_task d.set word ≡ Some task)
-    × AreLinesOf part d.owners d.set d.placing task d.lines)
+    × AreLinesOf part d.owners d.chains d.set d.placing task d.lines)
 AnswersOfTask part word asking known (Err (refusal.NoSuchTask name)) =
     (U : List Task) × (placing : Placing) × Places asking known (Ok (U, placing))
     × (asked_task U word ≡ None) × (name ≡ name_in word)

@@ -1,22 +1,26 @@
 //! `desk limits`.
-ghost use Rattle.std.specs.Prelude.{◌≡◌, ◌≢◌, ℕ, ◌<◌, ◌==◌, ◌&&◌, List, ◌++◌, length, Err, true, IfOk, OnOk, string_bytes};
+ghost use Rattle.std.specs.Prelude.{◌≡◌, ◌≢◌, ℕ, ◌<◌, ◌==◌, ◌&&◌, List, ◌≤◌, ◌++◌, length, Err, true, IfOk, OnOk, string_bytes};
 ghost use Rattle.std.specs.Io.KnownBytes.{Appends};
 ghost use Rattle.assignment.specs.Placings.{IsPlacingOf};
 ghost use Rattle.limit_lines.specs.LimitLines.{AreTaskLines, IsLast, order_given, order_in, places_in};
-ghost use Rattle.set_commands.specs.Limits.{AreEndLines, IsListing, ListsAll, ListsSome, SaysLimitsOf, alone_line};
+ghost use Rattle.limit_lines.specs.ChainReaches.{chain_at};
+ghost use Rattle.set_commands.specs.Chained.{IsPlaced, levels_of};
+ghost use Rattle.set_commands.specs.Limits.{AreEndLines, AreLinesOfChain, IsListing, ListsAll, ListsChains, ListsFirst, ListsNumbers, ListsSome, SaysLimitsOf, alone_line};
 ghost use Rattle.answering.specs.OrderParts.{placing_first};
 ghost use Rattle.streams.specs.Sending.{Sends};
 ghost use Rattle.answering.specs.Outcomes.{IsSaidOn};
 
+use crate::chained::Placed;
 use answering::{CommandRefusal, OrderPart, Status, placing_status, placing_text, refuse};
 use assignment::{Placing, tasks_of_places};
 use ceilings::{LockTable, Tabled};
-use limit_lines::{common_text, last_text, order_given, places_given, task_text};
+use chain_tables::Chain;
+use chains::Level;
+use limit_lines::{chain_text, common_text, last_text, order_given, places_given, task_text};
 use owners::Owner;
 use std::alloc::{AllocError, Global};
 use std::io::Write;
 use streams::{Held, Watched};
-use task_sheet::TaskSet;
 
 // What the lines of a placed set are made of, made before the first is printed.
 #[derive(Drop)]
@@ -25,6 +29,10 @@ struct Listing<'a> {
     placing: &'a Placing,
     // That of the placing, the lowest level first; nothing after a no.
     order: Vec<usize>,
+    // The levels of that order.
+    levels: &'a [Level],
+    // The chains of the set.
+    chains: &'a [Chain],
     // The first line.
     first: String,
     // Whose the tasks and interrupts are.
@@ -106,8 +114,8 @@ fn end_text(alloc: Global, listing: &Listing<'_>, is_silent: bool) -> Result<Str
     Ok(text)
 }
 
-// Puts the first line, the lines of each task as they are found, and the last ones.
-fn put_lines<W: Write + Drop>(
+// Puts the first line, the lines of each task as they are found, and those behind them.
+fn put_numbers<W: Write + Drop>(
     alloc: Global,
     listing: &Listing<'_>,
     held: &mut Held,
@@ -115,11 +123,11 @@ fn put_lines<W: Write + Drop>(
 ) -> Result<(), ListFault>
     requires { IsListing listing.now }
     ensures all { OnOk result ((text : List ℕ)
-        × ListsAll listing.now.owners.now listing.now.set listing.now.placing.now text
+        × ListsNumbers listing.now.owners.now listing.now.set listing.now.placing.now text
         × Sends (W.contents output.old.inner) held.old (W.contents output.new.inner) held.new
         (string_bytes listing.now.first ++ text)) }
     ensures some { result ≡ Err ListFault.OutOfMemory
-        → (text : List ℕ) × ListsSome listing.now.owners.now listing.now.set listing.now.placing.now text
+        → (text : List ℕ) × ListsFirst listing.now.owners.now listing.now.set listing.now.placing.now text
         × Sends (W.contents output.old.inner) held.old (W.contents output.new.inner) held.new
         (string_bytes listing.now.first ++ text) }
     ensures ok { result ≢ Err ListFault.WriteFailed
@@ -148,6 +156,87 @@ fn put_lines<W: Write + Drop>(
     }
 }
 
+// The lines of the chain at a place; nothing after a no.
+fn lines_of_chain(alloc: Global, listing: &Listing<'_>, place: usize) -> Result<String, AllocError>
+    requires listing { IsListing listing.now }
+    requires place { place < length listing.now.chains.now }
+    ensures { IfOk result (λ text. AreLinesOfChain listing.now.owners.now
+        (chain_at listing.now.chains.now place) listing.now.set listing.now.placing.now (string_bytes text)) }
+{
+    let chain = &listing.chains[place];
+    match listing.placing {
+        Placing::Best(_) => chain_text(
+            alloc,
+            listing.owners,
+            &listing.set,
+            &listing.order,
+            listing.levels,
+            chain,
+        ),
+        Placing::Stuck(_) => Ok(String::new(alloc)),
+    }
+}
+
+// Puts the lines of each chain as they are found.
+fn put_chains<W: Write + Drop>(
+    alloc: Global,
+    listing: &Listing<'_>,
+    held: &mut Held,
+    output: &mut Watched<W>,
+) -> Result<(), ListFault>
+    requires { IsListing listing.now }
+    ensures all { OnOk result ((text : List ℕ)
+        × ListsChains listing.now.owners.now listing.now.chains.now listing.now.set listing.now.placing.now
+        (length listing.now.chains.now) text
+        × Sends (W.contents output.old.inner) held.old (W.contents output.new.inner) held.new text) }
+    ensures some { result ≡ Err ListFault.OutOfMemory
+        → (text : List ℕ) × (count : ℕ) × (count ≤ length listing.now.chains.now)
+        × ListsChains listing.now.owners.now listing.now.chains.now listing.now.set listing.now.placing.now
+        count text
+        × Sends (W.contents output.old.inner) held.old (W.contents output.new.inner) held.new text }
+    ensures ok { result ≢ Err ListFault.WriteFailed
+        → output.new.has_failed ≡ output.old.has_failed }
+    ensures failed { result ≡ Err ListFault.WriteFailed → output.new.has_failed ≡ true }
+{
+    for place in 0..listing.chains.len() {
+        let Ok(text) = lines_of_chain(alloc, listing, place) else {
+            return Err(ListFault::OutOfMemory);
+        };
+        if held.put(text.as_bytes(), output).is_err() {
+            return Err(ListFault::WriteFailed);
+        }
+    }
+    Ok(())
+}
+
+// Puts the first line, and then all lines as they are found.
+fn put_lines<W: Write + Drop>(
+    alloc: Global,
+    listing: &Listing<'_>,
+    held: &mut Held,
+    output: &mut Watched<W>,
+) -> Result<(), ListFault>
+    requires { IsListing listing.now }
+    ensures all { OnOk result ((text : List ℕ)
+        × ListsAll listing.now.owners.now listing.now.chains.now listing.now.set listing.now.placing.now text
+        × Sends (W.contents output.old.inner) held.old (W.contents output.new.inner) held.new
+        (string_bytes listing.now.first ++ text)) }
+    ensures some { result ≡ Err ListFault.OutOfMemory
+        → (text : List ℕ)
+        × ListsSome listing.now.owners.now listing.now.chains.now listing.now.set listing.now.placing.now text
+        × Sends (W.contents output.old.inner) held.old (W.contents output.new.inner) held.new
+        (string_bytes listing.now.first ++ text) }
+    ensures ok { result ≢ Err ListFault.WriteFailed
+        → output.new.has_failed ≡ output.old.has_failed }
+    ensures failed { result ≡ Err ListFault.WriteFailed → output.new.has_failed ≡ true }
+{
+    let numbers = put_numbers(alloc, listing, held, output);
+    if numbers.is_err() {
+        return numbers;
+    }
+    put_chains(alloc, listing, held, output)
+}
+
 // Prints the lines through a buffer of 16,384 bytes, which takes no memory. What it holds is written before any answer
 // but that the writer failed.
 fn print_lines<W: Write + Drop>(
@@ -157,11 +246,11 @@ fn print_lines<W: Write + Drop>(
 ) -> Result<(), ListFault>
     requires { IsListing listing.now }
     ensures all { OnOk result ((text : List ℕ)
-        × ListsAll listing.now.owners.now listing.now.set listing.now.placing.now text
+        × ListsAll listing.now.owners.now listing.now.chains.now listing.now.set listing.now.placing.now text
         × Appends (W.contents output.old.inner) (W.contents output.new.inner)
         (string_bytes listing.now.first ++ text)) }
     ensures some { result ≡ Err ListFault.OutOfMemory
-        → (text : List ℕ) × ListsSome listing.now.owners.now listing.now.set listing.now.placing.now text
+        → (text : List ℕ) × ListsSome listing.now.owners.now listing.now.chains.now listing.now.set listing.now.placing.now text
         × Appends (W.contents output.old.inner) (W.contents output.new.inner)
         (string_bytes listing.now.first ++ text) }
     ensures ok { result ≢ Err ListFault.WriteFailed
@@ -182,49 +271,50 @@ fn print_lines<W: Write + Drop>(
 // What the lines of a placed set are made of.
 fn make_ready<'a>(
     alloc: Global,
-    owners: &'a [Owner],
+    placed: &'a Placed,
     set: Tabled<'a>,
-    placing: &'a Placing,
 ) -> Result<Listing<'a>, AllocError>
-    requires { IsPlacingOf set placing.now }
-    ensures owners { IfOk result (λ listing. listing.owners.now ≡ owners.now) }
-    ensures set { IfOk result (λ listing. listing.set ≡ set.entry) }
-    ensures placing { IfOk result (λ listing. listing.placing.now ≡ placing.now) }
-    ensures order { IfOk result (λ listing. listing.order.items ≡ order_in placing.now) }
+    requires placed { IsPlaced placed.now }
+    requires set { set ≡ placed.now.tasks }
+    ensures owners { IfOk result (λ listing. listing.owners.now ≡ placed.now.owners.items) }
+    ensures chains { IfOk result (λ listing. listing.chains.now ≡ placed.now.chains.items) }
+    ensures set { IfOk result (λ listing. listing.set ≡ placed.now.tasks) }
+    ensures placing { IfOk result (λ listing. listing.placing.now ≡ placed.now.placing) }
+    ensures listing { IfOk result IsListing }
     ensures first { IfOk result (λ listing. string_bytes listing.first
-        ≡ placing_first set.entry placing.now) }
+        ≡ placing_first placed.now.tasks placed.now.placing) }
 {
-    let order = order_of(alloc, placing)?;
-    let first = placing_text(alloc, OrderPart::Count, set.tasks(), placing)?;
+    let order = order_of(alloc, &placed.placing)?;
+    let first = placing_text(alloc, OrderPart::Count, set.tasks(), &placed.placing)?;
     Ok(Listing {
         set,
-        placing,
+        placing: &placed.placing,
         order,
+        levels: &placed.levels,
+        chains: &placed.chains,
         first,
-        owners,
+        owners: &placed.owners,
     })
 }
 
-// Prints the lines of a placing, or that memory ran out before the first.
+// Prints the lines of a set that was placed, or that memory ran out before the first.
 pub(crate) fn print_placing<W: Write + Drop>(
     alloc: Global,
-    owners: &[Owner],
-    set: &TaskSet,
-    placing: &Placing,
+    placed: &Placed,
     output: &mut Watched<W>,
 ) -> Status
-    requires { IsPlacingOf set.now placing.now }
-    ensures { IsSaidOn (SaysLimitsOf owners.now set.now placing.now)
-        W.contents output.old output.new result }
+    requires { IsPlaced placed.now }
+    ensures { IsSaidOn (SaysLimitsOf placed.now.owners.items placed.now.chains.items placed.now.tasks
+        placed.now.placing) W.contents output.old output.new result }
 {
-    let Ok(table) = LockTable::new(alloc, set) else {
+    let Ok(table) = LockTable::new(alloc, &placed.tasks) else {
         return refuse(CommandRefusal::OutOfMemory, output);
     };
-    let Ok(listing) = make_ready(alloc, owners, Tabled::of(set, &table), placing) else {
+    let Ok(listing) = make_ready(alloc, placed, Tabled::of(&placed.tasks, &table)) else {
         return refuse(CommandRefusal::OutOfMemory, output);
     };
     match print_lines(alloc, &listing, output) {
-        Ok(()) => placing_status(placing),
+        Ok(()) => placing_status(&placed.placing),
         Err(ListFault::OutOfMemory) => refuse(CommandRefusal::OutOfMemory, output),
         Err(ListFault::WriteFailed) => Status::InputOrOutputFailed,
     }

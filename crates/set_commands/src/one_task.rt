@@ -1,10 +1,11 @@
 //! What is said of one task of a set, where the words ask about it.
 ghost use Rattle.std.specs.Prelude.{◌≡◌, ◌++◌, ◌<◌, length, IfOk, option_map, Some, string_bytes};
 ghost use Rattle.assignment.specs.Placings.{IsPlacingOf};
-ghost use Rattle.limit_lines.specs.LimitLines.{AreTaskLines, order_given, places_in};
+ghost use Rattle.limit_lines.specs.LimitLines.{AreTaskLines, order_given, order_in, places_in};
 ghost use Rattle.worst_lines.specs.WorstLines.{AreWorstLines};
 ghost use Rattle.set_commands.specs.Admit.{OfPlaced};
 ghost use Rattle.set_commands.specs.Chained.{IsPlaced};
+ghost use Rattle.set_commands.specs.Limits.{ListsChainsOf};
 ghost use Rattle.set_commands.specs.OneTask.{AreLinesOf, SaysAll, SaysPart, SaysTask, first_said};
 ghost use Rattle.answering.specs.Outcomes.{IsSaidOn};
 
@@ -17,7 +18,8 @@ use answering::{
 };
 use assignment::Placing;
 use ceilings::{LockTable, Tabled};
-use limit_lines::{order_given, places_given};
+use chain_tables::Chain;
+use limit_lines::{chains_task_text, order_given, places_given};
 use owners::Owner;
 use std::alloc::{AllocError, Global};
 use std::io::Write;
@@ -39,26 +41,69 @@ pub enum TaskPart {
 }
 
 // How far the numbers of a task may go.
-fn limits_text(
+fn numbers_text(
     alloc: Global,
     owners: &[Owner],
-    set: &TaskSet,
+    set: &Tabled<'_>,
     placing: &Placing,
+    order: &[usize],
     task: usize,
-) -> Result<Vec<u8>, AllocError>
+) -> Result<String, AllocError>
     requires placing { IsPlacingOf set.now placing.now }
+    requires order { order.now ≡ order_in placing.now }
     requires task { task < length set.now }
     ensures { IfOk result (λ text. AreTaskLines owners.now set.now (order_given placing.now)
-        (places_in placing.now) task text.items) }
+        (places_in placing.now) task (string_bytes text)) }
 {
+    let given = order_given(placing, order);
+    let places = places_given(placing);
+    limit_lines::task_text(alloc, owners, set, given, places, task)
+}
+
+// The same with each chain met in the order of a placing; nothing after a no.
+fn reaches_text(
+    alloc: Global,
+    owners: &[Owner],
+    chains: &[Chain],
+    set: &Tabled<'_>,
+    placing: &Placing,
+    order: &[usize],
+    task: usize,
+) -> Result<String, AllocError>
+    requires placing { IsPlacingOf set.now placing.now }
+    requires order { order.now ≡ order_in placing.now }
+    requires task { task < length set.now }
+    ensures { IfOk result (λ text. ListsChainsOf owners.now chains.now set.now placing.now task (string_bytes text)) }
+{
+    match placing {
+        Placing::Best(_) => chains_task_text(alloc, owners, set, order, chains, task),
+        Placing::Stuck(_) => Ok(String::new(alloc)),
+    }
+}
+
+// Both.
+fn limits_text(alloc: Global, placed: &Placed, task: usize) -> Result<Vec<u8>, AllocError>
+    requires placed { IsPlaced placed.now }
+    requires task { task < length placed.now.tasks }
+    ensures { IfOk result (λ text. AreLinesOf TaskPart.Limits placed.now.owners.items placed.now.chains.items
+        placed.now.tasks placed.now.placing task text.items) }
+{
+    let set = &placed.tasks;
+    let placing = &placed.placing;
     let table = LockTable::new(alloc, set)?;
     let order = order_of(alloc, placing)?;
-    let order = order_given(placing, &order);
-    let places = places_given(placing);
     let tabled = Tabled::of(set, &table);
-    let text = limit_lines::task_text(alloc, owners, &tabled, order, places, task)?;
-    let mut lines = Vec::new(alloc);
-    lines.extend_from_slice(text.as_bytes())?;
+    let text = numbers_text(alloc, &placed.owners, &tabled, placing, &order, task)?;
+    let reaches = reaches_text(
+        alloc,
+        &placed.owners,
+        &placed.chains,
+        &tabled,
+        placing,
+        &order,
+        task,
+    )?;
+    let lines = joined(alloc, text.as_bytes(), reaches.as_bytes())?;
     Ok(lines)
 }
 
@@ -83,19 +128,20 @@ fn case_text(
 fn part_text(
     alloc: Global,
     part: TaskPart,
-    owners: &[Owner],
-    set: &TaskSet,
-    placing: &Placing,
+    placed: &Placed,
     task: usize,
 ) -> Result<Vec<u8>, AllocError>
-    requires placing { IsPlacingOf set.now placing.now }
-    requires task { task < length set.now }
-    ensures { IfOk result (λ text. AreLinesOf part owners.now set.now placing.now task text.items) }
+    requires placed { IsPlaced placed.now }
+    requires task { task < length placed.now.tasks }
+    ensures { IfOk result (λ text. AreLinesOf part placed.now.owners.items placed.now.chains.items
+        placed.now.tasks placed.now.placing task text.items) }
 {
     match part {
-        TaskPart::Limits => limits_text(alloc, owners, set, placing, task),
-        TaskPart::Reasons { .. } => reasons_text(alloc, owners, set, placing, task),
-        TaskPart::Worst => case_text(alloc, set, placing, task),
+        TaskPart::Limits => limits_text(alloc, placed, task),
+        TaskPart::Reasons { .. } => {
+            reasons_text(alloc, &placed.owners, &placed.tasks, &placed.placing, task)
+        }
+        TaskPart::Worst => case_text(alloc, &placed.tasks, &placed.placing, task),
     }
 }
 
@@ -121,18 +167,17 @@ fn first_text(
 fn task_text(
     alloc: Global,
     part: TaskPart,
-    owners: &[Owner],
-    set: &TaskSet,
-    placing: &Placing,
+    placed: &Placed,
     task: usize,
 ) -> Result<Vec<u8>, AllocError>
-    requires placing { IsPlacingOf set.now placing.now }
-    requires task { task < length set.now }
-    ensures { IfOk result (λ text. (lines : _) × AreLinesOf part owners.now set.now placing.now task lines
-        × (text.items ≡ first_said part set.now placing.now ++ lines)) }
+    requires placed { IsPlaced placed.now }
+    requires task { task < length placed.now.tasks }
+    ensures { IfOk result (λ text. (lines : _) × AreLinesOf part placed.now.owners.items placed.now.chains.items
+        placed.now.tasks placed.now.placing task lines
+        × (text.items ≡ first_said part placed.now.tasks placed.now.placing ++ lines)) }
 {
-    let lines = part_text(alloc, part, owners, set, placing, task)?;
-    let first = first_text(alloc, part, set, placing)?;
+    let lines = part_text(alloc, part, placed, task)?;
+    let first = first_text(alloc, part, &placed.tasks, &placed.placing)?;
     let text = joined(alloc, first.as_bytes(), &lines)?;
     Ok(text)
 }
@@ -152,18 +197,7 @@ fn say_task<W: Write + Drop>(
     match find_task(&placed.tasks, word) {
         Some(task) => {
             let status = placing_status(&placed.placing);
-            print_bytes(
-                task_text(
-                    alloc,
-                    part,
-                    &placed.owners,
-                    &placed.tasks,
-                    &placed.placing,
-                    task,
-                ),
-                status,
-                output,
-            )
+            print_bytes(task_text(alloc, part, placed, task), status, output)
         }
         None => refuse(no_such_task(word), output),
     }
@@ -181,13 +215,7 @@ fn say_all<W: Write + Drop>(
         W.contents output.old output.new result }
 {
     match part {
-        TaskPart::Limits => print_placing(
-            alloc,
-            &placed.owners,
-            &placed.tasks,
-            &placed.placing,
-            output,
-        ),
+        TaskPart::Limits => print_placing(alloc, placed, output),
         TaskPart::Reasons { all, sorted } => print_bytes(
             explained_text(alloc, all, sorted, placed),
             chained_status(placed),

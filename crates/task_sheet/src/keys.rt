@@ -54,6 +54,8 @@ pub enum Key {
     Age,
     /// `reaction` of a chain: a number of microseconds, no limit where it is absent.
     Reaction,
+    /// `writes` of a chain: a string, when its tasks write; as they finish where it is absent.
+    Writes,
 }
 
 impl Key {
@@ -85,6 +87,7 @@ impl Key {
             Key::Tasks => "tasks",
             Key::Age => "age",
             Key::Reaction => "reaction",
+            Key::Writes => "writes",
         }
     }
 }
@@ -105,7 +108,7 @@ pub const NODE_KEYS: [Key; 4] = [Key::Job, Key::Lock, Key::Release, Key::Late];
 pub const INTERRUPT_KEYS: [Key; 2] = [Key::Period, Key::Cost];
 
 /// The keys of a chain.
-pub const CHAIN_KEYS: [Key; 4] = [Key::Name, Key::Tasks, Key::Age, Key::Reaction];
+pub const CHAIN_KEYS: [Key; 5] = [Key::Name, Key::Tasks, Key::Age, Key::Reaction, Key::Writes];
 
 /// Those that it needs.
 pub const NEEDED_CHAIN_KEYS: [Key; 2] = [Key::Name, Key::Tasks];

@@ -5,3 +5,5 @@ pub mod Observations
 pub mod Ordered
 mod RowNames
 pub mod NewRefusals
+pub mod WorstChains
+mod Ways

@@ -19,6 +19,7 @@ use Rattle.frames.specs.declared.rows.TaskRow.{TaskRow}
 use Rattle.frames.specs.declared.view.View.{View}
 use Rattle.picture.specs.Beside.{Run, document_beside}
 use Rattle.drawn_runs.specs.DrawnRows.{rows_of}
+use Rattle.answering.specs.Chosen.{chain_of}
 use Rattle.answering.specs.OutcomeLines.{infeasible_line}
 use Rattle.answering.specs.declared.refusal.CommandRefusal.{CommandRefusal}
 use Rattle.answering.specs.declared.refusal.CommandRefusal.TheVariants as refusal
@@ -177,6 +178,16 @@ BesidesText asking options U text (Err refusal.EmptyWindow) =
     × IsViewOf (U ++ V) options v × (are_unseen v was is ≡ true)
 BesidesText asking options U text (Err r) = IsNoRuns asking U text r
 
+-- a picture of both shows no way along a chain
+abbrev pub IsChainBeside : Result TwoRuns CommandRefusal → Type 0
+IsChainBeside (Err refusal.ChainBeside) = Unit {0}
+IsChainBeside _ = ⊥
+
+-- the answer by the word that names a chain, if there is one
+abbrev pub AsksBeside : Option (List ℕ) → Asking → Options → List Task → List ℕ → Result TwoRuns CommandRefusal → Type 0
+AsksBeside None asking options U text answer = BesidesText asking options U text answer
+AsksBeside (Some word) asking options U text answer = IsChainBeside answer
+
 -- ---- what is said
 -- what is printed: of the first of the sets of which no order passes what `desk draw` prints, else the picture of both runs
 abbrev pub both_said : List Task → List Task → List SettingRow → View → (was is : Simulated) → List ℕ
@@ -200,4 +211,5 @@ beside_status b = both_status b.was b.is
 
 -- it is printed after what the writer held
 abbrev pub SaysBeside : Options → OfTwoSays
-SaysBeside options asking = SaysOnBoth (BesidesText asking options) beside_said beside_status asking
+SaysBeside options asking =
+    SaysOnBoth (AsksBeside (chain_of options) asking options) beside_said beside_status asking

@@ -1,5 +1,5 @@
 -- What `desk settings SET --keep SETTINGS` answers and prints.
-use Rattle.std.specs.Prelude.{◌≡◌, ℕ, List, ◌++◌, length, codes, Result, Ok, Err}
+use Rattle.std.specs.Prelude.{◌≡◌, ℕ, Bool, true, List, ◌++◌, length, map, codes, Result, Ok, Err, if◌then◌else◌}
 use Rattle.task_sheet.specs.Sheet.{Task}
 use Rattle.task_sheet.specs.Indexes.{indexes_of, listed_below}
 use Rattle.task_sheet.specs.Orders.{IsOrder}
@@ -12,8 +12,11 @@ use Rattle.settings.specs.Settings.{settings_kept}
 use Rattle.judge.specs.SettingFaults.{IsSettingsFault}
 use Rattle.judge.specs.KeptOrder.{IsKeptOrder, kept_fault}
 use Rattle.judge.specs.Node.{AreNumbersIn}
+use Rattle.chain_tables.specs.Chains.{ChainData}
+use Rattle.chain_lines.specs.ChainLines.{all_met}
 use Rattle.answering.specs.OutcomeLines.{infeasible_line}
-use Rattle.two_input_commands.specs.OnBoth.{OfTwoSays, SaysOnBoth}
+use Rattle.two_input_commands.specs.Chained.{level_placed}
+use Rattle.two_input_commands.specs.OnBoth.{OfTwoSays, SaysOnBothChained}
 use Rattle.two_input_commands.specs.declared.keep_lines.KeptNode.{KeptNode}
 use Rattle.answering.specs.declared.refusal.CommandRefusal.{CommandRefusal}
 use Rattle.answering.specs.declared.refusal.CommandRefusal.TheVariants as refusal
@@ -25,15 +28,20 @@ abbrev pub HasOld : List Task → List ℕ → Keeping → (old : List ℕ) → 
 HasOld U text (Kept places) old = AreNumbersIn U text (tasks_of_places places.items) old
 HasOld U text _ old = Unit {0}
 
--- the answer on a set and the text of settings: what becomes of the set that is to keep the order and the numbers that they
--- give
-abbrev pub KeepsText : List Task → List ℕ → Result KeptNode CommandRefusal → Type 0
-KeepsText U text (Ok node) =
+-- the bound of each chain is within its limit in what is kept; of what isn't none is past it
+abbrev pub are_kept_met : List Task → List ChainData → Keeping → Bool
+are_kept_met U chains (Kept places) = all_met U (map level_placed places.items) chains
+are_kept_met U chains _ = true
+
+-- the answer on a set with its chains and the text of settings: what becomes of the set that is to keep the order and the
+-- numbers that they give, and of the chains
+abbrev pub KeepsText : List ChainData → List Task → List ℕ → Result KeptNode CommandRefusal → Type 0
+KeepsText chains U text (Ok node) =
     (kept : List ℕ) × IsKeptOrder U text kept × IsKeepingOf U kept node.keeping
-    × HasOld U text node.keeping node.old.items
-KeepsText U text (Err (refusal.Settings fault)) = IsSettingsFault fault (kept_fault text)
-KeepsText U text (Err refusal.OutOfMemory) = Unit {0}
-KeepsText U text _ = ⊥
+    × HasOld U text node.keeping node.old.items × (node.are_met ≡ are_kept_met U chains node.keeping)
+KeepsText chains U text (Err (refusal.Settings fault)) = IsSettingsFault fault (kept_fault text)
+KeepsText chains U text (Err refusal.OutOfMemory) = Unit {0}
+KeepsText chains U text _ = ⊥
 
 -- the pair that has to change
 abbrev pub parted_line : List Task → (low high : ℕ) → List ℕ
@@ -53,11 +61,14 @@ kept_lines_of U base room old (Stuck left) =
 abbrev pub keeping_lines : List Task → (base room : ℕ) → KeptNode → List ℕ
 keeping_lines U base room node = kept_lines_of U base room node.old.items node.keeping
 
--- the exit status of it
-abbrev pub keeping_status : Keeping → Status
-keeping_status (Kept places) = status.Done
-keeping_status (Parted low high) = status.Infeasible
-keeping_status (Stuck left) = status.Infeasible
+-- the exit status of it: an order is kept, and each chain is met there
+abbrev pub kept_status : (are_met : Bool) → Keeping → Status
+kept_status are_met (Kept places) = if are_met then status.Done else status.Infeasible
+kept_status are_met _ = status.Infeasible
+
+-- the same of a node
+abbrev pub keeping_status : KeptNode → Status
+keeping_status node = kept_status node.are_met node.keeping
 
 -- what is kept is an order of the set
 abbrev pub IsKeptIn : List Task → Keeping → Type 0
@@ -76,4 +87,4 @@ IsOldOf node = HaveOld node.keeping node.old.items
 -- the answer on what the readers had is printed after what the writer held, and the status is the answer's
 abbrev pub SaysKeeping : (base room : ℕ) → OfTwoSays
 SaysKeeping base room =
-    SaysOnBoth KeepsText (λ U node. keeping_lines U base room node) (λ node. keeping_status node.keeping)
+    SaysOnBothChained KeepsText (λ owners U node. keeping_lines U base room node) keeping_status

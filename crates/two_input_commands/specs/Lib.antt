@@ -12,4 +12,5 @@ pub mod Observe
 pub mod OnBoth
 pub mod Simulate
 pub mod View
+pub mod Way
 pub mod WorstAt

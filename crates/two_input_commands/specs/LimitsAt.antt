@@ -1,16 +1,19 @@
 -- What `desk limits SET --at SETTINGS` answers and prints.
-use Rattle.std.specs.Prelude.{◌≡◌, ◌==◌, ℕ, Bool, true, false, List, [], ◌++◌, length, codes, Option, Some, None, Result, Ok, Err, string_bytes}
+use Rattle.std.specs.Prelude.{◌≡◌, ◌==◌, ℕ, Bool, true, false, List, [], ◌++◌, length, map, codes, Option, Some, None, Result, Ok, Err, string_bytes}
 use Rattle.task_sheet.specs.Sheet.{Task}
 use Rattle.assignment.specs.Places.{PlaceData}
 use Rattle.judge.specs.Judgements.{all_meet, judged_of, order_judged}
 use Rattle.judge.specs.JudgementLines.{meets_line}
 use Rattle.judge.specs.declared.judging.JudgedTask.{JudgedTask}
 use Rattle.judge.specs.declared.node.JudgedNode.{JudgedNode}
+use Rattle.chain_tables.specs.Chains.{ChainData}
 use Rattle.limit_lines.specs.LimitLines.{AreTaskLines, IsLast}
+use Rattle.limit_lines.specs.ChainReaches.{AreChainsLines, AreChainsTaskLines}
+use Rattle.two_input_commands.specs.Chained.{level_placed}
 use Rattle.two_input_commands.specs.InOrder.{AsksIn}
 use Rattle.two_input_commands.specs.Judge.{judged_status}
 use Rattle.answering.specs.LimitLines.{AreLines}
-use Rattle.answering.specs.Owning.{HaveOwned}
+use Rattle.answering.specs.Owning.{HasChained, HaveOwned}
 use Rattle.answering.specs.Printed.{Prints}
 use Rattle.answering.specs.Sets.{OnBoth}
 use Rattle.limit_lines.specs.Common.{AreCommonLines}
@@ -44,28 +47,43 @@ AreLimitsIn owners U order places None text =
     × AreCommonLines owners U (Some order) common × IsLast U (Some order) last
     × (text ≡ ((lines ++ common) ++ alone_words (length (lines ++ common) == 0) places) ++ last)
 
--- the text is what is printed of an order: whether all its tasks meet their deadlines, and how far its numbers may go
-abbrev pub IsLimitsText : List Owner → List Task → JudgedNode → (asked : Option ℕ) → List ℕ → Type 0
-IsLimitsText owners U node asked text =
-    (places : Option (List PlaceData)) × (lines : List ℕ) × ArePlacesOf node.judged.items places
+-- the text is the lines of chains in an order with these places, or those of the task that is asked about; nothing without
+-- places
+abbrev pub AreChainedIn : List Owner → List ChainData → List Task → (order : List ℕ) → Option (List PlaceData)
+    → (asked : Option ℕ) → List ℕ → Type 0
+AreChainedIn owners chains U order None asked text = text ≡ []
+AreChainedIn owners chains U order (Some places) (Some task) text =
+    AreChainsTaskLines owners chains U order task (length chains) text
+AreChainedIn owners chains U order (Some places) None text =
+    AreChainsLines owners chains U order (map level_placed places) (length chains) text
+
+-- the text is what is printed of an order: whether all its tasks meet their deadlines, how far its numbers may go, and how far
+-- with each chain met
+abbrev pub IsLimitsText : List Owner → List ChainData → List Task → JudgedNode → (asked : Option ℕ) → List ℕ
+    → Type 0
+IsLimitsText owners chains U node asked text =
+    (places : Option (List PlaceData)) × (lines : List ℕ) × (chained : List ℕ)
+    × ArePlacesOf node.judged.items places
     × AreLimitsIn owners U (order_judged node.judged.items) places asked lines
-    × (text ≡ meets_line U node.judged.items ++ lines)
+    × AreChainedIn owners chains U (order_judged node.judged.items) places asked chained
+    × (text ≡ (meets_line U node.judged.items ++ lines) ++ chained)
 
 -- the answer on a set and the text of settings: what becomes of each task in the order that they give, and what is printed
 -- of it
-abbrev pub LimitsText : Option (List ℕ) → List Owner → List Task → List ℕ → Result InOrder CommandRefusal
-    → Type 0
-LimitsText word owners U text (Ok found) =
+abbrev pub LimitsText : Option (List ℕ) → List Owner → List ChainData → List Task → List ℕ
+    → Result InOrder CommandRefusal → Type 0
+LimitsText word owners chains U text (Ok found) =
     (asked : Option ℕ) × AsksIn word U text (Ok (found.node, asked))
-    × IsLimitsText owners U found.node asked (string_bytes found.text)
-LimitsText word owners U text (Err r) = AsksIn word U text (Err r)
+    × IsLimitsText owners chains U found.node asked (string_bytes found.text)
+LimitsText word owners chains U text (Err r) = AsksIn word U text (Err r)
 
--- the same on what two readers have, with the set and whose its tasks are
+-- the same on what two readers have, with the set, whose its tasks are, and its chains
 abbrev pub AnswersLimitsAt : Option (List ℕ) → Asking → (set other : Option (List ℕ))
     → Result (List Task × List Owner × InOrder) CommandRefusal → Type 0
 AnswersLimitsAt word asking set other (Ok found) =
-    (by : Preference) × (text : List ℕ) × HaveOwned asking set other by found.0 found.1 text
-    × LimitsText word found.1 found.0 text (Ok found.2)
+    (by : Preference) × (text : List ℕ) × (chains : List ChainData)
+    × HaveOwned asking set other by found.0 found.1 text × HasChained set found.0 chains
+    × LimitsText word found.1 chains found.0 text (Ok found.2)
 AnswersLimitsAt word asking set other (Err r) = OnBoth (AsksIn word) asking set other (Err r)
 
 -- the answer on what the readers had is printed after what the writer held, and the status is the answer's

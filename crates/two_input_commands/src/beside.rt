@@ -2,11 +2,12 @@
 ghost use Rattle.std.specs.Prelude.{◌≡◌, ◌++◌, ◌≤◌, length, List, map, IfOk, MatchResult, Ok, Err, true};
 ghost use Rattle.task_sheet.specs.Sheet.{Task};
 ghost use Rattle.task_sheet.specs.declared.set.TheConstants.{TASK_LIMIT};
+ghost use Rattle.answering.specs.Chosen.{chain_of};
 ghost use Rattle.answering.specs.Outcomes.{IsSaidOn};
 ghost use Rattle.answering.specs.Printed.{IsPrinted};
 ghost use Rattle.drawn_runs.specs.DrawnRows.{rows_of};
 ghost use Rattle.picture.specs.Beside.{run_of};
-ghost use Rattle.two_input_commands.specs.Beside.{AreRuns, BesidesText, IsNoRuns, are_unseen, beside_said, beside_status, bounds_in, drawn_run, is_run, list_of, new_of, new_run_refusal, picture_of_both, releases_of, rows_drawn, toned_as, tone_among, until_of};
+ghost use Rattle.two_input_commands.specs.Beside.{AreRuns, AsksBeside, BesidesText, IsNoRuns, are_unseen, beside_said, beside_status, bounds_in, drawn_run, is_run, list_of, new_of, new_run_refusal, picture_of_both, releases_of, rows_drawn, toned_as, tone_among, until_of};
 ghost use Rattle.two_input_commands.specs.Draw.{looks_of, task_tones};
 ghost use Rattle.two_input_commands.specs.Simulate.{IsInOrder};
 
@@ -128,8 +129,8 @@ fn run_both(
     }
 }
 
-/// What comes of a set and the text of a release list and a new set, and what is drawn of it.
-pub fn beside_text(
+// What comes of a set and the text of a release list and a new set, and what is drawn of it.
+fn runs_beside(
     alloc: Global,
     asking: Asking,
     options: Options<'_>,
@@ -154,6 +155,24 @@ pub fn beside_text(
         settings,
         view,
     })
+}
+
+/// The same, where no chain is named.
+pub fn beside_text(
+    alloc: Global,
+    asking: Asking,
+    options: Options<'_>,
+    tasks: &TaskSet,
+    text: &[u8],
+) -> Result<TwoRuns, CommandRefusal>
+    ensures answer { AsksBeside (chain_of options.entry) asking options.entry tasks.now text.now result }
+    ensures was { IfOk result (λ b. IsInOrder tasks.now b.was) }
+    ensures is { IfOk result (λ b. IsInOrder b.set b.is) }
+{
+    match options.chain {
+        Some(_) => Err(CommandRefusal::ChainBeside),
+        None => runs_beside(alloc, asking, options, tasks, text),
+    }
 }
 
 // The rows of a set in a run.

@@ -39,8 +39,8 @@ fn level_judged(entry: JudgedTask) -> Level
     }
 }
 
-// The levels of an order that was judged.
-fn levels_judged(alloc: Global, judged: &[JudgedTask]) -> Result<Vec<Level>, AllocError>
+/// The levels of an order that was judged. The error is out of memory.
+pub(crate) fn levels_judged(alloc: Global, judged: &[JudgedTask]) -> Result<Vec<Level>, AllocError>
     ensures { IfOk result (λ levels. levels.items ≡ levels_judged judged.now) }
 {
     let mut levels = Vec::with_capacity(alloc, judged.len())?;
@@ -60,8 +60,8 @@ fn level_placed(place: &Place) -> Level
     }
 }
 
-// The levels of places.
-fn levels_at(alloc: Global, places: &[Place]) -> Result<Vec<Level>, AllocError>
+/// The levels of places. The error is out of memory.
+pub(crate) fn levels_at(alloc: Global, places: &[Place]) -> Result<Vec<Level>, AllocError>
     ensures { IfOk result (λ levels. levels.items ≡ map level_placed places.now) }
 {
     let mut levels = Vec::with_capacity(alloc, places.len())?;

@@ -7,7 +7,7 @@ ghost use Rattle.answering.specs.Printed.{IsPrinted};
 ghost use Rattle.run_lines.specs.TaskBounds.{tasks_of_bounds};
 ghost use Rattle.drawn_runs.specs.DrawnRows.{drawn_row, rows_of, toned_in, unrun_of};
 ghost use Rattle.frames.specs.Tones.{fitted_tone};
-ghost use Rattle.two_input_commands.specs.Draw.{DrawsText, IsUnread, answer_said, drawing_said, looks_of, number_named, picture_of, task_tones};
+ghost use Rattle.two_input_commands.specs.Draw.{DrawsText, IsUnread, answer_said, drawing_said, looks_in, looks_of, number_named, picture_of, task_tones};
 ghost use Rattle.two_input_commands.specs.declared.simulate.Simulated.TheVariants.{Ordered, Ran};
 ghost use Rattle.answering.specs.Outcomes.{IsSaidOn};
 ghost use Rattle.two_input_commands.specs.View.{tasks_in};
@@ -155,6 +155,36 @@ pub(crate) fn rows_in(
     rows_of(alloc, &Tabled::of(set, &table), looks, bounds)
 }
 
+// The rows of a run in an order of a set, as a view has them.
+pub(crate) fn rows_in_view(
+    alloc: Global,
+    set: &TaskSet,
+    settings: &[SettingRow],
+    bounds: &[TaskBound],
+    view: &View,
+    releases: &[Release],
+) -> Result<Vec<TaskRow>, AllocError>
+    requires { IsOrder set.now (tasks_of_bounds bounds.now) }
+    ensures rows { IfOk result (λ rows. rows.items
+        ≡ rows_of set.now (looks_in set.now settings.now view.now releases.now) bounds.now) }
+    ensures few { IfOk result (λ rows. length rows.items ≤ TASK_LIMIT) }
+{
+    let tones = task_tones(
+        alloc,
+        Sets {
+            old: set,
+            new: None,
+        },
+    )?;
+    let looks = Looks {
+        settings,
+        tones: &tones,
+        names: &view.tasks,
+        releases,
+    };
+    rows_in(alloc, set, &looks, bounds)
+}
+
 // The picture of a run in an order of a set.
 fn picture_of(
     alloc: Global,
@@ -170,20 +200,7 @@ fn picture_of(
     ensures { IfOk result (λ text. text.items
         ≡ picture_of set.now settings.now bounds.now view.now until releases.now trace.now) }
 {
-    let tones = task_tones(
-        alloc,
-        Sets {
-            old: set,
-            new: None,
-        },
-    )?;
-    let looks = Looks {
-        settings,
-        tones: &tones,
-        names: &view.tasks,
-        releases,
-    };
-    let rows = rows_in(alloc, set, &looks, bounds)?;
+    let rows = rows_in_view(alloc, set, settings, bounds, view, releases)?;
     draw(alloc, &rows, view, until, releases, trace)
 }
 

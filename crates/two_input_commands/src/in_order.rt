@@ -31,8 +31,12 @@ fn asked_in(tasks: &TaskSet, word: Option<&str>) -> Result<Option<usize>, Comman
     }
 }
 
-// What becomes of each task in the order that the text of settings gives, in which each ceiling is the least.
-fn judge_order(alloc: Global, tasks: &TaskSet, text: &[u8]) -> Result<JudgedNode, CommandRefusal>
+/// What becomes of each task in the order that the text of settings gives, in which each ceiling is the least.
+pub(crate) fn judge_order(
+    alloc: Global,
+    tasks: &TaskSet,
+    text: &[u8],
+) -> Result<JudgedNode, CommandRefusal>
     ensures answer { JudgesOrder tasks.now text.now result }
     ensures within { IfOk result (λ node. All (λ j. j.task < TASK_LIMIT) node.judged.items) }
 {

@@ -5,11 +5,14 @@ ghost use Rattle.judge.specs.SettingFaults.{IsSettingsFault};
 ghost use Rattle.judge.specs.KeptOrder.{kept_fault};
 ghost use Rattle.judge.specs.Node.{AreNumbersIn};
 ghost use Rattle.task_sheet.specs.Orders.{IsOrder};
-ghost use Rattle.two_input_commands.specs.Keep.{HasOld, IsKeptIn, IsOldOf, KeepsText, keeping_lines, keeping_status, parted_line};
+ghost use Rattle.two_input_commands.specs.Keep.{HasOld, IsKeptIn, IsOldOf, KeepsText, are_kept_met, keeping_lines, keeping_status, parted_line};
 
+use crate::chained::levels_at;
 use answering::{CommandRefusal, Status, infeasible_text};
 use assignment::{Place, tasks_of_places};
 use ceilings::{LockTable, Tabled};
+use chain_lines::all_met;
+use chain_tables::Chain;
 use judge::{SettingsFault, read_kept, read_kept_numbers};
 use kept_order::{Keeping, keep_order};
 use lines::push_name;
@@ -23,6 +26,8 @@ pub struct KeptNode {
     pub keeping: Keeping,
     /// The numbers that the threads of the kept order have, one by one, and 0 of a task that has none.
     pub old: Vec<u64>,
+    /// Whether the bound of each chain is within its limit in the kept order, where there is one.
+    pub are_met: bool,
 }
 
 // The numbers that the threads of places have in the text of settings.
@@ -59,9 +64,33 @@ fn old_of(
     }
 }
 
-/// What becomes of a set that is to keep the order that the text of settings gives, and the numbers that it has.
-pub fn keep_text(alloc: Global, tasks: &TaskSet, text: &[u8]) -> Result<KeptNode, CommandRefusal>
-    ensures answer { KeepsText tasks.now text.now result }
+// Whether the bound of each chain is within its limit in what is kept; of what isn't none is past it.
+fn are_kept_met(
+    alloc: Global,
+    set: &TaskSet,
+    chains: &[Chain],
+    keeping: &Keeping,
+) -> Result<bool, AllocError>
+    ensures { IfOk result (λ met. met ≡ are_kept_met set.now chains.now keeping.now) }
+{
+    match keeping {
+        Keeping::Kept(places) => {
+            let levels = levels_at(alloc, places)?;
+            Ok(all_met(set, &levels, chains))
+        }
+        Keeping::Parted { .. } | Keeping::Stuck(_) => Ok(true),
+    }
+}
+
+/// What becomes of a set that is to keep the order that the text of settings gives, and the numbers that it has, and of the
+/// set's chains.
+pub fn keep_text(
+    alloc: Global,
+    chains: &[Chain],
+    tasks: &TaskSet,
+    text: &[u8],
+) -> Result<KeptNode, CommandRefusal>
+    ensures answer { KeepsText chains.now tasks.now text.now result }
     ensures order { IfOk result (λ node. IsKeptIn tasks.now node.keeping) }
     ensures old { IfOk result IsOldOf }
 {
@@ -72,8 +101,13 @@ pub fn keep_text(alloc: Global, tasks: &TaskSet, text: &[u8]) -> Result<KeptNode
     let table = LockTable::new(alloc, tasks)?;
     let set = Tabled::of(tasks, &table);
     let keeping = keep_order(alloc, &set, &kept)?;
+    let are_met = are_kept_met(alloc, tasks, chains, &keeping)?;
     match old_of(alloc, &set, text, &keeping) {
-        Ok(old) => Ok(KeptNode { keeping, old }),
+        Ok(old) => Ok(KeptNode {
+            keeping,
+            old,
+            are_met,
+        }),
         Err(fault) => Err(CommandRefusal::Settings(fault)),
     }
 }
@@ -116,12 +150,12 @@ pub fn keeping_text(
     }
 }
 
-/// The exit status of what becomes of a set that is to keep an order.
-pub fn keeping_status(keeping: &Keeping) -> Status
-    ensures { result ≡ keeping_status keeping.now }
+/// The exit status of what becomes of a set that is to keep an order, and of its chains.
+pub fn keeping_status(node: &KeptNode) -> Status
+    ensures { result ≡ keeping_status node.now }
 {
-    match keeping {
-        Keeping::Kept(_) => Status::Done,
-        Keeping::Parted { .. } | Keeping::Stuck(_) => Status::Infeasible,
+    match &node.keeping {
+        Keeping::Kept(_) if node.are_met => Status::Done,
+        _ => Status::Infeasible,
     }
 }

@@ -4,14 +4,16 @@ ghost use Rattle.task_sheet.specs.declared.set.TheConstants.{TASK_LIMIT};
 ghost use Rattle.task_sheet.specs.Orders.{IsOrder};
 ghost use Rattle.judge.specs.Judgements.{order_judged};
 ghost use Rattle.answering.specs.LimitLines.{AreLines};
-ghost use Rattle.two_input_commands.specs.LimitsAt.{AreLimitsIn, ArePlacesOf, IsLimitsText, LimitsText, alone_words};
+ghost use Rattle.two_input_commands.specs.LimitsAt.{AreChainedIn, AreLimitsIn, ArePlacesOf, IsLimitsText, LimitsText, alone_words};
 
+use crate::chained::levels_at;
 use crate::in_order::{InOrder, judge_asked};
 use answering::CommandRefusal;
 use assignment::Place;
 use ceilings::{LockTable, Tabled};
+use chain_tables::Chain;
 use judge::{JudgedNode, first_text, order_of, places_of};
-use limit_lines::{common_text, last_text, task_text};
+use limit_lines::{chains_task_text, chains_text, common_text, last_text, task_text};
 use owners::Owner;
 use std::alloc::{AllocError, Global};
 use task_sheet::TaskSet;
@@ -84,7 +86,7 @@ fn whole_text(
 fn asked_text(
     alloc: Global,
     owners: &[Owner],
-    set: &TaskSet,
+    set: &Tabled<'_>,
     order: &[usize],
     places: Option<&[Place]>,
     asked: Option<usize>,
@@ -94,19 +96,45 @@ fn asked_text(
     ensures { IfOk result (λ text. AreLimitsIn owners.now set.now order.now
         (option_map (λ p. p.now) places.entry) asked (string_bytes text)) }
 {
-    let table = LockTable::new(alloc, set)?;
-    let tabled = Tabled::of(set, &table);
     match asked {
-        Some(task) => task_text(alloc, owners, &tabled, Some(order), places, task),
-        None => whole_text(alloc, owners, &tabled, order, places),
+        Some(task) => task_text(alloc, owners, set, Some(order), places, task),
+        None => whole_text(alloc, owners, set, order, places),
     }
 }
 
-// Whether all tasks of an order meet their deadlines, and how far its numbers may go; the places are those of one that
-// passes.
+// How far they may go with each chain met in an order with these places; nothing where it has none.
+fn chained_text(
+    alloc: Global,
+    owners: &[Owner],
+    chains: &[Chain],
+    set: &Tabled<'_>,
+    order: &[usize],
+    places: Option<&[Place]>,
+    asked: Option<usize>,
+) -> Result<String, AllocError>
+    requires order { IsOrder set.now order.now }
+    requires asked { IfSome asked (λ task. task < length set.now) }
+    ensures { IfOk result (λ text. AreChainedIn owners.now chains.now set.now order.now
+        (option_map (λ p. p.now) places.entry) asked (string_bytes text)) }
+{
+    let Some(places) = places else {
+        return Ok(String::new(alloc));
+    };
+    match asked {
+        Some(task) => chains_task_text(alloc, owners, set, order, chains, task),
+        None => {
+            let levels = levels_at(alloc, places)?;
+            chains_text(alloc, owners, set, order, &levels, chains)
+        }
+    }
+}
+
+// Whether all tasks of an order meet their deadlines, and how far its numbers may go, also with each chain met; the places
+// are those of one that passes.
 fn placed_text(
     alloc: Global,
     owners: &[Owner],
+    chains: &[Chain],
     set: &TaskSet,
     node: &JudgedNode,
     places: Option<&[Place]>,
@@ -116,12 +144,16 @@ fn placed_text(
     requires order { IsOrder set.now (order_judged node.now.judged.items) }
     requires places { ArePlacesOf node.now.judged.items (option_map (λ p. p.now) places) }
     requires asked { IfSome asked (λ task. task < length set.now) }
-    ensures { IfOk result (λ text. IsLimitsText owners.now set.now node.now asked (string_bytes text)) }
+    ensures { IfOk result (λ text. IsLimitsText owners.now chains.now set.now node.now asked (string_bytes text)) }
 {
+    let table = LockTable::new(alloc, set)?;
+    let tabled = Tabled::of(set, &table);
     let order = order_of(alloc, &node.judged)?;
-    let lines = asked_text(alloc, owners, set, &order, places, asked)?;
+    let lines = asked_text(alloc, owners, &tabled, &order, places, asked)?;
+    let chained = chained_text(alloc, owners, chains, &tabled, &order, places, asked)?;
     let mut text = first_text(alloc, set, &node.judged)?;
     text.push_str(lines.as_str())?;
+    text.push_str(chained.as_str())?;
     Ok(text)
 }
 
@@ -129,6 +161,7 @@ fn placed_text(
 fn node_text(
     alloc: Global,
     owners: &[Owner],
+    chains: &[Chain],
     set: &TaskSet,
     node: &JudgedNode,
     asked: Option<usize>,
@@ -136,27 +169,28 @@ fn node_text(
     requires within { All (λ j. j.task < TASK_LIMIT) node.now.judged.items }
     requires order { IsOrder set.now (order_judged node.now.judged.items) }
     requires asked { IfSome asked (λ task. task < length set.now) }
-    ensures { IfOk result (λ text. IsLimitsText owners.now set.now node.now asked (string_bytes text)) }
+    ensures { IfOk result (λ text. IsLimitsText owners.now chains.now set.now node.now asked (string_bytes text)) }
 {
     let found = places_of(alloc, &node.judged)?;
     match found {
-        Some(places) => placed_text(alloc, owners, set, node, Some(&places), asked),
-        None => placed_text(alloc, owners, set, node, None, asked),
+        Some(places) => placed_text(alloc, owners, chains, set, node, Some(&places), asked),
+        None => placed_text(alloc, owners, chains, set, node, None, asked),
     }
 }
 
 /// How far the numbers of a set may go in the order that the text of settings gives, or those of the task that is
-/// asked about.
+/// asked about, also with each of these chains met.
 pub fn limits_at(
     alloc: Global,
     word: Option<&str>,
     owners: &[Owner],
+    chains: &[Chain],
     tasks: &TaskSet,
     text: &[u8],
 ) -> Result<InOrder, CommandRefusal>
-    ensures { LimitsText (option_map (λ w. w.now) word.entry) owners.now tasks.now text.now result }
+    ensures { LimitsText (option_map (λ w. w.now) word.entry) owners.now chains.now tasks.now text.now result }
 {
     let (node, asked) = judge_asked(alloc, word, tasks, text)?;
-    let text = node_text(alloc, owners, tasks, &node, asked)?;
+    let text = node_text(alloc, owners, chains, tasks, &node, asked)?;
     Ok(InOrder { node, text })
 }

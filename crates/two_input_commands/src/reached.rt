@@ -30,7 +30,7 @@ fn level_of_bound(entry: TaskBound) -> Level
 }
 
 // The levels of an order's tasks.
-fn levels_of(alloc: Global, bounds: &[TaskBound]) -> Result<Vec<Level>, AllocError>
+pub(crate) fn levels_of(alloc: Global, bounds: &[TaskBound]) -> Result<Vec<Level>, AllocError>
     ensures { IfOk result (λ levels. levels.items ≡ map level_of_bound bounds.now) }
 {
     let mut levels = Vec::with_capacity(alloc, bounds.len())?;

@@ -10,5 +10,5 @@ mod text;
 mod worst;
 
 pub use crate::deciding::judge_deciding;
-pub use crate::text::{worst_text, worst_text_in};
+pub use crate::text::{settings_judged, worst_text, worst_text_in};
 pub use crate::worst::Worst;

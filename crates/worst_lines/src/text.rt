@@ -413,6 +413,19 @@ fn order_of_judged(alloc: Global, judged: &[JudgedTask]) -> Result<Vec<usize>, A
     Ok(order)
 }
 
+/// The settings of an order that was judged. The error is out of memory.
+pub fn settings_judged(
+    alloc: Global,
+    set: &TaskSet,
+    judged: &[JudgedTask],
+) -> Result<String, AllocError>
+    requires { IsOrder set.now (order_judged judged.now) }
+    ensures { IfOk result (λ text. string_bytes text ≡ settings_from set.now 1 (order_judged judged.now)) }
+{
+    let order = order_of_judged(alloc, judged)?;
+    settings_of(alloc, set, &order)
+}
+
 /// The same in an order that is given, and was judged: of the task that is asked about; else, where all meet their deadlines,
 /// of the one of least slack, and else of the highest one that doesn't. The error is out of memory.
 pub fn worst_text_in(

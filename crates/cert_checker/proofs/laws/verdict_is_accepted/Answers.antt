@@ -2,4 +2,4 @@ use Rattle.cert_checker.proofs.AcceptedLaws.{verdict-accepted}
 use Rattle.cert_checker.proofs.laws.verdict_is_accepted.Goals as goal
 
 pub returns : goal.returns
-returns c = λ U v set h. verdict-accepted U set v h
+returns c = λ U chains v set are h. verdict-accepted U set chains v are h

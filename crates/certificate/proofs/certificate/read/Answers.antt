@@ -1,20 +1,20 @@
 use Rattle.std.proofs.Common.{Ok, Err}
 use Rattle.certificate.specs.Body.{Cert}
-use Rattle.certificate.specs.BodyOf.{body_of}
+use Rattle.certificate.specs.BodyOf.{cert_of}
 use Rattle.certificate.proofs.ReadingLaws.{certificate_takes, only_read}
 use Rattle.certificate.proofs.certificate.read.Goals as goal
 
 pub invariant_of-result : goal.invariant_of-result
 invariant_of-result c = (certificate_takes c.args.bytes.now
-    (record { version = c.in-Ok.version; body = body_of c.in-Ok.body }) c.in-Ok.ensures).1
+    (cert_of c.in-Ok.parts) c.in-Ok.ensures).1
 
 pub returns-in-Ok-clause-found : goal.returns-in-Ok-clause-found
 returns-in-Ok-clause-found c = certificate_takes c.args.bytes.now
-    (record { version = c.in-Ok.version; body = body_of c.in-Ok.body }) c.in-Ok.ensures
+    (cert_of c.in-Ok.parts) c.in-Ok.ensures
 
 pub returns-in-Ok-clause-only : goal.returns-in-Ok-clause-only
 returns-in-Ok-clause-only c = λ b fits e. only_read {X = Cert} (λ x. x) c.args.bytes.now
-    (Ok (record { version = c.in-Ok.version; body = body_of c.in-Ok.body })) b
+    (Ok (cert_of c.in-Ok.parts)) b
     c.in-Ok.ensures fits e
 
 pub returns-in-Err-clause-only : goal.returns-in-Err-clause-only

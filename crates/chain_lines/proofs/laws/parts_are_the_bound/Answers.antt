@@ -10,6 +10,6 @@ told true sum bound is = cc
 told false sum bound is = absurd cc
 
 pub returns : goal.returns
-returns c U levels first others bound is =
+returns c writes U levels first others bound is =
     let sum = told _ _ bound is in
-    (sum, sym sum ∙ come_to_law (node_in U (order_of levels)) (time_in levels) first others)
+    (sum, sym sum ∙ come_to_law writes (node_in U (order_of levels)) (time_in levels) first others)

@@ -20,8 +20,9 @@ returns-clause-known c = record {
   to = c.number_chosen-5.ensures;
   width = c.number_chosen-6.ensures;
   print = c.number_chosen-7.ensures;
-  sort = c.get_str-2.ensures ∙ first_value-rows (found_of c.args.matches.now) _;
-  title = c.get_str-3.ensures ∙ first_value-rows (found_of c.args.matches.now) _;
-  rows = c.get_str-4.ensures ∙ first_value-rows (found_of c.args.matches.now) _;
+  chain = c.get_str-2.ensures ∙ first_value-rows (found_of c.args.matches.now) _;
+  sort = c.get_str-3.ensures ∙ first_value-rows (found_of c.args.matches.now) _;
+  title = c.get_str-4.ensures ∙ first_value-rows (found_of c.args.matches.now) _;
+  rows = c.get_str-5.ensures ∙ first_value-rows (found_of c.args.matches.now) _;
   team = c.number_chosen-9.ensures;
 }

@@ -1,8 +1,7 @@
-use Rattle.std.proofs.Common.{◌≡◌, Ok, Err, inl, inr, refl}
+use Rattle.std.proofs.Common.{◌≡◌, Ok, inr, refl}
 use Rattle.command_line.specs.declared.calls.OfOne.{OfOne}
 use Rattle.command_line.specs.declared.calls.OfOne.TheVariants.{Certify, Script, Play}
 use Rattle.desk_cli.specs.Saying.{IsOfPlacing}
-use Rattle.answering.specs.declared.refusal.CommandRefusal.TheVariants as refusal
 use Rattle.answering.proofs.CarriedOut.{carried_out, refused, said_as}
 use Rattle.desk_cli.proofs.Refused.{one_refused, placed_refused}
 use Rattle.desk_cli.proofs.of_one.carry_out.Goals as goal
@@ -21,15 +20,12 @@ say_placing-requires-clause-command g c =
 pub returns-in-Script : goal.returns-in-Script
 returns-in-Script g c = rw c.in-Script.is c.run_script.ensures
 
--- out of memory for what is printed is an answer of its own
 pub returns-in-Ok : goal.returns-in-Ok
 returns-in-Ok g c =
     let answer = rw c.asking_of-asking.ensures at c.in-Ok.ensures.answer in
     rw c.in-Certify.is
-    (carried_out c.in-Ok.ensures.read (said_as c.print_verdict.ensures (λ told. elim told [
-      | inl wrote ↦ (Ok c.in-Ok.verdict, answer, wrote.0, wrote.1)
-      | inr want ↦ (Err refusal.OutOfMemory, tt, want.0, want.1)
-    ])))
+    (carried_out c.in-Ok.ensures.read (said_as c.print_certificate.ensures
+    (λ told. (Ok c.in-Ok.certificate, answer, told.0, told.1))))
 
 pub returns-in-Err : goal.returns-in-Err
 returns-in-Err g c =

@@ -20,4 +20,4 @@ returns-in-Limits g c =
 
 pub returns-in-Worst : goal.returns-in-Worst
 returns-in-Worst g c =
-    rw c.in-Worst.is (said_as c.say_part-in-Worst.ensures (λ told. λ known has said. told _ known has said))
+    rw c.in-Worst.is (said_as c.say_worst.ensures (λ told. λ known has said. told _ known has said))

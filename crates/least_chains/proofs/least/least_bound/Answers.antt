@@ -8,7 +8,7 @@ use Rattle.least_chains.proofs.least.least_bound.Goals as goal
 pub loop-task-preserved : goal.loop-task-preserved
 loop-task-preserved c =
     record {
-      sum = least-more c.args.set.now c.args.tasks.now c.loop-task.rest.now c.in-Some.task.now
+      sum = least-more c.args.writes c.args.set.now c.args.tasks.now c.loop-task.rest.now c.in-Some.task.now
           c.in-Some.others.now c.loop-task.sum c.wait_of.result.time c.least_part.result
           c.in-Some.ensures.cases.0
           (ap (λ (p : BoundPart). p.time) c.wait_of.ensures
@@ -25,5 +25,5 @@ loop-task-preserved c =
 
 pub returns : goal.returns
 returns c =
-    least-none c.args.set.now c.args.tasks.now c.loop-task.rest.now c.loop-task.sum
+    least-none c.args.writes c.args.set.now c.args.tasks.now c.loop-task.rest.now c.loop-task.sum
     c.in_default.ensures.cases c.loop-task.invariant.sum

@@ -3,11 +3,53 @@ use Rattle.std.proofs.lemmas.List.{drop_more, drop_all}
 use Rattle.std.proofs.lemmas.Nat.{mod_below}
 use Rattle.loads.specs.declared.shares.Share.{Share}
 use Rattle.loads.proofs.ShareLaws.{share_short, share_small, share_some, share_step}
-use Rattle.loads.proofs.ShareLaws.{bottom_more, whole_and_rest}
+use Rattle.loads.proofs.ShareLaws.{bottom_more, rest_fits, short_whole, times_fit, whole_and_rest}
 use Rattle.loads.proofs.shares.load_in.Goals as goal
 
 none : Share
 none = record { cost = 0; period = 0 }
+
+pub overflow_mul-times : goal.overflow_mul-times
+unfolding none
+overflow_mul-times c =
+    let valid = c.requires.valid c.loop-share.share-index none (omega arith) in
+    omega (arith, times_fit _ c.args.parts valid.cost c.requires.short)
+
+pub nonzero_rem-left : goal.nonzero_rem-left
+unfolding none
+nonzero_rem-left c =
+    let valid = c.requires.valid c.loop-share.share-index none (omega arith) in
+    omega (arith, valid.some)
+
+pub plus-requires-clause-valid : goal.plus-requires-clause-valid
+unfolding none
+plus-requires-clause-valid c =
+    let valid = c.requires.valid c.loop-share.share-index none (omega arith) in
+    record {
+      some = valid.some;
+      period = valid.period;
+      cost = rest_fits _ _ c.args.parts valid.some valid.period;
+    }
+
+pub nonzero_div-whole : goal.nonzero_div-whole
+unfolding none
+nonzero_div-whole c =
+    let valid = c.requires.valid c.loop-share.share-index none (omega arith) in
+    omega (arith, valid.some)
+
+pub overflow_add-whole : goal.overflow_add-whole
+unfolding none
+overflow_add-whole c =
+    let valid = c.requires.valid c.loop-share.share-index none (omega arith) in
+    omega (
+      arith,
+      share_small _ _ c.args.parts valid.some valid.cost c.requires.short,
+      c.loop-share.invariant.small,
+    )
+
+pub rounded_up-requires-clause-short : goal.rounded_up-requires-clause-short
+rounded_up-requires-clause-short c =
+    rw c.deref-2.ensures.value (short_whole _ _ _ c.loop-share.invariant.short (omega arith))
 
 pub loop-share-preserved : goal.loop-share-preserved
 unfolding none

@@ -2,11 +2,66 @@ use Rattle.std.proofs.Common.{◌∙◌, get_or, arith, refl}
 use Rattle.std.proofs.lemmas.List.{drop_more, drop_all}
 use Rattle.loads.specs.declared.shares.Digit.{Digit}
 use Rattle.loads.proofs.ShareLaws.{bottom_carried, bottom_end, bottom_step, digits_push, low_digit}
-use Rattle.loads.proofs.ShareLaws.{top_carried, top_end, top_step}
+use Rattle.loads.proofs.ShareLaws.{part_fits, top_carried, top_end, top_step}
 use Rattle.loads.proofs.shares.plus.Goals as goal
 
 none : Digit
 none = record { top = 0; bottom = 0 }
+
+pub overflow_mul-top : goal.overflow_mul-top
+unfolding none
+overflow_mul-top c =
+    let digit = c.requires.digits c.loop-digit.digit-index none (omega arith) in
+    omega (arith, part_fits _ c.args.share.period digit.top c.requires.valid.period)
+
+pub overflow_mul-top-in-loop-digit : goal.overflow_mul-top-in-loop-digit
+unfolding none
+overflow_mul-top-in-loop-digit c =
+    let digit = c.requires.digits c.loop-digit.digit-index none (omega arith) in
+    omega (arith, part_fits _ c.args.share.cost digit.bottom c.requires.valid.cost)
+
+pub overflow_add-top : goal.overflow_add-top
+unfolding none
+overflow_add-top c =
+    let digit = c.requires.digits c.loop-digit.digit-index none (omega arith) in
+    omega (
+      arith,
+      part_fits _ c.args.share.period digit.top c.requires.valid.period,
+      part_fits _ c.args.share.cost digit.bottom c.requires.valid.cost,
+      c.loop-digit.invariant.small,
+    )
+
+pub overflow_add-top-in-loop-digit : goal.overflow_add-top-in-loop-digit
+unfolding none
+overflow_add-top-in-loop-digit c =
+    let digit = c.requires.digits c.loop-digit.digit-index none (omega arith) in
+    omega (
+      arith,
+      part_fits _ c.args.share.period digit.top c.requires.valid.period,
+      part_fits _ c.args.share.cost digit.bottom c.requires.valid.cost,
+      c.loop-digit.invariant.small,
+    )
+
+pub overflow_mul-bottom : goal.overflow_mul-bottom
+unfolding none
+overflow_mul-bottom c =
+    let digit = c.requires.digits c.loop-digit.digit-index none (omega arith) in
+    omega (arith, part_fits _ c.args.share.period digit.bottom c.requires.valid.period)
+
+pub overflow_add-bottom : goal.overflow_add-bottom
+unfolding none
+overflow_add-bottom c =
+    let digit = c.requires.digits c.loop-digit.digit-index none (omega arith) in
+    omega (
+      arith,
+      part_fits _ c.args.share.period digit.bottom c.requires.valid.period,
+      c.loop-digit.invariant.short,
+    )
+
+pub returns-clause-digits : goal.returns-clause-digits
+returns-clause-digits c =
+    rw (c.in_ok-push-2.ensures.items) (digits_push _ _ c.loop-digit.invariant.digits
+    (record { top = omega (arith, c.loop-digit.invariant.small); bottom = omega (arith, c.loop-digit.invariant.short) }))
 
 pub loop-digit-preserved : goal.loop-digit-preserved
 unfolding none

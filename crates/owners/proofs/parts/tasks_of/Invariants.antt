@@ -1,6 +1,6 @@
 use Rattle.std.proofs.Common.{◌≡◌, ◌++◌, drop}
 use Rattle.std.specs.List.{filter}
-use Rattle.owners.specs.Parts.{has_task}
+use Rattle.owners.specs.Owners.{has_task}
 use Rattle.owners.proofs.parts.tasks_of.Given as goal
 
 abbrev pub invariant-loop-sheet : goal.invariant-loop-sheet

@@ -9,8 +9,8 @@ returns-in-Ok-clause-all g c =
     let before = g.W.Write.contents c.args.output.now.inner in
     let between = g.W.Write.contents c.put_lines-listed.new.output.inner in
     let after = g.W.Write.contents c.send.new.out.inner in
-    on_ok_map c.put_lines-listed.result (known_after (ListsAll c.args.listing.now.owners.now c.args.listing.now.set
-    c.args.listing.now.placing.now) (string_bytes c.args.listing.now.first) before between
+    on_ok_map c.put_lines-listed.result (known_after (ListsAll c.args.listing.now.owners.now c.args.listing.now.chains.now
+    c.args.listing.now.set c.args.listing.now.placing.now) (string_bytes c.args.listing.now.first) before between
     after c.new-held.result c.put_lines-listed.new.held c.new-held.ensures c.in-Ok.ensures.sent)
     c.put_lines-listed.ensures.all
 
@@ -19,7 +19,7 @@ returns-in-Ok-clause-some g c =
     let before = g.W.Write.contents c.args.output.now.inner in
     let between = g.W.Write.contents c.put_lines-listed.new.output.inner in
     let after = g.W.Write.contents c.send.new.out.inner in
-    λ is. known_after (ListsSome c.args.listing.now.owners.now c.args.listing.now.set
-    c.args.listing.now.placing.now) (string_bytes c.args.listing.now.first) before
+    λ is. known_after (ListsSome c.args.listing.now.owners.now c.args.listing.now.chains.now
+    c.args.listing.now.set c.args.listing.now.placing.now) (string_bytes c.args.listing.now.first) before
     between after c.new-held.result c.put_lines-listed.new.held c.new-held.ensures
     c.in-Ok.ensures.sent (c.put_lines-listed.ensures.some is)

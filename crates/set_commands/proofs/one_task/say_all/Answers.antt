@@ -5,16 +5,17 @@ use Rattle.set_commands.proofs.one_task.say_all.Goals as goal
 
 pub returns-in-Limits : goal.returns-in-Limits
 returns-in-Limits g c =
-    rw c.in-Limits.is (said_as (rw c.deref.ensures.value at c.print_placing.ensures) (λ told. λ asking known has said. elim told [
+    rw c.in-Limits.is (said_as c.print_placing.ensures (λ told. λ asking known has said. elim told [
       | inl listed ↦ (
         Ok (record {
           set = c.args.placed.now.tasks;
           owners = c.args.placed.now.owners.items;
+          chains = c.args.placed.now.chains.items;
           placing = c.args.placed.now.placing;
           lines = listed.0;
           status = c.print_placing.result;
         }),
-        (has, c.requires.placing, listed.1),
+        (has, said, c.requires.placing, listed.1),
         listed.2,
         refl,
       )

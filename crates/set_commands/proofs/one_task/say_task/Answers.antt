@@ -9,16 +9,17 @@ use Rattle.set_commands.proofs.one_task.say_task.Goals as goal
 pub returns-in-Some : goal.returns-in-Some
 returns-in-Some g c =
     let named = sym c.find_task.ensures.found ∙ c.in-Some.is in
-    made_said c.task_text.result (λ t. t.items) _ (rw c.deref.ensures.value at c.task_text.ensures)
+    made_said c.task_text.result (λ t. t.items) _ c.task_text.ensures
     c.print_bytes.ensures
     (λ text found wrote is. λ asking known has said. (
       Ok (record {
         set = c.args.placed.now.tasks;
         owners = c.args.placed.now.owners.items;
+        chains = c.args.placed.now.chains.items;
         placing = c.args.placed.now.placing;
         lines = found.0;
       }),
-      (has, c.requires.placing, (c.in-Some.task, named, found.1)),
+      (has, said, c.requires.placing, (c.in-Some.task, named, found.1)),
       rw found.2 at wrote,
       is ∙ c.placing_status-status.ensures,
     ))

@@ -1,4 +1,3 @@
-use Rattle.std.proofs.Common.{rules}
 use Rattle.set_commands.proofs.releases.list_of.Goals as goal
 
 pub returns-in-None : goal.returns-in-None

@@ -23,3 +23,13 @@ invariant_of-self c =
       room = c.self.invariant.room;
       obstructed = obstructed_inside _ _ _ _ c.self.view_is c.requires.next ended;
     }
+
+pub invariant_of-self-in-Ok-Obstruction-2 : goal.invariant_of-self-in-Ok-Obstruction-2
+invariant_of-self-in-Ok-Obstruction-2 c =
+    let ended = rw c.in-Ok-Obstruction.field-0-is at c.in-Ok-Obstruction.ensures.closed in
+    record {
+      valid = c.self.invariant.valid;
+      climbing = c.self.invariant.climbing;
+      room = c.self.invariant.room;
+      obstructed = obstructed_inside _ _ _ _ c.self.view_is c.requires.next ended;
+    }

@@ -1,0 +1,4 @@
+pub mod LessLaws
+pub mod MetLaws
+pub mod OrderedLaws
+pub mod ReachLaws

@@ -1,0 +1,14 @@
+use Rattle.chain_limits.proofs.ReachLaws.{furthest-each, furthest-own, none-met}
+use Rattle.chain_limits.proofs.laws.furthest_met_decides.Goals as goal
+
+pub returns-clause-each : goal.returns-clause-each
+returns-clause-each c writes U order tasks limit i number most value set inside grows is may =
+    furthest-each writes order tasks limit U i number set inside grows most value is may
+
+pub returns-clause-own : goal.returns-clause-own
+returns-clause-own c writes U order tasks limit i number most set inside grows is =
+    furthest-own writes order tasks limit U i number set inside grows most is
+
+pub returns-clause-none : goal.returns-clause-none
+returns-clause-none c writes U order tasks limit i number set inside none =
+    none-met writes order tasks limit U i number set inside none

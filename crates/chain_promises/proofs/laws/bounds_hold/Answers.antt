@@ -1,0 +1,11 @@
+use Rattle.chain_promises.proofs.HoldLaws.{in_runs, number, simulated}
+use Rattle.chain_promises.proofs.laws.bounds_hold.Goals as goal
+
+pub returns-clause-runs : goal.returns-clause-runs
+returns-clause-runs c = λ writes U levels first others bound are is. in_runs U levels are writes first others bound is
+
+pub returns-clause-simulated : goal.returns-clause-simulated
+returns-clause-simulated c = λ writes U levels first others bound are is. simulated U levels are writes first others bound is
+
+pub returns-clause-number : goal.returns-clause-number
+returns-clause-number c = λ writes U levels first others bound is. number U levels writes first others bound is

@@ -1,0 +1,5 @@
+pub mod Aims
+pub mod Arrivals
+pub mod Built
+pub mod Shown
+pub mod Laws

@@ -1,0 +1,7 @@
+pub mod Sources
+pub mod Legs
+pub mod Stands
+pub mod Stops
+pub mod WayMarks
+pub mod WayTexts
+pub mod WayLaws

@@ -1,0 +1,87 @@
+-- How a way is drawn: a dot where a job reads, a line along its row to where it writes, from there a line to the row of the job
+-- that reads what it wrote, and dots up to where that does.
+use Rattle.std.specs.Prelude.{ℕ, ◌+◌, if◌then◌else◌, List, [], ◌∷◌, ◌++◌, codes, nat_lt, slice_index_or, length}
+use Rattle.std.specs.Fmt.{decimal}
+use Rattle.std.specs.List.{concat}
+use Rattle.frames.specs.Frame.{Frame, is_in, sees, top_of, x_of}
+use Rattle.frames.specs.Numbers.{times_end}
+use Rattle.frames.specs.PictureRows.{each}
+use Rattle.drawn_ways.specs.declared.marks.Ink.{Ink}
+use Rattle.drawn_ways.specs.declared.marks.Ink.TheVariants.{Standing, Next}
+use Rattle.drawn_ways.specs.declared.stops.Stop.{Stop}
+
+-- the class of a way's lines
+abbrev pub class_of : Ink → List ℕ
+class_of Standing = codes "ya"
+class_of Next = codes "yb"
+
+-- how high they lie in row k
+abbrev pub line_y : Ink → (k : ℕ) → ℕ
+line_y Standing k = top_of k + 215
+line_y Next k = top_of k + 295
+
+-- a path, up to where it begins
+abbrev pub path_head : Ink → (class : List ℕ) → (x k : ℕ) → List ℕ
+path_head ink class x k =
+    concat (codes "<path class=\"" ∷ class_of ink ∷ class ∷ codes "\" d=\"M" ∷ decimal x ∷ codes " "
+    ∷ decimal (line_y ink k) ∷ [])
+
+-- a line along a row, where it is seen, and what it tells of a chain
+abbrev pub along_text : Frame → Ink → (class : List ℕ) → (chain how : List ℕ) → Stop → List ℕ
+along_text f ink class chain how s =
+    if sees f s.start s.stop
+    then path_head ink class (x_of f s.start) s.k
+    ++ concat (codes "H" ∷ decimal (x_of f s.stop) ∷ codes "\"><title>" ∷ chain ∷ how ∷ s.name
+    ∷ codes " " ∷ times_end s.start s.stop ∷ [])
+    else []
+
+-- ---- a job
+-- a dot, where it reads in the window
+abbrev pub dot_text : Frame → Ink → Stop → List ℕ
+dot_text f ink s =
+    if is_in f s.start then path_head ink (codes " yd") (x_of f s.start) s.k ++ codes "h1\"/>\n" else []
+
+-- the same, and a line
+abbrev pub job_text : Frame → Ink → (chain : List ℕ) → Stop → List ℕ
+job_text f ink chain s = dot_text f ink s ++ along_text f ink [] chain (codes ": ") s
+
+-- ---- from job to job
+-- a line to the row of the next one, where the job writes in the window
+abbrev pub turn_text : Frame → Ink → Stop → (next : Stop) → List ℕ
+turn_text f ink s next =
+    if is_in f s.stop
+    then path_head ink [] (x_of f s.stop) s.k
+    ++ concat (codes "V" ∷ decimal (line_y ink next.k) ∷ codes "\"/>\n" ∷ [])
+    else []
+
+-- what it wrote, until the next one reads
+abbrev pub wait_of : Stop → (next : Stop) → Stop
+wait_of s next = record { name = next.name; k = next.k; start = s.stop; stop = next.start }
+
+abbrev pub link_text : Frame → Ink → (chain : List ℕ) → Stop → (next : Stop) → List ℕ
+link_text f ink chain s next =
+    turn_text f ink s next ++ along_text f ink (codes " yw") chain (codes ": waits for ") (wait_of s next)
+
+-- ---- the way
+-- stands past the end of some jobs
+abbrev pub no_stop : Stop
+no_stop = record { name = []; k = 0; start = 0; stop = 0 }
+
+-- the job at a place, from 0
+abbrev pub stop_in : List Stop → ℕ → Stop
+stop_in stops i = slice_index_or stops i no_stop
+
+-- of a way, of which the last job stands first: how what the job before job i wrote comes to that, if there is one
+abbrev pub link_to_text : Frame → Ink → (chain : List ℕ) → List Stop → (i : ℕ) → List ℕ
+link_to_text f ink chain stops i =
+    if nat_lt (i + 1) (length stops)
+    then link_text f ink chain (stop_in stops (i + 1)) (stop_in stops i)
+    else []
+
+-- the same, and job i
+abbrev pub nth_text : Frame → Ink → (chain : List ℕ) → List Stop → (i : ℕ) → List ℕ
+nth_text f ink chain stops i =
+    link_to_text f ink chain stops i ++ job_text f ink chain (stop_in stops i)
+
+abbrev pub stops_text : Frame → Ink → (chain : List ℕ) → List Stop → List ℕ
+stops_text f ink chain stops = each (length stops) (nth_text f ink chain stops)

@@ -1,0 +1,3 @@
+pub mod Interrupted
+pub mod Sources
+pub mod Seen

@@ -1,0 +1,4 @@
+pub mod ShownSlices
+pub mod ShownJobs
+pub mod Beside
+pub mod Traces

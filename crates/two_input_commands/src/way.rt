@@ -1,0 +1,294 @@
+//! `desk draw` with `--chain`.
+ghost use Rattle.std.specs.Prelude.{◌≡◌, ◌≤◌, IfOk, length};
+ghost use Rattle.task_sheet.specs.Orders.{IsOrder};
+ghost use Rattle.task_sheet.specs.declared.set.TheConstants.{TASK_LIMIT};
+ghost use Rattle.answering.specs.Outcomes.{IsSaidOn};
+ghost use Rattle.answering.specs.Printed.{IsPrinted};
+ghost use Rattle.drawn_ways.specs.WayTexts.{way_of};
+ghost use Rattle.run_lines.specs.TaskBounds.{tasks_of_bounds};
+ghost use Rattle.two_input_commands.specs.Simulate.{IsInOrder, simulation_status};
+ghost use Rattle.two_input_commands.specs.declared.simulate.Simulated.TheVariants.{Ordered, Ran};
+ghost use Rattle.two_input_commands.specs.Way.{DrawsWay, IsViewWith, IsWayOf, answer_drawn, name_at, names_at, picture_with, rows_drawn, rows_with, told_bound, way_in, way_said};
+
+use crate::draw::{Drawing, draw_text, rows_in_view};
+use crate::reached::levels_of;
+use crate::simulate::{OrderedRun, Run, Simulated, bounds_judged};
+use answering::{CommandRefusal, Status, find_chain, no_such_chain, print, print_stuck};
+use ceiling_kernel::{Release, Trace};
+use chain_tables::Chain;
+use chains::{Level, bound_of};
+use command_line::Options;
+use drawn_ways::{Way, laid_over, way_text};
+use frames::{TaskRow, View, frame_of, shown_of};
+use judge::SettingRow;
+use picture::draw;
+use run_lines::{TaskBound, bounds_of};
+use std::alloc::{AllocError, Global};
+use std::io::Write;
+use streams::Watched;
+use task_sheet::{Name, TaskSet};
+
+/// What came of a set and a release list, and the picture of it with the way of a chain's datum.
+#[derive(Drop)]
+pub struct DrawnWay {
+    /// As `desk simulate` answers.
+    pub answer: Simulated,
+    /// An SVG 1.1 document; nothing where no order passes.
+    pub text: Vec<u8>,
+}
+
+// The name of a task of a set.
+fn name_at(set: &TaskSet, task: usize) -> Option<Name>
+    ensures { result ≡ name_at set.now task }
+{
+    let sheet = set.sheets().get(task)?;
+    Some(sheet.name())
+}
+
+// The names of tasks of a set.
+fn names_at(alloc: Global, set: &TaskSet, tasks: &[usize]) -> Result<Vec<Name>, AllocError>
+    ensures { IfOk result (λ names. names.items ≡ names_at set.now tasks.now) }
+{
+    let mut names = Vec::with_capacity(alloc, tasks.len())?;
+    for task in tasks {
+        if let Some(name) = name_at(set, *task) {
+            names.push(name)?;
+        }
+    }
+    Ok(names)
+}
+
+// The names of the tasks that have rows, where some are named, and those of a chain.
+fn rows_with(
+    alloc: Global,
+    set: &TaskSet,
+    chain: &Chain,
+    rows: &[Name],
+) -> Result<Vec<Name>, AllocError>
+    ensures { IfOk result (λ names. names.items ≡ rows_with set.now chain.now rows.now) }
+{
+    let mut names = Vec::new(alloc);
+    if rows.is_empty() {
+        return Ok(names);
+    }
+    let more = names_at(alloc, set, &chain.tasks)?;
+    names.extend_from_slice(rows)?;
+    names.extend_from_slice(&more)?;
+    Ok(names)
+}
+
+// A view with them.
+fn view_with(alloc: Global, set: &TaskSet, chain: &Chain, view: View) -> Result<View, AllocError>
+    ensures { IfOk result (IsViewWith set.now chain.now view) }
+{
+    let tasks = rows_with(alloc, set, chain, &view.tasks)?;
+    Ok(View {
+        from: view.from,
+        to: view.to,
+        width: view.width,
+        paper: view.paper,
+        title: view.title,
+        tasks,
+    })
+}
+
+// A bound that has no more than 64 bits.
+fn told_bound(bound: Option<u128>) -> Option<u64>
+    ensures { result ≡ told_bound bound }
+{
+    let bound = bound?;
+    if bound < 18_446_744_073_709_551_616 {
+        Some(bound as u64)
+    } else {
+        None
+    }
+}
+
+// What is drawn of a chain in an order with these levels.
+fn way_in<'a>(set: &TaskSet, levels: &[Level], chain: &'a Chain) -> Way<'a>
+    ensures { way_of result ≡ way_in set.now levels.now chain.now }
+{
+    let tasks: &'a [usize] = &chain.tasks;
+    Way {
+        name: chain.name,
+        writes: chain.writes,
+        tasks,
+        bound: told_bound(bound_of(set, levels, chain.writes, tasks)),
+    }
+}
+
+// The picture of rows of a run, with the way of a datum.
+fn rows_drawn(
+    alloc: Global,
+    set: &TaskSet,
+    rows: &[TaskRow],
+    view: &View,
+    until: u64,
+    releases: &[Release],
+    trace: &Trace,
+    way: &Way<'_>,
+) -> Result<Vec<u8>, AllocError>
+    requires { length rows.now ≤ TASK_LIMIT }
+    ensures { IfOk result (λ text. text.items
+        ≡ rows_drawn set.now rows.now view.now until releases.now trace.now (way_of way.now)) }
+{
+    let document = draw(alloc, rows, view, until, releases, trace)?;
+    let shown = shown_of(alloc, &view.tasks, releases, rows)?;
+    let frame = frame_of(rows, view, until);
+    let over = way_text(alloc, frame, set, rows, &shown, trace, way)?;
+    laid_over(alloc, &document, &over)
+}
+
+// The picture of a run in an order of a set, with the way of a chain's datum.
+fn picture_with(
+    alloc: Global,
+    set: &TaskSet,
+    settings: &[SettingRow],
+    bounds: &[TaskBound],
+    view: &View,
+    until: u64,
+    releases: &[Release],
+    trace: &Trace,
+    chain: &Chain,
+) -> Result<Vec<u8>, AllocError>
+    requires { IsOrder set.now (tasks_of_bounds bounds.now) }
+    ensures { IfOk result (λ text. text.items ≡ picture_with set.now settings.now bounds.now view.now until
+        releases.now trace.now chain.now) }
+{
+    let rows = rows_in_view(alloc, set, settings, bounds, view, releases)?;
+    let levels = levels_of(alloc, bounds)?;
+    let way = way_in(set, &levels, chain);
+    rows_drawn(alloc, set, &rows, view, until, releases, trace, &way)
+}
+
+// The same of a run in the best order.
+fn way_of_run(
+    alloc: Global,
+    set: &TaskSet,
+    settings: &[SettingRow],
+    view: &View,
+    chain: &Chain,
+    run: &Run,
+) -> Result<Vec<u8>, AllocError>
+    requires { IsInOrder set.now (Ran run.now) }
+    ensures { IfOk result (λ text. text.items
+        ≡ answer_drawn set.now settings.now view.now chain.now (Ran run.now)) }
+{
+    let bounds = bounds_of(alloc, &run.places)?;
+    picture_with(
+        alloc,
+        set,
+        settings,
+        &bounds,
+        view,
+        run.until,
+        &run.releases,
+        &run.trace,
+        chain,
+    )
+}
+
+// The same in the order that its list gives.
+fn way_of_ordered(
+    alloc: Global,
+    set: &TaskSet,
+    settings: &[SettingRow],
+    view: &View,
+    chain: &Chain,
+    run: &OrderedRun,
+) -> Result<Vec<u8>, AllocError>
+    requires { IsInOrder set.now (Ordered run.now) }
+    ensures { IfOk result (λ text. text.items
+        ≡ answer_drawn set.now settings.now view.now chain.now (Ordered run.now)) }
+{
+    let bounds = bounds_judged(alloc, &run.judged)?;
+    picture_with(
+        alloc,
+        set,
+        settings,
+        &bounds,
+        view,
+        run.until,
+        &run.releases,
+        &run.trace,
+        chain,
+    )
+}
+
+// The same of what came of a set; nothing where no order passes.
+fn answer_drawn(
+    alloc: Global,
+    set: &TaskSet,
+    settings: &[SettingRow],
+    view: &View,
+    chain: &Chain,
+    answer: &Simulated,
+) -> Result<Vec<u8>, AllocError>
+    requires { IsInOrder set.now answer.now }
+    ensures { IfOk result (λ text. text.items
+        ≡ answer_drawn set.now settings.now view.now chain.now answer.now) }
+{
+    match answer {
+        Simulated::Ran(run) => way_of_run(alloc, set, settings, view, chain, run),
+        Simulated::Ordered(run) => way_of_ordered(alloc, set, settings, view, chain, run),
+        Simulated::Infeasible(_) => Ok(Vec::new(alloc)),
+    }
+}
+
+// What was found, drawn with the way of a chain's datum.
+fn way_drawn(
+    alloc: Global,
+    set: &TaskSet,
+    chain: &Chain,
+    drawing: Drawing,
+) -> Result<DrawnWay, AllocError>
+    requires { IsInOrder set.now drawing.answer }
+    ensures { IfOk result (IsWayOf set.now chain.now drawing) }
+{
+    let view = view_with(alloc, set, chain, drawing.view)?;
+    let text = answer_drawn(alloc, set, &drawing.settings, &view, chain, &drawing.answer)?;
+    Ok(DrawnWay {
+        answer: drawing.answer,
+        text,
+    })
+}
+
+/// What came of a set with chains and the text of a release list, drawn with the way of the datum of the chain that a word names.
+#[tactic(auto, using(crate::proofs::Ways::undrawn, crate::proofs::Ways::unknown))]
+pub fn draw_way(
+    alloc: Global,
+    word: &str,
+    options: Options<'_>,
+    chains: &[Chain],
+    tasks: &TaskSet,
+    text: &[u8],
+) -> Result<DrawnWay, CommandRefusal>
+    ensures answer { DrawsWay word.now options.entry chains.now tasks.now text.now result }
+    ensures order { IfOk result (λ found. IsInOrder tasks.now found.answer) }
+{
+    let drawing = draw_text(alloc, options, tasks, text)?;
+    let Some(chain) = find_chain(chains, word) else {
+        return Err(no_such_chain(word));
+    };
+    match way_drawn(alloc, tasks, chain, drawing) {
+        Ok(found) => Ok(found),
+        Err(_) => Err(CommandRefusal::OutOfMemory),
+    }
+}
+
+/// Prints it, or why there is no run.
+pub fn print_way<W: Write + Drop>(
+    alloc: Global,
+    tasks: &TaskSet,
+    found: &DrawnWay,
+    output: &mut Watched<W>,
+) -> Status
+    ensures { IsSaidOn (λ before after s. IsPrinted before after
+        (way_said tasks.now found.now found.now.answer)
+        (simulation_status found.now.answer) s) W.contents output.old output.new result }
+{
+    match &found.answer {
+        Simulated::Ran(_) | Simulated::Ordered(_) => print(&found.text, Status::Done, output),
+        Simulated::Infeasible(members) => print_stuck(alloc, tasks, *members, output),
+    }
+}
