@@ -4,13 +4,14 @@ use Rattle.std.proofs.Common.{Result, Ok, Err, Global, refl, sym, ◌∙◌, ap,
 use Rattle.std.proofs.lemmas.List.{map_push, length-map}
 use Rattle.std.specs.declared.sync.Arc.{Arc}
 use Rattle.task_sheet.specs.TaskSet.{IsTaskSet}
-use Rattle.task_sheet.specs.Verdicts as verdict
 use Rattle.task_sheet.proofs.TaskLaws.{AllTasks-from_set}
 use Rattle.task_sheet.proofs.ObstructionLaws.{IsObstruction-fails}
+use Rattle.assignment.specs.Placings.{tasks_of_places}
 use Rattle.drafts.specs.declared.change.Refusal.{Refusal}
 use Rattle.drafts.specs.declared.judging.Judged.{Judged}
 use Rattle.drafts.specs.declared.judging.Judged.TheVariants as judged
 use Rattle.drafts.specs.Applied.{OnNode, set_of, applied}
+use Rattle.drafts.specs.Placed.{AreStuck}
 use Rattle.drafts.specs.Machine.{MachineState, empty_desk, Ruling, Admitted, Refused, Infeasible}
 use Rattle.drafts.specs.Machine.{Entry, IsRuling, IsDecision, moved, after_entry, IsLegal, replay}
 use Rattle.drafts.specs.Machine.{one_if_admitted, admissions}
@@ -39,14 +40,13 @@ said-answer version (Err refusal) (judged.Best a) (Admitted again) h said = absu
 said-answer version (Err refusal) (judged.Stuck o) (Infeasible again) h said = absurd h
 said-answer version (Ok node) (judged.Refused told) (Refused again) h said = absurd h
 said-answer version (Ok node) (judged.Best a) (Admitted again) h said =
-    ((verdict.order_of a.value.levels, h.1.best.passing), said)
+    ((tasks_of_places a.places, h.1.best.passing), said)
 said-answer version (Ok node) (judged.Stuck o) (Infeasible again) h said =
     let valid : IsTaskSet (set_of node) = subst IsTaskSet h.0 said.1 in (
       IsObstruction-fails (set_of node) (AllTasks-from_set (set_of node) valid) _
           h.1.greatest.obstruction,
       ap (λ p. p.set) said.0 ∙ h.0,
-      subst (λ p. verdict.IsVerdictOf (set_of node) (verdict.Infeasible p.members))
-          (sym said.0) h.1,
+      subst (λ p. AreStuck (set_of node) p.members) (sym said.0) h.1,
     )
 said-answer version outcome j d h said = absurd said
 

@@ -2,6 +2,7 @@ pub mod OwnedLaws
 pub mod ChangeLaws
 pub mod BookLaws
 pub mod RosterLaws
+pub mod PlacedLaws
 pub mod LogLaws
 pub mod ReachedLaws
 pub mod InterruptLaws

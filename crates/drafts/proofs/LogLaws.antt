@@ -1,12 +1,12 @@
 -- What a log was asked determines what it says.
 use Rattle.std.proofs.Common.{◌≡◌, ℕ, List, [], ◌∷◌, Result, Ok, Err, refl, sym, ◌∙◌, ap, subst}
-use Rattle.task_sheet.proofs.VerdictLaws.{IsStuck-one}
 use Rattle.drafts.specs.declared.change.Change.{Change}
 use Rattle.drafts.specs.declared.change.Refusal.{Refusal}
 use Rattle.drafts.specs.Applied.{OnNode, set_of, applied}
 use Rattle.drafts.specs.Machine.{MachineState, Ruling, Admitted, Refused, Infeasible, Entry}
 use Rattle.drafts.specs.Machine.{IsRuling, after_entry, IsLegal}
 use Rattle.drafts.specs.Commits.{commit_of, commits_of}
+use Rattle.drafts.proofs.PlacedLaws.{AreStuck-one}
 
 -- ---- one answer
 pub answer-one : (version : ℕ) (outcome : Result OnNode Refusal) (d e : Ruling)
@@ -21,7 +21,7 @@ answer-one version (Ok node) (Admitted told) (Admitted again) a b =
 answer-one version (Ok node) (Admitted told) (Infeasible again) a b = absurd (b.0 a.0)
 answer-one version (Ok node) (Infeasible told) (Admitted again) a b = absurd (a.0 b.0)
 answer-one version (Ok node) (Infeasible told) (Infeasible again) a b =
-    let members = IsStuck-one (set_of node) told.members again.members a.2 b.2 in
+    let members = AreStuck-one (set_of node) told.members again.members a.2 b.2 in
     let sets = a.1 ∙ sym b.1 in
     λ i. Infeasible (record { set = sets i; members = members i })
 answer-one version outcome d e a b = absurd b

@@ -1,6 +1,7 @@
 pub mod Teams
 pub mod Applied
 pub mod Rosters
+pub mod Placed
 pub mod Machine
 pub mod Rulings
 pub mod Commits

@@ -1,17 +1,16 @@
 -- The desk that takes commits one at a time, and logs that it might have written.
 use Rattle.std.specs.Prelude.{◌≡◌, ℕ, ◌+◌, List, [], ◌∷◌, Result, Ok, Err}
 use Rattle.task_sheet.specs.Orders.{IsFeasible}
-use Rattle.task_sheet.specs.Verdicts as verdict
 use Rattle.drafts.specs.declared.change.Change.{Change}
 use Rattle.drafts.specs.declared.change.Refusal.{Refusal}
-use Rattle.assignment.specs.AssignmentData.{ObstructionData}
 use Rattle.drafts.specs.Applied.{OnNode, set_of, applied}
+use Rattle.drafts.specs.Placed.{StuckSetData, AreStuck}
 
 -- a decision, by what it says
 pub data Ruling : Type 0 where
   Admitted : (version : ℕ) → Ruling
   Refused : (refusal : Refusal) → Ruling
-  Infeasible : (obstruction : ObstructionData) → Ruling
+  Infeasible : (stuck : StuckSetData) → Ruling
 
 -- a line of the log: who asked, with which changes, and what was decided
 pub record Entry : Type 0 where
@@ -28,14 +27,14 @@ pub record MachineState : Type 0 where
 abbrev pub empty_desk : MachineState
 empty_desk = record { version = 0; node = record { tasks = []; interrupts = [] } }
 
--- what the machine answers to a commit whose changes come to this; an infeasible one with the greatest obstruction
+-- what the machine answers to a commit whose changes come to this; an infeasible one with the members of the
+-- greatest obstruction
 abbrev pub IsRuling : ℕ → Result OnNode Refusal → Ruling → Type 0
 IsRuling version (Err refusal) (Refused told) = told ≡ refusal
 IsRuling version (Ok node) (Admitted told) = IsFeasible (set_of node) × (told ≡ version + 1)
-IsRuling version (Ok node) (Infeasible o) =
-    (¬ IsFeasible (set_of node)) × (o.set ≡ set_of node)
-    × verdict.IsVerdictOf (set_of node) (verdict.Infeasible o.members)
-IsRuling version (Err refusal) (Infeasible o) = ⊥
+IsRuling version (Ok node) (Infeasible s) =
+    (¬ IsFeasible (set_of node)) × (s.set ≡ set_of node) × AreStuck (set_of node) s.members
+IsRuling version (Err refusal) (Infeasible s) = ⊥
 IsRuling version (Err refusal) (Admitted told) = ⊥
 IsRuling version (Ok node) (Refused told) = ⊥
 
@@ -53,7 +52,7 @@ admitted desk (Err refusal) = desk
 abbrev pub moved : MachineState → Ruling → Result OnNode Refusal → MachineState
 moved desk (Admitted version) outcome = admitted desk outcome
 moved desk (Refused refusal) outcome = desk
-moved desk (Infeasible o) outcome = desk
+moved desk (Infeasible s) outcome = desk
 
 -- the state after an entry
 abbrev pub after_entry : MachineState → Entry → MachineState
@@ -74,7 +73,7 @@ replay desk (e ∷ log) = replay (after_entry desk e) log
 abbrev pub one_if_admitted : Ruling → ℕ
 one_if_admitted (Admitted version) = 1
 one_if_admitted (Refused refusal) = 0
-one_if_admitted (Infeasible o) = 0
+one_if_admitted (Infeasible s) = 0
 
 -- how many entries are admitted
 abbrev pub admissions : List Entry → ℕ

@@ -2,15 +2,14 @@
 use Rattle.std.specs.Prelude.{◌≡◌, ℕ, ◌+◌, List, Option, None, Some, Result, Ok, Err}
 use Rattle.task_sheet.specs.Sheet.{Task}
 use Rattle.task_sheet.specs.TaskSet.{IsTaskSet}
-use Rattle.task_sheet.specs.Verdicts.{IsVerdictOf, Admitted, Infeasible}
-use Rattle.assignment.specs.declared.verdict.Verdict.{Verdict}
-use Rattle.assignment.specs.declared.verdict.Verdict.TheVariants as verdict
+use Rattle.assignment.specs.Placings.{IsBestPlacing}
 use Rattle.drafts.specs.declared.change.Refusal.{Refusal}
 use Rattle.drafts.specs.declared.applying.Applied.{Applied}
 use Rattle.drafts.specs.declared.applying.Applied.TheVariants.{Tasks, Refused}
 use Rattle.drafts.specs.declared.judging.Judged.{Judged}
 use Rattle.drafts.specs.declared.judging.Judged.TheVariants as judged
 use Rattle.drafts.specs.Applied.{OnNode, set_of}
+use Rattle.drafts.specs.Placed.{AreStuck}
 use Rattle.drafts.specs.Machine.{MachineState, Ruling, Entry, admitted}
 use Rattle.drafts.specs.Machine as ruling
 use Rattle.drafts.specs.Edits.{Draft}
@@ -22,38 +21,32 @@ IsApplied (Ok node) (Tasks set) = set.value ≡ set_of node
 IsApplied (Err refusal) (Tasks set) = ⊥
 IsApplied (Ok node) (Refused told) = ⊥
 
--- the verdict on a set
+-- the best order of the set, or the members of its greatest obstruction
 abbrev pub IsJudgedSet : List Task → Judged → Type 0
 IsJudgedSet U (judged.Refused refusal) = ⊥
-IsJudgedSet U (judged.Best a) = (a.value.set ≡ U) × IsVerdictOf U (Admitted a.value.levels)
-IsJudgedSet U (judged.Stuck o) = (o.value.set ≡ U) × IsVerdictOf U (Infeasible o.value.members)
+IsJudgedSet U (judged.Best order) = (order.set ≡ U) × IsBestPlacing U order.places
+IsJudgedSet U (judged.Stuck stuck) = (stuck.set ≡ U) × AreStuck U stuck.members
 
--- the refusal, or the verdict on the set that the changes come to
+-- the refusal, or what becomes of the set that the changes come to
 abbrev pub IsJudged : Result OnNode Refusal → Judged → Type 0
 IsJudged (Ok node) j = IsJudgedSet (set_of node) j
 IsJudged (Err refusal) (judged.Refused told) = told ≡ refusal
-IsJudged (Err refusal) (judged.Best a) = ⊥
-IsJudged (Err refusal) (judged.Stuck o) = ⊥
+IsJudged (Err refusal) (judged.Best order) = ⊥
+IsJudged (Err refusal) (judged.Stuck stuck) = ⊥
 
 -- the decision says what was judged, of a set that is valid
 abbrev pub IsSaid : ℕ → Judged → Ruling → Type 0
 IsSaid version (judged.Refused refusal) (ruling.Refused told) = told ≡ refusal
-IsSaid version (judged.Best a) (ruling.Admitted told) = told ≡ version + 1
-IsSaid version (judged.Stuck o) (ruling.Infeasible told) = (told ≡ o.value) × IsTaskSet o.value.set
+IsSaid version (judged.Best order) (ruling.Admitted told) = told ≡ version + 1
+IsSaid version (judged.Stuck stuck) (ruling.Infeasible told) = (told ≡ stuck) × IsTaskSet stuck.set
 IsSaid version j d = ⊥
-
--- the judgement is the verdict, shared
-abbrev pub IsShared : Verdict → Judged → Type 0
-IsShared (verdict.Admitted a) (judged.Best b) = b.value ≡ a
-IsShared (verdict.Infeasible o) (judged.Stuck p) = p.value ≡ o
-IsShared v j = ⊥
 
 -- where it is admitted, the state moves to what the changes come to
 abbrev pub IsNextState : MachineState → Result OnNode Refusal → Judged → Option MachineState
     → Type 0
-IsNextState desk outcome (judged.Best a) next = next ≡ Some (admitted desk outcome)
+IsNextState desk outcome (judged.Best order) next = next ≡ Some (admitted desk outcome)
 IsNextState desk outcome (judged.Refused refusal) next = next ≡ None
-IsNextState desk outcome (judged.Stuck o) next = next ≡ None
+IsNextState desk outcome (judged.Stuck stuck) next = next ≡ None
 
 -- the line of a draft's changes that were judged at a version
 abbrev pub IsEntryOf : ℕ → Draft → Judged → Entry → Type 0

@@ -1,4 +1,4 @@
--- What a decision says, wherever its obstruction is kept.
+-- What a decision says.
 use Rattle.drafts.specs.declared.entry.Decision.{Decision}
 use Rattle.drafts.specs.declared.entry.Decision.TheVariants as decision
 use Rattle.drafts.specs.Machine.{Ruling, Admitted, Refused, Infeasible}
@@ -7,4 +7,4 @@ use Rattle.drafts.specs.Machine.{Ruling, Admitted, Refused, Infeasible}
 abbrev pub ruling_of : Decision → Ruling
 ruling_of (decision.Admitted version) = Admitted version
 ruling_of (decision.Refused refusal) = Refused refusal
-ruling_of (decision.Infeasible o) = Infeasible o.value
+ruling_of (decision.Infeasible stuck) = Infeasible stuck

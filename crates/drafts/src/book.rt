@@ -70,14 +70,14 @@ fn decide(version: u64, judged: &Judged) -> Result<Decision, AllocError>
 {
     match judged {
         Judged::Refused { refusal } => Ok(Decision::Refused { refusal: *refusal }),
-        Judged::Best { assignment: _ } => Ok(Decision::Admitted {
+        Judged::Best { order: _ } => Ok(Decision::Admitted {
             version: version + 1,
         }),
-        Judged::Stuck { obstruction } => {
+        Judged::Stuck { stuck } => {
             // The set is valid: the proof has it from its sheets.
-            let _ = obstruction.set().sheets();
+            let _ = stuck.set().sheets();
             Ok(Decision::Infeasible {
-                obstruction: obstruction.clone()?,
+                stuck: stuck.copy()?,
             })
         }
     }
@@ -216,14 +216,14 @@ impl Book {
     {
         match judged {
             Judged::Refused { refusal: _ } => Ok(None),
-            Judged::Stuck { obstruction: _ } => Ok(None),
-            Judged::Best { assignment } => {
+            Judged::Stuck { stuck: _ } => Ok(None),
+            Judged::Best { order } => {
                 let tasks = self.tasks_after(alloc, draft)?;
                 let interrupts = self
                     .state
                     .interrupts_after(alloc, draft.team(), draft.changes())?;
                 let version = self.state.version() + 1;
-                let next = NodeState::with(version, tasks, interrupts, assignment.clone()?);
+                let next = NodeState::with(version, tasks, interrupts, order.copy(alloc)?);
                 match Arc::new(alloc, next) {
                     Ok(next) => Ok(Some(next)),
                     Err(_) => Err(AllocError),

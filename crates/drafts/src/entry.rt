@@ -3,10 +3,9 @@ ghost use Rattle.std.specs.Prelude.{◌≡◌};
 ghost use Rattle.drafts.specs.Rulings.{ruling_of};
 
 use crate::change::{Change, Refusal};
+use crate::placed::StuckSet;
 use crate::team::Team;
-use assignment::Obstruction;
 use std::marker::Model;
-use std::sync::Arc;
 use task_sheet::Name;
 
 /// What was decided of a commit.
@@ -14,7 +13,7 @@ use task_sheet::Name;
 pub enum Decision {
     Admitted { version: u64 },
     Refused { refusal: Refusal },
-    Infeasible { obstruction: Arc<Obstruction> },
+    Infeasible { stuck: StuckSet },
 }
 
 /// A line of the log.

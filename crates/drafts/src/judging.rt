@@ -1,42 +1,99 @@
-//! Changes with the verdict on what they come to.
+//! Changes with what becomes of the set that they come to.
 
-ghost use Rattle.std.specs.Prelude.{◌≡◌, IfOk, IfErr};
+ghost use Rattle.std.specs.Prelude.{◌≡◌, ◌≤◌, ℕ, [], length, IfOk, vec_capacity};
+ghost use Rattle.task_sheet.specs.Indexes.{among, indexes_of};
+ghost use Rattle.task_sheet.specs.Verdicts.{tasks_of};
+ghost use Rattle.assignment.specs.Placings.{IsPlacingOf, places_of};
+ghost use Rattle.assignment.specs.Verdict.{verdict_set};
 ghost use Rattle.drafts.specs.Applied.{applied};
-ghost use Rattle.drafts.specs.Outcomes.{IsJudged, IsShared};
+ghost use Rattle.drafts.specs.Outcomes.{IsJudged, IsJudgedSet};
 
 use crate::applying::{Applied, apply};
 use crate::change::Refusal;
 use crate::draft::Draft;
+use crate::placed::{BestOrder, StuckSet};
 use crate::state::NodeState;
-use assignment::{Assignment, Obstruction, Verdict, assign};
+use assignment::{Failure, LevelRecord, Place, Placing, Verdict, place_all};
+use ceilings::{LockTable, Tabled};
 use std::alloc::{AllocError, Global};
 use std::sync::Arc;
+use task_sheet::{Members, TaskSet};
 
-/// What changes come to, with the verdict on the set.
+/// What changes come to, with what becomes of the set.
 #[derive(Drop)]
 pub enum Judged {
     Refused { refusal: Refusal },
     /// Some order passes; this is the best.
-    Best { assignment: Arc<Assignment> },
+    Best { order: BestOrder },
     /// No order passes.
-    Stuck { obstruction: Arc<Obstruction> },
+    Stuck { stuck: StuckSet },
 }
 
-/// A verdict, to be shared.
-pub fn share(alloc: Global, verdict: Verdict) -> Result<Judged, Verdict>
-    ensures ok { IfOk result (λ judged. IsShared verdict judged) }
-    ensures back { IfErr result (λ back. back ≡ verdict) }
+/// A set with its placing.
+pub fn judged_as(set: Arc<TaskSet>, placing: Placing) -> Judged
+    requires { IsPlacingOf set.value placing }
+    ensures { IsJudgedSet set.value result }
 {
-    match verdict {
-        Verdict::Admitted(assignment) => match Arc::new(alloc, assignment) {
-            Ok(assignment) => Ok(Judged::Best { assignment }),
-            Err(refused) => Err(Verdict::Admitted(refused.value)),
+    match placing {
+        Placing::Best(places) => Judged::Best {
+            order: BestOrder::new(set, places),
         },
-        Verdict::Infeasible(obstruction) => match Arc::new(alloc, obstruction) {
-            Ok(obstruction) => Ok(Judged::Stuck { obstruction }),
-            Err(refused) => Err(Verdict::Infeasible(refused.value)),
+        Placing::Stuck(members) => Judged::Stuck {
+            stuck: StuckSet::new(set, members),
         },
     }
+}
+
+// The places of levels, into a list with room for them.
+fn places_of(levels: &[LevelRecord], mut places: Vec<Place>) -> Vec<Place>
+    requires empty { places.items ≡ [] }
+    requires room { length levels.now ≤ vec_capacity places }
+    ensures { result.items ≡ places_of levels.now }
+{
+    for level in levels {
+        places.push_reserved(Place {
+            task: level.task,
+            response: level.response,
+        });
+    }
+    places
+}
+
+// The tasks that fail.
+fn members_of(fails: &[Failure]) -> Members
+    ensures { (k : ℕ) → indexes_of result k ≡ among (tasks_of fails.now) k }
+{
+    let mut members = Members::empty();
+    for failure in fails {
+        members = members.with(failure.task);
+    }
+    members
+}
+
+/// A set with what its verdict says, without the reasons, into a list with room for its tasks.
+pub fn judged_by(set: Arc<TaskSet>, verdict: &Verdict, room: Vec<Place>) -> Judged
+    requires same { verdict_set verdict.now ≡ set.value }
+    requires empty { room.items ≡ [] }
+    requires room { length set.value ≤ vec_capacity room }
+    ensures { IsJudgedSet set.value result }
+{
+    match verdict {
+        Verdict::Admitted(assignment) => Judged::Best {
+            order: BestOrder::new(set, places_of(assignment.levels(), room)),
+        },
+        Verdict::Infeasible(obstruction) => Judged::Stuck {
+            stuck: StuckSet::new(set, members_of(obstruction.members())),
+        },
+    }
+}
+
+/// What becomes of a set, worked out on the caller's thread.
+pub(crate) fn judge_set(alloc: Global, set: Arc<TaskSet>) -> Result<Judged, AllocError>
+    ensures { IfOk result (λ judged. IsJudgedSet set.value judged) }
+{
+    let table = LockTable::new(alloc, &set)?;
+    let placing = place_all(alloc, &Tabled::of(&set, &table))?;
+    Ok(judged_as(set, placing))
 }
 
 /// What a draft's changes come to on a state, tested on the caller's thread.
@@ -46,9 +103,6 @@ pub fn judge(alloc: Global, draft: &Draft, state: &NodeState) -> Result<Judged, 
 {
     match apply(alloc, draft, state)? {
         Applied::Refused { refusal } => Ok(Judged::Refused { refusal }),
-        Applied::Tasks { set } => match share(alloc, assign(alloc, set)?) {
-            Ok(judged) => Ok(judged),
-            Err(_) => Err(AllocError),
-        },
+        Applied::Tasks { set } => judge_set(alloc, set),
     }
 }

@@ -1,21 +1,20 @@
 //! Proposals: a draft with what its changes come to on its base.
 
-ghost use Rattle.std.specs.Prelude.{◌≡◌, ◌↔◌, IsTrue, IfOk, IfErr};
-ghost use Rattle.task_sheet.specs.Verdicts.{IsVerdictOf};
-ghost use Rattle.assignment.specs.Verdict.{verdict_set, verdict_of};
+ghost use Rattle.std.specs.Prelude.{◌≡◌, IfOk, IfErr, IfSome, IfNone};
+ghost use Rattle.assignment.specs.Verdict.{verdict_set};
 ghost use Rattle.drafts.specs.Edits.{on_base};
-ghost use Rattle.drafts.specs.Outcomes.{IsJudged, IsShared};
+ghost use Rattle.drafts.specs.Outcomes.{IsJudged, IsJudgedSet};
 ghost use Rattle.drafts.specs.VerdictFaults.{IsOnSet, IsVerdictFault};
 ghost use Rattle.drafts.specs.Proposals.{IsProposal};
 
 use crate::applying::Applied;
 use crate::draft::Draft;
-use crate::judging::{Judged, judge, share};
+use crate::judging::{Judged, judge, judged_by};
 use assignment::Verdict;
 use std::alloc::{AllocError, Global};
 use std::marker::Model;
 
-/// A draft with the refusal of its changes on its base, or the verdict on the set that they come to.
+/// A draft with the refusal of its changes on its base, or what becomes of the set that they come to.
 #[derive(Drop)]
 pub struct Proposal {
     draft: Draft,
@@ -46,16 +45,27 @@ pub enum VerdictFault {
     OutOfMemory { draft: Draft, verdict: Verdict },
 }
 
-// Whether the verdict is on the set that a draft's changes come to.
-fn is_on(alloc: Global, draft: &Draft, verdict: &Verdict) -> Result<bool, AllocError>
-    ensures same { IfOk result (λ same. IsTrue same
-        ↔ IsOnSet (on_base draft.now) (verdict_set verdict.now)) }
-    ensures verdict { IsVerdictOf (verdict_set verdict.now) (verdict_of verdict.now) }
+// What a verdict says of the set that a draft's changes come to; none where it is on another, or they are refused.
+fn judged_with(
+    alloc: Global,
+    draft: &Draft,
+    verdict: &Verdict,
+) -> Result<Option<Judged>, AllocError>
+    ensures right { IfOk result (λ judged. IfSome judged (IsJudgedSet (verdict_set verdict.now))) }
+    ensures same { IfOk result (λ judged. IfSome judged
+        (λ _. IsOnSet (on_base draft.now) (verdict_set verdict.now))) }
+    ensures other { IfOk result (λ judged. IfNone judged
+        (¬ IsOnSet (on_base draft.now) (verdict_set verdict.now))) }
 {
-    let set = verdict.set();
     match draft.applied(alloc)? {
-        Applied::Refused { refusal: _ } => Ok(false),
-        Applied::Tasks { set: own } => Ok(set.is_same(&own)),
+        Applied::Refused { refusal: _ } => Ok(None),
+        Applied::Tasks { set } => {
+            if !verdict.set().is_same(&set) {
+                return Ok(None);
+            }
+            let room = Vec::with_capacity(alloc, set.len())?;
+            Ok(Some(judged_by(set, verdict, room)))
+        }
     }
 }
 
@@ -71,21 +81,18 @@ pub fn propose(alloc: Global, draft: Draft) -> Result<Proposal, ProposeFault>
     }
 }
 
-/// The proposal of a draft with a verdict that was worked out elsewhere. Refused: `Stranger`.
+/// The proposal of a draft with what a verdict says that was worked out elsewhere. Refused: `Stranger`.
 pub fn propose_with(alloc: Global, draft: Draft, verdict: Verdict) -> Result<Proposal, VerdictFault>
     ensures ok { IfOk result (λ proposal. (proposal.draft ≡ draft)
-        × IsShared verdict proposal.judged) }
+        × IsJudgedSet (verdict_set verdict) proposal.judged) }
     ensures right { IfOk result IsProposal }
     ensures same { IfOk result (λ proposal. IsOnSet (on_base draft) (verdict_set verdict)) }
     ensures err { IfErr result (IsVerdictFault draft verdict) }
 {
-    match is_on(alloc, &draft, &verdict) {
+    match judged_with(alloc, &draft, &verdict) {
         Err(_) => Err(VerdictFault::OutOfMemory { draft, verdict }),
-        Ok(false) => Err(VerdictFault::Stranger { draft, verdict }),
-        Ok(true) => match share(alloc, verdict) {
-            Ok(judged) => Ok(Proposal { draft, judged }),
-            Err(verdict) => Err(VerdictFault::OutOfMemory { draft, verdict }),
-        },
+        Ok(None) => Err(VerdictFault::Stranger { draft, verdict }),
+        Ok(Some(judged)) => Ok(Proposal { draft, judged }),
     }
 }
 

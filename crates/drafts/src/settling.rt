@@ -63,8 +63,8 @@ fn still_holds(alloc: Global, book: &Book, proposal: &Proposal) -> Result<bool, 
         },
         Applied::Tasks { set } => match proposal.judged() {
             Judged::Refused { refusal: _ } => Ok(false),
-            Judged::Best { assignment } => Ok(assignment.set().is_same(&set)),
-            Judged::Stuck { obstruction } => Ok(obstruction.set().is_same(&set)),
+            Judged::Best { order } => Ok(order.set().is_same(&set)),
+            Judged::Stuck { stuck } => Ok(stuck.set().is_same(&set)),
         },
     }
 }

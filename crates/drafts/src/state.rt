@@ -2,8 +2,8 @@
 
 ghost use Rattle.std.specs.Prelude.{◌≡◌, ◌↔◌, ◌==◌, ◌&&◌, ◌||◌, ℕ, ◌<◌, ◌≤◌, length, IsTrue, IfOk, option_map};
 ghost use Rattle.std.specs.FinSet.{contains};
-ghost use Rattle.task_sheet.specs.Verdicts.{IsBestOrder};
 ghost use Rattle.task_sheet.specs.declared.set.TheConstants.{TASK_LIMIT};
+ghost use Rattle.assignment.specs.Placings.{IsBestPlacing};
 ghost use Rattle.drafts.specs.Applied.{set_of, held, interrupts_after, is_foreign, is_there, is_team_at, teams_of};
 ghost use Rattle.drafts.specs.Rosters.{AreWithin, IsRoster};
 ghost use Rattle.drafts.specs.Edits.{sheet_held};
@@ -11,9 +11,10 @@ ghost use Rattle.drafts.specs.Machine.{empty_desk};
 
 use crate::change::Change;
 use crate::interrupts::{self, TeamInterrupt, make_all_said};
+use crate::judging::{Judged, judge_set};
+use crate::placed::BestOrder;
 use crate::roster::{self, Owned, copy_tasks, find_task};
 use crate::team::Team;
-use assignment::{Assignment, Verdict, assign};
 use indexmap::IndexMap;
 use std::alloc::{AllocError, Global};
 use std::marker::Model;
@@ -26,7 +27,7 @@ pub struct NodeState {
     version: u64,
     tasks: Vec<Owned>,
     interrupts: Vec<TeamInterrupt>,
-    assignment: Arc<Assignment>,
+    order: BestOrder,
 }
 
 impl Model for NodeState {
@@ -67,11 +68,11 @@ impl NodeState {
         version: u64,
         tasks: Vec<Owned>,
         interrupts: Vec<TeamInterrupt>,
-        assignment: Arc<Assignment>,
+        order: BestOrder,
     ) -> NodeState
         requires roster { IsRoster tasks.items }
         requires within { AreWithin interrupts.items }
-        requires set { assignment.value.set
+        requires set { order.set
             ≡ set_of (record { tasks = tasks.items; interrupts = interrupts.items }) }
         ensures { result
             ≡ record {
@@ -83,7 +84,7 @@ impl NodeState {
             version,
             tasks,
             interrupts,
-            assignment,
+            order,
         }
     }
 
@@ -97,17 +98,14 @@ impl NodeState {
         let Ok(set) = Arc::new(alloc, set) else {
             return Err(AllocError);
         };
-        match assign(alloc, set)? {
-            Verdict::Admitted(assignment) => match Arc::new(alloc, assignment) {
-                Ok(assignment) => Ok(NodeState::with(
-                    0,
-                    Vec::new(alloc),
-                    Vec::new(alloc),
-                    assignment,
-                )),
-                Err(_) => Err(AllocError),
-            },
-            Verdict::Infeasible(_) => unreachable!(),
+        match judge_set(alloc, set)? {
+            Judged::Best { order } => Ok(NodeState::with(
+                0,
+                Vec::new(alloc),
+                Vec::new(alloc),
+                order,
+            )),
+            _ => unreachable!(),
         }
     }
 
@@ -122,18 +120,17 @@ impl NodeState {
     pub fn set(&self) -> &TaskSet
         ensures { result.now ≡ set_of self.now.node }
     {
-        self.assignment.set()
+        self.order.set()
     }
 
     /// The best order of the tasks.
-    pub fn assignment(&self) -> &Assignment
+    pub fn order(&self) -> &BestOrder
         ensures same { result.now.set ≡ set_of self.now.node }
-        ensures best { IsBestOrder (set_of self.now.node) result.now.levels }
+        ensures best { IsBestPlacing (set_of self.now.node) result.now.places }
     {
-        let assignment: &Assignment = &self.assignment;
-        // The order is of this set: the proof has it from it.
-        let _ = assignment.set();
-        assignment
+        // The order is the best: the proof has it from its places.
+        let _ = self.order.places();
+        &self.order
     }
 
     /// The team that holds a name.
@@ -215,14 +212,14 @@ impl NodeState {
     pub fn copy(&self, alloc: Global) -> Result<NodeState, AllocError>
         ensures { IfOk result (λ state. state ≡ self.now) }
     {
-        let assignment = self.assignment.clone()?;
+        let order = self.order.copy(alloc)?;
         let tasks = copy_tasks(alloc, &self.tasks)?;
         let interrupts = Vec::from_slice(alloc, &self.interrupts)?;
         Ok(NodeState {
             version: self.version,
             tasks,
             interrupts,
-            assignment,
+            order,
         })
     }
 }
