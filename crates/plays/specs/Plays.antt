@@ -1,6 +1,7 @@
 -- What a script makes of the world, and what is printed of it.
 use Rattle.std.specs.Prelude.{◌≡◌, ◌⊎◌, ℕ, List, [], ◌∷◌, ◌++◌, map, Option, Some, None, Result, Ok, Err, option_map, codes}
-use Rattle.task_sheet.specs.Verdicts.{LevelData, IsBestOrder}
+use Rattle.assignment.specs.Places.{PlaceData}
+use Rattle.assignment.specs.Placings.{IsBestPlacing}
 use Rattle.assignment.specs.Questions.{FindingData}
 use Rattle.drafts.specs.declared.change.Refusal.{Refusal}
 use Rattle.drafts.specs.Applied.{OnNode, set_of}
@@ -125,8 +126,8 @@ IsLedBy w events v = (replies : List Reply) × IsRun w events replies v
 -- the book: its version and the best order of its tasks
 abbrev pub IsBookText : MachineState → List ℕ → Type 0
 IsBookText desk text =
-    (levels : List LevelData) × IsBestOrder (set_of desk.node) levels
-    × (text ≡ state_lines desk.version desk.node levels)
+    (places : List PlaceData) × IsBestPlacing (set_of desk.node) places
+    × (text ≡ state_lines desk.version desk.node places)
 
 -- all lines are played from an empty desk on, and then the book, which is legal, is printed
 abbrev pub PlaysAll : World → List Line → List ℕ → Type 0

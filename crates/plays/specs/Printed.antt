@@ -2,7 +2,7 @@
 use Rattle.std.specs.Prelude.{ℕ, ◌+◌, List, [], ◌∷◌, ◌++◌, Option, Some, None, option_map, slice_get, codes}
 use Rattle.std.specs.Fmt.{decimal}
 use Rattle.task_sheet.specs.Sheet.{Task}
-use Rattle.task_sheet.specs.Verdicts.{LevelData, tasks_of}
+use Rattle.assignment.specs.Places.{PlaceData}
 use Rattle.lines.specs.Naming.{name_at, named}
 use Rattle.drafts.specs.declared.draft.EditRefusal.{EditRefusal}
 use Rattle.drafts.specs.declared.change.Refusal.{Refusal}
@@ -56,7 +56,7 @@ refusal_words refusal.TooManyInterrupts = codes "TooManyInterrupts"
 abbrev pub ruling_line : Ruling → List ℕ
 ruling_line (Admitted version) = codes "admitted " ++ decimal version ++ codes "\n"
 ruling_line (Refused refusal) = refused_line (refusal_words refusal)
-ruling_line (Infeasible o) = codes "infeasible" ++ named o.set (tasks_of o.members) ++ codes "\n"
+ruling_line (Infeasible stuck) = codes "infeasible" ++ named stuck.set stuck.members ++ codes "\n"
 
 -- a level is decided
 abbrev pub level_done_line : ℕ → List ℕ → ℕ → List ℕ
@@ -92,20 +92,20 @@ holder tasks None = None
 holder tasks (Some task) = option_map (λ o. o.team) (held task.name tasks)
 
 -- a level of the book: its task, the team that holds it, and the response
-abbrev pub held_line : OnNode → ℕ → LevelData → List ℕ
-held_line node number level =
-    codes "level " ++ decimal number ++ codes " " ++ name_at (set_of node) level.task
+abbrev pub held_line : OnNode → ℕ → PlaceData → List ℕ
+held_line node number place =
+    codes "level " ++ decimal number ++ codes " " ++ name_at (set_of node) place.task
     ++ codes " "
-    ++ team_text (holder node.tasks (slice_get (set_of node) level.task)) ++ codes " "
-    ++ decimal level.response ++ codes "\n"
+    ++ team_text (holder node.tasks (slice_get (set_of node) place.task)) ++ codes " "
+    ++ decimal place.response ++ codes "\n"
 
 -- a line for each level, of which the first has a number
-abbrev pub held_lines : OnNode → ℕ → List LevelData → List ℕ
+abbrev pub held_lines : OnNode → ℕ → List PlaceData → List ℕ
 held_lines node number [] = []
-held_lines node number (level ∷ levels) =
-    held_line node number level ++ held_lines node (number + 1) levels
+held_lines node number (place ∷ places) =
+    held_line node number place ++ held_lines node (number + 1) places
 
 -- the version, and the levels from the lowest up
-abbrev pub state_lines : ℕ → OnNode → List LevelData → List ℕ
-state_lines version node levels =
-    codes "version " ++ decimal version ++ codes "\n" ++ held_lines node 1 levels
+abbrev pub state_lines : ℕ → OnNode → List PlaceData → List ℕ
+state_lines version node places =
+    codes "version " ++ decimal version ++ codes "\n" ++ held_lines node 1 places

@@ -1,13 +1,11 @@
 //! The lines of replies, and of the book.
 ghost use Rattle.std.specs.Prelude.{◌≡◌, ◌++◌, OnOk, IfOk, slice_get, string_bytes};
-ghost use Rattle.task_sheet.specs.Verdicts.{tasks_of};
-ghost use Rattle.lines.specs.Naming.{named};
 ghost use Rattle.drafts.specs.Applied.{set_of};
 ghost use Rattle.plays.specs.Printed.{cause_word, edit_word, held_line, holder, level_done_line, names_text, opened_line, printed, refusal_words, refused_line, ruling_line, team_text, tested_line};
 ghost use Rattle.plays.specs.Plays.{IsBookText};
 ghost use Rattle.drafts.specs.Rulings.{ruling_of};
 
-use assignment::{LevelRecord, Obstruction};
+use assignment::Place;
 use desk_core::{Cause, Reply};
 use drafts::{Decision, EditRefusal, NodeState, Refusal, Team};
 use lines::push_name;
@@ -67,20 +65,6 @@ fn push_names(text: &mut String, names: &[Name]) -> Result<(), AllocError>
     Ok(())
 }
 
-// The names of an obstruction's members, each after a space.
-fn push_members(text: &mut String, obstruction: &Obstruction) -> Result<(), AllocError>
-    ensures { OnOk result (string_bytes text.new
-        ≡ string_bytes text.old
-        ++ named obstruction.now.set (tasks_of obstruction.now.members)) }
-{
-    let set = obstruction.set();
-    for member in obstruction.members() {
-        text.push_str(" ")?;
-        push_name(text, set, member.task)?;
-    }
-    Ok(())
-}
-
 // The line of changes that are refused.
 fn refusal_text(alloc: Global, refusal: Refusal) -> Result<String, AllocError>
     ensures { IfOk result (λ text. string_bytes text ≡ refused_line (refusal_words refusal)) }
@@ -100,9 +84,9 @@ pub fn ruling_text(alloc: Global, decision: &Decision) -> Result<String, AllocEr
     match decision {
         Decision::Admitted { version } => format!(in alloc; "admitted {version}\n"),
         Decision::Refused { refusal } => refusal_text(alloc, *refusal),
-        Decision::Infeasible { obstruction } => {
+        Decision::Infeasible { stuck } => {
             let mut text = String::from_str(alloc, "infeasible")?;
-            push_members(&mut text, obstruction)?;
+            lines::push_names(&mut text, stuck.set(), stuck.members())?;
             text.push_str("\n")?;
             Ok(text)
         }
@@ -173,16 +157,16 @@ fn push_level(
     text: &mut String,
     state: &NodeState,
     number: usize,
-    level: &LevelRecord,
+    place: &Place,
 ) -> Result<(), AllocError>
     ensures { OnOk result (string_bytes text.new
-        ≡ string_bytes text.old ++ held_line state.now.node number level.now) }
+        ≡ string_bytes text.old ++ held_line state.now.node number place.now) }
 {
-    let response = level.response;
+    let response = place.response;
     write!(text, "level {number} ")?;
-    push_name(text, state.set(), level.task)?;
+    push_name(text, state.set(), place.task)?;
     text.push_str(" ")?;
-    push_team(text, holder_of(state, level.task))?;
+    push_team(text, holder_of(state, place.task))?;
     writeln!(text, " {response}")
 }
 
@@ -191,10 +175,10 @@ pub fn book_text(alloc: Global, state: &NodeState) -> Result<String, AllocError>
     ensures { IfOk result (λ text. IsBookText state.now (string_bytes text)) }
 {
     let version = state.version();
-    let levels = state.assignment().levels();
+    let places = state.order().places();
     let mut text = format!(in alloc; "version {version}\n")?;
-    for (i, level) in levels.iter().enumerate() {
-        push_level(&mut text, state, i + 1, level)?;
+    for (i, place) in places.iter().enumerate() {
+        push_level(&mut text, state, i + 1, place)?;
     }
     Ok(text)
 }
