@@ -1,6 +1,7 @@
 //! Changes with what becomes of the set that they come to.
 
-ghost use Rattle.std.specs.Prelude.{◌≡◌, ◌≤◌, ℕ, [], length, IfOk, vec_capacity};
+ghost use Rattle.std.specs.Prelude.{◌≡◌, ◌<◌, ◌≤◌, [], length, All, IfOk, vec_capacity};
+ghost use Rattle.task_sheet.specs.declared.set.TheConstants.{TASK_LIMIT};
 ghost use Rattle.task_sheet.specs.Indexes.{among, indexes_of};
 ghost use Rattle.task_sheet.specs.Verdicts.{tasks_of};
 ghost use Rattle.assignment.specs.Placings.{IsPlacingOf, places_of};
@@ -61,7 +62,8 @@ fn places_of(levels: &[LevelRecord], mut places: Vec<Place>) -> Vec<Place>
 
 // The tasks that fail.
 fn members_of(fails: &[Failure]) -> Members
-    ensures { (k : ℕ) → indexes_of result k ≡ among (tasks_of fails.now) k }
+    requires { All (λ f. f.task < TASK_LIMIT) fails.now }
+    ensures { indexes_of result ≡ among (tasks_of fails.now) }
 {
     let mut members = Members::empty();
     for failure in fails {
@@ -81,9 +83,13 @@ pub fn judged_by(set: Arc<TaskSet>, verdict: &Verdict, room: Vec<Place>) -> Judg
         Verdict::Admitted(assignment) => Judged::Best {
             order: BestOrder::new(set, places_of(assignment.levels(), room)),
         },
-        Verdict::Infeasible(obstruction) => Judged::Stuck {
-            stuck: StuckSet::new(set, members_of(obstruction.members())),
-        },
+        Verdict::Infeasible(obstruction) => {
+            // The set is small: the proof has it from its number.
+            let _ = set.len();
+            Judged::Stuck {
+                stuck: StuckSet::new(set, members_of(obstruction.members())),
+            }
+        }
     }
 }
 

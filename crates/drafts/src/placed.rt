@@ -117,6 +117,8 @@ impl StuckSet {
         ensures set { IfOk result (λ obstruction. obstruction.set ≡ self.now.set) }
         ensures members { IfOk result (λ obstruction. tasks_of obstruction.members ≡ self.now.members) }
     {
+        // The set is valid: the proof has it from its sheets.
+        let _ = self.set.sheets();
         match assign(alloc, self.set.clone()?)? {
             Verdict::Infeasible(obstruction) => Ok(obstruction),
             Verdict::Admitted(_) => unreachable!(),

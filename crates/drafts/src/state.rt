@@ -105,7 +105,8 @@ impl NodeState {
                 Vec::new(alloc),
                 order,
             )),
-            _ => unreachable!(),
+            Judged::Refused { refusal: _ } => unreachable!(),
+            Judged::Stuck { stuck: _ } => unreachable!(),
         }
     }
 
