@@ -500,7 +500,7 @@ impl Choice {
             Choice::Prefer => "What decides among the orders that pass: weight, deadline or chains",
             Choice::Strict => "Refuses a set that may have a mistake, for what is a note else",
             Choice::Task => "The task that is asked about, alone",
-            Choice::Chain => "The chain whose worst case is built, or whose way is drawn",
+            Choice::Chain => "The chain whose bound is laid out as a run, or whose way is drawn",
             Choice::Base => "The least priority, from 1 to 999969",
             Choice::Room => "How many numbers stay free beside each given anew, if they fit",
             Choice::LowerIsHigher => "The smaller number is the higher priority",
