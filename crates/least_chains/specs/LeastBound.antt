@@ -5,6 +5,8 @@ use Rattle.task_sheet.specs.Indexes.{Indexes, among}
 use Rattle.task_sheet.specs.Demand.{IsResponseOf}
 use Rattle.task_sheet.specs.Orders.{IsPassingOrder}
 use Rattle.assignment.specs.Places.{PlaceData}
+use Rattle.assignment.specs.declared.placing.Placing.{Placing}
+use Rattle.assignment.specs.declared.placing.Placing.TheVariants.{Best, Stuck}
 use Rattle.ceiling_kernel.specs.Tick.{node_in}
 use Rattle.ceiling_kernel.specs.Waits.{lateness_of}
 use Rattle.chains.specs.Gaps.{gap_of}
@@ -32,6 +34,11 @@ pub record ArePassing (U : List Task) (levels : List Level) : Type 0 where
 -- the levels of places
 abbrev pub levels_at : List PlaceData → List Level
 levels_at places = map (λ p. record { task = p.task; response = Some p.response }) places
+
+-- those of the order of a placing; none where no order passes
+abbrev pub levels_of : Placing → List Level
+levels_of (Best places) = levels_at places.items
+levels_of (Stuck left) = []
 
 -- ---- the least part of a task
 -- how long the part behind its wait is, where it stands in front of these others

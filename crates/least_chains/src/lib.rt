@@ -4,6 +4,8 @@
 mod above;
 pub mod laws;
 mod least;
+mod levels;
 
 pub use above::above_at_least;
 pub use least::{least_bound, least_time};
+pub use levels::{levels_at, levels_of};

@@ -4,7 +4,7 @@ use Rattle.task_sheet.proofs.Common.{Task, IsOrder}
 use Rattle.assignment.specs.Places.{PlaceData}
 use Rattle.assignment.specs.Placings.{IsBestPlacing, tasks_of_places}
 use Rattle.chains.specs.Parts.{order_of}
-use Rattle.set_commands.specs.Chained.{levels_at}
+use Rattle.least_chains.specs.LeastBound.{levels_at}
 
 same_order : (places : List PlaceData) → order_of (levels_at places) ≡ tasks_of_places places
 same_order [] = refl

@@ -1,11 +1,11 @@
 -- What is said of a set's chains in its best order.
-use Rattle.std.specs.Prelude.{◌≡◌, ℕ, List, [], map, Option, Some, if◌then◌else◌}
+use Rattle.std.specs.Prelude.{◌≡◌, ℕ, List, [], Option, if◌then◌else◌}
 use Rattle.task_sheet.specs.Sheet.{Task}
-use Rattle.assignment.specs.Places.{PlaceData}
 use Rattle.assignment.specs.Placings.{IsPlacingOf}
 use Rattle.assignment.specs.declared.placing.Placing.{Placing}
 use Rattle.assignment.specs.declared.placing.Placing.TheVariants.{Best, Stuck}
 use Rattle.chains.specs.declared.bounds.Level.{Level}
+use Rattle.least_chains.specs.LeastBound.{levels_at, levels_of}
 use Rattle.chain_tables.specs.Chains.{ChainData}
 use Rattle.chain_lines.specs.ChainLines.{all_met, chains_said}
 use Rattle.chain_lines.specs.Leasts.{AreLeast}
@@ -13,19 +13,6 @@ use Rattle.chain_lines.specs.declared.text.Telling.{Telling}
 use Rattle.set_commands.specs.declared.chained.Placed.{Placed}
 use Rattle.answering.specs.declared.status.Status.{Status}
 use Rattle.answering.specs.declared.status.Status.TheVariants as status
-
--- the level of a place: its task with its response
-abbrev pub level_at : PlaceData → Level
-level_at p = record { task = p.task; response = Some p.response }
-
--- the levels of an order's places
-abbrev pub levels_at : List PlaceData → List Level
-levels_at places = map level_at places
-
--- those of the order of a placing; none where no order passes
-abbrev pub levels_of : Placing → List Level
-levels_of (Best places) = levels_at places.items
-levels_of (Stuck left) = []
 
 -- the least bounds of the chains that it misses; none where no order passes
 abbrev pub AreLeastOf : List Task → List Level → List ChainData → Placing → List (Option ℕ) → Type 0

@@ -13,7 +13,7 @@ use Rattle.limit_lines.specs.Common.{AreCommonLines}
 use Rattle.owners.specs.declared.owner.Owner.{Owner}
 use Rattle.answering.specs.Owning.{HasChained, HasOwned}
 use Rattle.set_commands.specs.Admit.{OfOneSays, Places}
-use Rattle.set_commands.specs.Chained.{levels_at, levels_of}
+use Rattle.least_chains.specs.LeastBound.{levels_at, levels_of}
 use Rattle.answering.specs.OrderParts.{placing_first}
 use Rattle.answering.specs.Printed.{Prints}
 use Rattle.answering.specs.Refusals.{refusal_line}

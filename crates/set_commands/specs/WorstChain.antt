@@ -17,7 +17,7 @@ use Rattle.answering.specs.Statuses.{placing_status}
 use Rattle.answering.specs.declared.refusal.CommandRefusal.{CommandRefusal}
 use Rattle.answering.specs.declared.refusal.CommandRefusal.TheVariants as refusal
 use Rattle.set_commands.specs.Admit.{OfOneSays, Places}
-use Rattle.set_commands.specs.Chained.{levels_at}
+use Rattle.least_chains.specs.LeastBound.{levels_at}
 use Rattle.set_commands.specs.OneTask.{SaysPart}
 use Rattle.set_commands.specs.declared.one_task.TaskPart.TheVariants.{Worst}
 

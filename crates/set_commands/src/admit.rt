@@ -7,7 +7,7 @@ ghost use Rattle.set_commands.specs.Chained.{IsPlaced};
 ghost use Rattle.answering.specs.OrderParts.{placing_said};
 ghost use Rattle.answering.specs.Outcomes.{IsRead, IsSaidOn, failed_read};
 
-use crate::chained::{Placed, chained_status, chained_text, leasts_of, levels_of};
+use crate::chained::{Placed, chained_status, chained_text, leasts_of};
 use answering::{
     Audience, CommandRefusal, OrderPart, Status, joined, placing_text, print_bytes, print_made,
     read_owned,
@@ -15,6 +15,7 @@ use answering::{
 use assignment::{Placing, place_all};
 use ceilings::{LockTable, Tabled};
 use chain_lines::Telling;
+use least_chains::levels_of;
 use owners::sorted_if;
 use preferences::Asking;
 use std::alloc::{AllocError, Global};

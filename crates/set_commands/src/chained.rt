@@ -1,10 +1,10 @@
 //! The chains of a set in its best order.
 ghost use Rattle.std.specs.Prelude.{◌≡◌, IfOk, string_bytes};
 ghost use Rattle.assignment.specs.Placings.{IsPlacingOf};
-ghost use Rattle.set_commands.specs.Chained.{AreLeastOf, IsPlaced, chained_said, chained_status, level_at, levels_at, levels_of, met_status};
+ghost use Rattle.set_commands.specs.Chained.{AreLeastOf, IsPlaced, chained_said, chained_status, met_status};
 
 use answering::Status;
-use assignment::{Place, Placing};
+use assignment::Placing;
 use ceilings::Tabled;
 use chain_lines::{Telling, all_met, chains_text, least_bounds};
 use chain_tables::Chain;
@@ -23,37 +23,6 @@ pub struct Placed {
     pub placing: Placing,
     pub levels: Vec<Level>,
     pub leasts: Vec<Option<u128>>,
-}
-
-// The level of a place.
-fn level_at(place: &Place) -> Level
-    ensures { result ≡ level_at place.now }
-{
-    Level {
-        task: place.task,
-        response: Some(place.response),
-    }
-}
-
-// The levels of places.
-fn levels_at(alloc: Global, places: &[Place]) -> Result<Vec<Level>, AllocError>
-    ensures { IfOk result (λ levels. levels.items ≡ levels_at places.now) }
-{
-    let mut levels = Vec::with_capacity(alloc, places.len())?;
-    for place in places {
-        levels.push(level_at(place))?;
-    }
-    Ok(levels)
-}
-
-/// The levels of the order of a placing; none where no order passes. The error is out of memory.
-pub(crate) fn levels_of(alloc: Global, placing: &Placing) -> Result<Vec<Level>, AllocError>
-    ensures { IfOk result (λ levels. levels.items ≡ levels_of placing.now) }
-{
-    match placing {
-        Placing::Best(places) => levels_at(alloc, places),
-        Placing::Stuck(_) => Ok(Vec::new(alloc)),
-    }
 }
 
 /// The least bounds of the chains that the order of a placing misses; none where no order passes. The error is out of

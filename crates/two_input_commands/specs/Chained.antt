@@ -1,9 +1,6 @@
 -- What is printed of a set's chains in an order that settings give.
 use Rattle.std.specs.Prelude.{◌≡◌, ℕ, ◌&&◌, Bool, List, [], map, Option, Some, None, if◌then◌else◌, string_bytes}
 use Rattle.task_sheet.specs.Sheet.{Task}
-use Rattle.assignment.specs.Places.{PlaceData}
-use Rattle.assignment.specs.declared.placing.Placing.{Placing}
-use Rattle.assignment.specs.declared.placing.Placing.TheVariants.{Best, Stuck}
 use Rattle.judge.specs.Judgements.{all_meet}
 use Rattle.judge.specs.declared.judging.JudgedTask.{JudgedTask}
 use Rattle.judge.specs.declared.judging.Judgement.{Judgement}
@@ -30,16 +27,6 @@ level_judged j = record { task = j.task; response = response_judged j.judgement 
 -- the levels of an order
 abbrev pub levels_judged : List JudgedTask → List Level
 levels_judged judged = map level_judged judged
-
--- ---- the best order
--- the level of a place
-abbrev pub level_placed : PlaceData → Level
-level_placed p = record { task = p.task; response = Some p.response }
-
--- those of the order of a placing; none where no order passes
-abbrev pub levels_placed : Placing → List Level
-levels_placed (Best places) = map level_placed places.items
-levels_placed (Stuck left) = []
 
 -- ---- what is told
 -- these are the lines of chains in that order, and whether the bound of each is within its limit

@@ -21,7 +21,7 @@ use Rattle.diff.specs.ChangeLines.{change_lines}
 use Rattle.diff.specs.Whole.{both_weigh, whole_lines}
 use Rattle.answering.specs.Statuses.{placing_status}
 use Rattle.answering.specs.OrderParts.{placing_first}
-use Rattle.two_input_commands.specs.Chained.{levels_placed}
+use Rattle.least_chains.specs.LeastBound.{levels_of}
 use Rattle.two_input_commands.specs.OnBoth.{OfTwoSays, SaysOnBothWhole}
 use Rattle.two_input_commands.specs.declared.diff_lines.Compared.{Compared}
 use Rattle.answering.specs.declared.refusal.CommandRefusal.{CommandRefusal}
@@ -50,7 +50,7 @@ IsNoNew asking text _ = ⊥
 
 -- what a change does to a set's chains, where this becomes of both sets
 abbrev pub chains_compared : List ChainData → List Task → Placing → List ChainData → List Task → Placing → List ℕ
-chains_compared olds U P news V Q = chain_changes U (levels_placed P) olds V (levels_placed Q) news
+chains_compared olds U P news V Q = chain_changes U (levels_of P) olds V (levels_of Q) news
 
 -- the text says the new set, and this becomes of both, of which the old one has these chains and was taken by a preference
 pub record IsComparison (asking : Asking) (by : Preference) (olds : List ChainData) (U : List Task)

@@ -1,5 +1,5 @@
 -- What `desk settings SET --keep SETTINGS` answers and prints.
-use Rattle.std.specs.Prelude.{◌≡◌, ℕ, Bool, true, List, ◌++◌, length, map, codes, Result, Ok, Err, if◌then◌else◌}
+use Rattle.std.specs.Prelude.{◌≡◌, ℕ, Bool, true, List, ◌++◌, length, codes, Result, Ok, Err, if◌then◌else◌}
 use Rattle.task_sheet.specs.Sheet.{Task}
 use Rattle.task_sheet.specs.Indexes.{indexes_of, listed_below}
 use Rattle.task_sheet.specs.Orders.{IsOrder}
@@ -15,7 +15,7 @@ use Rattle.judge.specs.Node.{AreNumbersIn}
 use Rattle.chain_tables.specs.Chains.{ChainData}
 use Rattle.chain_lines.specs.ChainLines.{all_met}
 use Rattle.answering.specs.OutcomeLines.{infeasible_line}
-use Rattle.two_input_commands.specs.Chained.{level_placed}
+use Rattle.least_chains.specs.LeastBound.{levels_at}
 use Rattle.two_input_commands.specs.OnBoth.{OfTwoSays, SaysOnBothChained}
 use Rattle.two_input_commands.specs.declared.keep_lines.KeptNode.{KeptNode}
 use Rattle.answering.specs.declared.refusal.CommandRefusal.{CommandRefusal}
@@ -30,7 +30,7 @@ HasOld U text _ old = Unit {0}
 
 -- the bound of each chain is within its limit in what is kept; of what isn't none is past it
 abbrev pub are_kept_met : List Task → List ChainData → Keeping → Bool
-are_kept_met U chains (Kept places) = all_met U (map level_placed places.items) chains
+are_kept_met U chains (Kept places) = all_met U (levels_at places.items) chains
 are_kept_met U chains _ = true
 
 -- the answer on a set with its chains and the text of settings: what becomes of the set that is to keep the order and the

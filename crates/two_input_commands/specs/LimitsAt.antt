@@ -1,5 +1,5 @@
 -- What `desk limits SET --at SETTINGS` answers and prints.
-use Rattle.std.specs.Prelude.{◌≡◌, ◌==◌, ℕ, Bool, true, false, List, [], ◌++◌, length, map, codes, Option, Some, None, Result, Ok, Err, string_bytes}
+use Rattle.std.specs.Prelude.{◌≡◌, ◌==◌, ℕ, Bool, true, false, List, [], ◌++◌, length, codes, Option, Some, None, Result, Ok, Err, string_bytes}
 use Rattle.task_sheet.specs.Sheet.{Task}
 use Rattle.assignment.specs.Places.{PlaceData}
 use Rattle.judge.specs.Judgements.{all_meet, judged_of, order_judged}
@@ -9,7 +9,7 @@ use Rattle.judge.specs.declared.node.JudgedNode.{JudgedNode}
 use Rattle.chain_tables.specs.Chains.{ChainData}
 use Rattle.limit_lines.specs.LimitLines.{AreTaskLines, IsLast}
 use Rattle.limit_lines.specs.ChainReaches.{AreChainsLines, AreChainsTaskLines}
-use Rattle.two_input_commands.specs.Chained.{level_placed}
+use Rattle.least_chains.specs.LeastBound.{levels_at}
 use Rattle.two_input_commands.specs.InOrder.{AsksIn}
 use Rattle.two_input_commands.specs.Judge.{judged_status}
 use Rattle.answering.specs.LimitLines.{AreLines}
@@ -55,7 +55,7 @@ AreChainedIn owners chains U order None asked text = text ≡ []
 AreChainedIn owners chains U order (Some places) (Some task) text =
     AreChainsTaskLines owners chains U order task (length chains) text
 AreChainedIn owners chains U order (Some places) None text =
-    AreChainsLines owners chains U order (map level_placed places) (length chains) text
+    AreChainsLines owners chains U order (levels_at places) (length chains) text
 
 -- the text is what is printed of an order: whether all its tasks meet their deadlines, how far its numbers may go, and how far
 -- with each chain met

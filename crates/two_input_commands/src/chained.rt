@@ -1,9 +1,8 @@
-//! The chains of a set in an order that settings give, or in the best one.
-ghost use Rattle.std.specs.Prelude.{◌≡◌, IfOk, map};
-ghost use Rattle.two_input_commands.specs.Chained.{AreTold, chained_status, level_judged, level_placed, levels_judged, levels_placed, response_judged};
+//! The chains of a set in an order that settings give.
+ghost use Rattle.std.specs.Prelude.{◌≡◌, IfOk};
+ghost use Rattle.two_input_commands.specs.Chained.{AreTold, chained_status, level_judged, levels_judged, response_judged};
 
 use answering::Status;
-use assignment::{Place, Placing};
 use chain_lines::{Telling, all_met, chains_text};
 use chain_tables::Chain;
 use chains::Level;
@@ -48,37 +47,6 @@ pub(crate) fn levels_judged(alloc: Global, judged: &[JudgedTask]) -> Result<Vec<
         levels.push(level_judged(*entry))?;
     }
     Ok(levels)
-}
-
-// The level of a place.
-fn level_placed(place: &Place) -> Level
-    ensures { result ≡ level_placed place.now }
-{
-    Level {
-        task: place.task,
-        response: Some(place.response),
-    }
-}
-
-/// The levels of places. The error is out of memory.
-pub(crate) fn levels_at(alloc: Global, places: &[Place]) -> Result<Vec<Level>, AllocError>
-    ensures { IfOk result (λ levels. levels.items ≡ map level_placed places.now) }
-{
-    let mut levels = Vec::with_capacity(alloc, places.len())?;
-    for place in places {
-        levels.push(level_placed(place))?;
-    }
-    Ok(levels)
-}
-
-/// The levels of the order of a placing; none where no order passes. The error is out of memory.
-pub(crate) fn levels_placed(alloc: Global, placing: &Placing) -> Result<Vec<Level>, AllocError>
-    ensures { IfOk result (λ levels. levels.items ≡ levels_placed placing.now) }
-{
-    match placing {
-        Placing::Best(places) => levels_at(alloc, places),
-        Placing::Stuck(_) => Ok(Vec::new(alloc)),
-    }
 }
 
 /// The lines of a set's chains in an order that was judged, and whether each is met. The error is out of memory.

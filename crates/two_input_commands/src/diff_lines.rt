@@ -4,12 +4,12 @@ ghost use Rattle.assignment.specs.Placings.{IsPlacingOf};
 ghost use Rattle.chain_tables.specs.Chains.{HasChains};
 ghost use Rattle.two_input_commands.specs.Diff.{ComparesText, IsNew, IsNoNew, both_lines, chains_compared, compared_lines, new_refusal};
 
-use crate::chained::levels_placed;
 use answering::{CommandRefusal, OrderPart, joined, placing_text};
 use assignment::{Placing, place_all};
 use ceilings::{LockTable, Tabled};
 use chain_tables::Chain;
 use diff::{ChainSide, Side, chain_text, change_text, whole_text};
+use least_chains::levels_of;
 use owners::{Naming, Owner, named_text, read_owners};
 use preferences::{AskedFault, Asking, Preference, read_asked};
 use std::alloc::{AllocError, Global};
@@ -67,8 +67,8 @@ fn chains_compared(alloc: Global, old: &Linked<'_>, new: &Linked<'_>) -> Result<
         ≡ chains_compared old.now.chains.now old.now.set.now old.now.placing.now
         new.now.chains.now new.now.set.now new.now.placing.now) }
 {
-    let was = levels_placed(alloc, old.placing)?;
-    let is = levels_placed(alloc, new.placing)?;
+    let was = levels_of(alloc, old.placing)?;
+    let is = levels_of(alloc, new.placing)?;
     let before = ChainSide {
         set: old.set,
         levels: &was,

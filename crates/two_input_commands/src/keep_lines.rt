@@ -7,7 +7,6 @@ ghost use Rattle.judge.specs.Node.{AreNumbersIn};
 ghost use Rattle.task_sheet.specs.Orders.{IsOrder};
 ghost use Rattle.two_input_commands.specs.Keep.{HasOld, IsKeptIn, IsOldOf, KeepsText, are_kept_met, keeping_lines, keeping_status, parted_line};
 
-use crate::chained::levels_at;
 use answering::{CommandRefusal, Status, infeasible_text};
 use assignment::{Place, tasks_of_places};
 use ceilings::{LockTable, Tabled};
@@ -15,6 +14,7 @@ use chain_lines::all_met;
 use chain_tables::Chain;
 use judge::{SettingsFault, read_kept, read_kept_numbers};
 use kept_order::{Keeping, keep_order};
+use least_chains::levels_at;
 use lines::push_name;
 use settings::kept_text;
 use std::alloc::{AllocError, Global};

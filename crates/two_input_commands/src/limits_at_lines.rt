@@ -6,13 +6,13 @@ ghost use Rattle.judge.specs.Judgements.{order_judged};
 ghost use Rattle.answering.specs.LimitLines.{AreLines};
 ghost use Rattle.two_input_commands.specs.LimitsAt.{AreChainedIn, AreLimitsIn, ArePlacesOf, IsLimitsText, LimitsText, alone_words};
 
-use crate::chained::levels_at;
 use crate::in_order::{InOrder, judge_asked};
 use answering::CommandRefusal;
 use assignment::Place;
 use ceilings::{LockTable, Tabled};
 use chain_tables::Chain;
 use judge::{JudgedNode, first_text, order_of, places_of};
+use least_chains::levels_at;
 use limit_lines::{chains_task_text, chains_text, common_text, last_text, task_text};
 use owners::Owner;
 use std::alloc::{AllocError, Global};
