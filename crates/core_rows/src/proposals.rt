@@ -1,10 +1,12 @@
-//! Proposals that another book takes or doesn't, verdicts that are brought to drafts, and copies of a state.
+//! Proposals that another book takes or doesn't, verdicts that are brought to drafts, what a decision keeps of a set that is
+//! stuck, and copies of a state.
+use crate::findings::are_failures;
 use assignment::{Verdict, assign};
 use drafts::{
-    Book, Draft, EditCause, HeldFault, NodeState, Proposal, ProposeFault, PutFault, SettleFault,
-    Settled, Team, VerdictFault, propose, propose_with,
+    Book, Decided, Decision, Draft, EditCause, HeldFault, NodeState, Proposal, ProposeFault,
+    PutFault, SettleFault, Settled, StuckSet, Team, VerdictFault, propose, propose_with,
 };
-use example_sets::{again, name};
+use example_sets::{BLOCKED_OUT, again, name, set_of};
 use std::alloc::Global;
 use std::sync::Arc;
 use std::test::Fail;
@@ -16,11 +18,14 @@ fn sheet(alloc: Global, text: &str, cost: u64) -> Result<Sheet, Fail> {
     Ok(sheet.ok().ok_or("a sheet")?)
 }
 
-// A draft of a team on a book's state that puts one task.
-fn draft_on(alloc: Global, book: &Book, number: u64, text: &str, cost: u64) -> Result<Draft, Fail> {
+// A draft of a team on a book's state.
+fn opened_on(alloc: Global, book: &Book, number: u64) -> Result<Draft, Fail> {
     let team = Team::new(number).ok_or("a team")?;
-    let mut draft = Draft::new(alloc, team, again!(book.snapshot())?);
-    let sheet = sheet(alloc, text, cost)?;
+    Ok(Draft::new(alloc, team, again!(book.snapshot())?))
+}
+
+// Puts a sheet.
+fn put(draft: &mut Draft, sheet: Sheet) -> Result<(), Fail> {
     let answer = again!(
         draft.put(sheet),
         PutFault {
@@ -29,28 +34,28 @@ fn draft_on(alloc: Global, book: &Book, number: u64, text: &str, cost: u64) -> R
         }
     );
     answer.ok().ok_or("a put")?;
+    Ok(())
+}
+
+// A draft of a team on a book's state that puts one task.
+fn draft_on(alloc: Global, book: &Book, number: u64, text: &str, cost: u64) -> Result<Draft, Fail> {
+    let mut draft = opened_on(alloc, book, number)?;
+    put(&mut draft, sheet(alloc, text, cost)?)?;
     Ok(draft)
 }
 
-// Settles a draft of a team that puts one task at once.
-fn commit_one(
-    alloc: Global,
-    book: &mut Book,
-    number: u64,
-    text: &str,
-    cost: u64,
-) -> Result<(), Fail> {
-    let draft = draft_on(alloc, book, number, text, cost)?;
+// The decision on a draft, which is settled at once.
+fn decided_on(alloc: Global, book: &mut Book, draft: Draft) -> Result<Decided, Fail> {
     let decided = again!(book.settle_held(alloc, draft), HeldFault { draft });
-    decided.ok().ok_or("a decision")?;
-    Ok(())
+    Ok(decided.ok().ok_or("a decision")?)
 }
 
 // A book whose version 1 is one put of a team; an empty one where there is no team.
 fn book_with(alloc: Global, number: u64, text: &str, cost: u64) -> Result<Book, Fail> {
     let mut book = again!(Book::new(alloc))?;
     if number > 0 {
-        commit_one(alloc, &mut book, number, text, cost)?;
+        let draft = draft_on(alloc, &book, number, text, cost)?;
+        decided_on(alloc, &mut book, draft)?;
     }
     Ok(book)
 }
@@ -149,6 +154,37 @@ fn a_verdict_for_another_set(rt: HostRuntime) -> Result<(), Fail> {
     assert!(rt; brought(rt.alloc(), &["a"])? == "proposal");
     assert!(rt; brought(rt.alloc(), &["a", "b", "c"])? == "stranger");
     Ok(())
+}
+
+// The decision on the tasks of a document, on an empty book.
+fn decided_of(alloc: Global, document: &str) -> Result<Decided, Fail> {
+    let mut book = again!(Book::new(alloc))?;
+    let mut draft = opened_on(alloc, &book, 1)?;
+    for sheet in set_of(alloc, document)?.into_sheets() {
+        put(&mut draft, sheet)?;
+    }
+    decided_on(alloc, &mut book, draft)
+}
+
+// Whether hi alone is stuck, by 1, 4500.
+fn is_hi_stuck(alloc: Global, stuck: &StuckSet) -> Result<bool, Fail> {
+    let reasons = again!(stuck.reasons(alloc))?;
+    Ok(
+        stuck.members() == Members::empty().with(0)
+            && are_failures(reasons.members(), &[(0, &[1, 4500])]),
+    )
+}
+
+#[test]
+fn reasons_of_a_decision(rt: HostRuntime) -> Result<(), Fail> {
+    let decided = decided_of(rt.alloc(), BLOCKED_OUT)?;
+    match decided.entry.decision() {
+        Decision::Infeasible { stuck } => {
+            assert!(rt; is_hi_stuck(rt.alloc(), stuck)?);
+            Ok(())
+        }
+        _ => Err("a decision")?,
+    }
 }
 
 // The version of a state, and the tasks of team 1.

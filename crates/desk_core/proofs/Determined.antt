@@ -1,8 +1,7 @@
 -- Replies are determined by the events, and so is the world that they lead to.
 use Rattle.std.proofs.Common.{◌≡◌, ◌∙◌, ℕ, ◌-◌, inl, inr, List, [], ◌∷◌, map, Option, None, Some}
 use Rattle.std.proofs.Common.{Result, Ok, Err, slice_set, refl, sym, ap, subst}
-use Rattle.task_sheet.proofs.Common.{Task, task_at, FailureData, tasks_of}
-use Rattle.task_sheet.proofs.VerdictLaws.{IsStuck-one}
+use Rattle.task_sheet.proofs.Common.{Task, task_at}
 use Rattle.assignment.specs.Questions.{QuestionData}
 use Rattle.drafts.specs.declared.change.Change.{Change}
 use Rattle.drafts.specs.declared.change.Refusal.{Refusal}
@@ -11,6 +10,7 @@ use Rattle.drafts.specs.Applied.{OnNode, set_of, applied}
 use Rattle.drafts.specs.Machine.{Entry}
 use Rattle.drafts.specs.Books.{Book, logged, IsNextEntry}
 use Rattle.drafts.proofs.LogLaws.{answer-one}
+use Rattle.drafts.proofs.PlacedLaws.{AreStuck-one}
 use Rattle.drafts.specs.Edits.{Draft, on_base, after_put, after_remove}
 use Rattle.desk_core.specs.declared.told.Told.{Told}
 use Rattle.desk_core.specs.declared.told.Told.TheVariants as told
@@ -34,8 +34,8 @@ shown-one U a b (inl x) (inl y) = x.1 ∙ sym y.1
 shown-one U a b (inl x) (inr y) = absurd (y.0 x.0)
 shown-one U a b (inr x) (inl y) = absurd (x.0 y.0)
 shown-one U a b (inr x) (inr y) =
-    x.1.2 ∙ ap (λ (ms : List FailureData). map (λ i. (task_at U i).name) (tasks_of ms))
-    (IsStuck-one U x.1.0 y.1.0 x.1.1 y.1.1) ∙ sym y.1.2
+    x.1.2 ∙ ap (λ (ms : List ℕ). map (λ i. (task_at U i).name) ms)
+    (AreStuck-one U x.1.0 y.1.0 x.1.1 y.1.1) ∙ sym y.1.2
 
 tested-said : (U : List Task) (r : Reply) → IsTestedReply U r → (names : List (List ℕ))
     × (said_of r ≡ said.Tested names) × IsShown U names

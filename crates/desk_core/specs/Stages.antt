@@ -1,51 +1,42 @@
 -- How far the test of a draft has come.
 use Rattle.std.specs.Prelude.{◌≡◌, Bool, true, false, List, [], Option, None, Some, Result, Ok, Err}
-use Rattle.task_sheet.specs.Verdicts.{IsVerdictOf}
-use Rattle.assignment.specs.Verdict.{verdict_set, verdict_of}
 use Rattle.drafts.specs.Outcomes.{IsJudged}
 use Rattle.drafts.specs.declared.change.Refusal.{Refusal}
 use Rattle.drafts.specs.Applied.{OnNode, set_of}
 use Rattle.desk_core.specs.Findings.{Asked}
-use Rattle.desk_core.specs.declared.stage.Kept.{Kept}
-use Rattle.desk_core.specs.declared.stage.Kept.TheVariants.{Own, Shared, Dropped}
 use Rattle.desk_core.specs.declared.stage.Stage.{Stage}
 use Rattle.desk_core.specs.declared.stage.Stage.TheVariants.{Fresh, Trying, Tested}
-use Rattle.desk_core.specs.Trials.{TrialData, names_of}
-use Rattle.desk_core.specs.World.{IsTestedOn, IsShown}
+use Rattle.desk_core.specs.Trials.{TrialData}
+use Rattle.desk_core.specs.World.{IsTestedOn}
 
 -- the findings that were taken
 abbrev pub found_of : Stage → List Asked
 found_of Fresh = []
 found_of (Trying trial) = trial.value.found
-found_of (Tested set members kept found) = found.items
+found_of (Tested judged found) = found.items
 
 -- it is a trial of what the changes come to
 abbrev pub IsTrialOn : Result OnNode Refusal → TrialData → Type 0
 IsTrialOn (Err refusal) trial = ⊥
 IsTrialOn (Ok node) trial = trial.set ≡ set_of node
 
--- it is the verdict on what the changes come to, where it is kept
-abbrev pub IsKeptOn : Result OnNode Refusal → Kept → Type 0
-IsKeptOn (Err refusal) (Own verdict) = ⊥
-IsKeptOn (Ok node) (Own verdict) =
-    (verdict_set verdict ≡ set_of node) × IsVerdictOf (set_of node) (verdict_of verdict)
-IsKeptOn outcome (Shared judged) = IsJudged outcome judged
-IsKeptOn outcome Dropped = Unit {0}
-
 -- what is kept of the test is right for what the changes come to
 abbrev pub IsStage : Result OnNode Refusal → Stage → Type 0
 IsStage outcome Fresh = Unit {0}
 IsStage outcome (Trying trial) = IsTrialOn outcome trial.value
-IsStage (Ok node) (Tested set members kept found) =
-    (set.value ≡ set_of node) × IsTestedOn (Ok node) found.items
-    × IsShown (set_of node) (names_of (set_of node) members) × IsKeptOn (Ok node) kept
-IsStage (Err refusal) (Tested set members kept found) = ⊥
+IsStage outcome (Tested judged found) = IsTestedOn outcome found.items × IsJudged outcome judged
 
 -- the test is begun
 abbrev pub is_begun : Stage → Bool
 is_begun Fresh = false
 is_begun (Trying trial) = true
-is_begun (Tested set members kept found) = true
+is_begun (Tested judged found) = true
+
+-- what was judged is kept
+abbrev pub IsComplete : Stage → Type 0
+IsComplete Fresh = ⊥
+IsComplete (Trying trial) = ⊥
+IsComplete (Tested judged found) = Unit {0}
 
 -- the changes apply, and then the test is begun
 abbrev pub IsBegun : Result OnNode Refusal → Stage → Bool → Type 0

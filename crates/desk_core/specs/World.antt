@@ -3,14 +3,13 @@ use Rattle.std.specs.Prelude.{◌≡◌, ℕ, ◌+◌, ◌-◌, ◌<◌, ◌⊎�
 pub use Rattle.task_sheet.specs.SetCodes.{set_codes}
 use Rattle.task_sheet.specs.Sheet.{Task, task_at}
 use Rattle.task_sheet.specs.Orders.{IsFeasible}
-use Rattle.task_sheet.specs.Verdicts.{FailureData, tasks_of, IsVerdictOf}
-use Rattle.task_sheet.specs.Verdicts as verdict
 use Rattle.assignment.specs.Questions.{QuestionData}
 use Rattle.drafts.specs.declared.change.Change.{Change}
 use Rattle.drafts.specs.declared.change.Refusal.{Refusal}
 use Rattle.drafts.specs.declared.draft.EditRefusal.{EditRefusal}
 use Rattle.drafts.specs.declared.draft.EditRefusal.TheVariants as draft
 use Rattle.drafts.specs.Applied.{OnNode, set_of}
+use Rattle.drafts.specs.Placed.{AreStuck}
 use Rattle.drafts.specs.Machine.{MachineState}
 use Rattle.drafts.specs.Books.{Book, empty_book, logged, IsNextEntry}
 use Rattle.drafts.specs.Edits.{Draft, on_base, after_put, after_remove}
@@ -93,8 +92,8 @@ abbrev pub IsShown : List Task → List (List ℕ) → Type 0
 IsShown U names =
     (IsFeasible U × (names ≡ []))
     ⊎ ((¬ IsFeasible U)
-    × ((members : List FailureData) × IsVerdictOf U (verdict.Infeasible members)
-    × (names ≡ map (λ i. (task_at U i).name) (tasks_of members))))
+    × ((members : List ℕ) × AreStuck U members
+    × (names ≡ map (λ i. (task_at U i).name) members)))
 
 -- the reply that a test is complete, with the names that its verdict shows
 abbrev pub IsTestedReply : List Task → Reply → Type 0

@@ -235,7 +235,7 @@ impl Live {
         ensures back { IfErr result (λ back. back ≡ finding) }
     {
         let reply = bring_to(alloc, &self.draft, &mut self.stage, finding)?;
-        put_away(&mut self.stage);
+        put_away(alloc, &mut self.stage);
         Ok(reply)
     }
 
@@ -245,7 +245,7 @@ impl Live {
         ensures err { OnErr result (self.new ≡ self.old) }
     {
         let reply = advance_to(alloc, &self.draft, &mut self.stage)?;
-        put_away(&mut self.stage);
+        put_away(alloc, &mut self.stage);
         Ok(reply)
     }
 
@@ -257,14 +257,17 @@ impl Live {
         is_tested(alloc, &self.draft, &mut self.stage)
     }
 
-    /// Enters into the book what the complete test came to. None where the book's present state hasn't the tasks of the
-    /// base.
+    /// Enters into the book what the complete test came to. None where the book's present state hasn't the tasks and the
+    /// interrupts of the base.
     pub fn enter(&mut self, alloc: Global, book: &mut Book) -> Result<Option<Decided>, AllocError>
+        requires { IsTestedDraft self.old }
         ensures same { self.new ≡ self.old }
         ensures entry { IfOk result (λ decided. IfSome decided
             (λ d. IsNextEntry book.old self.old.draft d.place d.entry.value)) }
         ensures ok { IfOk result (λ decided. IfSome decided
             (λ d. book.new ≡ logged book.old d.entry.value)) }
+        ensures other { IfOk result (λ decided. IfNone decided
+            (¬ (self.old.draft.base.node ≡ book.old.desk.node))) }
         ensures none { IfOk result (λ decided. IfNone decided (book.new ≡ book.old)) }
         ensures err { OnErr result (book.new ≡ book.old) }
     {

@@ -1,25 +1,26 @@
 //! How far the test of a draft has come.
 
-ghost use Rattle.std.specs.Prelude.{◌≡◌, ◌↔◌, IfOk, IfSome, IfNone, OnErr, IsTrue, List, Result};
+ghost use Rattle.std.specs.Prelude.{◌≡◌, ◌↔◌, true, IfOk, IfErr, IfSome, IfNone, OnOk, OnErr, IsTrue, List, Result};
+ghost use Rattle.task_sheet.specs.Sheet.{Task};
 ghost use Rattle.drafts.specs.Applied.{OnNode};
 ghost use Rattle.drafts.specs.Books.{logged, IsNextEntry};
 ghost use Rattle.drafts.specs.declared.change.Refusal.{Refusal};
 ghost use Rattle.drafts.specs.Edits.{on_base};
-ghost use Rattle.desk_core.specs.Stages.{found_of, IsKeptOn, IsStage, IsBegun, IsTrialOf};
-ghost use Rattle.desk_core.specs.declared.stage.Kept.TheVariants.{Own};
+ghost use Rattle.drafts.specs.Outcomes.{IsJudgedSet};
+ghost use Rattle.desk_core.specs.Findings.{IsTested};
+ghost use Rattle.desk_core.specs.Stages.{found_of, is_begun, IsStage, IsBegun, IsComplete, IsTrialOf};
 ghost use Rattle.desk_core.specs.declared.stage.Stage.TheVariants.{Trying};
 ghost use Rattle.desk_core.specs.Standings.{IsQuestionOn, IsStandingOn, IsTrying};
-ghost use Rattle.desk_core.specs.World.{IsTestedOn};
+ghost use Rattle.desk_core.specs.World.{IsShown, IsTestedOn};
 
 use crate::events::Standing;
 use crate::notes::Notes;
 use crate::trial::{Trial, list_names};
-use assignment::{Failure, Question, Reason, Verdict};
-use drafts::{Applied, Book, Decided, Draft, Judged, share};
+use assignment::Question;
+use drafts::{Applied, Book, Decided, Draft, Judged};
 use std::alloc::{AllocError, Global};
 use std::mem;
-use std::sync::Arc;
-use task_sheet::{Members, Name, TaskSet};
+use task_sheet::Name;
 
 /// How far the test of a draft's changes on its base has come.
 #[derive(Drop)]
@@ -27,30 +28,10 @@ pub enum Stage {
     /// No finding was brought yet.
     Fresh,
     /// Findings were brought. The trial lies by itself, so that a draft without one is small.
-    Trying {
-        trial: Box<Trial>,
-    },
-    /// The findings have completed the verdict on the set, which shows the names of these tasks.
-    Tested {
-        set: Arc<TaskSet>,
-        members: Members,
-        kept: Kept,
-        found: Notes,
-    },
+    Trying { trial: Box<Trial> },
+    /// The findings have completed the verdict: what was judged is kept.
+    Tested { judged: Judged, found: Notes },
 }
-
-/// The verdict of a complete test.
-#[derive(Drop)]
-pub enum Kept {
-    Own { verdict: Verdict },
-    /// It may be entered in a book: a commit was tried.
-    Shared { judged: Judged },
-    /// A large one is dropped, so that many drafts fit into memory: a commit makes it again.
-    Dropped,
-}
-
-// A verdict is kept with at most so many numbers: one for each failure, and those of its chain.
-const KEPT_TO: usize = 8192;
 
 // A trial of what a draft's changes come to on its base, where they apply.
 fn try_out(alloc: Global, draft: &Draft) -> Result<Option<Trial>, AllocError>
@@ -84,138 +65,83 @@ pub fn begin(alloc: Global, draft: &Draft, stage: &mut Stage) -> Result<bool, Al
     }
 }
 
-/// Keeps of a complete test what is asked for.
-pub fn put_away(stage: &mut Stage)
+// What a trial comes to. Where memory runs out, it is handed back.
+fn rest_of(alloc: Global, trial: Box<Trial>) -> Result<Stage, Box<Trial>>
+    ensures kept { (outcome : Result OnNode Refusal) → IsStage outcome (Trying trial)
+        → IfOk result (IsStage outcome) }
+    ensures found { IfOk result (λ stage. found_of stage ≡ trial.value.found) }
+    ensures complete { IsTested trial.value.set trial.value.found → IfOk result IsComplete }
+    ensures back { IfErr result (λ back. back ≡ trial) }
+{
+    if !trial.is_tested() {
+        return Ok(Stage::Trying { trial });
+    }
+    let Ok(room) = Vec::with_capacity(alloc, trial.set().len()) else {
+        return Err(trial);
+    };
+    let (judged, found) = Box::into_inner(trial).finish(room);
+    Ok(Stage::Tested { judged, found })
+}
+
+// Keeps of a complete test what was judged, and the findings. Where memory runs out, it stays as it was.
+fn complete(alloc: Global, stage: &mut Stage) -> Result<(), AllocError>
     ensures kept { (outcome : Result OnNode Refusal) → IsStage outcome stage.old
         → IsStage outcome stage.new }
     ensures found { found_of stage.new ≡ found_of stage.old }
+    ensures ok { (outcome : Result OnNode Refusal) → IsStage outcome stage.old
+        → is_begun stage.old ≡ true → IsTestedOn outcome (found_of stage.old)
+        → OnOk result (IsComplete stage.new) }
 {
     match mem::replace(stage, Stage::Fresh) {
-        Stage::Trying { trial } => *stage = rest_of(trial),
-        other => *stage = other,
-    }
-}
-
-// `before`, one for each failure, and the numbers of its chain.
-fn count(fails: &[Failure], before: usize) -> usize {
-    let mut count = before;
-    for failure in fails {
-        count = count.saturating_add(1);
-        if let Reason::Chain(chain) = &failure.reason {
-            count = count.saturating_add(chain.len());
-        }
-    }
-    count
-}
-
-// Whether a verdict has so few numbers that it is kept.
-fn is_small(verdict: &Verdict) -> bool {
-    match verdict {
-        Verdict::Admitted(assignment) => {
-            let mut numbers = 0;
-            for level in assignment.levels() {
-                numbers = count(&level.fails, numbers);
-            }
-            numbers <= KEPT_TO
-        }
-        Verdict::Infeasible(obstruction) => count(obstruction.members(), 0) <= KEPT_TO,
-    }
-}
-
-// What is kept of a verdict.
-fn keep(verdict: Verdict) -> Kept
-    ensures { (outcome : Result OnNode Refusal) → IsKeptOn outcome (Own verdict)
-        → IsKeptOn outcome result }
-{
-    if is_small(&verdict) {
-        Kept::Own { verdict }
-    } else {
-        Kept::Dropped
-    }
-}
-
-// What a trial comes to.
-fn rest_of(trial: Box<Trial>) -> Stage
-    ensures kept { (outcome : Result OnNode Refusal) → IsStage outcome (Trying trial)
-        → IsStage outcome result }
-    ensures found { found_of result ≡ trial.value.found }
-{
-    if !trial.is_tested() {
-        return Stage::Trying { trial };
-    }
-    let (set, members, verdict, found) = Box::into_inner(trial).finish();
-    Stage::Tested {
-        set,
-        members,
-        kept: keep(verdict),
-        found,
-    }
-}
-
-// Shares the verdict of a complete test; where memory runs out, it stays as it was.
-fn share_kept(alloc: Global, kept: &mut Kept) -> Result<(), AllocError>
-    ensures right { (outcome : Result OnNode Refusal) → IsKeptOn outcome kept.old
-        → IsKeptOn outcome kept.new }
-    ensures err { OnErr result (kept.new ≡ kept.old) }
-{
-    match mem::replace(kept, Kept::Dropped) {
-        Kept::Own { verdict } => match share(alloc, verdict) {
-            Ok(judged) => *kept = Kept::Shared { judged },
-            Err(verdict) => {
-                *kept = Kept::Own { verdict };
+        Stage::Trying { trial } => match rest_of(alloc, trial) {
+            Ok(rest) => *stage = rest,
+            Err(trial) => {
+                *stage = Stage::Trying { trial };
                 return Err(AllocError);
             }
         },
-        other => *kept = other,
+        other => *stage = other,
     }
     Ok(())
 }
 
-// Enters a verdict into the book, where it is shared.
-fn enter_kept(
-    alloc: Global,
-    draft: &Draft,
-    kept: &Kept,
-    book: &mut Book,
-) -> Result<Option<Decided>, AllocError>
-    requires { IsKeptOn (on_base draft.now) kept.now }
-    ensures entry { IfOk result (λ decided. IfSome decided
-        (λ d. IsNextEntry book.old draft.now d.place d.entry.value)) }
-    ensures ok { IfOk result (λ decided. IfSome decided
-        (λ d. book.new ≡ logged book.old d.entry.value)) }
-    ensures none { IfOk result (λ decided. IfNone decided (book.new ≡ book.old)) }
-    ensures err { OnErr result (book.new ≡ book.old) }
+/// Keeps of a complete test what was judged, and the findings, where there is memory for them.
+pub fn put_away(alloc: Global, stage: &mut Stage)
+    ensures kept { (outcome : Result OnNode Refusal) → IsStage outcome stage.old
+        → IsStage outcome stage.new }
+    ensures found { found_of stage.new ≡ found_of stage.old }
 {
-    match kept {
-        Kept::Own { .. } | Kept::Dropped => Ok(None),
-        Kept::Shared { judged } => book.enter_tested(alloc, draft, judged),
-    }
+    let _ = complete(alloc, stage);
 }
 
-/// Enters into the book what a complete test came to. None where the book's present state hasn't the tasks of the base.
+/// Enters into the book what a complete test came to. None where the book's present state hasn't the tasks and the
+/// interrupts of the base.
 pub fn enter(
     alloc: Global,
     draft: &Draft,
     stage: &mut Stage,
     book: &mut Book,
 ) -> Result<Option<Decided>, AllocError>
-    requires { IsStage (on_base draft.now) stage.old }
+    requires kept { IsStage (on_base draft.now) stage.old }
+    requires tested { IsTestedOn (on_base draft.now) (found_of stage.old) }
     ensures kept { IsStage (on_base draft.now) stage.new }
     ensures found { found_of stage.new ≡ found_of stage.old }
     ensures entry { IfOk result (λ decided. IfSome decided
         (λ d. IsNextEntry book.old draft.now d.place d.entry.value)) }
     ensures ok { IfOk result (λ decided. IfSome decided
         (λ d. book.new ≡ logged book.old d.entry.value)) }
+    ensures other { IfOk result (λ decided. IfNone decided
+        (¬ (draft.now.base.node ≡ book.old.desk.node))) }
     ensures none { IfOk result (λ decided. IfNone decided (book.new ≡ book.old)) }
     ensures err { OnErr result (book.new ≡ book.old) }
 {
-    put_away(stage);
+    if !begin(alloc, draft, stage)? {
+        unreachable!();
+    }
+    complete(alloc, stage)?;
     match stage {
-        Stage::Tested { kept, .. } => {
-            share_kept(alloc, kept)?;
-            enter_kept(alloc, draft, kept, book)
-        }
-        _ => Ok(None),
+        Stage::Tested { judged, .. } => book.enter_tested(alloc, draft, judged),
+        _ => unreachable!(),
     }
 }
 
@@ -262,6 +188,22 @@ fn trying(alloc: Global, trial: &Trial) -> Result<Standing, AllocError>
     }
 }
 
+// The names that what was judged of a set shows.
+fn shown_by(alloc: Global, judged: &Judged) -> Result<Vec<Name>, AllocError>
+    ensures { (U : List Task) → IsJudgedSet U judged.now
+        → IfOk result (λ names. IsShown U names.items) }
+{
+    match judged {
+        Judged::Stuck { stuck } => {
+            // The set is valid: the proof has it from its sheets.
+            let _ = stuck.set().sheets();
+            let room = Vec::with_capacity(alloc, stuck.set().len())?;
+            Ok(list_names(stuck.set(), stuck.members(), room))
+        }
+        _ => Ok(Vec::new(alloc)),
+    }
+}
+
 /// Where a draft stands.
 pub fn standing(alloc: Global, draft: &Draft, stage: &mut Stage) -> Result<Standing, AllocError>
     requires { IsStage (on_base draft.now) stage.old }
@@ -275,9 +217,8 @@ pub fn standing(alloc: Global, draft: &Draft, stage: &mut Stage) -> Result<Stand
     match &*stage {
         Stage::Fresh => unreachable!(),
         Stage::Trying { trial } => trying(alloc, trial),
-        Stage::Tested { set, members, .. } => {
-            let room = Vec::with_capacity(alloc, set.len())?;
-            let infeasible = list_names(set, *members, room);
+        Stage::Tested { judged, .. } => {
+            let infeasible = shown_by(alloc, judged)?;
             Ok(Standing::Tested { infeasible })
         }
     }

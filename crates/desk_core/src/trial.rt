@@ -4,11 +4,10 @@ ghost use Rattle.std.specs.Prelude.{◌≡◌, ◌↔◌, ◌<◌, ◌≤◌, []
 ghost use Rattle.std.specs.FinSet.{contains, remove};
 ghost use Rattle.desk_core.specs.Asking.{IsAsking, IsQuestionNamed};
 ghost use Rattle.task_sheet.specs.declared.set.TheConstants.{TASK_LIMIT};
-ghost use Rattle.task_sheet.specs.Verdicts.{IsVerdictOf};
 ghost use Rattle.ceilings.specs.IsTableOf.{IsTableOf};
 ghost use Rattle.assignment.specs.Levels.{IsDecided};
 ghost use Rattle.assignment.specs.Climbs.{IsNext, IsUnfinished};
-ghost use Rattle.assignment.specs.Verdict.{verdict_set, verdict_of};
+ghost use Rattle.drafts.specs.Outcomes.{IsJudgedSet};
 ghost use Rattle.desk_core.specs.Progress.{present_of};
 ghost use Rattle.desk_core.specs.Findings.{asked_of, IsTold, found_after, IsTested};
 ghost use Rattle.desk_core.specs.Trials.{names_of};
@@ -18,8 +17,9 @@ ghost use Rattle.desk_core.specs.Advances.{IsLeast, IsTried};
 
 use crate::notes::Notes;
 use crate::told::Told;
-use assignment::{AnswerFault, Climb, Finding, Level, LevelRecord, Question, TakeFault, Verdict};
+use assignment::{AnswerFault, Climb, Finding, Level, LevelRecord, Place, Question, TakeFault};
 use ceilings::LockTable;
+use drafts::{Judged, judged_by};
 use std::alloc::{AllocError, Global};
 use std::marker::Model;
 use std::snapshot::Snapshot;
@@ -292,17 +292,14 @@ impl Trial {
         }
     }
 
-    // What is kept of a complete test: the set with the tasks whose names its verdict shows, the verdict, and the
-    // findings. The table goes.
-    pub(crate) fn finish(self) -> (Arc<TaskSet>, Members, Verdict, Notes)
-        requires { IsTested self.set self.found }
-        ensures set { result.0.value ≡ self.set }
-        ensures shown { IsShown self.set (names_of self.set result.1) }
-        ensures of_set { verdict_set result.2 ≡ self.set }
-        ensures right { IsVerdictOf self.set (verdict_of result.2) }
-        ensures found { result.3.items ≡ self.found }
+    // What a complete test comes to, into a list with room for the tasks, and the findings. The table goes.
+    pub(crate) fn finish(self, room: Vec<Place>) -> (Judged, Notes)
+        requires tested { IsTested self.set self.found }
+        requires empty { room.items ≡ [] }
+        requires room { length self.set ≤ vec_capacity room }
+        ensures judged { IsJudgedSet self.set result.0 }
+        ensures found { result.1.items ≡ self.found }
     {
-        let members = self.members();
         let Trial {
             set,
             table: _,
@@ -311,7 +308,7 @@ impl Trial {
             found,
         } = self;
         match climb.finish() {
-            Ok(verdict) => (set, members, verdict, found),
+            Ok(verdict) => (judged_by(set, &verdict, room), found),
             Err(_) => unreachable!(),
         }
     }

@@ -15,7 +15,7 @@ returns-in-Trying-clause-ok c =
 pub returns-in-Tested-clause-ok : goal.returns-in-Tested-clause-ok
 returns-in-Tested-clause-ok c =
     let outcome = on_base c.args.draft.now in
-    let tested =
-    tested-stage outcome c.begin.new.stage c.in-Tested.set c.in-Tested.members c.in-Tested.kept
-    c.in-Tested.found _ c.in-Tested.is c.begin.ensures.kept c.begin.ensures.found in
-    (tested-silent outcome (found_of c.args.stage.now) tested, c.begin.ensures.found)
+    let found = found_of c.args.stage.now in
+    let on = tested-stage outcome c.begin.new.stage c.in-Tested.judged c.in-Tested.found found
+    c.in-Tested.is c.begin.ensures.kept c.begin.ensures.found in
+    (tested-silent outcome found on.0, c.begin.ensures.found)

@@ -15,8 +15,8 @@ returns-in-Trying-clause-found c =
 pub returns-in-Tested-clause-found : goal.returns-in-Tested-clause-found
 returns-in-Tested-clause-found c =
     let outcome = on_base c.args.draft.now in
-    let tested =
-    tested-stage outcome c.begin.new.stage c.in-Tested.set c.in-Tested.members c.in-Tested.kept
-    c.in-Tested.found _ c.in-Tested.is c.begin.ensures.kept c.begin.ensures.found in
-    tested-stranger outcome (found_of c.args.stage.now) (found_of c.begin.new.stage)
-    c.args.finding.question tested c.begin.ensures.found
+    let found = found_of c.args.stage.now in
+    let on = tested-stage outcome c.begin.new.stage c.in-Tested.judged c.in-Tested.found found
+    c.in-Tested.is c.begin.ensures.kept c.begin.ensures.found in
+    tested-stranger outcome found (found_of c.begin.new.stage) c.args.finding.question on.0
+    c.begin.ensures.found

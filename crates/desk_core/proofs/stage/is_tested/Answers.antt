@@ -15,7 +15,6 @@ returns-in-Trying-clause-ok c =
 
 pub returns-in-Tested-clause-ok : goal.returns-in-Tested-clause-ok
 returns-in-Tested-clause-ok c =
-    let tested = tested-stage (on_base c.args.draft.now) c.begin.new.stage c.in-Tested.set
-    c.in-Tested.members c.in-Tested.kept c.in-Tested.found _ c.in-Tested.is c.begin.ensures.kept
-    c.begin.ensures.found in
-    (λ yes. tested, λ on. refl)
+    let on = tested-stage (on_base c.args.draft.now) c.begin.new.stage c.in-Tested.judged
+    c.in-Tested.found _ c.in-Tested.is c.begin.ensures.kept c.begin.ensures.found in
+    (λ yes. on.0, λ tested. refl)

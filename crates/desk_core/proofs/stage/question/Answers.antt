@@ -7,6 +7,6 @@ pub returns-in-Tested-clause-ok : goal.returns-in-Tested-clause-ok
 returns-in-Tested-clause-ok c =
     let outcome = on_base c.args.draft.now in
     let found = found_of c.args.stage.now in
-    tested-unasked outcome found c.args.name
-    (tested-stage outcome c.begin.new.stage c.in-Tested.set c.in-Tested.members c.in-Tested.kept
-    c.in-Tested.found found c.in-Tested.is c.begin.ensures.kept c.begin.ensures.found)
+    let on = tested-stage outcome c.begin.new.stage c.in-Tested.judged c.in-Tested.found found
+    c.in-Tested.is c.begin.ensures.kept c.begin.ensures.found in
+    tested-unasked outcome found c.args.name on.0

@@ -3,6 +3,7 @@ use Rattle.task_sheet.proofs.Common.{task_at, order_of, tasks_of}
 use Rattle.task_sheet.proofs.TaskLaws.{AllTasks-from_set}
 use Rattle.task_sheet.proofs.VerdictLaws.{IsStuck-infeasible}
 use Rattle.assignment.proofs.ClimbLaws.{not_unfinished, IsClimbing-admitted}
+use Rattle.drafts.proofs.PlacedLaws.{stuck-kept}
 use Rattle.desk_core.specs.Trials.{names_of}
 use Rattle.desk_core.proofs.ProgressLaws.{tested-ended}
 use Rattle.desk_core.proofs.StageLaws.{names-none}
@@ -19,7 +20,10 @@ returns-in-Some c =
     let valid = AllTasks-from_set U (rw c.deref.ensures at c.sheets.ensures.kept) in
     let names : names_of U c.left.result ≡ map (λ i. (task_at U i).name) (tasks_of fs) =
     rw (c.left.ensures.same, rest) refl in
-    rw (← c.self.view_is) (inr (IsStuck-infeasible U valid fs stuck, (fs, stuck, names)))
+    rw (← c.self.view_is) (inr (
+      IsStuck-infeasible U valid fs stuck,
+      (tasks_of fs, stuck-kept U fs stuck, names),
+    ))
 
 pub returns-in-None : goal.returns-in-None
 returns-in-None c =
