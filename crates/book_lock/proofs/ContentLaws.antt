@@ -1,13 +1,12 @@
 -- What the tests of lines say.
-use Rattle.std.proofs.Common.{◌≡◌, ◌↔◌, Bool, IsTrue, List, sym, ◌∙◌, ap}
-use Rattle.task_sheet.proofs.Common.{Task, IsTaskSet, FailureData, Infeasible, IsStuck}
+use Rattle.std.proofs.Common.{◌≡◌, ◌↔◌, Bool, IsTrue, sym, ◌∙◌, ap}
+use Rattle.task_sheet.proofs.Common.{Task}
 use Rattle.task_sheet.specs.Sheet.{same_sheet}
 use Rattle.task_sheet.proofs.Equality.{same_sheet_told}
-use Rattle.task_sheet.proofs.TaskLaws.{AllTasks-from_set}
-use Rattle.task_sheet.proofs.VerdictLaws.{IsVerdictOf-one}
-use Rattle.assignment.specs.AssignmentData.{ObstructionData}
 use Rattle.drafts.specs.declared.change.Change.{Change}
 use Rattle.drafts.specs.declared.change.Change.TheVariants.{Put}
+use Rattle.drafts.specs.Placed.{StuckSetData, AreStuck}
+use Rattle.drafts.proofs.PlacedLaws.{AreStuck-one}
 
 pub same_puts : (first second : Change) (x y : Task) (r : Bool) → first ≡ Put x → second ≡ Put y
     → r ≡ same_sheet x y → IsTrue r ↔ (first ≡ second)
@@ -18,19 +17,13 @@ same_puts first second x y r p q e =
           told.1 sheets,
     )
 
-one_obstruction : (U : List Task) (a b : List FailureData) → IsTaskSet U → IsStuck U a
-    → IsStuck U b → a ≡ b
-one_obstruction U a b valid h g =
-    let e : Infeasible a ≡ Infeasible b =
-    IsVerdictOf-one U (AllTasks-from_set U valid) (Infeasible a) (Infeasible b) h g in cc
-
-pub same_obstructions : (first second : ObstructionData) {r : Bool} → IsTaskSet first.set
-    → IsStuck first.set first.members → IsStuck second.set second.members
-    → IsTrue r ↔ (first.set ≡ second.set) → IsTrue r ↔ (first ≡ second)
-same_obstructions first second valid h g told = (
+pub same_stuck : (first second : StuckSetData) {r : Bool} → AreStuck first.set first.members
+    → AreStuck second.set second.members → IsTrue r ↔ (first.set ≡ second.set)
+    → IsTrue r ↔ (first ≡ second)
+same_stuck first second h g told = (
   λ yes.
       let sets = told.0 yes in
-      let members = one_obstruction first.set first.members second.members valid h (rw sets g) in
-      λ i. let o : ObstructionData = record { set = sets i; members = members i } in o,
-  λ same. told.1 (ap (λ (o : ObstructionData). o.set) same),
+      let members = AreStuck-one first.set first.members second.members h (rw sets g) in
+      λ i. let s : StuckSetData = record { set = sets i; members = members i } in s,
+  λ same. told.1 (ap (λ (s : StuckSetData). s.set) same),
 )

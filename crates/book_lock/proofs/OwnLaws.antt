@@ -120,7 +120,7 @@ moved-ranked : (desk : MachineState) (d : Ruling) (r : Result OnNode Refusal)
 moved-ranked desk (Admitted version) (Ok last) up goes = goes last refl
 moved-ranked desk (Admitted version) (Err refusal) up goes = up
 moved-ranked desk (Refused refusal) r up goes = up
-moved-ranked desk (Infeasible o) r up goes = up
+moved-ranked desk (Infeasible s) r up goes = up
 
 replay-ranked : (desk : MachineState) (log : List Entry) → IsRanked desk.node.tasks
     → IsRanked (replay desk log).node.tasks
@@ -150,7 +150,7 @@ own-moved team desk (Admitted version) (Ok last) own is goes =
     sym (ap (λ x. own_after (Admitted version) x (own_of team desk.node.tasks)) (goes last refl))
 own-moved team desk (Admitted version) (Err refusal) own is goes = absurd is
 own-moved team desk (Refused refusal) r own is goes = refl
-own-moved team desk (Infeasible o) r own is goes = refl
+own-moved team desk (Infeasible s) r own is goes = refl
 
 pub known-stays : (b : Book) (d : Draft) (old new : Known) (place : ℕ) (next : Book) → IsLegalBook b
     → d.team ≡ old.team → IsOwn b.desk old → IsEntered b d old place next new → IsOwn next.desk new

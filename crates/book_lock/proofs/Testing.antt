@@ -1,12 +1,17 @@
 -- What is said of the set that changes come to is said of what they come to.
-use Rattle.std.proofs.Common.{◌≡◌, ◌<◌, ◌≤◌, ℕ, List, refl, arith, Global}
+use Rattle.std.proofs.Common.{◌≡◌, ◌∙◌, ◌<◌, ◌≤◌, ℕ, List, None, refl, sym, subst, arith, Global}
 use Rattle.std.specs.Prelude.{Result, Ok, Err}
 use Rattle.std.specs.declared.sync.Arc.{Arc}
-use Rattle.task_sheet.proofs.Common.{Task, IsTaskSet, VerdictData, IsVerdictOf}
+use Rattle.task_sheet.proofs.Common.{Task, IsTaskSet, VerdictData, Admitted, Infeasible}
+use Rattle.task_sheet.proofs.Common.{indexes_of, all_of}
 use Rattle.task_sheet.proofs.TaskLaws.{AllTasks-from_set}
-use Rattle.task_sheet.proofs.VerdictLaws.{IsVerdictOf-one}
+use Rattle.task_sheet.proofs.IndexLaws.{same_parts}
 use Rattle.assignment.specs.Questions.{QuestionData}
-use Rattle.candidate_workers.specs.Asked.{IsOfVerdict}
+use Rattle.assignment.specs.Placings.{IsPlacingOf, SaysSame}
+use Rattle.assignment.specs.declared.placing.Placing.{Placing}
+use Rattle.assignment.specs.declared.placing.Placing.TheVariants.{Best, Stuck}
+use Rattle.assignment.proofs.VerdictPlacings.{says_same, some_verdict_says}
+use Rattle.candidate_workers.specs.Asked.{IsOfLevel, IsOfPlaces, IsOfPlacing}
 use Rattle.candidate_workers.specs.WorkerFaults.{NoVerdict, IsBadCount}
 use Rattle.candidate_workers.specs.declared.assaying.AssayFault.{AssayFault}
 use Rattle.candidate_workers.specs.declared.assaying.AssayFault.TheVariants as assay
@@ -32,12 +37,30 @@ untested_set may U workers fault cause good h is = rw is tt
 pub still_good : (n workers : ℕ) → ¬ IsBadCount workers → 0 < n → n ≤ workers → ¬ IsBadCount n
 still_good n workers good some le = grind arith
 
--- ---- questions of the one verdict
-pub none_shut : (shut : QuestionData → Type 0) (U own : List Task) (v : VerdictData) → own ≡ U
-    → IsTaskSet U → IsVerdictOf own v
-    → ((q : QuestionData) → IsOfVerdict own v q → shut q → ⊥) → NoneShutOf shut U
-none_shut shut U own v same valid right none = rw (← same) (λ verdict is q asked.
-    none q (rw (IsVerdictOf-one own (AllTasks-from_set own (rw same valid)) verdict v is right) at
+-- ---- questions of the one placing
+-- two placings that say the same have the same questions
+same_questions : (U : List Task) (v : VerdictData) (p r : Placing) (q : QuestionData)
+    → SaysSame U v p → SaysSame U v r → IsPlacingOf U p → IsPlacingOf U r
+    → IsOfPlacing U p q → IsOfPlacing U r q
+same_questions U (Admitted levels) (Best places) (Best others) q a b h g asked =
+    subst (λ ps. IsOfPlaces U (all_of U) ps q) (a ∙ sym b) asked
+same_questions U (Admitted levels) (Best places) (Stuck left) q a b h g asked = absurd b
+same_questions U (Admitted levels) (Stuck left) r q a b h g asked = absurd a
+same_questions U (Infeasible members) (Best places) r q a b h g asked = absurd a
+same_questions U (Infeasible members) (Stuck left) (Best places) q a b h g asked = absurd b
+same_questions U (Infeasible members) (Stuck left) (Stuck other) q a b h g asked =
+    let same = same_parts (indexes_of left) (indexes_of other)
+    (g.greatest (indexes_of left) h.obstruction) (h.greatest (indexes_of other) g.obstruction) in
+    subst (λ L. IsOfLevel U L None q) same asked
+
+pub none_shut : (shut : QuestionData → Type 0) (U own : List Task) (p : Placing) → own ≡ U
+    → IsTaskSet U → IsPlacingOf own p
+    → ((q : QuestionData) → IsOfPlacing own p q → shut q → ⊥) → NoneShutOf shut U
+none_shut shut U own p same valid right none =
+    let tasks = AllTasks-from_set own (rw same valid) in
+    rw (← same) (λ placing is q asked.
+    let v = some_verdict_says own tasks placing is in
+    none q (same_questions own v.0 placing p q v.2 (says_same own tasks v.0 p v.1 right) is right
     asked))
 
 -- ---- from a set to what changes come to

@@ -1,9 +1,10 @@
 -- The questions of a draft's test, and what a gate may do to them.
 use Rattle.std.specs.Prelude.{◌≡◌, ℕ, ◌<◌, List, length, Result, Ok, Err}
 use Rattle.task_sheet.specs.Sheet.{Task, task_at}
-use Rattle.task_sheet.specs.Verdicts.{VerdictData, IsVerdictOf}
 use Rattle.assignment.specs.Questions.{QuestionData}
-use Rattle.candidate_workers.specs.Asked.{IsOfVerdict}
+use Rattle.assignment.specs.Placings.{IsPlacingOf}
+use Rattle.assignment.specs.declared.placing.Placing.{Placing}
+use Rattle.candidate_workers.specs.Asked.{IsOfPlacing}
 use Rattle.candidate_workers.specs.WorkerFaults.{MayBeShut}
 use Rattle.candidate_workers.specs.declared.assaying.AssayFault.{AssayFault}
 use Rattle.candidate_workers.specs.declared.assaying.AssayFault.TheVariants as assay
@@ -12,10 +13,10 @@ use Rattle.drafts.specs.Applied.{OnNode, set_of}
 use Rattle.book_lock.specs.declared.commit.CommitCause.{CommitCause}
 use Rattle.book_lock.specs.declared.commit.CommitCause.TheVariants.{OtherTeam, BadWorkers, ThreadRefused, GateShut, OutOfMemory}
 
--- no question of the set's verdict is one of these; a set has one verdict
+-- no question of the set's placing is one of these; a set has one placing
 abbrev pub NoneShutOf : (QuestionData → Type 0) → List Task → Type 0
 NoneShutOf shut U =
-    (verdict : VerdictData) → IsVerdictOf U verdict → (q : QuestionData) → IsOfVerdict U verdict q
+    (placing : Placing) → IsPlacingOf U placing → (q : QuestionData) → IsOfPlacing U placing q
     → shut q → ⊥
 
 -- where the changes apply, this holds of the set that they come to

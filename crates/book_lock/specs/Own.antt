@@ -16,7 +16,7 @@ abbrev pub own_after : Ruling → Result (List Owned) Refusal → List Owned →
 own_after (Admitted version) (Ok tasks) own = tasks
 own_after (Admitted version) (Err refusal) own = own
 own_after (Refused refusal) outcome own = own
-own_after (Infeasible o) outcome own = own
+own_after (Infeasible s) outcome own = own
 
 -- the first name by bytes on which the two differ
 pub record IsForeignName (book pass : List Owned) (name : List ℕ) : Type 0 where

@@ -27,7 +27,7 @@ receiving p place l = record {
 abbrev pub admitted_version : Ruling → ℕ
 admitted_version (Admitted version) = version
 admitted_version (Refused refusal) = 0
-admitted_version (Infeasible obstruction) = 0
+admitted_version (Infeasible stuck) = 0
 
 -- no admitted receipt is of a later version
 abbrev pub is_up_to : ℕ → List (ℕ × Entry) → Bool

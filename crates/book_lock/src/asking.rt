@@ -8,13 +8,13 @@ ghost use Rattle.book_lock.specs.Asking.{NoneShutOf, NoneShutApplied, IsUntested
 
 use crate::commit::{CommitCause, CommitFault};
 use candidate_workers::{AssayFault, Gate, assay, threads_worth};
-use drafts::{Applied, Draft, Judged, Proposal, share};
+use drafts::{Applied, Draft, Judged, Proposal, judged_as};
 use std::alloc::Global;
 use std::sync::{Arc, Wait};
 use std::thread::Threads;
 use task_sheet::TaskSet;
 
-// Why there is no decision, where there is no verdict.
+// Why there is no decision, where there is no placing.
 fn cause_of(set: &TaskSet, fault: AssayFault) -> CommitCause
     requires { IsOnTask set.now fault }
     ensures { IsCauseOf set.now fault result }
@@ -29,7 +29,7 @@ fn cause_of(set: &TaskSet, fault: AssayFault) -> CommitCause
     }
 }
 
-// The verdict on a set, to be shared, by at most so many workers.
+// A set with its placing, by at most so many workers.
 fn test_set<G: Gate + Sync, R: Threads + Wait>(
     rt: &R,
     alloc: Global,
@@ -49,10 +49,7 @@ fn test_set<G: Gate + Sync, R: Threads + Wait>(
         return Err(CommitCause::OutOfMemory);
     };
     match assay(rt, alloc, own, threads_worth(&set, workers), gate) {
-        Ok(verdict) => match share(alloc, verdict) {
-            Ok(judged) => Ok(judged),
-            Err(_) => Err(CommitCause::OutOfMemory),
-        },
+        Ok(placing) => Ok(judged_as(set, placing)),
         Err(fault) => Err(cause_of(&set, fault)),
     }
 }

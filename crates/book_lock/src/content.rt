@@ -3,8 +3,7 @@
 ghost use Rattle.std.specs.Prelude.{◌≡◌, ◌↔◌, IsTrue};
 ghost use Rattle.drafts.specs.Rulings.{ruling_of};
 
-use assignment::Obstruction;
-use drafts::{Change, Decision, Entry};
+use drafts::{Change, Decision, Entry, StuckSet};
 use task_sheet::Name;
 
 // Whether two changes are the same.
@@ -40,13 +39,13 @@ fn are_same_changes(first: &[(Name, Change)], second: &[(Name, Change)]) -> bool
     true
 }
 
-// Whether two obstructions say the same: a set has one that is greatest.
-fn is_same_obstruction(first: &Obstruction, second: &Obstruction) -> bool
+// Whether two stuck sets are the same: a set has one greatest obstruction.
+fn is_same_stuck(first: &StuckSet, second: &StuckSet) -> bool
     ensures { IsTrue result ↔ (first.now ≡ second.now) }
 {
-    // Both sets are valid: the proof has it from their sheets.
-    let _ = first.set().sheets();
-    let _ = second.set();
+    // Both obstructions are the greatest: the proof has it from their members.
+    let _ = first.members();
+    let _ = second.members();
     first.set().is_same(second.set())
 }
 
@@ -57,8 +56,8 @@ fn is_same_decision(first: &Decision, second: &Decision) -> bool
     match (first, second) {
         (Decision::Admitted { version: a }, Decision::Admitted { version: b }) => a == b,
         (Decision::Refused { refusal: a }, Decision::Refused { refusal: b }) => a.is_same(b),
-        (Decision::Infeasible { obstruction: a }, Decision::Infeasible { obstruction: b }) => {
-            is_same_obstruction(a, b)
+        (Decision::Infeasible { stuck: a }, Decision::Infeasible { stuck: b }) => {
+            is_same_stuck(a, b)
         }
         _ => false,
     }

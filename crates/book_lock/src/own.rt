@@ -92,7 +92,7 @@ impl OwnTasks {
                 }
             }
             Decision::Refused { refusal: _ } => {}
-            Decision::Infeasible { obstruction: _ } => {}
+            Decision::Infeasible { stuck: _ } => {}
         }
     }
 }

@@ -121,7 +121,7 @@ fn version_of(decision: &Decision) -> u64
     match decision {
         Decision::Admitted { version } => *version,
         Decision::Refused { refusal: _ } => 0,
-        Decision::Infeasible { obstruction: _ } => 0,
+        Decision::Infeasible { stuck: _ } => 0,
     }
 }
 

@@ -201,14 +201,14 @@ pub fn said(entry: &Entry) -> (u64, u64) {
     let what = match entry.decision() {
         Decision::Admitted { version } => *version,
         Decision::Refused { refusal: _ } => 100,
-        Decision::Infeasible { obstruction: _ } => 200,
+        Decision::Infeasible { stuck: _ } => 200,
     };
     (entry.team().number(), what)
 }
 
 /// The responses of the two tasks of a state, the lowest first; none where there are not two.
 pub fn responses(state: &NodeState) -> Option<(u64, u64)> {
-    match state.assignment().levels() {
+    match state.order().places() {
         [low, high] => Some((low.response, high.response)),
         _ => None,
     }
