@@ -587,6 +587,20 @@ Of tasks that write at their deadlines the way goes from each arrival to the dea
   a timed: stands behind act 26999 to 36999 us
   chain timed: age 36.999 ms of bound 37 ms
 
+The legend has the signs of what is drawn of a way, and no other:
+
+  $ signs() { sed -nE 's/^<path class="y[ab][^"]*" d="M[0-9]+ 1032h.*>([^<]+)<.text>$/\1/p' | paste -sd '|'; }
+  $ way | signs
+  begins, and reads|to its finish, and writes|what it wrote waits|stands longest|what comes next
+  $ way --from 20000 --to 36000 | signs
+  begins, and reads|to its finish, and writes|what it wrote waits|stands longest
+  $ way --from 50000 --to 53000 | signs
+  stands longest
+  $ desk draw timed.toml built --chain timed | signs
+  arrives, and reads|to its deadline, and writes|what it wrote waits|stands longest|what comes next
+  $ desk draw timed.toml built --chain timed --to 36000 | signs
+  arrives, and reads|to its deadline, and writes|what it wrote waits|stands longest
+
 A name is refused that no chain has, behind all that is refused without it; two runs have no way:
 
   $ desk draw examples/steer.toml examples/steer.releases --chain plan

@@ -11,7 +11,15 @@ from picture import SVG
 
 # How far below the upper edge of a row a way lies: that of what stands longest, and that of what comes next.
 LOWER = {"ya": 215, "yb": 295}
-SIGNS = ["begins, and reads", "to its finish, and writes", "what it wrote waits", "stands longest", "what comes next"]
+
+# The signs of the legend, in their order, and the classes of the paths that each is of; the first two are words by when tasks write.
+SIGNS = [
+    ({"finish": "begins, and reads", "deadline": "arrives, and reads"}, ["ya yd", "yb yd"]),
+    ({"finish": "to its finish, and writes", "deadline": "to its deadline, and writes"}, ["ya", "yb"]),
+    ("what it wrote waits", ["ya yw", "yb yw"]),
+    ("stands longest", ["ya ys"]),
+    ("what comes next", ["yb", "yb yd", "yb yw"]),
+]
 
 
 def fault(data, view, tasks, rows, until, releases, name):
@@ -36,9 +44,16 @@ def fault(data, view, tasks, rows, until, releases, name):
         return f"the way is {sorted(drawn)}, not {sorted(marks)}"
     if words != said:
         return f"says {words}, not {said}"
-    if signs != SIGNS * ("age -" not in said[-1][2]):
-        return f"the signs are {signs}"
+    meant = signs_of(chain, [kind for kind, _, _ in drawn])
+    if signs != meant:
+        return f"the signs are {signs}, not {meant}"
     return None
+
+
+def signs_of(chain, drawn):
+    """The words of the signs of what is drawn, by its classes."""
+    is_drawn = lambda kinds: not set(kinds).isdisjoint(drawn)
+    return [it[chain.writes] if isinstance(it, dict) else it for it, kinds in SIGNS if is_drawn(kinds)]
 
 
 def taken(root):

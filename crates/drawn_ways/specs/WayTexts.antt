@@ -6,7 +6,6 @@ use Rattle.std.specs.Option.{option_map}
 use Rattle.task_sheet.specs.Sheet.{Task}
 use Rattle.ceiling_kernel.specs.declared.trace.Trace.{Trace}
 use Rattle.chains.specs.declared.bounds.Writes.{Writes}
-use Rattle.chains.specs.declared.bounds.Writes.TheVariants.{AtFinish, AtDeadline}
 use Rattle.chain_runs.specs.ChainOutputs.{outputs_of}
 use Rattle.chain_runs.specs.declared.outputs.ChainOutput.{ChainOutput}
 use Rattle.frames.specs.Frame.{Frame, frame_end, in_millis, sees, top_of, x_of}
@@ -17,11 +16,12 @@ use Rattle.drawn_ways.specs.Sources.{outputs_in}
 use Rattle.drawn_ways.specs.Stands.{age_of, oldest}
 use Rattle.drawn_ways.specs.Stops.{stops_of}
 use Rattle.drawn_ways.specs.WayMarks.{along_text, stops_text}
+use Rattle.drawn_ways.specs.WaySigns.{signs_text}
 use Rattle.drawn_ways.specs.declared.legs.Leg.{Leg}
 use Rattle.drawn_ways.specs.declared.marks.Ink.TheVariants.{Standing, Next}
 use Rattle.drawn_ways.specs.declared.stands.Stand.{Stand}
 use Rattle.drawn_ways.specs.declared.stops.Stop.{Stop}
-use Rattle.drawn_ways.specs.declared.style.TheConstants.{DEADLINE_SIGNS, SIGNS, STYLE}
+use Rattle.drawn_ways.specs.declared.style.TheConstants.{STYLE}
 use Rattle.drawn_ways.specs.declared.ground.Ground.{Ground}
 use Rattle.drawn_ways.specs.declared.way.Way.{Way}
 
@@ -112,15 +112,14 @@ ways_text g w s =
     ++ stops_text g.frame Standing w.name (stops_at g w s.since)
     ++ stay_behind g.frame w.name s (stops_at g w s.since)
 
--- what the signs mean
-abbrev pub signs_of : Writes → List ℕ
-signs_of AtFinish = SIGNS.now
-signs_of AtDeadline = DEADLINE_SIGNS.now
+-- the same, where something stands
+abbrev pub ways_of : GroundData → WayData → Option Stand → List ℕ
+ways_of g w None = []
+ways_of g w (Some s) = ways_text g w s
 
--- the same with them, where something stands
-abbrev pub signed_ways : GroundData → WayData → Option Stand → List ℕ
-signed_ways g w None = []
-signed_ways g w (Some s) = ways_text g w s ++ signs_of w.writes
+-- ways, with what the signs in them mean
+abbrev pub signed : Writes → (ways : List ℕ) → List ℕ
+signed writes ways = ways ++ signs_text writes ways
 
 -- ---- all
 -- the chain, the greatest age in the window, and the bound, below the rows
@@ -131,7 +130,8 @@ chain_line g w age =
     ∷ codes "</text>\n" ∷ [])
 
 abbrev pub drawn_of : GroundData → WayData → Option Stand → List ℕ
-drawn_of g w s = STYLE.now ++ signed_ways g w s ++ chain_line g w (option_map age_of s)
+drawn_of g w s =
+    STYLE.now ++ signed w.writes (ways_of g w s) ++ chain_line g w (option_map age_of s)
 
 -- what is drawn of a chain in a run
 abbrev pub way_text : Frame → List Task → List TaskRow → (shown : List ℕ) → Trace → WayData → List ℕ

@@ -5,6 +5,7 @@ mod ground;
 pub mod laws;
 mod legs;
 mod marks;
+mod signs;
 mod sources;
 mod stands;
 mod stops;

@@ -3,15 +3,16 @@ ghost use Rattle.std.specs.Prelude.{◌≡◌, ◌++◌, ◌≤◌, All, IfOk, O
 ghost use Rattle.frames.specs.Page.{Adds};
 ghost use Rattle.frames.specs.declared.places.TheConstants.{PLACES_LIMIT};
 ghost use Rattle.drawn_ways.specs.Stands.{age_of, oldest};
-ghost use Rattle.drawn_ways.specs.WayTexts.{age_text, age_x, chain_line, drawn_of, ground_of, half_room, laid_over, later, signed_ways, stay_behind, stay_of, stay_text, stops_at, stops_then, told_time, way_of, way_text, ways_text};
+ghost use Rattle.drawn_ways.specs.WayTexts.{age_text, age_x, chain_line, drawn_of, ground_of, half_room, laid_over, later, stay_behind, stay_of, stay_text, stops_at, stops_then, told_time, way_of, way_text, ways_of, ways_text};
 
 use crate::ground::Ground;
 use crate::legs::{Leg, path_at};
 use crate::marks::{Ink, put_along, put_stops};
+use crate::signs::put_signs;
 use crate::sources::{outputs_in, source_of};
 use crate::stands::{Stand, age_of, oldest};
 use crate::stops::{Stop, stops_of};
-use crate::style::{STYLE, signs_of};
+use crate::style::STYLE;
 use ceiling_kernel::Trace;
 use chain_runs::ChainOutput;
 use chains::Writes;
@@ -180,8 +181,8 @@ fn put_ways(
     Ok(())
 }
 
-// The same with what the signs mean, where something stands.
-fn put_signed(
+// The same, where something stands.
+fn put_standing(
     alloc: Global,
     ground: &Ground<'_>,
     way: &Way<'_>,
@@ -189,13 +190,27 @@ fn put_signed(
     page: &mut Page,
 ) -> Result<(), AllocError>
     ensures { OnOk result (Adds page.old page.new
-        (signed_ways (ground_of ground.now) (way_of way.now) stand)) }
+        (ways_of (ground_of ground.now) (way_of way.now) stand)) }
 {
     if let Some(stand) = stand {
         put_ways(alloc, ground, way, stand, page)?;
-        page.put(signs_of(way.writes));
     }
     Ok(())
+}
+
+// The ways alone.
+fn ways_of(
+    alloc: Global,
+    ground: &Ground<'_>,
+    way: &Way<'_>,
+    stand: Option<Stand>,
+) -> Result<Vec<u8>, AllocError>
+    ensures { IfOk result (λ ways. ways.items
+        ≡ ways_of (ground_of ground.now) (way_of way.now) stand) }
+{
+    let mut page = Page::new(alloc);
+    put_standing(alloc, ground, way, stand, &mut page)?;
+    page.whole()
 }
 
 // The chain, the greatest age in the window, and the bound, below the rows.
@@ -229,9 +244,11 @@ fn drawn_of(
     ensures { IfOk result (λ text. text.items
         ≡ drawn_of (ground_of ground.now) (way_of way.now) stand) }
 {
+    let ways = ways_of(alloc, ground, way, stand)?;
     let mut page = Page::new(alloc);
     page.put(STYLE.as_bytes());
-    put_signed(alloc, ground, way, stand, &mut page)?;
+    page.put(&ways);
+    put_signs(way.writes, &ways, &mut page);
     put_chain_line(ground, way, age_if(stand), &mut page);
     page.whole()
 }

@@ -1,4 +1,5 @@
 pub mod Adds
+pub mod Wholes
 pub mod Anys
 pub mod Lanes
 pub mod Executed

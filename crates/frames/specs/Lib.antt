@@ -5,6 +5,7 @@ pub mod Slices
 pub mod Numbers
 pub mod Boxes
 pub mod Page
+pub mod Signs
 pub mod Locks
 pub mod Places
 pub mod Tones

@@ -1,9 +1,5 @@
 -- The document of a view.
-use Rattle.std.proofs.Common.{◌≡◌, ◌∙◌, ◌++◌, ℕ, List, [], Result, true, refl, ap}
-use Rattle.std.specs.Prelude.{IfOk, MatchResult}
-use Rattle.std.specs.Global.{Vec}
-use Rattle.std.specs.declared.alloc.AllocError.{AllocError}
-use Rattle.std.proofs.lemmas.Result.{MatchResult-weaker}
+use Rattle.std.proofs.Common.{◌≡◌, ℕ, List, refl}
 use Rattle.ceiling_kernel.specs.declared.trace.Release.{Release}
 use Rattle.ceiling_kernel.specs.declared.trace.JobRecord.{JobRecord}
 use Rattle.ceiling_kernel.specs.declared.trace.Slice.{Slice}
@@ -14,8 +10,6 @@ use Rattle.frames.specs.declared.view.View.{View}
 use Rattle.frames.specs.Frame.{Frame, frame_of}
 use Rattle.frames.specs.Locks.{locks_of}
 use Rattle.frames.specs.View.{shown_of}
-use Rattle.frames.specs.Page.{Adds}
-use Rattle.frames.specs.declared.page.Page.{Page}
 use Rattle.picture.specs.Beside.{Run, body_beside, scene_at}
 use Rattle.picture.specs.Document.{document, framed}
 use Rattle.picture.specs.Waits.{Scene}
@@ -29,14 +23,6 @@ pub document_of : (rows : List TaskRow) (v : View) (until : ℕ) (rs : List Rele
 document_of rows v until rs trace f title locks shown jobs slices frame titled locked chosen
     job slice =
     rw frame (rw titled (rw locked (rw chosen (rw job (rw slice refl)))))
-
--- what a page that was empty has in the end
-pub whole_of : {a b : Page} {words : List ℕ} (r : Result (Vec ℕ) AllocError) (Q : AllocError → Type 0)
-    → Adds a b words → a.text.items ≡ []
-    → MatchResult r (λ text. (b.is_whole ≡ true) × (text ≡ b.text)) Q
-    → IfOk r (λ text. text.items ≡ words)
-whole_of {words = words} r Q put empty whole = MatchResult-weaker r whole
-    (λ text is. rw is.1 (put.adds is.0 ∙ ap (λ (l : List ℕ). l ++ words) empty)) (λ _ _. tt)
 
 -- ---- of two runs
 -- a run in the same frame, with the same locks, at the same places

@@ -1,20 +1,7 @@
 -- What the signs mean: each stands where the picture has it.
-use Rattle.std.specs.Prelude.{ℕ, Bool, if◌then◌else◌, is_some, List, [], ◌++◌, codes}
-use Rattle.memchr.specs.Find.{first_of, matches}
+use Rattle.std.specs.Prelude.{ℕ, List, ◌++◌, codes}
+use Rattle.frames.specs.Signs.{sign_of, sign_text}
 use Rattle.picture.specs.declared.legend.TheConstants.{ARRIVAL, BLOCKED, BOUND, CHANGED, DEADLINE, EXECUTES, GOES_ON, MISSED, NOT_READY, SEVERAL, UNRUN, WAITS}
-
--- words stand somewhere in a text
-abbrev pub has_words : (text words : List ℕ) → Bool
-has_words text words = is_some (first_of (matches text words 0))
-
--- a sign, where a picture has an element that begins so
-abbrev pub sign_text : (text mark sign : List ℕ) → List ℕ
-sign_text text mark sign = if has_words text mark then sign else []
-
--- a sign, where it has an element that begins in either of two ways
-abbrev pub sign_of : (text mark other sign : List ℕ) → List ℕ
-sign_of text mark other sign =
-    if has_words text mark then sign else sign_text text other sign
 
 -- what executes, waits, and goes on
 abbrev pub first_line : (text : List ℕ) → List ℕ

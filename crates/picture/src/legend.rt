@@ -1,10 +1,9 @@
 //! What the signs mean: each stands where the picture has it.
 ghost use Rattle.std.specs.Prelude.{◌≡◌, ◌++◌, IfOk, codes};
 ghost use Rattle.frames.specs.Page.{Adds};
-ghost use Rattle.picture.specs.Legend.{first_line, has_words, legend_text, second_line, sign_of, sign_text};
+ghost use Rattle.picture.specs.Legend.{first_line, legend_text, second_line};
 
-use frames::Page;
-use memchr::memmem;
+use frames::{Page, put_sign, put_sign_of};
 use std::alloc::{AllocError, Global};
 
 // The signs of the first line.
@@ -71,33 +70,6 @@ const CHANGED: &str = concat!(
     "<path class=\"ch\" d=\"M7750 840l-45 80h90z\"/>",
     "<text x=\"7850\" y=\"918\">response changed</text>\n",
 );
-
-// Whether words stand somewhere in a text.
-fn has_words(text: &[u8], words: &[u8]) -> bool
-    ensures { result ≡ has_words text.now words.now }
-{
-    memmem::find(text, words).is_some()
-}
-
-// A sign, where a picture has what it stands for.
-fn put_sign(text: &[u8], mark: &[u8], sign: &str, page: &mut Page)
-    ensures { Adds page.old page.new (sign_text text.now mark.now sign.now) }
-{
-    if has_words(text, mark) {
-        page.put(sign.as_bytes())
-    }
-}
-
-// A sign, where it has either of two.
-fn put_sign_of(text: &[u8], mark: &[u8], other: &[u8], sign: &str, page: &mut Page)
-    ensures { Adds page.old page.new (sign_of text.now mark.now other.now sign.now) }
-{
-    if has_words(text, mark) {
-        page.put(sign.as_bytes())
-    } else {
-        put_sign(text, other, sign, page)
-    }
-}
 
 // The first line.
 fn put_first_line(text: &[u8], page: &mut Page)

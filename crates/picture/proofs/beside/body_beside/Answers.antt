@@ -3,7 +3,7 @@ use Rattle.frames.specs.declared.tones.Toned.{Toned}
 use Rattle.frames.proofs.Adds.{adds_both, adds_same}
 use Rattle.picture.specs.Beside.{ground_beside}
 use Rattle.picture.specs.Waits.{scene_of}
-use Rattle.picture.proofs.Documents.{whole_of}
+use Rattle.frames.proofs.Wholes.{whole_of}
 use Rattle.picture.proofs.beside.body_beside.Goals as goal
 
 pub returns : goal.returns

@@ -2,7 +2,7 @@ use Rattle.std.proofs.Common.{◌∙◌, List}
 use Rattle.frames.specs.declared.tones.Toned.{Toned}
 use Rattle.frames.proofs.Adds.{adds_both, adds_same}
 use Rattle.picture.specs.Document.{ground_text}
-use Rattle.picture.proofs.Documents.{whole_of}
+use Rattle.frames.proofs.Wholes.{whole_of}
 use Rattle.picture.proofs.document.body_of.Goals as goal
 
 pub returns : goal.returns

@@ -1,5 +1,5 @@
 use Rattle.frames.proofs.Adds.{adds_both}
-use Rattle.picture.proofs.Documents.{whole_of}
+use Rattle.frames.proofs.Wholes.{whole_of}
 use Rattle.picture.proofs.legend.legend_of.Goals as goal
 
 pub returns : goal.returns

@@ -1,7 +1,7 @@
 use Rattle.std.proofs.Common.{◌∙◌, ap}
 use Rattle.std.specs.Prelude.{is_some}
 use Rattle.memchr.proofs.lemmas.ValueLemmas.{FindsNeedle-value}
-use Rattle.picture.proofs.legend.has_words.Goals as goal
+use Rattle.frames.proofs.signs.has_words.Goals as goal
 
 pub returns : goal.returns
 returns c = c.is_some.ensures

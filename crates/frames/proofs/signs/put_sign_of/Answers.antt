@@ -1,5 +1,5 @@
 use Rattle.std.proofs.Common.{◌∙◌, sym}
-use Rattle.picture.proofs.legend.put_sign_of.Goals as goal
+use Rattle.frames.proofs.signs.put_sign_of.Goals as goal
 
 pub returns-then-has_words : goal.returns-then-has_words
 returns-then-has_words c = rw (sym c.has_words.ensures ∙ c.if-has_words.true)

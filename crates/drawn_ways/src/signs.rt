@@ -1,0 +1,94 @@
+//! What the signs of a way mean: each stands where the ways have what it stands for.
+ghost use Rattle.std.specs.Prelude.{◌≡◌};
+ghost use Rattle.frames.specs.Page.{Adds};
+ghost use Rattle.drawn_ways.specs.WaySigns.{reads_sign, signs_text, writes_sign};
+
+use chains::Writes;
+use frames::{Page, put_sign, put_sign_of};
+
+// A job reads as it begins, or as it arrives.
+const BEGINS: &str = concat!(
+    "<path class=\"ya yd\" d=\"M160 1032h1\"/>",
+    "<text x=\"230\" y=\"1070\">begins, and reads</text>\n",
+);
+
+const ARRIVES: &str = concat!(
+    "<path class=\"ya yd\" d=\"M160 1032h1\"/>",
+    "<text x=\"230\" y=\"1070\">arrives, and reads</text>\n",
+);
+
+// It writes at its finish, or at its deadline.
+const TO_FINISH: &str = concat!(
+    "<path class=\"ya\" d=\"M1310 1032h260\"/>",
+    "<text x=\"1630\" y=\"1070\">to its finish, and writes</text>\n",
+);
+
+const TO_DEADLINE: &str = concat!(
+    "<path class=\"ya\" d=\"M1310 1032h260\"/>",
+    "<text x=\"1630\" y=\"1070\">to its deadline, and writes</text>\n",
+);
+
+// What comes of that.
+const WAITS: &str = concat!(
+    "<path class=\"ya yw\" d=\"M3140 1032h260\"/>",
+    "<text x=\"3470\" y=\"1070\">what it wrote waits</text>\n",
+);
+
+const STANDS: &str = concat!(
+    "<path class=\"ya ys\" d=\"M4610 1032h260\"/>",
+    "<text x=\"4930\" y=\"1070\">stands longest</text>\n",
+);
+
+const NEXT: &str = concat!(
+    "<path class=\"yb\" d=\"M5840 1032h260\"/>",
+    "<text x=\"6160\" y=\"1070\">what comes next</text>\n",
+);
+
+// Where a job reads.
+fn reads_sign(writes: Writes) -> &'static str
+    ensures { result.now ≡ reads_sign writes }
+{
+    match writes {
+        Writes::AtFinish => BEGINS,
+        Writes::AtDeadline => ARRIVES,
+    }
+}
+
+// Up to where it writes.
+fn writes_sign(writes: Writes) -> &'static str
+    ensures { result.now ≡ writes_sign writes }
+{
+    match writes {
+        Writes::AtFinish => TO_FINISH,
+        Writes::AtDeadline => TO_DEADLINE,
+    }
+}
+
+// Puts the signs that some ways have.
+pub(crate) fn put_signs(writes: Writes, ways: &[u8], page: &mut Page)
+    ensures { Adds page.old page.new (signs_text writes ways.now) }
+{
+    put_sign_of(
+        ways,
+        b"<path class=\"ya yd\"",
+        b"<path class=\"yb yd\"",
+        reads_sign(writes),
+        page,
+    );
+    put_sign_of(
+        ways,
+        b"<path class=\"ya\"",
+        b"<path class=\"yb\"",
+        writes_sign(writes),
+        page,
+    );
+    put_sign_of(
+        ways,
+        b"<path class=\"ya yw\"",
+        b"<path class=\"yb yw\"",
+        WAITS,
+        page,
+    );
+    put_sign(ways, b"<path class=\"ya ys\"", STANDS, page);
+    put_sign(ways, b"<path class=\"yb", NEXT, page)
+}
