@@ -12,7 +12,8 @@ use Rattle.answering.specs.declared.status.Status.{Status}
 use Rattle.answering.specs.declared.answer.OrderPart.TheVariants.{Levels, Settings}
 use Rattle.chain_tables.specs.Chains.{ChainData}
 use Rattle.chain_lines.specs.declared.text.Telling.TheVariants as telling
-use Rattle.set_commands.specs.Chained.{AreLeastOf, IsPlaced, chained_said, chained_status, levels_of}
+use Rattle.set_commands.specs.Chained.{AreLeastOf, IsPlaced, chained_said, chained_status}
+use Rattle.least_chains.specs.LeastBound.{levels_of}
 use Rattle.set_commands.specs.declared.chained.Placed.{Placed}
 use Rattle.owners.specs.Slack.{sorted_if}
 use Rattle.answering.specs.Owning.{HasChained, HasOwned}

@@ -23,7 +23,8 @@ use Rattle.worst_lines.specs.Deciding.{IsDeciding}
 use Rattle.set_commands.specs.Admit.{OfOneSays, Places}
 use Rattle.chain_tables.specs.Chains.{ChainData}
 use Rattle.chain_lines.specs.declared.text.Telling.TheVariants as telling
-use Rattle.set_commands.specs.Chained.{AreLeastOf, chained_said, chained_status, levels_of}
+use Rattle.set_commands.specs.Chained.{AreLeastOf, chained_said, chained_status}
+use Rattle.least_chains.specs.LeastBound.{levels_of}
 use Rattle.answering.specs.OrderParts.{placing_first}
 use Rattle.answering.specs.Printed.{Prints}
 use Rattle.answering.specs.Owning.{HasChained, HasOwned}

@@ -4,7 +4,8 @@ ghost use Rattle.assignment.specs.Placings.{IsPlacingOf};
 ghost use Rattle.settings.specs.Settings.{settings_from};
 ghost use Rattle.worst_lines.specs.Deciding.{IsDeciding};
 ghost use Rattle.set_commands.specs.Admit.{OfPlaced};
-ghost use Rattle.set_commands.specs.Chained.{IsPlaced, levels_of};
+ghost use Rattle.set_commands.specs.Chained.{IsPlaced};
+ghost use Rattle.least_chains.specs.LeastBound.{levels_of};
 ghost use Rattle.set_commands.specs.WorstChain.{AreLinesOfChain, SaysChain, SaysWorstOf};
 ghost use Rattle.answering.specs.Outcomes.{IsSaidOn};
 
