@@ -3,6 +3,7 @@
 
 mod asking;
 mod assaying;
+mod candidates;
 mod claims;
 mod crew;
 mod deciding;
@@ -14,6 +15,7 @@ mod view;
 
 pub use asking::WorkFault;
 pub use assaying::{AssayFault, WORKER_LIMIT, assay};
+pub use candidates::Candidates;
 pub use claims::{ClaimSeat, ClaimTable};
 pub use crew::share_out;
 pub use gate::{Gate, OpenGate};
