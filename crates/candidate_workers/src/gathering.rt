@@ -1,17 +1,18 @@
 //! What the workers of a level hand on, all together.
-ghost use Rattle.std.specs.Prelude.{◌≡◌, ◌++◌, ◌∷◌, [], List, Some};
+ghost use Rattle.std.specs.Prelude.{◌≡◌, ◌++◌, ◌∷◌, [], List, Some, option_to_list};
 ghost use Rattle.candidate_workers.specs.declared.assaying.AssayFault.{AssayFault};
 ghost use Rattle.candidate_workers.specs.WorkerFaults.{fault_of};
-ghost use Rattle.candidate_workers.specs.Crews.{work_faults, faults_of, rank_of, IsFirstFault};
+ghost use Rattle.assignment.specs.Places.{PlaceData};
+ghost use Rattle.candidate_workers.specs.Crews.{place_in, places_in, fault_in, faults_of, rank_of, IsFirstFault, IsLowest};
 
 use crate::asking::WorkFault;
 use crate::assaying::AssayFault;
 use crate::claims::ClaimSeat;
-use assignment::Finding;
+use assignment::Place;
 use std::snapshot::Snapshot;
 
-/// What a worker hands on: its findings, or why it has none.
-pub type Handed = Result<Vec<Finding>, WorkFault>;
+/// What a worker hands on: the candidate that passed with its response, where one did, or why it has no answer.
+pub type Handed = Result<Option<Place>, WorkFault>;
 
 /// How the claim table of a level ended, where no fault came.
 #[derive(Drop)]
@@ -77,11 +78,50 @@ fn first_of(first: Option<AssayFault>, other: AssayFault) -> AssayFault
 // The first of some faults, and of that of one more worker, if it has one.
 fn first_with(first: Option<AssayFault>, handed: &Handed) -> Option<AssayFault>
     ensures { (faults : List AssayFault) → IsFirstFault faults first →
-        IsFirstFault (faults ++ work_faults (handed.now ∷ [])) result }
+        IsFirstFault (faults ++ fault_in handed.now) result }
 {
     match handed {
         Ok(_) => first,
         Err(fault) => Some(first_of(first, fault_of(*fault))),
+    }
+}
+
+// The lowest of some places, and of one more.
+fn lower_of(lowest: Option<Place>, other: Place) -> Place
+    ensures { (places : List PlaceData) → IsLowest places lowest →
+        IsLowest (places ++ other ∷ []) (Some result) }
+{
+    match lowest {
+        None => other,
+        Some(place) => {
+            if other.task < place.task {
+                other
+            } else {
+                place
+            }
+        }
+    }
+}
+
+// The same, where there may be none more.
+fn lowest_of(lowest: Option<Place>, other: Option<Place>) -> Option<Place>
+    ensures { (places : List PlaceData) → IsLowest places lowest →
+        IsLowest (places ++ option_to_list other) result }
+{
+    match other {
+        Some(place) => Some(lower_of(lowest, place)),
+        None => lowest,
+    }
+}
+
+// The lowest of some places, and of that of one more worker, if it has one.
+fn lowest_with(lowest: Option<Place>, handed: &Handed) -> Option<Place>
+    ensures { (places : List PlaceData) → IsLowest places lowest →
+        IsLowest (places ++ place_in handed.now) result }
+{
+    match handed {
+        Ok(place) => lowest_of(lowest, *place),
+        Err(_) => lowest,
     }
 }
 
@@ -99,5 +139,15 @@ impl Crew {
             first = first_with(first, handed);
         }
         first
+    }
+    /// Of the candidates that were handed on, the one of least rank. None where there is none.
+    pub fn lowest(&self) -> Option<Place>
+        ensures { IsLowest (places_in self.now.handed.items) result }
+    {
+        let mut lowest = None;
+        for handed in &self.handed {
+            lowest = lowest_with(lowest, handed);
+        }
+        lowest
     }
 }

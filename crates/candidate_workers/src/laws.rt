@@ -1,21 +1,24 @@
 //! Laws of the claims and of the demands. Each is the clause of a function that does nothing.
-ghost use Rattle.std.specs.Prelude.{ℕ, ◌<◌, ◌≤◌, List};
+ghost use Rattle.std.specs.Prelude.{ℕ, ◌+◌, ◌<◌, ◌≤◌, List};
 ghost use Rattle.task_sheet.specs.Sheet.{Task};
 ghost use Rattle.task_sheet.specs.Indexes.{Indexes};
 ghost use Rattle.task_sheet.specs.Demand.{evaluation_bound, limit_of};
-ghost use Rattle.assignment.specs.Levels.{LevelState};
 ghost use Rattle.candidate_workers.specs.declared.gathering.Claimed.{Claimed};
+ghost use Rattle.candidate_workers.specs.Candidates.{CandidatesData};
 ghost use Rattle.candidate_workers.specs.Claims.{count_of, candidate_at};
 ghost use Rattle.candidate_workers.specs.Counting.{times};
-ghost use Rattle.candidate_workers.specs.Crews.{AreClaims};
+ghost use Rattle.candidate_workers.specs.Crews.{whole_view, AreClaims};
 ghost use Rattle.candidate_workers.specs.Threads.{demands_on};
 
-/// The workers handed on a finding for each candidate up to the least that passes, and for all where none passes: these
-/// decide the level.
+/// The workers answered for each candidate up to the least that passes, and for all where none passes, and handed on the
+/// least that passes: these decide the level.
 pub fn claims_find_all()
-    ensures { (level : LevelState) (tasks : List ℕ) (claimed : Claimed) (k : ℕ) →
+    ensures answered { (level : CandidatesData) (tasks : List ℕ) (claimed : Claimed) (k : ℕ) →
         AreClaims level tasks claimed → k < count_of level → k ≤ claimed.least →
-        0 < times (candidate_at level k) tasks }
+        0 < times k (whole_view claimed).failed + times k (whole_view claimed).passed }
+    ensures least { (level : CandidatesData) (tasks : List ℕ) (claimed : Claimed) →
+        AreClaims level tasks claimed → claimed.least < count_of level →
+        0 < times (candidate_at level claimed.least) tasks }
 {}
 
 /// A question computes no more demands than the bound of its task, whatever tasks are above it.

@@ -6,7 +6,6 @@ mod assaying;
 mod candidates;
 mod claims;
 mod crew;
-mod deciding;
 mod gate;
 mod gathering;
 mod laws;

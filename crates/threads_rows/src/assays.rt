@@ -1,10 +1,10 @@
-//! Verdicts by several workers, and their gates.
+//! Placings by several workers, and their gates.
 ghost use Rattle.std.specs.Prelude.{◌≡◌, false, IfErr};
 ghost use Rattle.candidate_workers.specs.WorkerFaults.{is_shut};
 
 use crate::gates::{CrowdGate, OnceGate, ShutOne};
 use crate::sets::{is_best, lowest_level};
-use assignment::Verdict;
+use assignment::Placing;
 use candidate_workers::{AssayFault, Crew, OpenGate, assay, share_out};
 use ceilings::LockTable;
 use example_sets::{A_OVER_B, THREE_TASKS, again, shared_set};
@@ -22,7 +22,7 @@ fn assay_openly<R: Threads + Wait>(
     alloc: Global,
     set: Arc<TaskSet>,
     workers: usize,
-) -> Result<Verdict, AssayFault>
+) -> Result<Placing, AssayFault>
     ensures { IfErr result (λ fault. is_shut fault ≡ false) }
 {
     assay(rt, alloc, set, workers, &OpenGate)
@@ -87,7 +87,7 @@ fn is_crowded<R: Threads + Wait>(
     let gate = CrowdGate::new(wanted, 3);
     gate.goes_on.store(1, Ordering::SeqCst);
     match assay(rt, alloc, set, workers, &gate) {
-        Ok(verdict) => Ok(is_best(&verdict)),
+        Ok(placing) => Ok(is_best(&placing)),
         Err(_) => Ok(false),
     }
 }
@@ -139,7 +139,7 @@ fn lowest_crew<R: Threads + Wait + Abort>(
     workers: usize,
 ) -> Result<Crew, Fail> {
     assert!(rt; 0 < workers && workers <= 8);
-    let level = lowest_level(alloc, &shared_set(alloc, THREE_TASKS)?)?;
+    let level = lowest_level(&shared_set(alloc, THREE_TASKS)?)?;
     let table = again!(LockTable::new(alloc, level.set()))?;
     Ok(again!(share_out(rt, alloc, &OpenGate, &table, &level, workers))?)
 }

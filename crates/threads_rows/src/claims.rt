@@ -1,59 +1,50 @@
 //! Claims at a table by hand.
-ghost use Rattle.std.specs.Prelude.{◌≡◌, ◌<◌, ◌≤◌, false, None, Some, IfOk, OnOk};
-ghost use Rattle.assignment.specs.Levels.{IsAsked};
+ghost use Rattle.std.specs.Prelude.{◌≡◌, ◌<◌, ◌≤◌, true, false, None, Some, IfNone, IfOk, IfSome, OnOk};
 ghost use Rattle.candidate_workers.specs.Claims.{count_of, passes_at, late, begun, IsDone};
-ghost use Rattle.candidate_workers.specs.Seats.{seat_view, table_level, SitsAt, IsFindingAt};
+ghost use Rattle.candidate_workers.specs.Seats.{seat_view, table_level, SitsAt};
 
-use crate::sets::{climb_on, level_on, lowest_level};
-use assignment::{AnswerFault, Climb, Finding, Level};
-use candidate_workers::{ClaimSeat, ClaimTable};
+use crate::sets::lowest_level;
+use candidate_workers::{Candidates, ClaimSeat, ClaimTable};
+use ceilings::LockTable;
 use example_sets::{THREE_TASKS, THREE_TASKS_TOO_TIGHT, again, shared_set};
 use std::alloc::Global;
 use std::process::Abort;
-use std::sync::Arc;
 use std::test::Fail;
-use task_sheet::TaskSet;
 
-// The finding on the candidate at a place.
-fn finding_at(rt: &impl Abort, alloc: Global, level: &Level, place: u64) -> Result<Finding, Fail>
-    ensures { IfOk result (λ finding. IsFindingAt level.now place finding) }
+// The response of the candidate at a place, where it may stand there.
+fn response_at(
+    rt: &impl Abort,
+    alloc: Global,
+    level: &Candidates,
+    place: u64,
+) -> Result<Option<u64>, Fail>
+    ensures passes { IfOk result (λ r. IfSome r (λ _. passes_at level.now place ≡ true)) }
+    ensures fails { IfOk result (λ r. IfNone r (passes_at level.now place ≡ false)) }
 {
-    let Some(task) = level.candidate(place as usize) else {
+    let Some(task) = level.at(place as usize) else {
         return Err("a candidate")?;
     };
-    finding_on(rt, alloc, level, task)
-}
-
-// The finding on a candidate.
-fn finding_on(rt: &impl Abort, alloc: Global, level: &Level, task: usize) -> Result<Finding, Fail>
-    ensures { IfOk result
-        (λ finding. IsAsked level.now finding.question × (finding.question.task ≡ task)) }
-{
     assert!(rt; task < 32);
     assert!(rt; level.left().has(task));
-    let question = again!(level.question(task))?;
-    match again!(question.answer(alloc), AnswerFault { question }) {
-        Ok(finding) => Ok(finding),
-        Err(_) => Err("a finding")?,
-    }
+    let table = again!(LockTable::new(alloc, level.set()))?;
+    Ok(level.response(&table, task))
 }
 
-// Whether the candidate at a place fails, by its finding.
-fn fails_at(rt: &impl Abort, alloc: Global, level: &Level, place: u64) -> Result<(), Fail>
+// Whether the candidate at a place fails.
+fn fails_at(rt: &impl Abort, alloc: Global, level: &Candidates, place: u64) -> Result<(), Fail>
     ensures { OnOk result (passes_at level.now place ≡ false) }
 {
-    let finding = finding_at(rt, alloc, level, place)?;
-    if finding.passes() {
-        return Err("a candidate that fails")?;
+    match response_at(rt, alloc, level, place)? {
+        Some(_) => Err("a candidate that fails")?,
+        None => Ok(()),
     }
-    Ok(())
 }
 
 // Draws this number with a seat whose open candidate, if it has one, fails.
 fn draw(
     rt: &impl Abort,
     alloc: Global,
-    level: &Level,
+    level: &Candidates,
     claims: &ClaimTable,
     seat: &mut ClaimSeat,
     held: Option<u64>,
@@ -83,7 +74,7 @@ fn draw(
 fn lower_to(
     rt: &impl Abort,
     alloc: Global,
-    level: &Level,
+    level: &Candidates,
     claims: &ClaimTable,
     seat: &mut ClaimSeat,
     place: u64,
@@ -94,52 +85,35 @@ fn lower_to(
         × (seat.new.held ≡ None) × IsDone (seat_view seat.new)
         × ((seat_view seat.new).spare ≡ (seat_view seat.old).spare)) }
 {
-    let finding = finding_at(rt, alloc, level, place)?;
-    if !finding.passes() {
-        return Err("a candidate that passes")?;
+    match response_at(rt, alloc, level, place)? {
+        Some(_) => claims.lower(seat),
+        None => return Err("a candidate that passes")?,
     }
-    claims.lower(seat, &finding);
     Ok(())
 }
 
 // The lowest level of a set of three tasks.
-fn three_candidates(rt: &impl Abort, alloc: Global, text: &str) -> Result<Level, Fail>
+fn three_candidates(rt: &impl Abort, alloc: Global, text: &str) -> Result<Candidates, Fail>
     ensures { IfOk result (λ level. count_of level ≡ 3) }
 {
-    let level = lowest_level(alloc, &shared_set(alloc, text)?)?;
+    let level = lowest_level(&shared_set(alloc, text)?)?;
     assert!(rt; level.left().len() == 3);
     Ok(level)
 }
 
-// Those left once the lowest level of the three tasks is closed: a and b.
-fn above_the_lowest(rt: &impl Abort, alloc: Global, set: &Arc<TaskSet>) -> Result<Climb, Fail>
-    ensures { IfOk result (λ climb. climb.set ≡ set.now.value) }
-{
-    let mut climb = climb_on(alloc, set)?;
-    let left = climb.left();
-    assert!(rt; left.len() == 3);
-    let mut level = level_on(alloc, set, left)?;
-    for task in 0..3usize {
-        let finding = finding_on(rt, alloc, &level, task)?;
-        assert!(rt; level.take(finding).is_ok());
-    }
-    assert!(rt; climb.close(level).is_ok());
-    Ok(climb)
-}
-
 // The level of a and b, with c below them.
-fn two_candidates(rt: &impl Abort, alloc: Global) -> Result<Level, Fail>
+fn two_candidates(rt: &impl Abort, alloc: Global) -> Result<Candidates, Fail>
     ensures { IfOk result (λ level. count_of level ≡ 2) }
 {
-    let set = shared_set(alloc, THREE_TASKS)?;
-    let climb = above_the_lowest(rt, alloc, &set)?;
-    let left = climb.left();
-    assert!(rt; left.len() == 2 && !left.has(2));
-    level_on(alloc, &set, left)
+    let mut level = lowest_level(&shared_set(alloc, THREE_TASKS)?)?;
+    assert!(rt; level.left().has(2));
+    level.place(2);
+    assert!(rt; level.left().len() == 2);
+    Ok(level)
 }
 
 // The table of a level, and its first seat.
-fn claims_of(alloc: Global, level: &Level) -> Result<(ClaimTable, ClaimSeat), Fail>
+fn claims_of(alloc: Global, level: &Candidates) -> Result<(ClaimTable, ClaimSeat), Fail>
     ensures { IfOk result (λ t. (table_level t.0 ≡ level.now)
         × SitsAt t.0 t.1 × (seat_view t.1 ≡ begun level.now) × (t.1.held ≡ None)) }
 {

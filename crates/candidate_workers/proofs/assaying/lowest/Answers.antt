@@ -1,16 +1,29 @@
-use Rattle.std.proofs.Common.{◌≡◌, ◌∙◌, ap, refl}
-use Rattle.assignment.specs.Levels.{LevelState}
-use Rattle.candidate_workers.proofs.AskedLaws.{level_asked}
+use Rattle.std.proofs.Common.{Option, subst}
+use Rattle.candidate_workers.specs.Crews.{tasks_in, faults_of, IsFirstFault}
+use Rattle.candidate_workers.specs.declared.assaying.AssayFault.{AssayFault}
+use Rattle.candidate_workers.proofs.CrewLaws.{crew_named}
+use Rattle.candidate_workers.proofs.Deciding.{decided_by}
 use Rattle.candidate_workers.proofs.assaying.lowest.Goals as goal
 
-pub returns-clause-asked : goal.returns-clause-asked
-returns-clause-asked g c =
+pub returns-in-Some-clause-fault : goal.returns-in-Some-clause-fault
+returns-in-Some-clause-fault g c =
+    let may = g.G.Gate.may_shut c.args.gate.now in
+    let crew = c.in-Ok.crew in
+    crew_named may c.args.level.now c.args.workers crew c.in-Some.fault c.in-Ok.ensures.handed
+    (subst (λ (o : Option AssayFault). IsFirstFault (faults_of crew) o) c.in-Some.is
+    c.fault.ensures)
+
+pub returns : goal.returns
+returns g c =
     let shut = g.G.Gate.always_shuts c.args.gate.now in
-    let so = c.in_ok-level.ensures in
-    let end = c.place_of.ensures in
-    let set : c.in_ok-level.level.set ≡ c.args.candidates.now.set =
-    so.same ∙ ap (λ (l : LevelState). l.set) c.in-Ok.ensures in
-    let rest : c.in_ok-level.level.left ≡ c.args.candidates.now.left =
-    so.rest ∙ ap (λ (l : LevelState). l.left) c.in-Ok.ensures in
-    rw (← set, ← rest) (level_asked shut refl refl so.none so.decided c.place_of.result end.chosen
-    end.none)
+    let may = g.G.Gate.may_shut c.args.gate.now in
+    let l = c.args.level.now in
+    let crew = c.in-Ok.crew in
+    let so = c.in-Ok.ensures in
+    let law = c.claims_find_all.ensures in
+    let tasks = tasks_in crew.handed.items in
+    let is = decided_by shut may l crew c.lowest.result c.left.ensures.part so.handed
+    (so.whole c.in_default-fault.ensures) so.claims so.free
+    (λ claimed k. law.answered l tasks claimed k) (λ claimed. law.least l tasks claimed)
+    c.lowest.ensures in
+    record { chosen = is.chosen; response = is.response; none = is.none; asked = is.asked; fault = tt }
