@@ -20,7 +20,8 @@ def fault(data, view, olds, news, rows, until, releases):
         return "not an SVG 1.1 document"
     end = max(side[1] for side in sides)
     told = ["".join(part.itertext()) for part in root.findall(SVG + "text")]
-    for said in (verdict(view, rows, sides), line(view, rows, sides, end)):
+    wide = int(root.get("viewBox").split()[2])
+    for said in (verdict(view, rows, sides, wide), line(view, rows, sides, end)):
         if said not in told:
             return f"doesn't say {said!r}"
     if places(root) != wanted_places(view, rows, sides):
@@ -39,10 +40,11 @@ def jobs_of(rows, side):
     return picture.run_of(side[0], rows, *side[1:])[2]
 
 
-def verdict(view, rows, sides):
+def verdict(view, rows, sides, wide):
     counts = [sum(picture.is_missed(job, side[1]) for job in jobs_of(rows, side)) for side in sides]
     before, after = [f"deadlines missed: {count}" if count else "no deadline missed" for count in counts]
-    return f"before: {before}, after: {after}{view.heading()}"
+    taken = 20 + sum(23 if count else 18 for count in counts)
+    return f"before: {before}, after: {after}{view.heading(picture.letters_behind(wide, taken))}"
 
 
 def line(view, rows, sides, end):

@@ -143,10 +143,19 @@ def view_of(rng, sheets):
         "to": time(),
         "width": str(rng.choice([959, 960, 16_000, 16_001] if rng.random() < 0.2 else [rng.randint(960, 16_000)])),
         "print": rng.choice(["3", "4", "4", "+4", "2", "5"]),
-        "title": rng.choice(["", "x", "R&D <hi>", "a  b\t\r\n", '"\u00e9\u20ac\x7f', "]]>", "\uffff\ufffea\ufffd\ufffe", "\uff5f\U0001ffff"]),
+        "title": title_of(rng),
         "tasks": rng.choice([",".join(some)] * 4 + ["all"]),
     }
     return [option for option in drawn.items() if rng.random() < 0.4]
+
+
+def title_of(rng):
+    """A title, some about as long as a picture has room for."""
+    if rng.random() < 0.6:
+        return rng.choice(["", "x", "R&D <hi>", "a  b\t\r\n", '"\u00e9\u20ac\x7f', "]]>", "\uffff\ufffea\ufffd\ufffe", "\uff5f\U0001ffff"])
+    letters = rng.choice(["a", "a W&\u00e9\u07ff", "\u0800\u4e2d\uffff", "ab \u00e9\u4e2d\U0001f600"])
+    count = rng.choice([rng.randint(10, 40), rng.randint(60, 75), rng.randint(1, 1700)])
+    return "".join(rng.choices(letters, k=count))
 
 
 def taken(sheets, node, interrupts, preference=None):

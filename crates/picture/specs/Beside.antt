@@ -24,7 +24,7 @@ use Rattle.drawn_jobs.specs.Stripes.{locks_group}
 use Rattle.picture.specs.declared.beside.DrawnRun.{DrawnRun}
 use Rattle.picture.specs.declared.style.TheConstants.{BESIDE_STYLE, STYLE}
 use Rattle.picture.specs.Document.{are_interrupted, high_of, margins_text, run_text, signed, size_head, ticks_text, unrun_words, width_of, window_words}
-use Rattle.picture.specs.Titles.{title_tail}
+use Rattle.picture.specs.Titles.{letters_behind, title_in, title_tail}
 use Rattle.picture.specs.Waits.{Scene}
 
 -- a run: its rows, the highest level first, when it ends, in microseconds, the list's releases, and what happened in it
@@ -76,11 +76,17 @@ missed_words missed =
     if missed == 0 then codes "no deadline missed"
     else concat (codes "<tspan class=\"q\">deadlines missed: " ∷ decimal missed ∷ codes "</tspan>" ∷ [])
 
--- the same before and after, and behind it what was given as title
-abbrev pub verdict_beside : List ℕ → (old new : ℕ) → List ℕ
-verdict_beside title old new =
+-- how many letters they take
+abbrev pub missed_letters : (missed : ℕ) → ℕ
+missed_letters missed = if missed == 0 then 18 else 23
+
+-- the same before and after, and behind it what was given as title, as far as there is room
+abbrev pub verdict_beside : Frame → List ℕ → (old new : ℕ) → List ℕ
+verdict_beside f title old new =
     codes "<text class=\"t\" x=\"100\" y=\"200\">before: " ++ missed_words old
-    ++ codes ", after: " ++ missed_words new ++ title_tail title ++ codes "</text>\n"
+    ++ codes ", after: " ++ missed_words new
+    ++ title_in title (letters_behind f (20 + missed_letters old + missed_letters new))
+    ++ codes "</text>\n"
 
 -- that the bounds of one of them count what the run lacks
 abbrev pub unrun_beside : (old new : List TaskRow) → List ℕ
@@ -146,7 +152,7 @@ styles_beside = STYLE.now ++ BESIDE_STYLE.now
 abbrev pub ground_beside : (old new : Scene) → List ℕ → (held : List Toned) → (was is : ℕ) → List ℕ
 ground_beside old new title held was is =
     head_beside old new title (length held) was is ++ styles_beside
-    ++ verdict_beside title (all_missed old.frame old.rows old.jobs)
+    ++ verdict_beside new.frame title (all_missed old.frame old.rows old.jobs)
     (all_missed new.frame new.rows new.jobs)
     ++ what_beside (in_millis new.frame) old new was is
     ++ ticks_text new.frame (top_of (length new.shown)) (step_of new.frame)

@@ -11,7 +11,7 @@ use Rattle.frames.specs.declared.rows.TaskRow.{TaskRow}
 use Rattle.frames.specs.declared.tones.Toned.{Toned}
 use Rattle.frames.specs.declared.view.View.{View}
 use Rattle.frames.specs.View.{shown_of}
-use Rattle.picture.specs.Titles.{title_tail}
+use Rattle.picture.specs.Titles.{letters_behind, title_in, title_tail}
 use Rattle.picture.specs.declared.style.TheConstants.{STYLE}
 use Rattle.picture.specs.Legend.{legend_text}
 use Rattle.frames.specs.Frame.{Frame, frame_of, frame_end, in_millis, step_of, steps_before, top_of}
@@ -98,10 +98,15 @@ verdict_head missed =
     else badge_text 190 150
     ++ (codes "<text class=\"t q\" x=\"320\" y=\"200\">deadlines missed: " ++ decimal missed)
 
--- the same, and behind it what was given as title
-abbrev pub verdict_text : List ℕ → (missed : ℕ) → List ℕ
-verdict_text title missed =
-    verdict_head missed ++ title_tail title ++ codes "</text>\n"
+-- how many letters that takes, and what stands between it and a title
+abbrev pub verdict_letters : (missed : ℕ) → ℕ
+verdict_letters missed = if missed == 0 then 21 else 28
+
+-- the same, and behind it what was given as title, as far as there is room
+abbrev pub verdict_text : Frame → List ℕ → (missed : ℕ) → List ℕ
+verdict_text f title missed =
+    verdict_head missed ++ title_in title (letters_behind f (verdict_letters missed))
+    ++ codes "</text>\n"
 
 -- what part of it is drawn, where that isn't all
 abbrev pub window_words : (millis : Bool) → Frame → List ℕ
@@ -132,7 +137,7 @@ what_text f rows jobs until =
 abbrev pub ground_text : Frame → List ℕ → (held : List Toned) → List TaskRow → (shown : List ℕ) → List JobRecord → List Slice → (until : ℕ) → List ℕ
 ground_text f title held rows shown jobs slices until =
     document_head f title (length held) (length shown) (length rows) (length jobs) until
-    ++ STYLE.now ++ verdict_text title (all_missed f rows jobs)
+    ++ STYLE.now ++ verdict_text f title (all_missed f rows jobs)
     ++ what_text f rows (length jobs) until
     ++ ticks_text f (top_of (length shown)) (step_of f) ++ lane_line f ++ lines_text f (length shown)
     ++ margin_group f rows shown jobs slices ++ locks_group f (length shown) held

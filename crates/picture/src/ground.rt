@@ -4,12 +4,12 @@ ghost use Rattle.frames.specs.Page.{Adds};
 ghost use Rattle.frames.specs.declared.places.TheConstants.{PLACES_LIMIT};
 ghost use Rattle.frames.specs.declared.frame.TheConstants.{RIGHTMOST, WIDEST_STEP};
 ghost use Rattle.frames.specs.declared.locks.TheConstants.{LOCKS_LIMIT};
-ghost use Rattle.picture.specs.Document.{are_interrupted, document_head, ground_text, lines_text, paper_wide, size_head, size_words, ticks_text, unrun_words, verdict_head, verdict_text, what_text, window_words};
+ghost use Rattle.picture.specs.Document.{are_interrupted, document_head, ground_text, lines_text, paper_wide, size_head, size_words, ticks_text, unrun_words, verdict_head, verdict_letters, verdict_text, what_text, window_words};
 ghost use Rattle.picture.specs.Scale.{line_text, number_x, tick_text};
 
 use crate::margin::put_group;
 use crate::style::STYLE;
-use crate::title::put_title_tail;
+use crate::title::{letters_behind, put_title_in, put_title_tail};
 use drawn_jobs::{all_missed, locks_high, put_badge, put_lane_line, put_locks_group};
 use frames::{
     Chart, Frame, Page, TaskRow, Toned, end_of, in_millis, put_time, put_unit, start_of, step_of,
@@ -154,12 +154,22 @@ fn put_verdict_head(missed: usize, page: &mut Page)
     }
 }
 
-// The same, and behind it what was given as title.
-fn put_verdict(title: &[u8], missed: usize, page: &mut Page)
-    ensures { Adds page.old page.new (verdict_text title.now missed) }
+// How many letters that takes, and what stands between it and a title.
+fn verdict_letters(missed: usize) -> usize
+    ensures { result ≡ verdict_letters missed }
+{
+    match missed {
+        0 => 21,
+        _ => 28,
+    }
+}
+
+// The same, and behind it what was given as title, as far as there is room.
+fn put_verdict(frame: Frame, title: &[u8], missed: usize, page: &mut Page)
+    ensures { Adds page.old page.new (verdict_text frame title.now missed) }
 {
     put_verdict_head(missed, page);
-    put_title_tail(title, page);
+    put_title_in(title, letters_behind(frame, verdict_letters(missed)), page);
     page.put(b"</text>\n")
 }
 
@@ -222,7 +232,7 @@ pub(crate) fn put_ground(chart: &Chart<'_>, held: &[Toned], page: &mut Page)
     put_head(chart, held.len(), page);
     page.put(STYLE.as_bytes());
     let missed = all_missed(frame, chart.rows, chart.jobs);
-    put_verdict(chart.title, missed, page);
+    put_verdict(frame, chart.title, missed, page);
     put_what(frame, chart.rows, chart.jobs.len(), chart.until, page);
     put_ticks(frame, top_of(chart.shown.len()), step_of(frame), page);
     put_lane_line(frame, page);

@@ -5,13 +5,13 @@ ghost use Rattle.frames.specs.PictureRows.{at_places, at_spot, spot_in};
 ghost use Rattle.frames.specs.declared.frame.TheConstants.{RIGHTMOST};
 ghost use Rattle.frames.specs.declared.locks.TheConstants.{LOCKS_LIMIT};
 ghost use Rattle.frames.specs.declared.places.TheConstants.{PLACES_LIMIT};
-ghost use Rattle.picture.specs.Beside.{end_at, end_text, ground_beside, head_beside, known_to, lane_side, lanes_beside, later_of, margin_side, margins_beside, missed_words, name_word, pair_text, pairs_text, side_words, sides_words, size_beside, styles_beside, unrun_beside, verdict_beside, what_beside, word_at, end_words};
+ghost use Rattle.picture.specs.Beside.{end_at, end_text, ground_beside, head_beside, known_to, lane_side, lanes_beside, later_of, margin_side, margins_beside, missed_letters, missed_words, name_word, pair_text, pairs_text, side_words, sides_words, size_beside, styles_beside, unrun_beside, verdict_beside, what_beside, word_at, end_words};
 ghost use Rattle.picture.specs.Waits.{scene_of};
 
 use crate::ground::{are_interrupted, put_size_head, put_ticks, put_unrun, put_window};
 use crate::margin::put_margins;
 use crate::style::{BESIDE_STYLE, STYLE};
-use crate::title::put_title_tail;
+use crate::title::{letters_behind, put_title_in, put_title_tail};
 use drawn_jobs::{
     all_changed, all_missed, locks_high, put_lane_head, put_lane_line, put_lanes, put_locks_group,
 };
@@ -77,15 +77,24 @@ fn put_missed(missed: usize, page: &mut Page)
     }
 }
 
-// The same before and after, and behind it what was given as title.
-fn put_verdict(title: &[u8], old: usize, new: usize, page: &mut Page)
-    ensures { Adds page.old page.new (verdict_beside title.now old new) }
+// How many letters that takes.
+fn missed_letters(missed: usize) -> usize
+    ensures letters { result ≡ missed_letters missed }
+    ensures few { result ≤ 23 }
+{
+    if missed == 0 { 18 } else { 23 }
+}
+
+// The same before and after, and behind it what was given as title, as far as there is room.
+fn put_verdict(frame: Frame, title: &[u8], old: usize, new: usize, page: &mut Page)
+    ensures { Adds page.old page.new (verdict_beside frame title.now old new) }
 {
     page.put(b"<text class=\"t\" x=\"100\" y=\"200\">before: ");
     put_missed(old, page);
     page.put(b", after: ");
     put_missed(new, page);
-    put_title_tail(title, page);
+    let before = 20 + missed_letters(old) + missed_letters(new);
+    put_title_in(title, letters_behind(frame, before), page);
     page.put(b"</text>\n")
 }
 
@@ -229,7 +238,7 @@ pub(crate) fn put_ground_beside(old: &Chart<'_>, new: &Chart<'_>, held: &[Toned]
     put_styles(page);
     let before = all_missed(old.frame, old.rows, old.jobs);
     let after = all_missed(frame, new.rows, new.jobs);
-    put_verdict(new.title, before, after, page);
+    put_verdict(frame, new.title, before, after, page);
     put_what(in_millis(frame), old, new, page);
     put_ticks(frame, top_of(places), step_of(frame), page);
     put_pairs(frame, places, page);

@@ -1,9 +1,15 @@
 //! The title, behind what a picture says of its run.
-ghost use Rattle.std.specs.Prelude.{◌<◌, ◌≡◌, length, slice_index};
+ghost use Rattle.std.specs.Prelude.{◌<◌, ◌≡◌, ◌≤◌, length, slice_index};
 ghost use Rattle.frames.specs.Page.{Adds};
-ghost use Rattle.picture.specs.Titles.{is_barred, is_in_barred, shown_at, title_tail};
+ghost use Rattle.picture.specs.Titles.{is_barred, is_in_barred, letters_at, letters_behind, place_past, shown_at, title_in, title_tail};
 
-use frames::Page;
+use frames::{Frame, Page, end_of};
+
+// What stands where a title is cut.
+const CUT: &str = "…";
+
+// How wide a letter of it is taken to be.
+const LETTER: u64 = 100;
 
 // The byte at a place, or 0 behind the last.
 fn byte_at(bytes: &[u8], i: usize) -> u8
@@ -71,4 +77,60 @@ pub(crate) fn put_title_tail(title: &[u8], page: &mut Page)
     for i in 0..title.len() {
         put_byte_at(title, i, page);
     }
+}
+
+// How many letters the character takes that begins with a byte.
+fn letters_at(byte: u8) -> usize
+    ensures { result ≡ letters_at byte }
+{
+    if byte < 128 {
+        1
+    } else if byte < 192 {
+        0
+    } else if byte < 224 {
+        1
+    } else {
+        2
+    }
+}
+
+// Where the first character begins for which so many letters are too few; the end, where they are enough.
+fn place_past(title: &[u8], room: usize) -> usize
+    ensures place { result ≡ place_past title.now room }
+    ensures within { result ≤ length title.now }
+{
+    let mut left = room;
+    let mut place = 0;
+    let mut rest = title;
+    while let Some((first, others)) = rest.split_first() {
+        let letters = letters_at(*first);
+        if left < letters {
+            return place;
+        }
+        left -= letters;
+        place += 1;
+        rest = others;
+    }
+    place
+}
+
+// A title in so many letters, cut where it is longer.
+pub(crate) fn put_title_in(title: &[u8], room: usize, page: &mut Page)
+    ensures { Adds page.old page.new (title_in title.now room) }
+{
+    if place_past(title, room) == title.len() {
+        put_title_tail(title, page)
+    } else {
+        let end = place_past(title, room.saturating_sub(2));
+        put_title_tail(&title[..end], page);
+        page.put(CUT.as_bytes())
+    }
+}
+
+// How many letters have room in a picture behind so many.
+pub(crate) fn letters_behind(frame: Frame, before: usize) -> usize
+    ensures { result ≡ letters_behind frame before }
+{
+    let letters = end_of(frame).saturating_sub(100) / LETTER;
+    (letters as usize).saturating_sub(before)
 }

@@ -8,9 +8,9 @@ pub returns : goal.returns
 returns c =
     let title = c.args.new.now.title.now in
     let old = c.args.old.now in
-    let verdict = adds_same (λ (n : ℕ). verdict_beside title n c.all_missed-after.result)
+    let verdict = adds_same (λ (n : ℕ). verdict_beside c.args.new.now.frame title n c.all_missed-after.result)
     c.all_missed-before.ensures c.put_verdict.ensures in
-    let verdicts = adds_same (λ (n : ℕ). verdict_beside title
+    let verdicts = adds_same (λ (n : ℕ). verdict_beside c.args.new.now.frame title
     (all_missed old.frame old.rows.now old.jobs.now) n) c.all_missed-after.ensures
     verdict in
     let what = rw c.in_millis.ensures at c.put_what.ensures in
