@@ -2,7 +2,7 @@
 -- is one more job, of a higher level than all.
 use Rattle.std.proofs.Common.{ℕ, suc, ◌+◌, ◌-◌, ◌<◌, ◌≤◌, ◌≡◌, ◌≢◌, ◌⊎◌, inl, inr, refl, sym, ap, arith}
 use Rattle.std.proofs.Common.{if◌then◌else◌, Bool, true, false, min, Option, Some, None, unwrap_or}
-use Rattle.std.proofs.Common.{List, length, nat_le, nat_lt, eqb, subst, ◌∙◌}
+use Rattle.std.proofs.Common.{List, length, nat_le, nat_lt, eqb, ◌∙◌}
 use Rattle.std.proofs.lemmas.Bool.{cases_eq, cases_lt, cases_Bool, lt-ltb, le-ltb, le-leb, lt-leb}
 use Rattle.std.proofs.lemmas.Bool.{leb-true, ltb-true, and_parts, and_from, eq-eqb, ne_eqb, true≢false}
 use Rattle.ceiling_kernel.specs.Tick.{Node, Job, job_at, level_of_job, is_pending, active_of}

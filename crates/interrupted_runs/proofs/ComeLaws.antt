@@ -1,7 +1,7 @@
 -- What has come of timers and interrupts, and how much of it is done.
-use Rattle.std.proofs.Common.{ℕ, zero, suc, ◌+◌, ◌-◌, ◌<◌, ◌≤◌, ◌≡◌, inl, inr, refl, ap, subst, arith}
+use Rattle.std.proofs.Common.{ℕ, zero, suc, ◌+◌, ◌-◌, ◌<◌, ◌≤◌, ◌≡◌, inl, inr, refl, subst, arith}
 use Rattle.std.proofs.Common.{if◌then◌else◌, true, false, nat_lt, add-zero, add-suc}
-use Rattle.std.proofs.lemmas.Bool.{cases_eq, cases_lt, cases_Bool, lt-ltb, le-ltb, ltb-true}
+use Rattle.std.proofs.lemmas.Bool.{cases_lt, cases_Bool, lt-ltb, le-ltb, ltb-true}
 use Rattle.task_sheet.specs.Indexes.{sum_below}
 use Rattle.interrupted_runs.specs.Interrupted.{come_before, is_taken}
 unfoldable use Rattle.interrupted_runs.specs.Interrupted.{taken_before}

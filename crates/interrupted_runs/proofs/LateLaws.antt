@@ -1,15 +1,15 @@
 -- What comes late changes nothing before it comes; so the bound holds whatever comes.
-use Rattle.std.proofs.Common.{ℕ, zero, suc, ◌+◌, ◌-◌, ◌<◌, ◌≤◌, ◌≡◌, inl, inr, refl, sym, ap, ◌∙◌, subst, arith}
-use Rattle.std.proofs.Common.{if◌then◌else◌, true, false, ◌==◌, List, length, nat_lt, Option, Some, None}
+use Rattle.std.proofs.Common.{ℕ, zero, suc, ◌+◌, ◌-◌, ◌<◌, ◌≤◌, ◌≡◌, inl, inr, refl, sym, ap, subst, arith}
+use Rattle.std.proofs.Common.{if◌then◌else◌, false, ◌==◌, List, length, nat_lt, Option, Some, None}
 use Rattle.std.proofs.Common.{add-zero, add-suc}
-use Rattle.std.proofs.lemmas.Bool.{cases_lt, cases_Bool, lt-ltb, le-ltb}
+use Rattle.std.proofs.lemmas.Bool.{cases_Bool, lt-ltb, le-ltb}
 use Rattle.std.proofs.Math.Path.{fun_ext}
 use Rattle.task_sheet.specs.Indexes.{sum_below}
-use Rattle.task_sheet.proofs.Common.{task_at, IsPassingOrder, interrupts_within, limit_of}
-use Rattle.ceiling_kernel.specs.Tick.{Node, Job, job_at, job_task, one_more, pick, picked}
+use Rattle.task_sheet.proofs.Common.{task_at, IsPassingOrder}
+use Rattle.ceiling_kernel.specs.Tick.{Node, Job, job_at, job_task, one_more, pick}
 unfoldable use Rattle.ceiling_kernel.specs.Tick.{executed_before}
-use Rattle.ceiling_kernel.specs.Waits.{IsNode, AreLegalJobs, lateness_of}
-use Rattle.ceiling_kernel.specs.Bounds.{PassesBy, response_by, above_of}
+use Rattle.ceiling_kernel.specs.Waits.{IsNode, AreLegalJobs}
+use Rattle.ceiling_kernel.specs.Bounds.{PassesBy, response_by}
 use Rattle.ceiling_kernel.proofs.NodeLaws.{IsSoundTask, sound, stands_above}
 use Rattle.ceiling_kernel.proofs.BoundLaws.{responses_law}
 use Rattle.interrupted_runs.specs.Interrupted.{ComeWithin, come_before, is_taken}

@@ -1,17 +1,16 @@
 -- What is seen of a run beside timers and interrupts keeps to the demand.
-use Rattle.std.proofs.Common.{ℕ, zero, suc, ◌+◌, ◌-◌, ◌<◌, ◌≤◌, ◌≡◌, ◌⊎◌, inl, inr, refl, sym, ap, ◌∙◌, arith}
-use Rattle.std.proofs.Common.{subst, if◌then◌else◌, Bool, true, false, ◌==◌, ◌&&◌, cond, Option, Some, None}
-use Rattle.std.proofs.Common.{List, length, nat_le, nat_lt, eqb, add-zero, add-suc, not}
-use Rattle.std.proofs.lemmas.Bool.{cases_eq, cases_lt, cases_Bool, lt-ltb, le-ltb, le-leb, lt-leb}
-use Rattle.std.proofs.lemmas.Bool.{ltb-true, eqb-true, true≢false}
-use Rattle.std.proofs.lemmas.Option.{none-some}
+use Rattle.std.proofs.Common.{ℕ, zero, suc, ◌+◌, ◌<◌, ◌≤◌, ◌≡◌, inl, inr, refl, ap, ◌∙◌, arith}
+use Rattle.std.proofs.Common.{if◌then◌else◌, Bool, true, ◌==◌, cond, Option, Some, None}
+use Rattle.std.proofs.Common.{List, length, add-zero, add-suc, not}
+use Rattle.std.proofs.lemmas.Bool.{cases_lt, cases_Bool, lt-ltb, le-ltb, le-leb, lt-leb}
+use Rattle.std.proofs.lemmas.Bool.{eqb-true}
 use Rattle.task_sheet.specs.Indexes.{sum_below}
-use Rattle.task_sheet.proofs.Common.{task_at, blocking_of, interrupts_within}
-use Rattle.ceiling_kernel.specs.Tick.{Node, Job, job_at, level_in_order, level_of_job, one_more, pick}
+use Rattle.task_sheet.proofs.Common.{blocking_of, interrupts_within}
+use Rattle.ceiling_kernel.specs.Tick.{Node, Job, job_at, level_in_order, level_of_job}
 use Rattle.ceiling_kernel.specs.Waits.{IsNode, AreLegalJobs}
 use Rattle.ceiling_kernel.specs.Bounds.{above_of}
 use Rattle.ceiling_kernel.proofs.NodeLaws.{IsSoundTask, sound}
-use Rattle.ceiling_kernel.proofs.SumLaws.{total, total-sum, total-le, total-add}
+use Rattle.ceiling_kernel.proofs.SumLaws.{total, total-sum, total-le}
 use Rattle.ceiling_kernel.proofs.BehaviourLaws.{HasSpans, spans_of}
 use Rattle.ceiling_kernel.proofs.MachineLaws.{is_high, rest_at}
 use Rattle.ceiling_kernel.proofs.BoundLaws.{rest_most}

@@ -1,7 +1,7 @@
 -- What comes of timers and interrupts that are a set's is within what the analysis counts.
 use Rattle.std.proofs.Common.{ℕ, zero, suc, ◌+◌, ◌-◌, ◌*◌, ◌/◌, ◌<◌, ◌≤◌, ◌≡◌, inl, inr, refl, sym, ap, ◌∙◌}
-use Rattle.std.proofs.Common.{subst, arith, if◌then◌else◌, Bool, true, false, ◌==◌, ◌&&◌, cond, add-zero}
-use Rattle.std.proofs.Common.{add-suc, List, length, take, get_or, sum_by, nat_le, nat_lt, eqb}
+use Rattle.std.proofs.Common.{arith, if◌then◌else◌, Bool, true, false, ◌==◌, ◌&&◌, cond}
+use Rattle.std.proofs.Common.{List, length, take, get_or, sum_by, nat_le, nat_lt}
 use Rattle.std.proofs.lemmas.Bool.{cases_eq, cases_lt, cases_Bool, lt-ltb, le-leb, leb-true, ltb-true}
 use Rattle.std.proofs.lemmas.Bool.{and_parts, eq-eqb, eqb-true, ne_eqb, le-ltb}
 use Rattle.std.proofs.lemmas.List.Sums.{sum_by_more}
@@ -10,11 +10,10 @@ use Rattle.std.proofs.Math.Nat.{mul-le-mul_right, div-eq_of_lt-le}
 use Rattle.std.proofs.lemmas.Grind.{div_ceil_times}
 use Rattle.task_sheet.specs.declared.node.Interrupt.{Interrupt}
 use Rattle.task_sheet.specs.Sheet.{IsInterrupt}
-use Rattle.task_sheet.specs.Indexes.{sum_below}
 use Rattle.task_sheet.specs.Demand.{jobs_within, interrupt_within, interrupts_of}
 use Rattle.task_sheet.proofs.Common.{task_at, releases_within, interrupts_within}
 use Rattle.task_sheet.proofs.TaskLaws.{valid_at}
-use Rattle.ceiling_kernel.specs.Tick.{Node, Job, job_at, job_task}
+use Rattle.ceiling_kernel.specs.Tick.{Node, Job, job_at}
 use Rattle.ceiling_kernel.specs.Waits.{IsNode, AreLegalJobs}
 use Rattle.ceiling_kernel.specs.Bounds.{is_ready_in}
 use Rattle.ceiling_kernel.proofs.SumLaws.{total, total-sum, total-le, total-add, total-single}

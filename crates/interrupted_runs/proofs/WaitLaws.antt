@@ -1,7 +1,7 @@
 -- While a high job is open, low jobs execute no more than what is left of a section: over any machine that executes one job a
 -- tick.
 use Rattle.std.proofs.Common.{ℕ, zero, suc, ◌+◌, ◌<◌, ◌≤◌, ◌≡◌, ◌≢◌, inl, inr, refl, sym, ap, ◌∙◌, arith}
-use Rattle.std.proofs.Common.{Bool, true, false, cond, Option, Some, None, add-zero, add-suc}
+use Rattle.std.proofs.Common.{Bool, true, cond, Option, Some, None, add-zero, add-suc}
 use Rattle.std.proofs.lemmas.Bool.{cases_eq, cases_Bool, true≢false}
 use Rattle.ceiling_kernel.proofs.SumLaws.{total, total-le, total-lt, total-one}
 use Rattle.ceiling_kernel.proofs.Busy.{IsMachine, one_inside}

@@ -1,30 +1,28 @@
 -- The busy interval beside timers and interrupts: the jobs that become ready in a window and what comes in it fit into it.
-use Rattle.std.proofs.Common.{ℕ, zero, suc, ◌+◌, ◌-◌, ◌*◌, ◌/◌, ◌<◌, ◌≤◌, ◌≡◌, ◌⊎◌, inl, inr, refl, sym, ap, ◌∙◌}
-use Rattle.std.proofs.Common.{subst, arith, if◌then◌else◌, Bool, true, false, ◌==◌, ◌&&◌, cond, min}
-use Rattle.std.proofs.Common.{List, length, nat_le, nat_lt, eqb, add-zero, add-suc}
+use Rattle.std.proofs.Common.{ℕ, zero, suc, ◌+◌, ◌-◌, ◌*◌, ◌<◌, ◌≤◌, ◌≡◌, inl, inr, ap, ◌∙◌}
+use Rattle.std.proofs.Common.{subst, arith, if◌then◌else◌, Bool, true, ◌==◌, ◌&&◌, cond, min}
+use Rattle.std.proofs.Common.{List, length, nat_le, nat_lt, add-zero, add-suc}
 use Rattle.std.proofs.lemmas.Bool.{cases_eq, cases_lt, cases_Bool, lt-ltb, le-leb, lt-leb, leb-true}
-use Rattle.std.proofs.lemmas.Bool.{ltb-true, and_parts, eq-eqb, eqb-true, ne_eqb, le-ltb}
-use Rattle.std.proofs.Math.Nat.{mul-le-mul_right, div-lt_iff_lt-mul}
+use Rattle.std.proofs.lemmas.Bool.{and_parts, eq-eqb, eqb-true, le-ltb}
+use Rattle.std.proofs.Math.Nat.{mul-le-mul_right}
 use Rattle.std.proofs.lemmas.Grind.{div_ceil_times}
-use Rattle.task_sheet.specs.Indexes.{sum_below}
-use Rattle.task_sheet.proofs.Common.{task_at, releases_within, interference_of, demand_of, limit_of}
-use Rattle.task_sheet.proofs.Common.{IsPassingOrder, blocking_of, interrupts_within}
+use Rattle.task_sheet.proofs.Common.{task_at, releases_within, interference_of, demand_of}
+use Rattle.task_sheet.proofs.Common.{blocking_of, interrupts_within}
 use Rattle.ceiling_kernel.specs.Tick.{Node, Job, job_at, job_task, level_in_order, level_of_job}
-use Rattle.ceiling_kernel.specs.Waits.{IsNode, AreLegalJobs, lateness_of}
-use Rattle.ceiling_kernel.specs.Bounds.{above_of, is_ready_in, PassesBy, response_by}
-use Rattle.ceiling_kernel.proofs.NodeLaws.{IsSoundTask, IsSound, sound, stands_above}
+use Rattle.ceiling_kernel.specs.Waits.{IsNode, AreLegalJobs}
+use Rattle.ceiling_kernel.specs.Bounds.{above_of, is_ready_in, PassesBy}
+use Rattle.ceiling_kernel.proofs.NodeLaws.{IsSoundTask, IsSound, sound}
 use Rattle.ceiling_kernel.proofs.SumLaws.{total, total-sum, total-le, total-add, total-single}
 use Rattle.ceiling_kernel.proofs.SumLaws.{total-zero}
 use Rattle.ceiling_kernel.proofs.WindowLaws.{of_task, by_tasks}
 use Rattle.ceiling_kernel.proofs.BehaviourLaws.{HasSpans, spans_of}
 use Rattle.ceiling_kernel.proofs.MachineLaws.{is_high, rest_at}
 use Rattle.ceiling_kernel.proofs.BoundLaws.{windows_law, rest_most}
-use Rattle.ceiling_kernel.proofs.Busy.{work, finishes, done_later}
-use Rattle.interrupted_runs.specs.Interrupted.{ComeWithin, come_before, is_taken}
-use Rattle.interrupted_runs.specs.Interrupted.{BoundHoldsBeside, NoneOverruns}
+use Rattle.ceiling_kernel.proofs.Busy.{work, finishes}
+use Rattle.interrupted_runs.specs.Interrupted.{ComeWithin}
 unfoldable use Rattle.interrupted_runs.specs.Interrupted.{executed_beside, taken_before}
-use Rattle.interrupted_runs.proofs.BesideLaws.{of_either, of_job, of_piece, ready_of, cost_of, done, ran}
-use Rattle.interrupted_runs.proofs.BesideLaws.{high, rest, machine, beside_taken, beside_ruled}
+use Rattle.interrupted_runs.proofs.BesideLaws.{of_job, of_piece, ready_of, cost_of, done, ran}
+use Rattle.interrupted_runs.proofs.BesideLaws.{high, rest, machine}
 
 -- ---- sums
 -- the sum over two parts

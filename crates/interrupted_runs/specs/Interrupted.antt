@@ -1,7 +1,6 @@
 -- Runs of the kernel in which timers and interrupts take the processor: they stand above all tasks, and a job executes only
 -- where nothing is left of what has come of them (Burns, Wellings). Which job that is, says the tick rule.
 use Rattle.std.specs.Prelude.{◌≡◌, ℕ, zero, suc, ◌+◌, ◌<◌, ◌≤◌, nat_lt, Bool, if◌then◌else◌, List, length}
-use Rattle.task_sheet.specs.Sheet.{task_at}
 use Rattle.task_sheet.specs.Indexes.{sum_below}
 use Rattle.task_sheet.specs.Demand.{interrupts_within, IsResponseOf}
 use Rattle.ceiling_kernel.specs.Tick.{Node, Job, job_at, job_task, one_more, pick}
