@@ -310,6 +310,16 @@ Certificates
   $ sed '/^fails b/d' examples/three-tasks.cert | said check examples/three-tasks.toml -
   standard input: level 1: b is left and of smaller rank than the level's task, but no line fails says why it can't have the level (a certificate made with --prefer is checked with it)
   [5]
+  $ sed 's/44200/44199/' examples/steer.cert | said check examples/steer.toml -
+  standard input: chain steer: its number, 44199, is below 44200, the sum of its periods, of what its tasks hand over and of the last one's response, by the numbers of the levels
+  [5]
+  $ sed 's/plan 9200/plan 9300/' examples/steer.cert | said check examples/steer.toml -
+  standard input: chain steer: its number, 44200, is below 44300, the sum of its periods, of what its tasks hand over and of the last one's response, by the numbers of the levels
+  [5]
+  $ { cat examples/steer.toml; echo 'writes = "deadline"'; } > timed.toml
+  $ desk certify timed.toml | sed 's/^chain steer .*/chain steer 69999/' | said check timed.toml -
+  standard input: chain steer: its number, 69999, is below 70000, the sum of its periods and of its tasks' deadlines
+  [5]
 
 Release lists
 -------------

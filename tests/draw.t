@@ -177,6 +177,26 @@ A width and a title, of which each byte stands for itself where XML has its char
   $ desk worst examples/robot.toml | desk draw examples/robot.toml - --title 'at rest' | grep 'class="t q"'
   <text class="t q" x="320" y="200">deadlines missed: 1 - at rest</text>
 
+A picture of 960 pixels has room for 93 letters of 10 pixels, 21 of them in front of a title, 28 behind a miss, so that 72 and 65
+are left; Chinese characters take two. What is longer is cut, but not in the document's own title:
+
+  $ titled() { sed -nE '3p;s/.*<text class="t[^>]*>(.*)<.text>/\1/p'; }
+  $ zeros() { printf "%0$1d" 0; }
+  $ wide --width 960 --title "$(zeros 72)" | titled
+  <title>tasks: 3, jobs: 3, until 100000 us - 000000000000000000000000000000000000000000000000000000000000000000000000</title>
+  no deadline missed - 000000000000000000000000000000000000000000000000000000000000000000000000
+  $ wide --width 960 --title "$(zeros 73)" | titled
+  <title>tasks: 3, jobs: 3, until 100000 us - 0000000000000000000000000000000000000000000000000000000000000000000000000</title>
+  no deadline missed - 0000000000000000000000000000000000000000000000000000000000000000000000…
+  $ wide --width 970 --title "$(zeros 73)" | titled | tail -n 1
+  no deadline missed - 0000000000000000000000000000000000000000000000000000000000000000000000000
+  $ wide --width 960 --title "$(printf '日%.0s' $(seq 37))" | titled | tail -n 1
+  no deadline missed - 日日日日日日日日日日日日日日日日日日日日日日日日日日日日日日日日日日日…
+  $ missed() { desk worst examples/robot.toml | desk draw examples/robot.toml - --width 960 --title "$(zeros $1)" | titled | tail -n 1; }
+  $ missed 65; missed 66
+  deadlines missed: 1 - 00000000000000000000000000000000000000000000000000000000000000000
+  deadlines missed: 1 - 000000000000000000000000000000000000000000000000000000000000000…
+
 What the title of a row's name says is what `desk simulate --tasks` prints:
 
   $ desk draw examples/jitter.toml examples/late.releases | sed -nE 's/.*<title>done: (.*), greatest response: (.*), bound: (.*) us<.title>(.*)<.text>/task \4 \1 \2 \3/p' | sort
@@ -449,6 +469,8 @@ response changed a mark says so. The heading counts for both:
   before: tasks: 3, jobs: 3, until 100000 us, after: tasks: 3, jobs: 3, until 100000 us
   before: no deadline missed, after: no deadline missed
   before: tasks: 3, jobs: 3, until 100 ms, after: tasks: 3, jobs: 3, until 100 ms, responses changed: 2
+  $ both shorter.toml --width 960 --title "$(zeros 38)" | grep -o '>before: no [^<]*' | cut -c 2-
+  before: no deadline missed, after: no deadline missed - 00000000000000000000000000000000000…
   $ sed -nE 's/.*<title>(.*, before .*)<.title>.*/\1/p' run.svg
   mid: response 3900 us, before 6900 us
   hi: response 1800 us, before 4800 us

@@ -154,7 +154,7 @@ def title_of(rng):
     if rng.random() < 0.6:
         return rng.choice(["", "x", "R&D <hi>", "a  b\t\r\n", '"\u00e9\u20ac\x7f', "]]>", "\uffff\ufffea\ufffd\ufffe", "\uff5f\U0001ffff"])
     letters = rng.choice(["a", "a W&\u00e9\u07ff", "\u0800\u4e2d\uffff", "ab \u00e9\u4e2d\U0001f600"])
-    count = rng.choice([rng.randint(8, 30), rng.randint(50, 66), rng.randint(1, 1500)])
+    count = rng.choice([rng.randint(10, 40), rng.randint(60, 75), rng.randint(1, 1700)])
     return "".join(rng.choices(letters, k=count))
 
 

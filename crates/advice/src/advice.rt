@@ -42,7 +42,23 @@ pub struct Advice<'a, W: Write + Drop> {
     lacks_in_new: bool,
     // The set of a call that runs a list or checks a certificate, for what these break.
     set: Option<TaskSet>,
+    // The chains of a set whose certificate a call checks.
+    chains: Vec<Chain>,
     errors: Watched<W>,
+}
+
+// Chains that say the same.
+fn copy_chains(alloc: Global, chains: &[Chain]) -> Result<Vec<Chain>, AllocError> {
+    let mut copies = Vec::with_capacity(alloc, chains.len())?;
+    for chain in chains {
+        copies.push(Chain {
+            name: chain.name,
+            tasks: chain.tasks.to_vec(alloc)?,
+            limit: chain.limit,
+            writes: chain.writes,
+        })?;
+    }
+    Ok(copies)
 }
 
 // Whether the answer of a call on a set of which no order passes says that alone.
@@ -258,6 +274,7 @@ impl<'a, W: Write + Drop> Advice<'a, W> {
             has_run: false,
             lacks_in_new: false,
             set: None,
+            chains: Vec::new(alloc),
             errors,
         }
     }
@@ -410,6 +427,11 @@ impl<'a, W: Write + Drop> Audience for Advice<'a, W> {
 
     fn chained(&mut self, chains: &[Chain]) {
         self.has_chains = !chains.is_empty();
+        if is_check(self.call) {
+            if let Ok(copies) = copy_chains(self.alloc, chains) {
+                self.chains = copies;
+            }
+        }
         if let (None, Some(word)) = (&self.no_task, options_of(self.call).chain) {
             self.no_task = of_chain(self.alloc, chains, word);
         }
@@ -432,6 +454,7 @@ impl<'a, W: Write + Drop> Audience for Advice<'a, W> {
             options: options_of(self.call),
             greatest_until: self.greatest_until,
             set: self.set.as_ref(),
+            chains: &self.chains,
             is_both: matches!(input_of(self.call, which), Input::Both { .. }),
         };
         if let Some(sentence) = sentence_of(self.alloc, known, bytes, refusal) {

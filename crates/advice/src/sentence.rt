@@ -2,6 +2,7 @@
 
 use crate::causes::{LastError, push_last};
 use ceiling_kernel::RunFault;
+use chain_tables::Chain;
 use command_line::Options;
 use desk_cli::{CommandRefusal, TextFault};
 use sentences::{
@@ -23,6 +24,8 @@ pub(crate) struct Known<'a> {
     pub(crate) greatest_until: Option<u64>,
     /// The set of a call that runs a list or checks a certificate.
     pub(crate) set: Option<&'a TaskSet>,
+    /// The chains of a set whose certificate a call checks.
+    pub(crate) chains: &'a [Chain],
     /// Whether the input is a list and a new set.
     pub(crate) is_both: bool,
 }
@@ -93,6 +96,7 @@ pub(crate) fn sentence_of(
             alloc,
             bytes,
             known.set,
+            known.chains,
             known.options.prefer.is_some(),
             fault,
         ),

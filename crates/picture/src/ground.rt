@@ -158,7 +158,10 @@ fn put_verdict_head(missed: usize, page: &mut Page)
 fn verdict_letters(missed: usize) -> usize
     ensures { result ≡ verdict_letters missed }
 {
-    if missed == 0 { 21 } else { 28 }
+    match missed {
+        0 => 21,
+        _ => 28,
+    }
 }
 
 // The same, and behind it what was given as title, as far as there is room.

@@ -9,7 +9,7 @@ use frames::{Frame, Page, end_of};
 const CUT: &str = "…";
 
 // How wide a letter of it is taken to be.
-const LETTER: u64 = 110;
+const LETTER: u64 = 100;
 
 // The byte at a place, or 0 behind the last.
 fn byte_at(bytes: &[u8], i: usize) -> u8

@@ -5,8 +5,10 @@ use crate::texts::{is_line_end, line_at, tell_bad_line, tell_unseen, word_at};
 use crate::told::Told;
 use cert_checker::CheckFault;
 use certificate::CertFault;
-use lines::number_of;
-use std::alloc::Global;
+use chain_tables::Chain;
+use chains::{Level, Writes, bound_of};
+use lines::{name_of, number_of};
+use std::alloc::{AllocError, Global};
 use task_sheet::{Name, TaskSet};
 
 /// What a person is told of a fault of a certificate's text; none where memory runs out.
@@ -35,12 +37,13 @@ const WANTED: &str =
     ": no such line may stand here; after the head come best N, for each level from 1 \
     level K NAME NUMBER and lines fails NAME REASON, then, in version 5, lines chain NAME NUMBER, or none N and lines member NAME REASON, then end";
 
-/// What a person is told of what a certificate fails to show, with the set that it is of where that is at hand, and
-/// whether the call says by what the set is preferred; none where memory runs out.
+/// What a person is told of what a certificate fails to show, with the set that it is of where that is at hand, its chains,
+/// and whether the call says by what the set is preferred; none where memory runs out.
 pub fn of_check(
     alloc: Global,
     bytes: &[u8],
     set: Option<&TaskSet>,
+    chains: &[Chain],
     is_preferred: bool,
     fault: CheckFault,
 ) -> Option<String> {
@@ -63,12 +66,7 @@ pub fn of_check(
         CheckFault::WrongChains => told.words(
             "its lines chain have to name the set's chains, each once, as the documents say them",
         ),
-        CheckFault::BadAge { name } => {
-            told.name("chain ", name);
-            told.words(
-                ": its number is below the sum of its periods, of what its tasks hand over and of the last one's response, by the numbers of the levels",
-            );
-        }
+        CheckFault::BadAge { name } => tell_age(&mut told, alloc, bytes, set, chains, name),
     }
     if !is_preferred && may_be_of_other(fault) {
         told.words(" (a certificate made with --prefer is checked with it)");
@@ -94,6 +92,76 @@ fn level_line(bytes: &[u8], level: u64) -> &[u8] {
         }
     }
     &[]
+}
+
+// The number of a chain's line; 0 where there is none.
+fn chain_number(bytes: &[u8], name: Name) -> u64 {
+    for line in bytes.split(is_line_end) {
+        let is_of_chain = word_at(line, 0) == b"chain".as_slice();
+        if is_of_chain && word_at(line, 1) == name.bytes() {
+            return number_of(word_at(line, 2)).unwrap_or(0);
+        }
+    }
+    0
+}
+
+// The level that a line names, with the response that its number says.
+fn level_in(set: &TaskSet, line: &[u8]) -> Option<Level> {
+    if word_at(line, 0) != b"level".as_slice() {
+        return None;
+    }
+    let task = set.find(name_of(word_at(line, 2))?)?;
+    let number = number_of(word_at(line, 3))?;
+    let jitter = set.get(task)?.jitter();
+    Some(Level {
+        task,
+        response: Some(number.saturating_add(jitter)),
+    })
+}
+
+// The levels of a certificate, the lowest first.
+fn levels_in(alloc: Global, bytes: &[u8], set: &TaskSet) -> Result<Vec<Level>, AllocError> {
+    let mut levels = Vec::new(alloc);
+    for line in bytes.split(is_line_end) {
+        if let Some(level) = level_in(set, line) {
+            levels.push(level)?;
+        }
+    }
+    Ok(levels)
+}
+
+// The bound of a chain by the numbers of a certificate's levels, where all that it is of is at hand.
+fn bound_by(alloc: Global, bytes: &[u8], set: Option<&TaskSet>, chain: &Chain) -> Option<u128> {
+    let set = set?;
+    let levels = levels_in(alloc, bytes, set).ok()?;
+    bound_of(set, &levels, chain.writes, &chain.tasks)
+}
+
+// The number of a chain that is below its bound by the numbers of the levels, with that bound.
+fn tell_age(
+    told: &mut Told,
+    alloc: Global,
+    bytes: &[u8],
+    set: Option<&TaskSet>,
+    chains: &[Chain],
+    name: Name,
+) {
+    let Some(chain) = chains.iter().find(|chain| chain.name == name) else {
+        return told.give_up();
+    };
+    let Some(bound) = bound_by(alloc, bytes, set, chain) else {
+        return told.give_up();
+    };
+    told.name("chain ", name);
+    told.number(": its number, ", chain_number(bytes, name));
+    told.words(", is below ");
+    told.show(bound);
+    told.words(match chain.writes {
+        Writes::AtFinish => {
+            ", the sum of its periods, of what its tasks hand over and of the last one's response, by the numbers of the levels"
+        }
+        Writes::AtDeadline => ", the sum of its periods and of its tasks' deadlines",
+    });
 }
 
 // The number of a level that its task can't have, with its limit.
