@@ -1,4 +1,4 @@
-"""What the words of a call name: FORMATS.md, Words."""
+"""What the words of a call name: FORMATS.md, Wrong words."""
 
 import re
 from typing import Callable, NamedTuple

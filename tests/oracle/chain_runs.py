@@ -1,4 +1,4 @@
-"""What the chains of a set came to in a run: DEFINITIONS.md, Chains of tasks; FORMATS.md, What `simulate` prints."""
+"""What the chains of a set came to in a run: DEFINITIONS.md, Chains of tasks; FORMATS.md, `simulate`."""
 
 import chain_bounds
 

@@ -1,4 +1,4 @@
-"""What a picture has to show of a chain: DEFINITIONS.md, Chains of tasks; FORMATS.md, What `draw` prints."""
+"""What a picture has to show of a chain: DEFINITIONS.md, Chains of tasks; FORMATS.md, `draw`."""
 
 import re
 import xml.etree.ElementTree as ElementTree
