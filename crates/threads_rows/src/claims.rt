@@ -21,11 +21,8 @@ fn response_at(
     ensures passes { IfOk result (λ r. IfSome r (λ _. passes_at level.now place ≡ true)) }
     ensures fails { IfOk result (λ r. IfNone r (passes_at level.now place ≡ false)) }
 {
-    let Some(task) = level.at(place as usize) else {
-        return Err("a candidate")?;
-    };
-    assert!(rt; task < 32);
-    assert!(rt; level.left().has(task));
+    assert!(rt; place < level.left().len() as u64);
+    let task = level.at(place as usize);
     let table = again!(LockTable::new(alloc, level.set()))?;
     Ok(level.response(&table, task))
 }
