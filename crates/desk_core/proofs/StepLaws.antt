@@ -132,6 +132,7 @@ module _ (a : Inside) (trial : IsTrialKept a) where
         climb = a.climb;
         level = level;
         found = a.found;
+        room = a.room;
       } in x)
   trial-started level same = record {
     tabled = trial.tabled;
@@ -139,6 +140,8 @@ module _ (a : Inside) (trial : IsTrialKept a) where
       progress = trial.held.progress;
       kept = λ goes_on. same ∙ trial.held.kept goes_on;
     };
+    empty = trial.empty;
+    room = trial.room;
   }
 
   -- after a finding that came to the present level

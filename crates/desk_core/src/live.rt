@@ -235,7 +235,7 @@ impl Live {
         ensures back { IfErr result (λ back. back ≡ finding) }
     {
         let reply = bring_to(alloc, &self.draft, &mut self.stage, finding)?;
-        put_away(alloc, &mut self.stage);
+        put_away(&mut self.stage);
         Ok(reply)
     }
 
@@ -245,7 +245,7 @@ impl Live {
         ensures err { OnErr result (self.new ≡ self.old) }
     {
         let reply = advance_to(alloc, &self.draft, &mut self.stage)?;
-        put_away(alloc, &mut self.stage);
+        put_away(&mut self.stage);
         Ok(reply)
     }
 

@@ -1,6 +1,6 @@
 //! How far the test of a draft has come.
 
-ghost use Rattle.std.specs.Prelude.{◌≡◌, ◌↔◌, true, IfOk, IfErr, IfSome, IfNone, OnOk, OnErr, IsTrue, List, Result};
+ghost use Rattle.std.specs.Prelude.{◌≡◌, ◌↔◌, true, IfOk, IfSome, IfNone, OnErr, IsTrue, List, Result};
 ghost use Rattle.task_sheet.specs.Sheet.{Task};
 ghost use Rattle.drafts.specs.Applied.{OnNode};
 ghost use Rattle.drafts.specs.Books.{logged, IsNextEntry};
@@ -65,53 +65,33 @@ pub fn begin(alloc: Global, draft: &Draft, stage: &mut Stage) -> Result<bool, Al
     }
 }
 
-// What a trial comes to. Where memory runs out, it is handed back.
-fn rest_of(alloc: Global, trial: Box<Trial>) -> Result<Stage, Box<Trial>>
+// What a trial comes to.
+fn rest_of(trial: Box<Trial>) -> Stage
     ensures kept { (outcome : Result OnNode Refusal) → IsStage outcome (Trying trial)
-        → IfOk result (IsStage outcome) }
-    ensures found { IfOk result (λ stage. found_of stage ≡ trial.value.found) }
-    ensures complete { IsTested trial.value.set trial.value.found → IfOk result IsComplete }
-    ensures back { IfErr result (λ back. back ≡ trial) }
+        → IsStage outcome result }
+    ensures found { found_of result ≡ trial.value.found }
+    ensures complete { IsTested trial.value.set trial.value.found → IsComplete result }
 {
     if !trial.is_tested() {
-        return Ok(Stage::Trying { trial });
+        return Stage::Trying { trial };
     }
-    let Ok(room) = Vec::with_capacity(alloc, trial.set().len()) else {
-        return Err(trial);
-    };
-    let (judged, found) = Box::into_inner(trial).finish(room);
-    Ok(Stage::Tested { judged, found })
+    let (judged, found) = Box::into_inner(trial).finish();
+    Stage::Tested { judged, found }
 }
 
-// Keeps of a complete test what was judged, and the findings. Where memory runs out, it stays as it was.
-fn complete(alloc: Global, stage: &mut Stage) -> Result<(), AllocError>
+/// Keeps of a complete test what was judged, and the findings.
+pub fn put_away(stage: &mut Stage)
     ensures kept { (outcome : Result OnNode Refusal) → IsStage outcome stage.old
         → IsStage outcome stage.new }
     ensures found { found_of stage.new ≡ found_of stage.old }
-    ensures ok { (outcome : Result OnNode Refusal) → IsStage outcome stage.old
+    ensures complete { (outcome : Result OnNode Refusal) → IsStage outcome stage.old
         → is_begun stage.old ≡ true → IsTestedOn outcome (found_of stage.old)
-        → OnOk result (IsComplete stage.new) }
+        → IsComplete stage.new }
 {
     match mem::replace(stage, Stage::Fresh) {
-        Stage::Trying { trial } => match rest_of(alloc, trial) {
-            Ok(rest) => *stage = rest,
-            Err(trial) => {
-                *stage = Stage::Trying { trial };
-                return Err(AllocError);
-            }
-        },
+        Stage::Trying { trial } => *stage = rest_of(trial),
         other => *stage = other,
     }
-    Ok(())
-}
-
-/// Keeps of a complete test what was judged, and the findings, where there is memory for them.
-pub fn put_away(alloc: Global, stage: &mut Stage)
-    ensures kept { (outcome : Result OnNode Refusal) → IsStage outcome stage.old
-        → IsStage outcome stage.new }
-    ensures found { found_of stage.new ≡ found_of stage.old }
-{
-    let _ = complete(alloc, stage);
 }
 
 /// Enters into the book what a complete test came to. None where the book's present state hasn't the tasks and the
@@ -138,7 +118,7 @@ pub fn enter(
     if !begin(alloc, draft, stage)? {
         unreachable!();
     }
-    complete(alloc, stage)?;
+    put_away(stage);
     match stage {
         Stage::Tested { judged, .. } => book.enter_tested(alloc, draft, judged),
         _ => unreachable!(),

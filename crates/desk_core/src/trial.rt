@@ -27,7 +27,7 @@ use std::sync::Arc;
 use task_sheet::{Members, Name, TaskSet};
 
 /// A climb over a set, which goes on as findings decide its levels, with the table of the set's locks. The present
-/// level is kept from its first finding on.
+/// level is kept from its first finding on; room for what the test comes to is there from the beginning.
 #[derive(Drop)]
 pub struct Trial {
     set: Arc<TaskSet>,
@@ -35,6 +35,7 @@ pub struct Trial {
     climb: Climb,
     level: Option<Level>,
     found: Notes,
+    room: Vec<Place>,
 }
 
 impl Model for Trial {
@@ -192,6 +193,7 @@ impl Trial {
         ensures { IfOk result (λ trial. trial ≡ record { set = set.value; found = [] }) }
     {
         let table = LockTable::new(alloc, &set)?;
+        let room = Vec::with_capacity(alloc, set.len())?;
         let climb = Climb::start(alloc, set.clone()?)?;
         Ok(Trial {
             set,
@@ -199,6 +201,7 @@ impl Trial {
             climb,
             level: None,
             found: Notes::none(),
+            room,
         })
     }
 
@@ -292,11 +295,9 @@ impl Trial {
         }
     }
 
-    // What a complete test comes to, into a list with room for the tasks, and the findings. The table goes.
-    pub(crate) fn finish(self, room: Vec<Place>) -> (Judged, Notes)
-        requires tested { IsTested self.set self.found }
-        requires empty { room.items ≡ [] }
-        requires room { length self.set ≤ vec_capacity room }
+    // What a complete test comes to, and the findings. The table goes.
+    pub(crate) fn finish(self) -> (Judged, Notes)
+        requires { IsTested self.set self.found }
         ensures judged { IsJudgedSet self.set result.0 }
         ensures found { result.1.items ≡ self.found }
     {
@@ -306,6 +307,7 @@ impl Trial {
             climb,
             level: _,
             found,
+            room,
         } = self;
         match climb.finish() {
             Ok(verdict) => (judged_by(set, &verdict, room), found),

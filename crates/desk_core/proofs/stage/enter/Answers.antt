@@ -12,21 +12,17 @@ unreachable-requires c =
     (found_of c.args.stage.now) c.in_ok-begin.field-0 c.in_ok-begin.ensures.ok c.requires.tested in
     both_ways c.in_ok-begin.field-0 c.if-not-branch.true begun.0
 
-pub returns-in_err-complete-clause-kept : goal.returns-in_err-complete-clause-kept
-returns-in_err-complete-clause-kept c =
-    c.complete.ensures.kept (on_base c.args.draft.now) c.begin.ensures.kept
-
 pub returns-clause-kept : goal.returns-clause-kept
 returns-clause-kept c =
     rw c.in-Tested.is at
-    (c.complete.ensures.kept (on_base c.args.draft.now) c.begin.ensures.kept)
+    (c.put_away.ensures.kept (on_base c.args.draft.now) c.begin.ensures.kept)
 
 pub enter_tested-requires : goal.enter_tested-requires
 enter_tested-requires c =
     let outcome = on_base c.args.draft.now in
-    (tested-stage outcome c.complete.new.stage c.in-Tested.judged c.in-Tested.found
-    (found_of c.complete.new.stage) c.in-Tested.is
-    (c.complete.ensures.kept outcome c.begin.ensures.kept) refl).1
+    (tested-stage outcome c.put_away.new.stage c.in-Tested.judged c.in-Tested.found
+    (found_of c.put_away.new.stage) c.in-Tested.is
+    (c.put_away.ensures.kept outcome c.begin.ensures.kept) refl).1
 
 pub unreachable-requires-in_default : goal.unreachable-requires-in_default
 unreachable-requires-in_default c =
@@ -34,6 +30,6 @@ unreachable-requires-in_default c =
     let found = found_of c.args.stage.now in
     let begun = begun-tested outcome c.begin.new.stage found c.in_ok-begin.field-0
     c.in_ok-begin.ensures.ok c.requires.tested in
-    complete-tested c.complete.new.stage c.in_default.not-Tested
-    (c.in_ok-complete.ensures.ok outcome c.begin.ensures.kept begun.1
+    complete-tested c.put_away.new.stage c.in_default.not-Tested
+    (c.put_away.ensures.complete outcome c.begin.ensures.kept begun.1
     (subst (IsTestedOn outcome) (sym c.begin.ensures.found) c.requires.tested))

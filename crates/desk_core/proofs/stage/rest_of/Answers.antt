@@ -13,8 +13,8 @@ returns-then-not-is_tested-clause-complete c = λ tested.
     both_ways c.is_tested.result c.if-not-is_tested.true (c.is_tested.ensures.1
     (tested_same c.args.trial.value c.deref.result.now (sym c.deref.ensures) tested))
 
-pub finish-judged-requires-clause-tested : goal.finish-judged-requires-clause-tested
-finish-judged-requires-clause-tested c =
+pub finish-judged-requires : goal.finish-judged-requires
+finish-judged-requires c =
     tested_same c.deref.result.now c.into_inner.result (c.deref.ensures ∙ sym c.into_inner.ensures)
     (c.is_tested.ensures.0 c.if-not-is_tested.false)
 

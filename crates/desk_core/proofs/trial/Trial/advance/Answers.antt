@@ -49,6 +49,8 @@ invariant_of-self-2 c =
       held = rw noted (trial-step a c.self.invariant going c.in_ok-level.level here
           c.in-Ok.finding.question c.accept_at-told.new.climb c.accept_at-told.result.1 told
           c.accept_at-told.ensures).1;
+      empty = c.self.invariant.empty;
+      room = c.self.invariant.room;
     }
 
 pub returns-clause-ok : goal.returns-clause-ok

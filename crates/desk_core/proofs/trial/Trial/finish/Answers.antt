@@ -5,4 +5,4 @@ pub unreachable-requires : goal.unreachable-requires
 unreachable-requires c =
     let a = c.self.inside in
     tested-ended a.set.value a.climb a.found.items c.self.invariant.held.progress
-    (rw (← c.self.view_is) at c.requires.tested) c.in-Err.ensures.0
+    (rw (← c.self.view_is) at c.requires) c.in-Err.ensures.0

@@ -47,4 +47,6 @@ invariant_of-self-2 c =
       held = rw noted (trial-step a c.self.invariant going c.in-Ok.level here
           c.args.finding.question c.take_at-told.new.climb c.take_at-told.result.1 told
           c.take_at-told.ensures).1;
+      empty = c.self.invariant.empty;
+      room = c.self.invariant.room;
     }
