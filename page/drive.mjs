@@ -35,7 +35,7 @@ const is_in_time = what => {
 
 try {
   sow(seed);
-  expect(statSync(PAGE).size < 560000, `the page has ${statSync(PAGE).size} bytes`);
+  expect(statSync(PAGE).size < 600000, `the page has ${statSync(PAGE).size} bytes`);
   await browser.looks(1400, 1000, 'light');
   await browser.open(PAGE_URL);
   const first = await look();

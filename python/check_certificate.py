@@ -22,6 +22,7 @@ next, and of the last one's response: a job that arrives so much later than one 
 it reads what that one wrote. Where each task reads as it arrives and writes a deadline later, both
 are the deadline. `chain` gives no less than this sum by the levels' numbers.
 """
+import math
 import re
 import sys
 import tomllib
@@ -33,8 +34,9 @@ NUMBER = "(?:0|[1-9][0-9]{0,9})"
 SET = {"task": list, "prefer": str, "node": dict, "interrupt": list, "chain": list}
 NODE = {"job": int, "lock": int, "release": int, "late": int}
 INTERRUPT = {"period": int, "cost": int}
-CHAIN = {"name": str, "tasks": list, "age": int, "reaction": int, "writes": str}
+CHAIN = {"name": str, "tasks": list, "age": int, "reaction": int, "offsets": list, "writes": str}
 LONGEST = 1_000_000_000
+MOST_ARRIVALS = 10_000
 TASK = {"name": str, "weight": int, "period": int, "deadline": int, "cost": int, "jitter": int,
         "section": list, "outranks": list}
 SECTION = {"locks": list, "at": int, "len": int}
@@ -108,7 +110,7 @@ def check_task(it):
 
 def chains_of(tables, tasks):
     """The chains of the tasks that these say, each with the lesser of its limits, or none."""
-    left_out = {"age": LONGEST, "reaction": LONGEST, "writes": "finish"}
+    left_out = {"age": LONGEST, "reaction": LONGEST, "offsets": [], "writes": "finish"}
     chains = [values(table, CHAIN, **left_out) for table in tables]
     names = {it.name for it in tasks}
     is_valid = are_names([it.name for it in chains], 16) and all(
@@ -121,7 +123,22 @@ def chains_of(tables, tasks):
         raise ValueError
     for it, table in zip(chains, tables):
         it.limit = min(it.age, it.reaction) if table.keys() & {"age", "reaction"} else None
+    check_offsets([it for it, table in zip(chains, tables) if "offsets" in table], tasks)
     return chains
+
+
+def check_offsets(chains, tasks):
+    """Refuses offsets that aren't one for each task, below its period and the same in all chains, and a
+    chain of which too many arrivals of its first task come until all arrive as at first."""
+    periods, known = {it.name: it.period for it in tasks}, {}
+    for it in chains:
+        is_valid = len(it.offsets) == len(it.tasks) and all(
+            type(offset) is int and 0 <= offset < periods[name] and known.setdefault(name, offset) == offset
+            for name, offset in zip(it.tasks, it.offsets)
+        )  # fmt: skip
+        own = [periods[name] for name in it.tasks]
+        if not is_valid or math.lcm(*own) // own[0] > MOST_ARRIVALS:
+            raise ValueError
 
 
 def place_of(name, chains):
@@ -244,21 +261,34 @@ def needed_version(tasks, interrupts, shows_chains):
 
 
 def bound_of(named, rows, chain):
-    """What a chain's parts come to by the numbers of the levels: each task's period, and before a task
+    """What a chain's parts come to by the numbers of the levels: each task's wait, and before a task
     below the jitter, before one above the response less its cost; at last the response. Of tasks that
-    write at their deadlines each period and deadline."""
-    if chain.writes == "deadline":
-        return sum(named[name].period + named[name].deadline for name in chain.tasks)
+    write at their deadlines each wait and deadline. A wait is a period; with offsets the whole is the
+    longest that one comes to in a round."""
     places = {row[0]: place for place, row in enumerate(rows)}
-    total = 0
+    periods, delays = [named[name].period for name in chain.tasks], []
     for name, after in zip(chain.tasks, [*chain.tasks[1:], None]):
         it, response = named[name], rows[places[name]][1] + named[name].jitter
-        total += it.period
-        if after is None:
-            total += response
+        if chain.writes == "deadline":
+            delays.append(it.deadline)
+        elif after is None:
+            delays.append(response)
         else:
-            total += it.jitter if places[after] < places[name] else response - named[after].cost
-    return total
+            is_below = places[after] < places[name]
+            delays.append(it.jitter if is_below else response - named[after].cost)
+    if not chain.offsets:
+        return sum(periods) + sum(delays)
+    starts = range(chain.offsets[0], chain.offsets[0] + math.lcm(*periods), periods[0])
+    return max(span_of(periods, chain.offsets, delays, start) for start in starts)
+
+
+def span_of(periods, offsets, delays, start):
+    """How long after an arrival of the first task what its next job reads is written by the last one:
+    each other task reads as it arrives next, at its offset or whole periods later."""
+    time = start + periods[0] + delays[0]
+    for period, offset, delay in zip(periods[1:], offsets[1:], delays[1:]):
+        time = max(offset, time + (offset - time) % period) + delay
+    return time - start
 
 
 def check(tasks, interrupts, chains, version, claim, rows, said):

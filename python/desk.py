@@ -106,13 +106,15 @@ class Task:
 class Chain:
     """A chain of a set: its tasks by name, the first one first, the longest age and reaction in
     microseconds, and whether each job reads as it begins and writes at its `finish`, or reads as it
-    arrives and writes a `deadline` later."""
+    arrives and writes a `deadline` later. With an offset for each task, in microseconds, it arrives
+    then on one clock and each period on."""
 
     name: str
     tasks: Sequence[str]
     age: int | None = None
     reaction: int | None = None
     writes: str = "finish"
+    offsets: Sequence[int] = ()
 
 
 @dataclass(frozen=True, kw_only=True)
@@ -615,6 +617,7 @@ def toml(
     for it in chains:
         said += ["[[chain]]", f"name = {word(it.name)}", f"tasks = {words(it.tasks)}"]
         said += [f"{key} = {value}" for key in ("age", "reaction") if (value := getattr(it, key)) is not None]
+        said += [f"offsets = {list(it.offsets)}"] * bool(it.offsets)
         said += [f"writes = {word(it.writes)}"] * (it.writes != "finish")
     return "".join(line + "\n" for line in said)
 

@@ -320,6 +320,14 @@ Certificates
   $ desk certify timed.toml | sed 's/^chain steer .*/chain steer 69999/' | said check timed.toml -
   standard input: chain steer: its number, 69999, is below 70000, the sum of its periods and of its tasks' deadlines
   [5]
+  $ { cat examples/steer.toml; echo 'offsets = [0, 0, 0]'; } > clocked.toml
+  $ desk certify clocked.toml | sed 's/^chain steer .*/chain steer 30599/' | said check clocked.toml -
+  standard input: chain steer: its number, 30599, is below 30600, its longest span from an arrival of its first task, by the numbers of the levels
+  [5]
+  $ { cat timed.toml; echo 'offsets = [0, 0, 0]'; } > clocked.toml
+  $ desk certify clocked.toml | sed 's/^chain steer .*/chain steer 54999/' | said check clocked.toml -
+  standard input: chain steer: its number, 54999, is below 55000, its longest span from an arrival of its first task, by its tasks' deadlines
+  [5]
 
 Release lists
 -------------

@@ -403,9 +403,11 @@ static void write_trace(FILE *file)
         if (in_set(slices[i].start) < in_set(slices[i].stop))
             fprintf(file, "%ld %ld %s @%d\n", in_set(slices[i].start), in_set(slices[i].stop),
                     tasks[jobs[slices[i].job].task].name, slices[i].priority - base + 1);
-    for (int i = 0; i < job_count; i++)
-        fprintf(file, jobs[i].finish != 0 ? "job %s %ld %ld\n" : "job %s %ld -\n",
-                tasks[jobs[i].task].name, in_set(jobs[i].arrival), in_set(jobs[i].finish));
+    for (int i = 0; i < job_count; i++) {
+        fprintf(file, "job %s %ld ", tasks[jobs[i].task].name, in_set(jobs[i].arrival));
+        fprintf(file, jobs[i].finish != 0 ? "%ld" : "-", in_set(jobs[i].finish));
+        fprintf(file, " %ld\n", in_set(jobs[i].ready));
+    }
     if (is_cut())
         fprintf(file, "the trace is cut\n"); /* which no trace of the desk has */
 }

@@ -16,7 +16,7 @@ export async function of_chains() {
   let seen = await put({ set });
   compare_set('a set with a chain', set, seen);
   expect(seen.is_tabled, `has its table: ${seen.shown.untabled}`);
-  equal(seen.chains.map(it => it.fields.join(' ')).join(), 'steer camera, plan, wheel  45000 ',
+  equal(seen.chains.map(it => it.fields.join(' ')).join(), 'steer camera, plan, wheel  45000  ',
     'as it is written');
   await browser.click('#chains .who');
   seen = await look();
@@ -56,6 +56,15 @@ async function limited(set) {
   seen = await look();
   equal(seen.set, set.replace('reaction = 45000\n', ''), 'without a limit');
   compare_set('a chain without a limit', seen.set, seen);
+  await browser.write(field('offsets'), '0 0, 0.5ms');
+  seen = await look();
+  equal(seen.set, set.replace('reaction = 45000', 'offsets = [0, 0, 500]'), 'on one clock');
+  compare_set('a chain on one clock', seen.set, seen);
+  await browser.write(field('offsets'), '0 x');
+  equal((await look()).set, seen.set, 'an offset that is no number is not taken');
+  await browser.write(field('offsets'), '');
+  seen = await look();
+  equal(seen.set, set.replace('reaction = 45000\n', ''), 'and on none again');
   await browser.write(field('writes'), 'deadline');
   seen = await look();
   equal(seen.set, set.replace('reaction = 45000', 'writes = "deadline"'), 'written at deadlines');
@@ -105,6 +114,10 @@ async function refused(set) {
     ['no time', '45000', '0', 'reaction of chain 1', 'reaction = 0'],
     ['a task twice', '"plan", ', '"wheel", ', 'tasks of chain 1',
       'tasks = ["camera", "wheel", "wheel"]'],
+    ['an offset too few', '45000', '45000\noffsets = [0, 0]', 'offsets of chain 1',
+      'offsets = [0, 0]'],
+    ['an offset past its period', '45000', '45000\noffsets = [0, 20000, 0]', 'offsets of chain 1',
+      'offsets = [0, 20000, 0]'],
     ['no such word', '45000', '45000\nwrites = "end"', 'writes of chain 1', 'writes = "end"'],
     ['no such task', '"plan", ', '"pan", ', 'tasks of chain 1', 'tasks = ["camera", "pan", "wheel"]'],
   ]) {

@@ -6,15 +6,17 @@ import {
 } from './bars.mjs';
 import { at, element, grouped, us } from './dom.mjs';
 import { Fields, value_in } from './fields.mjs';
-import { names_typed } from './table.mjs';
+import { names_typed, typed_number } from './table.mjs';
 import {
-  add_chain, name_of, put_key, quoted, remove_chain, set_limit, set_names, set_word, string_in,
-  tasks_in,
+  add_chain, name_of, numbers_in, put_key, quoted, remove_chain, set_limit, set_names, set_numbers,
+  set_word, string_in, tasks_in,
 } from './toml.mjs';
 
 const LIMITS = ['age', 'reaction'];
 const PARTS = { wait: 'wait for', jitter: 'jitter of', response: 'response of',
   deadline: 'deadline of' };
+const OFFSETS = { placeholder: 'not known',
+  title: 'When its tasks arrive first, on one clock, one number for each' };
 const WRITES = { placeholder: 'finish',
   title: 'When its tasks write: at their finish, or at their deadline' };
 const chain_part = ({ kind, by, less }) =>
@@ -54,6 +56,11 @@ export class Chains extends Fields {
       ...LIMITS.map(key => [key, this.field(
         { 'aria-label': `${key} of ${of}`, placeholder: 'none' }, `${of} ${key}`,
         value => set_limit(this.document, table(), key, value))]),
+      ['offsets', words('offsets', all => {
+        const numbers = all.map(it => typed_number(it, true));
+        return numbers.includes(null) ? null :
+          set_numbers(this.document, table(), 'offsets', numbers);
+      }, OFFSETS)],
       ['writes', words('writes', ([it]) => set_word(this.document, table(), 'writes', it), WRITES)],
     ]);
     row.fields = element('div.overhead.faint',
@@ -137,8 +144,9 @@ export class Chains extends Fields {
   // Each field, and what the text has there.
   fields() {
     const { document, rows } = this;
-    const value = (table, key) => key === 'tasks' ? tasks_in(table).join(', ') :
-      string_in(table, key) ?? value_in(document, table, key);
+    const listed = { tasks: tasks_in, offsets: table => numbers_in(table, 'offsets') };
+    const value = (table, key) => listed[key]?.(table)?.join(', ') ?? string_in(table, key) ??
+      value_in(document, table, key);
     return (this.can_edit ? document.chains : []).flatMap((table, chain) =>
       [...rows[chain].inputs].map(([key, input]) =>
         ({ input, key, chain, value: value(table, key) })));

@@ -76,7 +76,7 @@ def of_set(rng, subject):
         tasks = sets.by_chains(tasks, [chain["tasks"] for chain in chains if chain.get("writes") != "deadline"])
     inputs = [set_input(rng, sheets, 0.08 if subject in SECOND_INPUTS else 0.3, own, node, interrupts, chains)]
     if subject in SECOND_INPUTS:
-        more = [[Chain(table["name"], tuple(table["tasks"]), None, table.get("writes", "finish")) for table in chains]] if subject == "check" else []
+        more = [[chain_of(table) for table in chains]] if subject == "check" else []
         inputs.append(SECOND_INPUTS[subject](rng, tasks, *more))
     if subject == "diff":
         nodes = [node, node, None, {**(node or {}), "job": 40, "release": rng.choice([20, 40])}]
@@ -156,6 +156,11 @@ def title_of(rng):
     letters = rng.choice(["a", "a W&\u00e9\u07ff", "\u0800\u4e2d\uffff", "ab \u00e9\u4e2d\U0001f600"])
     count = rng.choice([rng.randint(10, 40), rng.randint(60, 75), rng.randint(1, 1700)])
     return "".join(rng.choices(letters, k=count))
+
+
+def chain_of(table):
+    """The chain that a table without faults says, without its limit."""
+    return Chain(table["name"], tuple(table["tasks"]), None, table.get("writes", "finish"), tuple(table.get("offsets", ())))
 
 
 def taken(sheets, node, interrupts, preference=None):

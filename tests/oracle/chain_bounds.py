@@ -1,5 +1,7 @@
 """The bounds of a set's chains in an order, and the lines that say them: DEFINITIONS.md, Chains; FORMATS.md, Chains."""
 
+import math
+
 import analysis
 
 
@@ -38,7 +40,7 @@ def parts_in(tasks, order, responses, chain):
     indexes = indexes_of(tasks, chain)
     if any(responses[i] is None for i in indexes):
         return None
-    return parts(tasks, order, responses, indexes, chain.writes)
+    return parts(tasks, order, responses, indexes, chain.writes, chain.offsets)
 
 
 def bound_in(tasks, order, responses, chain):
@@ -58,23 +60,42 @@ def is_met(tasks, order, chain):
     return analysis.is_passing_order(tasks, order) and bound_of(tasks, order, chain) <= chain.limit
 
 
-def parts(tasks, order, responses, indexes, writes):
+def parts(tasks, order, responses, indexes, writes, offsets=()):
     """What a chain's bound is the sum of, as words and a time: before each task the wait for its next job, behind each but the
     last what is handed over to the next, and at last the response; where the tasks write at their deadlines, behind each its
     own."""
-    found = []
+    behind = []
     for i, c in zip(indexes, [*indexes[1:], None]):
         name = tasks[i].name
-        found.append((f"wait {name}", tasks[i].period))
         if writes == "deadline":
-            found.append((f"deadline {name}", tasks[i].deadline))
+            behind.append((f"deadline {name}", tasks[i].deadline))
         elif c is None:
-            found.append((f"response {name}", responses[i]))
+            behind.append((f"response {name}", responses[i]))
         elif order.index(c) < order.index(i):
-            found.append((f"jitter {name}", tasks[i].jitter))
+            behind.append((f"jitter {name}", tasks[i].jitter))
         else:
-            found.append((f"response {name} less cost {tasks[c].name}", responses[i] - tasks[c].cost))
-    return found
+            behind.append((f"response {name} less cost {tasks[c].name}", responses[i] - tasks[c].cost))
+    waits = waits_of([tasks[i].period for i in indexes], offsets, [time for _, time in behind])
+    return [part for i, wait, own in zip(indexes, waits, behind) for part in ((f"wait {tasks[i].name}", wait), own)]
+
+
+def waits_of(periods, offsets, delays):
+    """How long each task of a chain waits for its next job: a period; on one clock as in the longest span of a round."""
+    return longest_walk(periods, offsets, delays)[1] if offsets else periods
+
+
+def longest_walk(periods, offsets, delays):
+    """When the first of the longest spans of a round begins, and the waits in it. The first task's next job comes a period later,
+    of each other one the first that comes no earlier than what it reads is written."""
+    walks = []
+    for start in range(offsets[0], offsets[0] + math.lcm(*periods), periods[0]):
+        waits, time = [periods[0]], start + periods[0] + delays[0]
+        for period, offset, delay in zip(periods[1:], offsets[1:], delays[1:]):
+            waits.append(max(offset - time, (offset - time) % period))
+            time += waits[-1] + delay
+        walks.append((time - start, start, waits))
+    longest = max(span for span, _, _ in walks)
+    return next((start, waits) for span, start, waits in walks if span == longest)
 
 
 def above_at_least(tasks, i):
@@ -87,14 +108,13 @@ def above_at_least(tasks, i):
 
 
 def least_bound(tasks, chain):
-    """How small the bound could be in any order that passes: the least part of each task, by whom such an order needs above."""
+    """How small the bound could be in any order that passes: by the least part of each task, by whom such an order needs above."""
     indexes = indexes_of(tasks, chain)
-    if chain.writes == "deadline":
-        return sum(tasks[i].period + tasks[i].deadline for i in indexes)
-    found = 0
+    least = []
     for i, c in zip(indexes, [*indexes[1:], None]):
         above = above_at_least(tasks, i)
         response = analysis.response_of(tasks, i, above)
-        least = response if c is None else response - tasks[c].cost if c in above else tasks[i].jitter
-        found += tasks[i].period + least
-    return found
+        least.append(response if c is None else response - tasks[c].cost if c in above else tasks[i].jitter)
+    if chain.writes == "deadline":
+        least = [tasks[i].deadline for i in indexes]
+    return sum(least) + sum(waits_of([tasks[i].period for i in indexes], chain.offsets, least))

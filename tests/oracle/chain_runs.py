@@ -4,11 +4,24 @@ import chain_bounds
 
 
 def lines_of(tasks, order, responses, slices, jobs, until):
-    """A line for each chain: its outputs, the greatest age and reaction among them, and its bound in the order."""
+    """A line for each chain: its outputs, the greatest age and reaction among them, and its bound in the order; behind it one
+    for each of its tasks that isn't on its clock."""
     starts = {}
     for part in slices:
         starts.setdefault(part.job, part.start)
-    return [line_of(tasks, order, responses, chain, starts, jobs, until) for chain in tasks.chains]
+    lines = []
+    for chain in tasks.chains:
+        lines += [line_of(tasks, order, responses, chain, starts, jobs, until), *strays(chain, jobs)]
+    return lines
+
+
+def strays(chain, jobs):
+    """Of each task with an offset the first job that doesn't arrive there, or whole periods later."""
+    for name, offset in zip(chain.tasks, chain.offsets):
+        own = ((job.release.arrival, job.release.arrival % job.task.period) for job in jobs if job.task.name == name)
+        stray = next((it for it in own if it[1] != offset), None)
+        if stray is not None:
+            yield f"offset {name} {stray[0]} {stray[1]} of {offset}\n"
 
 
 def line_of(tasks, order, responses, chain, starts, jobs, until):

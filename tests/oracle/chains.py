@@ -1,5 +1,6 @@
 """The chains of a set: FORMATS.md, Chains."""
 
+import math
 from typing import NamedTuple, Optional
 
 from refusals import Refused
@@ -12,11 +13,12 @@ KINDS = {
     "tasks": lambda value: are(value, str),
     "age": is_number,
     "reaction": is_number,
+    "offsets": lambda value: isinstance(value, list) and all(map(is_number, value)),
     "writes": lambda value: isinstance(value, str),
 }
 WRITES = ("finish", "deadline")
 NEEDED, LIMITS = ("name", "tasks"), ("age", "reaction")
-CHAINS_MOST, TASKS_MOST, LIMIT_MOST = 16, 8, 1_000_000_000
+CHAINS_MOST, TASKS_MOST, LIMIT_MOST, ARRIVALS_MOST = 16, 8, 1_000_000_000, 10_000
 
 
 class Chain(NamedTuple):
@@ -24,6 +26,7 @@ class Chain(NamedTuple):
     tasks: tuple  # names, the first one first
     limit: Optional[int]
     writes: str  # when its tasks do
+    offsets: tuple = ()  # of its tasks, or of none
 
 
 def read_chain(table, place):
@@ -46,10 +49,26 @@ def read_chain(table, place):
     for key in LIMITS:
         if key in table and not 1 <= table[key] <= LIMIT_MOST:
             raise Refused(4, "BadLimit", place, key)
+    if "offsets" in table and len(table["offsets"]) != len(tasks):
+        raise Refused(4, "BadOffsets", place)
     writes = table.get("writes", WRITES[0])
     if writes not in WRITES:
         raise Refused(4, "BadWrites", place)
-    return Chain(table["name"], tasks, min((table[key] for key in LIMITS if key in table), default=None), writes)
+    limit = min((table[key] for key in LIMITS if key in table), default=None)
+    return Chain(table["name"], tasks, limit, writes, tuple(table.get("offsets", ())))
+
+
+def judge_offsets(chains, periods):
+    """That the tasks of chains with offsets arrive on one clock, soon again as at first."""
+    clock = {}
+    for chain in chains:
+        for task, offset in zip(chain.tasks, chain.offsets):
+            if offset >= periods[task] or clock.setdefault(task, offset) != offset:
+                raise Refused(4, "BadOffset", chain.name, task)
+        if chain.offsets:
+            first, *_ = own = [periods[task] for task in chain.tasks]
+            if math.lcm(*own) > ARRIVALS_MOST * first:
+                raise Refused(4, "TooManyArrivals", chain.name)
 
 
 def document_chains(tree):
@@ -92,4 +111,6 @@ def read_chains(documents, tasks):
         for task in chain.tasks:
             if task not in names:
                 raise Refused(4, "ChainTask", chain.name, task)
-    return tuple(chain for _, chain in owned)
+    chains = tuple(chain for _, chain in owned)
+    judge_offsets(chains, {task.name: task.period for task in tasks})
+    return chains

@@ -126,6 +126,7 @@ def chain_changes(old, new):
         before, bound_before = old[name]
         keys = words("tasks", *("+".join(it.tasks) for it in (before, chain)))
         keys += words("limit", *("-" if it.limit is None else it.limit for it in (before, chain)))
+        keys += words("offsets", *("+".join(map(str, it.offsets)) or "-" for it in (before, chain)))
         keys += words("writes", before.writes, chain.writes)
         if keys:
             lines.append(chain_line("changed", name, old[name], new[name]) + " keys" + keys)

@@ -171,14 +171,20 @@ def words_of(task_rank, seed):
             yield word
 
 
+def offsets_of(tasks):
+    """When the first job of each task arrives whose offset a chain has."""
+    return {name: offset for chain in getattr(tasks, "chains", ()) for name, offset in zip(chain.tasks, chain.offsets)}
+
+
 def random_list(tasks, until, seed):
     """The jobs of each task that are ready before the end, by time, those of one time by rank. Those of chains' tasks come
-    exactly a period apart."""
-    ranked, steady = [], {it for chain in getattr(tasks, "chains", ()) for it in chain.tasks}
+    exactly a period apart, from their offsets on, if they have some."""
+    ranked, steady, offsets = [], {it for chain in getattr(tasks, "chains", ()) for it in chain.tasks}, offsets_of(tasks)
     for rank, task in enumerate(tasks):
         words = words_of(rank, seed)
         draw = lambda below: (next(words) >> 32) * below >> 32
         arrival = draw(task.period)
+        arrival = offsets.get(task.name, arrival)
         while arrival < until:
             spread = 0 if task.name in steady else task.period
             late, runs_cost, less, comes_late, gap = draw(task.jitter + 1), draw(4), draw(task.cost), draw(4), draw(spread)
@@ -191,15 +197,15 @@ def random_list(tasks, until, seed):
 
 
 def densest(tasks, until):
-    """All tasks become ready together at the greatest jitter, each first job as late as may be; then a period apart."""
-    start = max((task.jitter for task in tasks), default=0)
-    first = [start - task.jitter for task in tasks]
+    """All tasks become ready together at the greatest jitter, each first job as late as may be; then a period apart. The first job of
+    one with an offset arrives there."""
+    start, offsets = max((task.jitter for task in tasks), default=0), offsets_of(tasks)
+    first = [offsets.get(task.name, start - task.jitter) for task in tasks]
     later = [range(arrival + task.period, until, task.period) for arrival, task in zip(first, tasks)]
-    if start >= until:
-        return []
-    if len(tasks) + sum(map(len, later)) > RELEASES_MOST:
+    ready = [rank for rank, (arrival, task) in enumerate(zip(first, tasks)) if arrival + task.jitter < until]
+    if len(ready) + sum(map(len, later)) > RELEASES_MOST:
         raise Refused(4, "TooMany")
-    ranked = [(arrival, rank, task.jitter) for rank, (arrival, task) in enumerate(zip(first, tasks))]
+    ranked = [(first[rank], rank, tasks[rank].jitter) for rank in ready]
     ranked += [(arrival, rank, 0) for rank, arrivals in enumerate(later) for arrival in arrivals]
     return [Release(arrival, tasks[rank].name, late) for arrival, rank, late in sorted(ranked)]
 

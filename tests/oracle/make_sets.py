@@ -1,6 +1,7 @@
 """Random sets: valid ones, ones at the edge of a limit or of passing, and damaged ones, as TOML in many spellings."""
 
 import copy
+import math
 
 import analysis
 import chain_bounds
@@ -130,21 +131,36 @@ def chains(rng, tasks):
     """Tables of chains of a set's tasks, with limits that are near their bounds in its best order, if it has one."""
     names, order = [task.name for task in tasks], analysis.best_order(tasks)
     bounds = {} if order is None else {i: analysis.response_of(tasks, i, above) for _, i, above in analysis.levels_of(order)}
-    out = []
+    out, clock = [], {}
     for name in rng.sample([*NAMES, "steer", "chain"], rng.choice([1, 1, 1, 2, 3, 16])):
         own = rng.sample(range(len(tasks)), min(len(tasks), rng.choice([1, 2, 2, 3, 3, 4, 8])))
         writes = rng.choice(["finish", "finish", "deadline"])
-        bound = 10 ** rng.uniform(3, 9)
-        if order is not None:
-            bound = sum(time for _, time in chain_bounds.parts(tasks, order, bounds, own, writes))
         table = {"name": name, "tasks": [names[i] for i in own]}
         if writes == "deadline" or rng.random() < 0.1:
             table["writes"] = writes
+        is_soon = is_soon_again(tasks, own, 10_000)
+        if rng.random() < (0.4 if is_soon_again(tasks, own, 60) else 0.01):
+            table["offsets"] = [clock.setdefault(names[i], offset(rng, tasks[i].period)) for i in own]
+        bound = 10 ** rng.uniform(3, 9)
+        if order is not None:
+            known = table.get("offsets", ()) if is_soon else ()
+            bound = sum(time for _, time in chain_bounds.parts(tasks, order, bounds, own, writes, known))
         for key in ("age", "reaction"):
             if rng.random() < 0.5:
                 table[key] = min(1_000_000_000, max(1, int(bound) + rng.choice([-1, 0, 1, 500, -500, 10_000])))
         out.append(table)
     return [table for table in out if table["tasks"] or rng.random() < 0.1]
+
+
+def is_soon_again(tasks, own, most):
+    """Whether so many arrivals of the first task come at most until all these tasks arrive as at first."""
+    periods = [tasks[i].period for i in own]
+    return not own or math.lcm(*periods) <= most * periods[0]
+
+
+def offset(rng, period):
+    """When a task arrives first on a clock; now and then at its period, which is too late."""
+    return rng.choice([0, 0, 1, period // 2, period - 1, *[rng.randrange(period) for _ in range(4)]]) + period * (rng.random() < 0.005)
 
 
 def other_chains(rng, tables, names):
@@ -161,6 +177,10 @@ def other_chains(rng, tables, names):
             table.pop("age", None)
         if rng.random() < 0.1:
             table["writes"] = rng.choice(["finish", "deadline"])
+        if len(table.get("offsets", table["tasks"])) != len(table["tasks"]) or rng.random() < 0.1:
+            table.pop("offsets", None)
+        elif rng.random() < 0.05:
+            table["offsets"] = [rng.choice([0, 0, 1, 999]) for _ in table["tasks"]]
     if names and rng.random() < 0.3:
         out.append({"name": rng.choice([*NAMES, "steer", "chain"]), "tasks": rng.sample(names, min(len(names), 2))})
     rng.shuffle(out)
@@ -174,11 +194,13 @@ def wrong_chains(rng, tables):
     for _ in range(rng.choice([1, 1, 2])):
         table = rng.choice(tables)
         key = rng.choice(["name", "tasks", "age", "reaction", "writes", "offsets", "task"])
-        kind = rng.randrange(8)
+        kind = rng.randrange(9)
         if kind == 0:
             table.pop(key, None)
         elif kind == 1:
             table[key] = copy.deepcopy(rng.choice(VALUES))
+        elif kind == 8:
+            wrong_offsets(rng, table)
         elif kind == 2:
             table[rng.choice(["age", "reaction"])] = rng.choice([0, 1, 1_000_000_000, 1_000_000_001, -1, 2**63 - 1])
         elif kind == 3 and isinstance(table.get("tasks"), list):
@@ -193,6 +215,21 @@ def wrong_chains(rng, tables):
         else:
             tables += [copy.deepcopy(table)]
     return tables
+
+
+def wrong_offsets(rng, table):
+    """One fault in a chain's offsets, or none."""
+    count = len(listed(table.get("tasks")))
+    offsets = table.setdefault("offsets", [0] * count)
+    kind = rng.randrange(4)
+    if kind == 0 or not listed(offsets):
+        table["offsets"] = [0] * max(0, count + rng.choice([-1, 0, 1]))
+    elif kind == 1:
+        offsets[rng.randrange(len(offsets))] = copy.deepcopy(rng.choice(VALUES))
+    elif kind == 2:
+        offsets[rng.randrange(len(offsets))] = rng.choice([0, 1, 999, 1000, 9_999_999, 2**63 - 1])
+    else:
+        table["offsets"] = copy.deepcopy(offsets) + [0] * rng.choice([0, 0, 1])
 
 
 def wrong_interrupts(rng, tables):

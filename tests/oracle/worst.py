@@ -1,6 +1,7 @@
 """The worst case of a task, and the run that a chain's bound describes, as release lists: DEFINITIONS.md, The worst case as a
 run, Chains of tasks; FORMATS.md, worst."""
 
+import math
 from typing import NamedTuple
 
 import analysis
@@ -142,21 +143,39 @@ class Aim(NamedTuple):
     response: int
 
 
-def begin_of(tasks, indexes):
-    """Each task of the chain has had a job by then, and whatever leads up to an aim arrives at time 0 or later."""
-    return max([tasks[i].period for i in indexes] + [max(task.cost, task.jitter) for task in tasks])
+def begin_of(tasks, order, responses, chain):
+    """When the first job arrives that the bound counts from: each task of the chain has had a job by then, and whatever leads up to
+    an aim arrives at time 0 or later; on one clock, where the longest span of a round begins."""
+    indexes = chain_bounds.indexes_of(tasks, chain)
+    periods = [tasks[i].period for i in indexes]
+    begin = max(periods + [max(task.cost, task.jitter) for task in tasks])
+    if chain.offsets:
+        start, _ = chain_bounds.longest_walk(periods, chain.offsets, behind_in(tasks, order, responses, chain))
+        begin = start + max(0, -(-(begin - start) // math.lcm(*periods))) * math.lcm(*periods)
+    return begin
+
+
+def behind_in(tasks, order, responses, chain):
+    """How long the parts behind the waits of a chain's tasks are."""
+    return [time for _, time in chain_bounds.parts_in(tasks, order, responses, chain)[1::2]]
 
 
 def aims_of(tasks, order, responses, chain):
-    """Of each task of a chain the job that its bound counts: a period after one that comes a tick too early to read the one
-    before it; and when the last one's bound ends."""
-    indexes = chain_bounds.indexes_of(tasks, chain)
-    early, aims = begin_of(tasks, indexes), []
-    for i, (_, behind) in zip(indexes, chain_bounds.parts_in(tasks, order, responses, chain)[1::2]):
-        arrival, above = early + tasks[i].period, order[order.index(i) + 1 :]
-        aims.append(Aim(i, above, arrival, arrival + tasks[i].jitter, responses[i]))
-        early = arrival + behind - 1
-    return aims, early + 1
+    """Of each task of a chain the job that its bound counts: the first one a period later; of each other one a period after one that
+    comes a tick too early to read the one before it, on one clock the first that isn't too early; and when the last one's bound
+    ends."""
+    time, aims = begin_of(tasks, order, responses, chain), []
+    offsets = chain.offsets or [None] * len(chain.tasks)
+    for i, offset, behind in zip(chain_bounds.indexes_of(tasks, chain), offsets, behind_in(tasks, order, responses, chain)):
+        if not aims:
+            arrival = time + tasks[i].period
+        elif offset is None:
+            arrival = time - 1 + tasks[i].period
+        else:
+            arrival = time + max(offset - time, (offset - time) % tasks[i].period)
+        aims.append(Aim(i, order[order.index(i) + 1 :], arrival, arrival + tasks[i].jitter, responses[i]))
+        time = arrival + behind
+    return aims, time
 
 
 def windows_of(tasks, aims, i, until):
@@ -205,7 +224,7 @@ def chain_words(tasks, order, responses, chain):
     bound = None if order is None else chain_bounds.bound_in(tasks, order, responses, chain)
     if bound is None:
         return "no-bound", (0, [])
-    if begin_of(tasks, chain_bounds.indexes_of(tasks, chain)) + bound >= kernel.HORIZON:
+    if aims_of(tasks, order, responses, chain)[1] > kernel.HORIZON:
         return "past-horizon", (0, [])
     until, releases = chain_run(tasks, order, responses, chain)
     if len(releases) > kernel.RELEASES_MOST:

@@ -55,6 +55,7 @@ fn copy_chains(alloc: Global, chains: &[Chain]) -> Result<Vec<Chain>, AllocError
             name: chain.name,
             tasks: chain.tasks.to_vec(alloc)?,
             limit: chain.limit,
+            offsets: chain.offsets.to_vec(alloc)?,
             writes: chain.writes,
         })?;
     }

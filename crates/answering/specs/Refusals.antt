@@ -189,6 +189,7 @@ chain_cause_words (chains.BadName place) = at_task (codes "BadChainName") place
 chain_cause_words (chains.Length place) = at_task (codes "ChainLength") place
 chain_cause_words (chains.TaskTwice place) = at_task (codes "ChainTaskTwice") place
 chain_cause_words (chains.BadLimit place key) = at_task (codes "BadLimit") place ++ codes " " ++ word_of key
+chain_cause_words (chains.BadOffsets place) = at_task (codes "BadOffsets") place
 chain_cause_words (chains.BadWrites place) = at_task (codes "BadWrites") place
 chain_cause_words chains.TooManyChains = codes "TooManyChains"
 chain_cause_words (chains.SameName place) = at_task (codes "SameChain") place
@@ -206,6 +207,8 @@ chain_words (chain.Taken team name other) =
     codes "TakenChain " ++ team ++ codes " " ++ name ++ codes " " ++ other
 chain_words chain.TooManyChains = codes "TooManyChains"
 chain_words (chain.NoSuchTask name task) = codes "ChainTask " ++ name ++ codes " " ++ task
+chain_words (chain.BadOffset name task) = codes "BadOffset " ++ name ++ codes " " ++ task
+chain_words (chain.TooManyArrivals name) = codes "TooManyArrivals " ++ name
 chain_words chain.OutOfMemory = codes "OutOfMemory"
 
 -- the fault of a certificate's text

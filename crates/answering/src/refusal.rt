@@ -379,6 +379,7 @@ fn chain_cause_phrase(cause: ChainCause) -> Phrase
         ChainCause::Length { chain } => One("ChainLength", Place(chain)),
         ChainCause::TaskTwice { chain } => One("ChainTaskTwice", Place(chain)),
         ChainCause::BadLimit { chain, key } => Two("BadLimit", Place(chain), Word(key.word())),
+        ChainCause::BadOffsets { chain } => One("BadOffsets", Place(chain)),
         ChainCause::BadWrites { chain } => One("BadWrites", Place(chain)),
         ChainCause::TooManyChains => Alone("TooManyChains"),
         ChainCause::SameName { chain } => One("SameChain", Place(chain)),
@@ -411,6 +412,13 @@ fn chain_part(fault: ChainFault) -> (Front, Phrase)
             Front::Nothing,
             Two("ChainTask", Named(chain), Named(task)),
         ),
+        ChainFault::BadOffset { chain, task } => (
+            Front::Nothing,
+            Two("BadOffset", Named(chain), Named(task)),
+        ),
+        ChainFault::TooManyArrivals { chain } => {
+            (Front::Nothing, One("TooManyArrivals", Named(chain)))
+        }
         ChainFault::OutOfMemory => (Front::Nothing, Alone("OutOfMemory")),
     }
 }

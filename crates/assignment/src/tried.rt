@@ -3,7 +3,7 @@ ghost use Rattle.std.specs.Prelude.{◌≡◌, ◌↔◌, ◌<◌, ℕ, length, 
 ghost use Rattle.task_sheet.specs.TaskSet.{IsTaskSet};
 ghost use Rattle.task_sheet.specs.Indexes.{indexes_of, IsPart};
 ghost use Rattle.task_sheet.specs.Orders.{all_of};
-ghost use Rattle.latest_first.specs.LatestFirst.{IsFree, IsLatest};
+ghost use Rattle.latest_first.specs.LatestFirst.{IsFirstLatest, IsFree, IsLatest};
 ghost use Rattle.assignment.specs.Longer.{is_longer};
 
 use crate::outcome::must_outrank_any;
@@ -39,6 +39,7 @@ fn is_longer(set: &TaskSet, found: Option<usize>, task: usize) -> bool
 pub fn latest(set: &Tabled<'_>, left: Members) -> Option<usize>
     requires { IsPart (indexes_of left) (all_of set.now) }
     ensures some { IfSome result (IsLatest set.now (indexes_of left)) }
+    ensures first { IfSome result (IsFirstLatest set.now (indexes_of left)) }
     ensures none { IfNone result ((j : ℕ) → ¬ IsFree set.now (indexes_of left) j) }
     ensures kept { IsTaskSet set.now }
 {

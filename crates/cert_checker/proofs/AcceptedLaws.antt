@@ -17,9 +17,8 @@ use Rattle.task_sheet.proofs.VerdictLaws.{IsBestOrder-ready, IsStuck-ready}
 use Rattle.certificate.specs.CertificateOf.{reason_named, fails_named, levels_named, body_named}
 use Rattle.certificate.specs.CertificateOf.{certificate_of, chains_shown, shows_chains, IsKnownReason, IsKnownFail}
 use Rattle.chain_tables.specs.Chains.{ChainData}
-use Rattle.cert_checker.specs.Ages.{sum_in}
 use Rattle.cert_checker.specs.Numbers.{IsChainOf, numbers_of}
-use Rattle.cert_checker.proofs.NumberLaws.{bound-is, numbers-plain}
+use Rattle.cert_checker.proofs.NumberLaws.{number-enough, numbers-plain}
 use Rattle.certificate.specs.Versions.{version_for}
 use Rattle.certificate.specs.declared.version.CertVersion.{CertVersion}
 use Rattle.certificate.specs.declared.version.CertVersion.TheVariants.{First, Second, Fourth, Fifth}
@@ -80,17 +79,13 @@ module _ (U : List Task) (set : IsTaskSet U) where
             (without-part_of (length U) L l.task part) ready.1,
       ) refl
 
-  -- the numbers of the chains are what their parts come to
+  -- the numbers of the chains are their bounds
   numbers-ready : (levels : List LevelData) → IsOrderOf (all_of U) (order_of levels)
       → (chains : List ChainData) → AllByRecursion (IsChainOf U) chains
       → AreReadyChains U levels chains (numbers_of U chains (Admitted levels))
   numbers-ready levels each [] are = tt
   numbers-ready levels each (c ∷ chains) are =
-      let bound = bound-is U levels each c are.0 in
-      let least : sum_in c.writes U levels c.tasks
-      ≤ unwrap_or (Some (sum_in c.writes U levels c.tasks)) 0 =
-      omega arith in
-      (refl, rw bound least, numbers-ready levels each chains are.1)
+      (refl, number-enough U levels each c are.0, numbers-ready levels each chains are.1)
 
   body-ready : (chains : List ChainData) (v : VerdictData) → AllByRecursion (IsChainOf U) chains
       → IsVerdictOf U v

@@ -1,8 +1,8 @@
 -- The numbers of an accepted certificate's chains bound ages and reactions.
-use Rattle.std.proofs.Common.{◌≡◌, ℕ, ◌+◌, ◌<◌, ◌≤◌, true, false, List, [], ◌∷◌, length}
+use Rattle.std.proofs.Common.{◌≡◌, ℕ, ◌+◌, ◌<◌, ◌≤◌, true, false, List, [], ◌∷◌, length, Option, None, Some}
 use Rattle.std.proofs.Common.{refl, sym, ◌∙◌, ap, subst, arith, inl, inr}
 use Rattle.std.proofs.Math.Path.{fun_ext}
-use Rattle.std.proofs.lemmas.Bool.{cases_eq, eq-eqb, ne_eqb, lt-ltb, both_ways}
+use Rattle.std.proofs.lemmas.Bool.{cases_eq, eq-eqb, ne_eqb, leb-true, lt-ltb, both_ways}
 use Rattle.task_sheet.proofs.Common.{Task, task_at, IsTaskSet, Indexes, among, all_of, IsOrderOf}
 use Rattle.task_sheet.proofs.Common.{LevelData, order_of, AllReady, IsReadyOrder, without_index, demand_of}
 use Rattle.task_sheet.proofs.Common.{limit_of}
@@ -12,17 +12,23 @@ use Rattle.ceiling_kernel.specs.Bounds.{after_of}
 use Rattle.ceiling_kernel.proofs.Common.{Job, Node, IsNode, above_of}
 use Rattle.ceiling_kernel.proofs.NodeLaws.{after_is_above}
 use Rattle.chains.specs.Handovers.{RespondsBy}
-use Rattle.chains.specs.Bounds.{AllAct, bound_of}
-use Rattle.chains.specs.declared.bounds.Writes.{Writes}
+use Rattle.chains.specs.Bounds.{AllAct}
+use Rattle.chains.specs.Walks.{bound_by}
+use Rattle.chains.specs.Parts.{steps_of}
 use Rattle.chains.proofs.AgeLaws.{ages_law}
 use Rattle.chains.proofs.ReactionLaws.{reactions_law}
-use Rattle.chains.proofs.PartLaws.{come_to_law}
 use Rattle.chain_tables.specs.Chains.{ChainData}
 use Rattle.certificate.specs.Body.{CertLevelData, Best, Cert}
 use Rattle.certificate.specs.declared.value.CertChain.{CertChain}
-use Rattle.cert_checker.specs.Ages.{node_of, response_in, sum_in}
+use Rattle.cert_checker.specs.Ages.{covers_chain, is_enough, node_of, response_in, steps_in}
 use Rattle.cert_checker.specs.Bounded.{AllWork, AreBounded, IsBounded}
 use Rattle.cert_checker.specs.Ready.{levels_of, AreReadyChains, IsReadyBody, IsReady}
+
+-- a number that is enough is no less than the bound
+enough : (bound : Option ℕ) (number : ℕ) → is_enough bound number ≡ true
+    → (b : ℕ) × (bound ≡ Some b) × (b ≤ number)
+enough None number covers = absurd cc
+enough (Some b) number covers = (b, refl, leb-true b number covers)
 
 -- a level's number shows that its task passes below those that stand above it
 record Passing (U : List Task) (i : ℕ) (H : Indexes) (r : ℕ) : Type 0 where
@@ -90,39 +96,43 @@ module _ (U : List Task) (set : IsTaskSet U) (levels : List LevelData) (ready : 
       all-act jobs c others work.2,
     )
 
-    bounded : (writes : Writes) (tasks : List ℕ) (number : ℕ) → sum_in writes U levels tasks ≤ number
-        → IsBounded writes U levels tasks number
-    bounded writes [] number enough = tt
-    bounded writes (first ∷ others) number enough = λ jobs until legal work steady senders.
-        let act = all-act jobs first others work in
-        let is = come_to_law writes node (response_in levels) first others in
-        let least : bound_of writes node (response_in levels) first others ≤ number =
-        omega (arith, is, enough) in (
-          λ t k s in_time newest sampled.
-              let old = ages_law writes node jobs is-node legal until (response_in levels) first others act
-              steady senders t k s in_time newest sampled in
-              omega (arith, old, least),
-          λ z begun all_begun in_time.
-              let reacts = reactions_law writes node jobs is-node legal until (response_in levels) first
-              others act steady senders z begun all_begun (omega (arith, least, in_time)) in
-              record {
-                output = reacts.output;
-                own = reacts.own;
-                finish = reacts.finish;
-                finished = reacts.finished;
-                in_time = omega (arith, reacts.in_time, least);
-                sample = reacts.sample;
-                sampled = reacts.sampled;
-                later = reacts.later;
-              },
-        )
+    bounded : (c : ChainData) (number : ℕ) → covers_chain U levels c number ≡ true
+        → IsBounded c.writes c.offsets U levels c.tasks number
+    bounded c number covers = by c.tasks (enough (bound_by (steps_in U levels c)) number covers)
+      where
+        by : (tasks : List ℕ)
+            → (b : ℕ) × (bound_by (steps_of c.writes c.offsets node (response_in levels) tasks) ≡ Some b)
+            × (b ≤ number)
+            → IsBounded c.writes c.offsets U levels tasks number
+        by [] has = tt
+        by (first ∷ others) (bound, is', least) = λ jobs until shift legal work steady senders clock.
+            let act = all-act jobs first others work in (
+              λ t k s in_time newest sampled.
+                  let old = ages_law c.writes node jobs is-node legal until shift (response_in levels)
+                  c.offsets first others bound act steady senders clock is' t k s in_time newest sampled in
+                  omega (arith, old, least),
+              λ z begun all_begun in_time.
+                  let reacts = reactions_law c.writes node jobs is-node legal until shift
+                  (response_in levels) c.offsets first others bound act steady senders clock is' z begun
+                  all_begun (omega (arith, least, in_time)) in
+                  record {
+                    output = reacts.output;
+                    own = reacts.own;
+                    finish = reacts.finish;
+                    finished = reacts.finished;
+                    in_time = omega (arith, reacts.in_time, least);
+                    sample = reacts.sample;
+                    sampled = reacts.sampled;
+                    later = reacts.later;
+                  },
+            )
 
     all-bounded : (chains : List ChainData) (said : List CertChain)
         → AreReadyChains U levels chains said → AreBounded U levels chains said
     all-bounded [] said are = tt
     all-bounded (c ∷ chains) [] are = absurd are
     all-bounded (c ∷ chains) (s ∷ said) are =
-        (bounded c.writes c.tasks s.number are.1, all-bounded chains said are.2)
+        (bounded c s.number are.1, all-bounded chains said are.2)
 
 pub numbers-bound : (U : List Task) (chains : List ChainData) (c : Cert) (levels : List CertLevelData)
     → IsTaskSet U → IsReady U chains c → c.body ≡ Best levels

@@ -6,6 +6,7 @@ pub mod LesserLaws
 pub mod NamedLaws
 pub mod ReadyLaws
 pub mod AnswerLaws
+pub mod StartLaws
 pub mod NumberLaws
 pub mod BoundedLaws
 pub mod SetChains

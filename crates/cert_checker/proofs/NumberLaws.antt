@@ -2,12 +2,12 @@
 use Rattle.std.proofs.Common.{◌≡◌, ℕ, ◌*◌, ◌<◌, ◌≤◌, ◌==◌, true, false, nat_lt}
 use Rattle.std.proofs.Common.{List, [], ◌∷◌, length, map, Some, refl, ◌∙◌, ap, arith}
 use Rattle.std.proofs.Common.{inl, inr}
-use Rattle.std.specs.Prelude.{unwrap_or, sum_by}
+use Rattle.std.specs.Prelude.{is_some, unwrap_or}
 use Rattle.std.specs.List.{AllByRecursion, list_all}
 use Rattle.std.proofs.Math.Path.{fun_ext}
-use Rattle.std.proofs.lemmas.Bool.{cases_Bool, cases_eq, eq-eqb, ne_eqb, lt-ltb, both_ways}
-use Rattle.std.proofs.lemmas.List.Sums.{sum_by-cons}
-use Rattle.task_sheet.proofs.Common.{Task, IsTaskSet, Indexes, among, all_of, IsOrderOf}
+use Rattle.std.proofs.lemmas.Bool.{cases_Bool, cases_eq, eq-eqb, ne_eqb, le-leb, lt-ltb, both_ways}
+use Rattle.std.proofs.lemmas.Option.{same_Some}
+use Rattle.task_sheet.proofs.Common.{Task, task_at, IsTaskSet, Indexes, among, all_of, IsOrderOf}
 use Rattle.task_sheet.proofs.Common.{LevelData, VerdictData, Admitted, Infeasible, order_of}
 use Rattle.task_sheet.proofs.Common.{IsVerdictOf, AllReady, IsPart, without_index}
 use Rattle.task_sheet.proofs.IndexLaws.{IsOrderOf-among, IsOrderOf-head, IsOrderOf-rest, without-part_of}
@@ -16,14 +16,20 @@ use Rattle.task_sheet.proofs.VerdictLaws.{IsBestOrder-ready}
 use Rattle.std.proofs.lemmas.Bool.{ltb-true}
 use Rattle.ceiling_kernel.proofs.Common.{Node, level_in_order, node_in}
 use Rattle.chains.specs.Parts as parts
-use Rattle.chains.specs.Parts.{after_of, bound_in, handed_of, has_response, parts_of, response_in, time_in, wait_of}
+use Rattle.chains.specs.Bounds.{bound_of, handed_within, written_within}
+use Rattle.chains.specs.Gaps.{gap_of}
+use Rattle.chains.specs.Handovers.{handover}
+use Rattle.chains.specs.Walks.{bound_by}
+use Rattle.chains.specs.Parts.{afters_of, bound_in, has_response, time_in}
+use Rattle.chains.proofs.OffsetLaws.{offsets_law}
 use Rattle.chains.specs.declared.bounds.BoundPart.{BoundPart}
 use Rattle.chains.specs.declared.bounds.Writes.{Writes}
 use Rattle.chains.specs.declared.bounds.Writes.TheVariants.{AtFinish, AtDeadline}
 use Rattle.chain_tables.specs.Chains.{ChainData}
 use Rattle.certificate.specs.Body.{IsChainText, IsShort}
 use Rattle.cert_checker.specs.Ages as ages
-use Rattle.cert_checker.specs.Ages.{sum_in}
+use Rattle.cert_checker.specs.Ages.{covers_chain, steps_in}
+use Rattle.chains.proofs.LongestLaws.{bound_some, delays_keep_starts}
 use Rattle.cert_checker.specs.Numbers.{IsChainOf, level_at, numbered, numbers_of}
 
 -- ---- the levels with their responses
@@ -57,13 +63,27 @@ module _ (U : List Task) (levels : List LevelData) (each : IsOrderOf (all_of U) 
       ∙ lt-ltb i (length U) known.0 in
       rw (has-one levels i named) (have-all tasks known.1)
 
-  -- the bound of a chain of the set's tasks
+  -- the bound of a chain of the set's tasks is that of the levels
   pub bound-is : (c : ChainData) → IsChainOf U c
-      → bound_in c.writes U (map level_at levels) c.tasks ≡ Some (sum_in c.writes U levels c.tasks)
+      → bound_in c.writes c.offsets U (map level_at levels) c.tasks ≡ bound_by (steps_in U levels c)
   bound-is c is =
       let times : time_in (map level_at levels) ≡ ages.response_in levels =
       fun_ext (same-time levels) in
       rw (have-all c.tasks is.known, same-order levels, times) refl
+
+  -- it has one
+  pub has-bound : (c : ChainData) → IsChainOf U c
+      → (bound : ℕ) × (bound_by (steps_in U levels c) ≡ Some bound)
+  has-bound c is = bound_some (steps_in U levels c) (ap is_some (delays_keep_starts U c.offsets
+      (map (λ (p : BoundPart). p.time) (afters_of c.writes (node_in U (order_of levels)) (ages.response_in levels) c.tasks))
+      [] c.tasks) ∙ is.begins)
+
+  -- so its number is enough
+  pub number-enough : (c : ChainData) → IsChainOf U c
+      → covers_chain U levels c (numbered U (map level_at levels) c).number ≡ true
+  number-enough c is =
+      let (bound, some) = has-bound c is in
+      rw (bound-is c is, some) (le-leb bound bound (omega arith))
 
 -- ---- few digits
 -- each response of an order is at most the longest period
@@ -92,7 +112,7 @@ module _ (U : List Task) (set : IsTaskSet U) where
 
   module _ (node : Node) (same : node.tasks ≡ U) (response : ℕ → ℕ)
       (short : (i : ℕ) → response i ≤ 10000000) where
-    handed-short : (i c : ℕ) → i < length U → (handed_of node i c (response i)).time ≤ 10000000
+    handed-short : (i c : ℕ) → i < length U → handover node i c (response i) ≤ 10000000
     handed-short i c lt =
         let valid = valid_at U i set lt in
         elim (cases_Bool (nat_lt (level_in_order node c) (level_in_order node i))) [
@@ -100,41 +120,58 @@ module _ (U : List Task) (set : IsTaskSet U) where
           | inr is ↦ rw is (omega (arith, short i))
         ]
 
-    after-short : (writes : Writes) (i : ℕ) (others : List ℕ) → i < length U
-        → (after_of writes node response i others).time ≤ 10000000
-    after-short AtFinish i [] lt = short i
-    after-short AtFinish i (c ∷ others) lt = handed-short i c lt
-    after-short AtDeadline i others lt =
+    written-short : (writes : Writes) (i : ℕ) → i < length U
+        → written_within writes node i (response i) ≤ 10000000
+    written-short AtFinish i lt = short i
+    written-short AtDeadline i lt =
         let valid = valid_at U i set lt in
         rw same (omega (arith, valid.deadline_to, valid.period_to))
 
-    parts-short : (writes : Writes) (tasks : List ℕ) → AllByRecursion (λ i. i < length U) tasks
-        → sum_by (λ (p : BoundPart). p.time) (parts_of writes node response tasks)
-        ≤ length tasks * 20000000
-    parts-short writes [] known = omega arith
-    parts-short writes (i ∷ others) known =
-        let time : BoundPart → ℕ = λ p. p.time in
-        let wait = wait_of node.tasks i in
-        let after = after_of writes node response i others in
-        let rest = parts_of writes node response others in
-        let period : wait.time ≤ 10000000 = rw same (valid_at U i set known.0).period_to in
-        omega (
-          arith,
-          sum_by-cons time wait (after ∷ rest),
-          sum_by-cons time after rest,
-          period,
-          after-short writes i others known.0,
-          parts-short writes others known.1,
-        )
+    handed-within : (writes : Writes) (i c : ℕ) → i < length U
+        → handed_within writes node i c (response i) ≤ 10000000
+    handed-within AtFinish i c lt = handed-short i c lt
+    handed-within AtDeadline i c lt =
+        let valid = valid_at U i set lt in
+        rw same (omega (arith, valid.deadline_to, valid.period_to))
+
+    bound-short : (writes : Writes) (i : ℕ) (others : List ℕ)
+        → AllByRecursion (λ i. i < length U) (i ∷ others)
+        → bound_of writes node response i others ≤ length (i ∷ others) * 20000000
+    bound-short writes i [] known =
+        let gap : gap_of (task_at node.tasks i) ≤ 10000000 = rw same (valid_at U i set known.0).period_to in
+        omega (arith, gap, written-short writes i known.0)
+    bound-short writes i (c ∷ others) known =
+        let gap : gap_of (task_at node.tasks i) ≤ 10000000 = rw same (valid_at U i set known.0).period_to in
+        omega (arith, gap, handed-within writes i c known.0, bound-short writes c others known.1)
+
+  chain-short : (levels : List LevelData) → IsOrderOf (all_of U) (order_of levels)
+      → AllReady U (all_of U) levels → (c : ChainData) → IsChainOf U c → (bound : ℕ)
+      → bound_by (steps_in U levels c) ≡ Some bound → bound ≤ 160000000
+  chain-short levels each ready c is bound some = by c.tasks refl
+    where
+      by : (tasks : List ℕ) → c.tasks ≡ tasks → bound ≤ 160000000
+      by [] are =
+          let none : Some 0 ≡ Some bound = rw are at some in
+          let same = same_Some 0 bound none in
+          omega (arith, same)
+      by (i ∷ others) are =
+          let short = are-short (all_of U) levels each (λ k h. h) ready in
+          let node = node_in U (order_of levels) in
+          let known : AllByRecursion (λ i. i < length U) (i ∷ others) = rw are at is.known in
+          let few : length (i ∷ others) ≤ 8 = rw are at is.few in
+          let no_longer = offsets_law c.writes c.offsets node (ages.response_in levels) i others bound
+          (rw are at some) in
+          let fits = bound-short node refl (ages.response_in levels)
+          (λ i. response-short levels i short) c.writes i others known in
+          omega (arith, no_longer, fits, few)
 
   pub sum-short : (levels : List LevelData) → IsOrderOf (all_of U) (order_of levels)
       → AllReady U (all_of U) levels → (c : ChainData) → IsChainOf U c
-      → IsShort (unwrap_or (bound_in c.writes U (map level_at levels) c.tasks) 0)
+      → IsShort (unwrap_or (bound_in c.writes c.offsets U (map level_at levels) c.tasks) 0)
   sum-short levels each ready c is =
-      let short = are-short (all_of U) levels each (λ k h. h) ready in
-      let fits = parts-short (node_in U (order_of levels)) refl (ages.response_in levels)
-      (λ i. response-short levels i short) c.writes c.tasks is.known in
-      rw (bound-is U levels each c is) (omega (arith, fits, is.few))
+      let (bound, some) = has-bound U levels each c is in
+      rw (bound-is U levels each c is, some)
+      (omega (arith, chain-short levels each ready c is bound some))
 
   numbers-each : (levels : List LevelData) → IsOrderOf (all_of U) (order_of levels)
       → AllReady U (all_of U) levels → (chains : List ChainData)

@@ -3,7 +3,6 @@ use Rattle.std.proofs.Common.{◌≡◌, ◌↔◌, ℕ, suc, ◌+◌, ◌<◌, 
 use Rattle.std.proofs.Common.{not, List, [], ◌∷◌, length, Option, Some, None, refl, ap, arith}
 use Rattle.std.specs.Bool.{Decides}
 use Rattle.std.specs.Option.{option_or}
-use Rattle.std.specs.Prelude.{nat_le}
 use Rattle.std.proofs.lemmas.Slice.Eq.{bytes_eq-Decides}
 use Rattle.std.specs.List.{AllByRecursion}
 use Rattle.std.proofs.lemmas.Bool.{and_parts, both_ways, or_left, ltb-true, eq-eqb, not-true}
@@ -23,7 +22,7 @@ use Rattle.chain_tables.specs.Chains.{ChainData}
 use Rattle.certificate.proofs.VerdictSpelling.{fails-below}
 use Rattle.cert_checker.specs.Ready.{task_by_name, reason_by_index, failures_of, level_by_index}
 use Rattle.cert_checker.specs.Ready.{levels_of, may_serve, AreReadyChains, IsReadyBody, IsReady}
-use Rattle.cert_checker.specs.Ages.{sum_in}
+use Rattle.cert_checker.specs.Ages.{covers_chain}
 use Rattle.cert_checker.specs.CertificateFaults.{fault_unless, are_new, has_all, are_lesser, time_stands}
 use Rattle.cert_checker.specs.CertificateFaults.{refutes, is_refuted, bad_fail, first_unnamed, missing_at}
 use Rattle.cert_checker.specs.CertificateFaults.{level_fault, levels_fault, order_fault, set_fault, body_fault}
@@ -233,9 +232,9 @@ set-ready U cs ready =
 -- ---- the chains
 module _ (U : List Task) (levels : List LevelData) where
   enough : (c : ChainData) (s : CertChain)
-      → (fault_unless (nat_le (sum_in c.writes U levels c.tasks) s.number) (BadAge c.name) ≡ None)
-      ↔ (sum_in c.writes U levels c.tasks ≤ s.number)
-  enough c s = none-unless _ (BadAge c.name) (at_most (sum_in c.writes U levels c.tasks) s.number)
+      → (fault_unless (covers_chain U levels c s.number) (BadAge c.name) ≡ None)
+      ↔ (covers_chain U levels c s.number ≡ true)
+  enough c s = none-unless (covers_chain U levels c s.number) (BadAge c.name) (as_said _)
 
   chains-sound : (chains : List ChainData) (said : List CertChain) → are_named chains said ≡ true
       → bad_age U levels chains said ≡ None → AreReadyChains U levels chains said

@@ -12,11 +12,14 @@ use Rattle.task_sheet.specs.Name.{IsName}
 use Rattle.task_sheet.specs.Sheet.{Task, same_bytes}
 use Rattle.teams.specs.ReadsText.{is_gathered}
 use Rattle.teams.specs.declared.reading.Part.{Part}
-use Rattle.chain_tables.specs.Chains.{ChainData, HasChains, chain_of, index_of, strange, strange_in, task_named}
+use Rattle.chain_tables.specs.Chains.{ChainData, HasChains, chain_of, clock_fault, clocks_fault, index_of}
+use Rattle.chain_tables.specs.Chains.{steps_in, strange, strange_in, task_named}
+use Rattle.chains.specs.Walks.{starts_of}
 use Rattle.chain_tables.specs.Documents.{Answers, AreAll, ReadsIf, ReadsParts, ReadsTeams, ReadsThen, Says}
 use Rattle.chain_tables.specs.Tables.{WrittenData, chain_at, table_fault, tables_fault, tables_of, unless}
 use Rattle.chain_tables.specs.declared.fault.ChainCause.{ChainCause}
 use Rattle.chain_tables.specs.declared.fault.ChainFault.{ChainFault}
+use Rattle.chain_tables.specs.declared.fault.ChainFault.TheVariants.{TooManyArrivals}
 use Rattle.chain_tables.specs.declared.fault.Whose.{Whose}
 use Rattle.chain_tables.specs.declared.fault.Whose.TheVariants.{Alone, Node, Team}
 use Rattle.cert_checker.specs.Numbers.{IsChainOf}
@@ -119,17 +122,28 @@ module _ (U : List Task) where
     | inr is ↦ (let none = rw is at e in absurd cc)
   ]
 
-  chains-known : (ws : List WrittenData) → AllByRecursion IsPlain ws → strange U ws ≡ None
-      → AllByRecursion (IsChainOf U) (map (chain_of U) ws)
-  chains-known [] plain e = tt
-  chains-known (w ∷ ws) plain e =
-      let both = none-or _ _ e in (
+  -- walks along a chain without a fault of its clock begin somewhere
+  begins : (before : List WrittenData) (w : WrittenData) → clock_fault U before w ≡ None
+      → is_some (starts_of (steps_in U w)) ≡ true
+  begins before w e = by (is_some (starts_of (steps_in U w))) (none-or _ _ e).1
+    where
+      by : (b : Bool) → cond b None (Some (TooManyArrivals w.name)) ≡ None → b ≡ true
+      by true is = refl
+      by false is = absurd cc
+
+  chains-known : (before ws : List WrittenData) → AllByRecursion IsPlain ws → strange U ws ≡ None
+      → clocks_fault U before ws ≡ None → AllByRecursion (IsChainOf U) (map (chain_of U) ws)
+  chains-known before [] plain e clocks = tt
+  chains-known before (w ∷ ws) plain e clocks =
+      let both = none-or _ _ e in
+      let own = none-or _ _ clocks in (
         record {
           named = plain.0.named;
           few = omega (arith, plain.0.few, length-map w.tasks (index_of U));
           known = tasks-known w.name w.tasks both.0;
+          begins = begins before w own.0;
         },
-        chains-known ws plain.1 both.1,
+        chains-known (before ++ w ∷ []) ws plain.1 both.1 own.1,
       )
 
 pub set-chains : (text : List ℕ) (U : List Task) (chains : List ChainData) → HasChains text U chains
@@ -138,4 +152,5 @@ set-chains text U chains has =
     let plain = if-plain (is_gathered text) text has.0 has.1 in
     let others = none-or _ _ has.2 in
     let rest = none-or _ _ others.1 in
-    rw has.3 (chains-known U has.0 plain rest.1)
+    let tasks = none-or _ _ rest.1 in
+    rw has.3 (chains-known U [] has.0 plain tasks.0 tasks.1)

@@ -1,11 +1,13 @@
 -- What the levels of a certificate give for a chain: its bound in their order (Davare et al. 2007, with a smaller part at
 -- each handover).
-use Rattle.std.specs.Prelude.{ℕ, ◌==◌, List, [], ◌∷◌, sum_by, if◌then◌else◌}
+use Rattle.std.specs.Prelude.{ℕ, ◌==◌, nat_le, Bool, false, List, [], ◌∷◌, Option, Some, None, if◌then◌else◌}
 use Rattle.task_sheet.specs.Sheet.{Task}
 use Rattle.task_sheet.specs.Verdicts.{LevelData, order_of}
 use Rattle.ceiling_kernel.specs.Tick.{Node, node_in}
-use Rattle.chains.specs.Parts.{parts_of}
-use Rattle.chains.specs.declared.bounds.Writes.{Writes}
+use Rattle.chains.specs.Walks.{bound_by}
+use Rattle.chains.specs.Parts.{steps_of}
+use Rattle.chains.specs.declared.walks.Step.{Step}
+use Rattle.chain_tables.specs.Chains.{ChainData}
 
 -- the node of a set in the order of levels
 abbrev pub node_of : List Task → List LevelData → Node
@@ -16,7 +18,15 @@ abbrev pub response_in : List LevelData → ℕ → ℕ
 response_in [] i = 0
 response_in (l ∷ levels) i = if l.task == i then l.response else response_in levels i
 
--- what the parts of a chain of tasks that write so come to
-abbrev pub sum_in : Writes → List Task → List LevelData → (tasks : List ℕ) → ℕ
-sum_in writes U levels tasks =
-    sum_by (λ p. p.time) (parts_of writes (node_of U levels) (response_in levels) tasks)
+-- the steps of a chain
+abbrev pub steps_in : List Task → List LevelData → ChainData → List Step
+steps_in U levels c = steps_of c.writes c.offsets (node_of U levels) (response_in levels) c.tasks
+
+-- a number is no less than a bound; where there is none, none is
+abbrev pub is_enough : (bound : Option ℕ) → (number : ℕ) → Bool
+is_enough None number = false
+is_enough (Some bound) number = nat_le bound number
+
+-- it is no less than that of a chain
+abbrev pub covers_chain : List Task → List LevelData → ChainData → (number : ℕ) → Bool
+covers_chain U levels c number = is_enough (bound_by (steps_in U levels c)) number

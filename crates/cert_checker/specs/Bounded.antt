@@ -5,6 +5,7 @@ use Rattle.task_sheet.specs.Verdicts.{LevelData}
 use Rattle.ceiling_kernel.specs.Tick.{Node, Job, job_at}
 use Rattle.ceiling_kernel.specs.Waits.{AreLegalJobs}
 use Rattle.chains.specs.Paths.{IsNewest, last_task, IsSampleOf}
+use Rattle.chains.specs.Clocks.{KeepClock}
 use Rattle.chains.specs.Gaps.{AreSteady, OthersSteady}
 use Rattle.chains.specs.Reactions.{HasBegun, OthersBegun, ReactsBy}
 use Rattle.chains.specs.declared.bounds.Writes.{Writes}
@@ -38,13 +39,15 @@ AllWork U jobs i [] = Works U jobs i
 AllWork U jobs i (c ∷ others) = Works U jobs i × (i ≢ c) × AllWork U jobs c others
 
 -- the number bounds each age and each reaction of a chain of tasks, in each run in the order of the levels in which its
--- tasks act and are steady, whatever the jobs do within their tasks' sheets
-abbrev pub IsBounded : Writes → List Task → List LevelData → (tasks : List ℕ) → (number : ℕ) → Type 0
-IsBounded writes U levels [] number = Unit {0}
-IsBounded writes U levels (first ∷ others) number =
-    (jobs : List Job) (until : ℕ) → AreLegalJobs (node_of U levels) jobs
+-- tasks act, are steady and arrive at their offsets, where these are known, whatever the jobs do within their tasks' sheets
+abbrev pub IsBounded : Writes → (offsets : List ℕ) → List Task → List LevelData → (tasks : List ℕ) → (number : ℕ)
+    → Type 0
+IsBounded writes offsets U levels [] number = Unit {0}
+IsBounded writes offsets U levels (first ∷ others) number =
+    (jobs : List Job) (until shift : ℕ) → AreLegalJobs (node_of U levels) jobs
     → AllWork U jobs first others
     → AreSteady (node_of U levels) jobs until first → OthersSteady (node_of U levels) jobs until first others
+    → KeepClock (node_of U levels) jobs shift offsets (first ∷ others)
     → IsAgeBound writes (node_of U levels) jobs until first others number
     × IsReactionBound writes (node_of U levels) jobs until first others number
 
@@ -53,4 +56,4 @@ abbrev pub AreBounded : List Task → List LevelData → List ChainData → (sai
 AreBounded U levels [] said = Unit {0}
 AreBounded U levels (c ∷ chains) [] = ⊥
 AreBounded U levels (c ∷ chains) (s ∷ said) =
-    IsBounded c.writes U levels c.tasks s.number × AreBounded U levels chains said
+    IsBounded c.writes c.offsets U levels c.tasks s.number × AreBounded U levels chains said

@@ -13,7 +13,7 @@ use Rattle.certificate.specs.CertificateOf.{shows_chains}
 use Rattle.certificate.specs.Versions.{version_for}
 use Rattle.cert_checker.specs.Ready.{task_by_name, failures_of, levels_of, may_serve}
 use Rattle.chain_tables.specs.Chains.{ChainData}
-use Rattle.cert_checker.specs.Ages.{sum_in}
+use Rattle.cert_checker.specs.Ages.{covers_chain}
 use Rattle.cert_checker.specs.Chains.{are_chain}
 use Rattle.cert_checker.specs.declared.fault.CheckFault.{CheckFault}
 use Rattle.cert_checker.specs.declared.fault.CheckFault.TheVariants.{WrongVersion, WrongTasks}
@@ -116,12 +116,12 @@ are_named [] [] = true
 are_named (c ∷ chains) (s ∷ said) = same_bytes s.name c.name && are_named chains said
 are_named _ _ = false
 
--- the first of the chains whose number is below what its parts come to
+-- the first of the chains whose number is below its bound
 abbrev pub bad_age : List Task → List LevelData → List ChainData → (said : List CertChain) → Option CheckFault
 bad_age U levels [] said = None
 bad_age U levels (c ∷ chains) [] = None
 bad_age U levels (c ∷ chains) (s ∷ said) =
-    option_or (fault_unless (nat_le (sum_in c.writes U levels c.tasks) s.number) (BadAge c.name))
+    option_or (fault_unless (covers_chain U levels c s.number) (BadAge c.name))
     (bad_age U levels chains said)
 
 -- the first fault of what is said of chains: WrongChains, BadAge

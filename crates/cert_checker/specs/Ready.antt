@@ -1,5 +1,5 @@
 -- A certificate's names as the tasks of a set, and what it has to show of these and the set's chains.
-use Rattle.std.specs.Prelude.{◌≡◌, ℕ, ◌+◌, ◌≤◌, Bool, true, false, List, [], ◌∷◌, length, map, position}
+use Rattle.std.specs.Prelude.{◌≡◌, ℕ, ◌+◌, Bool, true, false, List, [], ◌∷◌, length, map, position}
 use Rattle.std.specs.Prelude.{unwrap_or}
 use Rattle.task_sheet.specs.Sheet.{Task, task_at, same_bytes}
 use Rattle.task_sheet.specs.Verdicts as verdict
@@ -10,7 +10,7 @@ use Rattle.certificate.specs.declared.value.CertChain.{CertChain}
 use Rattle.certificate.specs.CertificateOf.{shows_chains}
 use Rattle.certificate.specs.Versions.{version_for}
 use Rattle.chain_tables.specs.Chains.{ChainData}
-use Rattle.cert_checker.specs.Ages.{sum_in}
+use Rattle.cert_checker.specs.Ages.{covers_chain}
 use Rattle.certificate.specs.declared.version.CertVersion.{CertVersion}
 use Rattle.certificate.specs.declared.version.CertVersion.TheVariants.{First, Second, Fourth, Fifth}
 
@@ -43,11 +43,11 @@ level_by_index U l = record {
 abbrev pub levels_of : List Task → List CertLevelData → List LevelData
 levels_of U ls = map (level_by_index U) ls
 
--- what is said of each chain of the set, in order, is its name, and no less than what its parts come to
+-- what is said of each chain of the set, in order, is its name, and no less than its bound
 abbrev pub AreReadyChains : List Task → List LevelData → List ChainData → (said : List CertChain) → Type 0
 AreReadyChains U levels [] [] = Unit {0}
 AreReadyChains U levels (c ∷ chains) (s ∷ said) =
-    (s.name ≡ c.name) × (sum_in c.writes U levels c.tasks ≤ s.number) × AreReadyChains U levels chains said
+    (s.name ≡ c.name) × (covers_chain U levels c s.number ≡ true) × AreReadyChains U levels chains said
 AreReadyChains U levels _ _ = ⊥
 
 -- the body is ready for the set: it shows its order best, and what is said of its chains; or that no order passes

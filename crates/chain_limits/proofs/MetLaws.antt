@@ -1,34 +1,33 @@
 -- To ask less at the same periods makes no chain's bound greater; nor, where its tasks write at their deadlines, does anything
 -- that leaves these as they are.
 use Rattle.std.proofs.Common.{◌≡◌, ℕ, ◌+◌, ◌<◌, ◌≤◌, inl, inr, Bool, true, false, ◌==◌, List, [], ◌∷◌}
-use Rattle.std.proofs.Common.{length, Option, Some, None, option_map, refl, sym, ◌∙◌, ap, subst, arith}
-use Rattle.std.specs.List.{list_all}
-use Rattle.std.proofs.lemmas.Bool.{cases_Bool, eqb-true, lt-ltb, ltb-true}
-use Rattle.std.proofs.lemmas.Option.{none-some}
-use Rattle.std.proofs.lemmas.List.Sums.{sum_by-cons}
+use Rattle.std.proofs.Common.{length, drop, Option, Some, None, cond, refl, sym, ◌∙◌, ap, subst, arith}
+use Rattle.std.specs.List.{AllZip, list_all}
+use Rattle.std.proofs.lemmas.Bool.{cases_Bool, eqb-true, ltb-true, true≢false}
 use Rattle.task_sheet.proofs.Common.{Task, task_at, Indexes, among, all_of, IsTaskSet, IsPassingOrder}
-use Rattle.task_sheet.proofs.Common.{demand_of, IsResponseOf}
+use Rattle.task_sheet.proofs.Common.{below, demand_of, IsResponseOf}
 use Rattle.task_sheet.proofs.IndexLaws.{IsOrderOf-among}
 use Rattle.task_sheet.proofs.TaskLaws.{AllTasks-from_set}
 use Rattle.ceiling_kernel.specs.Bounds.{after_of}
-use Rattle.ceiling_kernel.proofs.Common.{node_in}
 use Rattle.chains.specs.Gaps.{gap_of}
-use Rattle.chains.specs.Parts.{bound_in, has_response, order_of, parts_of, time_in, wait_of}
-use Rattle.chains.specs.Parts as parts
+use Rattle.chains.specs.Parts.{bound_in, has_response, order_of, time_in}
+use Rattle.chains.specs.Walks.{IsNoLonger, bound_by, steps_with}
+use Rattle.chains.proofs.LongestLaws.{no_longer_law}
 use Rattle.chains.specs.declared.bounds.Level.{Level}
-use Rattle.chains.specs.declared.bounds.BoundPart.{BoundPart}
 use Rattle.chains.specs.declared.bounds.Writes.{Writes}
 use Rattle.chains.specs.declared.bounds.Writes.TheVariants.{AtFinish, AtDeadline}
 use Rattle.least_chains.specs.LeastBound.{ArePassing, HaveResponses, HasResponse, least_time, part_in}
+use Rattle.least_chains.specs.LeastBound.{parts_in}
 use Rattle.least_chains.proofs.AboveLaws.{after-part}
 use Rattle.least_chains.proofs.PartLaws.{own-response, part-is, passing-levels}
+use Rattle.least_chains.proofs.StepLaws.{also-bound}
 use Rattle.limits.specs.Easier.{AreEasier}
 use Rattle.limits.proofs.EasierLaws.{IsPassingOrder-easier}
 use Rattle.chain_limits.specs.Reaches.{HasSameTimes, IsMetIn}
 use Rattle.chain_limits.proofs.LessLaws.{demand-apart, demand-own, left-no_more}
 use Rattle.chain_limits.proofs.LessLaws.{response-no_more, spared}
 
--- ---- a bound, task by task
+-- ---- who has a response
 has-some : (U : List Task) (i : ℕ) (H : Indexes) (o : Option ℕ) → HasResponse U i H o
     → (r : ℕ) × (o ≡ Some r)
 has-some U i H None is = absurd is
@@ -51,43 +50,18 @@ pub has-task : (U : List Task) (levels : List Level) (i : ℕ) → ArePassing U 
 has-task U levels i are = has-named U levels i are.each
     ∙ ap (λ (X : Indexes). X i) (IsOrderOf-among (all_of U) (order_of levels) are.order.each_once)
 
--- a task in front of others adds its gap and its part
-pub bound-more : (writes : Writes) (U : List Task) (levels : List Level) (i : ℕ) (others : List ℕ)
-    → has_response levels i ≡ true
-    → bound_in writes U levels (i ∷ others)
-    ≡ option_map (λ b. gap_of (task_at U i) + part_in writes U levels i others + b)
-    (bound_in writes U levels others)
-bound-more writes U levels i others has = by (list_all (has_response levels) others) refl
-  where
-    by : (b : Bool) → list_all (has_response levels) others ≡ b
-        → bound_in writes U levels (i ∷ others)
-        ≡ option_map (λ b. gap_of (task_at U i) + part_in writes U levels i others + b)
-        (bound_in writes U levels others)
-    by true is =
-        let node = node_in U (order_of levels) in
-        let later = parts_of writes node (time_in levels) others in
-        let here = parts.after_of writes node (time_in levels) i others in
-        rw (has, is) (ap Some (omega (
-          arith,
-          sum_by-cons (λ (p : BoundPart). p.time) (wait_of U i) (here ∷ later),
-          sum_by-cons (λ (p : BoundPart). p.time) here later,
-        )))
-    by false is = rw (has, is) refl
-
--- one without a response has no bound
-pub bound-none : (writes : Writes) (U : List Task) (levels : List Level) (i : ℕ) (others : List ℕ)
-    → has_response levels i ≡ false → bound_in writes U levels (i ∷ others) ≡ None
-bound-none writes U levels i others has = rw has refl
-
--- where there is a number, there was one
-mapped : (more : ℕ) (o : Option ℕ) (bound : ℕ) → option_map (λ b. more + b) o ≡ Some bound
-    → (b : ℕ) × (o ≡ Some b) × (bound ≡ more + b)
-mapped more None bound is = absurd cc
-mapped more (Some b) bound is = (b, refl, cc)
+-- ---- a bound, or none
+told : (b : Bool) (o : Option ℕ) (bound : ℕ) → cond b o None ≡ Some bound → (b ≡ true) × (o ≡ Some bound)
+told true o bound is = (refl, is)
+told false o bound is = absurd cc
 
 same-gaps : (writes : Writes) (s t : Task) → HasSameTimes writes s t → gap_of s ≡ gap_of t
 same-gaps AtFinish s t same = same
 same-gaps AtDeadline s t same = same.0
+
+-- the tasks that have a response are those of the set
+pub have-tasks : (U : List Task) (levels : List Level) → ArePassing U levels → has_response levels ≡ all_of U
+have-tasks U levels are = λ x i. has-task U levels i are x
 
 -- ---- a set in an order that passes, and another one with the same times in the same order
 module _ (writes : Writes) (V U : List Task) (set_V : IsTaskSet V) (count : length V ≡ length U)
@@ -95,42 +69,50 @@ module _ (writes : Writes) (V U : List Task) (set_V : IsTaskSet V) (count : leng
   module _ (light heavy : List Level) (are_V : ArePassing V light) (are_U : ArePassing U heavy)
       (parts : (i : ℕ) (others : List ℕ) → i < length U
       → part_in writes V light i others ≤ part_in writes U heavy i others) where
-    bound-no_more : (tasks : List ℕ) (bound : ℕ) → bound_in writes U heavy tasks ≡ Some bound
-        → (b : ℕ) × (bound_in writes V light tasks ≡ Some b) × (b ≤ bound)
-    bound-no_more [] bound is = (0, refl, omega arith)
-    bound-no_more (i ∷ others) bound is = elim (cases_Bool (has_response heavy i)) [
-      | inr out ↦ absurd (none-some _ (sym (bound-none writes U heavy i others out) ∙ is))
-      | inl has ↦
-          let within : i < length U = ltb-true i (length U) (sym (has-task U heavy i are_U) ∙ has) in
-          let here : has_response light i ≡ true = has-task V light i are_V
-          ∙ lt-ltb i (length V) (omega (arith, within, count)) in
-          let (rest, was, comes) = mapped (gap_of (task_at U i) + part_in writes U heavy i others)
-          (bound_in writes U heavy others) bound (sym (bound-more writes U heavy i others has) ∙ is) in
-          let (b, now, le) = bound-no_more others rest was in (
-            gap_of (task_at V i) + part_in writes V light i others + b,
-            bound-more writes V light i others here
-                ∙ ap (option_map (λ b. gap_of (task_at V i) + part_in writes V light i others + b)) now,
-            omega (
-              arith,
-              comes,
-              le,
-              same-gaps writes (task_at V i) (task_at U i) (times i),
-              parts i others within,
-            ),
-          )
+    no-longer : (offsets tasks : List ℕ) → list_all (has_response heavy) tasks ≡ true
+        → AllZip IsNoLonger (steps_with V offsets (parts_in writes V light tasks) tasks)
+        (steps_with U offsets (parts_in writes U heavy tasks) tasks)
+    no-longer offsets [] all = tt
+    no-longer offsets (i ∷ others) all = elim (cases_Bool (has_response heavy i)) [
+      | inr out ↦ absurd (true≢false (sym all ∙ rw out refl))
+      | inl has ↦ (
+        record {
+          period = same-gaps writes (task_at V i) (task_at U i) (times i);
+          offset = refl;
+          delay = parts i others (ltb-true i (length U) (sym (has-task U heavy i are_U) ∙ has));
+        },
+        no-longer (drop 1 offsets) others (rw has at all),
+      )
     ]
 
+    same-all : (tasks : List ℕ) → list_all (has_response light) tasks ≡ list_all (has_response heavy) tasks
+    same-all tasks = ap (λ f. list_all f tasks)
+        (have-tasks V light are_V ∙ (ap below count ∙ sym (have-tasks U heavy are_U)))
+
+    bound-no_more : (offsets tasks : List ℕ) (bound : ℕ) → bound_in writes offsets U heavy tasks ≡ Some bound
+        → (b : ℕ) × (bound_in writes offsets V light tasks ≡ Some b) × (b ≤ bound)
+    bound-no_more offsets tasks bound is =
+        let steps = steps_with V offsets (parts_in writes V light tasks) tasks in
+        let others = steps_with U offsets (parts_in writes U heavy tasks) tasks in
+        let (all, comes) = told (list_all (has_response heavy) tasks) (bound_by others) bound is in
+        let zipped : AllZip IsNoLonger steps others = no-longer offsets tasks all in
+        let (b, now) = also-bound steps others bound zipped comes in (
+          b,
+          ap (λ c. cond c (bound_by steps) None) (same-all tasks ∙ all) ∙ now,
+          no_longer_law steps others b bound zipped now comes,
+        )
+
   -- no part is greater: nor is the bound
-  met-by : (order tasks : List ℕ) (limit : ℕ) → IsPassingOrder V order
-      → (met : IsMetIn writes order tasks limit U)
+  met-by : (offsets order tasks : List ℕ) (limit : ℕ) → IsPassingOrder V order
+      → (met : IsMetIn writes offsets order tasks limit U)
       → ((light : List Level) → ArePassing V light → order_of light ≡ order
       → (i : ℕ) (others : List ℕ) → i < length U
       → part_in writes V light i others ≤ part_in writes U met.levels i others)
-      → IsMetIn writes order tasks limit V
-  met-by order tasks limit passing met parts =
+      → IsMetIn writes offsets order tasks limit V
+  met-by offsets order tasks limit passing met parts =
       let (levels, same, are) = passing-levels V set_V order passing in
       let (b, comes, le) = bound-no_more levels met.levels are met.passing (parts levels are same)
-      tasks met.bound met.comes in
+      offsets tasks met.bound met.comes in
       record {
         levels = levels;
         passing = are;
@@ -143,10 +125,10 @@ module _ (writes : Writes) (V U : List Task) (set_V : IsTaskSet V) (count : leng
 -- written at deadlines a chain is met wherever the order passes
 pub met-kept : (V U : List Task) → IsTaskSet V → length V ≡ length U
     → ((k : ℕ) → HasSameTimes AtDeadline (task_at V k) (task_at U k))
-    → (order tasks : List ℕ) (limit : ℕ) → IsPassingOrder V order
-    → IsMetIn AtDeadline order tasks limit U → IsMetIn AtDeadline order tasks limit V
-met-kept V U set count times order tasks limit passing met =
-    met-by AtDeadline V U set count times order tasks limit passing met
+    → (offsets order tasks : List ℕ) (limit : ℕ) → IsPassingOrder V order
+    → IsMetIn AtDeadline offsets order tasks limit U → IsMetIn AtDeadline offsets order tasks limit V
+met-kept V U set count times offsets order tasks limit passing met =
+    met-by AtDeadline V U set count times offsets order tasks limit passing met
     (λ light are same i others within. omega (arith, (times i).1))
 
 -- ---- to ask less
@@ -206,11 +188,11 @@ module _ (V U : List Task) (set_V : IsTaskSet V) (set_U : IsTaskSet U) (easy : A
     part-no_more AtFinish times i others within = finish-no_more i others within
     part-no_more AtDeadline times i others within = omega (arith, (times i).1)
 
-  pub met-easier : (writes : Writes) (order tasks : List ℕ) (limit : ℕ)
+  pub met-easier : (writes : Writes) (offsets order tasks : List ℕ) (limit : ℕ)
       → ((k : ℕ) → HasSameTimes writes (task_at V k) (task_at U k))
-      → IsMetIn writes order tasks limit U → IsMetIn writes order tasks limit V
-  met-easier writes order tasks limit times met =
+      → IsMetIn writes offsets order tasks limit U → IsMetIn writes offsets order tasks limit V
+  met-easier writes offsets order tasks limit times met =
       let passing = IsPassingOrder-easier V U easy (AllTasks-from_set U set_U) order
       (subst (λ o. IsPassingOrder U o) met.same met.passing.order) in
-      met-by writes V U set_V easy.count times order tasks limit passing met
+      met-by writes V U set_V easy.count times offsets order tasks limit passing met
       (λ light are same. part-no_more light met.levels are met.passing (same ∙ sym met.same) writes times)

@@ -1,26 +1,28 @@
 -- A chain's bound by the responses of its tasks alone, in an order that passes.
-use Rattle.std.proofs.Common.{◌≡◌, ◌≢◌, ◌↔◌, ℕ, ◌+◌, ◌<◌, ◌≤◌, ◌==◌, true, false, List, [], ◌∷◌, length, get_or}
-use Rattle.std.proofs.Common.{drop, Option, Some, None, option_map, refl, sym, ◌∙◌, ap, subst, arith}
+use Rattle.std.proofs.Common.{◌≡◌, ◌≢◌, ◌↔◌, ℕ, ◌+◌, ◌<◌, ◌≤◌, ◌==◌, true, false, List, ◌∷◌}
+use Rattle.std.proofs.Common.{length, get_or, drop, Some, None, cond, refl, sym, ◌∙◌}
+use Rattle.std.proofs.Common.{ap, subst, arith}
 use Rattle.std.specs.Prelude.{IsTrue, nat_le}
-use Rattle.std.proofs.lemmas.Bool.{eq-eqb, ne_eqb, le-leb, le-ltb, leb-true, lt-ltb}
-use Rattle.std.proofs.lemmas.List.{drop_more}
-use Rattle.task_sheet.proofs.Common.{Task, task_at, Indexes, IsPart, among, all_of, IsTaskSet}
+use Rattle.std.specs.List.{list_all}
+use Rattle.std.proofs.lemmas.Bool.{eq-eqb, ne_eqb, le-leb, leb-true}
+use Rattle.std.proofs.lemmas.List.{drop_more, get_or_past}
+use Rattle.task_sheet.proofs.Common.{Task, no_task, Indexes, IsPart, among, all_of, IsTaskSet}
 use Rattle.task_sheet.proofs.Common.{IsPassingOrder, IsResponseOf, Passes}
 use Rattle.task_sheet.proofs.IndexLaws.{IsOrderOf-among}
 use Rattle.task_sheet.proofs.PassingLaws.{IsResponseOf-one}
 use Rattle.ceiling_kernel.specs.Bounds.{after_of}
 use Rattle.ceiling_kernel.proofs.Common.{IsNode, above_of, node_in}
 use Rattle.ceiling_kernel.proofs.NodeLaws.{after_is_above, stands_above}
-use Rattle.chains.specs.Gaps.{gap_of}
-use Rattle.chains.specs.Parts.{bound_in, has_response, order_of, time_in}
+use Rattle.chains.specs.Parts.{bound_in, order_of, time_in}
+use Rattle.chains.specs.Walks.{bound_by, steps_with}
 use Rattle.chains.specs.declared.bounds.Level.{Level}
 use Rattle.chains.specs.declared.bounds.Writes.{Writes}
-use Rattle.chains.specs.declared.bounds.Writes.TheVariants.{AtFinish}
-use Rattle.least_chains.specs.LeastBound.{ArePassing, least_time, part_in}
+use Rattle.chains.specs.declared.bounds.Writes.TheVariants.{AtFinish, AtDeadline}
+use Rattle.least_chains.specs.LeastBound.{ArePassing, least_time, part_in, parts_in}
 use Rattle.least_chains.proofs.AboveLaws.{after-part}
-use Rattle.least_chains.proofs.PartLaws.{own-response, part-is, passing-levels}
+use Rattle.least_chains.proofs.PartLaws.{own-response, part-is, passing-levels, strange-part}
 use Rattle.chain_limits.specs.Reaches.{IsMetIn}
-use Rattle.chain_limits.proofs.MetLaws.{bound-more, bound-none, has-task}
+use Rattle.chain_limits.proofs.MetLaws.{have-tasks}
 
 -- ---- who stands above a task, along the order
 pub after-here : (order : List ℕ) (n i : ℕ) → n < length order → get_or order n 0 ≡ i
@@ -71,66 +73,45 @@ module _ (U : List Task) (order : List ℕ) (set : IsTaskSet U) (passing : IsPas
         ap (λ t. least_time U i (above i) t others)
         (IsResponseOf-one U i (above i) r (time_in levels i) response own) ∙ sym is
 
-    has-inside : (i : ℕ) → i < length U → has_response levels i ≡ true
-    has-inside i within = has-task U levels i are ∙ lt-ltb i (length U) within
+-- ---- part by part
+module _ (writes : Writes) (U : List Task) where
+  -- one that is no task of the set has none
+  pub part-strange : IsTaskSet U → (i : ℕ) (others : List ℕ) → length U ≤ i → (levels : List Level)
+      → ArePassing U levels → 0 ≡ part_in writes U levels i others
+  part-strange set i others past levels are = by writes
+    where
+      by : (writes : Writes) → 0 ≡ part_in writes U levels i others
+      by AtFinish = sym (strange-part U set levels are i others past)
+      by AtDeadline = ap (λ (t : Task). t.deadline) (sym (get_or_past U i no_task past))
 
-    has-outside : (i : ℕ) → length U ≤ i → has_response levels i ≡ false
-    has-outside i past = has-task U levels i are ∙ le-ltb i (length U) past
+  -- a chain of which one is none has no bound
+  pub bound-strange : (offsets tasks : List ℕ) → list_all (all_of U) tasks ≡ false → (levels : List Level)
+      → ArePassing U levels → None ≡ bound_in writes offsets U levels tasks
+  bound-strange offsets tasks out levels are =
+      sym (ap (λ b. cond b (bound_by (steps_with U offsets (parts_in writes U levels tasks) tasks)) None)
+      (ap (λ f. list_all f tasks) (have-tasks U levels are) ∙ out))
 
--- what is left adds its own to what was added
-abbrev pub GoesOn : Writes → List Task → (order tasks rest : List ℕ) → ℕ → Type 0
-GoesOn writes U order tasks rest sum = (levels : List Level) → ArePassing U levels → order_of levels ≡ order
-    → bound_in writes U levels tasks ≡ option_map (λ b. sum + b) (bound_in writes U levels rest)
-
-module _ (writes : Writes) (U : List Task) (order : List ℕ) (set : IsTaskSet U)
-    (passing : IsPassingOrder U order) (tasks : List ℕ) where
-  summed : (sum wait part : ℕ) (o : Option ℕ)
-      → option_map (λ b. sum + b) (option_map (λ b. wait + part + b) o)
-      ≡ option_map (λ b. sum + wait + part + b) o
-  summed sum wait part None = refl
-  summed sum wait part (Some b) = ap Some (omega arith)
-
-  pub goes-on : (rest : List ℕ) (i : ℕ) (others : List ℕ) (sum wait part : ℕ) → rest ≡ i ∷ others
-      → i < length U → wait ≡ gap_of (task_at U i)
+  -- that of the others is what the parts come to
+  pub bound-told : (order offsets tasks parts : List ℕ) → list_all (all_of U) tasks ≡ true
       → ((levels : List Level) → ArePassing U levels → order_of levels ≡ order
-      → part ≡ part_in writes U levels i others)
-      → GoesOn writes U order tasks rest sum → GoesOn writes U order tasks others (sum + wait + part)
-  goes-on rest i others sum wait part front within waits is so levels are same =
-      so levels are same
-      ∙ (ap (λ xs. option_map (λ b. sum + b) (bound_in writes U levels xs)) front
-      ∙ (ap (option_map (λ b. sum + b))
-      (bound-more writes U levels i others (has-inside U order set passing levels are same i within))
-      ∙ (ap (λ w. option_map (λ b. sum + b)
-      (option_map (λ b. w + part_in writes U levels i others + b) (bound_in writes U levels others))) (sym waits)
-      ∙ (ap (λ p. option_map (λ b. sum + b)
-      (option_map (λ b. wait + p + b) (bound_in writes U levels others))) (sym (is levels are same))
-      ∙ summed sum wait part (bound_in writes U levels others)))))
-
-  pub stops : (rest : List ℕ) (i : ℕ) (others : List ℕ) (sum : ℕ) → rest ≡ i ∷ others → length U ≤ i
-      → GoesOn writes U order tasks rest sum → (levels : List Level) → ArePassing U levels
-      → order_of levels ≡ order → None ≡ bound_in writes U levels tasks
-  stops rest i others sum front past so levels are same =
-      sym (so levels are same
-      ∙ (ap (λ xs. option_map (λ b. sum + b) (bound_in writes U levels xs)) front
-      ∙ ap (option_map (λ b. sum + b))
-      (bound-none writes U levels i others (has-outside U order set passing levels are same i past))))
-
-  pub ends : (rest : List ℕ) (sum : ℕ) → length rest ≡ 0 → GoesOn writes U order tasks rest sum
+      → parts ≡ parts_in writes U levels tasks)
       → (levels : List Level) → ArePassing U levels → order_of levels ≡ order
-      → Some sum ≡ bound_in writes U levels tasks
-  ends [] sum none so levels are same = sym (so levels are same ∙ ap Some (omega arith))
-  ends (i ∷ rest) sum none so levels are same = absurd (omega (arith, none))
+      → bound_by (steps_with U offsets parts tasks) ≡ bound_in writes offsets U levels tasks
+  bound-told order offsets tasks parts all is levels are same =
+      ap (λ ps. bound_by (steps_with U offsets ps tasks)) (is levels are same)
+      ∙ sym (ap (λ b. cond b (bound_by (steps_with U offsets (parts_in writes U levels tasks) tasks)) None)
+      (ap (λ f. list_all f tasks) (have-tasks U levels are) ∙ all))
 
 -- ---- within a limit
 same-some : (a b : ℕ) → Some a ≡ Some b → a ≡ b
 same-some a b is = cc
 
-pub met-told : (writes : Writes) (U : List Task) (order tasks : List ℕ) (limit bound : ℕ) → IsTaskSet U
+pub met-told : (writes : Writes) (offsets : List ℕ) (U : List Task) (order tasks : List ℕ) (limit bound : ℕ) → IsTaskSet U
     → IsPassingOrder U order
     → ((levels : List Level) → ArePassing U levels → order_of levels ≡ order
-    → Some bound ≡ bound_in writes U levels tasks)
-    → IsTrue (nat_le bound limit) ↔ IsMetIn writes order tasks limit U
-met-told writes U order tasks limit bound set passing is = (
+    → Some bound ≡ bound_in writes offsets U levels tasks)
+    → IsTrue (nat_le bound limit) ↔ IsMetIn writes offsets order tasks limit U
+met-told writes offsets U order tasks limit bound set passing is = (
   λ so.
       let (levels, same, are) = passing-levels U set order passing in
       record {

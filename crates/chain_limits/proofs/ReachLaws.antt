@@ -96,11 +96,11 @@ past-further number grows easiest near far lt le = absurd (omega (
 ))
 
 -- how far from the easiest value the chain is known to be met and to be missed, and whether the order passes further on
-pub record IsSought (writes : Writes) (order tasks : List ℕ) (limit : ℕ) (U : List Task) (i : ℕ)
+pub record IsSought (writes : Writes) (offsets order tasks : List ℕ) (limit : ℕ) (U : List Task) (i : ℕ)
     (number : Number) (easiest long : ℕ) (met missing : ℕ) (is_bound : Bool) : Type 0 where
-  pub meets : IsMetIn writes order tasks limit (numbered U i number (at_distance number easiest met))
+  pub meets : IsMetIn writes offsets order tasks limit (numbered U i number (at_distance number easiest met))
   pub misses : (far : ℕ) → missing ≤ far → far ≤ long
-      → ¬ IsMetIn writes order tasks limit (numbered U i number (at_distance number easiest far))
+      → ¬ IsMetIn writes offsets order tasks limit (numbered U i number (at_distance number easiest far))
   pub bound : is_bound ≡ true → (far : ℕ) × (missing ≤ far) × (far ≤ long)
       × IsPassingOrder (numbered U i number (at_distance number easiest far)) order
   pub free : is_bound ≡ false → (far : ℕ) → missing ≤ far → far ≤ long
@@ -114,23 +114,23 @@ set-numbered : (U : List Task) (i : ℕ) (number : Number) → IsTaskSet U → (
 set-numbered U i number set value may = IsTaskSet-placed U i (with_number number (task_at U i) value)
     (namesake number (task_at U i) value) set may
 
-module _ (writes : Writes) (order tasks : List ℕ) (limit : ℕ) (U : List Task) (i : ℕ) (number : Number)
+module _ (writes : Writes) (offsets order tasks : List ℕ) (limit : ℕ) (U : List Task) (i : ℕ) (number : Number)
     (set : IsTaskSet U) (inside : i < length U) where
   module _ (grows : Grows number) where
     -- met with a value the chain is met with each that is no further
     pub met-nearer : (low high : ℕ) → MayHave U i number low → MayHave U i number high
-        → IsNoFurther number low high → IsMetIn writes order tasks limit (numbered U i number high)
-        → IsMetIn writes order tasks limit (numbered U i number low)
+        → IsNoFurther number low high → IsMetIn writes offsets order tasks limit (numbered U i number high)
+        → IsMetIn writes offsets order tasks limit (numbered U i number low)
     met-nearer low high may may' le =
         met-easier (numbered U i number low) (numbered U i number high)
         (set-numbered U i number set low may) (set-numbered U i number set high may')
-        (AreEasier-numbered U i number low high inside may' le) writes order tasks limit
+        (AreEasier-numbered U i number low high inside may' le) writes offsets order tasks limit
         (times-kept writes U i number grows low high)
 
     -- ---- a search over the values of a sheet
     module _ (easiest long : ℕ) (span : IsSpan (task_at U i) number easiest long) where
       abbrev pub met_at : ℕ → Type 0
-      met_at far = IsMetIn writes order tasks limit (numbered U i number (at_distance number easiest far))
+      met_at far = IsMetIn writes offsets order tasks limit (numbered U i number (at_distance number easiest far))
 
       abbrev pub passes_at : ℕ → Type 0
       passes_at far = IsPassingOrder (numbered U i number (at_distance number easiest far)) order
@@ -146,24 +146,24 @@ module _ (writes : Writes) (order tasks : List ℕ) (limit : ℕ) (U : List Task
           long span near far le within
 
       -- not met with the easiest value it is met with none
-      pub none-further : ¬ IsMetIn writes order tasks limit (numbered U i number easiest)
-          → NoneMeets writes order tasks limit U i number
+      pub none-further : ¬ IsMetIn writes offsets order tasks limit (numbered U i number easiest)
+          → NoneMeets writes offsets order tasks limit U i number
       none-further never value may met =
           let (far, within, at) = span.all value may in
-          never (subst (λ v. IsMetIn writes order tasks limit (numbered U i number v)) (at-start number easiest)
+          never (subst (λ v. IsMetIn writes offsets order tasks limit (numbered U i number v)) (at-start number easiest)
           (met-further 0 far (omega arith) within
-          (subst (λ v. IsMetIn writes order tasks limit (numbered U i number v)) at met)))
+          (subst (λ v. IsMetIn writes offsets order tasks limit (numbered U i number v)) at met)))
 
       -- so where the order doesn't pass with it
       pub none-passing : ¬ IsPassingOrder (numbered U i number easiest) order
-          → NoneMeets writes order tasks limit U i number
+          → NoneMeets writes offsets order tasks limit U i number
       none-passing never = none-further (λ met. never
           (subst (λ o. IsPassingOrder (numbered U i number easiest) o) met.same met.passing.order))
 
       -- with a value between it is met
       pub sought-meets : (met missing middle : ℕ) (is_bound : Bool)
-          → IsSought writes order tasks limit U i number easiest long met missing is_bound → middle < missing
-          → met_at middle → IsSought writes order tasks limit U i number easiest long middle missing is_bound
+          → IsSought writes offsets order tasks limit U i number easiest long met missing is_bound → middle < missing
+          → met_at middle → IsSought writes offsets order tasks limit U i number easiest long middle missing is_bound
       sought-meets met missing middle is_bound so lt meets = record {
         meets = meets;
         misses = so.misses;
@@ -175,9 +175,9 @@ module _ (writes : Writes) (order tasks : List ℕ) (limit : ℕ) (U : List Task
 
       -- or the order passes, and it is not
       pub sought-misses : (met missing middle : ℕ) (is_bound : Bool)
-          → IsSought writes order tasks limit U i number easiest long met missing is_bound → met < middle
+          → IsSought writes offsets order tasks limit U i number easiest long met missing is_bound → met < middle
           → middle < missing → passes_at middle × (¬ met_at middle)
-          → IsSought writes order tasks limit U i number easiest long met middle true
+          → IsSought writes offsets order tasks limit U i number easiest long met middle true
       sought-misses met missing middle is_bound so lt under here = record {
         meets = so.meets;
         misses = λ far le within meets. here.1 (met-further middle far le within meets);
@@ -189,9 +189,9 @@ module _ (writes : Writes) (order tasks : List ℕ) (limit : ℕ) (U : List Task
 
       -- or it doesn't pass
       pub sought-fails : (met missing middle : ℕ) (is_bound : Bool)
-          → IsSought writes order tasks limit U i number easiest long met missing is_bound → met < middle
+          → IsSought writes offsets order tasks limit U i number easiest long met missing is_bound → met < middle
           → middle < missing → ¬ passes_at middle
-          → IsSought writes order tasks limit U i number easiest long met middle is_bound
+          → IsSought writes offsets order tasks limit U i number easiest long met middle is_bound
       sought-fails met missing middle is_bound so lt under fails = record {
         meets = so.meets;
         misses = λ far le within meets. fails (passing-further middle far le within
@@ -206,13 +206,13 @@ module _ (writes : Writes) (order tasks : List ℕ) (limit : ℕ) (U : List Task
       }
 
       -- at the end it is the furthest
-      pub found : (met missing : ℕ) (is_bound : Bool) (furthest : ℕ) → IsSought writes order tasks limit U i number easiest long met missing is_bound
+      pub found : (met missing : ℕ) (is_bound : Bool) (furthest : ℕ) → IsSought writes offsets order tasks limit U i number easiest long met missing is_bound
           → missing ≤ met + 1 → furthest ≡ at_distance number easiest met
-          → AnswersReach writes order tasks limit U i number
+          → AnswersReach writes offsets order tasks limit U i number
           (Some record { furthest = furthest; is_bound = is_bound })
       found met missing is_bound furthest so last is =
           rw is (
-            last-of (IsMetIn writes order tasks limit) U i number easiest long span met
+            last-of (IsMetIn writes offsets order tasks limit) U i number easiest long span met
                 (omega (arith, so.apart, so.within)) so.meets
                 (λ far lt. so.misses far (omega (arith, lt, last))),
             (
@@ -240,42 +240,42 @@ module _ (writes : Writes) (order tasks : List ℕ) (limit : ℕ) (U : List Task
           )
 
     -- ---- what the answer says
-    pub furthest-each : (most value : ℕ) → IsFurthestMet writes order tasks limit U i number most
+    pub furthest-each : (most value : ℕ) → IsFurthestMet writes offsets order tasks limit U i number most
         → MayHave U i number value
-        → IsMetIn writes order tasks limit (numbered U i number value) ↔ (value ≤ most)
+        → IsMetIn writes offsets order tasks limit (numbered U i number value) ↔ (value ≤ most)
     furthest-each most value is may =
         let same = no_further number grows value most in (
           λ met. same.0 (is.furthest value may met),
           λ le. met-nearer value most may is.may (same.1 le) is.feasible,
         )
 
-    pub furthest-own : (most : ℕ) → IsFurthestMet writes order tasks limit U i number most
-        → IsMetIn writes order tasks limit U ↔ (value_of number (task_at U i) ≤ most)
+    pub furthest-own : (most : ℕ) → IsFurthestMet writes offsets order tasks limit U i number most
+        → IsMetIn writes offsets order tasks limit U ↔ (value_of number (task_at U i) ≤ most)
     furthest-own most is =
-        subst (λ V. IsMetIn writes order tasks limit V ↔ (value_of number (task_at U i) ≤ most))
+        subst (λ V. IsMetIn writes offsets order tasks limit V ↔ (value_of number (task_at U i) ≤ most))
         (numbered-own U i number set inside)
         (furthest-each most (value_of number (task_at U i)) is (may-own U i number set inside))
 
-  pub none-met : NoneMeets writes order tasks limit U i number → ¬ IsMetIn writes order tasks limit U
-  none-met none = subst (λ V. ¬ IsMetIn writes order tasks limit V) (numbered-own U i number set inside)
+  pub none-met : NoneMeets writes offsets order tasks limit U i number → ¬ IsMetIn writes offsets order tasks limit U
+  none-met none = subst (λ V. ¬ IsMetIn writes offsets order tasks limit V) (numbered-own U i number set inside)
       (none (value_of number (task_at U i)) (may-own U i number set inside))
 
 -- ---- at deadlines
-module _ (order tasks : List ℕ) (limit : ℕ) (U : List Task) (i : ℕ) (number : Number)
+module _ (offsets order tasks : List ℕ) (limit : ℕ) (U : List Task) (i : ℕ) (number : Number)
     (set : IsTaskSet U) (grows : Grows number) where
   -- where the order passes with another value, the chain is met with it
-  met-anywhere : (most other : ℕ) → IsMetIn AtDeadline order tasks limit (numbered U i number most)
+  met-anywhere : (most other : ℕ) → IsMetIn AtDeadline offsets order tasks limit (numbered U i number most)
       → MayHave U i number other → IsPassingOrder (numbered U i number other) order
-      → IsMetIn AtDeadline order tasks limit (numbered U i number other)
+      → IsMetIn AtDeadline offsets order tasks limit (numbered U i number other)
   met-anywhere most other met may passing =
       met-kept (numbered U i number other) (numbered U i number most)
       (set-numbered U i number set other may)
       (length-set U i (with_number number (task_at U i) other)
       ∙ sym (length-set U i (with_number number (task_at U i) most)))
-      (times-kept AtDeadline U i number grows other most) order tasks limit passing met
+      (times-kept AtDeadline U i number grows other most) offsets order tasks limit passing met
 
   -- so with none past the furthest does it pass
-  pub none-bound : (reach : Reach) → AnswersReach AtDeadline order tasks limit U i number (Some reach)
+  pub none-bound : (reach : Reach) → AnswersReach AtDeadline offsets order tasks limit U i number (Some reach)
       → reach.is_bound ≡ false
   none-bound reach (is, bound) = elim (cases_Bool reach.is_bound) [
     | inr free ↦ free

@@ -14,12 +14,12 @@ use Rattle.limits.specs.Numbers.{MayHave, numbered, IsNoFurther, IsFurthestFor}
 use Rattle.chain_limits.specs.declared.reaches.Reach.{Reach}
 
 -- the order passes, and by its responses the bound of a chain of tasks is within the limit
-pub record IsMetIn (writes : Writes) (order tasks : List ℕ) (limit : ℕ) (V : List Task) : Type 0 where
+pub record IsMetIn (writes : Writes) (offsets order tasks : List ℕ) (limit : ℕ) (V : List Task) : Type 0 where
   pub levels : List Level
   pub passing : ArePassing V levels
   pub same : order_of levels ≡ order
   pub bound : ℕ
-  pub comes : bound_in writes V levels tasks ≡ Some bound
+  pub comes : bound_in writes offsets V levels tasks ≡ Some bound
   pub within : bound ≤ limit
 
 -- two tasks have the same period, and the same deadline where they write then: of a bound these are what no cost, jitter or
@@ -39,14 +39,14 @@ Grows (InterruptCost k) = ⊥
 Grows (InterruptPeriod k) = ⊥
 
 -- the furthest value with which the chain is met in the order, all else equal
-abbrev pub IsFurthestMet : Writes → (order tasks : List ℕ) → (limit : ℕ) → List Task → ℕ → Number → ℕ → Type 0
-IsFurthestMet writes order tasks limit U i number value =
-    IsFurthestFor (IsMetIn writes order tasks limit) U i number value
+abbrev pub IsFurthestMet : Writes → (offsets order tasks : List ℕ) → (limit : ℕ) → List Task → ℕ → Number → ℕ → Type 0
+IsFurthestMet writes offsets order tasks limit U i number value =
+    IsFurthestFor (IsMetIn writes offsets order tasks limit) U i number value
 
 -- with no value it is
-abbrev pub NoneMeets : Writes → (order tasks : List ℕ) → (limit : ℕ) → List Task → ℕ → Number → Type 0
-NoneMeets writes order tasks limit U i number = (value : ℕ) → MayHave U i number value
-    → ¬ IsMetIn writes order tasks limit (numbered U i number value)
+abbrev pub NoneMeets : Writes → (offsets order tasks : List ℕ) → (limit : ℕ) → List Task → ℕ → Number → Type 0
+NoneMeets writes offsets order tasks limit U i number = (value : ℕ) → MayHave U i number value
+    → ¬ IsMetIn writes offsets order tasks limit (numbered U i number value)
 
 -- the order passes with a value that is further: the deadlines don't hold the number there
 pub record PassesFurther (order : List ℕ) (U : List Task) (i : ℕ) (number : Number) (value : ℕ)
@@ -57,9 +57,9 @@ pub record PassesFurther (order : List ℕ) (U : List Task) (i : ℕ) (number : 
   pub further : ¬ IsNoFurther number other value
 
 -- that value, and whether the order passes with a further one; or none where none meets the chain
-abbrev pub AnswersReach : Writes → (order tasks : List ℕ) → (limit : ℕ) → List Task → ℕ → Number
+abbrev pub AnswersReach : Writes → (offsets order tasks : List ℕ) → (limit : ℕ) → List Task → ℕ → Number
     → Option Reach → Type 0
-AnswersReach writes order tasks limit U i number None = NoneMeets writes order tasks limit U i number
-AnswersReach writes order tasks limit U i number (Some reach) =
-    IsFurthestMet writes order tasks limit U i number reach.furthest
+AnswersReach writes offsets order tasks limit U i number None = NoneMeets writes offsets order tasks limit U i number
+AnswersReach writes offsets order tasks limit U i number (Some reach) =
+    IsFurthestMet writes offsets order tasks limit U i number reach.furthest
     × (IsTrue reach.is_bound ↔ PassesFurther order U i number reach.furthest)

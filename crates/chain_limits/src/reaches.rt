@@ -33,23 +33,26 @@ pub(crate) enum Standing {
     Meets,
 }
 
-// What becomes of an order, and of a chain of tasks in it.
+// What becomes of an order, and of a chain of tasks in it. The error is out of memory.
 fn judge_standing(
+    alloc: Global,
     set: &Tabled<'_>,
     order: &[usize],
     writes: Writes,
+    offsets: &[u64],
     tasks: &[usize],
     limit: u64,
-) -> Standing
+) -> Result<Standing, AllocError>
     requires { IsOrder set.now order.now }
-    ensures { IsStanding writes order.now tasks.now limit set.now result }
+    ensures { IfOk result (IsStanding writes offsets.now order.now tasks.now limit set.now) }
 {
     if !order_passes(set, order) {
-        Standing::Fails
-    } else if is_met(set, order, writes, tasks, limit) {
-        Standing::Meets
+        return Ok(Standing::Fails);
+    }
+    if is_met(alloc, set, order, writes, offsets, tasks, limit)? {
+        Ok(Standing::Meets)
     } else {
-        Standing::Misses
+        Ok(Standing::Misses)
     }
 }
 
@@ -59,6 +62,7 @@ fn stands_with(
     set: &Tabled<'_>,
     order: &[usize],
     writes: Writes,
+    offsets: &[u64],
     tasks: &[usize],
     limit: u64,
     task: usize,
@@ -69,16 +73,16 @@ fn stands_with(
     requires task { task < length set.now }
     requires has { HasNumber (task_at set.now task) number }
     requires may { MayHave set.now task number value }
-    ensures { IfOk result (IsStanding writes order.now tasks.now limit (numbered set.now task number value)) }
+    ensures { IfOk result (IsStanding writes offsets.now order.now tasks.now limit (numbered set.now task number value)) }
 {
     let other = numbered(alloc, set, task, number, value)?;
     if keeps_sections(number) {
         let same = Tabled::of(&other, set.table());
-        return Ok(judge_standing(&same, order, writes, tasks, limit));
+        return judge_standing(alloc, &same, order, writes, offsets, tasks, limit);
     }
     let table = LockTable::new(alloc, &other)?;
     let anew = Tabled::of(&other, &table);
-    Ok(judge_standing(&anew, order, writes, tasks, limit))
+    judge_standing(alloc, &anew, order, writes, offsets, tasks, limit)
 }
 
 // The furthest value, where the chain is met with the easiest.
@@ -87,6 +91,7 @@ fn reach_past(
     set: &Tabled<'_>,
     order: &[usize],
     writes: Writes,
+    offsets: &[u64],
     tasks: &[usize],
     limit: u64,
     task: usize,
@@ -100,9 +105,9 @@ fn reach_past(
     requires grows { Grows number }
     requires span { IsSpan (task_at set.now task) number span.easiest span.length }
     requires short { span.easiest + span.length ≤ 20000000 }
-    requires met { IsMetIn writes order.now tasks.now limit
+    requires met { IsMetIn writes offsets.now order.now tasks.now limit
         (numbered set.now task number (at_distance number span.easiest 0)) }
-    ensures { IfOk result (λ reach. AnswersReach writes order.now tasks.now limit set.now task number (Some reach)) }
+    ensures { IfOk result (λ reach. AnswersReach writes offsets.now order.now tasks.now limit set.now task number (Some reach)) }
 {
     let mut met = 0;
     let mut missing = span.length + 1;
@@ -110,7 +115,9 @@ fn reach_past(
     while missing - met > 1 {
         let middle = met + (missing - met) / 2;
         let value = at_distance(number, span.easiest, middle);
-        match stands_with(alloc, set, order, writes, tasks, limit, task, number, value)? {
+        match stands_with(
+            alloc, set, order, writes, offsets, tasks, limit, task, number, value,
+        )? {
             Standing::Meets => met = middle,
             Standing::Misses => {
                 missing = middle;
@@ -132,6 +139,7 @@ pub fn reach_in_order(
     set: &Tabled<'_>,
     order: &[usize],
     writes: Writes,
+    offsets: &[u64],
     tasks: &[usize],
     limit: u64,
     task: usize,
@@ -141,7 +149,7 @@ pub fn reach_in_order(
     requires task { task < length set.now }
     requires has { HasNumber (task_at set.now task) number }
     requires grows { Grows number }
-    ensures { IfOk result (AnswersReach writes order.now tasks.now limit set.now task number) }
+    ensures { IfOk result (AnswersReach writes offsets.now order.now tasks.now limit set.now task number) }
 {
     let span = span_in(set, task, number);
     match stands_with(
@@ -149,6 +157,7 @@ pub fn reach_in_order(
         set,
         order,
         writes,
+        offsets,
         tasks,
         limit,
         task,
@@ -158,7 +167,9 @@ pub fn reach_in_order(
         Standing::Fails => Ok(None),
         Standing::Misses => Ok(None),
         Standing::Meets => {
-            let reach = reach_past(alloc, set, order, writes, tasks, limit, task, number, span)?;
+            let reach = reach_past(
+                alloc, set, order, writes, offsets, tasks, limit, task, number, span,
+            )?;
             Ok(Some(reach))
         }
     }

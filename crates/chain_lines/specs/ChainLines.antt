@@ -1,5 +1,5 @@
 -- The lines of chains in an order whose levels have responses.
-use Rattle.std.specs.Prelude.{◌≡◌, ℕ, ◌==◌, nat_le, Bool, true, false, is_some, List, [], ◌∷◌, ◌++◌, codes, drop, sum_by, Option, Some, None, if◌then◌else◌}
+use Rattle.std.specs.Prelude.{◌≡◌, ◌≤◌, ℕ, ◌==◌, nat_le, Bool, true, false, is_some, List, [], ◌∷◌, ◌++◌, codes, drop, sum_by, Option, Some, None, if◌then◌else◌}
 use Rattle.std.specs.Fmt.{decimal}
 use Rattle.std.specs.List.{list_all}
 use Rattle.task_sheet.specs.Sheet.{Task}
@@ -7,7 +7,7 @@ use Rattle.lines.specs.Known.{some_words}
 use Rattle.lines.specs.Naming.{name_at}
 use Rattle.ceiling_kernel.specs.Tick.{node_in}
 use Rattle.chains.specs.Bounds.{bound_of}
-use Rattle.chains.specs.Parts.{after_of, bound_in, order_of, parts_of, time_in, wait_of}
+use Rattle.chains.specs.Parts.{bound_in, order_of, parts_of, time_in}
 use Rattle.chains.specs.declared.bounds.Level.{Level}
 use Rattle.chains.specs.declared.bounds.BoundPart.{BoundPart}
 use Rattle.chains.specs.declared.bounds.PartKind.{PartKind}
@@ -35,12 +35,6 @@ part_line U p =
 abbrev pub part_lines : List Task → List BoundPart → List ℕ
 part_lines U [] = []
 part_lines U (p ∷ parts) = part_line U p ++ part_lines U parts
-
--- those of both parts of a task that stands in front of these others
-abbrev pub both_lines : Writes → List Task → List Level → ℕ → (others : List ℕ) → List ℕ
-both_lines writes U levels task others =
-    part_line U (wait_of U task)
-    ++ part_line U (after_of writes (node_in U (order_of levels)) (time_in levels) task others)
 
 -- ---- a chain
 -- a bound is within a limit, where there is one: no bound is within none
@@ -73,17 +67,21 @@ abbrev pub is_told : Telling → (bound : Option ℕ) → Bool
 is_told Bound bound = false
 is_told Parts bound = is_some bound
 
-abbrev pub parts_said : Bool → Writes → List Task → List Level → (tasks : List ℕ) → List ℕ
-parts_said false writes U levels tasks = []
-parts_said true writes U levels tasks =
-    part_lines U (parts_of writes (node_in U (order_of levels)) (time_in levels) tasks)
+abbrev pub parts_said : Bool → List Task → List Level → ChainData → List ℕ
+parts_said false U levels chain = []
+parts_said true U levels chain =
+    part_lines U
+    (parts_of chain.writes chain.offsets (node_in U (order_of levels)) (time_in levels) chain.tasks)
 
--- the lines of a chain in an order whose levels have these responses: its bound, and where that is told, the parts
+-- its bound in an order whose levels have these responses
+abbrev pub chain_bound : List Task → List Level → ChainData → Option ℕ
+chain_bound U levels chain = bound_in chain.writes chain.offsets U levels chain.tasks
+
+-- the lines of a chain there: its bound, and where that is told, the parts
 abbrev pub chain_said : Telling → List Task → List Level → (least : Option ℕ) → ChainData → List ℕ
 chain_said telling U levels least chain =
-    chain_line chain (bound_in chain.writes U levels chain.tasks) least
-    ++ parts_said (is_told telling (bound_in chain.writes U levels chain.tasks)) chain.writes U levels
-    chain.tasks
+    chain_line chain (chain_bound U levels chain) least
+    ++ parts_said (is_told telling (chain_bound U levels chain)) U levels chain
 
 -- ---- all chains
 -- what a list of least bounds tells of the first chain; past its end nothing
@@ -102,13 +100,22 @@ chains_said telling U levels leasts (chain ∷ chains) =
 -- the bound of each chain is within its limit, where it has one
 abbrev pub all_met : List Task → List Level → List ChainData → Bool
 all_met U levels chains =
-    list_all (λ (chain : ChainData). is_met (bound_in chain.writes U levels chain.tasks) chain.limit)
-    chains
+    list_all (λ (chain : ChainData). is_met (chain_bound U levels chain) chain.limit) chains
 
--- a bound that is printed is what the parts come to, and the bound of the laws of chains, by the responses of the levels
+-- a bound that is printed is what the parts come to
 abbrev pub PartsAreTheBound : Type 0
 PartsAreTheBound =
-    (writes : Writes) (U : List Task) (levels : List Level) (first : ℕ) (others : List ℕ) (bound : ℕ)
-    → bound_in writes U levels (first ∷ others) ≡ Some bound
-    → (sum_by (λ p. p.time) (parts_of writes (node_in U (order_of levels)) (time_in levels) (first ∷ others)) ≡ bound)
-    × (bound ≡ bound_of writes (node_in U (order_of levels)) (time_in levels) first others)
+    (writes : Writes) (offsets : List ℕ) (U : List Task) (levels : List Level) (tasks : List ℕ) (bound : ℕ)
+    → bound_in writes offsets U levels tasks ≡ Some bound
+    → sum_by (λ p. p.time)
+    (parts_of writes offsets (node_in U (order_of levels)) (time_in levels) tasks)
+    ≡ bound
+
+-- It is that of the laws of chains, by the responses of the levels, where no offset is known; on one clock it is no longer.
+abbrev pub BoundIsTheLaws : Type 0
+BoundIsTheLaws =
+    (writes : Writes) (offsets : List ℕ) (U : List Task) (levels : List Level) (first : ℕ) (others : List ℕ)
+    (bound : ℕ)
+    → bound_in writes offsets U levels (first ∷ others) ≡ Some bound
+    → (offsets ≡ [] → bound ≡ bound_of writes (node_in U (order_of levels)) (time_in levels) first others)
+    × (bound ≤ bound_of writes (node_in U (order_of levels)) (time_in levels) first others)

@@ -1,9 +1,8 @@
 //! The least bounds of a set's chains.
 ghost use Rattle.std.specs.Prelude.{IfOk};
 ghost use Rattle.task_sheet.specs.Orders.{IsFeasible};
-ghost use Rattle.chain_lines.specs.ChainLines.{is_met};
+ghost use Rattle.chain_lines.specs.ChainLines.{chain_bound, is_met};
 ghost use Rattle.chain_lines.specs.Leasts.{AreLeast, IsLeastTold};
-ghost use Rattle.chains.specs.Parts.{bound_in};
 
 use crate::text::meets;
 use ceilings::Tabled;
@@ -13,15 +12,20 @@ use least_chains::least_bound;
 use std::alloc::{AllocError, Global};
 
 // The least bound of a chain whose bound isn't within its limit.
-fn least_told(set: &Tabled<'_>, levels: &[Level], chain: &Chain) -> Option<u128>
+fn least_told(
+    alloc: Global,
+    set: &Tabled<'_>,
+    levels: &[Level],
+    chain: &Chain,
+) -> Result<Option<u128>, AllocError>
     requires { IsFeasible set.now }
-    ensures { IsLeastTold (is_met (bound_in chain.now.writes set.now levels.now chain.now.tasks) chain.now.limit)
-        chain.now.writes set.now chain.now.tasks result }
+    ensures { IfOk result
+        (IsLeastTold (is_met (chain_bound set.now levels.now chain.now) chain.now.limit) set.now chain.now) }
 {
-    if meets(set.tasks(), levels, chain) {
-        None
+    if meets(alloc, set.tasks(), levels, chain)? {
+        Ok(None)
     } else {
-        Some(least_bound(set, chain.writes, &chain.tasks))
+        least_bound(alloc, set, chain.writes, &chain.offsets, &chain.tasks)
     }
 }
 
@@ -38,7 +42,8 @@ pub fn least_bounds(
 {
     let mut leasts = Vec::with_capacity(alloc, chains.len())?;
     for chain in chains {
-        leasts.push(least_told(set, levels, chain))?;
+        let least = least_told(alloc, set, levels, chain)?;
+        leasts.push(least)?;
     }
     Ok(leasts)
 }

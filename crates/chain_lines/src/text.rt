@@ -1,12 +1,10 @@
 //! What is printed of chains.
 ghost use Rattle.std.specs.Prelude.{◌≡◌, ◌++◌, IfOk, OnOk, drop, string_bytes};
 ghost use Rattle.lines.specs.Naming.{name_at};
-ghost use Rattle.ceiling_kernel.specs.Tick.{node_in};
-ghost use Rattle.chains.specs.Parts.{bound_in, order_of, parts_of, time_in};
-ghost use Rattle.chain_lines.specs.ChainLines.{all_met, both_lines, chain_line, chain_said, chains_said, first_least, is_met, is_told, kind_words, least_words, limit_words, met_word, part_line, part_lines, parts_said};
+ghost use Rattle.chain_lines.specs.ChainLines.{all_met, chain_bound, chain_line, chain_said, chains_said, first_least, is_met, is_told, kind_words, least_words, limit_words, met_word, part_line, part_lines};
 
 use chain_tables::Chain;
-use chains::{BoundPart, Level, PartKind, Writes, after_of, bound_of, wait_of};
+use chains::{BoundPart, Level, PartKind, bound_of, parts_of};
 use lines::{push_name, push_some_wide};
 use std::alloc::{AllocError, Global};
 use task_sheet::TaskSet;
@@ -56,38 +54,12 @@ fn push_part(text: &mut String, set: &TaskSet, part: BoundPart) -> Result<(), Al
     writeln!(text, " {time}")
 }
 
-// The lines of both parts of a task that stands in front of these others.
-fn push_both(
-    text: &mut String,
-    set: &TaskSet,
-    levels: &[Level],
-    writes: Writes,
-    task: usize,
-    others: &[usize],
-) -> Result<(), AllocError>
-    ensures { OnOk result (string_bytes text.new ≡ string_bytes text.old
-        ++ both_lines writes set.now levels.now task others.now) }
+// The lines of parts.
+fn push_parts(text: &mut String, set: &TaskSet, parts: &[BoundPart]) -> Result<(), AllocError>
+    ensures { OnOk result (string_bytes text.new ≡ string_bytes text.old ++ part_lines set.now parts.now) }
 {
-    push_part(text, set, wait_of(set, task))?;
-    push_part(text, set, after_of(set, levels, writes, task, others))
-}
-
-// The lines of the parts of a chain of tasks.
-fn push_parts(
-    text: &mut String,
-    set: &TaskSet,
-    levels: &[Level],
-    writes: Writes,
-    tasks: &[usize],
-) -> Result<(), AllocError>
-    ensures { OnOk result (string_bytes text.new ≡ string_bytes text.old
-        ++ part_lines set.now
-        (parts_of writes (node_in set.now (order_of levels.now)) (time_in levels.now) tasks.now)) }
-{
-    let mut rest = tasks;
-    while let Some((task, others)) = rest.split_first() {
-        push_both(text, set, levels, writes, *task, others)?;
-        rest = others;
+    for part in parts {
+        push_part(text, set, *part)?;
     }
     Ok(())
 }
@@ -160,9 +132,29 @@ fn is_told(telling: Telling, bound: Option<u128>) -> bool
     }
 }
 
+// The bound of a chain.
+fn chain_bound(
+    alloc: Global,
+    set: &TaskSet,
+    levels: &[Level],
+    chain: &Chain,
+) -> Result<Option<u128>, AllocError>
+    ensures { IfOk result (λ bound. bound ≡ chain_bound set.now levels.now chain.now) }
+{
+    bound_of(
+        alloc,
+        set,
+        levels,
+        chain.writes,
+        &chain.offsets,
+        &chain.tasks,
+    )
+}
+
 // The lines of a chain.
 fn push_chain(
     text: &mut String,
+    alloc: Global,
     telling: Telling,
     set: &TaskSet,
     levels: &[Level],
@@ -172,10 +164,12 @@ fn push_chain(
     ensures { OnOk result (string_bytes text.new ≡ string_bytes text.old
         ++ chain_said telling set.now levels.now least chain.now) }
 {
-    let bound = bound_of(set, levels, chain.writes, &chain.tasks);
+    let bound = chain_bound(alloc, set, levels, chain)?;
     push_line(text, chain, bound, least)?;
     if is_told(telling, bound) {
-        push_parts(text, set, levels, chain.writes, &chain.tasks)
+        let (offsets, tasks) = (chain.offsets.as_slice(), chain.tasks.as_slice());
+        let parts = parts_of(alloc, set, levels, chain.writes, offsets, tasks)?;
+        push_parts(text, set, &parts)
     } else {
         Ok(())
     }
@@ -218,25 +212,39 @@ pub fn chains_text(
     let mut text = String::new(alloc);
     let mut rest = leasts;
     for chain in chains {
-        push_chain(&mut text, telling, set, levels, first_least(rest), chain)?;
+        let least = first_least(rest);
+        push_chain(&mut text, alloc, telling, set, levels, least, chain)?;
         rest = other_leasts(rest);
     }
     Ok(text)
 }
 
-/// Whether a chain's bound is within its limit.
-pub(crate) fn meets(set: &TaskSet, levels: &[Level], chain: &Chain) -> bool
-    ensures { result ≡ is_met (bound_in chain.now.writes set.now levels.now chain.now.tasks) chain.now.limit }
+/// Whether a chain's bound is within its limit. The error is out of memory.
+pub(crate) fn meets(
+    alloc: Global,
+    set: &TaskSet,
+    levels: &[Level],
+    chain: &Chain,
+) -> Result<bool, AllocError>
+    ensures { IfOk result (λ met. met ≡ is_met (chain_bound set.now levels.now chain.now) chain.now.limit) }
 {
-    is_met(
-        bound_of(set, levels, chain.writes, &chain.tasks),
-        chain.limit,
-    )
+    let bound = chain_bound(alloc, set, levels, chain)?;
+    Ok(is_met(bound, chain.limit))
 }
 
-/// Whether the bound of each chain is within its limit, where it has one.
-pub fn all_met(set: &TaskSet, levels: &[Level], chains: &[Chain]) -> bool
-    ensures { result ≡ all_met set.now levels.now chains.now }
+/// Whether the bound of each chain is within its limit, where it has one. The error is out of memory.
+pub fn all_met(
+    alloc: Global,
+    set: &TaskSet,
+    levels: &[Level],
+    chains: &[Chain],
+) -> Result<bool, AllocError>
+    ensures { IfOk result (λ met. met ≡ all_met set.now levels.now chains.now) }
 {
-    chains.iter().all(|chain| meets(set, levels, chain))
+    for chain in chains {
+        if !meets(alloc, set, levels, chain)? {
+            return Ok(false);
+        }
+    }
+    Ok(true)
 }

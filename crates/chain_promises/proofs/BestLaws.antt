@@ -1,5 +1,5 @@
 -- The best order's responses are the analysis's.
-use Rattle.std.proofs.Common.{◌≡◌, ℕ, ◌<◌, Bool, true, false, List, [], ◌∷◌, length, Some, None, unwrap_or}
+use Rattle.std.proofs.Common.{◌≡◌, ℕ, ◌<◌, Bool, true, false, List, [], ◌∷◌, length, map, is_some, Some, None, unwrap_or}
 use Rattle.std.proofs.Common.{refl, sym, ◌∙◌, ap, subst, arith, inl, inr, cond, true≢false}
 use Rattle.std.specs.List.{AllByRecursion, list_all}
 use Rattle.std.proofs.Math.Path.{fun_ext}
@@ -16,11 +16,12 @@ use Rattle.ceiling_kernel.specs.Bounds.{after_of}
 use Rattle.ceiling_kernel.proofs.Common.{Node, node_in, above_of, IsNode}
 use Rattle.ceiling_kernel.proofs.NodeLaws.{after_is_above, stands_above}
 use Rattle.chains.specs.Handovers.{RespondsBy}
-use Rattle.chains.specs.Bounds.{bound_of}
-use Rattle.chains.specs.Parts.{bound_in, has_response, order_of, response_in, time_in}
+use Rattle.chains.specs.Walks.{bound_by, starts_of, steps_with}
+use Rattle.chains.specs.declared.bounds.BoundPart.{BoundPart}
+use Rattle.chains.proofs.LongestLaws.{bound_some, delays_keep_starts}
+use Rattle.chains.specs.Parts.{afters_of, bound_in, has_response, order_of, response_in, steps_of, time_in}
 use Rattle.chains.specs.declared.bounds.Level.{Level}
 use Rattle.chains.specs.declared.bounds.Writes.{Writes}
-use Rattle.chains.proofs.PartLaws.{come_to_law}
 use Rattle.least_chains.specs.LeastBound.{ArePassing, levels_at}
 use Rattle.least_chains.proofs.PartLaws.{none-at, own-response}
 use Rattle.least_chains.proofs.BoundLaws.{best-passing}
@@ -91,17 +92,19 @@ have-all U places each (i ∷ tasks) known =
     ∙ lt-ltb i (length U) known.0 in
     rw (has-one places i named) (have-all U places each tasks known.1)
 
--- so a chain of tasks of the set has a bound
-pub best-number : (writes : Writes) (U : List Task) (places : List PlaceData) (first : ℕ) (others : List ℕ)
-    → IsBestPlacing U places → AllByRecursion (λ i. i < length U) (first ∷ others)
-    → bound_in writes U (levels_at places) (first ∷ others)
-    ≡ Some (bound_of writes (node_in U (order_of (levels_at places))) (time_in (levels_at places)) first others)
-best-number writes U places first others best known =
-    by (list_all (has_response (levels_at places)) (first ∷ others)) _
-    (have-all U places (best-passing U places best).order.each_once (first ∷ others) known)
-    (come_to_law writes (node_in U (order_of (levels_at places))) (time_in (levels_at places)) first others)
-  where
-    by : {number : ℕ} (b : Bool) (sum : ℕ) → b ≡ true → sum ≡ number
-        → cond b (Some sum) None ≡ Some number
-    by true sum is same = ap Some same
-    by false sum is same = absurd (true≢false (sym is))
+-- so a chain of tasks of the set has a bound, where walks along it begin
+pub best-number : (writes : Writes) (offsets : List ℕ) (U : List Task) (places : List PlaceData)
+    (tasks : List ℕ) → IsBestPlacing U places → AllByRecursion (λ i. i < length U) tasks
+    → bound_in writes offsets U (levels_at places) tasks
+    ≡ bound_by (steps_of writes offsets (node_in U (order_of (levels_at places))) (time_in (levels_at places)) tasks)
+best-number writes offsets U places tasks best known =
+    rw (have-all U places (best-passing U places best).order.each_once tasks known) refl
+
+pub best-begins : (writes : Writes) (offsets : List ℕ) (node : Node) (response : ℕ → ℕ) (tasks : List ℕ)
+    → is_some (starts_of (steps_with node.tasks offsets [] tasks)) ≡ true
+    → is_some (bound_by (steps_of writes offsets node response tasks)) ≡ true
+best-begins writes offsets node response tasks begins =
+    let steps = steps_of writes offsets node response tasks in
+    let same = delays_keep_starts node.tasks offsets
+    (map (λ (p : BoundPart). p.time) (afters_of writes node response tasks)) [] tasks in
+    ap is_some (bound_some steps (ap is_some same ∙ begins)).1

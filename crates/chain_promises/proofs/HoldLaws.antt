@@ -9,15 +9,13 @@ use Rattle.ceiling_kernel.specs.Releases.{jobs_of}
 use Rattle.ceiling_kernel.proofs.Common.{Job, Node, node_in}
 use Rattle.chains.specs.Bounds.{AllAct, bound_of}
 use Rattle.chains.specs.Handovers.{RespondsBy}
-use Rattle.chains.specs.Parts.{bound_in, has_response, order_of, response_in, time_in}
+use Rattle.chains.specs.Walks.{bound_by}
+use Rattle.chains.specs.Parts.{bound_in, has_response, order_of, response_in, steps_of, time_in}
 use Rattle.chains.specs.declared.bounds.Level.{Level}
 use Rattle.chains.specs.declared.bounds.Writes.{Writes}
 use Rattle.chains.proofs.AgeLaws.{ages_law}
 use Rattle.chains.proofs.ReactionLaws.{reactions_law}
-use Rattle.chains.proofs.PartLaws.{come_to_law}
-use Rattle.chain_runs.specs.Outcomes.{ages_of, reactions_of}
-use Rattle.chain_runs.specs.ChainOutputs.{outputs_of}
-use Rattle.chain_runs.specs.Runs.{AtMost}
+use Rattle.chains.proofs.OffsetLaws.{offsets_law, steady_bound_law}
 use Rattle.chain_runs.proofs.AgeLaws.{within_law}
 use Rattle.cert_checker.specs.Bounded.{AllWork}
 use Rattle.chain_promises.specs.Promised.{AreResponses, HoldsInRuns, HoldsWhereSimulated}
@@ -27,25 +25,36 @@ module _ (U : List Task) (levels : List Level) where
   node = node_in U (order_of levels)
 
   -- a chain with a bound has responses, and the bound is that of the laws
-  record HasBound (writes : Writes) (first : ℕ) (others : List ℕ) (bound : ℕ) : Type 0 where
-    all : list_all (has_response levels) (first ∷ others) ≡ true
-    number : bound ≡ bound_of writes node (time_in levels) first others
-
-  has-bound : (writes : Writes) (first : ℕ) (others : List ℕ) (bound : ℕ)
-      → bound_in writes U levels (first ∷ others) ≡ Some bound → HasBound writes first others bound
-  has-bound writes first others bound is = by (list_all (has_response levels) (first ∷ others)) _ refl
-      (come_to_law writes node (time_in levels) first others) is
+  record HasBound (writes : Writes) (offsets : List ℕ) (first : ℕ) (others : List ℕ) (bound : ℕ) : Type 0
     where
-      by : (b : Bool) (sum : ℕ) → list_all (has_response levels) (first ∷ others) ≡ b
-          → sum ≡ bound_of writes node (time_in levels) first others
-          → cond b (Some sum) None ≡ Some bound → HasBound writes first others bound
-      by true sum all to same = record { all = all; number = sym (same_Some sum bound same) ∙ to }
-      by false sum all to same = absurd (none-some bound same)
+      all : list_all (has_response levels) (first ∷ others) ≡ true
+      number : bound_by (steps_of writes offsets node (time_in levels) (first ∷ others)) ≡ Some bound
+
+  has-bound : (writes : Writes) (offsets : List ℕ) (first : ℕ) (others : List ℕ) (bound : ℕ)
+      → bound_in writes offsets U levels (first ∷ others) ≡ Some bound
+      → HasBound writes offsets first others bound
+  has-bound writes offsets first others bound is =
+      by (list_all (has_response levels) (first ∷ others)) _ refl refl is
+    where
+      by : (b : Bool) (o : Option ℕ) → list_all (has_response levels) (first ∷ others) ≡ b
+          → bound_by (steps_of writes offsets node (time_in levels) (first ∷ others)) ≡ o
+          → cond b o None ≡ Some bound → HasBound writes offsets first others bound
+      by true o all to same = record { all = all; number = to ∙ same }
+      by false o all to same = absurd (none-some bound same)
 
   pub number : (writes : Writes) (first : ℕ) (others : List ℕ) (bound : ℕ)
-      → bound_in writes U levels (first ∷ others) ≡ Some bound
+      → bound_in writes [] U levels (first ∷ others) ≡ Some bound
       → bound ≡ bound_of writes node (time_in levels) first others
-  number writes first others bound is = (has-bound writes first others bound is).number
+  number writes first others bound is =
+      let steady = steady_bound_law writes node (time_in levels) first others in
+      same_Some _ _ (sym (has-bound writes [] first others bound is).number ∙ steady)
+
+  pub no_longer : (writes : Writes) (offsets : List ℕ) (first : ℕ) (others : List ℕ) (bound : ℕ)
+      → bound_in writes offsets U levels (first ∷ others) ≡ Some bound
+      → bound ≤ bound_of writes node (time_in levels) first others
+  no_longer writes offsets first others bound is =
+      offsets_law writes offsets node (time_in levels) first others bound
+      (has-bound writes offsets first others bound is).number
 
   module _ (are : AreResponses U levels) where
     -- the response that a level gives is one with which its task passes
@@ -73,45 +82,22 @@ module _ (U : List Task) (levels : List Level) where
       all-act jobs c others (and_parts _ _ has).1 work.2,
     )
 
-    pub in_runs : (writes : Writes) (first : ℕ) (others : List ℕ) (bound : ℕ)
-        → bound_in writes U levels (first ∷ others) ≡ Some bound
-        → HoldsInRuns writes node first others bound
-    in_runs writes first others bound is jobs until legal work steady all_steady =
-        let has = has-bound writes first others bound is in
+    pub in_runs : (writes : Writes) (offsets : List ℕ) (first : ℕ) (others : List ℕ) (bound : ℕ)
+        → bound_in writes offsets U levels (first ∷ others) ≡ Some bound
+        → HoldsInRuns writes offsets node first others bound
+    in_runs writes offsets first others bound is jobs until shift legal work steady all_steady clock =
+        let has = has-bound writes offsets first others bound is in
         let act = all-act jobs first others has.all work in (
-          λ t k s in_time newest sampled.
-              let old = ages_law writes node jobs are.order legal until (time_in levels) first others
-              act steady all_steady t k s in_time newest sampled in
-              omega (arith, old, has.number),
-          λ z begun all_begun in_time.
-              let reacts = reactions_law writes node jobs are.order legal until (time_in levels) first
-              others act steady all_steady z begun all_begun (omega (arith, has.number, in_time)) in
-              record {
-                output = reacts.output;
-                own = reacts.own;
-                finish = reacts.finish;
-                finished = reacts.finished;
-                in_time = omega (arith, reacts.in_time, has.number);
-                sample = reacts.sample;
-                sampled = reacts.sampled;
-                later = reacts.later;
-              },
+          ages_law writes node jobs are.order legal until shift (time_in levels) offsets first others bound
+              act steady all_steady clock has.number,
+          reactions_law writes node jobs are.order legal until shift (time_in levels) offsets first others
+              bound act steady all_steady clock has.number,
         )
 
-    at-most : (o : Option ℕ) (less more : ℕ) → less ≤ more → AtMost less o → AtMost more o
-    at-most None less more le is = tt
-    at-most (Some found) less more le is = omega (arith, le, is)
-
-    pub simulated : (writes : Writes) (first : ℕ) (others : List ℕ) (bound : ℕ)
-        → bound_in writes U levels (first ∷ others) ≡ Some bound
-        → HoldsWhereSimulated writes node first others bound
-    simulated writes first others bound is rs until trace ran work steady all_steady =
-        let has = has-bound writes first others bound is in
-        let outputs = outputs_of writes U until trace (first ∷ others) in
-        let least : bound_of writes node (time_in levels) first others ≤ bound =
-        omega (arith, has.number) in
-        let within = within_law writes node rs until trace (time_in levels) first others are.order ran
-        (all-act (jobs_of U rs) first others has.all work) steady all_steady in (
-          at-most (ages_of until outputs) _ bound least within.0,
-          at-most (reactions_of outputs) _ bound least within.1,
-        )
+    pub simulated : (writes : Writes) (offsets : List ℕ) (first : ℕ) (others : List ℕ) (bound : ℕ)
+        → bound_in writes offsets U levels (first ∷ others) ≡ Some bound
+        → HoldsWhereSimulated writes offsets node first others bound
+    simulated writes offsets first others bound is rs until shift trace ran work steady all_steady clock =
+        let has = has-bound writes offsets first others bound is in
+        within_law writes offsets node rs until shift trace (time_in levels) first others bound are.order
+        ran (all-act (jobs_of U rs) first others has.all work) steady all_steady clock has.number

@@ -7,6 +7,7 @@ use Rattle.ceiling_kernel.specs.Runs.{Runs}
 use Rattle.ceiling_kernel.specs.Waits.{IsNode, AreLegalJobs}
 use Rattle.ceiling_kernel.specs.declared.trace.Release.{Release}
 use Rattle.ceiling_kernel.specs.declared.trace.Trace.{Trace}
+use Rattle.chains.specs.Clocks.{KeepClock}
 use Rattle.chains.specs.Gaps.{AreSteady, OthersSteady}
 use Rattle.chains.specs.Handovers.{RespondsBy}
 use Rattle.chains.specs.Parts.{order_of, response_in}
@@ -24,21 +25,25 @@ pub record AreResponses (U : List Task) (levels : List Level) : Type 0 where
   pub each : (i r : ℕ) → response_in levels i ≡ Some r → RespondsBy (node_in U (order_of levels)) i r
 
 -- ---- the promise
--- In each run in which the chain's tasks act and are steady the number bounds each age and each reaction, whatever the jobs do
--- within their tasks' sheets.
-abbrev pub HoldsInRuns : Writes → Node → (first : ℕ) → (others : List ℕ) → (bound : ℕ) → Type 0
-HoldsInRuns writes node first others bound =
-    (jobs : List Job) (until : ℕ) → AreLegalJobs node jobs → AllWork node.tasks jobs first others
+-- In each run in which the chain's tasks act, are steady and arrive at their offsets, where these are known, the number bounds
+-- each age and each reaction, whatever the jobs do within their tasks' sheets.
+abbrev pub HoldsInRuns : Writes → (offsets : List ℕ) → Node → (first : ℕ) → (others : List ℕ) → (bound : ℕ)
+    → Type 0
+HoldsInRuns writes offsets node first others bound =
+    (jobs : List Job) (until shift : ℕ) → AreLegalJobs node jobs → AllWork node.tasks jobs first others
     → AreSteady node jobs until first → OthersSteady node jobs until first others
+    → KeepClock node jobs shift offsets (first ∷ others)
     → IsAgeBound writes node jobs until first others bound
     × IsReactionBound writes node jobs until first others bound
 
 -- in a simulated one both that are found are within it
-abbrev pub HoldsWhereSimulated : Writes → Node → (first : ℕ) → (others : List ℕ) → (bound : ℕ) → Type 0
-HoldsWhereSimulated writes node first others bound =
-    (rs : List Release) (until : ℕ) (trace : Trace) → Runs node rs until (Ok trace)
+abbrev pub HoldsWhereSimulated : Writes → (offsets : List ℕ) → Node → (first : ℕ) → (others : List ℕ)
+    → (bound : ℕ) → Type 0
+HoldsWhereSimulated writes offsets node first others bound =
+    (rs : List Release) (until shift : ℕ) (trace : Trace) → Runs node rs until (Ok trace)
     → AllWork node.tasks (jobs_of node.tasks rs) first others
     → AreSteady node (jobs_of node.tasks rs) until first
     → OthersSteady node (jobs_of node.tasks rs) until first others
+    → KeepClock node (jobs_of node.tasks rs) shift offsets (first ∷ others)
     → AtMost bound (ages_of until (outputs_of writes node.tasks until trace (first ∷ others)))
     × AtMost bound (reactions_of (outputs_of writes node.tasks until trace (first ∷ others)))

@@ -7,7 +7,6 @@ use Rattle.ceiling_kernel.proofs.Common.{IsNode, Node, Job, job_at, jobs_of}
 use Rattle.ceiling_kernel.proofs.EndLaws.{legal_from}
 use Rattle.chains.specs.Starts.{IsReadAt, IsWrittenAt}
 use Rattle.chains.specs.Paths.{IsNewest, IsSampleOf, LeadsTo, Reads, last_task}
-use Rattle.chains.specs.Bounds.{bound_of}
 use Rattle.chains.specs.declared.bounds.Writes.{Writes}
 use Rattle.chains.specs.declared.bounds.Writes.TheVariants.{AtFinish, AtDeadline}
 use Rattle.chains.proofs.AgeLaws.{ages_law}
@@ -214,12 +213,11 @@ in_time_of AtFinish node valid = tt
 in_time_of AtDeadline node valid = valid
 
 pub within_law : RunsAreWithin
-within_law writes node rs until trace response first others valid ran acts steady others_steady =
+within_law writes offsets node rs until shift trace response first others bound valid ran acts steady others_steady keep is =
     let jobs = jobs_of node.tasks rs in
     let in_time = in_time_of writes node valid in
-    all_within writes node jobs (in_turn writes node rs until trace in_time ran) first others until
-    (bound_of writes node response first others)
-    (λ t k s le is of. ages_law writes node jobs valid (legal_from node rs until valid ran.0) until
-    response first others acts steady others_steady t k s le is of) 0
+    all_within writes node jobs (in_turn writes node rs until trace in_time ran) first others until bound
+    (λ t k s le newest of. ages_law writes node jobs valid (legal_from node rs until valid ran.0) until shift
+    response offsets first others bound acts steady others_steady keep is t k s le newest of) 0
     (outputs_of writes node.tasks until trace (first ∷ others))
     (outputs_law writes node rs until trace first others in_time ran)

@@ -8,3 +8,4 @@ pub mod AgeLaws
 pub mod TurnLaws
 pub mod ReactionLaws
 pub mod GreaterLaws
+pub mod StrayLaws

@@ -4,4 +4,5 @@ pub mod DeadlineOutputs
 pub mod ChainOutputs
 pub mod Outcomes
 pub mod Runs
+pub mod Strays
 pub mod RunChainLines

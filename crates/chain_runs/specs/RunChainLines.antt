@@ -9,6 +9,7 @@ use Rattle.chains.specs.declared.bounds.Level.{Level}
 use Rattle.chain_tables.specs.Chains.{ChainData}
 use Rattle.chain_runs.specs.ChainOutputs.{outputs_of}
 use Rattle.chain_runs.specs.Outcomes.{outcome_of}
+use Rattle.chain_runs.specs.Strays.{stray_lines}
 use Rattle.chain_runs.specs.declared.outcome.ChainOutcome.{ChainOutcome}
 
 -- how many outputs have a sample, the greatest age and the greatest reaction
@@ -22,14 +23,16 @@ abbrev pub run_line : ChainData → ChainOutcome → (bound : Option ℕ) → Li
 run_line chain o bound =
     codes "chain " ++ chain.name ++ outcome_words o ++ codes " bound " ++ some_words bound ++ codes "\n"
 
--- that of one in a run that ends at a time, in an order whose levels have these responses
-abbrev pub run_chain_line : List Task → List Level → (until : ℕ) → Trace → ChainData → List ℕ
-run_chain_line U levels until trace chain =
+-- those of one in a run that ends at a time, in an order whose levels have these responses: its own, and of the tasks that aren't
+-- on its clock
+abbrev pub run_chain_lines : List Task → List Level → (until : ℕ) → Trace → ChainData → List ℕ
+run_chain_lines U levels until trace chain =
     run_line chain (outcome_of until (outputs_of chain.writes U until trace chain.tasks))
-    (bound_in chain.writes U levels chain.tasks)
+    (bound_in chain.writes chain.offsets U levels chain.tasks)
+    ++ stray_lines U trace chain.offsets chain.tasks
 
 -- those of all
 abbrev pub run_chains_said : List Task → List Level → (until : ℕ) → Trace → List ChainData → List ℕ
 run_chains_said U levels until trace [] = []
 run_chains_said U levels until trace (chain ∷ chains) =
-    run_chain_line U levels until trace chain ++ run_chains_said U levels until trace chains
+    run_chain_lines U levels until trace chain ++ run_chains_said U levels until trace chains

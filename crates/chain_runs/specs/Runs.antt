@@ -10,7 +10,10 @@ use Rattle.chains.specs.Starts.{IsWrittenAt}
 use Rattle.chains.specs.Paths.{IsNewest, IsSampleOf, last_task}
 use Rattle.chains.specs.Gaps.{AreSteady, OthersSteady}
 use Rattle.chains.specs.Reactions.{ReactsBy}
-use Rattle.chains.specs.Bounds.{AllAct, bound_of}
+use Rattle.chains.specs.Clocks.{KeepClock}
+use Rattle.chains.specs.Bounds.{AllAct}
+use Rattle.chains.specs.Walks.{bound_by}
+use Rattle.chains.specs.Parts.{steps_of}
 use Rattle.chains.specs.declared.bounds.Writes.{Writes}
 use Rattle.chains.specs.declared.bounds.Writes.TheVariants.{AtFinish, AtDeadline}
 use Rattle.chain_runs.specs.Outcomes.{ages_of, reactions_of}
@@ -142,16 +145,17 @@ ReactionsAreReached =
     → reactions_of (outputs_of writes node.tasks until trace (first ∷ others)) ≡ Some reaction
     → IsReaction writes node (jobs_of node.tasks rs) first others until reaction
 
--- in a run of which the laws of chains speak the greatest age and the greatest reaction are within the chain's bound
+-- in a run of which the laws of chains speak the greatest age and the greatest reaction are within the chain's bound; the clock
+-- began so long before the run
 abbrev pub RunsAreWithin : Type 0
 RunsAreWithin =
-    (writes : Writes) (node : Node) (rs : List Release) (until : ℕ) (trace : Trace) (response : ℕ → ℕ)
-    (first : ℕ) (others : List ℕ)
+    (writes : Writes) (offsets : List ℕ) (node : Node) (rs : List Release) (until shift : ℕ) (trace : Trace)
+    (response : ℕ → ℕ) (first : ℕ) (others : List ℕ) (bound : ℕ)
     → IsNode node → Runs node rs until (Ok trace)
     → AllAct node (jobs_of node.tasks rs) response first others
     → AreSteady node (jobs_of node.tasks rs) until first
     → OthersSteady node (jobs_of node.tasks rs) until first others
-    → AtMost (bound_of writes node response first others)
-    (ages_of until (outputs_of writes node.tasks until trace (first ∷ others)))
-    × AtMost (bound_of writes node response first others)
-    (reactions_of (outputs_of writes node.tasks until trace (first ∷ others)))
+    → KeepClock node (jobs_of node.tasks rs) shift offsets (first ∷ others)
+    → bound_by (steps_of writes offsets node response (first ∷ others)) ≡ Some bound
+    → AtMost bound (ages_of until (outputs_of writes node.tasks until trace (first ∷ others)))
+    × AtMost bound (reactions_of (outputs_of writes node.tasks until trace (first ∷ others)))

@@ -1,4 +1,5 @@
 //! The laws of a chain's outputs. Each is the contract of a function that does nothing.
+ghost use Rattle.chain_runs.specs.Strays.{StraysAreTold};
 ghost use Rattle.chain_runs.specs.Runs.{AgesAreReached, NoneIsOlder, NoneIsSlower, OutputsAreTheRuns, ReactionsAreReached, RunsAreWithin};
 
 /// The outputs that are found of a chain in a run are what the jobs of its last task write, one after the other, each
@@ -20,7 +21,13 @@ pub fn reactions_are_greatest()
     ensures reached { ReactionsAreReached }
 {}
 
-/// Where each of the chain's tasks passes and is steady, both are within the chain's bound.
+/// Where each of the chain's tasks passes, is steady, and arrives on the chain's clock, if its offset is known, both are within the
+/// chain's bound.
 pub fn runs_are_within()
     ensures { RunsAreWithin }
+{}
+
+/// Of a task whose offset is known no line is told exactly where its jobs arrive on the clock that begins with the run.
+pub fn strays_are_told()
+    ensures { StraysAreTold }
 {}

@@ -6,6 +6,7 @@ pub mod laws;
 mod outcome;
 mod outputs;
 mod slices;
+mod strays;
 mod text;
 
 pub use deadline_outputs::{Interval, Register, intervals_of, outputs_by};

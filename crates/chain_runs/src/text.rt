@@ -1,10 +1,11 @@
 //! What is printed of the chains of a run.
 ghost use Rattle.std.specs.Prelude.{◌≡◌, ◌++◌, IfOk, OnOk, string_bytes};
 ghost use Rattle.lines.specs.Known.{some_words};
-ghost use Rattle.chain_runs.specs.RunChainLines.{outcome_words, run_chain_line, run_chains_said, run_line};
+ghost use Rattle.chain_runs.specs.RunChainLines.{outcome_words, run_chain_lines, run_chains_said, run_line};
 
 use crate::outcome::{ChainOutcome, outcome_of};
 use crate::outputs::outputs_of;
+use crate::strays::push_strays;
 use ceiling_kernel::Trace;
 use chain_tables::Chain;
 use chains::{Level, bound_of};
@@ -47,7 +48,7 @@ pub fn push_run_line(
     text.push_str("\n")
 }
 
-// The line of a chain in a run that ends at `until`.
+// The lines of a chain in a run that ends at `until`.
 fn push_chain(
     text: &mut String,
     set: &TaskSet,
@@ -58,16 +59,19 @@ fn push_chain(
     alloc: Global,
 ) -> Result<(), AllocError>
     ensures { OnOk result (string_bytes text.new ≡ string_bytes text.old
-        ++ run_chain_line set.now levels.now until trace.now chain.now) }
+        ++ run_chain_lines set.now levels.now until trace.now chain.now) }
 {
     let (writes, tasks) = (chain.writes, chain.tasks.as_slice());
     let outputs = outputs_of(alloc, set, until, trace, writes, tasks)?;
     let outcome = outcome_of(until, &outputs);
-    push_run_line(text, chain, outcome, bound_of(set, levels, writes, tasks))
+    let bound = bound_of(alloc, set, levels, writes, &chain.offsets, tasks)?;
+    push_run_line(text, chain, outcome, bound)?;
+    push_strays(text, set, trace, &chain.offsets, tasks)
 }
 
 /// The lines of chains in a run that ends at `until`, in an order whose levels have these responses: of each how many outputs
-/// came from a sample, the greatest age and the greatest reaction, and the chain's bound. The error is out of memory.
+/// came from a sample, the greatest age and the greatest reaction, and the chain's bound; and behind it each task of the chain
+/// that isn't on its clock, where the run begins with that. The error is out of memory.
 pub fn run_chains_text(
     alloc: Global,
     set: &TaskSet,

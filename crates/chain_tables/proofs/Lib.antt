@@ -1,3 +1,4 @@
 pub mod TableLaws
 pub mod DocumentLaws
 pub mod TaskLaws
+pub mod NumberLaws

@@ -7,7 +7,6 @@ use Rattle.chain_tables.specs.Tables.{WrittenData, chain_at, first_repeat, holde
 use Rattle.chain_tables.specs.declared.fault.ChainCause.{ChainCause}
 use Rattle.chain_tables.specs.declared.fault.ChainFault.{ChainFault}
 use Rattle.chain_tables.specs.declared.fault.Whose.{Whose}
-use Rattle.chain_tables.specs.declared.documents.Repeat.{Repeat}
 
 -- the tables in front of a place are read, and the rest is not
 pub record AreReadTables (whose : Whose) (all : List Members) (place : ℕ) (rest : List Members)

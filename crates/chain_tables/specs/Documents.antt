@@ -1,5 +1,5 @@
 -- The chains that the documents of a set's text say.
-use Rattle.std.specs.Prelude.{◌≡◌, ◌⊎◌, ℕ, Bool, true, false, List, [], ◌∷◌, ◌++◌, Option, None, Some, option_map, Result, Ok, Err}
+use Rattle.std.specs.Prelude.{◌≡◌, ◌⊎◌, ℕ, Bool, true, false, List, [], ◌∷◌, ◌++◌, None, Some, option_map, Result, Ok, Err}
 use Rattle.toml.specs.Data.{Members}
 use Rattle.task_sheet.specs.ReadsSet.{IsDocument}
 use Rattle.teams.specs.Gathering.{HasNoHead, HasNoNode, IsFirstPart, IsNodePart}

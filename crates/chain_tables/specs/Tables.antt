@@ -1,11 +1,11 @@
 -- What the tables of chains in a document's tree say, and the first reason for which they say none.
-use Rattle.std.specs.Prelude.{ℕ, ◌+◌, min, nat_le, ◌&&◌, ◌||◌, Bool, true, List, [], ◌∷◌, ◌++◌, codes, map, length, find, Option, Some, None, is_some, unwrap_or, option_map, if◌then◌else◌, not}
-use Rattle.std.specs.Option.{option_or}
+use Rattle.std.specs.Prelude.{ℕ, ◌+◌, ◌==◌, min, nat_le, ◌&&◌, ◌||◌, Bool, true, List, [], ◌∷◌, ◌++◌, codes, map, length, find, Option, Some, None, is_some, unwrap_or, option_map, if◌then◌else◌, not}
+use Rattle.std.specs.Option.{option_and_then, option_or, option_to_list}
 use Rattle.std.specs.List.{list_all}
-use Rattle.toml.specs.Data.{Members}
+use Rattle.toml.specs.Data.{Data, array, Items, no_items, item, Members}
 use Rattle.task_sheet.specs.Name.{is_name}
 use Rattle.task_sheet.specs.Sheet.{repeats, same_bytes}
-use Rattle.task_sheet.specs.Tree.{chain_keys, first_missing, needed_chain_keys, number_at, number_or_zero, only_keys, strings_at, tables_at, text_at, value_at}
+use Rattle.task_sheet.specs.Tree.{chain_keys, first_missing, needed_chain_keys, number_at, number_of, number_or_zero, only_keys, strings_at, tables_at, text_at, value_at}
 use Rattle.task_sheet.specs.declared.keys.Key.{Key}
 use Rattle.task_sheet.specs.declared.keys.Key.TheVariants as key
 use Rattle.chains.specs.declared.bounds.Writes.{Writes}
@@ -17,12 +17,35 @@ use Rattle.chain_tables.specs.declared.fault.ChainCause.TheVariants as cause
 use Rattle.chain_tables.specs.declared.fault.Whose.{Whose}
 use Rattle.chain_tables.specs.declared.documents.Repeat.{Repeat}
 
--- a chain as a document says it: its tasks by their names, the first one first, and when they write
+-- ---- arrays of numbers
+-- all of the items are numbers
+abbrev pub all_numbers : Items → Bool
+all_numbers no_items = true
+all_numbers (item d ds) = is_some (number_of d) && all_numbers ds
+
+-- the numbers among some items
+abbrev pub numbers_in : Items → List ℕ
+numbers_in no_items = []
+numbers_in (item d ds) = option_to_list (number_of d) ++ numbers_in ds
+
+-- an array of numbers
+abbrev pub numbers_of : Data → Option (List ℕ)
+numbers_of (array ds) = if all_numbers ds then Some (numbers_in ds) else None
+numbers_of _ = None
+
+-- the array of numbers at a key
+abbrev pub numbers_at : Key → Members → Option (List ℕ)
+numbers_at k ms = option_and_then numbers_of (value_at k ms)
+
+-- ---- what a table says
+-- a chain as a document says it: its tasks by their names, the first one first, their offsets, [] where they aren't known, and
+-- when they write
 pub record WrittenData : Type 0 where
   pub whose : Whose
   pub name : List ℕ
   pub tasks : List (List ℕ)
   pub limit : Option ℕ
+  pub offsets : List ℕ
   pub writes : Writes
 
 -- the lesser of two limits, of which either may be absent
@@ -36,6 +59,9 @@ name_said ms = unwrap_or (text_at key.Name ms) []
 
 abbrev pub tasks_said : Members → List (List ℕ)
 tasks_said ms = unwrap_or (strings_at key.Tasks ms) []
+
+abbrev pub offsets_said : Members → List ℕ
+offsets_said ms = unwrap_or (numbers_at key.Offsets ms) []
 
 -- when tasks write that a word says; none where it is no such word
 abbrev pub writes_of : List ℕ → Option Writes
@@ -58,6 +84,7 @@ chain_at whose ms = record {
   name = name_said ms;
   tasks = tasks_said ms;
   limit = lesser (number_at key.Age ms) (number_at key.Reaction ms);
+  offsets = offsets_said ms;
   writes = unwrap_or (writes_said ms) AtFinish;
 }
 
@@ -76,6 +103,10 @@ keys_fault chain ms =
 abbrev pub is_text_or_none : Key → Members → Bool
 is_text_or_none k ms = is_some (text_at k ms) || not (is_some (value_at k ms))
 
+-- an array of numbers, or nothing
+abbrev pub are_numbers_or_none : Key → Members → Bool
+are_numbers_or_none k ms = is_some (numbers_at k ms) || not (is_some (value_at k ms))
+
 -- the kinds of the values
 abbrev pub kinds_fault : ℕ → Members → Option ChainCause
 kinds_fault chain ms =
@@ -83,21 +114,28 @@ kinds_fault chain ms =
     (option_or (unless (is_some (strings_at key.Tasks ms)) (cause.WrongKind chain key.Tasks))
     (option_or (unless (is_some (number_or_zero (value_at key.Age ms))) (cause.WrongKind chain key.Age))
     (option_or (unless (is_some (number_or_zero (value_at key.Reaction ms))) (cause.WrongKind chain key.Reaction))
-    (unless (is_text_or_none key.Writes ms) (cause.WrongKind chain key.Writes)))))
+    (option_or (unless (are_numbers_or_none key.Offsets ms) (cause.WrongKind chain key.Offsets))
+    (unless (is_text_or_none key.Writes ms) (cause.WrongKind chain key.Writes))))))
 
 -- a limit, where one is there, is from 1 to the longest
 abbrev pub is_within : Option ℕ → Bool
 is_within None = true
 is_within (Some limit) = nat_le 1 limit && nat_le limit LONGEST_LIMIT
 
--- how many tasks there are, that none stands twice, the limits, and when they write
+-- offsets, where they are there, are one for each of so many tasks
+abbrev pub are_each : (count : ℕ) → Option (List ℕ) → Bool
+are_each count None = true
+are_each count (Some offsets) = length offsets == count
+
+-- how many tasks there are, that none stands twice, the limits, how many offsets, and when the tasks write
 abbrev pub values_fault : ℕ → List (List ℕ) → Members → Option ChainCause
 values_fault chain tasks ms =
     option_or (unless (nat_le 1 (length tasks) && nat_le (length tasks) CHAIN_TASKS) (cause.Length chain))
     (option_or (unless (not (repeats tasks)) (cause.TaskTwice chain))
     (option_or (unless (is_within (number_at key.Age ms)) (cause.BadLimit chain key.Age))
     (option_or (unless (is_within (number_at key.Reaction ms)) (cause.BadLimit chain key.Reaction))
-    (unless (is_some (writes_said ms)) (cause.BadWrites chain)))))
+    (option_or (unless (are_each (length tasks) (numbers_at key.Offsets ms)) (cause.BadOffsets chain))
+    (unless (is_some (writes_said ms)) (cause.BadWrites chain))))))
 
 -- a table's keys, the kinds of its values, its names, and then the values
 abbrev pub table_fault : ℕ → Members → Option ChainCause

@@ -21,6 +21,8 @@ pub enum ChainCause {
     TaskTwice { chain: usize },
     /// The limit at a key isn't from 1 to 1,000,000,000.
     BadLimit { chain: usize, key: Key },
+    /// There isn't one offset for each of its tasks.
+    BadOffsets { chain: usize },
     /// When its tasks write is neither `finish` nor `deadline`.
     BadWrites { chain: usize },
     /// There are more than 16 chains.
@@ -61,6 +63,15 @@ pub enum ChainFault {
     NoSuchTask {
         chain: Name,
         task: Name,
+    },
+    /// The offset that a chain has of a task isn't below its period, or isn't the one that a chain before it has.
+    BadOffset {
+        chain: Name,
+        task: Name,
+    },
+    /// The first task of a chain arrives more than 10,000 times until all its tasks arrive as at first.
+    TooManyArrivals {
+        chain: Name,
     },
     /// An allocation was refused.
     OutOfMemory,

@@ -3,6 +3,7 @@ ghost use Rattle.std.specs.Prelude.{◌≡◌, map, IfOk, MatchResult};
 ghost use Rattle.teams.specs.NodeDocument.{node_word};
 ghost use Rattle.chain_tables.specs.Chains.{HasChains, HasNoChains, chain_of, index_of, strange, strange_in, taken, team_word, written_fault};
 
+use crate::clocks::clocks_fault;
 use crate::documents::{Repeat, first_repeat, read_written};
 use crate::fault::{ChainFault, Whose};
 use crate::table::Written;
@@ -15,12 +16,13 @@ use task_sheet::{Name, TaskSet};
 pub const CHAIN_LIMIT: usize = 16;
 
 /// A chain of a set: its name, its tasks by index, the first one first, the limit of its bound in microseconds, if it has
-/// one, and when its tasks write.
+/// one, the offsets of its tasks, none where they aren't known, and when its tasks write.
 #[derive(Drop)]
 pub struct Chain {
     pub name: Name,
     pub tasks: Vec<usize>,
     pub limit: Option<u64>,
+    pub offsets: Vec<u64>,
     pub writes: Writes,
 }
 
@@ -33,6 +35,7 @@ impl Model for Chain {
       name = c.name;
       tasks = c.tasks.items;
       limit = c.limit;
+      offsets = c.offsets.items;
       writes = c.writes;
     } };
 }
@@ -95,20 +98,27 @@ fn strange(set: &TaskSet, chains: &[Written]) -> Option<ChainFault>
 }
 
 // Why chains are none together.
-fn written_fault(set: &TaskSet, chains: &[Written]) -> Option<ChainFault>
-    ensures { result ≡ written_fault set.now chains.now }
+fn written_fault(
+    alloc: Global,
+    set: &TaskSet,
+    chains: &[Written],
+) -> Result<Option<ChainFault>, AllocError>
+    ensures { IfOk result (λ fault. fault ≡ written_fault set.now chains.now) }
 {
     if chains.len() > CHAIN_LIMIT {
-        return Some(ChainFault::TooManyChains);
+        return Ok(Some(ChainFault::TooManyChains));
     }
-    match first_repeat(chains) {
-        Some(repeat) => Some(taken(repeat)),
-        None => strange(set, chains),
+    if let Some(repeat) = first_repeat(chains) {
+        return Ok(Some(taken(repeat)));
+    }
+    match strange(set, chains) {
+        Some(fault) => Ok(Some(fault)),
+        None => clocks_fault(alloc, set, chains),
     }
 }
 
 // The index of a task; 0 where the set has none of the name.
-fn index_of(set: &TaskSet, name: Name) -> usize
+pub(crate) fn index_of(set: &TaskSet, name: Name) -> usize
     ensures { result ≡ index_of set.now name }
 {
     set.find(name).unwrap_or(0)
@@ -130,10 +140,12 @@ fn chain_of(alloc: Global, set: &TaskSet, written: &Written) -> Result<Chain, Al
     ensures { IfOk result (λ chain. chain ≡ chain_of set.now written.now) }
 {
     let tasks = indexes_of(alloc, set, &written.tasks)?;
+    let offsets = written.offsets.to_vec(alloc)?;
     Ok(Chain {
         name: written.name,
         tasks,
         limit: written.limit,
+        offsets,
         writes: written.writes,
     })
 }
@@ -149,15 +161,16 @@ fn chains_of(alloc: Global, set: &TaskSet, written: &[Written]) -> Result<Vec<Ch
     Ok(chains)
 }
 
-/// The chains that a set's text says, in the order of its documents and within them as written; the text is the set's. Refused in
-/// this order: document by document, the node's first, of each table `UnknownKey`, `MissingKey`, `WrongKind`, `BadName`, `Length`, `TaskTwice`,
-/// `BadLimit`, `BadWrites`, then `TooManyChains` and `SameName`; of all together `TooManyChains`, `Taken`, `NoSuchTask`.
+/// The chains that a set's text says, in the order of its documents and within them as written; the text is the set's.
+/// Refused in this order: document by document, the node's first, of each table `UnknownKey`, `MissingKey`, `WrongKind`,
+/// `BadName`, `Length`, `TaskTwice`, `BadLimit`, `BadOffsets`, `BadWrites`, then `TooManyChains` and `SameName`; of all
+/// together `TooManyChains`, `Taken`, `NoSuchTask`, and then chain by chain `BadOffset`, `TooManyArrivals`.
 pub fn read_chains(alloc: Global, text: &[u8], set: &TaskSet) -> Result<Vec<Chain>, ChainFault>
     ensures { MatchResult result (λ chains. HasChains text.now set.now chains.items)
         (λ fault. HasNoChains text.now set.now fault) }
 {
     let written = read_written(alloc, text)?;
-    if let Some(fault) = written_fault(set, &written) {
+    if let Some(fault) = written_fault(alloc, set, &written)? {
         return Err(fault);
     }
     let chains = chains_of(alloc, set, &written)?;

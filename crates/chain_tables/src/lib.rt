@@ -1,9 +1,11 @@
 //! The chains of a set: `[[chain]]` in its documents, and why they are none.
 #![tactic(auto)]
 
+mod clocks;
 mod documents;
 mod fault;
 mod judging;
+mod numbers;
 mod table;
 
 pub use crate::documents::read_written;

@@ -1,12 +1,13 @@
 //! A chain's table.
-ghost use Rattle.std.specs.Prelude.{◌≡◌, ◌≢◌, true, false, None, Some, IfOk, IfErr, MatchOption, MatchResult, is_some, option_map};
+ghost use Rattle.std.specs.Prelude.{◌≡◌, ◌≢◌, ℕ, true, false, None, Some, IfOk, IfErr, MatchOption, MatchResult, is_some, option_map};
 ghost use Rattle.std.specs.List.{list_all};
 ghost use Rattle.toml.specs.View.{table_view};
 ghost use Rattle.task_sheet.specs.Name.{is_name};
 ghost use Rattle.task_sheet.specs.Tree.{number_at, number_or_zero, value_at};
-ghost use Rattle.chain_tables.specs.Tables.{chain_at, is_text_or_none, is_within, keys_fault, kinds_fault, lesser, name_said, table_fault, tasks_said, values_fault, writes_by, writes_of, writes_said};
+ghost use Rattle.chain_tables.specs.Tables.{are_each, are_numbers_or_none, chain_at, is_text_or_none, is_within, keys_fault, kinds_fault, lesser, name_said, numbers_at, offsets_said, table_fault, tasks_said, values_fault, writes_by, writes_of, writes_said};
 
 use crate::fault::{ChainCause, ChainFault, Whose};
+use crate::numbers::{numbers_at, read_numbers};
 use chains::Writes;
 use std::alloc::{AllocError, Global};
 use std::marker::Model;
@@ -22,13 +23,15 @@ pub const CHAIN_TASKS: usize = 8;
 /// The longest limit of a chain, in microseconds.
 pub const LONGEST_LIMIT: u64 = 1_000_000_000;
 
-/// A chain as a document says it, its tasks by their names, the first one first, and when they write.
+/// A chain as a document says it, its tasks by their names, the first one first, their offsets in microseconds, none where
+/// they aren't known, and when they write.
 #[derive(Drop)]
 pub struct Written {
     pub whose: Whose,
     pub name: Name,
     pub tasks: Vec<Name>,
     pub limit: Option<u64>,
+    pub offsets: Vec<u64>,
     pub writes: Writes,
 }
 
@@ -42,6 +45,7 @@ impl Model for Written {
       name = w.name;
       tasks = w.tasks.items;
       limit = w.limit;
+      offsets = w.offsets.items;
       writes = w.writes;
     } };
 }
@@ -76,6 +80,13 @@ fn may_be_text(key: Key, table: &Table) -> bool
     text_at(key, table).is_some() || value_at(key, table).is_none()
 }
 
+// Whether an array of numbers stands at a key, or nothing.
+fn may_be_numbers(key: Key, table: &Table) -> bool
+    ensures { result ≡ are_numbers_or_none key (table_view table.now) }
+{
+    numbers_at(key, table).is_some() || value_at(key, table).is_none()
+}
+
 // The first of the values that is of another kind.
 fn kinds_fault(chain: usize, table: &Table) -> Option<ChainCause>
     ensures { result ≡ kinds_fault chain (table_view table.now) }
@@ -88,6 +99,8 @@ fn kinds_fault(chain: usize, table: &Table) -> Option<ChainCause>
         Key::Age
     } else if !may_be_number(Key::Reaction, table) {
         Key::Reaction
+    } else if !may_be_numbers(Key::Offsets, table) {
+        Key::Offsets
     } else if !may_be_text(Key::Writes, table) {
         Key::Writes
     } else {
@@ -102,6 +115,16 @@ fn is_within(limit: Option<u64>) -> bool
 {
     match limit {
         Some(limit) => 1 <= limit && limit <= LONGEST_LIMIT,
+        None => true,
+    }
+}
+
+// Whether offsets, where they are there, are one for each of so many tasks.
+fn are_each(count: usize, table: &Table) -> bool
+    ensures { result ≡ are_each count (numbers_at Key.Offsets (table_view table.now)) }
+{
+    match numbers_at(Key::Offsets, table) {
+        Some(offsets) => offsets.len() == count,
         None => true,
     }
 }
@@ -147,6 +170,9 @@ fn values_fault(chain: usize, tasks: &[Name], table: &Table) -> Option<ChainCaus
         let key = Key::Reaction;
         return Some(ChainCause::BadLimit { chain, key });
     }
+    if !are_each(tasks.len(), table) {
+        return Some(ChainCause::BadOffsets { chain });
+    }
     if writes_said(table).is_none() {
         return Some(ChainCause::BadWrites { chain });
     }
@@ -175,6 +201,14 @@ fn tasks_at(alloc: Global, table: &Table) -> Result<Option<Vec<Name>>, AllocErro
 {
     let items = strings_at(Key::Tasks, table).unwrap_or(&[]);
     read_names(alloc, items)
+}
+
+// The offsets that it says, none where it says none.
+fn offsets_at(alloc: Global, table: &Table) -> Result<Vec<u64>, AllocError>
+    ensures { IfOk result (λ offsets. offsets.items ≡ offsets_said (table_view table.now)) }
+{
+    let items = numbers_at(Key::Offsets, table).unwrap_or(&[]);
+    read_numbers(alloc, items)
 }
 
 // The lesser of two limits, of which either may be absent.
@@ -217,12 +251,14 @@ fn read_chain(
         return Ok(Err(cause));
     }
     let limit = lesser(number_at(Key::Age, table), number_at(Key::Reaction, table));
+    let offsets = offsets_at(alloc, table)?;
     let writes = writes_said(table).unwrap_or(Writes::AtFinish);
     Ok(Ok(Written {
         whose: *whose,
         name,
         tasks,
         limit,
+        offsets,
         writes,
     }))
 }

@@ -61,7 +61,7 @@ outcome_in s chain = outcome_of s.end (outputs_of chain.writes s chain.tasks)
 
 -- its bound, and what its age is held against
 abbrev pub bound_of : SceneData → ChainData → Option ℕ
-bound_of s chain = bound_in chain.writes s.set s.levels chain.tasks
+bound_of s chain = bound_in chain.writes chain.offsets s.set s.levels chain.tasks
 
 abbrev pub most_in : SceneData → ChainData → Option ℕ
 most_in s chain = most_of chain.writes s.seen chain.tasks (bound_of s chain)

@@ -122,7 +122,8 @@ fn see_chain(
 {
     let outputs = outputs_of(alloc, scene, chain)?;
     let outcome = outcome_of(scene.end, &outputs);
-    let bound = bound_of(scene.set, scene.levels, chain.writes, &chain.tasks);
+    let (offsets, tasks) = (chain.offsets.as_slice(), chain.tasks.as_slice());
+    let bound = bound_of(alloc, scene.set, scene.levels, chain.writes, offsets, tasks)?;
     let most = most_of(scene, chain, bound);
     push_chain(text, scene.tolerance, chain, outcome, bound, most)?;
     Ok(!is_old(scene.tolerance, outcome.age, most))

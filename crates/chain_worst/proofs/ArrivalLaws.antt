@@ -1,6 +1,7 @@
 -- When the jobs of a task arrive: a period apart, and those of a task with an aim exactly.
-use Rattle.std.proofs.Common.{◌≡◌, ℕ, zero, suc, ◌+◌, ◌%◌, ◌<◌, ◌≤◌, inl, inr, max, Option, Some, None, unwrap_or}
+use Rattle.std.proofs.Common.{◌≡◌, ℕ, zero, suc, ◌+◌, ◌*◌, ◌%◌, ◌<◌, ◌≤◌, inl, inr, max, Option, Some, None, unwrap_or}
 use Rattle.std.proofs.Common.{List, [], ◌∷◌, refl, arith}
+use Rattle.std.proofs.Math.Nat.{suc-mul}
 use Rattle.std.proofs.lemmas.Bool.{cases_eq, cases_lt, lt-ltb, le-ltb}
 use Rattle.task_sheet.specs.Sheet.{Task}
 use Rattle.chain_worst.specs.Arrivals.{window_of, in_window, against, next_by, own_aim, next_of, arrival_at}
@@ -68,3 +69,9 @@ module _ (t : Task) (rank until : ℕ) (aims : List Aim) (m : Aim) (own : own_ai
   exactly k =
       let time : ℕ = arrival_at t rank until aims k + t.period in
       omega (arith, least k, own_next (own_aim rank aims) m t time (against t rank until aims time) own)
+
+  pub at_phase : (k : ℕ) → arrival_at t rank until aims k ≡ m.arrival % t.period + k * t.period
+  unfolding arrival_at
+  at_phase zero =
+      omega (arith, own_next (own_aim rank aims) m t 0 (against t rank until aims 0) own)
+  at_phase (suc k) = omega (arith, exactly k, at_phase k, suc-mul k t.period)

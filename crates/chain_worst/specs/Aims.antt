@@ -1,26 +1,41 @@
 -- The jobs that the bound of a chain counts, one of each of its tasks. Each arrives as late as it may behind a job of its
--- task that came a tick too early to read the one before it, and is as late, and takes as long, as it may. Where the tasks
--- write at their deadlines, a job comes too early a tick before that one writes, however late that is and long it takes.
-use Rattle.std.specs.Prelude.{◌≡◌, ℕ, ◌+◌, ◌-◌, max, List, [], ◌∷◌, Option, Some, None, option_map, slice_get}
+-- task that came a tick too early to read the one before it, or on the chain's clock, and is as late, and takes as long, as it
+-- may. Where the tasks write at their deadlines, a job comes too early a tick before that one writes, however late that is and
+-- long it takes.
+use Rattle.std.specs.Prelude.{◌≡◌, ℕ, ◌+◌, ◌-◌, ◌*◌, max, List, [], ◌∷◌, length, Option, Some, None, option_map, unwrap_or, slice_get}
 use Rattle.task_sheet.specs.Sheet.{Task, CriticalSection, task_at}
 use Rattle.task_sheet.specs.Demand.{greatest_of}
 use Rattle.task_sheet.specs.Indexes.{among, indexes_of}
 use Rattle.ceiling_kernel.specs.Bounds.{after_of}
-use Rattle.ceiling_kernel.specs.Tick.{node_in}
 use Rattle.ceiling_kernel.specs.Waits.{lateness_of}
 use Rattle.explain.specs.Blocking.{BlockerData, IsBlockerOf}
 use Rattle.chains.specs.Gaps.{gap_of}
 use Rattle.chains.specs.Parts as parts
+use Rattle.chains.specs.Walks.{arrival_from, longest_start, starts_of}
 use Rattle.chains.specs.declared.bounds.Level.{Level}
-use Rattle.chains.specs.declared.bounds.Writes.{Writes}
+use Rattle.chains.specs.declared.walks.Step.{Step}
 use Rattle.chain_worst.specs.declared.aims.Aim.{Aim}
 use Rattle.chain_worst.specs.declared.aims.BlockerStart.{BlockerStart}
 
--- when a job of the first task comes too early: each task of the chain has had a job by then, and whatever leads up to an aim
--- arrives at time 0 or later
+-- ---- where it begins
+-- each task of the chain has had a job by then, and whatever leads up to an aim arrives at time 0 or later
 abbrev pub begin_of : List Task → (tasks : List ℕ) → ℕ
 begin_of U tasks =
     max (greatest_of (λ i. gap_of (task_at U i)) tasks) (greatest_of (λ t. max t.cost (lateness_of t)) U)
+
+-- how long until all tasks of a chain with these steps arrive as at first, where the first one's offset is known
+abbrev pub round_of : List Step → ℕ
+round_of [] = 0
+round_of (s ∷ steps) = length (unwrap_or (starts_of (s ∷ steps)) []) * s.period
+
+-- when a job of the first task comes too early: then, or on the clock the first time from then on at which a longest span begins
+abbrev pub early_by : Option ℕ → List Step → (begin : ℕ) → ℕ
+early_by None steps begin = begin
+early_by (Some offset) steps begin = arrival_from (longest_start steps) (round_of steps) begin
+
+abbrev pub early_of : List Step → (begin : ℕ) → ℕ
+early_of [] begin = begin
+early_of (s ∷ steps) begin = early_by s.offset (s ∷ steps) begin
 
 -- ---- an aim
 -- when the job arrives that blocks it: it has executed the first tick of its section when the aim is ready
@@ -51,19 +66,22 @@ pub record IsAim (U : List Task) (levels : List Level) (i time : ℕ) (m : Aim) 
   pub blocker : IsStartOf U levels i m.ready m.blocker
 
 -- ---- all of them
--- when a job comes a tick too early to read an aim of task i: its bound's part behind the wait, less a tick
-abbrev pub early_after : Writes → List Task → List Level → (arrival i : ℕ) → (others : List ℕ) → ℕ
-early_after writes U levels arrival i others =
-    arrival
-    + (parts.after_of writes (node_in U (parts.order_of levels)) (parts.time_in levels) i others).time - 1
+-- when the aim arrives that reads what comes to its task at a time: a period after a job a tick before, or on the clock, where the
+-- task's offset is known, as the first from then on
+abbrev pub aim_time : Option ℕ → (period time : ℕ) → ℕ
+aim_time None period time = time + (period - 1)
+aim_time (Some offset) period time = arrival_from offset period time
 
--- These are the aims of tasks, of which a job of the first comes too early at a time, and its next one is the aim. The run
--- ends when the last aim is done, or writes.
-abbrev pub AreAims : Writes → List Task → List Level → (early : ℕ) → (tasks : List ℕ) → List Aim → (until : ℕ)
-    → Type 0
-AreAims writes U levels early [] aims until = (aims ≡ []) × (until ≡ early + 1)
-AreAims writes U levels early (i ∷ others) [] until = ⊥
-AreAims writes U levels early (i ∷ others) (m ∷ aims) until =
-    IsAim U levels i (early + gap_of (task_at U i)) m
-    × AreAims writes U levels (early_after writes U levels (early + gap_of (task_at U i)) i others) others aims
-    until
+-- these are the aims of tasks with these steps, where something comes to the first at a time
+abbrev pub AreAims : List Task → List Level → List Step → (time : ℕ) → (tasks : List ℕ) → List Aim → Type 0
+AreAims U levels [] time tasks aims = aims ≡ []
+AreAims U levels (s ∷ steps) time [] aims = aims ≡ []
+AreAims U levels (s ∷ steps) time (i ∷ others) [] = ⊥
+AreAims U levels (s ∷ steps) time (i ∷ others) (m ∷ aims) =
+    IsAim U levels i (aim_time s.offset s.period time) m
+    × AreAims U levels steps (aim_time s.offset s.period time + s.delay) others aims
+
+-- the run ends when the last aim is done, or writes
+abbrev pub end_of : List Step → (time : ℕ) → ℕ
+end_of [] time = time
+end_of (s ∷ steps) time = end_of steps (aim_time s.offset s.period time + s.delay)

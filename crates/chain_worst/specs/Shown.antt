@@ -7,24 +7,34 @@ use Rattle.ceiling_kernel.specs.declared.accept.TheConstants.{HORIZON, RELEASE_L
 use Rattle.ceiling_kernel.specs.Tick.{node_in}
 use Rattle.ceiling_kernel.specs.declared.trace.Release.{Release}
 use Rattle.cut_runs.specs.Cut.{RunsCut}
-use Rattle.chains.specs.Parts.{bound_in, order_of}
+use Rattle.chains.specs.Parts.{bound_in, order_of, steps_of, time_in}
 use Rattle.chains.specs.declared.bounds.Level.{Level}
 use Rattle.chains.specs.declared.bounds.Writes.{Writes}
+use Rattle.chains.specs.declared.walks.Step.{Step}
 use Rattle.chain_tables.specs.Chains.{ChainData}
 use Rattle.chain_runs.specs.ChainOutputs.{outputs_of}
 use Rattle.chain_runs.specs.Outcomes.{ages_of}
 use Rattle.release_list.specs.Text.{list_lines}
-use Rattle.chain_worst.specs.Aims.{AreAims, begin_of}
+use Rattle.chain_worst.specs.Aims.{AreAims, begin_of, early_of, end_of}
 use Rattle.chain_worst.specs.Built.{all_jobs, built_of}
 use Rattle.chain_worst.specs.declared.aims.Aim.{Aim}
 use Rattle.chain_worst.specs.declared.shown.ChainCase.{ChainCase}
 use Rattle.chain_worst.specs.declared.shown.ChainCase.TheVariants.{NoBound, PastHorizon, Ran, TooMany}
 use Rattle.chain_worst.specs.declared.shown.ChainRun.{ChainRun}
 
--- the aims of a chain and the end of its run, in an order whose levels have responses
-pub record IsPlanOf (writes : Writes) (U : List Task) (levels : List Level) (tasks : List ℕ) (found : List Aim)
+-- when something comes to the first task of a chain with these steps: a tick after a job that comes too early
+abbrev pub walk_begin : List Task → List Step → (tasks : List ℕ) → ℕ
+walk_begin U steps tasks = early_of steps (begin_of U tasks) + 1
+
+-- when its run ends
+abbrev pub run_end : List Task → List Step → (tasks : List ℕ) → ℕ
+run_end U steps tasks = end_of steps (walk_begin U steps tasks)
+
+-- its aims and the end of its run, in an order whose levels have responses
+pub record IsPlanOf (U : List Task) (levels : List Level) (steps : List Step) (tasks : List ℕ) (found : List Aim)
     (until : ℕ) : Type 0 where
-  pub aims : AreAims writes U levels (begin_of U tasks) tasks found until
+  pub aims : AreAims U levels steps (walk_begin U steps tasks) tasks found
+  pub end : until ≡ run_end U steps tasks
   pub horizon : until ≤ HORIZON
 
 -- a list is run in this order, up to its end or to the first overrun, and this is the greatest age there
@@ -35,24 +45,25 @@ pub record IsRunOf (writes : Writes) (U : List Task) (levels : List Level) (task
   pub seen : run.seen ≡ ages_of run.run.until (outputs_of writes U run.run.until run.run.trace tasks)
 
 -- the run that the bound describes is
-abbrev pub IsChainRun : Writes → List Task → List Level → List ℕ → (bound : ℕ) → ChainRun → Type 0
-IsChainRun writes U levels tasks bound run =
-    (aims : List Aim) × (until : ℕ) × IsPlanOf writes U levels tasks aims until
+abbrev pub IsChainRun : Writes → List Task → List Level → List Step → List ℕ → (bound : ℕ) → ChainRun → Type 0
+IsChainRun writes U levels steps tasks bound run =
+    (aims : List Aim) × (until : ℕ) × IsPlanOf U levels steps tasks aims until
     × IsRunOf writes U levels tasks bound (built_of U until aims) until run
 
--- what is shown of a chain of these tasks with this bound, if it has one
-abbrev pub IsCaseBy : Writes → List Task → List Level → List ℕ → Option ℕ → ChainCase → Type 0
-IsCaseBy writes U levels tasks None NoBound = Unit {0}
-IsCaseBy writes U levels tasks (Some bound) PastHorizon = HORIZON ≤ begin_of U tasks + bound
-IsCaseBy writes U levels tasks (Some bound) TooMany =
-    (begin_of U tasks + bound < HORIZON) × ((aims : List Aim) × (until : ℕ) × IsPlanOf writes U levels tasks aims until
-    × (RELEASE_LIMIT < length (all_jobs U until aims)))
-IsCaseBy writes U levels tasks (Some bound) (Ran run) =
-    (begin_of U tasks + bound < HORIZON) × IsChainRun writes U levels tasks bound run
-IsCaseBy writes U levels tasks _ _ = ⊥
+-- what is shown of a chain of these tasks with these steps and this bound, if it has one
+abbrev pub IsCaseBy : Writes → List Task → List Level → List Step → List ℕ → Option ℕ → ChainCase → Type 0
+IsCaseBy writes U levels steps tasks None NoBound = Unit {0}
+IsCaseBy writes U levels steps tasks (Some bound) PastHorizon = HORIZON < run_end U steps tasks
+IsCaseBy writes U levels steps tasks (Some bound) TooMany =
+    (aims : List Aim) × (until : ℕ) × IsPlanOf U levels steps tasks aims until
+    × (RELEASE_LIMIT < length (all_jobs U until aims))
+IsCaseBy writes U levels steps tasks (Some bound) (Ran run) = IsChainRun writes U levels steps tasks bound run
+IsCaseBy writes U levels steps tasks _ _ = ⊥
 
-abbrev pub IsCaseOf : Writes → List Task → List Level → List ℕ → ChainCase → Type 0
-IsCaseOf writes U levels tasks case = IsCaseBy writes U levels tasks (bound_in writes U levels tasks) case
+abbrev pub IsCaseOf : Writes → (offsets : List ℕ) → List Task → List Level → List ℕ → ChainCase → Type 0
+IsCaseOf writes offsets U levels tasks case =
+    IsCaseBy writes U levels (steps_of writes offsets (node_in U (order_of levels)) (time_in levels) tasks) tasks
+    (bound_in writes offsets U levels tasks) case
 
 -- ---- lines
 -- the line of comment
@@ -78,4 +89,4 @@ case_lines chain front (Ran run) =
 -- a text is what is printed of a chain in an order whose levels have responses
 abbrev pub AreChainLines : List Task → List Level → (front : List ℕ) → ChainData → List ℕ → Type 0
 AreChainLines U levels front chain text =
-    (case : ChainCase) × IsCaseOf chain.writes U levels chain.tasks case × (text ≡ case_lines chain front case)
+    (case : ChainCase) × IsCaseOf chain.writes chain.offsets U levels chain.tasks case × (text ≡ case_lines chain front case)

@@ -1,21 +1,22 @@
 //! The jobs that the bound of a chain counts.
-ghost use Rattle.std.specs.Prelude.{◌≡◌, ◌<◌, ◌≤◌, ◌+◌, max, option_map, Option, length, All, IfOk, sum_by};
+ghost use Rattle.std.specs.Prelude.{◌≡◌, ◌<◌, ◌≤◌, ◌+◌, ◌^◌, max, option_map, Option, length, All, IfOk, MatchOption};
+ghost use Rattle.std.specs.Int.{next_multiple_of};
 ghost use Rattle.task_sheet.specs.Demand.{greatest_of};
 ghost use Rattle.task_sheet.specs.declared.set.TheConstants.{TASK_LIMIT};
 ghost use Rattle.task_sheet.specs.Sheet.{task_at};
 ghost use Rattle.task_sheet.specs.Indexes.{among, indexes_of};
 ghost use Rattle.ceiling_kernel.specs.declared.accept.TheConstants.{HORIZON};
 ghost use Rattle.ceiling_kernel.specs.Bounds.{after_of};
-ghost use Rattle.ceiling_kernel.specs.Tick.{node_in};
 ghost use Rattle.ceiling_kernel.specs.Waits.{lateness_of};
 ghost use Rattle.chains.specs.Gaps.{gap_of};
-ghost use Rattle.chains.specs.Parts.{order_of, parts_of, time_in};
+ghost use Rattle.chains.specs.Parts.{order_of};
 ghost use Rattle.explain.specs.Blocking.{BlockerData, IsBlockerOf};
-ghost use Rattle.chain_worst.specs.Aims.{AreAims, IsAim, before_tick, begin_of, blocker_start, start_of};
+ghost use Rattle.chain_worst.specs.Aims.{AreAims, IsAim, aim_time, before_tick, begin_of, blocker_start, early_of, end_of, round_of, start_of};
 
 use assignment::members_of;
+use ceiling_kernel::HORIZON;
 use ceilings::Tabled;
-use chains::{Level, Writes, after_of, wait_of};
+use chains::{Level, Step, Writes, after_of, longest_start, starts_of, step_of};
 use explain::{Blocker, first_blocker};
 use std::alloc::{AllocError, Global};
 use task_sheet::{Members, Section, TaskSet};
@@ -45,7 +46,7 @@ fn longest_of(set: &TaskSet, tasks: &[usize]) -> u64
 {
     let mut longest = 0;
     for task in tasks {
-        longest = longest.max(wait_of(set, *task).time);
+        longest = longest.max(step_of(set, &[], *task, 0).period);
     }
     longest
 }
@@ -61,7 +62,7 @@ fn lead_in_of(set: &TaskSet) -> u64
     lead
 }
 
-/// When a job of the first task of a chain comes too early.
+/// By when each task of a chain has had a job, and whatever leads up to an aim has room.
 pub(crate) fn begin_of(set: &TaskSet, tasks: &[usize]) -> u64
     ensures { result ≡ begin_of set.now tasks.now }
 {
@@ -138,35 +139,116 @@ fn aim_of(set: &Tabled<'_>, levels: &[Level], order: &[usize], task: usize, arri
     }
 }
 
-/// The aims of a chain of tasks in an order whose levels have responses, where a job of the first comes too early at a time,
-/// and the end of the run.
+// The least multiple of a period at a time or later.
+fn whole_from(time: u128, period: u128) -> u128
+    requires time { time < 2 ^ 100 }
+    requires period { period < 2 ^ 100 }
+    ensures whole { result ≡ next_multiple_of time period }
+    ensures soon { (time ≤ result) × (result ≤ time + period) }
+{
+    if period == 0 {
+        time
+    } else {
+        time.next_multiple_of(period)
+    }
+}
+
+// How long until all tasks of a chain with these steps arrive as at first.
+fn round_of(steps: &[Step]) -> u128
+    ensures round { result ≡ round_of steps.now }
+    ensures soon { result < 2 ^ 80 }
+{
+    let Some((step, _)) = steps.split_first() else {
+        return 0;
+    };
+    match starts_of(steps) {
+        Some(starts) => starts.count as u128 * step.period as u128,
+        None => 0,
+    }
+}
+
+/// When a job of the first task of a chain with these steps comes too early: from a time on.
+pub(crate) fn early_of(steps: &[Step], begin: u64) -> u128
+    ensures early { result ≡ early_of steps.now begin }
+    ensures soon { result < 2 ^ 100 }
+{
+    let begin = begin as u128;
+    let Some((step, _)) = steps.split_first() else {
+        return begin;
+    };
+    match step.offset {
+        None => begin,
+        Some(_) => {
+            let start = longest_start(steps);
+            start + whole_from(begin.saturating_sub(start), round_of(steps))
+        }
+    }
+}
+
+// When the aim of a task arrives that reads what comes to it at a time.
+fn aim_time(step: &Step, time: u64) -> u128
+    ensures arrival { result ≡ aim_time step.now.offset step.now.period time }
+    ensures late { (time ≤ result) × (result < 2 ^ 66) }
+{
+    let time = time as u128;
+    match step.offset {
+        None => time + step.period.saturating_sub(1) as u128,
+        Some(offset) => {
+            let offset = offset as u128;
+            offset + whole_from(time.saturating_sub(offset), step.period as u128)
+        }
+    }
+}
+
+/// When the run ends of a chain with these steps, to whose first task something comes at a time, where that is within the horizon.
+pub(crate) fn end_of(steps: &[Step], time: u128) -> Option<u64>
+    ensures { MatchOption result (HORIZON < end_of steps.now time)
+        (λ end. (end ≡ end_of steps.now time) × (end ≤ HORIZON)) }
+{
+    let mut end = time;
+    for step in steps {
+        if end > HORIZON as u128 {
+            return None;
+        }
+        end = aim_time(step, end as u64) + step.delay as u128;
+    }
+    if end > HORIZON as u128 {
+        None
+    } else {
+        Some(end as u64)
+    }
+}
+
+/// The aims of tasks with these steps in an order whose levels have responses, where something comes to the first at a time. The
+/// error is out of memory.
 pub(crate) fn aims_of(
     alloc: Global,
     set: &Tabled<'_>,
     levels: &[Level],
     order: &[usize],
+    steps: &[Step],
     begin: u64,
-    writes: Writes,
     tasks: &[usize],
-) -> Result<(Vec<Aim>, u64), AllocError>
+) -> Result<Vec<Aim>, AllocError>
     requires order { order.now ≡ order_of levels.now }
     requires within { All (λ k. k < length set.now) order.now }
     requires tasks { All (λ k. k < length set.now) tasks.now }
-    requires horizon { begin + sum_by (λ p. p.time)
-        (parts_of writes (node_in set.now (order_of levels.now)) (time_in levels.now) tasks.now) < HORIZON }
-    ensures aims { IfOk result
-        (λ made. AreAims writes set.now levels.now begin tasks.now made.0.items made.1) }
-    ensures horizon { IfOk result (λ made. made.1 ≤ HORIZON) }
+    requires horizon { end_of steps.now begin ≤ HORIZON }
+    ensures { IfOk result (λ aims. AreAims set.now levels.now steps.now begin tasks.now aims.items) }
 {
     let mut aims = Vec::new(alloc);
-    let mut early = begin;
+    let mut time = begin;
+    let mut walk = steps;
     let mut rest = tasks;
-    while let Some((task, others)) = rest.split_first() {
-        let arrival = early + wait_of(set.tasks(), *task).time;
+    while let Some((step, more)) = walk.split_first() {
+        let Some((task, others)) = rest.split_first() else {
+            return Ok(aims);
+        };
+        let arrival = aim_time(step, time) as u64;
         aims.push(aim_of(set, levels, order, *task, arrival))?;
-        let after = after_of(set.tasks(), levels, writes, *task, others).time;
-        early = (arrival + after).saturating_sub(1);
+        time = arrival + step.delay;
+        walk = more;
         rest = others;
     }
-    Ok((aims, early + 1))
+    Ok(aims)
 }

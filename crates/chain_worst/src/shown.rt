@@ -1,18 +1,19 @@
 //! What is shown of a chain.
-ghost use Rattle.std.specs.Prelude.{◌≡◌, ◌<◌, ◌≤◌, ◌+◌, nat_le, IfOk, None, Some};
+ghost use Rattle.std.specs.Prelude.{◌≡◌, ◌≤◌, IfOk, IsTrue, None, Some};
+ghost use Rattle.std.specs.List.{list_all};
 ghost use Rattle.task_sheet.specs.Orders.{IsOrder};
 ghost use Rattle.ceiling_kernel.specs.declared.accept.TheConstants.{HORIZON};
 ghost use Rattle.ceiling_kernel.specs.Releases.{refusal_of};
-ghost use Rattle.chains.specs.Parts.{bound_in, order_of};
-ghost use Rattle.chain_worst.specs.Aims.{begin_of};
-ghost use Rattle.chain_worst.specs.Shown.{IsCaseOf, IsPlanOf, IsRunOf};
+ghost use Rattle.chains.specs.Parts.{bound_in, has_response, order_of};
+ghost use Rattle.chain_worst.specs.Aims.{AreAims, end_of};
+ghost use Rattle.chain_worst.specs.Shown.{IsCaseOf, IsRunOf};
 
-use crate::aims::{Aim, aims_of, begin_of};
+use crate::aims::{Aim, aims_of, begin_of, early_of, end_of};
 use crate::built::build;
-use ceiling_kernel::{HORIZON, Kernel, Release, RunFault};
+use ceiling_kernel::{Kernel, Release, RunFault};
 use ceilings::{LockTable, Tabled};
 use chain_runs::{outcome_of, outputs_of};
-use chains::{Level, Writes, bound_of};
+use chains::{Level, Step, Writes, bound_of, steps_of};
 use cut_runs::{CutRun, run_cut};
 use std::alloc::{AllocError, Global};
 use task_sheet::TaskSet;
@@ -31,7 +32,7 @@ pub struct ChainRun {
 pub enum ChainCase {
     /// A task of it misses its deadline.
     NoBound,
-    /// The run would last for 60,000,000 or longer.
+    /// The run would last for longer than 60,000,000.
     PastHorizon,
     /// It has more than 10,000 releases.
     TooMany,
@@ -49,32 +50,24 @@ fn order_of(alloc: Global, levels: &[Level]) -> Result<Vec<usize>, AllocError>
     Ok(order)
 }
 
-// The run would end at the horizon or after it.
-fn is_past(begin: u64, bound: u128) -> bool
-    ensures { result ≡ nat_le HORIZON (begin + bound) }
-{
-    bound >= HORIZON as u128 || begin as u128 + bound >= HORIZON as u128
-}
-
-// The aims of a chain and the end of its run.
+// The aims of a chain with these steps, to whose first task something comes at a time.
 fn plan_of(
     alloc: Global,
     set: &TaskSet,
     levels: &[Level],
-    writes: Writes,
+    steps: &[Step],
+    begin: u64,
     tasks: &[usize],
-    bound: u128,
-) -> Result<(Vec<Aim>, u64), AllocError>
+) -> Result<Vec<Aim>, AllocError>
     requires order { IsOrder set.now (order_of levels.now) }
-    requires horizon { begin_of set.now tasks.now + bound < HORIZON }
-    requires bound { bound_in writes set.now levels.now tasks.now ≡ Some bound }
-    ensures { IfOk result (λ plan. IsPlanOf writes set.now levels.now tasks.now plan.0.items plan.1) }
+    requires horizon { end_of steps.now begin ≤ HORIZON }
+    requires responses { IsTrue (list_all (has_response levels.now) tasks.now) }
+    ensures { IfOk result (λ aims. AreAims set.now levels.now steps.now begin tasks.now aims.items) }
 {
     let order = order_of(alloc, levels)?;
     let table = LockTable::new(alloc, set)?;
     let tabled = Tabled::of(set, &table);
-    let begin = begin_of(set, tasks);
-    aims_of(alloc, &tabled, levels, &order, begin, writes, tasks)
+    aims_of(alloc, &tabled, levels, &order, steps, begin, tasks)
 }
 
 // What the run of a chain comes to.
@@ -113,17 +106,20 @@ fn case_within(
     set: &TaskSet,
     levels: &[Level],
     writes: Writes,
+    offsets: &[u64],
     tasks: &[usize],
     bound: u128,
 ) -> Result<ChainCase, AllocError>
     requires order { IsOrder set.now (order_of levels.now) }
-    requires bound { bound_in writes set.now levels.now tasks.now ≡ Some bound }
-    ensures { IfOk result (IsCaseOf writes set.now levels.now tasks.now) }
+    requires bound { bound_in writes offsets.now set.now levels.now tasks.now ≡ Some bound }
+    ensures { IfOk result (IsCaseOf writes offsets.now set.now levels.now tasks.now) }
 {
-    if is_past(begin_of(set, tasks), bound) {
+    let steps = steps_of(alloc, set, levels, writes, offsets, tasks)?;
+    let begin = early_of(&steps, begin_of(set, tasks)) + 1;
+    let Some(until) = end_of(&steps, begin) else {
         return Ok(ChainCase::PastHorizon);
-    }
-    let (aims, until) = plan_of(alloc, set, levels, writes, tasks, bound)?;
+    };
+    let aims = plan_of(alloc, set, levels, &steps, begin as u64, tasks)?;
     match build(alloc, set, until, &aims) {
         Ok(releases) => {
             let run = run_of(alloc, set, levels, writes, tasks, bound, releases, until)?;
@@ -134,20 +130,21 @@ fn case_within(
     }
 }
 
-/// What is shown of a chain of tasks, by their indexes, in an order whose levels have these responses. The error is out of
-/// memory.
+/// What is shown of a chain of tasks, by their indexes, with these offsets, in an order whose levels have these responses. The
+/// error is out of memory.
 pub(crate) fn case_of(
     alloc: Global,
     set: &TaskSet,
     levels: &[Level],
     writes: Writes,
+    offsets: &[u64],
     tasks: &[usize],
 ) -> Result<ChainCase, AllocError>
     requires { IsOrder set.now (order_of levels.now) }
-    ensures { IfOk result (IsCaseOf writes set.now levels.now tasks.now) }
+    ensures { IfOk result (IsCaseOf writes offsets.now set.now levels.now tasks.now) }
 {
-    match bound_of(set, levels, writes, tasks) {
-        Some(bound) => case_within(alloc, set, levels, writes, tasks, bound),
+    match bound_of(alloc, set, levels, writes, offsets, tasks)? {
+        Some(bound) => case_within(alloc, set, levels, writes, offsets, tasks, bound),
         None => Ok(ChainCase::NoBound),
     }
 }

@@ -95,6 +95,7 @@ pub fn chain_worst_text(
     requires { IsOrder set.now (order_of levels.now) }
     ensures { IfOk result (λ text. AreChainLines set.now levels.now front.now chain.now (string_bytes text)) }
 {
-    let case = case_of(alloc, set, levels, chain.writes, &chain.tasks)?;
+    let (offsets, tasks) = (chain.offsets.as_slice(), chain.tasks.as_slice());
+    let case = case_of(alloc, set, levels, chain.writes, offsets, tasks)?;
     case_text(alloc, chain, front, &case)
 }

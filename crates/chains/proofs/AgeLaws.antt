@@ -2,18 +2,22 @@
 -- handover of that.
 use Rattle.std.proofs.Common.{ℕ, ◌+◌, ◌<◌, ◌≤◌, ◌≡◌, ◌≢◌, inl, inr, refl, sym, ap, ◌∙◌, subst, arith}
 use Rattle.std.proofs.Common.{List, [], ◌∷◌, length}
+use Rattle.std.specs.Prelude.{drop}
 use Rattle.std.proofs.lemmas.Bool.{cases_eq, cases_lt}
 use Rattle.task_sheet.proofs.Common.{task_at}
 use Rattle.ceiling_kernel.proofs.Common.{Node, Job, job_at, AreLegalJobs, IsNode}
+use Rattle.ceiling_kernel.proofs.NodeLaws.{IsSoundTask, sound}
 use Rattle.chains.specs.Starts.{IsReadAt, IsWrittenAt}
 use Rattle.chains.specs.Paths.{IsNewest, Reads, LeadsTo, last_task}
 use Rattle.chains.specs.Gaps.{gap_of, Follows, AreSteady, OthersSteady, SendersSteady}
-use Rattle.chains.specs.Bounds.{Acts, AllAct, bound_of, lag_of, PartsAddUp, handed_within}
-use Rattle.chains.specs.Bounds.{written_within}
+use Rattle.chains.specs.Clocks.{KeepClock}
+use Rattle.chains.specs.Bounds.{Acts, AllAct, lag_of, PartsAddUp, handed_within, written_within}
+use Rattle.chains.specs.Walks.{first_known, next_by}
 use Rattle.chains.specs.Ages.{AgesHold, OutputsAreFresh}
 use Rattle.chains.specs.declared.bounds.Writes.{Writes}
+use Rattle.chains.proofs.ClockLaws.{ComesBy, comes_next, ends_from, ends_late, first_keeps, others_keep, span_in_bound}
 use Rattle.chains.proofs.NewestLaws.{written_once}
-use Rattle.chains.proofs.WriteLaws.{read_arrived, read_before, write_some, written_by, handed_by}
+use Rattle.chains.proofs.WriteLaws.{read_arrived, read_before, written_by, handed_by}
 use Rattle.chains.proofs.WriteLaws.{writes_after}
 
 pub parts_law : (writes : Writes) (node : Node) (response : ℕ → ℕ) (i : ℕ) (others : List ℕ)
@@ -61,12 +65,6 @@ stands_before node jobs legal i j k lt mine own less =
 
 module _ (writes : Writes) (node : Node) (jobs : List Job) (valid : IsNode node)
     (legal : AreLegalJobs node jobs) (response : ℕ → ℕ) where
-  -- a bound takes time
-  bound_some : (i : ℕ) (others : List ℕ) → AllAct node jobs response i others
-      → 0 < bound_of writes node response i others
-  bound_some i [] acts = omega (arith, write_some writes node i (response i) acts.responds)
-  bound_some i (c ∷ others) acts = omega (arith, bound_some c others acts.2)
-
   -- a job that reads another arrives less than a handover after a later one of that task
   reader_arrives : (i c p u k q : ℕ) → IsNewest writes node jobs i u p → Acts node jobs response i
       → i ≢ c → (job_at jobs k).task ≡ c → IsReadAt writes node jobs k u → p < q → q < length jobs
@@ -86,6 +84,14 @@ module _ (writes : Writes) (node : Node) (jobs : List Job) (valid : IsNode node)
                   later lt mine f.2,
             ))
       ]
+
+  -- a task that has a job has a gap
+  pub gap_some : (i j : ℕ) → j < length jobs → (job_at jobs j).task ≡ i
+      → 0 < gap_of (task_at node.tasks i)
+  gap_some i j lt own =
+      let v : IsSoundTask node i = (sound node valid).each i
+      (subst (λ x. x < length node.tasks) own (legal.known j lt)) in
+      v.period_from_one
 
   module _ (until : ℕ) where
     follows_later : (i j k : ℕ) → j < length jobs → (job_at jobs j).task ≡ i
@@ -107,44 +113,58 @@ module _ (writes : Writes) (node : Node) (jobs : List Job) (valid : IsNode node)
         (follows_later i p next.0 newest.is_job newest.own next.1) next.1.is_job next.1.own in
         omega arith
 
-    -- from job p on, which arrives by `from`, the bound isn't reached as long as output k stands
-    from_job : (i : ℕ) (others : List ℕ) → AllAct node jobs response i others
-        → AreSteady node jobs until i → OthersSteady node jobs until i others
-        → (p k t from : ℕ) → t ≤ until → IsNewest writes node jobs (last_task i others) t k
-        → (job_at jobs p).arrival ≤ from → LeadsTo writes node jobs i others p k
-        → t < from + bound_of writes node response i others
-    from_job i [] acts steady steadies p k t from le newest arrives leads =
-        elim (cases_lt t (from + bound_of writes node response i [])) [
-          | inl less ↦ less
-          | inr ge ↦
-              let newest' : IsNewest writes node jobs i t p =
-              subst (IsNewest writes node jobs i t) {y = p} (sym leads) newest in
-              let next : (q : ℕ) × Follows node jobs i p q = steady p newest'.is_job newest'.own
-              (omega (arith, write_some writes node i (response i) acts.responds)) in
-              let in_time = next.1.in_time in
-              let later = follows_later i p next.0 newest'.is_job newest'.own next.1 in
-              let f : (f : ℕ)
-              × (f ≤ (job_at jobs next.0).arrival + written_within writes node i (response i))
-              × IsWrittenAt writes node jobs next.0 f =
-              written_by writes node jobs valid legal response i next.0 acts next.1.is_job next.1.own in
-              absurd (omega (
-                arith,
-                f.1,
-                writes_after writes node jobs valid legal i (response i) t p next.0 f.0 newest'
-                    acts.responds later next.1.is_job next.1.own f.2,
-              ))
-        ]
-    from_job i (c ∷ others) acts steady steadies p k t from le newest arrives leads =
-        elim (cases_lt t (from + bound_of writes node response i (c ∷ others))) [
+    -- As long as output k stands, what a later job than p of its task hands on, which arrives by a on the clock, isn't written
+    -- by the last task.
+    stands_before_end : (shift : ℕ) (offsets : List ℕ) (i : ℕ) (others : List ℕ)
+        → AllAct node jobs response i others → OthersSteady node jobs until i others
+        → KeepClock node jobs shift offsets others
+        → (p q k t a : ℕ) → t ≤ until → IsNewest writes node jobs (last_task i others) t k
+        → LeadsTo writes node jobs i others p k → p < q → q < length jobs → (job_at jobs q).task ≡ i
+        → (job_at jobs q).arrival + shift ≤ a
+        → t + shift < ends_from writes offsets node response i others a
+    stands_before_end shift offsets i [] acts steadies keep p q k t a le newest leads later lt own
+        arrives =
+        let newest' : IsNewest writes node jobs i t p =
+        subst (IsNewest writes node jobs i t) {y = p} (sym leads) newest in
+        let f : (f : ℕ) × (f ≤ (job_at jobs q).arrival + written_within writes node i (response i))
+        × IsWrittenAt writes node jobs q f =
+        written_by writes node jobs valid legal response i q acts lt own in
+        omega (
+          arith,
+          f.1,
+          writes_after writes node jobs valid legal i (response i) t p q f.0 newest' acts.responds
+              later lt own f.2,
+        )
+    stands_before_end shift offsets i (c ∷ others) acts steadies keep p q k t a le newest leads later
+        lt own arrives =
+        elim (cases_lt (t + shift) (ends_from writes offsets node response i (c ∷ others) a)) [
           | inl less ↦ less
           | inr ge ↦
               let reads : Reads writes node jobs c leads.0 i p = leads.1 in
-              let soon = reader_soon i c p reads.start leads.0 reads.newest acts.0 acts.1
-              reads.own reads.started steady (omega (arith, bound_some c others acts.2)) in
-              let rest = from_job c others acts.2 steadies.0 steadies.1 leads.0 k t
-              (from + gap_of (task_at node.tasks i) + handed_within writes node i c (response i)) le
-              newest (omega arith) leads.2 in
-              absurd (omega arith)
+              let x : ℕ = a + handed_within writes node i c (response i) in
+              let y : ℕ = next_by (first_known offsets) (gap_of (task_at node.tasks c)) x in
+              let is_job = (read_arrived writes node jobs legal leads.0 reads.start reads.started).0 in
+              let soon = reader_arrives i c p reads.start leads.0 q reads.newest acts.0 acts.1
+              reads.own reads.started later lt own in
+              let next : (r : ℕ) × ComesBy jobs shift c x y r =
+              comes_next node jobs until shift c (first_known offsets) steadies.0
+              (first_keeps node jobs shift offsets c others keep)
+              (gap_some c leads.0 is_job reads.own) x leads.0
+              (omega (
+                arith,
+                ends_late writes node jobs response (drop 1 offsets) c others acts.2 y,
+              ))
+              is_job reads.own (omega arith) in
+              let next_from = next.1.from in
+              absurd (omega (
+                arith,
+                stands_before_end shift (drop 1 offsets) c others acts.2 steadies.1
+                    (others_keep node jobs shift offsets c others keep) leads.0 next.0 k t y le newest
+                    leads.2
+                    (stands_before node jobs legal c leads.0 next.0 is_job reads.own next.1.own
+                    (omega arith))
+                    next.1.is_job next.1.own next.1.to,
+              ))
         ]
 
     -- each job of the path of an output has written when it has
@@ -201,9 +221,34 @@ module _ (writes : Writes) (node : Node) (jobs : List Job) (valid : IsNode node)
 
 pub ages_law : (writes : Writes) (node : Node) (jobs : List Job) → IsNode node → AreLegalJobs node jobs
     → AgesHold writes node jobs
-ages_law writes node jobs valid legal until response first others acts steady steadies t k s le newest sample =
-    from_job writes node jobs valid legal response until first others acts steady steadies sample.job
-    k t s le newest (read_arrived writes node jobs legal sample.job s sample.started).1 sample.path
+ages_law writes node jobs valid legal until shift response offsets first others bound acts steady steadies keep
+    is t k s le newest sample =
+    elim (cases_lt t (s + bound)) [
+      | inl less ↦ less
+      | inr ge ↦
+          let p : ℕ = sample.job in
+          let own : (job_at jobs p).task ≡ first =
+          leads_own writes node jobs first others p k newest.own sample.path in
+          let b = read_arrived writes node jobs legal p s sample.started in
+          let a : ℕ = (job_at jobs p).arrival + shift + gap_of (task_at node.tasks first) in
+          let ends : ends_from writes (drop 1 offsets) node response first others a
+          ≤ (job_at jobs p).arrival + shift + bound =
+          span_in_bound writes node jobs response shift offsets first others bound keep is p b.0 own in
+          let late = ends_late writes node jobs response (drop 1 offsets) first others acts a in
+          let next : (q : ℕ) × Follows node jobs first p q = steady p b.0 own
+          (omega (arith, b.1, late, ends)) in
+          let in_time = next.1.in_time in
+          absurd (omega (
+            arith,
+            b.1,
+            ends,
+            stands_before_end writes node jobs valid legal response until shift (drop 1 offsets) first
+                others acts steadies (others_keep node jobs shift offsets first others keep) p next.0
+                k t a le newest sample.path
+                (stands_before node jobs legal first p next.0 b.0 own next.1.own next.1.later)
+                next.1.is_job next.1.own (omega arith),
+          ))
+    ]
 
 pub fresh_law : (writes : Writes) (node : Node) (jobs : List Job) → IsNode node → AreLegalJobs node jobs
     → OutputsAreFresh writes node jobs

@@ -1,4 +1,4 @@
-pub mod Walks
+pub mod JobWalks
 pub mod TickLaws
 pub mod BelowLaws
 pub mod CalmLaws
@@ -6,10 +6,15 @@ pub mod AboveLaws
 pub mod HandoverLaws
 pub mod OrderLaws
 pub mod WriteLaws
+pub mod RoundLaws
+pub mod LongestLaws
+pub mod PartLaws
+pub mod ClockLaws
 pub mod AgeLaws
+pub mod OffsetLaws
 pub mod NewestLaws
 pub mod ReactionLaws
 pub mod BackLaws
 pub mod GreatestLaws
 pub mod CountLaws
-pub mod PartLaws
+pub mod WalkLaws

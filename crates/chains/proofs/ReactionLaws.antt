@@ -1,56 +1,26 @@
 -- From an event on: a job of the first task, of the next one a job that arrives a handover later or soon after, and so on to
 -- an output; what each of these reads is the one before or a later one.
-use Rattle.std.proofs.Common.{ℕ, zero, suc, ◌+◌, ◌-◌, ◌<◌, ◌≤◌, ◌≡◌, inl, inr, refl}
+use Rattle.std.proofs.Common.{ℕ, ◌+◌, ◌<◌, ◌≤◌, ◌≡◌, inl, inr, refl}
 use Rattle.std.proofs.Common.{arith, List, [], ◌∷◌, length}
+use Rattle.std.specs.Prelude.{drop}
 use Rattle.std.proofs.lemmas.Bool.{cases_lt}
 use Rattle.task_sheet.proofs.Common.{task_at}
 use Rattle.ceiling_kernel.proofs.Common.{Node, Job, job_at, AreLegalJobs, IsNode}
 use Rattle.chains.specs.Starts.{IsReadAt, IsWrittenAt}
 use Rattle.chains.specs.Paths.{IsNewest, LeadsTo, last_task}
-use Rattle.chains.specs.Gaps.{gap_of, Follows, AreSteady, OthersSteady}
-use Rattle.chains.specs.Bounds.{AllAct, bound_of, delay_of, handed_within, written_within}
+use Rattle.chains.specs.Gaps.{gap_of, OthersSteady}
+use Rattle.chains.specs.Clocks.{KeepClock}
+use Rattle.chains.specs.Bounds.{AllAct, delay_of, handed_within, written_within}
+use Rattle.chains.specs.Walks.{first_known, next_by}
 use Rattle.chains.specs.Reactions.{HasBegun, OthersBegun, ReactsBy, ReactionsHold, SamplesAreActedOn}
 use Rattle.chains.specs.declared.bounds.Writes.{Writes}
-use Rattle.chains.proofs.Walks.{IsWalk}
-use Rattle.chains.proofs.AgeLaws.{parts_law, first_acts}
+use Rattle.chains.proofs.JobWalks.{IsWalk}
+use Rattle.chains.proofs.ClockLaws.{ComesBy, Crosses, comes_next, crosses, ends_from, ends_late}
+use Rattle.chains.proofs.ClockLaws.{first_keeps, others_keep, span_in_bound, steady_end}
+use Rattle.chains.proofs.AgeLaws.{first_acts, gap_some}
 use Rattle.chains.proofs.NewestLaws.{newest_exists}
 use Rattle.chains.proofs.WriteLaws.{handed_by, newest_late, read_arrived, reads_by_arrival}
 use Rattle.chains.proofs.WriteLaws.{written_by, written_read}
-
--- job j is of the task, and arrives at a or at most a gap later
-pub record ComesBy (node : Node) (jobs : List Job) (i a j : ℕ) : Type 0 where
-  pub is_job : j < length jobs
-  pub own : (job_at jobs j).task ≡ i
-  pub from : a ≤ (job_at jobs j).arrival
-  pub to : (job_at jobs j).arrival ≤ a + gap_of (task_at node.tasks i)
-
-module _ (node : Node) (jobs : List Job) (until i a : ℕ) (steady : AreSteady node jobs until i)
-    (within : a + gap_of (task_at node.tasks i) ≤ until) where
-  -- a task that has begun goes on
-  pub comes_by : (n j : ℕ) → j < length jobs → (job_at jobs j).task ≡ i → (job_at jobs j).arrival ≤ a
-      → a ≤ (job_at jobs j).arrival + n → (q : ℕ) × ComesBy node jobs i a q
-  comes_by zero j lt own le by =
-      (j, record { is_job = lt; own = own; from = omega arith; to = omega arith })
-  comes_by (suc n) j lt own le by =
-      elim (cases_lt (job_at jobs j).arrival a) [
-        | inr at ↦ (j, record { is_job = lt; own = own; from = at; to = omega arith })
-        | inl before ↦
-            let next : (k : ℕ) × Follows node jobs i j k = steady j lt own (omega arith) in
-            let later = next.1.later in
-            let soon = next.1.in_time in
-            elim (cases_lt (job_at jobs next.0).arrival a) [
-              | inl still ↦ comes_by n next.0 next.1.is_job next.1.own (omega arith) (omega arith)
-              | inr there ↦ (
-                next.0,
-                record {
-                  is_job = next.1.is_job;
-                  own = next.1.own;
-                  from = there;
-                  to = omega arith;
-                },
-              )
-            ]
-      ]
 
 -- an output by a time, whose path begins with a job of the task that arrives no earlier than job q
 record Reached (writes : Writes) (node : Node) (jobs : List Job) (i : ℕ) (others : List ℕ) (q by : ℕ)
@@ -67,27 +37,37 @@ record Reached (writes : Writes) (node : Node) (jobs : List Job) (i : ℕ) (othe
   started : IsReadAt writes node jobs job start
   path : LeadsTo writes node jobs i others job output
 
--- steady tasks that have begun have a walk within the delay
-steady_walk : (writes : Writes) (node : Node) (jobs : List Job) (until : ℕ) (response : ℕ → ℕ) (i : ℕ)
-    (others : List ℕ) → OthersSteady node jobs until i others
-    → (z q by : ℕ) → by ≤ until → OthersBegun jobs z i others → z ≤ (job_at jobs q).arrival
-    → (job_at jobs q).arrival + delay_of writes node response i others ≤ by
+-- steady tasks that have begun have a walk to where what the first one hands on is written by the last
+steady_walk : (writes : Writes) (node : Node) (jobs : List Job) → IsNode node → AreLegalJobs node jobs
+    → (until shift : ℕ) (response : ℕ → ℕ) (offsets : List ℕ) (i : ℕ) (others : List ℕ)
+    → AllAct node jobs response i others → OthersSteady node jobs until i others
+    → KeepClock node jobs shift offsets others
+    → (z q a by : ℕ) → by ≤ until → OthersBegun jobs z i others → z ≤ (job_at jobs q).arrival
+    → (job_at jobs q).arrival + shift ≤ a
+    → ends_from writes offsets node response i others a ≤ by + shift
     → IsWalk writes node jobs response i others q by
-steady_walk writes node jobs until response i [] steadies z q by le begun from to = to
-steady_walk writes node jobs until response i (c ∷ others) steadies z q by le begun from to =
-    let a : ℕ = (job_at jobs q).arrival + handed_within writes node i c (response i) in
+steady_walk writes node jobs valid legal until shift response offsets i [] acts steadies keep z q a by le begun
+    from arrives to =
+    omega arith
+steady_walk writes node jobs valid legal until shift response offsets i (c ∷ others) acts steadies keep z q a
+    by le begun from arrives to =
+    let x : ℕ = a + handed_within writes node i c (response i) in
+    let y : ℕ = next_by (first_known offsets) (gap_of (task_at node.tasks c)) x in
     let first : HasBegun jobs z c = begun.0 in
-    let next : (k : ℕ) × ComesBy node jobs c a k = comes_by node jobs until c a steadies.0
-    (omega arith) (a - (job_at jobs first.0).arrival) first.0 first.1 first.2
-    (omega (arith, first.3)) (omega arith) in
-    let next_from = next.1.from in
-    let next_to = next.1.to in (
+    let next : (r : ℕ) × ComesBy jobs shift c x y r =
+    comes_next node jobs until shift c (first_known offsets) steadies.0
+    (first_keeps node jobs shift offsets c others keep)
+    (gap_some writes node jobs valid legal response c first.0 first.1 first.2) x first.0
+    (omega (arith, ends_late writes node jobs response (drop 1 offsets) c others acts.2 y)) first.1
+    first.2 (omega (arith, first.3)) in
+    let next_from = next.1.from in (
       next.0,
       next.1.is_job,
       next.1.own,
-      next_from,
-      steady_walk writes node jobs until response c others steadies.1 z next.0 by le begun.1
-          (omega arith) (omega arith),
+      omega arith,
+      steady_walk writes node jobs valid legal until shift response (drop 1 offsets) c others acts.2
+          steadies.1 (others_keep node jobs shift offsets c others keep) z next.0 y by le begun.1
+          (omega arith) next.1.to to,
     )
 
 module _ (writes : Writes) (node : Node) (jobs : List Job) (valid : IsNode node)
@@ -190,22 +170,57 @@ module _ (writes : Writes) (node : Node) (jobs : List Job) (valid : IsNode node)
 
 pub reactions_law : (writes : Writes) (node : Node) (jobs : List Job) → IsNode node
     → AreLegalJobs node jobs → ReactionsHold writes node jobs
-reactions_law writes node jobs valid legal until response first others acts steady steadies z one begun within =
-    let parts = (parts_law writes node response first others).delay in
-    let q : (k : ℕ) × ComesBy node jobs first z k = comes_by node jobs until first z steady
-    (omega arith) (z - (job_at jobs one.0).arrival) one.0 one.1 one.2 one.3 (omega arith) in
-    let q_from = q.1.from in
-    let q_to = q.1.to in
-    reacts_from writes node jobs valid legal response first others acts z q.0
-    (z + bound_of writes node response first others) q.1.is_job q.1.own q_from
-    (steady_walk writes node jobs until response first others steadies z q.0
-    (z + bound_of writes node response first others) within begun q_from (omega arith))
+reactions_law writes node jobs valid legal until shift response offsets first others bound acts steady steadies
+    keep is z one begun within =
+    elim (cases_lt (job_at jobs one.0).arrival z) [
+      | inr at ↦ from_job one.0 one.0 one.1 one.2 one.3 one.1 one.2 at (omega arith)
+      | inl before ↦
+          let c : (j : ℕ) × (q : ℕ) × Crosses node jobs first z j q =
+          crosses node jobs until first z steady room z one.0 one.1 one.2 before (omega arith) in
+          let c_before = c.2.before in
+          from_job c.0 c.1 c.2.left c.2.left_own (omega arith) c.2.right c.2.right_own c.2.from
+          c.2.within
+    ]
+  where
+    -- where the walk from a job's next one ends
+    end_after : (j : ℕ) → j < length jobs → (job_at jobs j).task ≡ first
+        → ends_from writes (drop 1 offsets) node response first others
+        ((job_at jobs j).arrival + shift + gap_of (task_at node.tasks first))
+        ≤ (job_at jobs j).arrival + shift + bound
+    end_after j lt own =
+        span_in_bound writes node jobs response shift offsets first others bound keep is j lt own
+
+    -- so a gap ends before the bound
+    room : (j : ℕ) → j < length jobs → (job_at jobs j).task ≡ first → (job_at jobs j).arrival < z
+        → (job_at jobs j).arrival + gap_of (task_at node.tasks first) < until
+    room j lt own before =
+        omega (
+          arith,
+          within,
+          end_after j lt own,
+          ends_late writes node jobs response (drop 1 offsets) first others acts
+              ((job_at jobs j).arrival + shift + gap_of (task_at node.tasks first)),
+        )
+
+    from_job : (j q : ℕ) → j < length jobs → (job_at jobs j).task ≡ first
+        → (job_at jobs j).arrival ≤ z → q < length jobs → (job_at jobs q).task ≡ first
+        → z ≤ (job_at jobs q).arrival
+        → (job_at jobs q).arrival ≤ (job_at jobs j).arrival + gap_of (task_at node.tasks first)
+        → ReactsBy writes node jobs first others z (z + bound)
+    from_job j q lt own le lt' own' from soon =
+        reacts_from writes node jobs valid legal response first others acts z q (z + bound) lt' own'
+        from
+        (steady_walk writes node jobs valid legal until shift response (drop 1 offsets) first others
+        acts steadies (others_keep node jobs shift offsets first others keep) z q
+        ((job_at jobs j).arrival + shift + gap_of (task_at node.tasks first)) (z + bound) within begun
+        from (omega arith) (omega (arith, end_after j lt own)))
 
 pub acted_law : (writes : Writes) (node : Node) (jobs : List Job) → IsNode node → AreLegalJobs node jobs
     → SamplesAreActedOn writes node jobs
 acted_law writes node jobs valid legal until response first others acts steadies q s own read begun within =
-    reacts_to_read writes node jobs valid legal response first others acts q s
-    ((job_at jobs q).arrival + delay_of writes node response first others) own read
-    (steady_walk writes node jobs until response first others steadies (job_at jobs q).arrival q
-    ((job_at jobs q).arrival + delay_of writes node response first others) within begun (omega arith)
-    (omega arith))
+    let a : ℕ = (job_at jobs q).arrival in
+    let by : ℕ = a + delay_of writes node response first others in
+    reacts_to_read writes node jobs valid legal response first others acts q s by own read
+    (steady_walk writes node jobs valid legal until 0 response [] first others acts steadies tt a q a
+    by within begun (omega arith) (omega arith)
+    (omega (arith, steady_end writes node response first others a)))

@@ -3,7 +3,9 @@ pub mod Handovers
 pub mod Orders
 pub mod Paths
 pub mod Gaps
+pub mod Clocks
 pub mod Bounds
 pub mod Ages
 pub mod Reactions
+pub mod Walks
 pub mod Parts

@@ -1,9 +1,12 @@
 -- How long until a chain acts on an event.
-use Rattle.std.specs.Prelude.{◌≡◌, ℕ, ◌+◌, ◌<◌, ◌≤◌, List, [], ◌∷◌, length}
+use Rattle.std.specs.Prelude.{◌≡◌, ℕ, ◌+◌, ◌<◌, ◌≤◌, List, [], ◌∷◌, length, Some}
 use Rattle.ceiling_kernel.specs.Tick.{Node, Job, job_at}
 use Rattle.chains.specs.Paths.{last_task, IsSampleOf}
 use Rattle.chains.specs.Gaps.{AreSteady, OthersSteady}
-use Rattle.chains.specs.Bounds.{AllAct, bound_of, delay_of}
+use Rattle.chains.specs.Clocks.{KeepClock}
+use Rattle.chains.specs.Bounds.{AllAct, delay_of}
+use Rattle.chains.specs.Walks.{bound_by}
+use Rattle.chains.specs.Parts.{steps_of}
 use Rattle.chains.specs.Starts.{IsReadAt, IsWrittenAt}
 use Rattle.chains.specs.declared.bounds.Writes.{Writes}
 
@@ -32,12 +35,13 @@ pub record ReactsBy (writes : Writes) (node : Node) (jobs : List Job) (first : �
 -- once all tasks of a chain have begun, an event is acted on within the bound, until the end of the run
 abbrev pub ReactionsHold : Writes → Node → List Job → Type 0
 ReactionsHold writes node jobs =
-    (until : ℕ) (response : ℕ → ℕ) (first : ℕ) (others : List ℕ)
+    (until shift : ℕ) (response : ℕ → ℕ) (offsets : List ℕ) (first : ℕ) (others : List ℕ) (bound : ℕ)
     → AllAct node jobs response first others
     → AreSteady node jobs until first → OthersSteady node jobs until first others
+    → KeepClock node jobs shift offsets (first ∷ others)
+    → bound_by (steps_of writes offsets node response (first ∷ others)) ≡ Some bound
     → (z : ℕ) → HasBegun jobs z first → OthersBegun jobs z first others
-    → z + bound_of writes node response first others ≤ until
-    → ReactsBy writes node jobs first others z (z + bound_of writes node response first others)
+    → z + bound ≤ until → ReactsBy writes node jobs first others z (z + bound)
 
 -- what job q of the first task samples, or a later sample, is acted on within the bound less the first gap, counted from the
 -- arrival of the job: the first task may be sporadic

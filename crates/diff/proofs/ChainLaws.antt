@@ -37,14 +37,14 @@ still_named : (U : List Task) (was : List Level) (old : ChainData) (o : Option C
     → chain_gone_to U was old o ≡ [] → (new : ChainData) × (o ≡ Some new)
 still_named U was old (Some new) none = (new, refl)
 still_named U was old None none =
-    absurd (some_line (chain_words Removed old.name (bound_in old.writes U was old.tasks) old.limit None None) none)
+    absurd (some_line (chain_words Removed old.name (bound_in old.writes old.offsets U was old.tasks) old.limit None None) none)
 
 -- ---- each new one was there before, and says the same
 was_named : (U : List Task) (was : List Level) (o : Option ChainData) (V : List Task) (is : List Level)
     (new : ChainData) → chain_edit_of U was o V is new ≡ [] → (old : ChainData) × (o ≡ Some old)
 was_named U was (Some old) V is new none = (old, refl)
 was_named U was None V is new none =
-    absurd (some_line (chain_words Added new.name None None (bound_in new.writes V is new.tasks) new.limit) none)
+    absurd (some_line (chain_words Added new.name None None (bound_in new.writes new.offsets V is new.tasks) new.limit) none)
 
 says_same : (U : List Task) (was : List Level) (old : ChainData) (V : List Task) (is : List Level)
     (new : ChainData) → chain_other U was old V is new ≡ [] → same_chain U old V new ≡ true
@@ -52,7 +52,7 @@ says_same U was old V is new none =
     elim (cases_Bool (same_chain U old V new)) [
       | inl same ↦ same
       | inr other ↦ absurd (some_line
-          (chain_words Changed new.name (bound_in old.writes U was old.tasks) old.limit (bound_in new.writes V is new.tasks) new.limit
+          (chain_words Changed new.name (bound_in old.writes old.offsets U was old.tasks) old.limit (bound_in new.writes new.offsets V is new.tasks) new.limit
           ++ chain_keys U old V new)
           (rw other at none))
     ]
@@ -95,7 +95,7 @@ module _ (U : List Task) (was : List Level) (olds : List ChainData) (V : List Ta
         old = old;
         named = named;
         same = same;
-        bound = same_bound new (bound_in old.writes U was old.tasks) (bound_in new.writes V is new.tasks) (rw same at stays);
+        bound = same_bound new (bound_in old.writes old.offsets U was old.tasks) (bound_in new.writes new.offsets V is new.tasks) (rw same at stays);
       }
 
   kept : (new : ChainData) → chain_edit U was olds V is new ≡ [] → chain_rest U was olds V is new ≡ []

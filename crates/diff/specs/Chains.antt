@@ -1,5 +1,5 @@
 -- The lines of what a change does to a set's chains.
-use Rattle.std.specs.Prelude.{ℕ, ◌-◌, nat_le, nat_lt, Bool, true, false, ◌&&◌, List, [], ◌∷◌, ◌++◌, codes, slice_get, Option, Some, None, if◌then◌else◌}
+use Rattle.std.specs.Prelude.{ℕ, ◌-◌, ◌==◌, nat_le, nat_lt, Bool, true, false, ◌&&◌, List, [], ◌∷◌, ◌++◌, codes, slice_get, Option, Some, None, if◌then◌else◌}
 use Rattle.std.specs.Fmt.{decimal}
 use Rattle.task_sheet.specs.Sheet.{Task, same_bytes}
 use Rattle.lines.specs.Known.{some_words}
@@ -36,11 +36,18 @@ same_writes AtFinish AtFinish = true
 same_writes AtDeadline AtDeadline = true
 same_writes _ _ = false
 
+-- two lists have the same offsets
+abbrev pub same_offsets : List ℕ → List ℕ → Bool
+same_offsets [] [] = true
+same_offsets [] (new ∷ news) = false
+same_offsets (old ∷ olds) [] = false
+same_offsets (old ∷ olds) (new ∷ news) = (old == new) && same_offsets olds news
+
 -- two chains say the same, beside their names
 abbrev pub same_chain : List Task → ChainData → List Task → ChainData → Bool
 same_chain U old V new =
     same_tasks U old.tasks V new.tasks && same_number old.limit new.limit
-    && same_writes old.writes new.writes
+    && same_offsets old.offsets new.offsets && same_writes old.writes new.writes
 
 -- the chain of a name, where there is one
 abbrev pub chain_named : List ChainData → List ℕ → Option ChainData
@@ -91,6 +98,22 @@ limit_words old new =
     if same_number old new then []
     else codes " limit " ++ some_words old ++ codes " " ++ some_words new
 
+-- offsets, each behind a sign `+`
+abbrev pub plus_offsets : List ℕ → List ℕ
+plus_offsets [] = []
+plus_offsets (offset ∷ offsets) = codes "+" ++ decimal offset ++ plus_offsets offsets
+
+-- the same with a sign between each two; `-` of none
+abbrev pub offsets_word : List ℕ → List ℕ
+offsets_word [] = codes "-"
+offsets_word (offset ∷ offsets) = decimal offset ++ plus_offsets offsets
+
+-- the offsets before and after, where they are others
+abbrev pub offsets_words : (olds news : List ℕ) → List ℕ
+offsets_words olds news =
+    if same_offsets olds news then []
+    else codes " offsets " ++ offsets_word olds ++ codes " " ++ offsets_word news
+
 -- what a document calls it
 abbrev pub writes_word : Writes → List ℕ
 writes_word AtFinish = codes "finish"
@@ -106,14 +129,14 @@ writes_words old new =
 unfoldable pub chain_keys : List Task → ChainData → List Task → ChainData → List ℕ
 chain_keys U old V new =
     codes " keys" ++ tasks_words U old.tasks V new.tasks ++ limit_words old.limit new.limit
-    ++ writes_words old.writes new.writes
+    ++ offsets_words old.offsets new.offsets ++ writes_words old.writes new.writes
 
 -- ---- each chain
 -- the line of a chain that is gone
 abbrev pub chain_gone_to : List Task → List Level → ChainData → Option ChainData → List ℕ
 chain_gone_to U was old (Some new) = []
 chain_gone_to U was old None =
-    chain_words Removed old.name (bound_in old.writes U was old.tasks) old.limit None None ++ codes "\n"
+    chain_words Removed old.name (bound_in old.writes old.offsets U was old.tasks) old.limit None None ++ codes "\n"
 
 -- the same, where no new chain has its name
 abbrev pub chain_gone : List Task → List Level → List ChainData → ChainData → List ℕ
@@ -123,15 +146,15 @@ chain_gone U was news old = chain_gone_to U was old (chain_named news old.name)
 abbrev pub chain_other : List Task → List Level → ChainData → List Task → List Level → ChainData → List ℕ
 chain_other U was old V is new =
     if same_chain U old V new then []
-    else chain_words Changed new.name (bound_in old.writes U was old.tasks) old.limit
-    (bound_in new.writes V is new.tasks) new.limit
+    else chain_words Changed new.name (bound_in old.writes old.offsets U was old.tasks) old.limit
+    (bound_in new.writes new.offsets V is new.tasks) new.limit
     ++ chain_keys U old V new ++ codes "\n"
 
 -- the line of what was done to a chain, which was there before or not
 abbrev pub chain_edit_of : List Task → List Level → Option ChainData → List Task → List Level → ChainData → List ℕ
 chain_edit_of U was (Some old) V is new = chain_other U was old V is new
 chain_edit_of U was None V is new =
-    chain_words Added new.name None None (bound_in new.writes V is new.tasks) new.limit ++ codes "\n"
+    chain_words Added new.name None None (bound_in new.writes new.offsets V is new.tasks) new.limit ++ codes "\n"
 
 abbrev pub chain_edit : List Task → List Level → List ChainData → List Task → List Level → ChainData → List ℕ
 chain_edit U was olds V is new = chain_edit_of U was (chain_named olds new.name) V is new
@@ -157,7 +180,7 @@ chain_moved new (Some was) (Some is) = chain_effect new was is (bound_effect was
 abbrev pub chain_kept : List Task → List Level → ChainData → List Task → List Level → ChainData → List ℕ
 chain_kept U was old V is new =
     if same_chain U old V new then
-    chain_moved new (bound_in old.writes U was old.tasks) (bound_in new.writes V is new.tasks)
+    chain_moved new (bound_in old.writes old.offsets U was old.tasks) (bound_in new.writes new.offsets V is new.tasks)
     else []
 
 abbrev pub chain_rest_of : List Task → List Level → Option ChainData → List Task → List Level → ChainData → List ℕ

@@ -11,13 +11,13 @@ abbrev pub IsSameBound : (was is : Option ℕ) → Type 0
 IsSameBound (Some was) (Some is) = was ≡ is
 IsSameBound _ _ = Unit {0}
 
--- a new chain that was there before, with the same tasks and limit, which write as they did, and the same bound
+-- a new chain that was there before, with the same tasks, limit and offsets, which write as they did, and the same bound
 pub record IsChainKept (U : List Task) (was : List Level) (olds : List ChainData) (V : List Task)
     (is : List Level) (new : ChainData) : Type 0 where
   pub old : ChainData
   pub named : chain_named olds new.name ≡ Some old
   pub same : same_chain U old V new ≡ true
-  pub bound : IsSameBound (bound_in old.writes U was old.tasks) (bound_in new.writes V is new.tasks)
+  pub bound : IsSameBound (bound_in old.writes old.offsets U was old.tasks) (bound_in new.writes new.offsets V is new.tasks)
 
 -- there is a chain of this one's name
 abbrev pub HasNamed : List ChainData → ChainData → Type 0

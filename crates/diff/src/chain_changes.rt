@@ -1,7 +1,7 @@
 //! What a change does to a set's chains.
 ghost use Rattle.std.specs.Prelude.{◌≡◌, ◌++◌, IfOk, OnOk, option_map, slice_get, string_bytes};
 ghost use Rattle.chains.specs.Parts.{bound_in};
-ghost use Rattle.diff.specs.Chains.{bound_effect, bounds_words, chain_changes, chain_edit, chain_effect, chain_gone, chain_keys, chain_kept, chain_moved, chain_named, chain_other, chain_rest, chain_words, each_chain, limit_words, plus_tasks, same_chain, same_name, same_tasks, same_writes, slack_words, slacks_words, tasks_word, tasks_words, writes_word, writes_words};
+ghost use Rattle.diff.specs.Chains.{bound_effect, bounds_words, chain_changes, chain_edit, chain_effect, chain_gone, chain_keys, chain_kept, chain_moved, chain_named, chain_other, chain_rest, chain_words, each_chain, limit_words, offsets_word, offsets_words, plus_offsets, plus_tasks, same_chain, same_name, same_offsets, same_tasks, same_writes, slack_words, slacks_words, tasks_word, tasks_words, writes_word, writes_words};
 
 use crate::pairs::push_pair;
 use crate::text::Kind;
@@ -70,12 +70,32 @@ fn same_writes(old: Writes, new: Writes) -> bool
     }
 }
 
+// Two lists have the same offsets.
+fn same_offsets(olds: &[u64], news: &[u64]) -> bool
+    ensures { result ≡ same_offsets olds.now news.now }
+{
+    let mut rest = olds;
+    let mut others = news;
+    while let Some((old, behind)) = rest.split_first() {
+        let Some((new, after)) = others.split_first() else {
+            return false;
+        };
+        if *old != *new {
+            return false;
+        }
+        rest = behind;
+        others = after;
+    }
+    others.is_empty()
+}
+
 // Two chains say the same, beside their names.
 fn same_chain(old: &TaskSet, was: &Chain, new: &TaskSet, is: &Chain) -> bool
     ensures { result ≡ same_chain old.now was.now new.now is.now }
 {
     same_tasks(old, &was.tasks, new, &is.tasks)
         && same_number(was.limit, is.limit)
+        && same_offsets(&was.offsets, &is.offsets)
         && same_writes(was.writes, is.writes)
 }
 
@@ -202,6 +222,40 @@ fn push_limits(text: &mut String, old: Option<u64>, new: Option<u64>) -> Result<
     push_pair(text, " limit ", old, new)
 }
 
+// Offsets, each behind a sign `+`.
+fn push_plus_offsets(text: &mut String, offsets: &[u64]) -> Result<(), AllocError>
+    ensures { OnOk result (string_bytes text.new ≡ string_bytes text.old ++ plus_offsets offsets.now) }
+{
+    for offset in offsets {
+        write!(text, "+{offset}")?;
+    }
+    Ok(())
+}
+
+// The same with a sign between each two; `-` of none.
+fn push_offsets(text: &mut String, offsets: &[u64]) -> Result<(), AllocError>
+    ensures { OnOk result (string_bytes text.new ≡ string_bytes text.old ++ offsets_word offsets.now) }
+{
+    let Some((offset, others)) = offsets.split_first() else {
+        return text.push_str("-");
+    };
+    write!(text, "{offset}")?;
+    push_plus_offsets(text, others)
+}
+
+// The offsets before and after, where they are others.
+fn push_both_offsets(text: &mut String, old: &[u64], new: &[u64]) -> Result<(), AllocError>
+    ensures { OnOk result (string_bytes text.new ≡ string_bytes text.old ++ offsets_words old.now new.now) }
+{
+    if same_offsets(old, new) {
+        return Ok(());
+    }
+    text.push_str(" offsets ")?;
+    push_offsets(text, old)?;
+    text.push_str(" ")?;
+    push_offsets(text, new)
+}
+
 // What a document calls it.
 fn writes_word(writes: Writes) -> &'static str
     ensures { result.now ≡ writes_word writes }
@@ -228,14 +282,23 @@ fn push_writes(text: &mut String, old: Writes, new: Writes) -> Result<(), AllocE
 // ---- each chain
 
 // A chain's bound in a set, and its limit.
-fn bounded(side: &ChainSide<'_>, chain: &Chain) -> Held
-    ensures bound { result.bound ≡ bound_in chain.now.writes side.now.set.now side.now.levels.now chain.now.tasks }
-    ensures limit { result.limit ≡ chain.now.limit }
+fn bounded(alloc: Global, side: &ChainSide<'_>, chain: &Chain) -> Result<Held, AllocError>
+    ensures bound { IfOk result (λ held. held.bound
+        ≡ bound_in chain.now.writes chain.now.offsets side.now.set.now side.now.levels.now chain.now.tasks) }
+    ensures limit { IfOk result (λ held. held.limit ≡ chain.now.limit) }
 {
-    Held {
-        bound: bound_of(side.set, side.levels, chain.writes, &chain.tasks),
+    let bound = bound_of(
+        alloc,
+        side.set,
+        side.levels,
+        chain.writes,
+        &chain.offsets,
+        &chain.tasks,
+    )?;
+    Ok(Held {
+        bound,
         limit: chain.limit,
-    }
+    })
 }
 
 // Where there is no chain.
@@ -251,6 +314,7 @@ fn nothing() -> Held
 
 // The line of a chain that is gone, where no new chain has its name.
 fn push_gone(
+    alloc: Global,
     text: &mut String,
     old: &ChainSide<'_>,
     news: &[Chain],
@@ -266,7 +330,7 @@ fn push_gone(
                 text,
                 Kind::Removed,
                 chain.name,
-                bounded(old, chain),
+                bounded(alloc, old, chain)?,
                 nothing(),
             )?;
             text.push_str("\n")
@@ -288,11 +352,13 @@ fn push_chain_keys(
     text.push_str(" keys")?;
     push_both_tasks(text, old, &was.tasks, new, &is.tasks)?;
     push_limits(text, was.limit, is.limit)?;
+    push_both_offsets(text, &was.offsets, &is.offsets)?;
     push_writes(text, was.writes, is.writes)
 }
 
 // The line of a chain that was there before, and says something else.
 fn push_other(
+    alloc: Global,
     text: &mut String,
     old: &ChainSide<'_>,
     was: &Chain,
@@ -309,8 +375,8 @@ fn push_other(
         text,
         Kind::Changed,
         is.name,
-        bounded(old, was),
-        bounded(new, is),
+        bounded(alloc, old, was)?,
+        bounded(alloc, new, is)?,
     )?;
     push_chain_keys(text, old.set, was, new.set, is)?;
     text.push_str("\n")
@@ -318,6 +384,7 @@ fn push_other(
 
 // The line of what was done to a chain, where anything was.
 fn push_edit(
+    alloc: Global,
     text: &mut String,
     old: &ChainSide<'_>,
     new: &ChainSide<'_>,
@@ -328,14 +395,14 @@ fn push_edit(
         new.now.set.now new.now.levels.now chain.now) }
 {
     match chain_named(old.chains, chain.name) {
-        Some(was) => push_other(text, old, was, new, chain),
+        Some(was) => push_other(alloc, text, old, was, new, chain),
         None => {
             push_start(
                 text,
                 Kind::Added,
                 chain.name,
                 nothing(),
-                bounded(new, chain),
+                bounded(alloc, new, chain)?,
             )?;
             text.push_str("\n")
         }
@@ -380,6 +447,7 @@ fn push_effect(text: &mut String, chain: &Chain, was: u128, is: u128) -> Result<
 
 // The line of what comes of the change to a chain that says the same.
 fn push_kept(
+    alloc: Global,
     text: &mut String,
     old: &ChainSide<'_>,
     was: &Chain,
@@ -392,7 +460,9 @@ fn push_kept(
     if !same_chain(old.set, was, new.set, is) {
         return Ok(());
     }
-    match (bounded(old, was).bound, bounded(new, is).bound) {
+    let before = bounded(alloc, old, was)?;
+    let after = bounded(alloc, new, is)?;
+    match (before.bound, after.bound) {
         (Some(from), Some(to)) => push_effect(text, is, from, to),
         _ => Ok(()),
     }
@@ -400,6 +470,7 @@ fn push_kept(
 
 // The same of a new chain that was there before.
 fn push_rest(
+    alloc: Global,
     text: &mut String,
     old: &ChainSide<'_>,
     new: &ChainSide<'_>,
@@ -410,7 +481,7 @@ fn push_rest(
         new.now.set.now new.now.levels.now chain.now) }
 {
     match chain_named(old.chains, chain.name) {
-        Some(was) => push_kept(text, old, was, new, chain),
+        Some(was) => push_kept(alloc, text, old, was, new, chain),
         None => Ok(()),
     }
 }
@@ -419,6 +490,7 @@ fn push_rest(
 
 // The lines of the chains that are gone.
 fn push_all_gone(
+    alloc: Global,
     text: &mut String,
     old: &ChainSide<'_>,
     new: &ChainSide<'_>,
@@ -427,31 +499,41 @@ fn push_all_gone(
         ++ each_chain (chain_gone old.now.set.now old.now.levels.now new.now.chains.now) old.now.chains.now) }
 {
     for chain in old.chains {
-        push_gone(text, old, new.chains, chain)?;
+        push_gone(alloc, text, old, new.chains, chain)?;
     }
     Ok(())
 }
 
 // The lines of what was done to the new chains.
-fn push_edits(text: &mut String, old: &ChainSide<'_>, new: &ChainSide<'_>) -> Result<(), AllocError>
+fn push_edits(
+    alloc: Global,
+    text: &mut String,
+    old: &ChainSide<'_>,
+    new: &ChainSide<'_>,
+) -> Result<(), AllocError>
     ensures { OnOk result (string_bytes text.new ≡ string_bytes text.old
         ++ each_chain (chain_edit old.now.set.now old.now.levels.now old.now.chains.now
         new.now.set.now new.now.levels.now) new.now.chains.now) }
 {
     for chain in new.chains {
-        push_edit(text, old, new, chain)?;
+        push_edit(alloc, text, old, new, chain)?;
     }
     Ok(())
 }
 
 // The lines of what comes of the change to the others.
-fn push_rests(text: &mut String, old: &ChainSide<'_>, new: &ChainSide<'_>) -> Result<(), AllocError>
+fn push_rests(
+    alloc: Global,
+    text: &mut String,
+    old: &ChainSide<'_>,
+    new: &ChainSide<'_>,
+) -> Result<(), AllocError>
     ensures { OnOk result (string_bytes text.new ≡ string_bytes text.old
         ++ each_chain (chain_rest old.now.set.now old.now.levels.now old.now.chains.now
         new.now.set.now new.now.levels.now) new.now.chains.now) }
 {
     for chain in new.chains {
-        push_rest(text, old, new, chain)?;
+        push_rest(alloc, text, old, new, chain)?;
     }
     Ok(())
 }
@@ -468,8 +550,8 @@ pub fn chain_text(
         new.now.set.now new.now.levels.now new.now.chains.now) }
 {
     let mut text = String::new(alloc);
-    push_all_gone(&mut text, old, new)?;
-    push_edits(&mut text, old, new)?;
-    push_rests(&mut text, old, new)?;
+    push_all_gone(alloc, &mut text, old, new)?;
+    push_edits(alloc, &mut text, old, new)?;
+    push_rests(alloc, &mut text, old, new)?;
     Ok(text)
 }

@@ -1,66 +1,54 @@
--- Passing at a factor: other factors and sets, fewer tasks above, a longer limit below the others.
-use Rattle.std.proofs.Common.{◌≡◌, ◌↔◌, ℕ, ◌≤◌, true, cond, List, [], ◌∷◌, length, refl, sym, ◌∙◌}
-use Rattle.std.proofs.Common.{inl, inr, ap, arith}
+-- Passing at a factor: other factors, and what decides at each.
+use Rattle.std.proofs.Common.{◌≡◌, ◌↔◌, ℕ, ◌*◌, ◌≤◌, List, refl, inl, inr, arith}
 use Rattle.std.proofs.Math.Nat.{mul-le-mul_left, mul-le-mul_right}
 use Rattle.std.proofs.lemmas.Bool.{cases_lt}
-use Rattle.task_sheet.proofs.Common.{Task, AllTasks, no_task, task_at, Indexes, IsPart, below}
-use Rattle.task_sheet.proofs.Common.{without_index, among, limit_of, demand_of, all_of, Passes}
-use Rattle.task_sheet.proofs.Common.{AllStand, IsPassingOrder, IsFeasible}
-use Rattle.task_sheet.proofs.Exchange.{demand-part}
-use Rattle.task_sheet.proofs.PassingLaws.{must_outrank_any-part}
-use Rattle.latest_first.specs.LatestFirst.{AllPrompt}
-use Rattle.latest_first.proofs.LaterLimits.{once-within, cost-within, demand-split, inside}
-use Rattle.factor.specs.Factors.{PassesAt, StandsAt, AllStandAt, IsPassingAt, IsFeasibleAt}
-use Rattle.factor.specs.Factors.{IsGreatestFor}
+use Rattle.task_sheet.proofs.Common.{Task, Indexes, demand_of, Passes, IsPassingOrder, IsFeasible}
+use Rattle.latest_first.specs.Tested.{AllStandBy, StandsBy}
+use Rattle.latest_first.proofs.LaterLimits.{PassesWhere}
+use Rattle.latest_first.proofs.OneOrder.{AllStandBy-to, Covering, IsPassing-by, IsPassingBy-to, IsFeasibleBy-to}
+use Rattle.factor.specs.Factors.{PassesAt, IsPassingAt, IsFeasibleAt, IsGreatestFor}
 
--- ---- other factors, in sets of as many tasks
-module _ (f g : ℕ) (U V : List Task) (count : length V ≡ length U)
-    (to : (i : ℕ) (H : Indexes) → StandsAt f U i H → StandsAt g V i H) where
-  AllStandAt-to : (order : List ℕ) → AllStandAt f U order → AllStandAt g V order
-  AllStandAt-to [] all = tt
-  AllStandAt-to (i ∷ above) all = (to i (among above) all.0, AllStandAt-to above all.1)
+-- so many thousandths of a demand are covered
+abbrev pub Slowed : (factor need time : ℕ) → Type 0
+Slowed factor need time = factor * need ≤ 1000 * time
 
-  pub IsPassingAt-to : (order : List ℕ) → IsPassingAt f U order → IsPassingAt g V order
-  IsPassingAt-to order passing = record {
-    each_once = λ k. passing.each_once k ∙ ap (λ n. cond (below n k) 1 0) (sym count);
-    each_stands = AllStandAt-to order passing.each_stands;
-  }
+pub slowed-eased : (factor low high time : ℕ) → low ≤ high → Slowed factor high time → Slowed factor low time
+slowed-eased factor low high time le covered = omega (arith, mul-le-mul_left factor le, covered)
 
+-- ---- other factors
 module _ (U : List Task) (low high : ℕ) (le : low ≤ high) where
   pub PassesAt-less : (i : ℕ) (H : Indexes) → PassesAt high U i H → PassesAt low U i H
   PassesAt-less i H (t, positive, within, covered) =
       (t, positive, within, omega (arith, mul-le-mul_right (demand_of U i H t) le, covered))
 
-  pub AllStandAt-less : (order : List ℕ) → AllStandAt high U order → AllStandAt low U order
-  AllStandAt-less =
-      AllStandAt-to high low U U refl (λ i H stands. (PassesAt-less i H stands.0, stands.1))
+  StandsAt-less : (i : ℕ) (H : Indexes) → StandsBy (PassesAt high U) U i H
+      → StandsBy (PassesAt low U) U i H
+  StandsAt-less i H stands = (PassesAt-less i H stands.0, stands.1)
+
+  pub AllStandAt-less : (order : List ℕ) → AllStandBy (PassesAt high U) U order
+      → AllStandBy (PassesAt low U) U order
+  AllStandAt-less = AllStandBy-to (PassesAt high U) (PassesAt low U) U U refl StandsAt-less
 
   pub IsPassingAt-less : (order : List ℕ) → IsPassingAt high U order → IsPassingAt low U order
-  IsPassingAt-less =
-      IsPassingAt-to high low U U refl (λ i H stands. (PassesAt-less i H stands.0, stands.1))
+  IsPassingAt-less = IsPassingBy-to (PassesAt high U) (PassesAt low U) U U refl StandsAt-less
 
   pub IsFeasibleAt-less : IsFeasibleAt high U → IsFeasibleAt low U
-  IsFeasibleAt-less feasible = (feasible.0, IsPassingAt-less feasible.0 feasible.1)
+  IsFeasibleAt-less = IsFeasibleBy-to (PassesAt high U) (PassesAt low U) U U refl StandsAt-less
 
 -- ---- 1000 thousandths
 module _ (U : List Task) where
   pub Passes-from : (i : ℕ) (H : Indexes) → PassesAt 1000 U i H → Passes U i H
   Passes-from i H (t, positive, within, covered) = (t, positive, within, omega (arith, covered))
 
-  AllStand-from : (order : List ℕ) → AllStandAt 1000 U order → AllStand U order
-  AllStand-from [] all = tt
-  AllStand-from (i ∷ above) ((passes, free), all) =
-      ((Passes-from i (among above) passes, free), AllStand-from above all)
-
-  AllStand-at : (order : List ℕ) → AllStand U order → AllStandAt 1000 U order
-  AllStand-at [] all = tt
-  AllStand-at (i ∷ above) (((t, positive, within, covered), free), all) =
-      (((t, positive, within, omega (arith, covered)), free), AllStand-at above all)
+  Passes-at : (i : ℕ) (H : Indexes) → Passes U i H → PassesAt 1000 U i H
+  Passes-at i H (t, positive, within, covered) = (t, positive, within, omega (arith, covered))
 
   pub IsPassing-same : (order : List ℕ) → IsPassingAt 1000 U order ↔ IsPassingOrder U order
   IsPassing-same order = (
-    λ p. record { each_once = p.each_once; each_stands = AllStand-from order p.each_stands },
-    λ p. record { each_once = p.each_once; each_stands = AllStand-at order p.each_stands },
+    λ p. (IsPassing-by U order).1 (IsPassingBy-to (PassesAt 1000 U) (PassesWhere Covering U) U U refl
+        (λ i H stands. (Passes-from i H stands.0, stands.1)) order p),
+    λ p. IsPassingBy-to (PassesWhere Covering U) (PassesAt 1000 U) U U refl
+        (λ i H stands. (Passes-at i H stands.0, stands.1)) order ((IsPassing-by U order).0 p),
   )
 
   pub IsFeasible-same : IsFeasibleAt 1000 U ↔ IsFeasible U
@@ -68,25 +56,6 @@ module _ (U : List Task) where
     λ feasible. (feasible.0, (IsPassing-same feasible.0).0 feasible.1),
     λ feasible. (feasible.0, (IsPassing-same feasible.0).1 feasible.1),
   )
-
--- ---- fewer tasks above
-pub StandsAt-part : (U : List Task) → AllTasks U → (f i : ℕ) (H G : Indexes) → IsPart H G
-    → StandsAt f U i G → StandsAt f U i H
-StandsAt-part U valid f i H G part ((t, positive, within, covered), free) =
-    let less = mul-le-mul_left f (demand-part U valid i H G part t positive) in
-    ((t, positive, within, omega (arith, less, covered)), must_outrank_any-part U i H G part free)
-
--- ---- below all others of some: within the limit of one of them another one's demand is no greater
-pub PassesAt-later : (U : List Task) → AllPrompt U → (L : Indexes) → IsPart L (all_of U)
-    → (f i j : ℕ) → L i ≡ true → L j ≡ true → limit_of (task_at U j) ≤ limit_of (task_at U i)
-    → PassesAt f U j (without_index L j) → PassesAt f U i (without_index L i)
-PassesAt-later U prompt L part f i j member member' later (t, positive, within, covered) =
-    let own = demand-split U prompt L part i t member in
-    let other = demand-split U prompt L part j t member' in
-    let most = cost-within (task_at U i) t (prompt i no_task (inside U prompt L part i member)) positive in
-    let once = once-within (task_at U j) t (prompt j no_task (inside U prompt L part j member')) positive within in
-    let less : demand_of U i (without_index L i) t ≤ demand_of U j (without_index L j) t = omega arith in
-    (t, positive, omega (arith, within, later), omega (arith, mul-le-mul_left f less, covered))
 
 -- ---- the greatest number at which something is so that is so of each lesser one
 module _ (IsSo : ℕ → Type 0) (less : (low high : ℕ) → low ≤ high → IsSo high → IsSo low) where

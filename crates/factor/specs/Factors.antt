@@ -1,10 +1,10 @@
 -- All execution of a set taken so many thousandths of itself, as on a slower processor, and the greatest such factor with
 -- which some order passes.
-use Rattle.std.specs.Prelude.{ℕ, ◌*◌, ◌<◌, ◌≤◌, List, [], ◌∷◌, Option, Some, None, IsFalse}
+use Rattle.std.specs.Prelude.{ℕ, ◌*◌, ◌<◌, ◌≤◌, List, Option, Some, None}
 use Rattle.task_sheet.specs.Sheet.{Task, task_at}
-use Rattle.task_sheet.specs.Indexes.{Indexes, among}
+use Rattle.task_sheet.specs.Indexes.{Indexes}
 use Rattle.task_sheet.specs.Demand.{limit_of, demand_of}
-use Rattle.task_sheet.specs.Orders.{must_outrank_any, IsOrder}
+use Rattle.latest_first.specs.Tested.{IsPassingBy, IsFeasibleBy}
 
 -- task i passes with the tasks H above it where all execution takes so many thousandths: some time from 1 to its limit
 -- covers as much of its demand
@@ -12,23 +12,13 @@ abbrev pub PassesAt : (factor : ℕ) → List Task → ℕ → Indexes → Type 
 PassesAt factor U i H =
     (t : ℕ) × (1 ≤ t) × (t ≤ limit_of (task_at U i)) × (factor * demand_of U i H t ≤ 1000 * t)
 
--- it passes so, and need not stand above any of them
-abbrev pub StandsAt : (factor : ℕ) → List Task → ℕ → Indexes → Type 0
-StandsAt factor U i H = PassesAt factor U i H × IsFalse (must_outrank_any U i H)
-
--- each task stands so below those after it
-abbrev pub AllStandAt : (factor : ℕ) → List Task → List ℕ → Type 0
-AllStandAt factor U [] = Unit {0}
-AllStandAt factor U (i ∷ above) = StandsAt factor U i (among above) × AllStandAt factor U above
-
 -- an order of the set in which each task passes so
-pub record IsPassingAt (factor : ℕ) (U : List Task) (order : List ℕ) : Type 0 where
-  pub each_once : IsOrder U order
-  pub each_stands : AllStandAt factor U order
+abbrev pub IsPassingAt : (factor : ℕ) → List Task → List ℕ → Type 0
+IsPassingAt factor U order = IsPassingBy (PassesAt factor U) U order
 
 -- some order passes so
 abbrev pub IsFeasibleAt : (factor : ℕ) → List Task → Type 0
-IsFeasibleAt factor U = (order : List ℕ) × IsPassingAt factor U order
+IsFeasibleAt factor U = IsFeasibleBy (PassesAt factor U) U
 
 -- the greatest factor, from 1 on, at which something is so
 pub record IsGreatestFor (IsSo : ℕ → Type 0) (factor : ℕ) : Type 0 where

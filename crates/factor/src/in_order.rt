@@ -3,8 +3,8 @@ ghost use Rattle.std.specs.Prelude.{◌<◌, length};
 ghost use Rattle.task_sheet.specs.Orders.{IsOrder};
 ghost use Rattle.factor.specs.Factors.{AnswersFactorOf};
 
-use crate::first::must_outrank;
 use crate::most::{FACTOR_END, most_below};
+use assignment::least_over;
 use ceilings::Tabled;
 use task_sheet::Members;
 
@@ -15,17 +15,14 @@ pub fn factor_in_order(set: &Tabled<'_>, order: &[usize]) -> Option<u64>
     requires each { IsOrder set.now order.now }
     ensures { AnswersFactorOf set.now order.now result }
 {
-    let mut above = Members::empty();
+    let mut above = Members::all(set.sheets().len());
     let mut most = FACTOR_END;
-    let mut place = order.len();
-    while place > 0 {
-        place -= 1;
-        let low = order[place];
-        if must_outrank(set, low, above) {
-            return None;
+    for low in order {
+        above = above.without(*low);
+        match least_over(set, *low, above) {
+            Some(_) => return None,
+            None => most = most_below(set, *low, above, most),
         }
-        most = most_below(set, low, above, most);
-        above = above.with(low);
     }
     if most == 0 {
         return None;

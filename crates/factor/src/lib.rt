@@ -5,14 +5,13 @@
 ghost use Rattle.std.specs.Prelude.{◌<◌, length};
 ghost use Rattle.factor.specs.Failing.{AnswersFactor};
 
-mod first;
 mod in_order;
 pub mod laws;
 mod most;
 
-use crate::first::first_latest;
 pub use crate::in_order::factor_in_order;
 use crate::most::{FACTOR_END, most_below};
+use assignment::latest;
 use ceilings::Tabled;
 use task_sheet::Members;
 
@@ -40,7 +39,7 @@ pub fn factor(set: &Tabled<'_>) -> Option<Slowdown>
         task: 0,
     };
     while !left.is_empty() {
-        let task = first_latest(set, left)?;
+        let task = latest(set, left)?;
         let most = most_below(set, task, left.without(task), found.most);
         let last = if most < found.most { task } else { found.task };
         found = Slowdown { most, task: last };

@@ -8,7 +8,7 @@ use Rattle.task_sheet.proofs.Common.{IsBetter, IsBest}
 use Rattle.task_sheet.proofs.IndexLaws.{without-part_of, IsOrderOf-among, IsOrderOf-head}
 use Rattle.task_sheet.proofs.IndexLaws.{IsOrderOf-rest, IsOrderOf-cons}
 use Rattle.latest_first.specs.LatestFirst.{AllPrompt, IsLatest, IsLatestFirst, FollowLimits}
-use Rattle.latest_first.proofs.LaterLimits.{Passes-later}
+use Rattle.latest_first.proofs.OneOrder.{Passes-later}
 use Rattle.latest_first.proofs.WithoutOne.{less, less-order, less-stand}
 
 module _ (V : List Task) (valid : AllTasks V) (prompt : AllPrompt V) (follow : FollowLimits V) where

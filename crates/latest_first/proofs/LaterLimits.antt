@@ -4,11 +4,12 @@ use Rattle.std.proofs.Common.{◌≡◌, ℕ, ◌+◌, ◌*◌, ◌<◌, ◌≤�
 use Rattle.std.proofs.Common.{List, length, refl, sym, ◌∙◌, ap, arith}
 use Rattle.std.proofs.Math.Path.{fun_ext}
 use Rattle.std.proofs.lemmas.Bool.{cases_eq, eq-eqb, ne_eqb, ltb-true}
-use Rattle.task_sheet.proofs.Common.{Task, no_task, task_at, Indexes, IsPart, with_index}
+use Rattle.task_sheet.proofs.Common.{Task, AllTasks, no_task, task_at, Indexes, IsPart, with_index}
 use Rattle.task_sheet.proofs.Common.{without_index, greatest_below, limit_of}
 use Rattle.task_sheet.proofs.Common.{longest_reached, blocking_of, demand_of, interference_of}
 use Rattle.task_sheet.proofs.Common.{interference_within, interrupts_within, releases_within}
-use Rattle.task_sheet.proofs.Common.{Passes, all_of}
+use Rattle.task_sheet.proofs.Common.{all_of}
+use Rattle.task_sheet.proofs.Exchange.{demand-part}
 use Rattle.task_sheet.proofs.IndexLaws.{sum-without, without-kept}
 use Rattle.task_sheet.proofs.Releases.{cost-le-interference, div_ceil-le}
 use Rattle.latest_first.specs.LatestFirst.{IsPrompt, AllPrompt}
@@ -68,15 +69,37 @@ module _ (U : List Task) (prompt : AllPrompt U) (L : Indexes) (part : IsPart L (
             (λ h. interference_of (task_at U h) t) L i (inside i member) member,
       )
 
-  pub Passes-later : (i j : ℕ) → L i ≡ true → L j ≡ true → limit_of (task_at U j)
-      ≤ limit_of (task_at U i) → Passes U j (without_index L j) → Passes U i (without_index L i)
-  Passes-later i j member member' later passes =
-      let t = passes.0 in
-      let above = cost-within (task_at U i) t (prompt i no_task (inside i member)) passes.1 in
-      let below =
-      once-within (task_at U j) t (prompt j no_task (inside j member')) passes.1 passes.2 in (
-        t,
-        passes.1,
-        omega (arith, passes.2, later),
-        omega (arith, passes.3, demand-split i t member, demand-split j t member', above, below),
-      )
+  -- of two of them, within the limit of the other one none has a greater demand
+  demand-later : (i j t : ℕ) → L i ≡ true → L j ≡ true → 1 ≤ t → t ≤ limit_of (task_at U j)
+      → demand_of U i (without_index L i) t ≤ demand_of U j (without_index L j) t
+  demand-later i j t member member' positive within =
+      let above = cost-within (task_at U i) t (prompt i no_task (inside i member)) positive in
+      let below = once-within (task_at U j) t (prompt j no_task (inside j member')) positive within in
+      omega (arith, demand-split i t member, demand-split j t member', above, below)
+
+-- ---- a test of the demand at some time from 1 to the limit, which a lesser demand passes, too
+abbrev pub PassesWhere : (Is : (need time : ℕ) → Type 0) → List Task → ℕ → Indexes → Type 0
+PassesWhere Is U i H =
+    (t : ℕ) × (1 ≤ t) × (t ≤ limit_of (task_at U i)) × Is (demand_of U i H t) t
+
+module _ (Is : (need time : ℕ) → Type 0)
+    (eased : (low high time : ℕ) → low ≤ high → Is high time → Is low time) (U : List Task) where
+  -- with fewer tasks above
+  pub PassesWhere-part : AllTasks U → (i : ℕ) (H G : Indexes) → IsPart H G → PassesWhere Is U i G
+      → PassesWhere Is U i H
+  PassesWhere-part valid i H G part (t, positive, within, is) =
+      (t, positive, within, eased _ _ t (demand-part U valid i H G part t positive) is)
+
+  -- with a longer limit below all others of some
+  pub PassesWhere-later : AllPrompt U → (L : Indexes) → IsPart L (all_of U) → (i j : ℕ)
+      → L i ≡ true → L j ≡ true → limit_of (task_at U j) ≤ limit_of (task_at U i)
+      → PassesWhere Is U j (without_index L j) → PassesWhere Is U i (without_index L i)
+  PassesWhere-later prompt L part i j member member' later (t, positive, within, is) = (
+    t,
+    positive,
+    omega (arith, within, later),
+    eased _ _ t (demand-later U prompt L part i j t member member' positive within) is,
+  )
+
+pub covers-eased : (low high time : ℕ) → low ≤ high → high ≤ time → low ≤ time
+covers-eased low high time le covers = omega (arith, le, covers)

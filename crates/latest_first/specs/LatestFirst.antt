@@ -24,7 +24,12 @@ pub record IsLatest (U : List Task) (L : Indexes) (i : ℕ) : Type 0 where
   pub free : IsFree U L i
   pub latest : (j : ℕ) → IsFree U L j → limit_of (task_at U j) ≤ limit_of (task_at U i)
 
--- each is such a one of itself and those after it
+-- of these the first
+pub record IsFirstLatest (U : List Task) (L : Indexes) (i : ℕ) : Type 0 where
+  pub latest : IsLatest U L i
+  pub first : (j : ℕ) → j < i → IsFree U L j → limit_of (task_at U j) < limit_of (task_at U i)
+
+-- each is one with the longest limit of itself and those after it
 abbrev pub IsLatestFirst : List Task → List ℕ → Type 0
 IsLatestFirst U [] = Unit {0}
 IsLatestFirst U (i ∷ above) = IsLatest U (among (i ∷ above)) i × IsLatestFirst U above

@@ -1,1 +1,2 @@
 pub mod LatestFirst
+pub mod Tested

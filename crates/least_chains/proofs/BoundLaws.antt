@@ -1,89 +1,45 @@
--- What the least parts of a chain come to.
-use Rattle.std.proofs.Common.{◌≡◌, ℕ, ◌+◌, ◌≤◌, Bool, true, false, List, [], ◌∷◌, Some, None, cond}
-use Rattle.std.proofs.Common.{sym, ◌∙◌, arith, sum_by, ap, refl, subst, length}
-use Rattle.std.specs.List.{list_all}
-use Rattle.std.proofs.lemmas.List.Sums.{sum_by-cons}
-use Rattle.task_sheet.proofs.Common.{Task, task_at, Indexes, without_index, among, all_of, IsOrderOf}
+-- The least parts of a chain, and the bound that they come to.
+use Rattle.std.proofs.Common.{◌≡◌, ℕ, ◌≤◌, Bool, true, false, List, [], ◌∷◌, ◌++◌, length, drop}
+use Rattle.std.proofs.Common.{Option, Some, None, append-nil, cond, sym, ◌∙◌, arith, ap}
+use Rattle.std.proofs.Common.{refl, subst}
+use Rattle.std.specs.List.{AllZip, list_all}
+use Rattle.std.proofs.lemmas.Option.{same_Some}
+use Rattle.task_sheet.proofs.Common.{Task, Indexes, without_index, among, all_of, IsOrderOf}
 use Rattle.task_sheet.proofs.Common.{IsPassingOrder, IsResponseOf}
 use Rattle.task_sheet.proofs.IndexLaws.{IsOrderOf-among, IsOrderOf-rest}
-use Rattle.ceiling_kernel.proofs.Common.{node_in}
-use Rattle.chains.specs.Gaps.{gap_of}
-use Rattle.chains.specs.Parts.{after_of, bound_in, has_response, order_of, parts_of, time_in, wait_of}
-use Rattle.chains.specs.declared.bounds.BoundPart.{BoundPart}
+use Rattle.chains.specs.Parts.{bound_in, has_response, order_of}
+use Rattle.chains.specs.Walks.{IsNoLonger, bound_by, steps_with}
+use Rattle.chains.proofs.LongestLaws.{no_longer_law}
 use Rattle.chains.specs.declared.bounds.Level.{Level}
 use Rattle.chains.specs.declared.bounds.Writes.{Writes}
 use Rattle.chains.specs.declared.bounds.Writes.TheVariants.{AtDeadline}
 use Rattle.assignment.specs.Places.{PlaceData}
 use Rattle.assignment.specs.Placings.{IsBestPlacing, tasks_of_places}
 use Rattle.assignment.specs.Placings as placed
-use Rattle.least_chains.specs.LeastBound.{HaveResponses, ArePassing, IsLeastBound, IsLeastPart, levels_at}
-use Rattle.least_chains.specs.LeastBound.{part_in}
+use Rattle.least_chains.specs.LeastBound.{HaveResponses, ArePassing, AreLeastParts, IsLeastBound}
+use Rattle.least_chains.specs.LeastBound.{IsLeastPart, levels_at, part_in, parts_in}
+use Rattle.least_chains.proofs.StepLaws.{same-none}
 
-told : (b : Bool) (sum bound : ℕ) → cond b (Some sum) None ≡ Some bound → sum ≡ bound
-told true sum bound is = cc
-told false sum bound is = absurd cc
+-- ---- one bound or none
+told : (b : Bool) (o : Option ℕ) (bound : ℕ) → cond b o None ≡ Some bound → o ≡ Some bound
+told true o bound is = is
+told false o bound is = absurd cc
+
+untold : (b : Bool) (o : Option ℕ) → o ≡ None → cond b o None ≡ None
+untold true o none = none
+untold false o none = refl
 
 module _ (writes : Writes) (U : List Task) where
-  -- what the parts come to in an order
-  abbrev sum_in : List Level → List ℕ → ℕ
-  sum_in levels tasks = sum_by (λ (p : BoundPart). p.time)
-      (parts_of writes (node_in U (order_of levels)) (time_in levels) tasks)
+  -- ---- the least parts
+  -- none are left
+  pub parts-end : (tasks rest parts : List ℕ) → length rest ≡ 0
+      → ((more : List ℕ) → AreLeastParts writes U rest more → AreLeastParts writes U tasks (parts ++ more))
+      → AreLeastParts writes U tasks parts
+  parts-end tasks [] parts none so =
+      subst (λ xs. AreLeastParts writes U tasks xs) (append-nil parts) (so [] refl)
+  parts-end tasks (i ∷ rest) parts none so = absurd (omega (arith, none))
 
-  -- a task in front of others adds its gap and its part
-  sum-more : (levels : List Level) (i : ℕ) (others : List ℕ)
-      → sum_in levels (i ∷ others)
-      ≡ gap_of (task_at U i) + part_in writes U levels i others + sum_in levels others
-  sum-more levels i others =
-      let node = node_in U (order_of levels) in
-      let later = parts_of writes node (time_in levels) others in
-      let here = after_of writes node (time_in levels) i others in
-      omega (
-        arith,
-        sum_by-cons (λ (p : BoundPart). p.time) (wait_of U i) (here ∷ later),
-        sum_by-cons (λ (p : BoundPart). p.time) here later,
-      )
-
-  -- no order that passes has parts that come to less
-  least-sum : (tasks : List ℕ) (least : ℕ) (levels : List Level) → IsLeastBound writes U tasks least
-      → ArePassing U levels → least ≤ sum_in levels tasks
-  least-sum [] least levels is are = omega (arith, is)
-  least-sum (i ∷ others) least levels (time, rest, part, more, is) are =
-      omega (
-        arith,
-        is,
-        sum-more levels i others,
-        part.least levels are,
-        least-sum others rest levels more are,
-      )
-
-  -- a task in front of others adds its gap and its least part
-  pub least-more : (tasks rest : List ℕ) (i : ℕ) (others : List ℕ) (sum wait part : ℕ)
-      → rest ≡ i ∷ others → wait ≡ gap_of (task_at U i) → IsLeastPart writes U i others part
-      → ((bound : ℕ) → IsLeastBound writes U rest bound → IsLeastBound writes U tasks (sum + bound))
-      → (bound : ℕ) → IsLeastBound writes U others bound
-      → IsLeastBound writes U tasks (sum + wait + part + bound)
-  least-more tasks rest i others sum wait part front waits is so bound more =
-      subst (λ b. IsLeastBound writes U tasks b) (omega (arith, waits))
-      (so (gap_of (task_at U i) + part + bound)
-      (subst (λ xs. IsLeastBound writes U xs (gap_of (task_at U i) + part + bound)) (sym front)
-      (part, bound, is, more, refl)))
-
-  pub least-none : (tasks rest : List ℕ) (sum : ℕ) → length rest ≡ 0
-      → ((bound : ℕ) → IsLeastBound writes U rest bound → IsLeastBound writes U tasks (sum + bound))
-      → IsLeastBound writes U tasks sum
-  least-none tasks [] sum none so = subst (λ b. IsLeastBound writes U tasks b) (omega arith) (so 0 refl)
-  least-none tasks (i ∷ rest) sum none so = absurd (omega (arith, none))
-
-  pub least-held : (tasks : List ℕ) (least bound : ℕ) (levels : List Level)
-      → IsLeastBound writes U tasks least → ArePassing U levels
-      → bound_in writes U levels tasks ≡ Some bound → least ≤ bound
-  least-held tasks least bound levels is are said = omega (
-    arith,
-    told (list_all (has_response levels) tasks) _ bound said,
-    least-sum tasks least levels is are,
-  )
-
-  -- there is one
+  -- there are no others
   least_part-one : (i : ℕ) (others : List ℕ) (first second : ℕ) → IsLeastPart writes U i others first
       → IsLeastPart writes U i others second → first ≡ second
   least_part-one i others first second here there = omega (
@@ -94,41 +50,70 @@ module _ (writes : Writes) (U : List Task) where
     there.least here.reached.0 here.reached.1,
   )
 
-  pub least_bound-one : (tasks : List ℕ) (first second : ℕ) → IsLeastBound writes U tasks first
-      → IsLeastBound writes U tasks second → first ≡ second
-  least_bound-one [] first second here there = here ∙ sym there
-  least_bound-one (i ∷ others) first second (time, rest, part, more, is) (time', rest', part', more', is') =
-      omega (
-        arith,
-        is,
-        is',
-        least_part-one i others time time' part part',
-        least_bound-one others rest rest' more more',
-      )
+  least_parts-one : (tasks first second : List ℕ) → AreLeastParts writes U tasks first
+      → AreLeastParts writes U tasks second → first ≡ second
+  least_parts-one [] first second here there = here ∙ sym there
+  least_parts-one (i ∷ others) [] second here there = absurd here
+  least_parts-one (i ∷ others) first [] here there = absurd there
+  least_parts-one (i ∷ others) (part ∷ first) (part' ∷ second) (here, more) (there, more') =
+      ap (λ p. p ∷ first) (least_part-one i others part part' here there)
+      ∙ ap (λ ps. part' ∷ ps) (least_parts-one others first second more more')
+
+  -- in an order that passes none takes less
+  least-steps : (offsets tasks parts : List ℕ) (levels : List Level) → AreLeastParts writes U tasks parts
+      → ArePassing U levels
+      → AllZip IsNoLonger (steps_with U offsets parts tasks)
+      (steps_with U offsets (parts_in writes U levels tasks) tasks)
+  least-steps offsets [] parts levels is are = tt
+  least-steps offsets (i ∷ others) [] levels is are = absurd is
+  least-steps offsets (i ∷ others) (part ∷ parts) levels (is, more) are = (
+    record { period = refl; offset = refl; delay = is.least levels are },
+    least-steps (drop 1 offsets) others parts levels more are,
+  )
+
+  -- ---- their bound
+  module _ (offsets tasks : List ℕ) where
+    pub least-held : (least bound : ℕ) (levels : List Level) → IsLeastBound writes offsets U tasks (Some least)
+        → ArePassing U levels → bound_in writes offsets U levels tasks ≡ Some bound → least ≤ bound
+    least-held least bound levels is are said =
+        no_longer_law (steps_with U offsets is.parts tasks)
+        (steps_with U offsets (parts_in writes U levels tasks) tasks) least bound
+        (least-steps offsets tasks is.parts levels is.least are) is.comes
+        (told (list_all (has_response levels) tasks) _ bound said)
+
+    pub least-none : (levels : List Level) → IsLeastBound writes offsets U tasks None
+        → bound_in writes offsets U levels tasks ≡ None
+    least-none levels is = untold (list_all (has_response levels) tasks)
+        (bound_by (steps_with U offsets (parts_in writes U levels tasks) tasks))
+        (same-none U offsets is.parts (parts_in writes U levels tasks) tasks is.comes)
+
+    pub least_bound-one : (first second : Option ℕ) → IsLeastBound writes offsets U tasks first
+        → IsLeastBound writes offsets U tasks second → first ≡ second
+    least_bound-one first second here there =
+        sym here.comes
+        ∙ (ap (λ parts. bound_by (steps_with U offsets parts tasks))
+        (least_parts-one tasks here.parts there.parts here.least there.least)
+        ∙ there.comes)
 
 -- ---- at deadlines
 module _ (U : List Task) where
-  -- the parts come to the least in each order
-  deadline-sum : (tasks : List ℕ) (least : ℕ) (levels : List Level) → IsLeastBound AtDeadline U tasks least
-      → least ≡ sum_in AtDeadline U levels tasks
-  deadline-sum [] least levels is = omega (arith, is)
-  deadline-sum (i ∷ others) least levels (time, rest, part, more, is) =
-      omega (
-        arith,
-        is,
-        sum-more AtDeadline U levels i others,
-        part.reached.2,
-        deadline-sum others rest levels more,
-      )
+  -- the least parts are those in each order
+  deadline-parts : (tasks parts : List ℕ) (levels : List Level) → AreLeastParts AtDeadline U tasks parts
+      → parts ≡ parts_in AtDeadline U levels tasks
+  deadline-parts [] parts levels is = is
+  deadline-parts (i ∷ others) [] levels is = absurd is
+  deadline-parts (i ∷ others) (part ∷ parts) levels (is, more) =
+      ap (λ p. p ∷ parts) (sym is.reached.2)
+      ∙ ap (λ ps. part_in AtDeadline U levels i others ∷ ps) (deadline-parts others parts levels more)
 
-  pub deadlines-reach : (tasks : List ℕ) (least bound : ℕ) (levels : List Level)
-      → IsLeastBound AtDeadline U tasks least → bound_in AtDeadline U levels tasks ≡ Some bound
-      → least ≡ bound
-  deadlines-reach tasks least bound levels is said = omega (
-    arith,
-    told (list_all (has_response levels) tasks) _ bound said,
-    deadline-sum tasks least levels is,
-  )
+  pub deadlines-reach : (offsets tasks : List ℕ) (least bound : ℕ) (levels : List Level)
+      → IsLeastBound AtDeadline offsets U tasks (Some least)
+      → bound_in AtDeadline offsets U levels tasks ≡ Some bound → least ≡ bound
+  deadlines-reach offsets tasks least bound levels is said = same_Some least bound
+      (sym is.comes
+      ∙ (ap (λ parts. bound_by (steps_with U offsets parts tasks))
+      (deadline-parts tasks is.parts levels is.least)
+      ∙ told (list_all (has_response levels) tasks) _ bound said))
 
 -- ---- the best order
 module _ (U : List Task) where

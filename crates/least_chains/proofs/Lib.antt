@@ -1,3 +1,4 @@
 pub mod AboveLaws
 pub mod PartLaws
+pub mod StepLaws
 pub mod BoundLaws

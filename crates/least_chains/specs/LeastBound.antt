@@ -1,5 +1,5 @@
 -- How small a chain's bound could be in any order that passes.
-use Rattle.std.specs.Prelude.{◌≡◌, ℕ, ◌+◌, ◌-◌, ◌≤◌, ◌==◌, ◌||◌, List, [], ◌∷◌, map, Option, Some, None, if◌then◌else◌}
+use Rattle.std.specs.Prelude.{◌≡◌, ℕ, ◌-◌, ◌≤◌, ◌==◌, ◌||◌, List, [], ◌∷◌, map, Option, Some, None, if◌then◌else◌}
 use Rattle.task_sheet.specs.Sheet.{Task, task_at}
 use Rattle.task_sheet.specs.Indexes.{Indexes, among}
 use Rattle.task_sheet.specs.Demand.{IsResponseOf}
@@ -9,8 +9,8 @@ use Rattle.assignment.specs.declared.placing.Placing.{Placing}
 use Rattle.assignment.specs.declared.placing.Placing.TheVariants.{Best, Stuck}
 use Rattle.ceiling_kernel.specs.Tick.{node_in}
 use Rattle.ceiling_kernel.specs.Waits.{lateness_of}
-use Rattle.chains.specs.Gaps.{gap_of}
-use Rattle.chains.specs.Parts.{after_of, order_of, time_in}
+use Rattle.chains.specs.Parts.{after_of, afters_of, order_of, time_in}
+use Rattle.chains.specs.Walks.{bound_by, steps_with}
 use Rattle.chains.specs.declared.bounds.Level.{Level}
 use Rattle.chains.specs.declared.bounds.Writes.{Writes}
 
@@ -46,6 +46,11 @@ abbrev pub part_in : Writes → List Task → List Level → ℕ → (others : L
 part_in writes U levels i others =
     (after_of writes (node_in U (order_of levels)) (time_in levels) i others).time
 
+-- those of a chain's tasks
+abbrev pub parts_in : Writes → List Task → List Level → (tasks : List ℕ) → List ℕ
+parts_in writes U levels tasks =
+    map (λ p. p.time) (afters_of writes (node_in U (order_of levels)) (time_in levels) tasks)
+
 -- in some order that passes that part is so long, and in none it is less
 pub record IsLeastPart (writes : Writes) (U : List Task) (i : ℕ) (others : List ℕ) (time : ℕ) : Type 0 where
   pub reached : (levels : List Level) × ArePassing U levels × (part_in writes U levels i others ≡ time)
@@ -58,9 +63,18 @@ least_time U i H response [] = response
 least_time U i H response (c ∷ others) =
     if (c == i) || H c then response - (task_at U c).cost else lateness_of (task_at U i)
 
--- ---- the least bound of a chain: all gaps, and the least part of each task
-abbrev pub IsLeastBound : Writes → List Task → (tasks : List ℕ) → ℕ → Type 0
-IsLeastBound writes U [] bound = bound ≡ 0
-IsLeastBound writes U (i ∷ others) bound =
-    (time : ℕ) × (rest : ℕ) × IsLeastPart writes U i others time × IsLeastBound writes U others rest
-    × (bound ≡ gap_of (task_at U i) + time + rest)
+-- ---- the least bound of a chain
+-- each of these tasks has that least part in front of those behind it
+abbrev pub AreLeastParts : Writes → List Task → (tasks parts : List ℕ) → Type 0
+AreLeastParts writes U [] parts = parts ≡ []
+AreLeastParts writes U (i ∷ others) [] = ⊥
+AreLeastParts writes U (i ∷ others) (part ∷ parts) =
+    IsLeastPart writes U i others part × AreLeastParts writes U others parts
+
+-- the bound that these come to; none where there is none
+pub record IsLeastBound (writes : Writes) (offsets : List ℕ) (U : List Task) (tasks : List ℕ)
+    (bound : Option ℕ)
+    : Type 0 where
+  pub parts : List ℕ
+  pub least : AreLeastParts writes U tasks parts
+  pub comes : bound_by (steps_with U offsets parts tasks) ≡ bound

@@ -1,5 +1,5 @@
 //! Laws of least bounds. Each is the contract of a function that does nothing.
-ghost use Rattle.std.specs.Prelude.{◌≡◌, ◌≤◌, ℕ, List, Some};
+ghost use Rattle.std.specs.Prelude.{◌≡◌, ◌≤◌, ℕ, List, Option, Some, None};
 ghost use Rattle.task_sheet.specs.Sheet.{Task};
 ghost use Rattle.task_sheet.specs.Indexes.{Indexes};
 ghost use Rattle.chains.specs.Parts.{bound_in};
@@ -23,15 +23,18 @@ pub fn best_is_passing()
         → ArePassing U (levels_at places) }
 {}
 
-/// No order that passes has a bound below the least one, of which there is one at most. Where the tasks write at their
-/// deadlines, each order that has a bound has that one.
+/// No order that passes has a bound below the least one, of which there is one at most; where there is none, no order has a
+/// bound. Where the tasks write at their deadlines, each order that has a bound has that one.
 pub fn least_is_held()
-    ensures held { (writes : Writes) (U : List Task) (tasks : List ℕ) (least bound : ℕ) (levels : List Level)
-        → IsLeastBound writes U tasks least → ArePassing U levels → bound_in writes U levels tasks ≡ Some bound
-        → least ≤ bound }
-    ensures one { (writes : Writes) (U : List Task) (tasks : List ℕ) (first second : ℕ)
-        → IsLeastBound writes U tasks first → IsLeastBound writes U tasks second → first ≡ second }
-    ensures deadlines { (U : List Task) (tasks : List ℕ) (least bound : ℕ) (levels : List Level)
-        → IsLeastBound AtDeadline U tasks least → bound_in AtDeadline U levels tasks ≡ Some bound
-        → least ≡ bound }
+    ensures held { (writes : Writes) (offsets : List ℕ) (U : List Task) (tasks : List ℕ) (least bound : ℕ)
+        (levels : List Level) → IsLeastBound writes offsets U tasks (Some least) → ArePassing U levels
+        → bound_in writes offsets U levels tasks ≡ Some bound → least ≤ bound }
+    ensures none { (writes : Writes) (offsets : List ℕ) (U : List Task) (tasks : List ℕ) (levels : List Level)
+        → IsLeastBound writes offsets U tasks None → bound_in writes offsets U levels tasks ≡ None }
+    ensures one { (writes : Writes) (offsets : List ℕ) (U : List Task) (tasks : List ℕ) (first second : Option ℕ)
+        → IsLeastBound writes offsets U tasks first → IsLeastBound writes offsets U tasks second
+        → first ≡ second }
+    ensures deadlines { (offsets : List ℕ) (U : List Task) (tasks : List ℕ) (least bound : ℕ)
+        (levels : List Level) → IsLeastBound AtDeadline offsets U tasks (Some least)
+        → bound_in AtDeadline offsets U levels tasks ≡ Some bound → least ≡ bound }
 {}

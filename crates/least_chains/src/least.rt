@@ -1,15 +1,17 @@
 //! The least bound of a chain, from the least part of each of its tasks.
-ghost use Rattle.std.specs.Prelude.{◌≡◌, ◌<◌, length};
+ghost use Rattle.std.specs.Prelude.{◌≡◌, ◌<◌, length, IfOk};
 ghost use Rattle.task_sheet.specs.Sheet.{task_at};
 ghost use Rattle.task_sheet.specs.Indexes.{indexes_of, IsPart};
 ghost use Rattle.task_sheet.specs.Orders.{all_of, IsFeasible};
 ghost use Rattle.chains.specs.declared.bounds.Writes.TheVariants.{AtFinish};
-ghost use Rattle.least_chains.specs.LeastBound.{IsLeastBound, IsLeastPart, least_time};
+ghost use Rattle.least_chains.specs.LeastBound.{AreLeastParts, IsLeastBound, IsLeastPart, least_time};
 
 use crate::above::above_at_least;
+use crate::steps::bound_with;
 use ceilings::Tabled;
-use chains::{Writes, wait_of};
+use chains::Writes;
 use response_time::response_in_time;
+use std::alloc::{AllocError, Global};
 use task_sheet::Members;
 
 // Whether a task is one of these.
@@ -93,19 +95,39 @@ fn least_part(set: &Tabled<'_>, writes: Writes, task: usize, others: &[usize]) -
     }
 }
 
-/// How small the bound of a chain of tasks, by their indexes, the first one first, could be in any order that passes,
-/// where one does, in microseconds: all gaps, and the least part of each task, which some order reaches. No order that
-/// passes has a bound below it.
-pub fn least_bound(set: &Tabled<'_>, writes: Writes, tasks: &[usize]) -> u128
+// The least part behind the wait of each task of a chain. The error is out of memory.
+fn least_parts(
+    alloc: Global,
+    set: &Tabled<'_>,
+    writes: Writes,
+    tasks: &[usize],
+) -> Result<Vec<u64>, AllocError>
     requires { IsFeasible set.now }
-    ensures { IsLeastBound writes set.now tasks.now result }
+    ensures { IfOk result (λ parts. AreLeastParts writes set.now tasks.now parts.items) }
 {
-    let mut sum = 0;
+    let mut parts = Vec::with_capacity(alloc, tasks.len())?;
     let mut rest = tasks;
     while let Some((task, others)) = rest.split_first() {
-        sum += wait_of(set.tasks(), *task).time as u128;
-        sum += least_part(set, writes, *task, others) as u128;
+        parts.push(least_part(set, writes, *task, others))?;
         rest = others;
     }
-    sum
+    Ok(parts)
+}
+
+/// How small the bound of a chain of tasks, by their indexes, the first one first, could be in any order that passes,
+/// where one does, in microseconds: what it is with the least part of each task, which some order reaches. No order that
+/// passes has a bound below it. The offsets are the tasks', or none where none is known; it is none where over
+/// `ARRIVAL_LIMIT` arrivals of the first task come until all arrive as at first. The error is out of memory.
+pub fn least_bound(
+    alloc: Global,
+    set: &Tabled<'_>,
+    writes: Writes,
+    offsets: &[u64],
+    tasks: &[usize],
+) -> Result<Option<u128>, AllocError>
+    requires { IsFeasible set.now }
+    ensures { IfOk result (IsLeastBound writes offsets.now set.now tasks.now) }
+{
+    let parts = least_parts(alloc, set, writes, tasks)?;
+    bound_with(alloc, set.tasks(), offsets, &parts, tasks)
 }

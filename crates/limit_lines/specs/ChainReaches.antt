@@ -36,7 +36,8 @@ reach_line chain U i number (Some reach) =
 
 abbrev pub IsReachLine : ChainData → (limit : ℕ) → List Task → (order : List ℕ) → ℕ → Number → List ℕ → Type 0
 IsReachLine chain limit U order i number text =
-    (reach : Option Reach) × AnswersReach chain.writes order chain.tasks limit U i number reach
+    (reach : Option Reach) × AnswersReach chain.writes chain.offsets order chain.tasks limit U i
+    number reach
     × (text ≡ reach_line chain U i number reach)
 
 -- the text is a line for each of the first of these numbers of task i
@@ -78,7 +79,8 @@ abbrev pub AreLinesWithin : Option ℕ → List Owner → ChainData → List Tas
 AreLinesWithin None owners chain U order levels text = text ≡ []
 AreLinesWithin (Some limit) owners chain U order levels text =
     (reaches : List ℕ) × AreReaches owners chain limit U order (length U) reaches
-    × (text ≡ left_line chain (left_of (bound_in chain.writes U levels chain.tasks) limit) ++ reaches)
+    × (text ≡ left_line chain
+    (left_of (bound_in chain.writes chain.offsets U levels chain.tasks) limit) ++ reaches)
 
 abbrev pub AreChainLines : List Owner → ChainData → List Task → (order : List ℕ) → List Level → List ℕ → Type 0
 AreChainLines owners chain U order levels text =
@@ -95,7 +97,7 @@ AreChainTaskLines owners chain U order i text = AreTaskWithin chain.limit owners
 -- ---- all chains
 -- stands past their end
 abbrev pub no_chain : ChainData
-no_chain = record { name = []; tasks = []; limit = None; writes = AtFinish }
+no_chain = record { name = []; tasks = []; limit = None; offsets = []; writes = AtFinish }
 
 abbrev pub chain_at : List ChainData → ℕ → ChainData
 chain_at chains k = slice_index_or chains k no_chain

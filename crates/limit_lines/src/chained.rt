@@ -85,6 +85,7 @@ fn reach_text(
         set,
         order,
         chain.writes,
+        &chain.offsets,
         &chain.tasks,
         limit,
         task,
@@ -182,7 +183,9 @@ pub fn chain_text(
         return Ok(text);
     };
     let reaches = all_reaches(alloc, owners, set, order, chain, limit)?;
-    let bound = bound_of(set.tasks(), levels, chain.writes, &chain.tasks);
+    let writes = chain.writes;
+    let offsets = &chain.offsets;
+    let bound = bound_of(alloc, set.tasks(), levels, writes, offsets, &chain.tasks)?;
     push_left(&mut text, chain, left_of(bound, limit))?;
     text.push_str(reaches.as_str())?;
     Ok(text)

@@ -5,16 +5,16 @@ use Rattle.std.proofs.lemmas.Bool.{cases_Bool, cases_lt}
 use Rattle.std.proofs.lemmas.List.Elements.{recursion_from_All}
 use Rattle.std.specs.List.{All, AllByRecursion}
 use Rattle.task_sheet.specs.declared.node.Node.{Node}
-use Rattle.task_sheet.proofs.Common.{CriticalSection, Task, AreSections, IsValidSheet, AllTasks, no_task, task_at}
+use Rattle.task_sheet.proofs.Common.{CriticalSection, Task, AreSections, IsValidSheet, no_task, task_at}
 use Rattle.task_sheet.proofs.Common.{IsTaskSet, IsByRank, sheets_fault, names_lock, greatest_of}
 use Rattle.task_sheet.proofs.TaskLaws.{AllTasks-from_set}
 use Rattle.overheads.proofs.MappedSets.{KeepsRanks, IsByRank-mapped, no_fault-mapped, set-mapped}
 use Rattle.overheads.proofs.MappedSets.{count-mapped, mapped-at, mapped-past}
 use Rattle.limits.specs.Easier.{AreShorter, IsEasier, AreEasier}
-use Rattle.limits.specs.Shared.{PassesIn}
+use Rattle.limits.specs.InOrder.{PassesIn}
 use Rattle.limits.specs.Cuts.{Following, none_follows, len_on, longest_on, cut_len, cut_sections}
 use Rattle.limits.specs.Cuts.{cut_task, cut, IsMostOn, AnswersMostOn}
-use Rattle.limits.proofs.EasierLaws.{AreCheaper-refl, IsPassingOrder-easier, IsFeasible-easier}
+use Rattle.limits.proofs.EasierLaws.{AreCheaper-refl, PassesIn-easier}
 use Rattle.limits.proofs.NumberLaws.{easier-same}
 
 -- ---- one section
@@ -176,17 +176,12 @@ AreEasier-cut follows goes lock low high U le =
       ];
     }
 
-PassesIn-easier : (V U : List Task) (order : Option (List ℕ)) → AreEasier V U → AllTasks U
-    → PassesIn order U → PassesIn order V
-PassesIn-easier V U (Some order) easy valid passes = IsPassingOrder-easier V U easy valid order passes
-PassesIn-easier V U None easy valid passes = IsFeasible-easier V U easy valid passes
-
 -- with shorter ones it passes, too, whichever move along
 pub passes-cut : (follows goes : Following) (lock : List ℕ) (low high : ℕ) (U : List Task)
     (order : Option (List ℕ)) → IsTaskSet U → 1 ≤ high → low ≤ high
     → PassesIn order (cut goes lock high U) → PassesIn order (cut follows lock low U)
 passes-cut follows goes lock low high U order set some le passes =
-    PassesIn-easier (cut follows lock low U) (cut goes lock high U) order
+    PassesIn-easier order (cut follows lock low U) (cut goes lock high U)
     (AreEasier-cut follows goes lock low high U le)
     (AllTasks-from_set (cut goes lock high U) (set-cut goes lock high U some set)) passes
 

@@ -1,6 +1,6 @@
 -- To ask less takes no order away.
 use Rattle.std.proofs.Common.{ℕ, ◌+◌, ◌*◌, ◌<◌, ◌≤◌, inl, inr, cond, List, [], ◌∷◌, length, sum_by}
-use Rattle.std.proofs.Common.{sym, ◌∙◌, ap, arith}
+use Rattle.std.proofs.Common.{Option, Some, None, sym, ◌∙◌, ap, arith}
 use Rattle.std.proofs.Math.Nat.{mul-le-mul, mul-le-mul_left}
 use Rattle.std.specs.Int.{div_ceil}
 use Rattle.std.proofs.lemmas.Bool.{cases_Bool}
@@ -15,6 +15,7 @@ use Rattle.task_sheet.proofs.Below.{sum_below-le}
 use Rattle.task_sheet.proofs.Releases.{div_ceil-le, div_ceil-mono}
 use Rattle.other_numbers.proofs.InterruptSets.{interrupts-less}
 use Rattle.limits.specs.Easier.{AreCheaper, AreEasier}
+use Rattle.limits.specs.InOrder.{PassesIn}
 use Rattle.limits.proofs.NearLaws.{AreNear, blocking-near, limit-near, must_outrank_any-near}
 
 -- ---- jobs
@@ -134,3 +135,8 @@ module _ (V U : List Task) (easy : AreEasier V U) where
 
     pub IsFeasible-easier : IsFeasible U → IsFeasible V
     IsFeasible-easier feasible = (feasible.0, IsPassingOrder-easier feasible.0 feasible.1)
+
+pub PassesIn-easier : (order : Option (List ℕ)) → (V U : List Task) → AreEasier V U → AllTasks U
+    → PassesIn order U → PassesIn order V
+PassesIn-easier (Some order) V U easy valid passes = IsPassingOrder-easier V U easy valid order passes
+PassesIn-easier None V U easy valid passes = IsFeasible-easier V U easy valid passes

@@ -5,7 +5,7 @@ pub mod NumberLaws
 pub mod SpanLaws
 pub mod MovedLaws
 pub mod TableLaws
-pub mod Steps
+pub mod EdgeLaws
 pub mod Answered
 pub mod NodeLaws
 pub mod SharedLaws

@@ -7,7 +7,8 @@ use Rattle.overheads.specs.Padding.{padded, IsLighter}
 use Rattle.overheads.proofs.PaddedSets.{fault-lighter}
 use Rattle.limits.specs.declared.shared.Shared.{Shared}
 use Rattle.limits.specs.declared.shared.Shared.TheVariants.{Job, Lock, Release, Late}
-use Rattle.limits.specs.Shared.{PassesIn, with_shared, least_shared, most_shared, IsNode, MayTake}
+use Rattle.limits.specs.InOrder.{PassesIn}
+use Rattle.limits.specs.Shared.{with_shared, least_shared, most_shared, IsNode, MayTake}
 use Rattle.limits.specs.Shared.{IsFurthestShared, AnswersShared}
 use Rattle.limits.proofs.NodeLaws.{order-padded, feasible-padded}
 

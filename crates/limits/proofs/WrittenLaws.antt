@@ -11,7 +11,7 @@ use Rattle.task_sheet.specs.Overheads.{calls, calls_in}
 use Rattle.task_sheet.proofs.Common.{CriticalSection, Task, no_overhead, IsValidSheet, IsTaskSet}
 use Rattle.task_sheet.proofs.Common.{AreOverheads, AreSections}
 use Rattle.task_sheet.proofs.OverheadLaws.{calls-fit, locks-few}
-use Rattle.task_sheet.proofs.Common.{IsByRank, sheets_fault, task_of}
+use Rattle.task_sheet.proofs.Common.{IsByRank, sheets_fault}
 use Rattle.overheads.specs.Padding.{padded_section, padded_sections, padded_task, padded, charged}
 use Rattle.overheads.specs.Padding.{IsUnpadded}
 use Rattle.overheads.proofs.MappedSets.{KeepsRanks, IsByRank-mapped, no_fault-mapped}

@@ -5,7 +5,7 @@ use Rattle.task_sheet.specs.Sheet.{CriticalSection, Task}
 use Rattle.task_sheet.specs.Locks.{names_lock}
 use Rattle.task_sheet.specs.Overheads.{calls}
 use Rattle.task_sheet.specs.Demand.{greatest_of}
-use Rattle.limits.specs.Shared.{PassesIn}
+use Rattle.limits.specs.InOrder.{PassesIn}
 
 -- whether the section at a place of the task of a name begins where the one before it ends, and so moves along with that
 abbrev pub Following : Type 0

@@ -5,3 +5,4 @@ pub mod InOrder
 pub mod Shared
 pub mod Written
 pub mod Cuts
+pub mod Bisection

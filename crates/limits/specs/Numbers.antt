@@ -104,19 +104,25 @@ pub record IsFurthestFor (Feasible : List Task → Type 0) (U : List Task) (i : 
   pub furthest : (other : ℕ) → MayHave U i number other → Feasible (numbered U i number other)
       → IsNoFurther number other value
 
--- the furthest value with which some order of the set passes, all else equal
+-- no value helps
+abbrev pub NoneHelpsFor : (Feasible : List Task → Type 0) → List Task → ℕ → Number → Type 0
+NoneHelpsFor Feasible U i number = (value : ℕ) → MayHave U i number value
+    → ¬ Feasible (numbered U i number value)
+
+-- the furthest value, or none where none helps
+abbrev pub AnswersFor : (Feasible : List Task → Type 0) → List Task → ℕ → Number → Option ℕ → Type 0
+AnswersFor Feasible U i number (Some value) = IsFurthestFor Feasible U i number value
+AnswersFor Feasible U i number None = NoneHelpsFor Feasible U i number
+
+-- the same where some order of the set passes
 abbrev pub IsFurthest : List Task → ℕ → Number → ℕ → Type 0
 IsFurthest U i number value = IsFurthestFor IsFeasible U i number value
 
--- no value helps
 abbrev pub NoneHelps : List Task → ℕ → Number → Type 0
-NoneHelps U i number = (value : ℕ) → MayHave U i number value
-    → ¬ IsFeasible (numbered U i number value)
+NoneHelps U i number = NoneHelpsFor IsFeasible U i number
 
--- the furthest value, or none where none helps
 abbrev pub AnswersFurthest : List Task → ℕ → Number → Option ℕ → Type 0
-AnswersFurthest U i number (Some value) = IsFurthest U i number value
-AnswersFurthest U i number None = NoneHelps U i number
+AnswersFurthest U i number answer = AnswersFor IsFeasible U i number answer
 
 -- the value that is so far from the easiest one
 abbrev pub at_distance : Number → ℕ → ℕ → ℕ

@@ -3,17 +3,12 @@ use Rattle.std.specs.Prelude.{◌≡◌, ℕ, ◌≤◌, List, Option, Some, Non
 use Rattle.task_sheet.specs.declared.node.Node.{Node}
 use Rattle.task_sheet.specs.declared.sheet.TheConstants.{PERIOD_FROM, PERIOD_TO}
 use Rattle.task_sheet.specs.Sheet.{Task, AreOverheads}
-use Rattle.task_sheet.specs.Orders.{IsPassingOrder, IsFeasible}
 use Rattle.overheads.specs.Padding.{padded, padding_fault}
+use Rattle.limits.specs.InOrder.{PassesIn}
 use Rattle.limits.specs.declared.shared.Shared.{Shared}
 use Rattle.limits.specs.declared.shared.Shared.TheVariants.{Job, Lock, Release, Late}
 
--- this order passes, or some order where none is given
-abbrev pub PassesIn : Option (List ℕ) → List Task → Type 0
-PassesIn (Some order) U = IsPassingOrder U order
-PassesIn None U = IsFeasible U
-
--- that number
+-- a number of a node
 abbrev pub shared_of : Shared → Node → ℕ
 shared_of Job node = node.job
 shared_of Lock node = node.lock

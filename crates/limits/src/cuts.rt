@@ -6,11 +6,12 @@ ghost use Rattle.task_sheet.specs.declared.sheet.TheConstants.{LOCK_LIMIT};
 ghost use Rattle.task_sheet.specs.Locks.{names_lock};
 ghost use Rattle.task_sheet.specs.Overheads.{calls};
 ghost use Rattle.task_sheet.specs.Orders.{IsOrder};
-ghost use Rattle.limits.specs.Shared.{PassesIn};
+ghost use Rattle.limits.specs.InOrder.{PassesIn};
 ghost use Rattle.limits.specs.Cuts.{AnswersMostOn, Following, cut, cut_len, cut_sections, cut_task, len_on, longest_in, longest_on, none_follows};
 
+use crate::bisection::edge_of;
+use crate::in_order::passes_in;
 use crate::other_values::with_parts;
-use crate::shared::passes_in;
 use ceilings::{LockTable, Tabled};
 use other_numbers::times_of;
 use std::alloc::{AllocError, Global};
@@ -201,16 +202,8 @@ pub fn most_on(
     if !is_possible {
         return Ok(None);
     }
-    let mut passing = 1;
-    let mut failing = longest + 1;
-    while failing - passing > 1 {
-        let middle = passing + (failing - passing) / 2;
-        let is_passing = passes_cut(alloc, set, lock, middle, order)?;
-        if is_passing {
-            passing = middle;
-        } else {
-            failing = middle;
-        }
-    }
-    Ok(Some(passing))
+    let most = edge_of(1, longest, longest, |most| {
+        passes_cut(alloc, set, lock, most, order)
+    })?;
+    Ok(Some(most))
 }

@@ -12,9 +12,9 @@ ghost use Rattle.task_sheet.specs.declared.node.Interrupt.{Interrupt};
 ghost use Rattle.limits.specs.Easier.{AreEasier};
 ghost use Rattle.limits.specs.declared.number.Number.{Number};
 ghost use Rattle.limits.specs.Numbers.{HasNumber, value_of, numbered, MayHave, IsNoFurther, IsFurthest, NoneHelps};
-ghost use Rattle.limits.specs.InOrder.{IsFurthestIn, NoneHelpsIn};
+ghost use Rattle.limits.specs.InOrder.{IsFurthestIn, NoneHelpsIn, PassesIn};
 ghost use Rattle.limits.specs.declared.shared.Shared.{Shared};
-ghost use Rattle.limits.specs.Shared.{IsFurthestShared, MayTake, PassesIn, with_shared};
+ghost use Rattle.limits.specs.Shared.{IsFurthestShared, MayTake, with_shared};
 ghost use Rattle.limits.specs.Written.{node_of, written};
 ghost use Rattle.limits.specs.Cuts.{AnswersMostOn, Following, IsMostOn, cut, longest_on};
 

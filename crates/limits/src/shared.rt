@@ -3,10 +3,11 @@ ghost use Rattle.std.specs.Prelude.{◌≡◌, ◌↔◌, ◌<◌, ◌≤◌, Is
 ghost use Rattle.task_sheet.specs.Sheet.{AreOverheads};
 ghost use Rattle.task_sheet.specs.Orders.{IsOrder};
 ghost use Rattle.overheads.specs.Padding.{padded, padding_fault};
-ghost use Rattle.limits.specs.Shared.{AnswersShared, IsNode, MayTake, PassesIn, least_shared, most_shared, shared_of, with_shared};
+ghost use Rattle.limits.specs.InOrder.{PassesIn};
+ghost use Rattle.limits.specs.Shared.{AnswersShared, IsNode, MayTake, least_shared, most_shared, shared_of, with_shared};
 
-use crate::in_order::order_passes;
-use assignment::is_feasible;
+use crate::bisection::edge_of;
+use crate::in_order::passes_in;
 use ceilings::{LockTable, Tabled};
 use overheads::{PadFault, pad};
 use std::alloc::{AllocError, Global};
@@ -83,17 +84,6 @@ fn is_node(node: Node) -> bool
         && node.release <= node.job
 }
 
-/// Whether this order of a set passes, or some order where none is given.
-pub(crate) fn passes_in(set: &Tabled<'_>, order: Option<&[usize]>) -> bool
-    requires { IfSome (option_map (λ o. o.now) order) (IsOrder set.now) }
-    ensures { IsTrue result ↔ PassesIn (option_map (λ o. o.now) order.entry) set.now }
-{
-    match order {
-        Some(order) => order_passes(set, order),
-        None => is_feasible(set),
-    }
-}
-
 // Whether there is room for what the node takes of the tasks as they are written, and the order passes with it.
 fn takes(
     alloc: Global,
@@ -159,17 +149,10 @@ pub fn furthest_shared(
     if !is_possible {
         return Ok(None);
     }
-    let mut passing = least;
-    let mut failing = most_shared(number) + 1;
-    while failing - passing > 1 {
-        let middle = passing + (failing - passing) / 2;
-        let other = with_shared(node, number, middle);
-        let is_passing = takes(alloc, written, other, order)?;
-        if is_passing {
-            passing = middle;
-        } else {
-            failing = middle;
-        }
-    }
-    Ok(Some(passing))
+    let end = most_shared(number) + 1;
+    let most = edge_of(least, end, end, |value| {
+        let other = with_shared(node, number, value);
+        takes(alloc, written, other, order)
+    })?;
+    Ok(Some(most))
 }

@@ -13,11 +13,11 @@ use Rattle.limits.specs.Numbers.{numbered, MayHave, IsFurthest}
 use Rattle.limits.specs.InOrder.{IsFurthestIn}
 use Rattle.limits.proofs.NumberLaws.{in_order-within}
 use Rattle.factor.specs.Factors.{IsPassingAt, IsFeasibleAt, IsFactor}
-use Rattle.factor.proofs.LatestAt.{IsPassingAt-latest}
+use Rattle.factor.proofs.AtLaws.{Slowed, slowed-eased}
 use Rattle.preferences.specs.Preferences.{IsByDeadlines}
 use Rattle.latest_first.specs.LatestFirst.{AllPrompt, AreAlike}
 use Rattle.latest_first.proofs.OneOrder.{AllPrompt-valid, IsOrder-alike, IsLatestFirst-alike}
-use Rattle.latest_first.proofs.OneOrder.{IsPassingOrder-latest}
+use Rattle.latest_first.proofs.OneOrder.{IsPassingBy-latest, IsPassingOrder-latest}
 use Rattle.latest_first.proofs.BestLatest.{best-latest}
 use Rattle.preferences.proofs.FollowLaws.{FollowLimits-preferred}
 
@@ -62,7 +62,7 @@ module _ (U V : List Task) (order : List ℕ) (preferred : IsByDeadlines U V)
   pub passes-slower : (factor : ℕ) → IsPassingAt factor V order ↔ IsFeasibleAt factor V
   passes-slower factor = (
     λ passing. (order, passing),
-    IsPassingAt-latest V (AllTasks-from_set V set) factor (AllPrompt-valid V set) order
+    IsPassingBy-latest (Slowed factor) (slowed-eased factor) V (AllTasks-from_set V set) (AllPrompt-valid V set) order
         best.passing.each_once (best-latest V (AllTasks-from_set V set) (AllPrompt-valid V set)
         (FollowLimits-preferred U V preferred) order best),
   )

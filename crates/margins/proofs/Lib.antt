@@ -1,2 +1,1 @@
 pub mod BearingLaws
-pub mod ExtraLaws

@@ -5,7 +5,7 @@ use Rattle.std.specs.Ordering.{nat_cmp}
 use Rattle.std.specs.FinSet as members
 use Rattle.std.proofs.lemmas.Bool.{ltb-true}
 use Rattle.std.proofs.lemmas.List.{drop_more}
-use Rattle.task_sheet.proofs.Common.{Task, indexes_of, among, without_index, IsPart, all_of, Stands}
+use Rattle.task_sheet.proofs.Common.{Task, Indexes, indexes_of, among, without_index, IsPart, all_of, Stands}
 use Rattle.task_sheet.proofs.Common.{IsOrderOf, AllStand}
 use Rattle.task_sheet.proofs.IndexLaws.{without-part_of}
 use Rattle.task_sheet.proofs.IndexLaws.{IsOrderOf-among, IsOrderOf-head, IsOrderOf-rest}
@@ -53,13 +53,25 @@ module _ (U : List Task) (order : List ℕ) (n : ℕ) (left : members.FinSet nat
     among-next : among (drop (n + 1) order) ≡ indexes_of left'
     among-next = IsOrderOf-among (indexes_of left') (drop (n + 1) order) rest-next
 
+    -- what holds of the end of an order holds of its lowest task below the others and of the rest
+    pub parts-here : (Stands : ℕ → Indexes → Type 0) (All : List ℕ → Type 0)
+        → ((i : ℕ) (above : List ℕ) → All (i ∷ above) → Stands i (among above) × All above)
+        → All (drop n order) → Stands low (indexes_of left') × All (drop (n + 1) order)
+    parts-here Stands All parts all =
+        let (here, rest) = parts low (drop (n + 1) order) (subst All ahead all) in
+        (subst (λ X. Stands low X) among-next here, rest)
+
+    pub from-parts : (Stands : ℕ → Indexes → Type 0) (All : List ℕ → Type 0)
+        → ((i : ℕ) (above : List ℕ) → Stands i (among above) → All above → All (i ∷ above))
+        → Stands low (indexes_of left') → All (drop (n + 1) order) → All (drop n order)
+    from-parts Stands All join stands all = subst All (sym ahead)
+        (join low (drop (n + 1) order) (subst (λ X. Stands low X) (sym among-next) stands) all)
+
     -- where the order passes with some costs, the task stands below those that are left
     pub stands-here : (V : List Task) → AllStand V order → Stands V low (indexes_of left')
     stands-here V all =
-        let here = subst (λ o. AllStand V o) ahead (AllStand-drop V order n all) in
-        subst (λ X. Stands V low X) among-next here.0
+        (parts-here (Stands V) (AllStand V) (λ i above all. all) (AllStand-drop V order n all)).0
 
     pub all-here : (V : List Task) → Stands V low (indexes_of left')
         → AllStand V (drop (n + 1) order) → AllStand V (drop n order)
-    all-here V stands all = subst (λ o. AllStand V o) (sym ahead)
-        (subst (λ X. Stands V low X) (sym among-next) stands, all)
+    all-here V = from-parts (Stands V) (AllStand V) (λ i above stands all. (stands, all))

@@ -12,8 +12,10 @@ use Rattle.ceiling_kernel.specs.declared.trace.RunFault.{RunFault}
 use Rattle.ceiling_kernel.specs.declared.trace.RunFault.TheVariants as fault
 use Rattle.ceiling_kernel.specs.Releases.{ready_of, refuse_if, IsRefusal}
 use Rattle.release_list.specs.Random.{word_after, word_before, drawn, late_after, runs_after}
-use Rattle.release_list.specs.Random.{third_after, gap_after, spread_of, word_of, arrival_at, random_release}
+use Rattle.release_list.specs.Random.{third_after, gap_after, first_at, pace_of, word_of, arrival_at, random_release}
 use Rattle.release_list.specs.Random.{if_ready, jobs_within, jobs_by_rank, all_jobs, IsRandomJob}
+use Rattle.release_list.specs.declared.random_list.Pace.{Pace}
+use Rattle.release_list.specs.declared.steady.SteadyTask.{SteadyTask}
 use Rattle.release_list.proofs.TimeLaws.{refusal_grows, longer}
 use Rattle.release_list.proofs.InLaws.{In, Pairs, none, only, alone, in_either, pairs_append}
 use Rattle.release_list.proofs.InLaws.{from_filter, pairs_filter}
@@ -35,18 +37,18 @@ drawn_below x b some =
     omega arith
 
 -- ---- arrivals
-next_arrival : (t : Task) (g x k : ℕ) → arrival_at t g x k + t.period ≤ arrival_at t g x (suc k)
+next_arrival : (t : Task) (g : Pace) (x k : ℕ) → arrival_at t g x k + t.period ≤ arrival_at t g x (suc k)
 unfolding arrival_at
 next_arrival t g x k = omega arith
 
-arrivals_apart : (t : Task) (g x j k : ℕ) → j < k → arrival_at t g x j + t.period ≤ arrival_at t g x k
+arrivals_apart : (t : Task) (g : Pace) (x j k : ℕ) → j < k → arrival_at t g x j + t.period ≤ arrival_at t g x k
 arrivals_apart t g x j zero lt = absurd (omega arith)
 arrivals_apart t g x j (suc k) lt = elim (cases_eq j k) [
   | inl same ↦ rw same (next_arrival t g x k)
   | inr other ↦ omega (arith, next_arrival t g x k, arrivals_apart t g x j k (omega arith))
 ]
 
-pub arrival_from : (t : Task) (g x k : ℕ) → 0 < t.period → k ≤ arrival_at t g x k
+pub arrival_from : (t : Task) (g : Pace) (x k : ℕ) → 0 < t.period → k ≤ arrival_at t g x k
 arrival_from t g x zero some = omega arith
 arrival_from t g x (suc k) some = omega (arith, next_arrival t g x k, arrival_from t g x k some)
 
@@ -55,7 +57,7 @@ pub not_ready : (until : ℕ) (r : Release) → until ≤ ready_of r → if_read
 not_ready until r late = rw (le-ltb (ready_of r) until late)
 
 -- from the first that arrives at the end on, none is ready before it
-within_all : (t : Task) (g x until k n : ℕ) → k ≤ n → until ≤ arrival_at t g x k
+within_all : (t : Task) (g : Pace) (x until k n : ℕ) → k ≤ n → until ≤ arrival_at t g x k
     → jobs_within t g x until k ≡ jobs_within t g x until n
 unfolding jobs_within
 within_all t g x until k zero le past = (let e : k ≡ 0 = omega arith in ap (jobs_within t g x until) e)
@@ -70,7 +72,7 @@ within_all t g x until k (suc n) le past = elim (cases_eq k (suc n)) [
       (within_all t g x until k n (omega arith) past)
 ]
 
-pub in_within : (t : Task) (g x until n : ℕ) {r : Release} → In r (jobs_within t g x until n) → (k : ℕ)
+pub in_within : (t : Task) (g : Pace) (x until n : ℕ) {r : Release} → In r (jobs_within t g x until n) → (k : ℕ)
     × (k < n) × (r ≡ random_release t g x k) × (ready_of r < until)
 unfolding jobs_within
 in_within t g x until zero at = elim at [ ]
@@ -82,7 +84,7 @@ in_within t g x until (suc n) {r} at = elim (in_either _ _ at) [
 ]
 
 -- they come a period apart
-pub within_apart : (t : Task) (g x until n : ℕ)
+pub within_apart : (t : Task) (g : Pace) (x until n : ℕ)
     → Pairs (λ r s. r.time + t.period ≤ s.time) (jobs_within t g x until n)
 unfolding jobs_within
 within_apart t g x until zero = none
@@ -100,7 +102,7 @@ within_apart t g x until (suc n) =
     ))
 
 -- ---- the jobs of a set
-pub in_rank : (U : List Task) (steady : List ℕ) (until seed n : ℕ) → n ≤ length U → {r : Release}
+pub in_rank : (U : List Task) (steady : List SteadyTask) (until seed n : ℕ) → n ≤ length U → {r : Release}
     → In r (jobs_by_rank U steady until seed n) → (i : ℕ) × (k : ℕ) × (i < n)
     × IsRandomJob U steady until seed r i k
 unfolding jobs_by_rank
@@ -110,12 +112,12 @@ in_rank U steady until seed (suc n) le at = elim (in_either _ _ at) [
       let b = in_rank U steady until seed n (omega arith) before in
       (b.0, b.1, omega (arith, b.2), b.3)
   | inr now ↦
-      let w = in_within (task_at U n) (spread_of (task_at U n) steady n) (word_before seed n) until until now in
+      let w = in_within (task_at U n) (pace_of (task_at U n) steady n) (word_before seed n) until until now in
       (n, w.0, omega arith, record { in_set = omega arith; is = w.2; before = w.3 })
 ]
 
 -- all arrive before the end
-pub all_early : (U : List Task) (steady : List ℕ) (until seed : ℕ) (r : Release) → In r (all_jobs U steady until seed)
+pub all_early : (U : List Task) (steady : List SteadyTask) (until seed : ℕ) (r : Release) → In r (all_jobs U steady until seed)
     → r.time < until
 all_early U steady until seed r at =
     (let j = in_rank U steady until seed (length U) (omega arith) at in omega (arith, j.3.before))
@@ -127,7 +129,7 @@ next_job t time word =
     record { time = time; name = t.name; late = late_after t word; runs = runs_after t word }
 
 -- so many of them have been taken: the next arrives at a time, and its words come after a word
-pub record AreTaken (t : Task) (g x until time word : ℕ) (old items : List Release) : Type 0 where
+pub record AreTaken (t : Task) (g : Pace) (x until time word : ℕ) (old items : List Release) : Type 0 where
   pub taken : ℕ
   pub in_time : taken ≤ until
   pub next : time ≡ arrival_at t g x taken
@@ -135,8 +137,8 @@ pub record AreTaken (t : Task) (g x until time word : ℕ) (old items : List Rel
   pub holds : items ≡ old ++ jobs_within t g x until taken
   pub few : length items ≤ 10000
 
-pub taken_first : {t : Task} {g x until time word : ℕ} {old : List Release}
-    → time ≡ drawn (word_after x) t.period → word ≡ word_after x → length old ≤ 10000
+pub taken_first : {t : Task} {g : Pace} {x until time word : ℕ} {old : List Release}
+    → time ≡ first_at g.offset t.period (word_after x) → word ≡ word_after x → length old ≤ 10000
     → AreTaken t g x until time word old old
 unfolding arrival_at word_of jobs_within
 taken_first {old = old} first stands few = record {
@@ -148,7 +150,7 @@ taken_first {old = old} first stands few = record {
   few = few;
 }
 
-module _ {t : Task} {g x until time word : ℕ} {old now : List Release}
+module _ {t : Task} {g : Pace} {x until time word : ℕ} {old now : List Release}
     (are : AreTaken t g x until time word old now) (some : 0 < t.period) where
   below : time < until → are.taken < until
   below lt = omega (arith, are.next, arrival_from t g x are.taken some)
@@ -164,14 +166,14 @@ module _ {t : Task} {g x until time word : ℕ} {old now : List Release}
 
   pub taken_next : {r : Release} {then : List Release} {third next gap : ℕ} → time < until
       → r ≡ next_job t time word → then ≡ now ++ if_ready until r → length then ≤ 10000
-      → third ≡ third_after word → gap ≡ gap_after t g third → next ≡ word_after (word_after third)
+      → third ≡ third_after word → gap ≡ gap_after t g.spread third → next ≡ word_after (word_after third)
       → AreTaken t g x until (time + gap) next old then
   unfolding arrival_at word_of
   taken_next lt is pushed few et eg en = record {
     taken = suc are.taken;
     in_time = below lt;
     next = ap₂ (λ a g. a + g) are.next
-        (eg ∙ (ap (gap_after t g) et ∙ ap (λ w. gap_after t g (third_after w)) are.stands));
+        (eg ∙ (ap (gap_after t g.spread) et ∙ ap (λ w. gap_after t g.spread (third_after w)) are.stands));
     stands = en ∙ (ap (λ w. word_after (word_after w)) et
         ∙ ap (λ w. word_after (word_after (third_after w))) are.stands);
     holds = pushed ∙ more_is is;
@@ -201,23 +203,23 @@ module _ {t : Task} {g x until time word : ℕ} {old now : List Release}
 
 -- ---- the tasks of a set, one by one
 -- the jobs of the first tasks stand in a list
-pub record AreRanked (U : List Task) (steady : List ℕ) (until seed n : ℕ) (items : List Release) : Type 0 where
+pub record AreRanked (U : List Task) (steady : List SteadyTask) (until seed n : ℕ) (items : List Release) : Type 0 where
   pub are : items ≡ jobs_by_rank U steady until seed n
   pub few : length items ≤ 10000
 
-pub ranked_first : {U : List Task} {steady : List ℕ} {until seed : ℕ} {items : List Release} → items ≡ []
+pub ranked_first : {U : List Task} {steady : List SteadyTask} {until seed : ℕ} {items : List Release} → items ≡ []
     → AreRanked U steady until seed 0 items
 unfolding jobs_by_rank
 ranked_first start = record { are = start; few = omega (arith, ap length start) }
 
-module _ {U : List Task} {steady : List ℕ} {until seed n word g : ℕ} {now : List Release} {t : Task}
+module _ {U : List Task} {steady : List SteadyTask} {until seed n word : ℕ} {g : Pace} {now : List Release} {t : Task}
     (are : AreRanked U steady until seed n now) (lt : n < length U) (own : t ≡ get_or U n t)
-    (spread : g ≡ spread_of t steady n) (stands : word ≡ word_before seed n) where
+    (pace : g ≡ pace_of t steady n) (stands : word ≡ word_before seed n) where
   sum_is : now ++ jobs_within t g word until until ≡ jobs_by_rank U steady until seed (suc n)
   unfolding jobs_by_rank
   sum_is = ap₂ (λ ys zs. ys ++ zs) are.are
-      (ap (λ h. jobs_within t h word until until) spread
-      ∙ ap₂ (λ s x. jobs_within s (spread_of s steady n) x until until) (task_read U U n t refl lt own) stands)
+      (ap (λ h. jobs_within t h word until until) pace
+      ∙ ap₂ (λ s x. jobs_within s (pace_of s steady n) x until until) (task_read U U n t refl lt own) stands)
 
   pub ranked_next : {then : List Release} → then ≡ now ++ jobs_within t g word until until
       → length then ≤ 10000 → AreRanked U steady until seed (n + 1) then
@@ -232,5 +234,5 @@ module _ {U : List Task} {steady : List ℕ} {until seed n word g : ℕ} {now : 
   unfolding jobs_by_rank
   ranked_refused e = refusal_grows e (length (now ++ jobs_within t g word until until))
       (length (all_jobs U steady until seed)) (rw sum_is (longer (jobs_by_rank U steady until seed)
-      (λ n. jobs_within (task_at U n) (spread_of (task_at U n) steady n) (word_before seed n) until until) (λ n. refl)
+      (λ n. jobs_within (task_at U n) (pace_of (task_at U n) steady n) (word_before seed n) until until) (λ n. refl)
       (suc n) (length U) lt))

@@ -8,8 +8,10 @@ use Rattle.ceiling_kernel.specs.declared.trace.Release.{Release}
 use Rattle.ceiling_kernel.proofs.Common.{lateness_of, task_named, task_number, ready_of, no_release}
 use Rattle.ceiling_kernel.proofs.Common.{refusal_of}
 use Rattle.release_list.specs.Random.{word_after, word_before, drawn, late_after, runs_after}
-use Rattle.release_list.specs.Random.{spread_of, word_of, random_release, jobs_within, jobs_by_rank, all_jobs}
+use Rattle.release_list.specs.Random.{pace_of, word_of, random_release, jobs_within, jobs_by_rank, all_jobs}
 use Rattle.release_list.specs.Random.{random_of, IsRandomJob, IsRandomList}
+use Rattle.release_list.specs.declared.random_list.Pace.{Pace}
+use Rattle.release_list.specs.declared.steady.SteadyTask.{SteadyTask}
 use Rattle.release_list.proofs.TaskNumbers.{found}
 use Rattle.release_list.proofs.InLaws.{In, here, Pairs, none, in_at, place_of, pairs_at, pairs_with}
 use Rattle.release_list.proofs.InLaws.{in_front, in_back, pairs_append, to_filter}
@@ -27,7 +29,7 @@ runs_within t x some = elim (cases_Bool (drawn (word_after (word_after x)) 4 == 
       rw part (omega arith, omega (arith, small))
 ]
 
-to_within : (t : Task) (g x until n k : ℕ) → k < n → ready_of (random_release t g x k) < until
+to_within : (t : Task) (g : Pace) (x until n k : ℕ) → k < n → ready_of (random_release t g x k) < until
     → In (random_release t g x k) (jobs_within t g x until n)
 unfolding jobs_within
 to_within t g x until zero k lt before = absurd (omega arith)
@@ -38,7 +40,7 @@ to_within t g x until (suc n) k lt before = elim (cases_eq k n) [
   | inr other ↦ in_front _ (to_within t g x until n k (omega arith) before)
 ]
 
-module _ (U : List Task) (steady : List ℕ) (until seed : ℕ) (set : IsTaskSet U) where
+module _ (U : List Task) (steady : List SteadyTask) (until seed : ℕ) (set : IsTaskSet U) where
   abbrev rs : List Release
   rs = random_of U steady until seed
 
@@ -46,7 +48,7 @@ module _ (U : List Task) (steady : List ℕ) (until seed : ℕ) (set : IsTaskSet
   period r = (task_at U (task_number U r)).period
 
   abbrev job : ℕ → ℕ → Release
-  job i k = random_release (task_at U i) (spread_of (task_at U i) steady i) (word_before seed i) k
+  job i k = random_release (task_at U i) (pace_of (task_at U i) steady i) (word_before seed i) k
 
   valid : (i : ℕ) → i < length U → IsValidSheet (task_at U i)
   valid i lt = set.valid i no_task lt
@@ -70,8 +72,8 @@ module _ (U : List Task) (steady : List ℕ) (until seed : ℕ) (set : IsTaskSet
     | inl same ↦
         let some : 0 < (task_at U n).period = omega (arith, (valid n (omega arith)).period_from) in
         let ready : ready_of (job n k) < until = rw same at before in
-        rw same (in_back _ (to_within (task_at U n) (spread_of (task_at U n) steady n) (word_before seed n) until until k
-        (omega (arith, arrival_from (task_at U n) (spread_of (task_at U n) steady n) (word_before seed n) k some)) ready))
+        rw same (in_back _ (to_within (task_at U n) (pace_of (task_at U n) steady n) (word_before seed n) until until k
+        (omega (arith, arrival_from (task_at U n) (pace_of (task_at U n) steady n) (word_before seed n) k some)) ready))
     | inr other ↦ in_front _ (to_rank n i k (omega arith) (omega arith) before)
   ]
 
@@ -81,7 +83,7 @@ module _ (U : List Task) (steady : List ℕ) (until seed : ℕ) (set : IsTaskSet
   ranked zero le = none
   ranked (suc n) le =
       pairs_append (ranked n (omega arith))
-      (pairs_with (within_apart (task_at U n) (spread_of (task_at U n) steady n) (word_before seed n) until until) (λ r s a b apart.
+      (pairs_with (within_apart (task_at U n) (pace_of (task_at U n) steady n) (word_before seed n) until until) (λ r s a b apart.
       let own : task_number U s ≡ n = of_rank n le b in
       let gap = subst (λ i. r.time + (task_at U i).period ≤ s.time) (sym own) apart in
       inr (of_rank n le a ∙ sym own, omega (arith, (valid n le).period_from), gap)))
@@ -90,9 +92,9 @@ module _ (U : List Task) (steady : List ℕ) (until seed : ℕ) (set : IsTaskSet
       inl (omega (arith, j.2, number_is j.3, of_rank n le b)))
     where
       of_rank : (n : ℕ) → n < length U → {r : Release}
-          → In r (jobs_within (task_at U n) (spread_of (task_at U n) steady n) (word_before seed n) until until) → task_number U r ≡ n
+          → In r (jobs_within (task_at U n) (pace_of (task_at U n) steady n) (word_before seed n) until until) → task_number U r ≡ n
       of_rank n lt at =
-          let w = in_within (task_at U n) (spread_of (task_at U n) steady n) (word_before seed n) until until at in
+          let w = in_within (task_at U n) (pace_of (task_at U n) steady n) (word_before seed n) until until at in
           number_is {k = w.0} (record { in_set = lt; is = w.2; before = w.3 })
 
   order : Pairs (InTime (task_number U) period) rs

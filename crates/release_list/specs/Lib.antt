@@ -1,3 +1,4 @@
+pub mod Steady
 pub mod Streams
 pub mod Densest
 pub mod Text

@@ -8,6 +8,7 @@ mod list;
 pub mod random_laws;
 mod random_list;
 mod reading;
+mod steady;
 mod stream;
 mod text;
 
@@ -15,5 +16,6 @@ pub use crate::dense::{densest, stream_of};
 pub use crate::list::list_of;
 pub use crate::random_list::random;
 pub use crate::reading::{TextFault, read_releases};
+pub use crate::steady::SteadyTask;
 pub use crate::stream::Stream;
 pub use crate::text::list_text;

@@ -1,15 +1,23 @@
 //! A random release list of a set, by a fixed rule.
-ghost use Rattle.std.specs.List.{list_any};
-ghost use Rattle.std.specs.Prelude.{◌≡◌, ◌==◌, ◌<◌, ◌≤◌, ◌+◌, ◌++◌, ◌^◌, length, None, MatchResult, IfOk, nat_lt};
+ghost use Rattle.std.specs.Prelude.{◌≡◌, ◌<◌, ◌≤◌, ◌+◌, ◌++◌, ◌^◌, length, None, MatchResult, IfOk, nat_lt};
 ghost use Rattle.task_sheet.specs.Sheet.{IsValidSheet};
 ghost use Rattle.task_sheet.specs.TaskSet.{IsTaskSet};
 ghost use Rattle.ceiling_kernel.specs.declared.accept.TheConstants.{HORIZON, RELEASE_LIMIT};
 ghost use Rattle.ceiling_kernel.specs.Releases.{IsRefusal, refusal_of, refuse_if};
-ghost use Rattle.release_list.specs.Random.{word_after, word_before, drawn, late_after, runs_after, third_after, gap_after, if_ready, jobs_within, all_jobs, spread_of, random_of, random_refusal};
+ghost use Rattle.release_list.specs.Random.{word_after, word_before, drawn, late_after, runs_after, third_after, gap_after, first_at, if_ready, jobs_within, all_jobs, pace_of, random_of, random_refusal};
 
+use crate::steady::{SteadyTask, is_steady, offset_in};
 use ceiling_kernel::{HORIZON, RELEASE_LIMIT, Release, RunFault};
 use std::alloc::Global;
 use task_sheet::{Sheet, TaskSet};
+
+// How the jobs of a task come, in microseconds: the first at the offset, where that is known, each further one less than the
+// spread more than a period after the one before.
+#[derive(Clone, Copy)]
+struct Pace {
+    offset: Option<u64>,
+    spread: u64,
+}
 
 // The numbers of a task, by the word that was drawn last.
 #[derive(Clone, Copy)]
@@ -49,6 +57,16 @@ impl Generator {
     {
         self.step();
         ((self.word >> 32) * below) >> 32
+    }
+
+    // When the first job of a task arrives.
+    fn first(&mut self, sheet: &Sheet, offset: Option<u64>) -> u64
+        requires { IsValidSheet sheet.now }
+        ensures word { self.new.word ≡ word_after self.old.word }
+        ensures first { result ≡ first_at offset sheet.now.period (word_after self.old.word) }
+    {
+        let drawn = self.draw(sheet.period());
+        offset.unwrap_or(drawn)
     }
 
     // The release of a task's job that arrives at a time.
@@ -113,55 +131,50 @@ fn push_if_ready(releases: &mut Vec<Release>, release: Release, until: u64) -> R
 // The jobs of a task are put behind others.
 fn push_jobs(
     sheet: &Sheet,
-    spread: u64,
+    pace: Pace,
     mut generator: Generator,
     until: u64,
     releases: &mut Vec<Release>,
 ) -> Result<(), RunFault>
     requires valid { IsValidSheet sheet.now }
-    requires spread { spread ≤ sheet.now.period }
+    requires spread { pace.spread ≤ sheet.now.period }
     requires horizon { until ≤ HORIZON }
     requires few { length releases.old.items ≤ RELEASE_LIMIT }
     ensures { MatchResult result
-        (λ _. (releases.new.items ≡ releases.old.items ++ jobs_within sheet.now spread generator.word until until)
+        (λ _. (releases.new.items ≡ releases.old.items ++ jobs_within sheet.now pace generator.word until until)
         × (length releases.new.items ≤ RELEASE_LIMIT))
         (λ e. IsRefusal e
         (refuse_if (nat_lt RELEASE_LIMIT
-        (length (releases.old.items ++ jobs_within sheet.now spread generator.word until until))) RunFault.TooMany)) }
+        (length (releases.old.items ++ jobs_within sheet.now pace generator.word until until))) RunFault.TooMany)) }
 {
-    let mut time = generator.draw(sheet.period());
+    let mut time = generator.first(sheet, pace.offset);
     while time < until {
         let release = generator.release(sheet, time);
         push_if_ready(releases, release, until)?;
-        time += generator.gap(sheet, spread);
+        time += generator.gap(sheet, pace.spread);
     }
     Ok(())
 }
 
-// Whether the task of a rank is one of the steady ones.
-fn is_steady(steady: &[usize], rank: usize) -> bool
-    ensures { result ≡ list_any (λ k. k == rank) steady.now }
+// How jobs of the task of a rank come.
+fn pace_of(sheet: &Sheet, steady: &[SteadyTask], rank: usize) -> Pace
+    ensures value { result ≡ pace_of sheet.now steady.now rank }
+    ensures within { result.spread ≤ sheet.now.period }
 {
-    steady.iter().any(|task| *task == rank)
-}
-
-// By less than how much more than a period jobs of a task may come apart.
-fn spread_of(sheet: &Sheet, steady: &[usize], rank: usize) -> u64
-    ensures value { result ≡ spread_of sheet.now steady.now rank }
-    ensures within { result ≤ sheet.now.period }
-{
-    if is_steady(steady, rank) {
+    let offset = offset_in(steady, rank);
+    let spread = if is_steady(steady, rank) {
         0
     } else {
         sheet.period()
-    }
+    };
+    Pace { offset, spread }
 }
 
 // The jobs of a set, task by task.
 fn jobs(
     alloc: Global,
     sheets: &[Sheet],
-    steady: &[usize],
+    steady: &[SteadyTask],
     until: u64,
     seed: u64,
 ) -> Result<Vec<Release>, RunFault>
@@ -178,7 +191,7 @@ fn jobs(
         let sheet = &sheets[rank];
         push_jobs(
             sheet,
-            spread_of(sheet, steady, rank),
+            pace_of(sheet, steady, rank),
             Generator::of(seed, rank as u64),
             until,
             &mut releases,
@@ -188,13 +201,13 @@ fn jobs(
 }
 
 /// A random release list that a set allows up to `until`, the same for the same seed: jobs that may be late within their
-/// jitter, execute less than their cost, and come more than a period apart, those of the tasks in `steady`, by their indexes,
-/// exactly a period; all that are ready before `until`, by time, then by rank. Refused in this order: `PastHorizon`,
-/// `TooMany`. A kernel of the set refuses no such list.
+/// jitter, execute less than their cost, and come more than a period apart, those of steady tasks exactly a period, from their
+/// offsets on, where these are known; all that are ready before `until`, by time, then by rank. Refused in this order:
+/// `PastHorizon`, `TooMany`. A kernel of the set refuses no such list.
 pub fn random(
     alloc: Global,
     set: &TaskSet,
-    steady: &[usize],
+    steady: &[SteadyTask],
     until: u64,
     seed: u64,
 ) -> Result<Vec<Release>, RunFault>

@@ -1,11 +1,13 @@
 //! Why a set's text says no chains.
 
+use crate::clocks::{tell_offset, tell_periods};
 use crate::sets::{
     NAME_RULE, WRITES_RULE, tell_keys, tell_kind_in, tell_no_name, tell_twice, tell_unknown_key,
     tell_value,
 };
 use crate::told::Told;
 use crate::tree::{items_at, line_of, number_at, table_at};
+use crate::values::count_at;
 use chain_tables::{CHAIN_LIMIT, CHAIN_TASKS, ChainCause, ChainFault, LONGEST_LIMIT, Whose};
 use std::alloc::Global;
 use task_sheet::{CHAIN_KEYS, Key, NAME_LIMIT, NEEDED_CHAIN_KEYS, Name};
@@ -30,10 +32,10 @@ pub fn of_chains(alloc: Global, bytes: &[u8], fault: ChainFault) -> Option<Strin
             "the documents have more than {} chains together",
             &[CHAIN_LIMIT as u64],
         ),
-        ChainFault::NoSuchTask { chain, task } => {
-            tell_chain(&mut told, alloc, bytes, chain);
-            told.name("the set has no task ", task);
-            told.words("; a chain's tasks are names of tasks, of any team");
+        ChainFault::NoSuchTask { chain, .. }
+        | ChainFault::BadOffset { chain, .. }
+        | ChainFault::TooManyArrivals { chain } => {
+            tell_chain(&mut told, alloc, bytes, chain, fault);
         }
         ChainFault::OutOfMemory => told.give_up(),
     }
@@ -84,35 +86,55 @@ fn place_of_chain(root: &Table, name: &str) -> Option<usize> {
     None
 }
 
-// The place of a chain of a document.
-fn tell_chain_in(told: &mut Told, alloc: Global, text: &[u8], chain: Name) {
-    match toml::table_from_slice(alloc, text) {
-        Ok(root) => match place_of_chain(&root, chain.as_str()) {
-            Some(place) => {
-                tell_place(told, alloc, text, &root, place);
-            }
-            None => told.give_up(),
-        },
-        Err(_) => told.give_up(),
+// What is wrong with a chain's tasks, from its table.
+fn tell_tasks(told: &mut Told, alloc: Global, bytes: &[u8], table: &Table, fault: ChainFault) {
+    match fault {
+        ChainFault::NoSuchTask { task, .. } => {
+            told.name("the set has no task ", task);
+            told.words("; a chain's tasks are names of tasks, of any team");
+        }
+        ChainFault::BadOffset { task, .. } => tell_offset(told, alloc, bytes, table, task),
+        ChainFault::TooManyArrivals { .. } => tell_periods(told, alloc, bytes, table),
+        _ => {}
     }
 }
 
-// The place of a chain of a set's text, behind its document's file where there are several.
-fn tell_chain(told: &mut Told, alloc: Global, bytes: &[u8], chain: Name) {
+// A chain of a document of a set's text: its place, and what is wrong with its tasks.
+fn tell_chain_in(
+    told: &mut Told,
+    alloc: Global,
+    bytes: &[u8],
+    text: &[u8],
+    chain: Name,
+    fault: ChainFault,
+) {
+    let Ok(root) = toml::table_from_slice(alloc, text) else {
+        return told.give_up();
+    };
+    let Some(place) = place_of_chain(&root, chain.as_str()) else {
+        return told.give_up();
+    };
+    if let Some(table) = tell_place(told, alloc, text, &root, place) {
+        tell_tasks(told, alloc, bytes, table, fault);
+    }
+}
+
+// The same of a set's text, behind its document's file where there are several.
+fn tell_chain(told: &mut Told, alloc: Global, bytes: &[u8], chain: Name, fault: ChainFault) {
     if !is_gathered(bytes) {
-        return tell_chain_in(told, alloc, bytes, chain);
+        return tell_chain_in(told, alloc, bytes, bytes, chain, fault);
     }
     let nothing: &[u8] = b"";
     let (node, teams) = node_part(bytes).unwrap_or((nothing, bytes));
     if has_chain(alloc, node, chain) {
         told.words("node.toml: ");
-        return tell_chain_in(told, alloc, node, chain);
+        return tell_chain_in(told, alloc, bytes, node, chain, fault);
     }
     match part_with(alloc, teams, chain) {
         Some(part) => {
             told.name("", part.team);
             told.words(".toml: ");
-            tell_chain_in(told, alloc, part.text, chain);
+            tell_chain_in(told, alloc, bytes, part.text, chain, fault);
         }
         None => told.give_up(),
     }
@@ -205,6 +227,10 @@ fn tell_cause(told: &mut Told, alloc: Global, text: &[u8], root: &Table, cause: 
             let table = tell_place(told, alloc, text, root, chain);
             tell_limit(told, key, table);
         }
+        ChainCause::BadOffsets { chain } => {
+            let table = tell_place(told, alloc, text, root, chain);
+            tell_offsets(told, table);
+        }
         ChainCause::BadWrites { chain } => {
             let table = tell_place(told, alloc, text, root, chain);
             tell_writes(told, table);
@@ -235,6 +261,17 @@ fn tell_length(told: &mut Told, table: Option<&Table>) {
     told.numbers("a chain has 1 to {} tasks", &[CHAIN_TASKS as u64]);
     if let Some(table) = table {
         told.number("; it has ", items_at(Key::Tasks, table).len() as u64);
+    }
+}
+
+// How many offsets a chain has, and how many tasks.
+fn tell_offsets(told: &mut Told, table: Option<&Table>) {
+    told.words("offsets has to have one number for each of tasks");
+    if let Some(table) = table {
+        told.numbers(
+            "; it has {}, tasks has {}",
+            &[count_at(Key::Offsets, table), count_at(Key::Tasks, table)],
+        );
     }
 }
 

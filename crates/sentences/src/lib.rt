@@ -5,6 +5,7 @@ mod asked;
 mod causes;
 mod chained;
 mod choices;
+mod clocks;
 mod conflicts;
 mod density;
 mod gathered;

@@ -134,7 +134,26 @@ fn levels_in(alloc: Global, bytes: &[u8], set: &TaskSet) -> Result<Vec<Level>, A
 fn bound_by(alloc: Global, bytes: &[u8], set: Option<&TaskSet>, chain: &Chain) -> Option<u128> {
     let set = set?;
     let levels = levels_in(alloc, bytes, set).ok()?;
-    bound_of(set, &levels, chain.writes, &chain.tasks)
+    let (writes, offsets) = (chain.writes, &chain.offsets);
+    bound_of(alloc, set, &levels, writes, offsets, &chain.tasks).ok()?
+}
+
+// What a chain's bound is.
+fn rule_of(chain: &Chain) -> &'static str {
+    match chain.writes {
+        Writes::AtFinish if chain.offsets.is_empty() => {
+            ", the sum of its periods, of what its tasks hand over and of the last one's response, by the numbers of the levels"
+        }
+        Writes::AtFinish => {
+            ", its longest span from an arrival of its first task, by the numbers of the levels"
+        }
+        Writes::AtDeadline if chain.offsets.is_empty() => {
+            ", the sum of its periods and of its tasks' deadlines"
+        }
+        Writes::AtDeadline => {
+            ", its longest span from an arrival of its first task, by its tasks' deadlines"
+        }
+    }
 }
 
 // The number of a chain that is below its bound by the numbers of the levels, with that bound.
@@ -156,12 +175,7 @@ fn tell_age(
     told.number(": its number, ", chain_number(bytes, name));
     told.words(", is below ");
     told.show(bound);
-    told.words(match chain.writes {
-        Writes::AtFinish => {
-            ", the sum of its periods, of what its tasks hand over and of the last one's response, by the numbers of the levels"
-        }
-        Writes::AtDeadline => ", the sum of its periods and of its tasks' deadlines",
-    });
+    told.words(rule_of(chain));
 }
 
 // The number of a level that its task can't have, with its limit.

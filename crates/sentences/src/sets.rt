@@ -12,6 +12,7 @@ use std::alloc::Global;
 use task_sheet::{
     INTERRUPT_FROM, INTERRUPT_KEYS, INTERRUPT_LIMIT, Key, NAME_LIMIT, NODE_KEYS, OutranksCause,
     PERIOD_FROM, PERIOD_TO, ROOT_KEYS, SECTION_KEYS, SetFault, SheetCause, TASK_KEYS, TASK_LIMIT,
+    number_of,
 };
 use toml::{Table, Value};
 
@@ -244,6 +245,7 @@ fn kind_of(key: Key) -> &'static str {
         Key::Interrupt => "an array of tables, each headed by [[interrupt]]",
         Key::Chain => "an array of tables, each headed by [[chain]]",
         Key::Name => "a string, in quotes",
+        Key::Offsets => "an array of whole numbers of microseconds from 0, as [0, 500]",
         Key::Writes => WRITES_RULE,
         Key::Prefer => "\"chains\", \"deadline\" or \"weight\"",
         Key::Node => "a table, headed by [node]",
@@ -279,11 +281,19 @@ pub(crate) fn tell_value(told: &mut Told, words: &str, value: &Value) {
     }
 }
 
-// The first value that an array at a key may not hold.
+// Whether an array at a key may hold a value.
+fn may_hold(key: Key, item: &Value) -> bool {
+    match key {
+        Key::Task | Key::Section | Key::Interrupt | Key::Chain => item.is_table(),
+        Key::Offsets => number_of(item).is_some(),
+        _ => item.is_str(),
+    }
+}
+
+// The first value that it may not hold.
 fn stranger<'a>(key: Key, items: &'a [Value]) -> Option<&'a Value> {
-    let holds_tables = matches!(key, Key::Task | Key::Section | Key::Interrupt | Key::Chain);
     for item in items {
-        if !item.is_table() && holds_tables || !item.is_str() && !holds_tables {
+        if !may_hold(key, item) {
             return Some(item);
         }
     }

@@ -1,5 +1,5 @@
 -- What is said of a set's chains in its best order.
-use Rattle.std.specs.Prelude.{◌≡◌, ℕ, List, [], Option, if◌then◌else◌}
+use Rattle.std.specs.Prelude.{◌≡◌, ℕ, Bool, List, [], Option, if◌then◌else◌}
 use Rattle.task_sheet.specs.Sheet.{Task}
 use Rattle.assignment.specs.Placings.{IsPlacingOf}
 use Rattle.assignment.specs.declared.placing.Placing.{Placing}
@@ -26,16 +26,18 @@ chained_said telling U leasts chains (Best places) =
 chained_said telling U leasts chains (Stuck left) = []
 
 -- the exit status of chains in an order: a bound past its limit has that of a deadline that isn't met
-abbrev pub met_status : List Task → List Level → List ChainData → Status
-met_status U levels chains = if all_met U levels chains then status.Done else status.Infeasible
+abbrev pub met_status : (are_met : Bool) → Status
+met_status are_met = if are_met then status.Done else status.Infeasible
 
 -- that of a placing and the chains in its order
 abbrev pub chained_status : List Task → List ChainData → Placing → Status
-chained_status U chains (Best places) = met_status U (levels_at places.items) chains
+chained_status U chains (Best places) = met_status (all_met U (levels_at places.items) chains)
 chained_status U chains (Stuck left) = status.Infeasible
 
--- a set was placed: this becomes of its tasks, and these are the levels, and the least bounds of what they miss
+-- a set was placed: this becomes of its tasks, and these are the levels, the least bounds of what they miss, and whether they miss
+-- anything
 pub record IsPlaced (placed : Placed) : Type 0 where
   pub placing : IsPlacingOf placed.tasks placed.placing
   pub levels : placed.levels.items ≡ levels_of placed.placing
   pub leasts : AreLeastOf placed.tasks placed.levels.items placed.chains.items placed.placing placed.leasts.items
+  pub met : placed.are_met ≡ all_met placed.tasks placed.levels.items placed.chains.items

@@ -1,5 +1,5 @@
 -- What `desk releases` answers and prints.
-use Rattle.std.specs.Prelude.{◌≡◌, ◌⊎◌, ℕ, List, [], ◌∷◌, ◌++◌, None, Option, Some, Result, Ok, Err}
+use Rattle.std.specs.Prelude.{◌≡◌, ◌⊎◌, ℕ, List, [], ◌∷◌, ◌++◌, drop, None, Option, Some, Result, Ok, Err}
 use Rattle.std.specs.Global.{Vec}
 use Rattle.preferences.specs.declared.asking.Asking.{Asking}
 use Rattle.task_sheet.specs.Sheet.{Task}
@@ -9,6 +9,8 @@ use Rattle.ceiling_kernel.specs.declared.trace.RunFault.{RunFault}
 use Rattle.release_list.specs.Densest.{densest_of, list_refusal}
 use Rattle.release_list.specs.Random.{random_of, random_refusal}
 use Rattle.release_list.specs.Text.{list_lines}
+use Rattle.release_list.specs.declared.steady.SteadyTask.{SteadyTask}
+use Rattle.chains.specs.Walks.{first_known}
 use Rattle.chain_tables.specs.Chains.{ChainData}
 use Rattle.answering.specs.Owning.{HasChained}
 use Rattle.answering.specs.Printed.{Prints}
@@ -18,20 +20,26 @@ use Rattle.answering.specs.declared.refusal.CommandRefusal.TheVariants as refusa
 use Rattle.answering.specs.declared.status.Status.{Status}
 use Rattle.answering.specs.declared.status.Status.TheVariants as status
 
--- the tasks of chains
-abbrev pub chained_tasks : List ChainData → List ℕ
-chained_tasks [] = []
-chained_tasks (c ∷ chains) = c.tasks ++ chained_tasks chains
+-- tasks of a chain with their offsets, where these are known
+abbrev pub steady_tasks : (offsets tasks : List ℕ) → List SteadyTask
+steady_tasks offsets [] = []
+steady_tasks offsets (task ∷ tasks) =
+    record { task = task; offset = first_known offsets } ∷ steady_tasks (drop 1 offsets) tasks
 
--- a set's list up to an end: the random one of a seed, in which jobs of these chains' tasks come exactly a period apart; or
--- else the densest, in which all do
+-- those of chains
+abbrev pub chained_tasks : List ChainData → List SteadyTask
+chained_tasks [] = []
+chained_tasks (c ∷ chains) = steady_tasks c.offsets c.tasks ++ chained_tasks chains
+
+-- a set's list up to an end, in which these chains' tasks arrive from their offsets on, where these are known: the random one of
+-- a seed, in which jobs of theirs come exactly a period apart; or else the densest, in which all do
 abbrev pub list_of : Option ℕ → List Task → List ChainData → ℕ → List Release
-list_of None U chains until = densest_of U until
+list_of None U chains until = densest_of U (chained_tasks chains) until
 list_of (Some seed) U chains until = random_of U (chained_tasks chains) until seed
 
 -- why there is none
 abbrev pub refusal_by : Option ℕ → List Task → List ChainData → ℕ → Option RunFault
-refusal_by None U chains until = list_refusal U until
+refusal_by None U chains until = list_refusal U (chained_tasks chains) until
 refusal_by (Some seed) U chains until = random_refusal U (chained_tasks chains) until seed
 
 -- the answer on a set and its chains: its list, which no kernel of the set refuses, or why there is none

@@ -14,7 +14,7 @@ use answering::{
 };
 use assignment::{Placing, place_all};
 use ceilings::{LockTable, Tabled};
-use chain_lines::Telling;
+use chain_lines::{Telling, all_met};
 use least_chains::levels_of;
 use owners::sorted_if;
 use preferences::Asking;
@@ -40,6 +40,7 @@ pub fn place<R: Read + Drop, P: Audience>(
     let placing = place_all(alloc, &tabled)?;
     let levels = levels_of(alloc, &placing)?;
     let leasts = leasts_of(alloc, &tabled, &placing, &levels, &chains)?;
+    let are_met = all_met(alloc, &tasks, &levels, &chains)?;
     people.read(&tasks);
     people.placed(&tasks, &placing);
     Ok(Placed {
@@ -49,6 +50,7 @@ pub fn place<R: Read + Drop, P: Audience>(
         placing,
         levels,
         leasts,
+        are_met,
     })
 }
 

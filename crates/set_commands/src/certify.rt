@@ -45,15 +45,27 @@ fn levels_in(alloc: Global, levels: &[LevelRecord]) -> Result<Vec<Level>, AllocE
 }
 
 // A chain with its bound in an order whose levels have these responses.
-fn numbered(set: &TaskSet, levels: &[Level], chain: &Chain) -> CertChain
-    requires { IsShort (unwrap_or (bound_in chain.now.writes set.now levels.now chain.now.tasks) 0) }
-    ensures { result ≡ numbered set.now levels.now chain.now }
+fn numbered(
+    alloc: Global,
+    set: &TaskSet,
+    levels: &[Level],
+    chain: &Chain,
+) -> Result<CertChain, AllocError>
+    requires { IsShort (unwrap_or (bound_in chain.now.writes chain.now.offsets set.now levels.now chain.now.tasks) 0) }
+    ensures { IfOk result (λ c. c ≡ numbered set.now levels.now chain.now) }
 {
-    let bound = bound_of(set, levels, chain.writes, &chain.tasks).unwrap_or(0);
-    CertChain {
+    let bound = bound_of(
+        alloc,
+        set,
+        levels,
+        chain.writes,
+        &chain.offsets,
+        &chain.tasks,
+    )?;
+    Ok(CertChain {
         name: chain.name,
-        number: bound as u64,
-    }
+        number: bound.unwrap_or(0) as u64,
+    })
 }
 
 // Each chain with its bound in the best order.
@@ -72,7 +84,7 @@ fn best_numbers(
     let levels = levels_in(alloc, best.levels())?;
     let mut all = Vec::with_capacity(alloc, chains.len())?;
     for chain in chains {
-        all.push(numbered(set, &levels, chain))?;
+        all.push(numbered(alloc, set, &levels, chain)?)?;
     }
     Ok(all)
 }

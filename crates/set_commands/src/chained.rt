@@ -6,7 +6,7 @@ ghost use Rattle.set_commands.specs.Chained.{AreLeastOf, IsPlaced, chained_said,
 use answering::Status;
 use assignment::Placing;
 use ceilings::Tabled;
-use chain_lines::{Telling, all_met, chains_text, least_bounds};
+use chain_lines::{Telling, chains_text, least_bounds};
 use chain_tables::Chain;
 use chains::Level;
 use owners::Owner;
@@ -23,6 +23,8 @@ pub struct Placed {
     pub placing: Placing,
     pub levels: Vec<Level>,
     pub leasts: Vec<Option<u128>>,
+    /// Whether the bound of each chain is within its limit there.
+    pub are_met: bool,
 }
 
 /// The least bounds of the chains that the order of a placing misses; none where no order passes. The error is out of
@@ -67,11 +69,11 @@ pub(crate) fn chained_text(
     }
 }
 
-// Whether each chain of a set is met in an order whose levels these are, as a status.
-fn met_status(set: &TaskSet, levels: &[Level], chains: &[Chain]) -> Status
-    ensures { result ≡ met_status set.now levels.now chains.now }
+// Whether each chain is met, as a status.
+fn met_status(are_met: bool) -> Status
+    ensures { result ≡ met_status are_met }
 {
-    if all_met(set, levels, chains) {
+    if are_met {
         Status::Done
     } else {
         Status::Infeasible
@@ -84,7 +86,7 @@ pub(crate) fn chained_status(placed: &Placed) -> Status
     ensures { result ≡ chained_status placed.now.tasks placed.now.chains.items placed.now.placing }
 {
     match &placed.placing {
-        Placing::Best(_) => met_status(&placed.tasks, &placed.levels, &placed.chains),
+        Placing::Best(_) => met_status(placed.are_met),
         Placing::Stuck(_) => Status::Infeasible,
     }
 }

@@ -1,8 +1,7 @@
 //! `desk releases`.
-ghost use Rattle.std.specs.Prelude.{◌≡◌, None, Some, List, IfOk};
-ghost use Rattle.chain_tables.specs.Chains.{ChainData};
+ghost use Rattle.std.specs.Prelude.{◌≡◌, ◌++◌, drop, None, Some, IfOk, OnOk};
 ghost use Rattle.answering.specs.Chosen.{asking_of};
-ghost use Rattle.set_commands.specs.Releases.{Lists, ListsOf, SaysList, chained_tasks};
+ghost use Rattle.set_commands.specs.Releases.{Lists, ListsOf, SaysList, chained_tasks, steady_tasks};
 ghost use Rattle.answering.specs.Outcomes.{IsCarriedOut, IsRead, failed_read};
 
 use answering::{
@@ -12,19 +11,48 @@ use ceiling_kernel::{Release, RunFault};
 use chain_tables::Chain;
 use command_line::Options;
 use preferences::Asking;
-use release_list::{densest, list_text, random};
+use release_list::{SteadyTask, densest, list_text, random};
 use std::alloc::{AllocError, Global};
 use std::io::{Read, Write};
 use streams::Watched;
 use task_sheet::TaskSet;
 
-// The tasks of chains.
-fn chained_tasks(alloc: Global, chains: &[Chain]) -> Result<Vec<usize>, AllocError>
+// The offsets behind the first.
+fn behind(offsets: &[u64]) -> &[u64]
+    ensures { result.now ≡ drop 1 offsets.now }
+{
+    match offsets.split_first() {
+        Some((_, others)) => others,
+        None => offsets,
+    }
+}
+
+// Adds tasks of a chain with these offsets.
+fn push_steady(
+    steady: &mut Vec<SteadyTask>,
+    offsets: &[u64],
+    tasks: &[usize],
+) -> Result<(), AllocError>
+    ensures { OnOk result (steady.new.items ≡ steady.old.items ++ steady_tasks offsets.now tasks.now) }
+{
+    let mut known = offsets;
+    for task in tasks {
+        steady.push(SteadyTask {
+            task: *task,
+            offset: known.first().copied(),
+        })?;
+        known = behind(known);
+    }
+    Ok(())
+}
+
+// The tasks of chains, with their offsets.
+fn chained_tasks(alloc: Global, chains: &[Chain]) -> Result<Vec<SteadyTask>, AllocError>
     ensures { IfOk result (λ tasks. tasks.items ≡ chained_tasks chains.now) }
 {
     let mut tasks = Vec::new(alloc);
     for chain in chains {
-        tasks.extend_from_slice(&chain.tasks)?;
+        push_steady(&mut tasks, &chain.offsets, &chain.tasks)?;
     }
     Ok(tasks)
 }
@@ -49,10 +77,18 @@ fn random_list(
 }
 
 // The densest list, or why there is none.
-fn densest_list(alloc: Global, tasks: &TaskSet, until: u64) -> Result<Vec<Release>, CommandRefusal>
-    ensures { (chains : List ChainData) → ListsOf None until tasks.now chains result }
+fn densest_list(
+    alloc: Global,
+    tasks: &TaskSet,
+    chains: &[Chain],
+    until: u64,
+) -> Result<Vec<Release>, CommandRefusal>
+    ensures { ListsOf None until tasks.now chains.now result }
 {
-    match densest(alloc, tasks, until) {
+    let Ok(steady) = chained_tasks(alloc, chains) else {
+        return Err(CommandRefusal::Run(RunFault::OutOfMemory));
+    };
+    match densest(alloc, tasks, &steady, until) {
         Ok(releases) => Ok(releases),
         Err(fault) => Err(CommandRefusal::Run(fault)),
     }
@@ -70,7 +106,7 @@ fn list_of(
 {
     match seed {
         Some(seed) => random_list(alloc, tasks, chains, until, seed),
-        None => densest_list(alloc, tasks, until),
+        None => densest_list(alloc, tasks, chains, until),
     }
 }
 
@@ -94,7 +130,8 @@ fn list<R: Read + Drop, P: Audience>(
 
 /// `desk releases`: reads a task set, feasible or not, and prints a release list that it allows up to `until`, in
 /// microseconds: the random one of the seed that is chosen, in which jobs of chains' tasks come exactly a period apart, or else
-/// the densest, in which all do; or why the input, or the list, was refused.
+/// the densest, in which all do; in both these tasks arrive from their offsets on, where these are known. Or why the input, or
+/// the list, was refused.
 /// No kernel of the set refuses the list.
 pub fn run_releases<R: Read + Drop, W: Write + Drop, P: Audience>(
     alloc: Global,

@@ -40,6 +40,7 @@ word_of key.Len = codes "len"
 word_of key.Tasks = codes "tasks"
 word_of key.Age = codes "age"
 word_of key.Reaction = codes "reaction"
+word_of key.Offsets = codes "offsets"
 word_of key.Writes = codes "writes"
 
 -- the keys that may stand in the root
@@ -56,7 +57,8 @@ interrupt_keys = key.Period ∷ key.Cost ∷ []
 
 -- the keys of a chain's table
 abbrev pub chain_keys : List Key
-chain_keys = key.Name ∷ key.Tasks ∷ key.Age ∷ key.Reaction ∷ key.Writes ∷ []
+chain_keys =
+    key.Name ∷ key.Tasks ∷ key.Age ∷ key.Reaction ∷ key.Offsets ∷ key.Writes ∷ []
 
 -- those that it needs
 abbrev pub needed_chain_keys : List Key

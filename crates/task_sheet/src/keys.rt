@@ -54,6 +54,9 @@ pub enum Key {
     Age,
     /// `reaction` of a chain: a number of microseconds, no limit where it is absent.
     Reaction,
+    /// `offsets` of a chain: an array of numbers of microseconds, one for each of its tasks; when these arrive isn't known where
+    /// it is absent.
+    Offsets,
     /// `writes` of a chain: a string, when its tasks write; as they finish where it is absent.
     Writes,
 }
@@ -87,6 +90,7 @@ impl Key {
             Key::Tasks => "tasks",
             Key::Age => "age",
             Key::Reaction => "reaction",
+            Key::Offsets => "offsets",
             Key::Writes => "writes",
         }
     }
@@ -108,7 +112,14 @@ pub const NODE_KEYS: [Key; 4] = [Key::Job, Key::Lock, Key::Release, Key::Late];
 pub const INTERRUPT_KEYS: [Key; 2] = [Key::Period, Key::Cost];
 
 /// The keys of a chain.
-pub const CHAIN_KEYS: [Key; 5] = [Key::Name, Key::Tasks, Key::Age, Key::Reaction, Key::Writes];
+pub const CHAIN_KEYS: [Key; 6] = [
+    Key::Name,
+    Key::Tasks,
+    Key::Age,
+    Key::Reaction,
+    Key::Offsets,
+    Key::Writes,
+];
 
 /// Those that it needs.
 pub const NEEDED_CHAIN_KEYS: [Key; 2] = [Key::Name, Key::Tasks];

@@ -63,14 +63,18 @@ abbrev pub told_bound : Option ℕ → Option ℕ
 told_bound None = None
 told_bound (Some bound) = if nat_lt bound 18446744073709551616 then Some bound else None
 
--- what is drawn of a chain in an order with these levels
-abbrev pub way_in : List Task → List Level → ChainData → WayData
-way_in U levels c = record {
+-- what is drawn of a chain that has this bound
+abbrev pub way_with : ChainData → (bound : Option ℕ) → WayData
+way_with c bound = record {
   name = c.name;
   writes = c.writes;
   tasks = c.tasks;
-  bound = told_bound (bound_in c.writes U levels c.tasks);
+  bound = told_bound bound;
 }
+
+-- the same in an order with these levels
+abbrev pub way_in : List Task → List Level → ChainData → WayData
+way_in U levels c = way_with c (bound_in c.writes c.offsets U levels c.tasks)
 
 -- the picture of rows of a run with it
 abbrev pub rows_drawn : List Task → List TaskRow → View → ℕ → List Release → Trace → WayData → List ℕ

@@ -61,7 +61,7 @@ pub(crate) fn tell_chains(
 {
     let levels = levels_judged(alloc, judged)?;
     let text = chains_text(alloc, telling, set, &levels, &[], chains)?;
-    let are_met = all_met(set, &levels, chains);
+    let are_met = all_met(alloc, set, &levels, chains)?;
     Ok(ChainsTold { text, are_met })
 }
 

@@ -76,7 +76,7 @@ fn are_kept_met(
     match keeping {
         Keeping::Kept(places) => {
             let levels = levels_at(alloc, places)?;
-            Ok(all_met(set, &levels, chains))
+            all_met(alloc, set, &levels, chains)
         }
         Keeping::Parted { .. } | Keeping::Stuck(_) => Ok(true),
     }

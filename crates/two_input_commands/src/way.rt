@@ -8,7 +8,8 @@ ghost use Rattle.drawn_ways.specs.WayTexts.{way_of};
 ghost use Rattle.run_lines.specs.TaskBounds.{tasks_of_bounds};
 ghost use Rattle.two_input_commands.specs.Simulate.{IsInOrder, simulation_status};
 ghost use Rattle.two_input_commands.specs.declared.simulate.Simulated.TheVariants.{Ordered, Ran};
-ghost use Rattle.two_input_commands.specs.Way.{DrawsWay, IsViewWith, IsWayOf, answer_drawn, name_at, names_at, picture_with, rows_drawn, rows_with, told_bound, way_in, way_said};
+ghost use Rattle.chains.specs.Parts.{bound_in};
+ghost use Rattle.two_input_commands.specs.Way.{DrawsWay, IsViewWith, IsWayOf, answer_drawn, name_at, names_at, picture_with, rows_drawn, rows_with, told_bound, way_said, way_with};
 
 use crate::draw::{Drawing, draw_text, rows_in_view};
 use crate::reached::levels_of;
@@ -104,16 +105,30 @@ fn told_bound(bound: Option<u128>) -> Option<u64>
     }
 }
 
-// What is drawn of a chain in an order with these levels.
-fn way_in<'a>(set: &TaskSet, levels: &[Level], chain: &'a Chain) -> Way<'a>
-    ensures { way_of result ≡ way_in set.now levels.now chain.now }
+// The bound of a chain in an order with these levels.
+fn bound_at(
+    alloc: Global,
+    set: &TaskSet,
+    levels: &[Level],
+    chain: &Chain,
+) -> Result<Option<u128>, AllocError>
+    ensures { IfOk result (λ bound. bound
+        ≡ bound_in chain.now.writes chain.now.offsets set.now levels.now chain.now.tasks) }
+{
+    let (offsets, tasks) = (&chain.offsets, &chain.tasks);
+    bound_of(alloc, set, levels, chain.writes, offsets, tasks)
+}
+
+// What is drawn of a chain that has this bound.
+fn way_with<'a>(chain: &'a Chain, bound: Option<u128>) -> Way<'a>
+    ensures { way_of result ≡ way_with chain.now bound }
 {
     let tasks: &'a [usize] = &chain.tasks;
     Way {
         name: chain.name,
         writes: chain.writes,
         tasks,
-        bound: told_bound(bound_of(set, levels, chain.writes, tasks)),
+        bound: told_bound(bound),
     }
 }
 
@@ -157,7 +172,8 @@ fn picture_with(
 {
     let rows = rows_in_view(alloc, set, settings, bounds, view, releases)?;
     let levels = levels_of(alloc, bounds)?;
-    let way = way_in(set, &levels, chain);
+    let bound = bound_at(alloc, set, &levels, chain)?;
+    let way = way_with(chain, bound);
     rows_drawn(alloc, set, &rows, view, until, releases, trace, &way)
 }
 

@@ -5,10 +5,10 @@ use Rattle.task_sheet.proofs.Common.{Task, Indexes, IsPart, all_of, no_index, in
 use Rattle.task_sheet.proofs.IndexLaws.{without-part_of}
 use Rattle.task_sheet.proofs.MembersIndexes.{indexes_of-all_below, indexes_of-empty, indexes_of-remove, len-remove_member, member_of-len}
 use Rattle.task_sheet.proofs.TaskLaws.{AllTasks-from_set}
-use Rattle.latest_first.proofs.OneOrder.{AllPrompt-valid}
+use Rattle.latest_first.proofs.OneOrder.{AllPrompt-valid, obstructs-fails}
 use Rattle.factor.specs.Factors.{PassesAt}
-use Rattle.factor.proofs.AtLaws.{PassesAt-less, IsFeasibleAt-less}
-use Rattle.factor.proofs.LatestAt.{LeadsAt, LeadsAt-all, LeadsAt-without, obstructs-fails, fails-first}
+use Rattle.factor.proofs.AtLaws.{Slowed, slowed-eased, PassesAt-less, IsFeasibleAt-less}
+use Rattle.factor.proofs.LatestAt.{LeadsAt, LeadsAt-all, LeadsAt-without, fails-first}
 use Rattle.factor.proofs.factor.Goals as goal
 use Rattle.factor.proofs.factor.Goals.{then-most-found, else-most-found}
 
@@ -36,7 +36,7 @@ returns-in_err-task c = rw c.from_residual.ensures (λ factor some.
       | inr ne ↦ omega arith
     ] in
     let member = member_of-len left (length U) inv.part some in
-    obstructs-fails U (AllTasks-from_set U c.sheets.ensures.kept) factor (indexes_of left) record {
+    obstructs-fails (Slowed factor) (slowed-eased factor) U (AllTasks-from_set U c.sheets.ensures.kept) (indexes_of left) record {
       within = inv.part;
       some = (member.0, member.2);
       stuck = λ j here stands. c.in_err-task.ensures.none j (here, stands.1);
@@ -44,7 +44,7 @@ returns-in_err-task c = rw c.from_residual.ensures (λ factor some.
 
 pub loop-left-smaller : goal.loop-left-smaller
 loop-left-smaller c = rw c.without-left.ensures
-    (len-remove_member c.loop-left.left c.in_ok-task.task c.in_ok-task.ensures.some.latest.free.0)
+    (len-remove_member c.loop-left.left c.in_ok-task.task c.in_ok-task.ensures.some.free.0)
 
 pub loop-left-preserved : goal.loop-left-preserved
 loop-left-preserved c =
@@ -54,7 +54,7 @@ loop-left-preserved c =
     let L = indexes_of c.loop-left.left in
     let own = c.most_below-most.result in
     let inv = c.loop-left.invariant in
-    let is = c.in_ok-task.ensures.some in
+    let is = c.in_ok-task.ensures.first in
     let best = c.most_below-most.ensures in
     let less = indexes_of-remove c.loop-left.left i in
     let above : indexes_of c.without.result ≡ without_index L i = ap indexes_of c.without.ensures ∙ less in
@@ -81,7 +81,7 @@ pub returns-then-found-eq0 : goal.returns-then-found-eq0
 returns-then-found-eq0 c = λ factor some feasible.
     let U = c.args.set.now in
     let fails = c.loop-left.invariant.fails (omega (arith, c.if-found-eq0.true)) in
-    obstructs-fails U (AllTasks-from_set U c.sheets.ensures.kept) _ fails.0 fails.1.obstruction
+    obstructs-fails (Slowed (c.loop-left.found.most + 1)) (slowed-eased (c.loop-left.found.most + 1)) U (AllTasks-from_set U c.sheets.ensures.kept) fails.0 fails.1.obstruction
     (IsFeasibleAt-less U _ factor (omega (arith, some, c.if-found-eq0.true)) feasible)
 
 pub returns : goal.returns
@@ -95,8 +95,8 @@ returns c =
       record {
         some = omega (arith, c.if-found-eq0.false);
         is_so = (inv.leads most (omega arith)).leads [] (λ k. ap (λ (X : Indexes). cond (X k) 1 0) (sym empty)) tt;
-        greatest = λ more lt feasible. obstructs-fails U (AllTasks-from_set U c.sheets.ensures.kept) (most + 1)
-            fails.0 fails.1.obstruction (IsFeasibleAt-less U _ more (omega (arith, lt)) feasible);
+        greatest = λ more lt feasible. obstructs-fails (Slowed (most + 1)) (slowed-eased (most + 1)) U
+            (AllTasks-from_set U c.sheets.ensures.kept) fails.0 fails.1.obstruction (IsFeasibleAt-less U _ more (omega (arith, lt)) feasible);
       },
       fails,
     )

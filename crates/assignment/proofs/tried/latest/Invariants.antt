@@ -9,5 +9,7 @@ invariant-loop-task l = record {
   free : IfSome l.found (λ i. IsFree l.set (indexes_of l.left) i);
   longest : IfSome l.found (λ i. (j : ℕ) → j < l.task → IsFree l.set (indexes_of l.left) j
       → limit_of (task_at l.set j) ≤ limit_of (task_at l.set i));
+  first : IfSome l.found (λ i. (j : ℕ) → j < i → IsFree l.set (indexes_of l.left) j
+      → limit_of (task_at l.set j) < limit_of (task_at l.set i));
   none : IfNone l.found ((j : ℕ) → j < l.task → ¬ IsFree l.set (indexes_of l.left) j);
 }

@@ -1,32 +1,28 @@
-use Rattle.std.proofs.Common.{◌∙◌, ap, arith}
-use Rattle.task_sheet.specs.Sheet.{task_at}
-use Rattle.chains.specs.Gaps.{gap_of}
-use Rattle.chains.specs.declared.bounds.BoundPart.{BoundPart}
-use Rattle.chain_limits.proofs.OrderedLaws.{goes-on, stops}
+use Rattle.std.proofs.Common.{◌≡◌, ◌∙◌, List, ap, sym}
+use Rattle.std.proofs.lemmas.Result.{IfOk-weaker}
+use Rattle.chains.specs.Parts.{bound_in, order_of}
+use Rattle.chains.specs.Walks.{bound_by, steps_with}
+use Rattle.chains.specs.declared.bounds.Level.{Level}
+use Rattle.least_chains.specs.LeastBound.{ArePassing}
+use Rattle.chain_limits.proofs.OrderedLaws.{bound-strange, bound-told}
 use Rattle.chain_limits.proofs.bound.bound_in_order.Goals as goal
 
-pub returns-then-task-len : goal.returns-then-task-len
-returns-then-task-len c levels are same =
-    stops c.args.writes c.args.set.now c.args.order.now c.sheets.ensures.kept c.requires c.args.tasks.now
-    c.loop-task.rest.now c.in-Some.task.now c.in-Some.others.now c.loop-task.sum
-    c.in-Some.ensures.cases.0 (omega (arith, c.len.ensures.count, c.if-task-len.true))
-    c.loop-task.invariant.sum levels are same
+pub returns-then-not-are_tasks : goal.returns-then-not-are_tasks
+returns-then-not-are_tasks c levels are same =
+    bound-strange c.args.writes c.args.set.now c.args.offsets.now c.args.tasks.now
+    (sym c.are_tasks.ensures ∙ c.if-not-are_tasks.true) levels are
 
-pub loop-task-preserved : goal.loop-task-preserved
-loop-task-preserved c =
-    record {
-      sum = goes-on c.args.writes c.args.set.now c.args.order.now c.sheets.ensures.kept c.requires c.args.tasks.now
-          c.loop-task.rest.now c.in-Some.task.now c.in-Some.others.now c.loop-task.sum
-          c.wait_of.result.time c.part_behind.result c.in-Some.ensures.cases.0
-          (omega (arith, c.len.ensures.count, c.if-task-len.false))
-          (ap (λ (p : BoundPart). p.time) c.wait_of.ensures
-          ∙ ap (λ U. gap_of (task_at U c.in-Some.task.now)) c.tasks.ensures)
-          c.part_behind.ensures c.loop-task.invariant.sum;
-      room = omega (
-        arith,
-        c.loop-task.invariant.room,
-        c.in-Some.ensures.cases.1,
-        c.wait_of.type_inv,
-        c.part_behind.type_inv,
-      );
-    }
+pub returns : goal.returns
+returns c =
+    let parts = c.deref.result.now in
+    let tasks = c.args.tasks.now in
+    let offsets = c.args.offsets.now in
+    IfOk-weaker c.bound_with.result
+    (λ b. b ≡ bound_by (steps_with c.tasks.result.now offsets parts tasks))
+    (λ b. (levels : List Level) → ArePassing c.args.set.now levels → order_of levels ≡ c.args.order.now
+    → b ≡ bound_in c.args.writes offsets c.args.set.now levels tasks)
+    (λ b is levels are same. is
+    ∙ (ap (λ U. bound_by (steps_with U offsets parts tasks)) c.tasks.ensures
+    ∙ bound-told c.args.writes c.args.set.now c.args.order.now offsets tasks parts
+    (sym c.are_tasks.ensures ∙ c.if-not-are_tasks.false) (rw c.deref.ensures.value c.in_ok-parts.ensures) levels are same))
+    c.bound_with.ensures

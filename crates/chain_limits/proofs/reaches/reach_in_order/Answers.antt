@@ -13,14 +13,14 @@ stands_with-requires-clause-may c =
 
 pub returns-in-Fails : goal.returns-in-Fails
 returns-in-Fails c =
-    none-passing c.args.writes c.args.order.now c.args.tasks.now c.args.limit c.args.set.now c.args.task c.args.number
+    none-passing c.args.writes c.args.offsets.now c.args.order.now c.args.tasks.now c.args.limit c.args.set.now c.args.task c.args.number
     c.span_in-span.ensures.kept c.requires.task c.requires.grows c.span_in-span.result.easiest
     c.span_in-span.result.length c.span_in-span.ensures.span
     (rw c.in-Fails.is at c.in_ok-stands_with.ensures)
 
 pub returns-in-Misses : goal.returns-in-Misses
 returns-in-Misses c =
-    none-further c.args.writes c.args.order.now c.args.tasks.now c.args.limit c.args.set.now c.args.task c.args.number
+    none-further c.args.writes c.args.offsets.now c.args.order.now c.args.tasks.now c.args.limit c.args.set.now c.args.task c.args.number
     c.span_in-span.ensures.kept c.requires.task c.requires.grows c.span_in-span.result.easiest
     c.span_in-span.result.length c.span_in-span.ensures.span
     (rw c.in-Misses.is at c.in_ok-stands_with.ensures).1
@@ -28,6 +28,6 @@ returns-in-Misses c =
 pub reach_past-requires-clause-met : goal.reach_past-requires-clause-met
 reach_past-requires-clause-met c =
     subst
-    (λ v. IsMetIn c.args.writes c.args.order.now c.args.tasks.now c.args.limit (numbered c.args.set.now c.args.task c.args.number v))
+    (λ v. IsMetIn c.args.writes c.args.offsets.now c.args.order.now c.args.tasks.now c.args.limit (numbered c.args.set.now c.args.task c.args.number v))
     (sym (at-start c.args.number c.span_in-span.result.easiest))
     (rw c.in-Meets.is at c.in_ok-stands_with.ensures)

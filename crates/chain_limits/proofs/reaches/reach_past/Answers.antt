@@ -7,7 +7,7 @@ loop-missing-preserved-in-Misses c =
     let met = c.loop-missing.met in
     let missing = c.loop-missing.missing in
     let middle = met + (missing - met) / 2 in
-    sought-misses c.args.writes c.args.order.now c.args.tasks.now c.args.limit c.args.set.now c.args.task c.args.number
+    sought-misses c.args.writes c.args.offsets.now c.args.order.now c.args.tasks.now c.args.limit c.args.set.now c.args.task c.args.number
     c.requires.kept c.requires.task c.requires.grows c.args.span.easiest c.args.span.length
     c.requires.span met missing middle c.loop-missing.is_bound c.loop-missing.invariant
     (omega (arith, c.loop-missing-test.true)) (omega (arith, c.loop-missing-test.true))
@@ -18,7 +18,7 @@ loop-missing-preserved c =
     let met = c.loop-missing.met in
     let missing = c.loop-missing.missing in
     let middle = met + (missing - met) / 2 in
-    sought-fails c.args.writes c.args.order.now c.args.tasks.now c.args.limit c.args.set.now c.args.task c.args.number
+    sought-fails c.args.writes c.args.offsets.now c.args.order.now c.args.tasks.now c.args.limit c.args.set.now c.args.task c.args.number
     c.requires.kept c.requires.task c.requires.grows c.args.span.easiest c.args.span.length
     c.requires.span met missing middle c.loop-missing.is_bound c.loop-missing.invariant
     (omega (arith, c.loop-missing-test.true)) (omega (arith, c.loop-missing-test.true))
@@ -26,7 +26,7 @@ loop-missing-preserved c =
 
 pub returns : goal.returns
 returns c =
-    found c.args.writes c.args.order.now c.args.tasks.now c.args.limit c.args.set.now c.args.task c.args.number
+    found c.args.writes c.args.offsets.now c.args.order.now c.args.tasks.now c.args.limit c.args.set.now c.args.task c.args.number
     c.requires.kept c.requires.task c.requires.grows c.args.span.easiest c.args.span.length
     c.requires.span c.loop-missing.met c.loop-missing.missing c.loop-missing.is_bound
     c.at_distance-furthest.result c.loop-missing.invariant (omega (arith, c.loop-missing-test.false))

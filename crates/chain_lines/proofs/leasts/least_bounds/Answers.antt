@@ -11,8 +11,8 @@ loop-chain-init c = λ rest more.
 pub loop-chain-preserved : goal.loop-chain-preserved
 loop-chain-preserved c =
     goes-on c.args.set.now c.args.levels.now c.args.chains.now c.loop-chain.chain-index c.chain-item.result
-    c.loop-chain.leasts.items c.push.new.self.items c.least_told.result c.loop-chain-test.true
-    c.chain-item.is c.in_ok-push.ensures.items c.least_told.ensures c.loop-chain.invariant
+    c.loop-chain.leasts.items c.push.new.self.items c.in_ok-least.least c.loop-chain-test.true
+    c.chain-item.is c.in_ok-push.ensures.items c.in_ok-least.ensures c.loop-chain.invariant
 
 pub returns : goal.returns
 returns c =

@@ -1,26 +1,42 @@
-use Rattle.std.proofs.Common.{◌≡◌, ℕ, ◌+◌, ◌∙◌, List, ap, subst, arith}
-use Rattle.task_sheet.specs.Sheet.{Task, task_at}
-use Rattle.ceiling_kernel.specs.Tick.{node_in}
-use Rattle.chains.specs.Gaps.{gap_of}
-use Rattle.chains.specs.Parts.{after_of, order_of, time_in, wait_of}
+use Rattle.std.proofs.Common.{◌+◌, ap, subst, arith}
 use Rattle.chain_worst.specs.Aims.{IsAim}
-use Rattle.chain_worst.proofs.AimLaws.{so_far_all, so_far_next}
+use Rattle.chain_worst.proofs.AimLaws.{so_far_all, so_far_next, so_far_soon, so_far_walked}
 use Rattle.chain_worst.proofs.aims.aims_of.Goals as goal
 
-pub loop-task-preserved : goal.loop-task-preserved
-loop-task-preserved c =
-    let i : ℕ = c.in-Some.task.now in
-    let others : List ℕ = c.in-Some.others.now in
-    let gap : c.wait_of.result.time ≡ gap_of (task_at c.args.set.now i) =
-    ap (λ p. p.time) (c.wait_of.ensures ∙ ap (λ (U : List Task). wait_of U i) c.tasks.ensures) in
-    let delay : c.after_of-after.result.time
-    ≡ (after_of c.args.writes (node_in c.args.set.now (order_of c.args.levels.now)) (time_in c.args.levels.now) i others).time =
-    ap (λ p. p.time) (c.after_of-after.ensures ∙ ap (λ (U : List Task).
-    after_of c.args.writes (node_in U (order_of c.args.levels.now)) (time_in c.args.levels.now) i others) c.tasks-in-Some.ensures) in
-    so_far_next (rw c.in-Some.ensures.cases.0 at c.loop-task.invariant)
-    (subst (λ g. IsAim c.args.set.now c.args.levels.now i (c.loop-task.early + g) c.aim_of.result) gap c.aim_of.ensures)
-    c.in_ok-push.ensures.items
-    (omega (arith, c.saturating_sub-early.ensures, gap, delay))
+pub returns-in_default-split_first : goal.returns-in_default-split_first
+returns-in_default-split_first c =
+    so_far_all (rw c.in-Some.ensures.cases.0 at c.loop-step.invariant)
+    c.in_default-split_first.ensures.cases
 
-pub returns-clause-aims : goal.returns-clause-aims
-returns-clause-aims c = so_far_all c.loop-task.invariant c.in_default.ensures.cases
+pub overflow_cast-arrival : goal.overflow_cast-arrival
+overflow_cast-arrival c = omega (
+  arith,
+  c.aim_time-arrival.ensures.arrival,
+  so_far_soon (rw (c.in-Some.ensures.cases.0, c.in-Some-split_first.ensures.cases.0) at c.loop-step.invariant),
+)
+
+pub aim_of-requires-clause-arrival : goal.aim_of-requires-clause-arrival
+aim_of-requires-clause-arrival c = omega (
+  arith,
+  c.aim_time-arrival.ensures.arrival,
+  so_far_soon (rw (c.in-Some.ensures.cases.0, c.in-Some-split_first.ensures.cases.0) at c.loop-step.invariant),
+)
+
+pub overflow_add-time : goal.overflow_add-time
+overflow_add-time c = omega (
+  arith,
+  c.aim_time-arrival.ensures.arrival,
+  so_far_soon (rw (c.in-Some.ensures.cases.0, c.in-Some-split_first.ensures.cases.0) at c.loop-step.invariant),
+)
+
+pub loop-step-preserved : goal.loop-step-preserved
+loop-step-preserved c =
+    so_far_next
+    (rw (c.in-Some.ensures.cases.0, c.in-Some-split_first.ensures.cases.0) at c.loop-step.invariant)
+    (subst (λ a. IsAim c.args.set.now c.args.levels.now c.in-Some-split_first.task.now a c.aim_of.result)
+    c.aim_time-arrival.ensures.arrival c.aim_of.ensures)
+    c.in_ok-push.ensures.items
+    (ap (λ a. a + c.in-Some.step.now.delay) c.aim_time-arrival.ensures.arrival)
+
+pub returns : goal.returns
+returns c = so_far_walked c.loop-step.invariant c.in_default.ensures.cases

@@ -2,8 +2,9 @@ use Rattle.std.proofs.Common.{length}
 use Rattle.chain_worst.proofs.AimLaws.{AreSoFar}
 use Rattle.chain_worst.proofs.aims.aims_of.Given as goal
 
-abbrev pub invariant-loop-task : goal.invariant-loop-task
-invariant-loop-task l = AreSoFar l.writes l.set l.levels l.begin l.tasks l.early l.rest l.aims.items
+abbrev pub invariant-loop-step : goal.invariant-loop-step
+invariant-loop-step l =
+    AreSoFar l.set l.levels l.steps l.begin l.tasks l.walk l.time l.rest l.aims.items
 
-abbrev pub decreases-loop-task : goal.decreases-loop-task
-decreases-loop-task l = length l.rest
+abbrev pub decreases-loop-step : goal.decreases-loop-step
+decreases-loop-step l = length l.walk

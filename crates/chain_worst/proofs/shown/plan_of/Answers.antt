@@ -10,4 +10,4 @@ aims_of-requires-clause-within c =
 pub aims_of-requires-clause-tasks : goal.aims_of-requires-clause-tasks
 aims_of-requires-clause-tasks c =
     rw c.of-tabled.ensures
-    (tasks_within c.args.writes c.args.set.now c.args.levels.now c.args.tasks.now c.args.bound c.requires.order c.requires.bound)
+    (tasks_within c.args.set.now c.args.levels.now c.args.tasks.now c.requires.order c.requires.responses)

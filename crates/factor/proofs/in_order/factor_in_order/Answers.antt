@@ -1,111 +1,108 @@
-use Rattle.std.proofs.Common.{◌≡◌, ◌+◌, ◌<◌, ◌≤◌, ◌∙◌, inl, inr, zero, suc, ℕ, ◌-◌, ◌||◌, refl, List, [], ◌∷◌, length, drop, get_or, ap, sym, subst, arith}
-use Rattle.std.proofs.Math.Path.{fun_ext}
-use Rattle.std.specs.Cmp.{nat_eq_equiv}
-use Rattle.std.proofs.lemmas.Bool.{both_ways, cases_lt, ltb-true, lt-ltb}
-use Rattle.std.proofs.lemmas.List.{drop_all, drop_more}
-use Rattle.task_sheet.proofs.Common.{Task, Indexes, IsOrder, all_of, among, indexes_of, must_outrank_any, with_index}
-use Rattle.task_sheet.proofs.IndexLaws.{IsOrderOf-among, among-place, place-among}
-use Rattle.task_sheet.proofs.MembersIndexes.{indexes_of-empty, indexes_of-insert}
-use Rattle.factor.specs.Factors.{AllStandAt, PassesAt, StandsAt}
-use Rattle.factor.proofs.AtLaws.{AllStandAt-less}
+use Rattle.std.proofs.Common.{◌≡◌, ℕ, ◌+◌, ◌∙◌, inl, inr, [], length, drop, get_or, ap, sym, subst, arith}
+use Rattle.std.proofs.lemmas.Bool.{both_ways, cases_lt, lt-ltb}
+use Rattle.std.proofs.lemmas.List.{drop_all}
+use Rattle.task_sheet.proofs.Common.{Indexes, IsPart, IsOrderOf, all_of, indexes_of}
+use Rattle.task_sheet.proofs.IndexLaws.{IsOrderOf-among}
+use Rattle.task_sheet.proofs.MembersIndexes.{indexes_of-all_below}
+use Rattle.task_sheet.proofs.PassingLaws.{must_outrank_any-at}
+use Rattle.latest_first.specs.Tested.{StandsBy, AllStandBy}
+use Rattle.other_numbers.proofs.OrderLaws.{low-inside, part-next, rest-next, parts-here, from-parts}
+use Rattle.factor.specs.Factors.{PassesAt}
+use Rattle.factor.proofs.AtLaws.{PassesAt-less, AllStandAt-less}
 use Rattle.factor.proofs.in_order.factor_in_order.Goals as goal
 
-AllStandAt-drop : (f : ℕ) (U : List Task) (n : ℕ) (order : List ℕ) → AllStandAt f U order
-    → AllStandAt f U (drop n order)
-AllStandAt-drop f U zero order all = all
-AllStandAt-drop f U (suc n) [] all = all
-AllStandAt-drop f U (suc n) (i ∷ above) all = AllStandAt-drop f U n above all.1
-
-low-inside : (U : List Task) (order : List ℕ) (n : ℕ) → IsOrder U order → n < length order
-    → get_or order n 0 < length U
-low-inside U order n each lt = ltb-true _ _ (ap (λ (X : Indexes). X (get_or order n 0))
-    (sym (IsOrderOf-among (all_of U) order each)) ∙ place-among order n lt)
-
-ahead : (order : List ℕ) (place : ℕ) → 0 < place → place ≤ length order
-    → drop (place - 1) order ≡ get_or order (place - 1) 0 ∷ drop place order
-ahead order place some le =
-    let next : place - 1 + 1 ≡ place = omega arith in
-    drop_more order (place - 1) 0 (omega arith) ∙ rw next refl
-
-pub loop-place-init : goal.loop-place-init
-loop-place-init c =
-    let order = c.args.order.now in
-    let none : drop (length order) order ≡ [] = drop_all (length order) order (omega arith) in
+pub loop-low-init : goal.loop-low-init
+loop-low-init c =
+    let U = c.args.set.now in
+    let all : indexes_of c.all-above.result ≡ all_of U = ap indexes_of c.all-above.ensures
+    ∙ indexes_of-all_below _ ∙ ap (λ V. all_of V) c.sheets.ensures.same in
     record {
-      within = omega arith;
-      above = ap indexes_of c.empty-above.ensures ∙ indexes_of-empty ∙ sym (ap among none);
-      stands = rw none tt;
+      part = subst (λ X. IsPart X (all_of U)) (sym all) (λ k h. h);
+      rest = subst (λ X. IsOrderOf X c.args.order.now) (sym all) c.requires.each;
+      ends = λ f all. all;
+      stands = λ f le all. all;
       fails = λ lt. absurd (omega (arith, lt));
-      first = λ lt. absurd (omega (arith, lt));
+      first = λ none. absurd (both_ways _ none (ap (λ (X : Indexes). X 0) all ∙ lt-ltb 0 (length U) c.requires.some));
     }
 
-pub must_outrank-requires : goal.must_outrank-requires
-must_outrank-requires c = low-inside c.args.set.now c.args.order.now (c.loop-place.place - 1)
-    c.requires.each (omega (arith, c.loop-place.invariant.within))
+pub without-above-requires : goal.without-above-requires
+without-above-requires c =
+    let inv = c.loop-low.invariant in
+    omega (
+      arith,
+      low-inside c.args.set.now c.args.order.now c.loop-low.low-index c.loop-low.above inv.part
+          inv.rest c.loop-low-test.true,
+      c.sheets.ensures.kept.few,
+    )
 
-pub returns-then-must_outrank : goal.returns-then-must_outrank
-returns-then-must_outrank c = λ factor some passing.
+pub least_over-requires : goal.least_over-requires
+least_over-requires c =
+    let inv = c.loop-low.invariant in
+    low-inside c.args.set.now c.args.order.now c.loop-low.low-index c.loop-low.above inv.part
+    inv.rest c.loop-low-test.true
+
+pub returns-in-Some : goal.returns-in-Some
+returns-in-Some c = λ factor some passing.
     let U = c.args.set.now in
-    let order = c.args.order.now in
-    let inv = c.loop-place.invariant in
-    let here = rw (ahead order c.loop-place.place c.loop-place-test.true inv.within) at
-    (AllStandAt-drop factor U (c.loop-place.place - 1) order passing.each_stands) in
-    both_ways _ (ap (λ (X : Indexes). must_outrank_any U (get_or order (c.loop-place.place - 1) 0) X) inv.above
-    ∙ here.0.1) (sym c.must_outrank.ensures ∙ c.if-must_outrank.true)
+    let inv = c.loop-low.invariant in
+    let over = c.in-Some.ensures.some in
+    let here = parts-here U c.args.order.now c.loop-low.low-index c.loop-low.above inv.part inv.rest c.loop-low-test.true
+    c.without-above.result c.without-above.ensures (StandsBy (PassesAt factor U) U) (AllStandBy (PassesAt factor U) U)
+    (λ i above all. all) (inv.ends factor passing.each_stands) in
+    both_ways _ here.0.1 (must_outrank_any-at U _ _ _ over.in_set over.above over.named)
 
 pub most_below-most-requires : goal.most_below-most-requires
-most_below-most-requires c = low-inside c.args.set.now c.args.order.now
-    (c.loop-place.place - 1) c.requires.each (omega (arith, c.loop-place.invariant.within))
+most_below-most-requires c =
+    let inv = c.loop-low.invariant in
+    low-inside c.args.set.now c.args.order.now c.loop-low.low-index c.loop-low.above inv.part
+    inv.rest c.loop-low-test.true
 
-pub loop-place-preserved : goal.loop-place-preserved
-loop-place-preserved c =
+pub loop-low-preserved : goal.loop-low-preserved
+loop-low-preserved c =
     let U = c.args.set.now in
     let order = c.args.order.now in
-    let inv = c.loop-place.invariant in
-    let low = get_or order (c.loop-place.place - 1) 0 in
-    let own = c.most_below-most.result in
-    let rest = drop c.loop-place.place order in
-    let next : drop (c.loop-place.place - 1) order ≡ low ∷ rest =
-    ahead order c.loop-place.place c.loop-place-test.true inv.within in
+    let n = c.loop-low.low-index in
+    let left = c.loop-low.above in
+    let left' = c.without-above.result in
+    let removed = c.without-above.ensures in
+    let inv = c.loop-low.invariant in
+    let best = c.most_below-most.ensures in
+    let most = c.most_below-most.result in
+    let parts : (f : ℕ) → AllStandBy (PassesAt f U) U order
+    → StandsBy (PassesAt f U) U (get_or order n 0) (indexes_of left') × AllStandBy (PassesAt f U) U (drop (n + 1) order) =
+    λ f all. parts-here U order n left inv.part inv.rest c.loop-low-test.true left' removed
+    (StandsBy (PassesAt f U) U) (AllStandBy (PassesAt f U) U) (λ i above all. all) (inv.ends f all) in
     record {
-      within = omega (arith, inv.within);
-      above = ap indexes_of c.with-above.ensures ∙ indexes_of-insert c.loop-place.above low
-          ∙ ap (λ (X : Indexes). with_index X low) inv.above ∙ fun_ext (λ k. ap (λ b. b || among rest k) (nat_eq_equiv.symm k low)) ∙ sym (ap among next);
-      stands = subst (λ xs. AllStandAt own U xs) (sym next) (
-        subst (λ X. StandsAt own U low X) inv.above
-            (c.most_below-most.ensures.passes, sym c.must_outrank.ensures ∙ c.if-must_outrank.false),
-        AllStandAt-less U own c.loop-place.most c.most_below-most.ensures.within rest inv.stands,
-      );
-      fails = λ lt all.
-          let all' = subst (λ xs. AllStandAt (own + 1) U xs) next all in
-          elim (cases_lt own c.loop-place.most) [
-            | inl less ↦ c.most_below-most.ensures.greatest less
-                (subst (λ X. PassesAt (own + 1) U low X) (sym inv.above) all'.0.0)
-            | inr ge ↦ inv.fails (omega (arith, ge, lt)) (AllStandAt-less U (c.loop-place.most + 1)
-                (own + 1) (omega (arith, ge)) rest all'.1)
-          ];
-      first = λ lt. c.most_below-most.ensures.short;
+      part = part-next U order n left inv.part inv.rest c.loop-low-test.true left' removed;
+      rest = rest-next U order n left inv.part inv.rest c.loop-low-test.true left' removed;
+      ends = λ f all. (parts f all).1;
+      stands = λ f le all. inv.stands f (omega (arith, le, best.within))
+          (from-parts U order n left inv.part inv.rest c.loop-low-test.true left' removed
+          (StandsBy (PassesAt f U) U) (AllStandBy (PassesAt f U) U) (λ i above stands all. (stands, all))
+          (PassesAt-less U f most le _ _ best.passes, c.in-None.ensures.none) all);
+      fails = λ lt all. elim (cases_lt most c.loop-low.most) [
+        | inl less ↦ best.greatest less (parts (most + 1) all).0.0
+        | inr ge ↦ inv.fails (omega (arith, ge, lt))
+            (AllStandAt-less U (c.loop-low.most + 1) (most + 1) (omega (arith, ge)) order all)
+      ];
+      first = λ none. best.short;
     }
 
 pub returns-then-most-eq0 : goal.returns-then-most-eq0
 returns-then-most-eq0 c = λ factor some passing.
-    let inv = c.loop-place.invariant in
-    inv.fails (omega (arith, c.if-most-eq0.true)) (AllStandAt-less c.args.set.now (c.loop-place.most + 1)
-    factor (omega (arith, some, c.if-most-eq0.true)) _ (AllStandAt-drop factor c.args.set.now c.loop-place.place c.args.order.now passing.each_stands))
+    c.loop-low.invariant.fails (omega (arith, c.if-most-eq0.true)) (AllStandAt-less c.args.set.now (c.loop-low.most + 1)
+    factor (omega (arith, some, c.if-most-eq0.true)) c.args.order.now passing.each_stands)
 
 pub returns : goal.returns
 returns c =
     let U = c.args.set.now in
     let order = c.args.order.now in
-    let inv = c.loop-place.invariant in
-    let none : c.loop-place.place ≡ 0 = omega arith in
-    let all : drop c.loop-place.place order ≡ order = rw none refl in
-    let at = among-place order 0 (ap (λ (X : Indexes). X 0) (IsOrderOf-among (all_of U) order c.requires.each)
-    ∙ lt-ltb 0 (length U) c.requires.some) in
+    let inv = c.loop-low.invariant in
+    let end : drop c.loop-low.low-index order ≡ [] = drop_all _ order (omega (arith, c.loop-low-test.false)) in
+    let none = IsOrderOf-among (indexes_of c.loop-low.above) [] (subst (λ o. IsOrderOf (indexes_of c.loop-low.above) o) end inv.rest) in
     record {
       some = omega (arith, c.if-most-eq0.false);
-      is_so = record { each_once = c.requires.each; each_stands = subst (λ xs. AllStandAt c.loop-place.most U xs) all inv.stands };
-      greatest = λ more lt passing. inv.fails (inv.first (omega (arith, at.1)))
-          (AllStandAt-less U (c.loop-place.most + 1) more (omega (arith, lt)) _
-          (AllStandAt-drop more U c.loop-place.place order passing.each_stands));
+      is_so = record { each_once = c.requires.each; each_stands = inv.stands _ (omega arith) (rw end tt) };
+      greatest = λ more lt passing. inv.fails (inv.first (ap (λ (X : Indexes). X 0) (sym none)))
+          (AllStandAt-less U (c.loop-low.most + 1) more (omega (arith, lt)) order passing.each_stands);
     }

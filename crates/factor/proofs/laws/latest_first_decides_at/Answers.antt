@@ -1,6 +1,9 @@
-use Rattle.factor.proofs.LatestAt.{IsPassingAt-latest}
+use Rattle.latest_first.proofs.OneOrder.{IsPassingBy-latest}
+use Rattle.factor.proofs.AtLaws.{Slowed, slowed-eased}
 use Rattle.factor.proofs.laws.latest_first_decides_at.Goals as goal
 
 pub returns : goal.returns
-returns c = λ U factor order valid prompt each first.
-    (λ passing. (order, passing), IsPassingAt-latest U valid factor prompt order each first)
+returns c = λ U factor order valid prompt each first. (
+  λ passing. (order, passing),
+  IsPassingBy-latest (Slowed factor) (slowed-eased factor) U valid prompt order each first,
+)

@@ -1,4 +1,4 @@
-use Rattle.latest_first.proofs.LaterLimits.{Passes-later}
+use Rattle.latest_first.proofs.OneOrder.{Passes-later}
 use Rattle.latest_first.proofs.laws.later_limit_passes.Goals as goal
 
 pub returns : goal.returns

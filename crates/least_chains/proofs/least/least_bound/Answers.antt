@@ -1,29 +1,19 @@
-use Rattle.std.proofs.Common.{◌∙◌, ap, arith}
-use Rattle.task_sheet.specs.Sheet.{task_at}
-use Rattle.chains.specs.Gaps.{gap_of}
-use Rattle.chains.specs.declared.bounds.BoundPart.{BoundPart}
-use Rattle.least_chains.proofs.BoundLaws.{least-more, least-none}
+use Rattle.std.proofs.Common.{◌≡◌, ◌∙◌, ap, sym}
+use Rattle.std.proofs.lemmas.Result.{IfOk-weaker}
+use Rattle.chains.specs.Walks.{bound_by, steps_with}
+use Rattle.least_chains.specs.LeastBound.{IsLeastBound}
 use Rattle.least_chains.proofs.least.least_bound.Goals as goal
-
-pub loop-task-preserved : goal.loop-task-preserved
-loop-task-preserved c =
-    record {
-      sum = least-more c.args.writes c.args.set.now c.args.tasks.now c.loop-task.rest.now c.in-Some.task.now
-          c.in-Some.others.now c.loop-task.sum c.wait_of.result.time c.least_part.result
-          c.in-Some.ensures.cases.0
-          (ap (λ (p : BoundPart). p.time) c.wait_of.ensures
-          ∙ ap (λ U. gap_of (task_at U c.in-Some.task.now)) c.tasks.ensures)
-          c.least_part.ensures c.loop-task.invariant.sum;
-      room = omega (
-        arith,
-        c.loop-task.invariant.room,
-        c.in-Some.ensures.cases.1,
-        c.wait_of.type_inv,
-        c.least_part.type_inv,
-      );
-    }
 
 pub returns : goal.returns
 returns c =
-    least-none c.args.writes c.args.set.now c.args.tasks.now c.loop-task.rest.now c.loop-task.sum
-    c.in_default.ensures.cases c.loop-task.invariant.sum
+    let parts = c.deref.result.now in
+    let tasks = c.args.tasks.now in
+    IfOk-weaker c.bound_with.result
+    (λ b. b ≡ bound_by (steps_with c.tasks.result.now c.args.offsets.now parts tasks))
+    (IsLeastBound c.args.writes c.args.offsets.now c.args.set.now tasks)
+    (λ b is. record {
+      parts = parts;
+      least = rw c.deref.ensures.value c.in_ok-parts.ensures;
+      comes = ap (λ U. bound_by (steps_with U c.args.offsets.now parts tasks)) (sym c.tasks.ensures) ∙ sym is;
+    })
+    c.bound_with.ensures

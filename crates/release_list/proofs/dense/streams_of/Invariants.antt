@@ -1,6 +1,6 @@
-use Rattle.std.proofs.Common.{◌≡◌, map, take}
-use Rattle.release_list.specs.Densest.{stream_of}
+use Rattle.std.proofs.Common.{◌≡◌}
+use Rattle.release_list.specs.Densest.{first_streams}
 use Rattle.release_list.proofs.dense.streams_of.Given as goal
 
-abbrev pub invariant-loop-sheet : goal.invariant-loop-sheet
-invariant-loop-sheet l = l.streams.items ≡ map (stream_of l.instant) (take l.sheet-index l.sheets)
+abbrev pub invariant-loop-rank : goal.invariant-loop-rank
+invariant-loop-rank l = l.streams.items ≡ first_streams l.sheets l.steady l.rank

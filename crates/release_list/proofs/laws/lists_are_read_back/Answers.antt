@@ -11,9 +11,9 @@ pub returns-clause-any : goal.returns-clause-any
 returns-clause-any c = list_again
 
 pub returns-clause-densest : goal.returns-clause-densest
-returns-clause-densest c = λ U until set none.
-    legal_again until (densest_of U until) set (within_from until _ none).0
-    (legal set (fits U) until)
+returns-clause-densest c = λ U steady until set none.
+    legal_again until (densest_of U steady until) set (within_from until _ none).0
+    (legal set (fits U steady) until)
 
 pub returns-clause-random : goal.returns-clause-random
 returns-clause-random c = λ U steady until seed set none.

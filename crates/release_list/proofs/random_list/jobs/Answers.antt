@@ -10,10 +10,10 @@ pub returns-in_err-push_jobs : goal.returns-in_err-push_jobs
 returns-in_err-push_jobs c =
     let p = err_from_is_err_and c.from_residual.result c.from_residual.ensures.1 in
     rw (p.1, p.2) (ranked_refused c.loop-rank.invariant (omega arith) c.index-sheets-rank.is
-    c.spread_of.ensures.value c.of.ensures c.in_err-push_jobs.field-0.0 c.in_err-push_jobs.ensures)
+    c.pace_of.ensures.value c.of.ensures c.in_err-push_jobs.field-0.0 c.in_err-push_jobs.ensures)
 
 pub loop-rank-preserved : goal.loop-rank-preserved
 loop-rank-preserved c =
     ranked_next c.loop-rank.invariant (omega arith) c.index-sheets-rank.is
-    c.spread_of.ensures.value c.of.ensures
+    c.pace_of.ensures.value c.of.ensures
     c.in_ok-push_jobs.ensures.0 c.in_ok-push_jobs.ensures.1

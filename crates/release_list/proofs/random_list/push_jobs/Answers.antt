@@ -1,14 +1,11 @@
-use Rattle.std.proofs.Common.{◌∙◌, ap, arith}
+use Rattle.std.proofs.Common.{arith}
 use Rattle.std.proofs.lemmas.Result.{err_from_is_err_and}
-use Rattle.release_list.specs.Random.{word_after, drawn}
 use Rattle.release_list.proofs.RandomLaws.{taken_first, taken_next, taken_all, taken_refused}
 use Rattle.release_list.proofs.random_list.push_jobs.Goals as goal
 
 pub loop-time-init : goal.loop-time-init
 loop-time-init c =
-    taken_first
-    (c.draw-time.ensures.drawn ∙ ap (drawn (word_after c.args.generator.word)) c.period.ensures)
-    c.draw-time.ensures.word c.requires.few
+    taken_first c.first-time.ensures.first c.first-time.ensures.word c.requires.few
 
 pub returns-in_err-push_if_ready : goal.returns-in_err-push_if_ready
 returns-in_err-push_if_ready c =
