@@ -3,8 +3,9 @@ import { writeFileSync } from 'fs';
 import { Hand, soon } from './hand.mjs';
 
 const WORDS = ['--headless=new', '--no-sandbox', '--disable-gpu', '--remote-debugging-pipe'];
+// (a key's number is its letter's own, but not a sign's: 46 is Delete)
 const CODES = { Tab: 9, Enter: 13, Escape: 27, End: 35, Home: 36, ArrowLeft: 37, ArrowUp: 38,
-  ArrowRight: 39, ArrowDown: 40, Backspace: 8, ' ': 32 };
+  ArrowRight: 39, ArrowDown: 40, Backspace: 8, ' ': 32, ',': 188, '.': 190, '-': 189, '_': 189 };
 const EVENTS = { move: 'mouseMoved', drag: 'mouseMoved', down: 'mousePressed',
   up: 'mouseReleased' };
 const TASKS = 'disabled-by-default-devtools.timeline';
