@@ -239,11 +239,12 @@ Standard error isn't needed where the words are right:
   1 lo 14000
   2 hi 4500
 
-16,777,216 bytes, and one more
-------------------------------
+16,777,216 bytes, and one more; of a second input 1,073,741,824
+---------------------------------------------------------------
 
   $ head -c 16777216 /dev/zero | tr '\0' '#' > longest
   $ { cat longest; printf '#'; } > longer
+  $ truncate -s 1073741825 huge
   $ desk admit longest
   admitted 0
   $ desk admit longer
@@ -265,6 +266,9 @@ Standard error isn't needed where the words are right:
   refused: Truncated
   [5]
   $ desk check $set longer
+  refused: Truncated
+  [5]
+  $ desk check $set huge
   refused: InputTooLong
   [4]
   $ desk check longer $cert
@@ -274,6 +278,9 @@ Standard error isn't needed where the words are right:
   refused: BadLine 2
   [4]
   $ desk simulate $node longer
+  refused: BadLine 2
+  [4]
+  $ desk simulate $node - < huge
   refused: InputTooLong
   [4]
 
@@ -298,10 +305,10 @@ All inputs are opened, then all are read, then all are parsed, the set first eac
   $ desk check longer folder
   refused: ReadFailed
   [7]
-  $ desk check folder longer
+  $ desk check folder huge
   refused: ReadFailed
   [7]
-  $ desk check faulty longer
+  $ desk check faulty huge
   refused: InputTooLong
   [4]
   $ desk check faulty folder
@@ -317,7 +324,7 @@ All inputs are opened, then all are read, then all are parsed, the set first eac
   refused: ReadFailed
   [7]
   $ desk simulate faulty longer
-  refused: InputTooLong
+  refused: UnknownKey 0 0
   [4]
   $ desk simulate faulty empty
   refused: UnknownKey 0 0

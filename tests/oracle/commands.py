@@ -23,6 +23,8 @@ from refusals import Refused
 from sets import is_name
 
 INPUT_MOST = 16_777_216
+# (of a text beside a set)
+TEXT_MOST = 1_073_741_824
 INFEASIBLE = 3
 # stand for a text that the documents don't pin
 DRAWN, RUSHED, HELPED, SAID = "a picture", "a log", "help", "a sentence to a person"
@@ -803,10 +805,10 @@ def read_inputs(call, files, stdin):
     data = [stdin if path == "-" else teams.text_of(path, files) for path in call.paths]
     if None in data:
         raise Refused(7, "ReadFailed")
-    if any(len(text) > INPUT_MOST for text in data):
+    if len(data[0]) > INPUT_MOST or any(len(text) > TEXT_MOST for text in data[1:]):
         raise Refused(4, "InputTooLong")
     preference = call.options.get("prefer")
-    if call.command is BESIDE and len(data[1]) + 1 + len(data[2]) > INPUT_MOST:
+    if call.command is BESIDE and len(data[1]) + 1 + len(data[2]) > TEXT_MOST:
         raise Refused(4, "InputTooLong")
     read = {NewSet: lambda text: NewSet(call, text)}
     read |= {reader: lambda text, reader=reader: strictly(call, reader, reader(text, preference)) for reader in OF_A_PREFERENCE}

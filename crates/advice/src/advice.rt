@@ -228,6 +228,17 @@ fn input_of(call: Call<'_>, which: Which) -> Input<'_> {
     }
 }
 
+// What is wrong with an input that is too long.
+fn too_long(call: Call<'_>, which: Which) -> &'static str {
+    if which == Which::First {
+        "longer than the 16777216 bytes that this input may have"
+    } else if matches!(input_of(call, which), Input::Both { .. }) {
+        "with the new set longer than the 1073741824 bytes that both may have"
+    } else {
+        "longer than the 1073741824 bytes that this input may have"
+    }
+}
+
 // Puts what a word names.
 fn push_named(line: &mut String, named: Named<'_>) -> Result<(), AllocError> {
     match named {
@@ -456,7 +467,7 @@ impl<'a, W: Write + Drop> Audience for Advice<'a, W> {
             greatest_until: self.greatest_until,
             set: self.set.as_ref(),
             chains: &self.chains,
-            is_both: matches!(input_of(self.call, which), Input::Both { .. }),
+            too_long: too_long(self.call, which),
         };
         if let Some(sentence) = sentence_of(self.alloc, known, bytes, refusal) {
             self.put_line(which, sentence.as_str());

@@ -26,8 +26,8 @@ pub(crate) struct Known<'a> {
     pub(crate) set: Option<&'a TaskSet>,
     /// The chains of a set whose certificate a call checks.
     pub(crate) chains: &'a [Chain],
-    /// Whether the input is a list and a new set.
-    pub(crate) is_both: bool,
+    /// What is wrong with an input that is too long.
+    pub(crate) too_long: &'a str,
 }
 
 // That an input could not be opened or read, and why.
@@ -40,14 +40,7 @@ fn unread(alloc: Global, last: &LastError) -> Result<String, AllocError> {
 // What is wrong with an input that was not read; none where memory ran out.
 fn of_input(alloc: Global, known: Known<'_>, fault: InputFault) -> Option<String> {
     match fault {
-        InputFault::TooLong => {
-            let words = if known.is_both {
-                "with the new set longer than the 16777216 bytes that an input may have"
-            } else {
-                "longer than the 16777216 bytes that an input may have"
-            };
-            String::from_str(alloc, words).ok()
-        }
+        InputFault::TooLong => String::from_str(alloc, known.too_long).ok(),
         InputFault::ReadFailed => unread(alloc, known.last).ok(),
         InputFault::OutOfMemory => None,
     }

@@ -1,6 +1,6 @@
 -- Why bytes say no set is why their readers have none.
 use Rattle.std.proofs.Common.{ℕ, List, Option, Err}
-use Rattle.streams.specs.Inputs.{IsReadFrom}
+use Rattle.streams.specs.Inputs.{IsReadFrom, IsTextFrom}
 use Rattle.preferences.specs.ReadsAsked.{ReadsAsked}
 use Rattle.preferences.specs.declared.asking.Asking.{Asking}
 use Rattle.preferences.specs.declared.asking.AskedFault.{AskedFault}
@@ -28,7 +28,7 @@ one_refused asking known bytes read _ reads = absurd reads
 
 -- once both were
 pub both_refused : (asking : Asking) (set other : Option (List ℕ)) (bytes text : List ℕ)
-    → IsReadFrom set bytes → IsReadFrom other text → (r : CommandRefusal) → IsNoSet asking bytes r
+    → IsReadFrom set bytes → IsTextFrom other text → (r : CommandRefusal) → IsNoSet asking bytes r
     → HaveNotBoth asking set other r
 both_refused asking set other bytes text first second (refusal.Set fault) reads =
     (bytes, text, first, second, reads)

@@ -9,7 +9,7 @@ use Rattle.preferences.specs.ReadsAsked.{SaysAsked}
 use Rattle.preferences.specs.ReadsPreferred.{chosen}
 use Rattle.owners.specs.Owners.{AreOwners}
 use Rattle.owners.specs.declared.owner.Owner.{Owner}
-use Rattle.streams.specs.Inputs.{IsReadFrom}
+use Rattle.streams.specs.Inputs.{IsReadFrom, IsTextFrom}
 use Rattle.chain_tables.specs.Chains.{ChainData, HasChains}
 
 -- bytes say a set as the call asks for it, and whose its tasks are
@@ -43,4 +43,4 @@ abbrev pub HaveOwned :
     Asking → (set other : Option (List ℕ)) → Preference → List Task → List Owner → List ℕ
     → Type 0
 HaveOwned asking set other by U owners text =
-    HasTaken asking set by U owners × IsReadFrom other text
+    HasTaken asking set by U owners × IsTextFrom other text

@@ -6,7 +6,7 @@ use Rattle.preferences.specs.ReadsAsked.{IsDoubted, IsUnchained, SaysAsked}
 use Rattle.preferences.specs.declared.asking.Asking.{Asking}
 use Rattle.preferences.specs.declared.asking.AskedFault.{AskedFault}
 use Rattle.preferences.specs.declared.asking.AskedFault.TheVariants as asked
-use Rattle.streams.specs.Inputs.{IsReadFrom, IsTooLong}
+use Rattle.streams.specs.Inputs.{IsLongText, IsReadFrom, IsTextFrom, IsTooLong}
 use Rattle.streams.specs.declared.input.InputFault.TheVariants as input
 use Rattle.answering.specs.declared.refusal.CommandRefusal.{CommandRefusal}
 use Rattle.answering.specs.declared.refusal.CommandRefusal.TheVariants as refusal
@@ -48,22 +48,22 @@ HasNoSet asking known _ = ⊥
 
 -- one reader has a set, and the other a text
 abbrev pub HaveBoth : Asking → (set other : Option (List ℕ)) → List Task → List ℕ → Type 0
-HaveBoth asking set other U text = HasSet asking set U × IsReadFrom other text
+HaveBoth asking set other U text = HasSet asking set U × IsTextFrom other text
 
 -- why there are not both: one of the inputs was not read, or the first fault of the set's bytes, the first doubt of the
 -- set, or the first fault of its chains, once both were read
 abbrev pub HaveNotBoth : Asking → (set other : Option (List ℕ)) → CommandRefusal → Type 0
-HaveNotBoth asking set other (refusal.Input input.TooLong) = IsTooLong set ⊎ IsTooLong other
+HaveNotBoth asking set other (refusal.Input input.TooLong) = IsTooLong set ⊎ IsLongText other
 HaveNotBoth asking set other (refusal.Input input.ReadFailed) = Unit {0}
 HaveNotBoth asking set other (refusal.Input input.OutOfMemory) = Unit {0}
 HaveNotBoth asking set other (refusal.Set fault) =
-    (bytes : List ℕ) × (text : List ℕ) × IsReadFrom set bytes × IsReadFrom other text
+    (bytes : List ℕ) × (text : List ℕ) × IsReadFrom set bytes × IsTextFrom other text
     × ReadsText bytes (Err fault)
 HaveNotBoth asking set other (refusal.Doubtful doubt) =
-    (bytes : List ℕ) × (text : List ℕ) × IsReadFrom set bytes × IsReadFrom other text
+    (bytes : List ℕ) × (text : List ℕ) × IsReadFrom set bytes × IsTextFrom other text
     × IsDoubted asking bytes doubt
 HaveNotBoth asking set other (refusal.Chain fault) =
-    (bytes : List ℕ) × (text : List ℕ) × IsReadFrom set bytes × IsReadFrom other text
+    (bytes : List ℕ) × (text : List ℕ) × IsReadFrom set bytes × IsTextFrom other text
     × IsUnchained asking bytes fault
 HaveNotBoth asking set other refusal.OutOfMemory = Unit {0}
 HaveNotBoth asking set other _ = ⊥

@@ -1,12 +1,13 @@
 //! Reading the inputs of a command: a set, or a set and a text.
-ghost use Rattle.std.specs.Prelude.{◌≡◌, Err, IfOk, MatchResult};
+ghost use Rattle.std.specs.Prelude.{◌≡◌, ◌≤◌, Err, IfOk, MatchResult};
 ghost use Rattle.preferences.specs.ReadsAsked.{SaysAsked};
 ghost use Rattle.answering.specs.Chosen.{asking_of, base_of, is_sorted, room_of, team_chosen};
 ghost use Rattle.answering.specs.Owning.{HasChained, HasOwned, HaveOwned, IsTakenBy, SaysOwned};
 ghost use Rattle.chain_tables.specs.Chains.{HasChains};
 ghost use Rattle.answering.specs.Sets.{HasNoSet, HasSet, HaveNotBoth, IsNoSet, asked_refusal};
 ghost use Rattle.answering.specs.Outcomes.{AreRead, IsRead, failed_read};
-ghost use Rattle.streams.specs.Inputs.{IsReadFrom, IsTooLong};
+ghost use Rattle.streams.specs.Inputs.{IsLonger, IsReadUpTo};
+ghost use Rattle.streams.specs.declared.input.TheConstants.{TEXT_LIMIT};
 
 use crate::audience::{Audience, Which};
 use crate::refusal::CommandRefusal;
@@ -16,7 +17,7 @@ use owners::{Owner, read_owners};
 use preferences::{AskedFault, Asking, Preference, Strictness, read_asked};
 use std::alloc::Global;
 use std::io::Read;
-use streams::{InputFault, Watched, read_input};
+use streams::{INPUT_LIMIT, InputFault, TEXT_LIMIT, Watched, read_input};
 use task_sheet::TaskSet;
 
 /// A set, by what it was taken, whose its tasks are, its chains, and all that a second input has.
@@ -38,18 +39,20 @@ struct Taken {
     chains: Vec<Chain>,
 }
 
-/// All that an input has; or why it was not read, which the audience is told.
+/// All that an input has, up to so many bytes; or why it was not read, which the audience is told.
 pub fn read_told<R: Read + Drop, P: Audience>(
     alloc: Global,
     which: Which,
+    most: usize,
     input: &mut Watched<R>,
     people: &mut P,
 ) -> Result<Vec<u8>, InputFault>
-    ensures whole { IfOk result (λ bytes. IsReadFrom (R.remaining input.old.inner) bytes.items) }
-    ensures too_long { result ≡ Err InputFault.TooLong → IsTooLong (R.remaining input.old.inner) }
+    requires { most ≤ TEXT_LIMIT }
+    ensures whole { IfOk result (λ bytes. IsReadUpTo most (R.remaining input.old.inner) bytes.items) }
+    ensures too_long { result ≡ Err InputFault.TooLong → IsLonger most (R.remaining input.old.inner) }
     ensures read { IsRead InputFault.ReadFailed input.old input.new result }
 {
-    let bytes = read_input(alloc, input);
+    let bytes = read_input(alloc, input, most);
     if let Err(fault) = &bytes {
         people.refused(which, b"", CommandRefusal::Input(*fault));
     }
@@ -190,7 +193,9 @@ pub fn read_one<R: Read + Drop, P: Audience>(
         (λ r. HasNoSet asking (R.remaining set.old.inner) r) }
     ensures read { IsRead failed_read set.old set.new result }
 {
-    let bytes = read_told(alloc, Which::First, set, people).map_err(CommandRefusal::Input)?;
+    let bytes = read_told(alloc, Which::First, INPUT_LIMIT, set, people).map_err(
+        CommandRefusal::Input,
+    )?;
     match set_told(alloc, asking, &bytes, people) {
         Ok((tasks, _by, _chains)) => Ok(tasks),
         Err(refusal) => Err(refusal),
@@ -213,7 +218,9 @@ pub fn read_owned<R: Read + Drop, P: Audience>(
         (λ owned. HasChained (R.remaining set.old.inner) owned.0 owned.2.items) }
     ensures read { IsRead failed_read set.old set.new result }
 {
-    let bytes = read_told(alloc, Which::First, set, people).map_err(CommandRefusal::Input)?;
+    let bytes = read_told(alloc, Which::First, INPUT_LIMIT, set, people).map_err(
+        CommandRefusal::Input,
+    )?;
     match taken_told(alloc, asking, &bytes, people) {
         Ok(
             Taken {
@@ -246,8 +253,12 @@ pub fn read_two<R: Read + Drop, S: Read + Drop, P: Audience>(
     ensures read { AreRead failed_read R.remaining set.old set.new other.old other.new
         result }
 {
-    let bytes = read_told(alloc, Which::First, set, people).map_err(CommandRefusal::Input)?;
-    let text = read_told(alloc, Which::Second, other, people).map_err(CommandRefusal::Input)?;
+    let bytes = read_told(alloc, Which::First, INPUT_LIMIT, set, people).map_err(
+        CommandRefusal::Input,
+    )?;
+    let text = read_told(alloc, Which::Second, TEXT_LIMIT, other, people).map_err(
+        CommandRefusal::Input,
+    )?;
     match taken_told(alloc, asking, &bytes, people) {
         Ok(
             Taken {

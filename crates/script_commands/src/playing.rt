@@ -9,7 +9,7 @@ use plays::{PlayFault, play_lines};
 use scripts::{Line, read_script};
 use std::alloc::Global;
 use std::io::{Read, Write};
-use streams::Watched;
+use streams::{INPUT_LIMIT, Watched};
 
 /// The lines of the script that the reader has, or why there are none.
 pub fn lines_of<R: Read + Drop, P: Audience>(
@@ -20,7 +20,9 @@ pub fn lines_of<R: Read + Drop, P: Audience>(
     ensures answer { Scripts (R.remaining script.old.inner) result }
     ensures read { IsRead failed_read script.old script.new result }
 {
-    let bytes = read_told(alloc, Which::First, script, people).map_err(CommandRefusal::Input)?;
+    let bytes = read_told(alloc, Which::First, INPUT_LIMIT, script, people).map_err(
+        CommandRefusal::Input,
+    )?;
     match read_script(alloc, &bytes) {
         Ok(lines) => Ok(lines),
         Err(fault) => {

@@ -1,23 +1,36 @@
 -- What was read of an input.
 use Rattle.std.specs.Prelude.{◌≡◌, ◌⊎◌, ℕ, ◌+◌, ◌^◌, ◌<◌, ◌≤◌, true, List, length, Option, IfSome}
 use Rattle.streams.specs.Watching.{WatchedData}
-use Rattle.streams.specs.declared.input.TheConstants.{INPUT_LIMIT, TURN_LIMIT}
+use Rattle.streams.specs.declared.input.TheConstants.{INPUT_LIMIT, TEXT_LIMIT, TURN_LIMIT}
 
--- the bytes are all that a reader had, where it says what it has, and no more than an input may
--- have
-pub record IsReadFrom (known : Option (List ℕ)) (bytes : List ℕ) : Type 0 where
+-- the bytes are all that a reader had, where it says what it has, and no more than so many
+pub record IsReadUpTo (most : ℕ) (known : Option (List ℕ)) (bytes : List ℕ) : Type 0 where
   pub whole : IfSome known (λ all. bytes ≡ all)
-  pub within : length bytes ≤ INPUT_LIMIT
+  pub within : length bytes ≤ most
 
--- the reader had more than an input may have
+-- the reader had more
+abbrev pub IsLonger : (most : ℕ) → Option (List ℕ) → Type 0
+IsLonger most known = IfSome known (λ all. most < length all)
+
+-- the same of a first input
+abbrev pub IsReadFrom : Option (List ℕ) → List ℕ → Type 0
+IsReadFrom known bytes = IsReadUpTo INPUT_LIMIT known bytes
+
 abbrev pub IsTooLong : Option (List ℕ) → Type 0
-IsTooLong known = IfSome known (λ all. INPUT_LIMIT < length all)
+IsTooLong known = IsLonger INPUT_LIMIT known
+
+-- and of a text beside a set
+abbrev pub IsTextFrom : Option (List ℕ) → List ℕ → Type 0
+IsTextFrom known text = IsReadUpTo TEXT_LIMIT known text
+
+abbrev pub IsLongText : Option (List ℕ) → Type 0
+IsLongText known = IsLonger TEXT_LIMIT known
 
 -- a read has failed or was interrupted
 abbrev pub IsDisturbed : {T : Type 0} → WatchedData T → Type 0
 IsDisturbed w = (w.has_failed ≡ true) ⊎ (w.was_interrupted ≡ true)
 
--- an input is read in at most 33,554,432 reads
+-- an input is read in at most 2,147,483,648 reads
 abbrev pub IsWithinTurns : {T : Type 0} → WatchedData T → WatchedData T → Type 0
 IsWithinTurns old new = new.reads ≤ old.reads + TURN_LIMIT
 

@@ -1,17 +1,21 @@
 //! Reading inputs whole.
-ghost use Rattle.std.specs.Prelude.{◌≡◌, true, false, Err, IfOk};
+ghost use Rattle.std.specs.Prelude.{◌≡◌, ◌≤◌, true, false, Err, IfOk};
 ghost use Rattle.std.specs.Io.KnownBytes.{IsAtEnd};
-ghost use Rattle.streams.specs.Inputs.{AreTurnsSpent, IsDisturbed, IsReadFrom, IsTooLong, IsWithinTurns};
+ghost use Rattle.streams.specs.Inputs.{AreTurnsSpent, IsDisturbed, IsLonger, IsReadUpTo, IsWithinTurns};
+ghost use Rattle.streams.specs.declared.input.TheConstants.{TEXT_LIMIT};
 
 use crate::watched::{ReadFault, Watched};
 use std::alloc::Global;
 use std::io::Read;
 
-// The most bytes that an input has.
-const INPUT_LIMIT: usize = 16_777_216;
+/// The most bytes that a first input has.
+pub const INPUT_LIMIT: usize = 16_777_216;
 
-// The most reads that it takes, interrupted ones among them.
-const TURN_LIMIT: usize = 33_554_432;
+/// The most bytes that a text beside a set has, as the trace of some hours.
+pub const TEXT_LIMIT: usize = 1_073_741_824;
+
+// The most reads that an input takes, interrupted ones among them.
+const TURN_LIMIT: usize = 2_147_483_648;
 
 // The most bytes that one read takes.
 const CHUNK: usize = 16_384;
@@ -19,7 +23,7 @@ const CHUNK: usize = 16_384;
 /// Why an input was not read.
 #[derive(Clone, Copy)]
 pub enum InputFault {
-    /// It has more than 16,777,216 bytes.
+    /// It has more bytes than it may have.
     TooLong,
     /// An allocation was refused.
     OutOfMemory,
@@ -27,14 +31,16 @@ pub enum InputFault {
     ReadFailed,
 }
 
-/// Reads all that the reader has, in at most 33,554,432 reads. A failed read is answered at once; an interrupted one
-/// is tried again, until no turn is left.
+/// Reads all that the reader has, up to so many bytes, in at most 2,147,483,648 reads. A failed read is answered at once;
+/// an interrupted one is tried again, until no turn is left.
 pub fn read_input<R: Read + Drop>(
     alloc: Global,
     reader: &mut Watched<R>,
+    most: usize,
 ) -> Result<Vec<u8>, InputFault>
-    ensures whole { IfOk result (λ bytes. IsReadFrom (R.remaining reader.old.inner) bytes.items) }
-    ensures too_long { result ≡ Err InputFault.TooLong → IsTooLong (R.remaining reader.old.inner) }
+    requires { most ≤ TEXT_LIMIT }
+    ensures whole { IfOk result (λ bytes. IsReadUpTo most (R.remaining reader.old.inner) bytes.items) }
+    ensures too_long { result ≡ Err InputFault.TooLong → IsLonger most (R.remaining reader.old.inner) }
     ensures failed { result ≡ Err InputFault.ReadFailed → IsDisturbed reader.new }
     ensures answered { reader.old.has_failed ≡ false → reader.new.has_failed ≡ true
         → result ≡ Err InputFault.ReadFailed }
@@ -49,7 +55,7 @@ pub fn read_input<R: Read + Drop>(
         match reader.read(&mut chunk) {
             Ok(0) => return Ok(bytes),
             Ok(count) => {
-                if count > INPUT_LIMIT - bytes.len() {
+                if count > most - bytes.len() {
                     return Err(InputFault::TooLong);
                 }
                 if bytes.extend_from_slice(&chunk[..count]).is_err() {

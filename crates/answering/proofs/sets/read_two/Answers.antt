@@ -1,5 +1,5 @@
 use Rattle.std.proofs.Common.{ℕ, List, Result, MatchResult, rules, subst}
-use Rattle.streams.specs.Inputs.{IsReadFrom}
+use Rattle.streams.specs.Inputs.{IsReadFrom, IsTextFrom}
 use Rattle.chain_tables.specs.Chains.{HasChains}
 use Rattle.preferences.specs.declared.asking.Asking.{Asking}
 use Rattle.answering.specs.Owning.{IsTakenBy, SaysOwned}
@@ -23,7 +23,7 @@ returns-clause-answer g c =
     let bytes : List ℕ = c.in_ok-bytes.bytes.items in
     let text : List ℕ = c.in_ok-text.text.items in
     let first : IsReadFrom set bytes = search rules in
-    let second : IsReadFrom other text = search rules in
+    let second : IsTextFrom other text = search rules in
     let reads : SaysOrRefuses c.args.asking bytes c.taken_told.result =
     subst (λ (bs : List ℕ). SaysOrRefuses c.args.asking bs c.taken_told.result)
     c.deref.ensures.value c.taken_told.ensures in

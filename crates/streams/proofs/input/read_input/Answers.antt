@@ -3,7 +3,7 @@ use Rattle.std.proofs.lemmas.Grind.{common_steps}
 use Rattle.std.proofs.KnownBytes.{Consumes-trans, Consumes-kept}
 use Rattle.streams.proofs.Inputs.{whole, longer}
 use Rattle.streams.proofs.input.read_input.Goals as goal
-use Rattle.streams.proofs.input.read_input.Goals.{in-Ok+else-count-len+else-is_err}
+use Rattle.streams.proofs.input.read_input.Goals.{in-Ok+else-count-most+else-is_err}
 use Rattle.streams.proofs.input.read_input.Goals.{in-Err-Interrupted}
 
 pub returns-in-Ok-eq0-clause-whole : goal.returns-in-Ok-eq0-clause-whole
@@ -18,18 +18,18 @@ returns-in-Ok-eq0-clause-whole g c =
       within = search rules;
     }
 
-pub returns-then-count-len-clause-too_long : goal.returns-then-count-len-clause-too_long
-returns-then-count-len-clause-too_long g c = λ _.
+pub returns-then-count-most-clause-too_long : goal.returns-then-count-most-clause-too_long
+returns-then-count-most-clause-too_long g c = λ _.
     let told = c.in-Ok.ensures.bytes in
     longer (g.R.Read.remaining c.args.reader.now.inner) (g.R.Read.remaining c.loop.reader.inner)
     (g.R.Read.remaining c.read.new.self.inner)
-    c.loop.bytes.items c.read.new.buffer c.in-Ok.count 16777216 c.loop.invariant.read told.0
+    c.loop.bytes.items c.read.new.buffer c.in-Ok.count c.args.most c.loop.invariant.read told.0
     c.in-Ok.ensures.bound.0 (omega arith)
 
 pub loop-preserved : goal.loop-preserved
 loop-preserved g c =
     elim c.match-read.branch [
-      | in-Ok+else-count-len+else-is_err w ↦
+      | in-Ok+else-count-most+else-is_err w ↦
           let grown : c.match-read.bytes.items ≡ c.loop.bytes.items
           ++ take w.in-Ok.count c.read.new.buffer = grind (arith, common_steps) in
           record {

@@ -4,7 +4,7 @@ use Rattle.streams.proofs.input.read_input.Given as goal
 
 abbrev pub invariant-loop : goal.invariant-loop
 invariant-loop g l = record {
-  limit : vec_len l.bytes ≤ 16777216;
+  limit : vec_len l.bytes ≤ l.most;
   read : Consumes (g.R.Read.remaining l.initial.reader.inner) (g.R.Read.remaining l.reader.inner)
       l.bytes.items;
   turns : l.reader.was_interrupted ≡ false → l.counter ≤ vec_len l.bytes;
