@@ -244,3 +244,6 @@ easier-by x y name outranks node cost jitter rarer deadline sections interrupts 
 pub easier-same : (x easy hard : Task) → easy ≡ x → hard ≡ x → IsEasier easy hard
 easier-same x easy hard e f = rw (e, f) (easier-by x x refl refl refl (omega arith) (omega arith)
     (λ time. omega arith) (omega arith) (shorter-refl x.sections) (cheaper-refl x.interrupts))
+
+pub easier-itself : (U : List Task) → AreEasier U U
+easier-itself U = record { count = refl; each = λ k. easier-same (task_at U k) _ _ refl refl }

@@ -9,7 +9,6 @@ use Rattle.task_sheet.specs.Demand.{jobs_within, releases_within}
 
 module _ (◌≼◌ : ℕ → ℕ → Type 0) where
   infix 50 ◌≼◌
-
   -- the section has the locks of the other one, and is no longer
   pub record IsShorter (x y : CriticalSection) : Type 0 where
     pub locks : x.locks ≡ y.locks
