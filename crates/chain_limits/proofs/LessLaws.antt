@@ -1,35 +1,18 @@
 -- To ask less makes no response greater, and a lesser cost makes each less that counts it, by as much.
-use Rattle.std.proofs.Common.{◌≡◌, ℕ, zero, suc, ◌+◌, ◌-◌, ◌*◌, ◌<◌, ◌≤◌, inl, inr, cond, true, List, length}
+use Rattle.std.proofs.Common.{◌≡◌, ℕ, ◌+◌, ◌-◌, ◌*◌, ◌<◌, ◌≤◌, inl, inr, cond, true, List, length}
 use Rattle.std.proofs.Common.{sym, subst, arith}
 use Rattle.std.proofs.Math.Nat.{mul-le-mul}
-use Rattle.std.proofs.lemmas.Bool.{cases_Bool, cases_eq}
-use Rattle.task_sheet.proofs.Common.{Task, AllTasks, no_task, task_at, Indexes, sum_below, interference_of}
+use Rattle.std.proofs.lemmas.Bool.{cases_Bool}
+use Rattle.task_sheet.proofs.Common.{Task, AllTasks, no_task, task_at, Indexes, interference_of}
 use Rattle.task_sheet.proofs.Common.{releases_within, demand_of, past_jitter, IsResponseOf, IsTaskSet}
-use Rattle.task_sheet.proofs.Below.{sum_below-le}
 use Rattle.task_sheet.proofs.Releases.{cost-le-interference}
 use Rattle.task_sheet.proofs.TaskLaws.{AllTasks-from_set}
 use Rattle.task_sheet.proofs.DemandLaws.{demand-mono, demand_does_not_fall}
 use Rattle.task_sheet.proofs.ResponseLaws.{Covers-iff_response, IsResponse-one}
-use Rattle.limits.specs.Easier.{AreEasier}
-use Rattle.limits.proofs.EasierLaws.{blocking-easier, demand-easier, interference-easier}
-use Rattle.limits.proofs.EasierLaws.{interrupts-easier, releases-easier}
-
--- a sum of which one term is less by so much
-sum_below-apart : (n : ℕ) (f g : ℕ → ℕ) (i d : ℕ) → i < n → ((k : ℕ) → k < n → f k ≤ g k)
-    → f i + d ≤ g i → sum_below n f + d ≤ sum_below n g
-sum_below-apart zero f g i d lt le more = absurd (omega arith)
-sum_below-apart (suc n) f g i d lt le more = elim (cases_eq i n) [
-  | inl e ↦ omega (
-    arith,
-    sum_below-le n f g (λ k less. le k (omega arith)),
-    subst (λ k. f k + d ≤ g k) e more,
-  )
-  | inr ne ↦ omega (
-    arith,
-    sum_below-apart n f g i d (omega arith) (λ k less. le k (omega arith)) more,
-    le n (omega arith),
-  )
-]
+use Rattle.other_numbers.specs.Easier.{AreEasier}
+use Rattle.other_numbers.proofs.EasierLaws.{kept-le, blocking-easier, demand-easier}
+use Rattle.other_numbers.proofs.EasierLaws.{interference-easier, interrupts-easier}
+use Rattle.limits.proofs.NodeLaws.{sum_below-own}
 
 -- a product of which both are less
 product-apart : (n m c d : ℕ) → n ≤ m → 1 ≤ m → n * c + d ≤ m * (c + d)
@@ -64,7 +47,7 @@ module _ (V U : List Task) (set_V : IsTaskSet V) (set_U : IsTaskSet U) (easy : A
       subst (λ w. releases_within (task_at V c) t * (task_at V c).cost + spared c
       ≤ releases_within (task_at U c) t * w) (sym whole)
       (product-apart (releases_within (task_at V c) t) (releases_within (task_at U c) t)
-      (task_at V c).cost (spared c) (releases-easier V U easy valid_U c t within)
+      (task_at V c).cost (spared c) ((easy.each c).rarer t)
       (released c t within from))
 
   -- what a task above spares each demand spares
@@ -74,39 +57,29 @@ module _ (V U : List Task) (set_V : IsTaskSet V) (set_U : IsTaskSet U) (easy : A
   demand-apart i c H t within is from =
       let f : ℕ → ℕ = λ k. cond (H k) (interference_of (task_at V k) t) 0 in
       let g : ℕ → ℕ = λ k. cond (H k) (interference_of (task_at U k) t) 0 in
-      let each : (k : ℕ) → k < length U → f k ≤ g k = λ k lt. elim (cases_Bool (H k)) [
-        | inl so ↦ rw so (interference-easier V U easy valid_U k t lt)
+      let own : spared c + f c ≤ 0 + g c = rw is (omega (arith, interference-apart c t within from)) in
+      let terms = sum_below-own (length U) f g c (spared c) 0 within (λ k lt other. elim (cases_Bool (H k)) [
+        | inl so ↦ rw so (mul-le-mul ((easy.each k).rarer t) (easy.each k).cost)
         | inr so ↦ rw so (omega arith)
-      ] in
-      let more : f c + spared c ≤ g c = rw is (interference-apart c t within from) in
-      let terms : sum_below (length U) f + spared c ≤ sum_below (length U) g =
-      sum_below-apart (length U) f g c (spared c) within each more in
+      ]) own in
       rw easy.count (omega (
         arith,
         terms,
-        blocking-easier V U easy i H,
+        blocking-easier ◌≤◌ kept-le V U easy i H,
         (easy.each i).cost,
-        interrupts-easier V U easy valid_U t,
+        interrupts-easier ◌≤◌ kept-le V U easy t,
       ))
 
   -- what the task itself spares, too
   pub demand-own : (i : ℕ) (H : Indexes) (t : ℕ) → demand_of V i H t + spared i ≤ demand_of U i H t
   unfolding demand_of
-  demand-own i H t =
-      let f : ℕ → ℕ = λ k. cond (H k) (interference_of (task_at V k) t) 0 in
-      let g : ℕ → ℕ = λ k. cond (H k) (interference_of (task_at U k) t) 0 in
-      let terms : sum_below (length U) f ≤ sum_below (length U) g =
-      sum_below-le (length U) f g (λ k lt. elim (cases_Bool (H k)) [
-        | inl so ↦ rw so (interference-easier V U easy valid_U k t lt)
-        | inr so ↦ rw so (omega arith)
-      ]) in
-      rw easy.count (omega (
-        arith,
-        terms,
-        blocking-easier V U easy i H,
-        (easy.each i).cost,
-        interrupts-easier V U easy valid_U t,
-      ))
+  demand-own i H t = omega (
+    arith,
+    (easy.each i).cost,
+    blocking-easier ◌≤◌ kept-le V U easy i H,
+    interference-easier ◌≤◌ kept-le V U easy H t,
+    interrupts-easier ◌≤◌ kept-le V U easy t,
+  )
 
   -- a response is less by what each demand is less
   response-less : (i : ℕ) (H : Indexes) (d r s : ℕ) → i < length U → IsResponseOf V i H r
@@ -139,7 +112,7 @@ module _ (V U : List Task) (set_V : IsTaskSet V) (set_U : IsTaskSet U) (easy : A
   response-no_more i H r s within first second = omega (
     arith,
     response-less i H 0 r s within first second
-        (λ t from. omega (arith, demand-easier V U easy valid_U i H t)),
+        (λ t from. omega (arith, demand-easier ◌≤◌ kept-le V U easy i H t)),
   )
 
   -- nor is what it leaves past the cost of one above, or its own

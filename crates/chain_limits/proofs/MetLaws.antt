@@ -7,7 +7,6 @@ use Rattle.std.proofs.lemmas.Bool.{cases_Bool, eqb-true, ltb-true, true≢false}
 use Rattle.task_sheet.proofs.Common.{Task, task_at, Indexes, among, all_of, IsTaskSet, IsPassingOrder}
 use Rattle.task_sheet.proofs.Common.{below, demand_of, IsResponseOf}
 use Rattle.task_sheet.proofs.IndexLaws.{IsOrderOf-among}
-use Rattle.task_sheet.proofs.TaskLaws.{AllTasks-from_set}
 use Rattle.ceiling_kernel.specs.Bounds.{after_of}
 use Rattle.chains.specs.Gaps.{gap_of}
 use Rattle.chains.specs.Parts.{bound_in, has_response, order_of, time_in}
@@ -21,8 +20,8 @@ use Rattle.least_chains.specs.LeastBound.{parts_in}
 use Rattle.least_chains.proofs.AboveLaws.{after-part}
 use Rattle.least_chains.proofs.PartLaws.{own-response, part-is, passing-levels}
 use Rattle.least_chains.proofs.StepLaws.{also-bound}
-use Rattle.limits.specs.Easier.{AreEasier}
-use Rattle.limits.proofs.EasierLaws.{IsPassingOrder-easier}
+use Rattle.other_numbers.specs.Easier.{AreEasier}
+use Rattle.other_numbers.proofs.EasierLaws.{IsPassingOrder-easier}
 use Rattle.chain_limits.specs.Reaches.{HasSameTimes, IsMetIn}
 use Rattle.chain_limits.proofs.LessLaws.{demand-apart, demand-own, left-no_more}
 use Rattle.chain_limits.proofs.LessLaws.{response-no_more, spared}
@@ -192,7 +191,7 @@ module _ (V U : List Task) (set_V : IsTaskSet V) (set_U : IsTaskSet U) (easy : A
       → ((k : ℕ) → HasSameTimes writes (task_at V k) (task_at U k))
       → IsMetIn writes offsets order tasks limit U → IsMetIn writes offsets order tasks limit V
   met-easier writes offsets order tasks limit times met =
-      let passing = IsPassingOrder-easier V U easy (AllTasks-from_set U set_U) order
+      let passing = IsPassingOrder-easier V U easy order
       (subst (λ o. IsPassingOrder U o) met.same met.passing.order) in
       met-by writes V U set_V easy.count times offsets order tasks limit passing met
       (λ light are same. part-no_more light met.levels are met.passing (same ∙ sym met.same) writes times)

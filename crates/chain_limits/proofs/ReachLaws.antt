@@ -12,7 +12,7 @@ use Rattle.limits.specs.declared.number.Number.{Number}
 use Rattle.limits.specs.declared.number.Number.TheVariants.{Cost, Period, Deadline, Jitter, Len}
 use Rattle.limits.specs.declared.number.Number.TheVariants.{InterruptCost, InterruptPeriod}
 use Rattle.limits.specs.Numbers.{IsNoFurther, IsSpan, MayHave, at_distance, numbered, value_of, with_number}
-use Rattle.limits.proofs.EasierLaws.{IsPassingOrder-easier}
+use Rattle.other_numbers.proofs.EasierLaws.{IsPassingOrder-easier}
 use Rattle.limits.proofs.NumberLaws.{AreEasier-numbered, further, last-of, may-own, namesake, numbered-own}
 use Rattle.limits.proofs.SpanLaws.{at-start}
 use Rattle.limits.proofs.TableLaws.{same-placed}
@@ -124,7 +124,7 @@ module _ (writes : Writes) (offsets order tasks : List ℕ) (limit : ℕ) (U : L
     met-nearer low high may may' le =
         met-easier (numbered U i number low) (numbered U i number high)
         (set-numbered U i number set low may) (set-numbered U i number set high may')
-        (AreEasier-numbered U i number low high inside may' le) writes offsets order tasks limit
+        (AreEasier-numbered U i number low high may' le) writes offsets order tasks limit
         (times-kept writes U i number grows low high)
 
     -- ---- a search over the values of a sheet
@@ -142,8 +142,7 @@ module _ (writes : Writes) (offsets order tasks : List ℕ) (limit : ℕ) (U : L
 
       pub passing-further : (near far : ℕ) → near ≤ far → far ≤ long → passes_at far → passes_at near
       passing-further near far le within = further (λ V. IsPassingOrder V order)
-          (λ V U easy valid. IsPassingOrder-easier V U easy valid order) U i number set inside easiest
-          long span near far le within
+          (λ V U easy. IsPassingOrder-easier V U easy order) U i number easiest long span near far le within
 
       -- not met with the easiest value it is met with none
       pub none-further : ¬ IsMetIn writes offsets order tasks limit (numbered U i number easiest)

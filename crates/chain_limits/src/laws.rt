@@ -4,7 +4,7 @@ ghost use Rattle.task_sheet.specs.Sheet.{Task, task_at};
 ghost use Rattle.task_sheet.specs.TaskSet.{IsTaskSet};
 ghost use Rattle.chains.specs.declared.bounds.Writes.{Writes};
 ghost use Rattle.chains.specs.declared.bounds.Writes.TheVariants.{AtDeadline};
-ghost use Rattle.limits.specs.Easier.{AreEasier};
+ghost use Rattle.other_numbers.specs.Easier.{AreEasier};
 ghost use Rattle.limits.specs.declared.number.Number.{Number};
 ghost use Rattle.limits.specs.Numbers.{HasNumber, MayHave, numbered, value_of};
 ghost use Rattle.chain_limits.specs.Reaches.{AnswersReach, Grows, HasSameTimes, IsFurthestMet, IsMetIn, NoneMeets};

@@ -1,11 +1,12 @@
 -- Passing at a factor: other factors, and what decides at each.
 use Rattle.std.proofs.Common.{◌≡◌, ◌↔◌, ℕ, ◌*◌, ◌≤◌, List, refl, inl, inr, arith}
-use Rattle.std.proofs.Math.Nat.{mul-le-mul_left, mul-le-mul_right}
+use Rattle.std.proofs.Math.Nat.{mul-le-mul, mul-le-mul_left}
 use Rattle.std.proofs.lemmas.Bool.{cases_lt}
-use Rattle.task_sheet.proofs.Common.{Task, Indexes, demand_of, Passes, IsPassingOrder, IsFeasible}
-use Rattle.latest_first.specs.Tested.{AllStandBy, StandsBy}
-use Rattle.latest_first.proofs.LaterLimits.{PassesWhere}
-use Rattle.latest_first.proofs.OneOrder.{AllStandBy-to, Covering, IsPassing-by, IsPassingBy-to, IsFeasibleBy-to}
+use Rattle.task_sheet.proofs.Common.{Task, Indexes, IsPassingOrder, IsFeasible}
+use Rattle.latest_first.specs.Tested.{AllStandBy}
+use Rattle.latest_first.proofs.OneOrder.{AllStandBy-to, Covering, IsPassing-by}
+use Rattle.other_numbers.proofs.EasierLaws.{kept-le, easier-itself, PassesWhere-easier}
+use Rattle.other_numbers.proofs.EasierLaws.{StandsBy-easier, IsPassingBy-easier}
 use Rattle.factor.specs.Factors.{PassesAt, IsPassingAt, IsFeasibleAt, IsGreatestFor}
 
 -- so many thousandths of a demand are covered
@@ -17,38 +18,31 @@ slowed-eased factor low high time le covered = omega (arith, mul-le-mul_left fac
 
 -- ---- other factors
 module _ (U : List Task) (low high : ℕ) (le : low ≤ high) where
-  pub PassesAt-less : (i : ℕ) (H : Indexes) → PassesAt high U i H → PassesAt low U i H
-  PassesAt-less i H (t, positive, within, covered) =
-      (t, positive, within, omega (arith, mul-le-mul_right (demand_of U i H t) le, covered))
+  eased : (less more time : ℕ) → less ≤ more → Slowed high more time → Slowed low less time
+  eased less more time fewer covered = omega (arith, mul-le-mul le fewer, covered)
 
-  StandsAt-less : (i : ℕ) (H : Indexes) → StandsBy (PassesAt high U) U i H
-      → StandsBy (PassesAt low U) U i H
-  StandsAt-less i H stands = (PassesAt-less i H stands.0, stands.1)
+  pub PassesAt-less : (i : ℕ) (H : Indexes) → PassesAt high U i H → PassesAt low U i H
+  PassesAt-less = PassesWhere-easier ◌≤◌ kept-le U U (easier-itself U) (Slowed high) (Slowed low) eased
+
+  pub IsPassingAt-less : (order : List ℕ) → IsPassingAt high U order → IsPassingAt low U order
+  IsPassingAt-less = IsPassingBy-easier ◌≤◌ kept-le U U (easier-itself U) (Slowed high) (Slowed low) eased
 
   pub AllStandAt-less : (order : List ℕ) → AllStandBy (PassesAt high U) U order
       → AllStandBy (PassesAt low U) U order
-  AllStandAt-less = AllStandBy-to (PassesAt high U) (PassesAt low U) U U refl StandsAt-less
-
-  pub IsPassingAt-less : (order : List ℕ) → IsPassingAt high U order → IsPassingAt low U order
-  IsPassingAt-less = IsPassingBy-to (PassesAt high U) (PassesAt low U) U U refl StandsAt-less
+  AllStandAt-less = AllStandBy-to (PassesAt high U) (PassesAt low U) U U refl
+      (StandsBy-easier ◌≤◌ kept-le U U (easier-itself U) (Slowed high) (Slowed low) eased)
 
   pub IsFeasibleAt-less : IsFeasibleAt high U → IsFeasibleAt low U
-  IsFeasibleAt-less = IsFeasibleBy-to (PassesAt high U) (PassesAt low U) U U refl StandsAt-less
+  IsFeasibleAt-less (order, passing) = (order, IsPassingAt-less order passing)
 
 -- ---- 1000 thousandths
 module _ (U : List Task) where
-  pub Passes-from : (i : ℕ) (H : Indexes) → PassesAt 1000 U i H → Passes U i H
-  Passes-from i H (t, positive, within, covered) = (t, positive, within, omega (arith, covered))
-
-  Passes-at : (i : ℕ) (H : Indexes) → Passes U i H → PassesAt 1000 U i H
-  Passes-at i H (t, positive, within, covered) = (t, positive, within, omega (arith, covered))
-
   pub IsPassing-same : (order : List ℕ) → IsPassingAt 1000 U order ↔ IsPassingOrder U order
   IsPassing-same order = (
-    λ p. (IsPassing-by U order).1 (IsPassingBy-to (PassesAt 1000 U) (PassesWhere Covering U) U U refl
-        (λ i H stands. (Passes-from i H stands.0, stands.1)) order p),
-    λ p. IsPassingBy-to (PassesWhere Covering U) (PassesAt 1000 U) U U refl
-        (λ i H stands. (Passes-at i H stands.0, stands.1)) order ((IsPassing-by U order).0 p),
+    λ p. (IsPassing-by U order).1 (IsPassingBy-easier ◌≤◌ kept-le U U (easier-itself U) (Slowed 1000) Covering
+        (λ less more time fewer covered. omega (arith, fewer, covered)) order p),
+    λ p. IsPassingBy-easier ◌≤◌ kept-le U U (easier-itself U) Covering (Slowed 1000)
+        (λ less more time fewer covered. omega (arith, fewer, covered)) order ((IsPassing-by U order).0 p),
   )
 
   pub IsFeasible-same : IsFeasibleAt 1000 U ↔ IsFeasible U

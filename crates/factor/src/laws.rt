@@ -25,7 +25,7 @@ pub fn less_factor_keeps_feasible()
 {}
 
 /// Where it says that a set passes with a factor, each set passes whose costs, section lengths, timers and interrupts are at
-/// most so many thousandths of its, however they are rounded: no demand of it is greater.
+/// most so many thousandths of its, however they are rounded, and which asks no more otherwise: no demand of it is greater.
 pub fn slower_sets_pass()
     ensures demand { (V U : List Task) (factor i : ℕ) (H : Indexes) (t : ℕ) → AreSlow factor V U
         → 1000 * demand_of V i H t ≤ factor * demand_of U i H t }

@@ -3,19 +3,18 @@ use Rattle.std.proofs.Common.{◌≡◌, ◌↔◌, ℕ, zero, suc, ◌+◌, ◌
 use Rattle.std.proofs.Common.{None, Some, Option, length, map, refl, sym, ◌∙◌, ap, subst, arith}
 use Rattle.std.proofs.lemmas.Bool.{cases_Bool, cases_lt}
 use Rattle.std.proofs.lemmas.List.Elements.{recursion_from_All}
-use Rattle.std.specs.List.{All, AllByRecursion}
+use Rattle.std.specs.List.{All, AllByRecursion, AllZip}
 use Rattle.task_sheet.specs.declared.node.Node.{Node}
 use Rattle.task_sheet.proofs.Common.{CriticalSection, Task, AreSections, IsValidSheet, no_task, task_at}
 use Rattle.task_sheet.proofs.Common.{IsTaskSet, IsByRank, sheets_fault, names_lock, greatest_of}
-use Rattle.task_sheet.proofs.TaskLaws.{AllTasks-from_set}
 use Rattle.overheads.proofs.MappedSets.{KeepsRanks, IsByRank-mapped, no_fault-mapped, set-mapped}
 use Rattle.overheads.proofs.MappedSets.{count-mapped, mapped-at, mapped-past}
-use Rattle.limits.specs.Easier.{AreShorter, IsEasier, AreEasier}
+use Rattle.other_numbers.specs.Easier.{IsShorter, IsEasier, AreEasier}
+use Rattle.other_numbers.proofs.EasierLaws.{easier-by, easier-same, cheaper-refl}
 use Rattle.limits.specs.InOrder.{PassesIn}
 use Rattle.limits.specs.Cuts.{Following, none_follows, len_on, longest_on, cut_len, cut_sections}
 use Rattle.limits.specs.Cuts.{cut_task, cut, IsMostOn, AnswersMostOn}
-use Rattle.limits.proofs.EasierLaws.{AreCheaper-refl, PassesIn-easier}
-use Rattle.limits.proofs.NumberLaws.{easier-same}
+use Rattle.limits.proofs.NumberLaws.{PassesIn-easier}
 
 -- ---- one section
 cut_len-mono : (lock : List ℕ) (low high : ℕ) (node : Node) (x : CriticalSection) → low ≤ high
@@ -49,12 +48,11 @@ cut_len-whole lock most node x = elim (cases_Bool (names_lock x lock)) [
 -- ---- the sections of a task
 shorter-cut : (follows goes : ℕ → Bool) (lock : List ℕ) (low high : ℕ) (node : Node)
     (place other less more : ℕ) (xs : List CriticalSection) → low ≤ high
-    → AreShorter (cut_sections follows lock low node place less xs)
+    → AllZip (IsShorter ◌≤◌) (cut_sections follows lock low node place less xs)
     (cut_sections goes lock high node other more xs)
 shorter-cut follows goes lock low high node place other less more [] le = tt
 shorter-cut follows goes lock low high node place other less more (x ∷ xs) le = (
-  refl,
-  cut_len-mono lock low high node x le,
+  record { locks = refl; len = cut_len-mono lock low high node x le },
   shorter-cut follows goes lock low high node (place + 1) (other + 1)
       (cond (follows place) less 0 + (x.len - cut_len lock low node x))
       (cond (goes other) more 0 + (x.len - cut_len lock high node x)) xs le,
@@ -150,17 +148,10 @@ set-cut follows lock most U some set =
 
 easier-cut : (follows goes : Following) (lock : List ℕ) (low high : ℕ) (t : Task) → low ≤ high
     → IsEasier (cut_task follows lock low t) (cut_task goes lock high t)
-easier-cut follows goes lock low high t le = record {
-  name = refl;
-  outranks = refl;
-  cost = omega arith;
-  jitter = omega arith;
-  period = omega arith;
-  deadline = omega arith;
-  sections = shorter-cut (follows t.name) (goes t.name) lock low high t.node 0 0 0 0 t.sections le;
-  release = omega arith;
-  interrupts = AreCheaper-refl t.interrupts;
-}
+easier-cut follows goes lock low high t le = easier-by _ _ refl refl refl (omega arith) (omega arith)
+    (λ time. omega arith) (omega arith)
+    (shorter-cut (follows t.name) (goes t.name) lock low high t.node 0 0 0 0 t.sections le)
+    (cheaper-refl t.interrupts)
 
 AreEasier-cut : (follows goes : Following) (lock : List ℕ) (low high : ℕ) (U : List Task) → low ≤ high
     → AreEasier (cut follows lock low U) (cut goes lock high U)
@@ -178,12 +169,10 @@ AreEasier-cut follows goes lock low high U le =
 
 -- with shorter ones it passes, too, whichever move along
 pub passes-cut : (follows goes : Following) (lock : List ℕ) (low high : ℕ) (U : List Task)
-    (order : Option (List ℕ)) → IsTaskSet U → 1 ≤ high → low ≤ high
-    → PassesIn order (cut goes lock high U) → PassesIn order (cut follows lock low U)
-passes-cut follows goes lock low high U order set some le passes =
-    PassesIn-easier order (cut follows lock low U) (cut goes lock high U)
-    (AreEasier-cut follows goes lock low high U le)
-    (AllTasks-from_set (cut goes lock high U) (set-cut goes lock high U some set)) passes
+    (order : Option (List ℕ)) → low ≤ high → PassesIn order (cut goes lock high U)
+    → PassesIn order (cut follows lock low U)
+passes-cut follows goes lock low high U order le =
+    PassesIn-easier order _ _ (AreEasier-cut follows goes lock low high U le)
 
 -- ---- the longest
 sections-whole : (follows : ℕ → Bool) (lock : List ℕ) (most : ℕ) (node : Node) (place : ℕ)
@@ -242,21 +231,21 @@ cut-whole follows lock most (t ∷ ts) le =
     λ i. here i ∷ cut-whole follows lock most ts (omega (arith, le)) i
 
 -- ---- the most
-module _ (U : List Task) (lock : List ℕ) (order : Option (List ℕ)) (set : IsTaskSet U) where
+module _ (U : List Task) (lock : List ℕ) (order : Option (List ℕ)) where
   pub most-whole : (follows : Following) (longest : ℕ) → longest ≡ longest_on lock U → 1 ≤ longest
       → PassesIn order (cut none_follows lock longest U)
       → AnswersMostOn follows U lock order (Some longest)
   most-whole follows longest is some passes = record {
     some = some;
     within = omega (arith, is);
-    passes = passes-cut follows none_follows lock longest longest U order set some (omega arith) passes;
+    passes = passes-cut follows none_follows lock longest longest U order (omega arith) passes;
     furthest = λ other le passes. omega (arith, le, is);
   }
 
   pub most-none : (follows : Following) → ¬ PassesIn order (cut none_follows lock 1 U)
       → AnswersMostOn follows U lock order None
   most-none follows fails most some passes =
-      fails (passes-cut none_follows follows lock 1 most U order set some some passes)
+      fails (passes-cut none_follows follows lock 1 most U order some passes)
 
   pub most-last : (follows : Following) (longest most : ℕ) → longest ≡ longest_on lock U → 1 ≤ most
       → most ≤ longest → PassesIn order (cut none_follows lock most U)
@@ -265,10 +254,10 @@ module _ (U : List Task) (lock : List ℕ) (order : Option (List ℕ)) (set : Is
   most-last follows longest most is some within passes fails = record {
     some = some;
     within = omega (arith, within, is);
-    passes = passes-cut follows none_follows lock most most U order set some (omega arith) passes;
+    passes = passes-cut follows none_follows lock most most U order (omega arith) passes;
     furthest = λ other le passes. elim (cases_lt most other) [
       | inl lt ↦ absurd (fails other lt (omega (arith, le, is)) (passes-cut none_follows follows lock
-          other other U order set (omega (arith, lt)) (omega arith) passes))
+          other other U order (omega arith) passes))
       | inr le ↦ le
     ];
   }
@@ -277,7 +266,7 @@ module _ (U : List Task) (lock : List ℕ) (order : Option (List ℕ)) (set : Is
       → value ≤ longest_on lock U → PassesIn order (cut follows lock value U) ↔ (value ≤ most)
   most-each follows most value is within = (
     is.furthest value within,
-    λ le. passes-cut follows follows lock value most U order set is.some le is.passes,
+    λ le. passes-cut follows follows lock value most U order le is.passes,
   )
 
   pub most-own : (follows : Following) (most : ℕ) → IsMostOn follows U lock order most
@@ -291,14 +280,14 @@ module _ (U : List Task) (lock : List ℕ) (order : Option (List ℕ)) (set : Is
       at (never (1 + longest_on lock U) (omega arith))
 
 pub most-one : (follows goes : Following) (U : List Task) (lock : List ℕ) (order : Option (List ℕ))
-    (first second : ℕ) → IsTaskSet U → IsMostOn follows U lock order first
+    (first second : ℕ) → IsMostOn follows U lock order first
     → IsMostOn goes U lock order second → first ≡ second
-most-one follows goes U lock order first second set f s = omega (
+most-one follows goes U lock order first second f s = omega (
   arith,
   s.furthest first f.within
-      (passes-cut goes follows lock first first U order set f.some (omega arith) f.passes),
+      (passes-cut goes follows lock first first U order (omega arith) f.passes),
   f.furthest second s.within
-      (passes-cut follows goes lock second second U order set s.some (omega arith) s.passes),
+      (passes-cut follows goes lock second second U order (omega arith) s.passes),
 )
 
 -- ---- sections that stay where they are

@@ -1,55 +1,40 @@
 -- What another cost or period of an interrupt does to a task.
 use Rattle.std.proofs.Common.{◌≡◌, ℕ, zero, suc, ◌+◌, ◌-◌, ◌<◌, ◌≤◌, max, List, [], ◌∷◌, length}
-use Rattle.std.proofs.Common.{slice_set, refl, subst, arith}
+use Rattle.std.proofs.Common.{slice_set, subst, arith}
+use Rattle.std.specs.List.{AllZip}
 use Rattle.std.proofs.lemmas.List.{length-set, get_or-set_same}
 use Rattle.std.proofs.lemmas.List.Elements.{All-set}
 use Rattle.task_sheet.specs.declared.node.Interrupt.{Interrupt}
 use Rattle.task_sheet.specs.Sheet.{Task, IsInterrupt, AreInterrupts, IsValidSheet}
 use Rattle.limits.specs.declared.number.Number.TheVariants.{InterruptCost, InterruptPeriod}
-use Rattle.limits.specs.Easier.{IsEasier, AreCheaper}
 use Rattle.limits.specs.Numbers.{no_interrupt, interrupt_at, with_interrupt_cost}
 use Rattle.limits.specs.Numbers.{with_interrupt_period, IsSpan}
-use Rattle.limits.proofs.EasierLaws.{div_ceil-longer, AreCheaper-refl}
-use Rattle.limits.proofs.NearLaws.{AreShorter-refl}
+use Rattle.other_numbers.specs.Easier.{IsCheaper}
+use Rattle.other_numbers.proofs.EasierLaws.{jobs-rarer, cheaper-refl}
 
 -- ---- to come less often, or to take less
 pub cheaper-cost : (xs : List Interrupt) (k low high : ℕ) → low ≤ high
-    → AreCheaper (with_interrupt_cost xs k low) (with_interrupt_cost xs k high)
+    → AllZip (IsCheaper ◌≤◌) (with_interrupt_cost xs k low) (with_interrupt_cost xs k high)
 cheaper-cost [] k low high le = tt
 cheaper-cost (x ∷ xs) zero low high le =
-    (record { rarer = λ time. omega arith; cost = le }, AreCheaper-refl xs)
+    (record { rarer = λ time. omega arith; cost = le }, cheaper-refl xs)
 cheaper-cost (x ∷ xs) (suc k) low high le =
     (record { rarer = λ time. omega arith; cost = omega arith }, cheaper-cost xs k low high le)
 
 pub cheaper-period : (xs : List Interrupt) (k long short : ℕ) → (k < length xs → 0 < short)
-    → short ≤ long → AreCheaper (with_interrupt_period xs k long) (with_interrupt_period xs k short)
+    → short ≤ long → AllZip (IsCheaper ◌≤◌) (with_interrupt_period xs k long) (with_interrupt_period xs k short)
 cheaper-period [] k long short some le = tt
 cheaper-period (x ∷ xs) zero long short some le = (
   record {
-    rarer = λ time. div_ceil-longer (time + 0) short long (some (omega arith)) le;
+    rarer = λ time. jobs-rarer long short 0 0 time (some (omega arith)) le (omega arith);
     cost = omega arith;
   },
-  AreCheaper-refl xs,
+  cheaper-refl xs,
 )
 cheaper-period (x ∷ xs) (suc k) long short some le = (
   record { rarer = λ time. omega arith; cost = omega arith },
   cheaper-period xs k long short (λ lt. some (omega (arith, lt))) le,
 )
-
--- ---- a task with other interrupts
-pub easier-interrupts : (t : Task) (xs ys : List Interrupt) → AreCheaper xs ys
-    → IsEasier (record t { interrupts = xs }) (record t { interrupts = ys })
-easier-interrupts t xs ys cheap = record {
-  name = refl;
-  outranks = refl;
-  cost = omega arith;
-  jitter = omega arith;
-  period = omega arith;
-  deadline = omega arith;
-  sections = AreShorter-refl t.sections;
-  release = omega arith;
-  interrupts = cheap;
-}
 
 -- ---- which values a valid sheet may have
 placed-valid : (xs : List Interrupt) (k : ℕ) (x : Interrupt) → AreInterrupts xs → IsInterrupt x

@@ -1,5 +1,3 @@
-pub mod NearLaws
-pub mod EasierLaws
 pub mod InterruptLaws
 pub mod NumberLaws
 pub mod SpanLaws

@@ -1,14 +1,15 @@
 -- A set with what a lighter node takes asks no more of whoever is below others.
-use Rattle.std.proofs.Common.{◌≡◌, ℕ, zero, suc, ◌+◌, ◌-◌, ◌*◌, ◌<◌, ◌≤◌, inl, inr, false, cond}
+use Rattle.std.proofs.Common.{◌≡◌, ℕ, zero, suc, ◌+◌, ◌*◌, ◌<◌, ◌≤◌, inl, inr, false, cond}
 use Rattle.std.proofs.Common.{None, List, [], ◌∷◌, length, refl, sym, ◌∙◌, ap, arith}
 use Rattle.std.proofs.Math.Nat.{mul-le-mul, mul-le-mul_right}
 use Rattle.std.specs.Int.{div_ceil}
+use Rattle.std.specs.List.{AllZip}
 use Rattle.std.proofs.lemmas.Grind.{common_steps}
 use Rattle.std.proofs.lemmas.Bool.{cases_Bool, cases_eq, cases_lt, ltb-true}
-use Rattle.task_sheet.proofs.Common.{CriticalSection, Task, no_task, no_overhead, task_at, calls}
+use Rattle.task_sheet.proofs.Common.{CriticalSection, Task, no_overhead, task_at, calls}
 use Rattle.task_sheet.proofs.Common.{IsTaskSet, Indexes, IsPart, among, below, without_index}
 use Rattle.task_sheet.proofs.Common.{sum_below, blocking_of, demand_of, interference_of}
-use Rattle.task_sheet.proofs.Common.{interrupts_of, interrupts_within, releases_within, Passes}
+use Rattle.task_sheet.proofs.Common.{interrupts_of, interrupts_within, releases_within, Passes, limit_of}
 use Rattle.task_sheet.proofs.Common.{all_of, AllStand, IsOrderOf, IsPassingOrder, IsFeasible}
 use Rattle.task_sheet.specs.declared.node.Node.{Node}
 use Rattle.task_sheet.proofs.Below.{sum_below-both, sum_below-le}
@@ -21,12 +22,11 @@ use Rattle.overheads.specs.Padding.{padding_fault, IsUnpadded, IsLighter}
 use Rattle.overheads.proofs.PaddedSections.{calls-mono}
 use Rattle.overheads.proofs.PaddedTasks.{cost-mono}
 use Rattle.overheads.proofs.PaddedSets.{count-padded, padded-at, padded-past, padded-none, lightest}
-use Rattle.limits.specs.Easier.{AreShorter}
-use Rattle.limits.proofs.NearLaws.{AreShorter-refl, IsNear, AreNear, blocking-near, limit-near}
-use Rattle.limits.proofs.NearLaws.{must_outrank_any-near}
+use Rattle.other_numbers.specs.Easier.{IsShorter}
+use Rattle.other_numbers.proofs.EasierLaws.{kept-le, blocking-less, must_outrank_any-same}
 
 -- of sums with one term more each, where one term is no more together with that
-sum_below-own : (n : ℕ) (f g : ℕ → ℕ) (i a b : ℕ) → i < n
+pub sum_below-own : (n : ℕ) (f g : ℕ → ℕ) (i a b : ℕ) → i < n
     → ((k : ℕ) → k < n → (k ≡ i → ⊥) → f k ≤ g k) → a + f i ≤ b + g i
     → a + sum_below n f ≤ b + sum_below n g
 sum_below-own zero f g i a b lt le own = absurd (omega (arith, lt))
@@ -47,34 +47,13 @@ sum_below-own (suc n) f g i a b lt le own = elim (cases_eq i n) [
 
 -- ---- sets that differ in what the node takes
 shorter-padded : (light heavy : Node) (from from' : ℕ) (xs : List CriticalSection) → light.lock
-    ≤ heavy.lock → AreShorter (padded_sections light from xs) (padded_sections heavy from' xs)
+    ≤ heavy.lock → AllZip (IsShorter ◌≤◌) (padded_sections light from xs) (padded_sections heavy from' xs)
 shorter-padded light heavy from from' [] le = tt
 shorter-padded light heavy from from' (x ∷ xs) le = (
-  refl,
-  omega (arith, calls-mono light heavy x le),
+  record { locks = refl; len = omega (arith, calls-mono light heavy x le) },
   shorter-padded light heavy
       (from + calls light x) (from' + calls heavy x) xs le,
 )
-
-near-padded : (light heavy : Node) (t : Task) → IsLighter light heavy
-    → IsNear (padded_task light t) (padded_task heavy t)
-near-padded light heavy t is = record {
-  name = refl;
-  outranks = refl;
-  jitter = omega (arith, is.late);
-  deadline = omega arith;
-  sections = shorter-padded light heavy (light.job - light.release) (heavy.job - heavy.release)
-      t.sections is.lock;
-}
-
-near-same : (x easy hard : Task) → easy ≡ x → hard ≡ x → IsNear easy hard
-near-same x easy hard e f = rw (e, f) record {
-  name = refl;
-  outranks = refl;
-  jitter = omega arith;
-  deadline = omega arith;
-  sections = AreShorter-refl x.sections;
-}
 
 -- what a task takes of a window in all: its jobs, where it is above, its timer and its interrupts
 abbrev taken : List Task → Indexes → ℕ → ℕ → ℕ
@@ -135,15 +114,13 @@ module _ (U : List Task) (light heavy : Node) (set : IsTaskSet U) (is : IsLighte
   same-count : length V ≡ length W
   same-count = count-padded light U ∙ sym (count-padded heavy U)
 
-  near : AreNear V W
-  near = record {
-    count = same-count;
-    each = λ k. elim (cases_lt k (length U)) [
-      | inl lt ↦ rw (padded-at light U k lt, padded-at heavy U k lt)
-          (near-padded light heavy (task_at U k) is)
-      | inr past ↦ near-same no_task _ _ (padded-past light U k past) (padded-past heavy U k past)
-    ];
-  }
+  near : (k : ℕ) → ((task_at V k).name ≡ (task_at W k).name) × ((task_at V k).outranks
+      ≡ (task_at W k).outranks) × AllZip (IsShorter ◌≤◌) (task_at V k).sections (task_at W k).sections
+  near k = elim (cases_lt k (length U)) [
+    | inl lt ↦ rw (padded-at light U k lt, padded-at heavy U k lt)
+        (refl, refl, shorter-padded light heavy _ _ (task_at U k).sections is.lock)
+    | inr past ↦ rw (padded-past light U k past, padded-past heavy U k past) (refl, refl, tt)
+  ]
 
   taken-less : (H : Indexes) (t k : ℕ) → k < length U → taken V H t k ≤ taken W H t k
   taken-less H t k lt =
@@ -179,18 +156,20 @@ module _ (U : List Task) (light heavy : Node) (set : IsTaskSet U) (is : IsLighte
         arith,
         demand-taken V i H t,
         demand-taken W i H t,
-        blocking-near V W near i H,
+        blocking-less ◌≤◌ kept-le V W same-count (λ k. (near k).2) i H,
         sums,
         count,
       )
 
   Passes-padded : (i : ℕ) (H : Indexes) → i < length U → H i ≡ false → Passes W i H → Passes V i H
-  Passes-padded i H lt out passes = (
-    passes.0,
-    passes.1,
-    omega (arith, limit-near V W near i, passes.2),
-    omega (arith, demand-padded i H passes.0 lt out passes.1, passes.3),
-  )
+  Passes-padded i H lt out (t, positive, within, covers) =
+      let later : limit_of (task_at W i) ≤ limit_of (task_at V i) =
+      rw (padded-at light U i lt, padded-at heavy U i lt) (omega (arith, is.late)) in (
+        t,
+        positive,
+        omega (arith, later, within),
+        omega (arith, demand-padded i H t lt out positive, covers),
+      )
 
   AllStand-padded : (L : Indexes) (order : List ℕ) → IsPart L (all_of U) → IsOrderOf L order
       → AllStand W order → AllStand V order
@@ -202,7 +181,7 @@ module _ (U : List Task) (light heavy : Node) (set : IsTaskSet U) (is : IsLighte
       (IsOrderOf-among (without_index L i) above rest) ∙ without-gone L i i refl in (
         (
           Passes-padded i (among above) lt out all.0.0,
-          must_outrank_any-near V W near i (among above)
+          must_outrank_any-same V W same-count (λ k. (near k).0) (λ k. (near k).1) i (among above)
               ∙ all.0.1,
         ),
         AllStand-padded (without_index L i) above (without-part_of (length U) L i part) rest all.1,

@@ -1,28 +1,28 @@
 -- What another value of a number does to a set.
 use Rattle.std.proofs.Common.{◌≡◌, ◌↔◌, ℕ, zero, suc, ◌+◌, ◌-◌, ◌<◌, ◌≤◌, inl, inr, min, max, List, [], ◌∷◌}
-use Rattle.std.proofs.Common.{length, slice_set, refl, sym, ◌∙◌, ap, arith}
-use Rattle.std.proofs.lemmas.Bool.{cases_eq, cases_lt}
-use Rattle.std.proofs.lemmas.List.{length-set, set-get_or}
-use Rattle.task_sheet.specs.Sheet.{CriticalSection, Task, AllTasks, IsValidSheet, no_task, task_at}
+use Rattle.std.proofs.Common.{Option, Some, None, length, slice_set, refl, ◌∙◌, ap, arith}
+use Rattle.std.specs.List.{AllZip}
+use Rattle.std.proofs.lemmas.Bool.{cases_lt}
+use Rattle.std.proofs.lemmas.List.{set-get_or}
+use Rattle.task_sheet.specs.Sheet.{CriticalSection, Task, IsValidSheet, no_task, task_at}
 use Rattle.task_sheet.specs.TaskSet.{IsTaskSet}
 use Rattle.task_sheet.proofs.TaskLaws.{valid_at}
-use Rattle.other_numbers.proofs.CostLaws.{placed-other, placed-same}
+use Rattle.other_numbers.specs.Easier.{IsShorter, IsEasier, AreEasier}
+use Rattle.other_numbers.proofs.CostLaws.{AreEasier-placed}
+use Rattle.other_numbers.proofs.EasierLaws.{easier-by, jobs-rarer, shorter-refl, cheaper-refl}
+use Rattle.other_numbers.proofs.EasierLaws.{IsPassingOrder-easier, IsFeasible-easier}
 use Rattle.limits.specs.declared.number.Number.{Number}
 use Rattle.limits.specs.declared.number.Number.TheVariants.{Cost, Period, Deadline, Jitter, Len}
 use Rattle.limits.specs.declared.number.Number.TheVariants.{InterruptCost, InterruptPeriod}
-use Rattle.limits.specs.Easier.{AreShorter, IsEasier, AreEasier}
 use Rattle.task_sheet.specs.declared.node.Interrupt.{Interrupt}
 use Rattle.limits.specs.Numbers.{no_interrupt}
 use Rattle.limits.specs.Numbers.{section_at, moved, with_len, value_of, with_number, IsNoFurther}
 use Rattle.limits.specs.Numbers.{numbered}
 use Rattle.limits.specs.Numbers.{MayHave, IsFurthestFor, IsFurthest, IsSpan, at_distance, distance}
-use Rattle.limits.specs.InOrder.{IsFurthestIn}
-use Rattle.limits.proofs.EasierLaws.{AreCheaper-refl}
-use Rattle.limits.proofs.InterruptLaws.{cheaper-cost, cheaper-period, easier-interrupts}
-use Rattle.limits.proofs.InterruptLaws.{placed-read}
-use Rattle.limits.proofs.NearLaws.{AreShorter-refl}
+use Rattle.limits.specs.InOrder.{IsFurthestIn, PassesIn}
+use Rattle.limits.proofs.InterruptLaws.{cheaper-cost, cheaper-period, placed-read}
 use Rattle.limits.proofs.SpanLaws.{far-known}
-use Rattle.other_numbers.proofs.PlacedLaws.{IsNamesake, AllTasks-placed}
+use Rattle.other_numbers.proofs.PlacedLaws.{IsNamesake}
 
 pub namesake : (number : Number) (t : Task) (value : ℕ) → IsNamesake (with_number number t value) t
 namesake Cost t value = record { name = refl; weight = refl }
@@ -35,85 +35,53 @@ namesake (InterruptPeriod k) t value = record { name = refl; weight = refl }
 
 -- ---- a value that is no further asks no more
 shorter-moved : (xs : List CriticalSection) (along low high less : ℕ)
-    → AreShorter (moved along low less xs) (moved along high less xs)
-shorter-moved xs zero low high less = AreShorter-refl xs
+    → AllZip (IsShorter ◌≤◌) (moved along low less xs) (moved along high less xs)
+shorter-moved xs zero low high less = shorter-refl xs
 shorter-moved [] (suc along) low high less = tt
 shorter-moved (x ∷ xs) (suc along) low high less =
-    (refl, omega arith, shorter-moved xs along low high less)
+    (record { locks = refl; len = omega arith }, shorter-moved xs along low high less)
 
 shorter-len : (xs : List CriticalSection) (k along low high : ℕ) → low ≤ high
-    → AreShorter (with_len xs k along low) (with_len xs k along high)
+    → AllZip (IsShorter ◌≤◌) (with_len xs k along low) (with_len xs k along high)
 shorter-len [] k along low high le = tt
 shorter-len (x ∷ xs) zero along low high le =
-    (refl, le, shorter-moved xs along low high x.len)
+    (record { locks = refl; len = le }, shorter-moved xs along low high x.len)
 shorter-len (x ∷ xs) (suc k) along low high le =
-    (refl, omega arith, shorter-len xs k along low high le)
-
--- a task asks no more than one with longer times and sections, a shorter period and an earlier deadline
-easier-parts : (t : Task) (c p d j c' p' d' j' : ℕ) (ss ss' : List CriticalSection) → c ≤ c'
-    → p' ≤ p
-    → d' ≤ d → j ≤ j' → AreShorter ss ss'
-    → IsEasier (record t { cost = c; period = p; deadline = d; jitter = j; sections = ss })
-    (record t { cost = c'; period = p'; deadline = d'; jitter = j'; sections = ss' })
-easier-parts t c p d j c' p' d' j' ss ss' cost period deadline jitter sections = record {
-  name = refl;
-  outranks = refl;
-  cost = cost;
-  jitter = jitter;
-  period = period;
-  deadline = deadline;
-  sections = sections;
-  release = omega arith;
-  interrupts = AreCheaper-refl t.interrupts;
-}
-
-pub easier-same : (x easy hard : Task) → easy ≡ x → hard ≡ x → IsEasier easy hard
-easier-same x easy hard e f = rw (e, f)
-    (easier-parts x x.cost x.period x.deadline x.jitter x.cost x.period x.deadline x.jitter
-    x.sections x.sections (omega arith) (omega arith) (omega arith) (omega arith)
-    (AreShorter-refl x.sections))
+    (record { locks = refl; len = omega arith }, shorter-len xs k along low high le)
 
 easier-number : (number : Number) (t : Task) (low high : ℕ)
     → IsValidSheet (with_number number t high) → IsNoFurther number low high → IsEasier (with_number number t low) (with_number number t high)
-easier-number Cost t low high may le =
-    easier-parts t low t.period t.deadline t.jitter high t.period t.deadline t.jitter t.sections
-    t.sections le (omega arith) (omega arith) (omega arith) (AreShorter-refl t.sections)
-easier-number Period t low high may le =
-    easier-parts t t.cost low (min t.deadline low) t.jitter t.cost high (min t.deadline high)
-    t.jitter t.sections t.sections (omega arith) le (omega (arith, le)) (omega arith)
-    (AreShorter-refl t.sections)
-easier-number Deadline t low high may le =
-    easier-parts t t.cost (max t.period low) low t.jitter t.cost (max t.period high) high t.jitter
-    t.sections t.sections (omega arith) (omega (arith, le)) le (omega arith)
-    (AreShorter-refl t.sections)
-easier-number Jitter t low high may le =
-    easier-parts t t.cost t.period t.deadline low t.cost t.period t.deadline high t.sections
-    t.sections (omega arith) (omega arith) (omega arith) le (AreShorter-refl t.sections)
-easier-number (Len k along) t low high may le =
-    easier-parts t t.cost t.period t.deadline t.jitter t.cost t.period t.deadline t.jitter
-    (with_len t.sections k along low) (with_len t.sections k along high) (omega arith) (omega arith)
-    (omega arith) (omega arith) (shorter-len t.sections k along low high le)
-easier-number (InterruptCost k) t low high may le =
-    easier-interrupts t _ _ (cheaper-cost t.interrupts k low high le)
-easier-number (InterruptPeriod k) t low high may le =
-    easier-interrupts t _ _ (cheaper-period t.interrupts k low high
+easier-number Cost t low high may le = easier-by _ _ refl refl refl le (omega arith) (λ time. omega arith)
+    (omega arith) (shorter-refl t.sections) (cheaper-refl t.interrupts)
+easier-number Period t low high may le = easier-by _ _ refl refl refl (omega arith) (omega arith)
+    (λ time. jobs-rarer low high t.jitter t.jitter time (omega (arith, may.period_from)) le (omega arith))
+    (omega (arith, le)) (shorter-refl t.sections) (cheaper-refl t.interrupts)
+easier-number Deadline t low high may le = easier-by _ _ refl refl refl (omega arith) (omega arith)
+    (λ time. jobs-rarer (max t.period low) (max t.period high) t.jitter t.jitter time
+    (omega (arith, may.period_from)) (omega (arith, le)) (omega arith))
+    le (shorter-refl t.sections) (cheaper-refl t.interrupts)
+easier-number Jitter t low high may le = easier-by _ _ refl refl refl (omega arith) le
+    (λ time. jobs-rarer t.period t.period low high time (omega (arith, may.period_from)) (omega arith) le)
+    (omega arith) (shorter-refl t.sections) (cheaper-refl t.interrupts)
+easier-number (Len k along) t low high may le = easier-by _ _ refl refl refl (omega arith) (omega arith)
+    (λ time. omega arith) (omega arith) (shorter-len t.sections k along low high le) (cheaper-refl t.interrupts)
+easier-number (InterruptCost k) t low high may le = easier-by _ _ refl refl refl (omega arith) (omega arith)
+    (λ time. omega arith) (omega arith) (shorter-refl t.sections) (cheaper-cost t.interrupts k low high le)
+easier-number (InterruptPeriod k) t low high may le = easier-by _ _ refl refl refl (omega arith) (omega arith)
+    (λ time. omega arith) (omega arith) (shorter-refl t.sections) (cheaper-period t.interrupts k low high
     (λ lt. let is = placed-read t.interrupts k _ lt may.interrupts in
     omega (arith, is.period_from)) le)
 
-pub AreEasier-numbered : (U : List Task) (i : ℕ) (number : Number) (low high : ℕ) → i < length U
+pub AreEasier-numbered : (U : List Task) (i : ℕ) (number : Number) (low high : ℕ)
     → MayHave U i number high → IsNoFurther number low high
     → AreEasier (numbered U i number low) (numbered U i number high)
-AreEasier-numbered U i number low high inside may le =
-    let x = with_number number (task_at U i) low in
-    let y = with_number number (task_at U i) high in
-    record {
-      count = length-set U i x ∙ sym (length-set U i y);
-      each = λ k. elim (cases_eq k i) [
-        | inr ne ↦ easier-same (task_at U k) _ _ (placed-other U i x k ne) (placed-other U i y k ne)
-        | inl e ↦ rw (e, placed-same U i x inside, placed-same U i y inside)
-            (easier-number number (task_at U i) low high may le)
-      ];
-    }
+AreEasier-numbered U i number low high may le =
+    AreEasier-placed U i _ _ (easier-number number (task_at U i) low high may le)
+
+pub PassesIn-easier : (order : Option (List ℕ)) → (V U : List Task) → AreEasier V U → PassesIn order U
+    → PassesIn order V
+PassesIn-easier (Some order) V U easy passes = IsPassingOrder-easier V U easy order passes
+PassesIn-easier None V U easy passes = IsFeasible-easier V U easy passes
 
 -- ---- with its own value a task is as it was
 moved-own : (xs : List CriticalSection) (along len : ℕ) → moved along len len xs ≡ xs
@@ -193,31 +161,30 @@ last-of P U i number easiest long span far within here fails = record {
       ];
 }
 
-module _ (P : List Task → Type 0) (eased : (V U : List Task) → AreEasier V U → AllTasks U → P U
-    → P V)
-    (U : List Task) (i : ℕ) (number : Number) (set : IsTaskSet U) (inside : i < length U) where
+module _ (P : List Task → Type 0) (eased : (V U : List Task) → AreEasier V U → P U → P V)
+    (U : List Task) (i : ℕ) (number : Number) where
   -- feasible with a value it is so with each that is no further
   pub nearer : (low high : ℕ) → MayHave U i number high → IsNoFurther number low high
       → P (numbered U i number high) → P (numbered U i number low)
   nearer low high may le =
       eased (numbered U i number low) (numbered U i number high)
-      (AreEasier-numbered U i number low high inside may le)
-      (AllTasks-placed U i (with_number number (task_at U i) high) set inside may)
+      (AreEasier-numbered U i number low high may le)
 
   pub furthest-each : (most value : ℕ) → IsFurthestFor P U i number most → MayHave U i number value
       → P (numbered U i number value) ↔ IsNoFurther number value most
   furthest-each most value is may =
       (is.furthest value may, λ le. nearer value most is.may le is.feasible)
 
-  pub furthest-own : (most : ℕ) → IsFurthestFor P U i number most
-      → P U ↔ IsNoFurther number (value_of number (task_at U i)) most
-  furthest-own most is = rw (numbered-own U i number set inside)
-      at (furthest-each most (value_of number (task_at U i)) is (may-own U i number set inside))
+  module _ (set : IsTaskSet U) (inside : i < length U) where
+    pub furthest-own : (most : ℕ) → IsFurthestFor P U i number most
+        → P U ↔ IsNoFurther number (value_of number (task_at U i)) most
+    furthest-own most is = rw (numbered-own U i number set inside)
+        at (furthest-each most (value_of number (task_at U i)) is (may-own U i number set inside))
 
-  pub furthest-none : ((value : ℕ) → MayHave U i number value → ¬ P (numbered U i number value))
-      → ¬ P U
-  furthest-none none = rw (numbered-own U i number set inside)
-      at (none (value_of number (task_at U i)) (may-own U i number set inside))
+    pub furthest-none : ((value : ℕ) → MayHave U i number value → ¬ P (numbered U i number value))
+        → ¬ P U
+    furthest-none none = rw (numbered-own U i number set inside)
+        at (none (value_of number (task_at U i)) (may-own U i number set inside))
 
   -- ---- a search over the values of a sheet
   module _ (easiest long : ℕ) (span : IsSpan (task_at U i) number easiest long) where

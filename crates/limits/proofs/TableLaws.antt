@@ -8,7 +8,7 @@ use Rattle.task_sheet.proofs.Common.{must_outrank}
 use Rattle.ceilings.specs.Table.{Table}
 use Rattle.ceilings.specs.Holds.{TableData}
 use Rattle.ceilings.specs.IsTableOf.{AreUsersOf, IsTableOf, names_in, first_sights}
-use Rattle.other_numbers.proofs.CostLaws.{longest-same}
+use Rattle.other_numbers.proofs.EasierLaws.{outside-same}
 use Rattle.limits.specs.declared.number.Number.{Number}
 use Rattle.limits.specs.declared.number.Number.TheVariants.{Cost, Period, Deadline, Jitter, Len}
 use Rattle.limits.specs.declared.number.Number.TheVariants.{InterruptCost, InterruptPeriod}
@@ -57,7 +57,7 @@ module _ (U : List Task) (i : ℕ) (x : Task) (name : x.name ≡ (task_at U i).n
   IsTableOf-placed table is = record {
     few = few-placed is.few;
     users = AreUsersOf-placed table.users is.users;
-    holds = λ members. is.holds members ∙ sym (longest-same (slice_set U i x) U (indexes_of members)
+    holds = λ members. is.holds members ∙ sym (outside-same (slice_set U i x) U (indexes_of members)
         (length-set U i x) sections-placed);
     outranked = λ j k lt within.
         let count = length-set U i x in

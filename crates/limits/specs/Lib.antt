@@ -1,5 +1,4 @@
 pub mod Numbers
-pub mod Easier
 pub mod Rooms
 pub mod InOrder
 pub mod Shared

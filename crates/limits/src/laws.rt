@@ -1,15 +1,14 @@
 //! Laws of numbers. Each is the clause of a function that does nothing, and its names are defined in `specs/`.
 
 ghost use Rattle.std.specs.Prelude.{◌≡◌, ◌≤◌, ◌<◌, ◌↔◌, ℕ, List, ◌∷◌, length, Option, None, IsFalse};
-ghost use Rattle.task_sheet.specs.Sheet.{Task, AllTasks, task_at};
+ghost use Rattle.task_sheet.specs.Sheet.{Task, task_at};
 ghost use Rattle.task_sheet.specs.TaskSet.{IsTaskSet};
 ghost use Rattle.task_sheet.specs.Indexes.{Indexes};
-ghost use Rattle.task_sheet.specs.Demand.{limit_of, blocking_of, demand_of, Passes};
+ghost use Rattle.task_sheet.specs.Demand.{demand_of};
 ghost use Rattle.task_sheet.specs.Orders.{IsPassingOrder, IsFeasible};
 ghost use Rattle.task_sheet.specs.declared.node.Node.{Node};
 ghost use Rattle.overheads.specs.Padding.{IsLighter, IsUnpadded, charged, padded, padding_fault};
 ghost use Rattle.task_sheet.specs.declared.node.Interrupt.{Interrupt};
-ghost use Rattle.limits.specs.Easier.{AreEasier};
 ghost use Rattle.limits.specs.declared.number.Number.{Number};
 ghost use Rattle.limits.specs.Numbers.{HasNumber, value_of, numbered, MayHave, IsNoFurther, IsFurthest, NoneHelps};
 ghost use Rattle.limits.specs.InOrder.{IsFurthestIn, NoneHelpsIn, PassesIn};
@@ -17,24 +16,6 @@ ghost use Rattle.limits.specs.declared.shared.Shared.{Shared};
 ghost use Rattle.limits.specs.Shared.{IsFurthestShared, MayTake, with_shared};
 ghost use Rattle.limits.specs.Written.{node_of, written};
 ghost use Rattle.limits.specs.Cuts.{AnswersMostOn, Following, IsMostOn, cut, longest_on};
-
-/// To ask less takes no order away: with no cost, no jitter and no section longer, no timer or interrupt that takes
-/// more, no period shorter and no deadline earlier, no blocking and no demand is greater, no limit is less, and an order
-/// that passes still passes.
-pub fn easier_keeps_feasible()
-    ensures blocking { (V U : List Task) (i : ℕ) (H : Indexes) → AreEasier V U
-        → blocking_of V i H ≤ blocking_of U i H }
-    ensures demand { (V U : List Task) (i : ℕ) (H : Indexes) (t : ℕ) → AllTasks U → AreEasier V U
-        → demand_of V i H t ≤ demand_of U i H t }
-    ensures limit { (V U : List Task) (i : ℕ) → AreEasier V U
-        → limit_of (task_at U i) ≤ limit_of (task_at V i) }
-    ensures passes { (V U : List Task) (i : ℕ) (H : Indexes) → AllTasks U → AreEasier V U
-        → Passes U i H
-        → Passes V i H }
-    ensures order { (V U : List Task) (order : List ℕ) → AllTasks U → AreEasier V U
-        → IsPassingOrder U order → IsPassingOrder V order }
-    ensures feasible { (V U : List Task) → AllTasks U → AreEasier V U → IsFeasible U → IsFeasible V }
-{}
 
 /// A node that takes less takes no order away: no demand of a task below others is greater, and what passes with what a
 /// node takes passes with what one takes that takes no more, and so without a node.
@@ -56,8 +37,7 @@ pub fn lighter_node_keeps_feasible()
 /// The answer says all of a number: with a value that its sheet may have some order passes exactly where it is no further
 /// than the furthest, and so with its own. There is one furthest at most, and none only of a set that no order passes.
 pub fn furthest_decides()
-    ensures each { (U : List Task) (i : ℕ) (number : Number) (most value : ℕ) → IsTaskSet U
-        → i < length U
+    ensures each { (U : List Task) (i : ℕ) (number : Number) (most value : ℕ)
         → IsFurthest U i number most → MayHave U i number value
         → IsFeasible (numbered U i number value) ↔ IsNoFurther number value most }
     ensures own { (U : List Task) (i : ℕ) (number : Number) (most : ℕ) → IsTaskSet U → i < length U
@@ -73,7 +53,6 @@ pub fn furthest_decides()
 /// furthest in it, and so with its own. There is one at most, and it is no further than that with any order.
 pub fn furthest_in_order_decides()
     ensures each { (U : List Task) (order : List ℕ) (i : ℕ) (number : Number) (most value : ℕ)
-        → IsTaskSet U → i < length U
         → IsFurthestIn U order i number most → MayHave U i number value
         → IsPassingOrder (numbered U i number value) order ↔ IsNoFurther number value most }
     ensures own { (U : List Task) (order : List ℕ) (i : ℕ) (number : Number) (most : ℕ) → IsTaskSet U
@@ -109,18 +88,15 @@ pub fn furthest_shared_decides()
 /// at most, whichever sections move along, and what is left is a set.
 pub fn most_on_decides()
     ensures each { (follows : Following) (U : List Task) (lock : List ℕ) (order : Option (List ℕ)) (most value : ℕ)
-        → IsTaskSet U → IsMostOn follows U lock order most
-        → value ≤ longest_on lock U
+        → IsMostOn follows U lock order most → value ≤ longest_on lock U
         → PassesIn order (cut follows lock value U) ↔ (value ≤ most) }
     ensures own { (follows : Following) (U : List Task) (lock : List ℕ) (order : Option (List ℕ)) (most : ℕ)
-        → IsTaskSet U → IsMostOn follows U lock order most
-        → PassesIn order U ↔ (longest_on lock U ≤ most) }
+        → IsMostOn follows U lock order most → PassesIn order U ↔ (longest_on lock U ≤ most) }
     ensures one { (follows goes : Following) (U : List Task) (lock : List ℕ) (order : Option (List ℕ))
-        (first second : ℕ) → IsTaskSet U
-        → IsMostOn follows U lock order first
+        (first second : ℕ) → IsMostOn follows U lock order first
         → IsMostOn goes U lock order second
         → first ≡ second }
-    ensures none { (follows : Following) (U : List Task) (lock : List ℕ) (order : Option (List ℕ)) → IsTaskSet U
+    ensures none { (follows : Following) (U : List Task) (lock : List ℕ) (order : Option (List ℕ))
         → AnswersMostOn follows U lock order None
         → ¬ PassesIn order U }
     ensures set { (follows : Following) (U : List Task) (lock : List ℕ) (most : ℕ) → IsTaskSet U → 1 ≤ most

@@ -1,4 +1,4 @@
-pub mod InterruptSets
+pub mod EasierLaws
 pub mod CostLaws
 pub mod OrderLaws
 pub mod PlacedLaws

@@ -1,16 +1,14 @@
 -- A set in which another task of the same name and weight takes the place of one has the same ranks.
-use Rattle.std.proofs.Common.{◌≡◌, ℕ, zero, suc, ◌<◌, inl, inr, false, None, List, [], ◌∷◌, length}
-use Rattle.std.proofs.Common.{get_or, Less, slice_set, sym, ◌∙◌, ap, subst, arith}
+use Rattle.std.proofs.Common.{◌≡◌, ℕ, zero, suc, ◌<◌, false, None, List, [], ◌∷◌, length}
+use Rattle.std.proofs.Common.{get_or, Less, slice_set, ◌∙◌, ap, subst, arith}
 use Rattle.std.specs.List.{AllByRecursion}
 use Rattle.std.specs.List.Sorted.{IsStrictlySortedBy}
-use Rattle.std.proofs.lemmas.Bool.{cases_eq}
-use Rattle.std.proofs.lemmas.List.{length-set, get_or_default}
+use Rattle.std.proofs.lemmas.List.{length-set}
 use Rattle.std.proofs.lemmas.List.Elements.{All-set}
-use Rattle.task_sheet.proofs.Common.{Task, IsValidSheet, AllTasks, no_task, task_at, rank_cmp}
+use Rattle.task_sheet.proofs.Common.{Task, IsValidSheet, task_at, rank_cmp}
 use Rattle.task_sheet.proofs.Common.{IsByRank, same_name, AreDistinct, IsTaskSet, sheets_fault}
 use Rattle.task_sheet.proofs.SetLaws.{IsByRank-is, no_fault}
-use Rattle.task_sheet.proofs.TaskLaws.{IsTask-from_valid, task_read, valid_at}
-use Rattle.other_numbers.proofs.CostLaws.{placed-other, placed-same}
+use Rattle.task_sheet.proofs.TaskLaws.{task_read}
 
 -- the task has the name and the weight of the other one
 pub record IsNamesake (x y : Task) : Type 0 where
@@ -99,16 +97,3 @@ module _ (U sheets read : List Task) (i : ℕ) (made old : Task) (other : Task �
   -- they are a set: the names are the same, and as many
   pub placed-fine : sheets_fault (slice_set sheets i made) ≡ None
   placed-fine = ap sheets_fault sheets-are ∙ no_fault-placed U i (other (task_at U i)) namesake set
-
--- each task of it is valid where the other one is
-pub AllTasks-placed : (U : List Task) (i : ℕ) (x : Task) → IsTaskSet U → i < length U
-    → IsValidSheet x → AllTasks (slice_set U i x)
-AllTasks-placed U i x set inside valid k d lt =
-    let there : k < length U = omega (arith, lt, length-set U i x) in
-    let at : IsValidSheet (task_at (slice_set U i x) k) = elim (cases_eq k i) [
-      | inl e ↦ subst IsValidSheet
-          (sym (ap (λ j. task_at (slice_set U i x) j) e ∙ placed-same U i x inside)) valid
-      | inr ne ↦ subst IsValidSheet (sym (placed-other U i x k ne)) (valid_at U k set there)
-    ] in
-    IsTask-from_valid (get_or (slice_set U i x) k d)
-    (subst IsValidSheet (get_or_default (slice_set U i x) k no_task d lt) at)

@@ -2,8 +2,7 @@ use Rattle.std.proofs.Common.{sym, subst, option_map, arith}
 use Rattle.std.proofs.lemmas.Bool.{both_ways}
 use Rattle.limits.specs.Numbers.{numbered, MayHave}
 use Rattle.limits.specs.InOrder.{PassesIn}
-use Rattle.limits.proofs.EasierLaws.{PassesIn-easier}
-use Rattle.limits.proofs.NumberLaws.{further}
+use Rattle.limits.proofs.NumberLaws.{PassesIn-easier, further}
 use Rattle.limits.proofs.SpanLaws.{at-start}
 use Rattle.limits.proofs.furthest_with.Goals as goal
 
@@ -22,8 +21,8 @@ returns-then-not-branch c = λ value may passes.
     let e = c.span_in-span.result.easiest in
     let span = c.span_in-span.ensures.span in
     let there = span.all value may in
-    let first = further (PassesIn order) (PassesIn-easier order) U i n c.span_in-span.ensures.kept
-    c.requires.task e c.span_in-span.result.length span 0 there.0 (omega arith) there.1
+    let first = further (PassesIn order) (PassesIn-easier order) U i n
+    e c.span_in-span.result.length span 0 there.0 (omega arith) there.1
     (subst (λ v. PassesIn order (numbered U i n v)) there.2 passes) in
     both_ways _ c.if-not-branch.true (c.in_ok-passes_with.ensures.1
     (subst (λ v. PassesIn order (numbered U i n v)) (at-start n e) first))

@@ -9,26 +9,24 @@ use Rattle.limits.proofs.cuts.most_on.Goals as goal
 pub returns-then-is_whole : goal.returns-then-is_whole
 returns-then-is_whole c =
     let order : Option (List ℕ) = option_map (λ o. o.now) c.args.order in
-    λ follows. most-whole c.args.set.now c.args.lock order c.sheets-own.ensures.kept follows c.args.longest
+    λ follows. most-whole c.args.set.now c.args.lock order follows c.args.longest
     c.requires.longest c.requires.some (c.in_ok-is_whole.ensures.0 c.if-is_whole.true)
 
 pub returns-then-not-is_possible : goal.returns-then-not-is_possible
 returns-then-not-is_possible c =
     let order : Option (List ℕ) = option_map (λ o. o.now) c.args.order in
-    λ follows. most-none c.args.set.now c.args.lock order c.sheets-own.ensures.kept follows
+    λ follows. most-none c.args.set.now c.args.lock order follows
     (λ passes. both_ways _ c.if-not-is_possible.true (c.in_ok-is_possible.ensures.1 passes))
 
 pub returns : goal.returns
 returns c =
     let U = c.args.set.now in
     let order : Option (List ℕ) = option_map (λ o. o.now) c.args.order in
-    let set = c.sheets-own.ensures.kept in
     let last = last-edge _ (λ most. PassesIn order (cut none_follows c.args.lock most U)) _ _ _
     c.in_ok-most.ensures (c.in_ok-is_possible.ensures.0 c.if-not-is_possible.false)
     (λ n answer lt post. search rules)
-    (λ low high from le lt. passes-cut none_follows none_follows c.args.lock low high U order set
-    (omega (arith, from, le)) le) in
-    λ follows. most-last U c.args.lock order set follows c.args.longest _ c.requires.longest
+    (λ low high from le lt. passes-cut none_follows none_follows c.args.lock low high U order le) in
+    λ follows. most-last U c.args.lock order follows c.args.longest _ c.requires.longest
     c.in_ok-most.ensures.from (omega (arith, c.in_ok-most.ensures.before)) last.0
     (λ more lt le passes. elim (cases_lt more c.args.longest) [
       | inl lt' ↦ last.1 more lt lt' passes

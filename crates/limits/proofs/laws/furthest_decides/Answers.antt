@@ -1,12 +1,11 @@
 use Rattle.task_sheet.specs.Orders.{IsFeasible}
-use Rattle.limits.proofs.EasierLaws.{IsFeasible-easier}
+use Rattle.other_numbers.proofs.EasierLaws.{IsFeasible-easier}
 use Rattle.limits.proofs.NumberLaws.{furthest-each, furthest-own, furthest-one, furthest-none}
 use Rattle.limits.proofs.laws.furthest_decides.Goals as goal
 
 pub returns : goal.returns
 returns c = record {
-  each = λ U i number most value set inside.
-      furthest-each IsFeasible IsFeasible-easier U i number set inside most value;
+  each = λ U i number most value. furthest-each IsFeasible IsFeasible-easier U i number most value;
   own = λ U i number most set inside has.
       furthest-own IsFeasible IsFeasible-easier U i number set inside most;
   one = furthest-one IsFeasible;

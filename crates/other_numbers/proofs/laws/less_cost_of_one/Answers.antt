@@ -1,5 +1,9 @@
-use Rattle.other_numbers.proofs.CostLaws.{AreLighter-costed, IsFeasible-less}
+use Rattle.other_numbers.proofs.CostLaws.{AreEasier-costed}
+use Rattle.other_numbers.proofs.EasierLaws.{IsFeasible-easier}
 use Rattle.other_numbers.proofs.laws.less_cost_of_one.Goals as goal
 
 pub returns : goal.returns
-returns c = record { lighter = AreLighter-costed; feasible = IsFeasible-less }
+returns c = record {
+  easier = AreEasier-costed;
+  feasible = λ U i low high le. IsFeasible-easier _ _ (AreEasier-costed U i low high le);
+}

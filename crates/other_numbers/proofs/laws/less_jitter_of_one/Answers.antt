@@ -1,5 +1,9 @@
-use Rattle.other_numbers.proofs.CostLaws.{AreLighter-delayed, IsFeasible-earlier}
+use Rattle.other_numbers.proofs.CostLaws.{AreEasier-delayed}
+use Rattle.other_numbers.proofs.EasierLaws.{IsFeasible-easier}
 use Rattle.other_numbers.proofs.laws.less_jitter_of_one.Goals as goal
 
 pub returns : goal.returns
-returns c = record { lighter = AreLighter-delayed; feasible = IsFeasible-earlier }
+returns c = record {
+  easier = AreEasier-delayed;
+  feasible = λ U i low high le. IsFeasible-easier _ _ (AreEasier-delayed U i low high le);
+}
