@@ -1,6 +1,6 @@
--- Sets that ask no more of the node: no more cost and jitter, no more jobs in any window, no earlier deadlines, no longer
--- sections, timers that take no more, interrupts that come no more often and take no more. Of what is executed, `≼` says in
--- which sense it is no more: `≤`, or at most so many thousandths.
+-- Sets that ask no more of the node: with no more cost and jitter, no more jobs in any window, no earlier deadlines, no longer
+-- sections, timers that take no more, interrupts that come no more often and take no more. In which sense what is executed is
+-- no more, `≼` says: `≤`, or at most so many thousandths.
 use Rattle.std.specs.Prelude.{◌≡◌, ℕ, ◌≤◌, List, length}
 use Rattle.std.specs.List.{AllZip}
 use Rattle.task_sheet.specs.declared.node.Interrupt.{Interrupt}
@@ -37,9 +37,10 @@ module _ (◌≼◌ : ℕ → ℕ → Type 0) where
     pub count : length easy ≡ length hard
     pub each : (k : ℕ) → IsEasierBy (task_at easy k) (task_at hard k)
 
--- it asks no more where no number is greater
+-- the same where no number is greater
 abbrev pub IsEasier : Task → Task → Type 0
 IsEasier = IsEasierBy ◌≤◌
 
+-- and of sets
 abbrev pub AreEasier : List Task → List Task → Type 0
 AreEasier = AreEasierBy ◌≤◌

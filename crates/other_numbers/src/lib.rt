@@ -1,4 +1,4 @@
-//! Sheets with other numbers, and what sets keep that ask less. Times are whole microseconds.
+//! Sheets with other numbers, and what a set keeps that asks less. Times are whole microseconds.
 #![tactic(auto)]
 
 mod costs;
