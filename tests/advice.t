@@ -44,11 +44,14 @@ Inputs
   [7]
   $ head -c 16777217 /dev/zero > long
   $ said admit long
-  long: longer than the 16777216 bytes that this input may have
+  long: longer than the 16777216 bytes that an input may have
   [4]
-  $ truncate -s 1073741825 huge
-  $ said check examples/three-tasks.toml huge
-  huge: longer than the 1073741824 bytes that this input may have
+  $ said check examples/three-tasks.toml long
+  long: longer than the 16777216 bytes that an input may have
+  [4]
+  $ truncate -s 1073741825 hours
+  $ said observe examples/three-tasks.toml hours
+  hours: longer than the 1073741824 bytes that a trace may have
   [4]
 
 What a terminal could take for a command is shown as `?`:
@@ -564,7 +567,7 @@ Beside a new set: what belongs to which
 
   $ both() { said draw examples/shared-lock.toml examples/shared-lock.releases --beside "$@"; }
   $ both /dev/zero
-  examples/shared-lock.releases: with the new set longer than the 1073741824 bytes that both may have
+  examples/shared-lock.releases: with the new set longer than the 16777216 bytes that an input may have
   [4]
   $ sed 's/cost = 2000$/cost = 15000/' examples/shared-lock.toml > full.toml
   $ both full.toml

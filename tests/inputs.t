@@ -239,12 +239,11 @@ Standard error isn't needed where the words are right:
   1 lo 14000
   2 hi 4500
 
-16,777,216 bytes, and one more; of a second input 1,073,741,824
----------------------------------------------------------------
+16,777,216 bytes, and one more
+------------------------------
 
   $ head -c 16777216 /dev/zero | tr '\0' '#' > longest
   $ { cat longest; printf '#'; } > longer
-  $ truncate -s 1073741825 huge
   $ desk admit longest
   admitted 0
   $ desk admit longer
@@ -266,9 +265,6 @@ Standard error isn't needed where the words are right:
   refused: Truncated
   [5]
   $ desk check $set longer
-  refused: Truncated
-  [5]
-  $ desk check $set huge
   refused: InputTooLong
   [4]
   $ desk check longer $cert
@@ -278,9 +274,19 @@ Standard error isn't needed where the words are right:
   refused: BadLine 2
   [4]
   $ desk simulate $node longer
-  refused: BadLine 2
+  refused: InputTooLong
   [4]
-  $ desk simulate $node - < huge
+
+A trace of some hours has up to 1,073,741,824:
+
+  $ desk observe $node longer --jobless
+  task lo 0 0 6000 - 100000 - 14000
+  task hi 0 0 4000 - 5000 - 4500
+  $ truncate -s 1073741825 hours
+  $ desk observe $node hours
+  refused: InputTooLong
+  [4]
+  $ desk observe $node - < hours
   refused: InputTooLong
   [4]
 
@@ -305,10 +311,10 @@ All inputs are opened, then all are read, then all are parsed, the set first eac
   $ desk check longer folder
   refused: ReadFailed
   [7]
-  $ desk check folder huge
+  $ desk check folder longer
   refused: ReadFailed
   [7]
-  $ desk check faulty huge
+  $ desk check faulty longer
   refused: InputTooLong
   [4]
   $ desk check faulty folder
@@ -324,7 +330,7 @@ All inputs are opened, then all are read, then all are parsed, the set first eac
   refused: ReadFailed
   [7]
   $ desk simulate faulty longer
-  refused: UnknownKey 0 0
+  refused: InputTooLong
   [4]
   $ desk simulate faulty empty
   refused: UnknownKey 0 0

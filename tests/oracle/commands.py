@@ -23,8 +23,8 @@ from refusals import Refused
 from sets import is_name
 
 INPUT_MOST = 16_777_216
-# (of a text beside a set)
-TEXT_MOST = 1_073_741_824
+# (of a trace)
+TRACE_MOST = 1_073_741_824
 INFEASIBLE = 3
 # stand for a text that the documents don't pin
 DRAWN, RUSHED, HELPED, SAID = "a picture", "a log", "help", "a sentence to a person"
@@ -800,15 +800,20 @@ def chain_beside(text):
     raise Refused(4, "ChainBeside")
 
 
+def most_of(reader):
+    """The bytes that an input of a kind may have."""
+    return TRACE_MOST if reader is observed.read_trace else INPUT_MOST
+
+
 def read_inputs(call, files, stdin):
     """All are opened, then all are read, then all are parsed."""
     data = [stdin if path == "-" else teams.text_of(path, files) for path in call.paths]
     if None in data:
         raise Refused(7, "ReadFailed")
-    if len(data[0]) > INPUT_MOST or any(len(text) > TEXT_MOST for text in data[1:]):
+    if any(len(text) > most_of(reader) for reader, text in zip(call.command.readers, data)):
         raise Refused(4, "InputTooLong")
     preference = call.options.get("prefer")
-    if call.command is BESIDE and len(data[1]) + 1 + len(data[2]) > TEXT_MOST:
+    if call.command is BESIDE and len(data[1]) + 1 + len(data[2]) > INPUT_MOST:
         raise Refused(4, "InputTooLong")
     read = {NewSet: lambda text: NewSet(call, text)}
     read |= {reader: lambda text, reader=reader: strictly(call, reader, reader(text, preference)) for reader in OF_A_PREFERENCE}

@@ -230,12 +230,19 @@ fn input_of(call: Call<'_>, which: Which) -> Input<'_> {
 
 // What is wrong with an input that is too long.
 fn too_long(call: Call<'_>, which: Which) -> &'static str {
-    if which == Which::First {
-        "longer than the 16777216 bytes that this input may have"
+    let observes = matches!(
+        call,
+        Call::Two {
+            command: OfTwo::Observe,
+            ..
+        }
+    );
+    if observes && which == Which::Second {
+        "longer than the 1073741824 bytes that a trace may have"
     } else if matches!(input_of(call, which), Input::Both { .. }) {
-        "with the new set longer than the 1073741824 bytes that both may have"
+        "with the new set longer than the 16777216 bytes that an input may have"
     } else {
-        "longer than the 1073741824 bytes that this input may have"
+        "longer than the 16777216 bytes that an input may have"
     }
 }
 

@@ -1,6 +1,6 @@
 -- Why bytes say no set is why their readers have none.
 use Rattle.std.proofs.Common.{ℕ, List, Option, Err}
-use Rattle.streams.specs.Inputs.{IsReadFrom, IsTextFrom}
+use Rattle.streams.specs.Inputs.{IsReadFrom, IsReadUpTo}
 use Rattle.preferences.specs.ReadsAsked.{ReadsAsked}
 use Rattle.preferences.specs.declared.asking.Asking.{Asking}
 use Rattle.preferences.specs.declared.asking.AskedFault.{AskedFault}
@@ -27,14 +27,14 @@ one_refused asking known bytes read refusal.OutOfMemory reads = tt
 one_refused asking known bytes read _ reads = absurd reads
 
 -- once both were
-pub both_refused : (asking : Asking) (set other : Option (List ℕ)) (bytes text : List ℕ)
-    → IsReadFrom set bytes → IsTextFrom other text → (r : CommandRefusal) → IsNoSet asking bytes r
-    → HaveNotBoth asking set other r
-both_refused asking set other bytes text first second (refusal.Set fault) reads =
+pub both_refused : (most : ℕ) (asking : Asking) (set other : Option (List ℕ)) (bytes text : List ℕ)
+    → IsReadFrom set bytes → IsReadUpTo most other text → (r : CommandRefusal) → IsNoSet asking bytes r
+    → HaveNotBoth most asking set other r
+both_refused most asking set other bytes text first second (refusal.Set fault) reads =
     (bytes, text, first, second, reads)
-both_refused asking set other bytes text first second (refusal.Doubtful doubt) reads =
+both_refused most asking set other bytes text first second (refusal.Doubtful doubt) reads =
     (bytes, text, first, second, reads)
-both_refused asking set other bytes text first second (refusal.Chain fault) reads =
+both_refused most asking set other bytes text first second (refusal.Chain fault) reads =
     (bytes, text, first, second, reads)
-both_refused asking set other bytes text first second refusal.OutOfMemory reads = tt
-both_refused asking set other bytes text first second _ reads = absurd reads
+both_refused most asking set other bytes text first second refusal.OutOfMemory reads = tt
+both_refused most asking set other bytes text first second _ reads = absurd reads

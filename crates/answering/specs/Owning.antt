@@ -9,7 +9,7 @@ use Rattle.preferences.specs.ReadsAsked.{SaysAsked}
 use Rattle.preferences.specs.ReadsPreferred.{chosen}
 use Rattle.owners.specs.Owners.{AreOwners}
 use Rattle.owners.specs.declared.owner.Owner.{Owner}
-use Rattle.streams.specs.Inputs.{IsReadFrom, IsTextFrom}
+use Rattle.streams.specs.Inputs.{IsReadFrom, IsReadUpTo}
 use Rattle.chain_tables.specs.Chains.{ChainData, HasChains}
 
 -- bytes say a set as the call asks for it, and whose its tasks are
@@ -38,9 +38,9 @@ HasTaken asking known by U owners =
     (bytes : List ℕ) × IsReadFrom known bytes × SaysOwned asking bytes U owners
     × IsTakenBy asking bytes by
 
--- one reader has both, and the other a text
+-- one reader has both, and the other a text of at most so many bytes
 abbrev pub HaveOwned :
-    Asking → (set other : Option (List ℕ)) → Preference → List Task → List Owner → List ℕ
+    (most : ℕ) → Asking → (set other : Option (List ℕ)) → Preference → List Task → List Owner → List ℕ
     → Type 0
-HaveOwned asking set other by U owners text =
-    HasTaken asking set by U owners × IsTextFrom other text
+HaveOwned most asking set other by U owners text =
+    HasTaken asking set by U owners × IsReadUpTo most other text

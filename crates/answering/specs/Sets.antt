@@ -6,7 +6,7 @@ use Rattle.preferences.specs.ReadsAsked.{IsDoubted, IsUnchained, SaysAsked}
 use Rattle.preferences.specs.declared.asking.Asking.{Asking}
 use Rattle.preferences.specs.declared.asking.AskedFault.{AskedFault}
 use Rattle.preferences.specs.declared.asking.AskedFault.TheVariants as asked
-use Rattle.streams.specs.Inputs.{IsLongText, IsReadFrom, IsTextFrom, IsTooLong}
+use Rattle.streams.specs.Inputs.{IsLonger, IsReadFrom, IsReadUpTo, IsTooLong}
 use Rattle.streams.specs.declared.input.InputFault.TheVariants as input
 use Rattle.answering.specs.declared.refusal.CommandRefusal.{CommandRefusal}
 use Rattle.answering.specs.declared.refusal.CommandRefusal.TheVariants as refusal
@@ -46,36 +46,36 @@ HasNoSet asking known (refusal.Chain fault) =
 HasNoSet asking known refusal.OutOfMemory = Unit {0}
 HasNoSet asking known _ = ⊥
 
--- one reader has a set, and the other a text
-abbrev pub HaveBoth : Asking → (set other : Option (List ℕ)) → List Task → List ℕ → Type 0
-HaveBoth asking set other U text = HasSet asking set U × IsTextFrom other text
+-- one reader has a set, and the other a text of at most so many bytes
+abbrev pub HaveBoth : (most : ℕ) → Asking → (set other : Option (List ℕ)) → List Task → List ℕ → Type 0
+HaveBoth most asking set other U text = HasSet asking set U × IsReadUpTo most other text
 
 -- why there are not both: one of the inputs was not read, or the first fault of the set's bytes, the first doubt of the
 -- set, or the first fault of its chains, once both were read
-abbrev pub HaveNotBoth : Asking → (set other : Option (List ℕ)) → CommandRefusal → Type 0
-HaveNotBoth asking set other (refusal.Input input.TooLong) = IsTooLong set ⊎ IsLongText other
-HaveNotBoth asking set other (refusal.Input input.ReadFailed) = Unit {0}
-HaveNotBoth asking set other (refusal.Input input.OutOfMemory) = Unit {0}
-HaveNotBoth asking set other (refusal.Set fault) =
-    (bytes : List ℕ) × (text : List ℕ) × IsReadFrom set bytes × IsTextFrom other text
+abbrev pub HaveNotBoth : (most : ℕ) → Asking → (set other : Option (List ℕ)) → CommandRefusal → Type 0
+HaveNotBoth most asking set other (refusal.Input input.TooLong) = IsTooLong set ⊎ IsLonger most other
+HaveNotBoth most asking set other (refusal.Input input.ReadFailed) = Unit {0}
+HaveNotBoth most asking set other (refusal.Input input.OutOfMemory) = Unit {0}
+HaveNotBoth most asking set other (refusal.Set fault) =
+    (bytes : List ℕ) × (text : List ℕ) × IsReadFrom set bytes × IsReadUpTo most other text
     × ReadsText bytes (Err fault)
-HaveNotBoth asking set other (refusal.Doubtful doubt) =
-    (bytes : List ℕ) × (text : List ℕ) × IsReadFrom set bytes × IsTextFrom other text
+HaveNotBoth most asking set other (refusal.Doubtful doubt) =
+    (bytes : List ℕ) × (text : List ℕ) × IsReadFrom set bytes × IsReadUpTo most other text
     × IsDoubted asking bytes doubt
-HaveNotBoth asking set other (refusal.Chain fault) =
-    (bytes : List ℕ) × (text : List ℕ) × IsReadFrom set bytes × IsTextFrom other text
+HaveNotBoth most asking set other (refusal.Chain fault) =
+    (bytes : List ℕ) × (text : List ℕ) × IsReadFrom set bytes × IsReadUpTo most other text
     × IsUnchained asking bytes fault
-HaveNotBoth asking set other refusal.OutOfMemory = Unit {0}
-HaveNotBoth asking set other _ = ⊥
+HaveNotBoth most asking set other refusal.OutOfMemory = Unit {0}
+HaveNotBoth most asking set other _ = ⊥
 
 -- the answer on what two readers have, where a set and a text have such answers
 abbrev pub OnBoth :
-    {X : Type 0} → (List Task → List ℕ → Result X CommandRefusal → Type 0) → Asking
-    → (set other : Option (List ℕ))
+    {X : Type 0} → (List Task → List ℕ → Result X CommandRefusal → Type 0) → (most : ℕ)
+    → Asking → (set other : Option (List ℕ))
     → Result X CommandRefusal → Type 0
-OnBoth answers asking set other (Ok x) =
-    (U : List Task) × (text : List ℕ) × HaveBoth asking set other U text × answers U text (Ok x)
-OnBoth answers asking set other (Err r) =
-    HaveNotBoth asking set other r
-    ⊎ ((U : List Task) × (text : List ℕ) × HaveBoth asking set other U text
+OnBoth answers most asking set other (Ok x) =
+    (U : List Task) × (text : List ℕ) × HaveBoth most asking set other U text × answers U text (Ok x)
+OnBoth answers most asking set other (Err r) =
+    HaveNotBoth most asking set other r
+    ⊎ ((U : List Task) × (text : List ℕ) × HaveBoth most asking set other U text
     × answers U text (Err r))

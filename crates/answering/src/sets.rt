@@ -7,7 +7,7 @@ ghost use Rattle.chain_tables.specs.Chains.{HasChains};
 ghost use Rattle.answering.specs.Sets.{HasNoSet, HasSet, HaveNotBoth, IsNoSet, asked_refusal};
 ghost use Rattle.answering.specs.Outcomes.{AreRead, IsRead, failed_read};
 ghost use Rattle.streams.specs.Inputs.{IsLonger, IsReadUpTo};
-ghost use Rattle.streams.specs.declared.input.TheConstants.{TEXT_LIMIT};
+ghost use Rattle.streams.specs.declared.input.TheConstants.{TRACE_LIMIT};
 
 use crate::audience::{Audience, Which};
 use crate::refusal::CommandRefusal;
@@ -17,7 +17,7 @@ use owners::{Owner, read_owners};
 use preferences::{AskedFault, Asking, Preference, Strictness, read_asked};
 use std::alloc::Global;
 use std::io::Read;
-use streams::{INPUT_LIMIT, InputFault, TEXT_LIMIT, Watched, read_input};
+use streams::{INPUT_LIMIT, InputFault, Watched, read_input};
 use task_sheet::TaskSet;
 
 /// A set, by what it was taken, whose its tasks are, its chains, and all that a second input has.
@@ -47,7 +47,7 @@ pub fn read_told<R: Read + Drop, P: Audience>(
     input: &mut Watched<R>,
     people: &mut P,
 ) -> Result<Vec<u8>, InputFault>
-    requires { most ≤ TEXT_LIMIT }
+    requires { most ≤ TRACE_LIMIT }
     ensures whole { IfOk result (λ bytes. IsReadUpTo most (R.remaining input.old.inner) bytes.items) }
     ensures too_long { result ≡ Err InputFault.TooLong → IsLonger most (R.remaining input.old.inner) }
     ensures read { IsRead InputFault.ReadFailed input.old input.new result }
@@ -234,7 +234,8 @@ pub fn read_owned<R: Read + Drop, P: Audience>(
     }
 }
 
-/// The set that the first reader has, as the call asks for it, whose its tasks are, its chains, and what the second has; or
+/// The set that the first reader has, as the call asks for it, whose its tasks are, its chains, and what the second has, up to so
+/// many bytes; or
 /// why there are not both, which the audience is told. Both are read before the set's bytes are, the first one first: where it
 /// is refused, nothing is read of the second.
 pub fn read_two<R: Read + Drop, S: Read + Drop, P: Audience>(
@@ -242,12 +243,14 @@ pub fn read_two<R: Read + Drop, S: Read + Drop, P: Audience>(
     asking: Asking,
     set: &mut Watched<R>,
     other: &mut Watched<S>,
+    most: usize,
     people: &mut P,
 ) -> Result<Both, CommandRefusal>
+    requires { most ≤ TRACE_LIMIT }
     ensures answer { MatchResult result
-        (λ both. HaveOwned asking (R.remaining set.old.inner)
+        (λ both. HaveOwned most asking (R.remaining set.old.inner)
         (S.remaining other.old.inner) both.by both.tasks both.owners.items both.text.items)
-        (λ r. HaveNotBoth asking (R.remaining set.old.inner) (S.remaining other.old.inner) r) }
+        (λ r. HaveNotBoth most asking (R.remaining set.old.inner) (S.remaining other.old.inner) r) }
     ensures chains { IfOk result
         (λ both. HasChained (R.remaining set.old.inner) both.tasks both.chains.items) }
     ensures read { AreRead failed_read R.remaining set.old set.new other.old other.new
@@ -256,9 +259,7 @@ pub fn read_two<R: Read + Drop, S: Read + Drop, P: Audience>(
     let bytes = read_told(alloc, Which::First, INPUT_LIMIT, set, people).map_err(
         CommandRefusal::Input,
     )?;
-    let text = read_told(alloc, Which::Second, TEXT_LIMIT, other, people).map_err(
-        CommandRefusal::Input,
-    )?;
+    let text = read_told(alloc, Which::Second, most, other, people).map_err(CommandRefusal::Input)?;
     match taken_told(alloc, asking, &bytes, people) {
         Ok(
             Taken {

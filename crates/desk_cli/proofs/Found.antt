@@ -28,6 +28,7 @@ use Rattle.desk_cli.specs.declared.of_two.Found.TheVariants.{WorstAt, ExplainedA
 use Rattle.answering.specs.declared.refusal.CommandRefusal.{CommandRefusal}
 use Rattle.answering.specs.declared.refusal.CommandRefusal.TheVariants as refusal
 use Rattle.answering.specs.declared.status.Status.{Status}
+use Rattle.streams.specs.declared.input.TheConstants.{INPUT_LIMIT}
 use Rattle.desk_cli.proofs.Refused.{two_refused}
 
 -- no text is refused as an input that was not read
@@ -54,9 +55,9 @@ never_unread _ options by owners chains U text never = never
 
 module _ (options : Options) (by : Preference) (owners : List Owner) (chains : List ChainData)
     (U : List Task) (text : List ℕ) (before after : Option (List ℕ)) (s : Status) where
-  both : (asking : Asking) (set other : Option (List ℕ)) → HaveOwned asking set other by U owners text
-      → HaveBoth asking set other U text
-  both asking set other has = ((has.0.0, has.0.1, has.0.2.set), has.1)
+  both : (most : ℕ) (asking : Asking) (set other : Option (List ℕ))
+      → HaveOwned most asking set other by U owners text → HaveBoth most asking set other U text
+  both most asking set other has = ((has.0.0, has.0.1, has.0.2.set), has.1)
 
   -- a refusal was printed
   pub refused_in : (c : OfTwo) (r : CommandRefusal) → FindsIn c options by owners chains U text (Err r)
@@ -64,35 +65,35 @@ module _ (options : Options) (by : Preference) (owners : List Owner) (chains : L
       → SaysOfBoth c options by owners chains U text before after s
   refused_in command.Simulate r why wrote is =
       elim options.by_task as (λ b. (set other : Option (List ℕ))
-      → HaveOwned (asking_of options) set other by U owners text → HasChained set U chains
+      → HaveOwned INPUT_LIMIT (asking_of options) set other by U owners text → HasChained set U chains
       → SaysSimulation b (asking_of options) set other before after s) [
-        | true ↦ λ set other has said. (Err r, (chains, inr (U, text, both _ set other has, why)), wrote, is)
-        | false ↦ λ set other has said. (Err r, inr (U, text, both _ set other has, why), wrote, is)
+        | true ↦ λ set other has said. (Err r, (chains, inr (U, text, both _ _ set other has, why)), wrote, is)
+        | false ↦ λ set other has said. (Err r, inr (U, text, both _ _ set other has, why), wrote, is)
       ]
   refused_in command.Draw r why wrote is =
       elim (chain_of options) as (λ w. IsUndrawn w options chains U text r → (set other : Option (List ℕ))
-      → HaveOwned (asking_of options) set other by U owners text → HasChained set U chains
+      → HaveOwned INPUT_LIMIT (asking_of options) set other by U owners text → HasChained set U chains
       → SaysDrawing w options (asking_of options) set other before after s) [
         | Some word ↦ λ why set other has said.
-            (Err r, (chains, inr (U, text, both _ set other has, why)), wrote, is)
-        | None ↦ λ why set other has said. (Err r, inr (U, text, both _ set other has, why), wrote, is)
+            (Err r, (chains, inr (U, text, both _ _ set other has, why)), wrote, is)
+        | None ↦ λ why set other has said. (Err r, inr (U, text, both _ _ set other has, why), wrote, is)
       ] why
   refused_in command.Diff r why wrote is =
-      λ set other has said. (Err r, (by, chains, inr (U, text, both _ set other has, why)), wrote, is)
+      λ set other has said. (Err r, (by, chains, inr (U, text, both _ _ set other has, why)), wrote, is)
   refused_in command.ExplainAt r why wrote is =
-      λ set other has said. (Err r, (chains, inr (U, text, both _ set other has, why)), wrote, is)
+      λ set other has said. (Err r, (chains, inr (U, text, both _ _ set other has, why)), wrote, is)
   refused_in command.Observe r why wrote is =
-      λ set other has said. (Err r, (chains, inr (U, text, both _ set other has, why)), wrote, is)
+      λ set other has said. (Err r, (chains, inr (U, text, both _ _ set other has, why)), wrote, is)
   refused_in command.Check r why wrote is =
-      λ set other has said. (Err r, (chains, inr (U, text, both _ set other has, why)), wrote, is)
+      λ set other has said. (Err r, (chains, inr (U, text, both _ _ set other has, why)), wrote, is)
   refused_in command.WorstAt r why wrote is =
-      λ set other has said. (Err r, (chains, inr (U, text, both _ set other has, why)), wrote, is)
+      λ set other has said. (Err r, (chains, inr (U, text, both _ _ set other has, why)), wrote, is)
   refused_in command.Judge r why wrote is =
-      λ set other has said. (Err r, (chains, inr (U, text, both _ set other has, why)), wrote, is)
+      λ set other has said. (Err r, (chains, inr (U, text, both _ _ set other has, why)), wrote, is)
   refused_in command.Keep r why wrote is =
-      λ set other has said. (Err r, (chains, inr (U, text, both _ set other has, why)), wrote, is)
+      λ set other has said. (Err r, (chains, inr (U, text, both _ _ set other has, why)), wrote, is)
   refused_in _ r why wrote is =
-      λ set other has said. (Err r, inr (U, text, both _ set other has, why), wrote, is)
+      λ set other has said. (Err r, inr (U, text, both _ _ set other has, why), wrote, is)
 
   -- what was found was printed
   said_in : (c : OfTwo) (found : Found) → FindsIn c options by owners chains U text (Ok found)
@@ -105,11 +106,11 @@ module _ (options : Options) (by : Preference) (owners : List Owner) (chains : L
   said_in command.Judge (Judged sorted node told) finds wrote is = λ set other has said. rw (← finds.0)
       (Ok (U, owners, chains, (node, told)), (by, text, has, said, finds.1), wrote, is)
   said_in command.Simulate (Simulated answer) finds wrote is =
-      λ set other has said. rw finds.0 (Ok (U, answer), (text, both _ set other has, finds.1), wrote, is)
+      λ set other has said. rw finds.0 (Ok (U, answer), (text, both _ _ set other has, finds.1), wrote, is)
   said_in command.Simulate (Reached answer told) finds wrote is = λ set other has said. rw finds.0
       (Ok (U, owners, chains, (answer, told)), (by, text, has, said, finds.1), wrote, is)
   said_in command.Draw (Drawn drawing) finds wrote is = λ set other has said.
-      rw finds.0 (Ok (U, drawing), (text, both _ set other has, finds.1), wrote, is)
+      rw finds.0 (Ok (U, drawing), (text, both _ _ set other has, finds.1), wrote, is)
   said_in command.Draw (DrawnWay drawn) finds wrote is = λ set other has said. rw finds.1
       (Ok (U, owners, chains, drawn), (by, text, has, said, finds.2), wrote, is)
   said_in command.Observe (Observed leeway sight told) finds wrote is = λ set other has said. rw (← finds.0)
@@ -123,7 +124,7 @@ module _ (options : Options) (by : Preference) (owners : List Owner) (chains : L
   said_in command.ExplainAt (ExplainedAt sorted found told) finds wrote is = λ set other has said. rw (← finds.0)
       (Ok (U, owners, chains, (found, told)), (by, text, has, said, finds.1), wrote, is)
   said_in command.DrawBeside (DrawnBeside runs) finds wrote is =
-      λ set other has said. (Ok (U, runs), (text, both _ set other has, finds), wrote, is)
+      λ set other has said. (Ok (U, runs), (text, both _ _ set other has, finds), wrote, is)
   said_in _ _ finds wrote is = absurd finds
 
   -- the same; or that memory ran out for it, which is an answer of its own

@@ -8,7 +8,7 @@ use Rattle.command_line.specs.declared.calls.OfTwo.TheVariants.{Check, Judge, Si
 use Rattle.command_line.specs.declared.calls.Options.{Options}
 use Rattle.preferences.specs.declared.asking.Asking.{Asking}
 use Rattle.task_sheet.specs.declared.prefer.Preference.TheVariants.{Weights}
-use Rattle.desk_cli.specs.Commands.{OneSays, TwoSay, first_asking}
+use Rattle.desk_cli.specs.Commands.{OneSays, TwoSay, first_asking, most_of}
 use Rattle.answering.specs.Chosen.{asking_of, chain_of, is_sorted, task_of, team_chosen}
 use Rattle.set_commands.specs.OneTask.{AnswersOfTask, SaysPart}
 use Rattle.set_commands.specs.Script.{SaysScript}
@@ -75,7 +75,7 @@ module _ (before after : Option (List ℕ)) (s : Status) (r : CommandRefusal)
   placed_refused c options known other why = one_refused c options known why
 
   pub two_refused : (c : OfTwo) (options : Options) (first second : Option (List ℕ))
-      → HaveNotBoth (first_asking c options) first second r → TwoSay c options first second before after s
+      → HaveNotBoth (most_of c) (first_asking c options) first second r → TwoSay c options first second before after s
   two_refused Simulate options first second why =
       elim options.by_task as
       (λ b. SaysSimulation b (asking_of options) first second before after s) [

@@ -26,6 +26,7 @@ use Rattle.set_commands.specs.declared.one_task.TaskPart.TheVariants as part
 use Rattle.answering.specs.declared.status.Status.{Status}
 use Rattle.answering.specs.Chosen.{asking_of, base_of, chain_of, is_sorted, room_of, task_of, team_chosen}
 use Rattle.preferences.specs.ReadsAsked.{lenient}
+use Rattle.streams.specs.declared.input.TheConstants.{INPUT_LIMIT, TRACE_LIMIT}
 use Rattle.preferences.specs.declared.asking.Asking.{Asking}
 
 -- what the writer held, what it holds then, and the status, are those of the command's answer on what a reader has, by
@@ -46,6 +47,11 @@ OneSays Play options = SaysPlayed
 abbrev pub first_asking : OfTwo → Options → Asking
 first_asking Diff options = lenient (asking_of options)
 first_asking _ options = asking_of options
+
+-- the most bytes that its second input may have
+abbrev pub most_of : OfTwo → ℕ
+most_of Observe = TRACE_LIMIT
+most_of _ = INPUT_LIMIT
 
 -- the same of a command of two inputs
 abbrev pub TwoSay :

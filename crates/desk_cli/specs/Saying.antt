@@ -7,7 +7,7 @@ use Rattle.owners.specs.declared.owner.Owner.{Owner}
 use Rattle.command_line.specs.declared.calls.OfOne.{OfOne}
 use Rattle.command_line.specs.declared.calls.OfOne.TheVariants.{Certify, Script, Play}
 use Rattle.command_line.specs.declared.calls.OfTwo.{OfTwo}
-use Rattle.desk_cli.specs.Commands.{OneSays, TwoSay, first_asking}
+use Rattle.desk_cli.specs.Commands.{OneSays, TwoSay, first_asking, most_of}
 use Rattle.answering.specs.Chosen.{asking_of}
 use Rattle.script_commands.specs.Play.{Scripts}
 use Rattle.answering.specs.Sets.{HasNoSet}
@@ -45,5 +45,5 @@ abbrev pub SaysOfBoth :
     → (before after : Option (List ℕ)) → Status → Type 0
 SaysOfBoth command options by owners chains U text before after s =
     (set other : Option (List ℕ))
-    → HaveOwned (first_asking command options) set other by U owners text → HasChained set U chains
+    → HaveOwned (most_of command) (first_asking command options) set other by U owners text → HasChained set U chains
     → TwoSay command options set other before after s

@@ -1,6 +1,7 @@
 //! The commands of a task set and a second input.
 ghost use Rattle.std.specs.Prelude.{◌≡◌, IfOk};
-ghost use Rattle.desk_cli.specs.Commands.{TwoSay, first_asking};
+ghost use Rattle.desk_cli.specs.Commands.{TwoSay, first_asking, most_of};
+ghost use Rattle.streams.specs.declared.input.TheConstants.{TRACE_LIMIT};
 ghost use Rattle.desk_cli.specs.Found.{FindsIn, IsFoundOf, PrintsFound};
 ghost use Rattle.desk_cli.specs.Saying.{SaysOfBoth};
 ghost use Rattle.answering.specs.Outcomes.{IsCarriedOutOnBoth, IsSaidOn};
@@ -19,7 +20,7 @@ use owners::Owner;
 use preferences::Asking;
 use std::alloc::Global;
 use std::io::{Read, Write};
-use streams::Watched;
+use streams::{INPUT_LIMIT, TRACE_LIMIT, Watched};
 use task_sheet::{Members, Name, TaskSet};
 use two_input_commands::{
     ChainsTold, Compared, Drawing, DrawnWay, InOrder, KeptNode, Observation, ReachedChains, Shown,
@@ -352,6 +353,17 @@ fn first_asking(command: OfTwo, options: Options<'_>) -> Asking
     }
 }
 
+// The most bytes that the second input of a command may have.
+fn most_of(command: OfTwo) -> usize
+    ensures most { result ≡ most_of command }
+    ensures fits { result ≤ TRACE_LIMIT }
+{
+    match command {
+        OfTwo::Observe => TRACE_LIMIT,
+        _ => INPUT_LIMIT,
+    }
+}
+
 /// A command of two inputs: reads a task set and a text, and prints what docs/FORMATS.md says of the command and of
 /// what the words choose, or why one of them was refused. Both are read before either is parsed, the set first.
 pub fn carry_out_on_both<R: Read + Drop, S: Read + Drop, W: Write + Drop, P: Audience>(
@@ -367,7 +379,8 @@ pub fn carry_out_on_both<R: Read + Drop, S: Read + Drop, W: Write + Drop, P: Aud
         set.old set.new other.old other.new output.old output.new result }
 {
     let asking = first_asking(command, options);
-    match read_two(alloc, asking, set, other, people) {
+    let most = most_of(command);
+    match read_two(alloc, asking, set, other, most, people) {
         Ok(both) => say_both(alloc, command, options, &both, output, people),
         Err(refusal) => refuse(refusal, output),
     }

@@ -1,7 +1,7 @@
 -- What was read of an input.
 use Rattle.std.specs.Prelude.{◌≡◌, ◌⊎◌, ℕ, ◌+◌, ◌^◌, ◌<◌, ◌≤◌, true, List, length, Option, IfSome}
 use Rattle.streams.specs.Watching.{WatchedData}
-use Rattle.streams.specs.declared.input.TheConstants.{INPUT_LIMIT, TEXT_LIMIT, TURN_LIMIT}
+use Rattle.streams.specs.declared.input.TheConstants.{INPUT_LIMIT, TURN_LIMIT}
 
 -- the bytes are all that a reader had, where it says what it has, and no more than so many
 pub record IsReadUpTo (most : ℕ) (known : Option (List ℕ)) (bytes : List ℕ) : Type 0 where
@@ -12,19 +12,12 @@ pub record IsReadUpTo (most : ℕ) (known : Option (List ℕ)) (bytes : List ℕ
 abbrev pub IsLonger : (most : ℕ) → Option (List ℕ) → Type 0
 IsLonger most known = IfSome known (λ all. most < length all)
 
--- the same of a first input
+-- the same of an input that is no trace
 abbrev pub IsReadFrom : Option (List ℕ) → List ℕ → Type 0
 IsReadFrom known bytes = IsReadUpTo INPUT_LIMIT known bytes
 
 abbrev pub IsTooLong : Option (List ℕ) → Type 0
 IsTooLong known = IsLonger INPUT_LIMIT known
-
--- and of a text beside a set
-abbrev pub IsTextFrom : Option (List ℕ) → List ℕ → Type 0
-IsTextFrom known text = IsReadUpTo TEXT_LIMIT known text
-
-abbrev pub IsLongText : Option (List ℕ) → Type 0
-IsLongText known = IsLonger TEXT_LIMIT known
 
 -- a read has failed or was interrupted
 abbrev pub IsDisturbed : {T : Type 0} → WatchedData T → Type 0

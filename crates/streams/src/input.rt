@@ -2,17 +2,17 @@
 ghost use Rattle.std.specs.Prelude.{◌≡◌, ◌≤◌, true, false, Err, IfOk};
 ghost use Rattle.std.specs.Io.KnownBytes.{IsAtEnd};
 ghost use Rattle.streams.specs.Inputs.{AreTurnsSpent, IsDisturbed, IsLonger, IsReadUpTo, IsWithinTurns};
-ghost use Rattle.streams.specs.declared.input.TheConstants.{TEXT_LIMIT};
+ghost use Rattle.streams.specs.declared.input.TheConstants.{TRACE_LIMIT};
 
 use crate::watched::{ReadFault, Watched};
 use std::alloc::Global;
 use std::io::Read;
 
-/// The most bytes that a first input has.
+/// The most bytes that an input has but a trace.
 pub const INPUT_LIMIT: usize = 16_777_216;
 
-/// The most bytes that a text beside a set has, as the trace of some hours.
-pub const TEXT_LIMIT: usize = 1_073_741_824;
+/// The most bytes that a trace has, of some hours.
+pub const TRACE_LIMIT: usize = 1_073_741_824;
 
 // The most reads that an input takes, interrupted ones among them.
 const TURN_LIMIT: usize = 2_147_483_648;
@@ -38,7 +38,7 @@ pub fn read_input<R: Read + Drop>(
     reader: &mut Watched<R>,
     most: usize,
 ) -> Result<Vec<u8>, InputFault>
-    requires { most ≤ TEXT_LIMIT }
+    requires { most ≤ TRACE_LIMIT }
     ensures whole { IfOk result (λ bytes. IsReadUpTo most (R.remaining reader.old.inner) bytes.items) }
     ensures too_long { result ≡ Err InputFault.TooLong → IsLonger most (R.remaining reader.old.inner) }
     ensures failed { result ≡ Err InputFault.ReadFailed → IsDisturbed reader.new }

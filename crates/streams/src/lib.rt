@@ -8,6 +8,6 @@ mod patient;
 mod watched;
 
 pub use held::Held;
-pub use input::{INPUT_LIMIT, InputFault, TEXT_LIMIT, read_input};
+pub use input::{INPUT_LIMIT, InputFault, TRACE_LIMIT, read_input};
 pub use outlet::Outlet;
 pub use watched::{ReadFault, Watched, WriteFailed};

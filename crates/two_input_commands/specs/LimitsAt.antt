@@ -21,6 +21,7 @@ use Rattle.owners.specs.declared.owner.Owner.{Owner}
 use Rattle.task_sheet.specs.declared.prefer.Preference.{Preference}
 use Rattle.preferences.specs.declared.asking.Asking.{Asking}
 use Rattle.two_input_commands.specs.OnBoth.{OfTwoSays}
+use Rattle.streams.specs.declared.input.TheConstants.{INPUT_LIMIT}
 use Rattle.two_input_commands.specs.declared.in_order.InOrder.{InOrder}
 use Rattle.answering.specs.declared.refusal.CommandRefusal.{CommandRefusal}
 
@@ -82,9 +83,9 @@ abbrev pub AnswersLimitsAt : Option (List ℕ) → Asking → (set other : Optio
     → Result (List Task × List Owner × InOrder) CommandRefusal → Type 0
 AnswersLimitsAt word asking set other (Ok found) =
     (by : Preference) × (text : List ℕ) × (chains : List ChainData)
-    × HaveOwned asking set other by found.0 found.1 text × HasChained set found.0 chains
+    × HaveOwned INPUT_LIMIT asking set other by found.0 found.1 text × HasChained set found.0 chains
     × LimitsText word found.1 chains found.0 text (Ok found.2)
-AnswersLimitsAt word asking set other (Err r) = OnBoth (AsksIn word) asking set other (Err r)
+AnswersLimitsAt word asking set other (Err r) = OnBoth (AsksIn word) INPUT_LIMIT asking set other (Err r)
 
 -- the answer on what the readers had is printed after what the writer held, and the status is the answer's
 abbrev pub SaysLimitsAt : Option (List ℕ) → OfTwoSays

@@ -33,7 +33,8 @@ use Rattle.answering.specs.OutcomeLines.{infeasible_line}
 use Rattle.chain_tables.specs.Chains.{ChainData}
 use Rattle.chain_traces.specs.TraceChainLines.{AreSeen}
 use Rattle.chain_traces.specs.declared.text.ChainsSeen.{ChainsSeen}
-use Rattle.two_input_commands.specs.OnBoth.{OfTwoSays, SaysOnBothChained}
+use Rattle.two_input_commands.specs.OnBoth.{OfTwoSays, SaysOnBothUpTo}
+use Rattle.streams.specs.declared.input.TheConstants.{TRACE_LIMIT}
 use Rattle.two_input_commands.specs.Simulate.{IsListedOrder, order_fault}
 use Rattle.two_input_commands.specs.declared.observe_lines.Observation.{Observation}
 use Rattle.two_input_commands.specs.declared.observe_lines.Observation.TheVariants.{Best, Ordered, Missed}
@@ -199,5 +200,5 @@ observation_status leeway (Missed node) told = judged_status node.judged.items
 -- the answer on what the readers had is printed after what the writer held, and the status is the answer's
 abbrev pub SaysObserved : Leeway → OfTwoSays
 SaysObserved leeway =
-    SaysOnBothChained (WatchesText leeway) (λ owners U found. observation_said leeway U found.0 found.1)
+    SaysOnBothUpTo TRACE_LIMIT (WatchesText leeway) (λ owners U found. observation_said leeway U found.0 found.1)
     (λ found. observation_status leeway found.0 found.1)

@@ -1,5 +1,5 @@
 use Rattle.std.proofs.Common.{ℕ, List, Result, MatchResult, rules, subst}
-use Rattle.streams.specs.Inputs.{IsReadFrom, IsTextFrom}
+use Rattle.streams.specs.Inputs.{IsReadFrom, IsReadUpTo}
 use Rattle.chain_tables.specs.Chains.{HasChains}
 use Rattle.preferences.specs.declared.asking.Asking.{Asking}
 use Rattle.answering.specs.Owning.{IsTakenBy, SaysOwned}
@@ -23,11 +23,11 @@ returns-clause-answer g c =
     let bytes : List ℕ = c.in_ok-bytes.bytes.items in
     let text : List ℕ = c.in_ok-text.text.items in
     let first : IsReadFrom set bytes = search rules in
-    let second : IsTextFrom other text = search rules in
+    let second : IsReadUpTo c.args.most other text = search rules in
     let reads : SaysOrRefuses c.args.asking bytes c.taken_told.result =
     subst (λ (bs : List ℕ). SaysOrRefuses c.args.asking bs c.taken_told.result)
     c.deref.ensures.value c.taken_told.ensures in
-    search (rules, both_refused c.args.asking set other bytes text first second)
+    search (rules, both_refused c.args.most c.args.asking set other bytes text first second)
 
 pub returns-clause-chains : goal.returns-clause-chains
 returns-clause-chains g c =
