@@ -234,10 +234,9 @@ pub fn read_owned<R: Read + Drop, P: Audience>(
     }
 }
 
-/// The set that the first reader has, as the call asks for it, whose its tasks are, its chains, and what the second has, up to so
-/// many bytes; or
-/// why there are not both, which the audience is told. Both are read before the set's bytes are, the first one first: where it
-/// is refused, nothing is read of the second.
+/// The set that the first reader has, as the call asks for it, whose its tasks are, its chains, and what the second has, up
+/// to so many bytes; or why there are not both, which the audience is told. Both are read before the set's bytes are, the
+/// first one first: where it is refused, nothing is read of the second.
 pub fn read_two<R: Read + Drop, S: Read + Drop, P: Audience>(
     alloc: Global,
     asking: Asking,
