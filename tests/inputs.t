@@ -280,8 +280,8 @@ Standard error isn't needed where the words are right:
 A trace of some hours has up to 1,073,741,824:
 
   $ desk observe $node longer --jobless
-  task lo 0 0 6000 - 100000 - 14000
-  task hi 0 0 4000 - 5000 - 4500
+  task lo 0 0 10000 - 50000 - 14000
+  task hi 0 0 2000 - 10000 - 4500
   $ truncate -s 1073741825 hours
   $ desk observe $node hours
   refused: InputTooLong
