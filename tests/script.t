@@ -68,6 +68,21 @@ by its timer, which aren't in its cost:
   $ { printf '[[interrupt]]\nperiod = 100\ncost = 0\n'; cat examples/jitter.toml; } | desk script - 1 | sed -n 2p
   put 1 a 0 7000 7000 3000 j=1000 irq=100:0
 
+With a preference another task is the first, and no interrupt is lost:
+
+  $ preferred() { printf '[[task]]\nname = "%s"\nperiod = %s\ndeadline = %s\ncost = 900\n' $1 $2 $2; }
+  $ { printf 'prefer = "deadline"\n[[interrupt]]\nperiod = 1000\ncost = 500\n'; preferred a 2000; preferred b 4000; } > preferred.toml
+  $ desk admit preferred.toml
+  infeasible b a
+  [3]
+  $ desk script preferred.toml
+  open 1
+  put 1 b 0 4000 4000 900 irq=1000:500
+  put 1 a 1 2000 2000 900
+  commit 1
+  $ desk script preferred.toml | desk play - | grep infeasible
+  infeasible b a
+
 The empty set:
 
   $ desk script examples/empty-set.toml 1

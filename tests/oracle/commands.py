@@ -451,7 +451,7 @@ def script(tasks, team=None):
 def accounted(tasks):
     """The tasks, each with the interrupts that its team says, if it is the first of it; the first of all with those of a document
     without tasks, too."""
-    said, own = (tasks[0].interrupts if tasks else ()), [[] for _ in tasks]
+    said, own = [it for task in tasks for it in task.interrupts], [[] for _ in tasks]
     for interrupt, (team, _) in zip(said, tasks.sources):
         place = next((k for k, task in enumerate(tasks) if team is not None and tasks.owners.get(task.name) == team), 0)
         own[place].append(interrupt)

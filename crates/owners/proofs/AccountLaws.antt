@@ -1,16 +1,17 @@
 -- Interrupts that are moved to other accounts.
-use Rattle.std.proofs.Common.{◌≡◌, ◌≢◌, ◌∙◌, ℕ, zero, suc, ◌+◌, ◌*◌, ◌<◌, ◌≤◌, ◌==◌, Bool, true, false, List, [], ◌∷◌, ◌++◌, length, refl, sym, ap, arith, inl, inr, Option, Some, None, position, unwrap_or, if◌then◌else◌}
+use Rattle.std.proofs.Common.{◌≡◌, ◌≢◌, ◌∙◌, ℕ, zero, suc, ◌+◌, ◌*◌, ◌<◌, ◌≤◌, ◌==◌, nat_lt, Bool, true, false, List, [], ◌∷◌, ◌++◌, length, refl, sym, ap, arith, inl, inr, Option, Some, None, position, unwrap_or, if◌then◌else◌}
 use Rattle.std.specs.List.{All, sum_by}
 use Rattle.std.proofs.lemmas.Bool.{eq-eqb, ne_eqb}
 use Rattle.std.proofs.lemmas.List.Elements.{All-cons, All-head, All-tail}
 use Rattle.std.proofs.lemmas.List.Quantifiers.{position-Some}
-use Rattle.std.proofs.lemmas.List.Sums.{sum_by-cons}
+use Rattle.std.proofs.lemmas.List.Sums.{sum_by-cons, sum_by-append}
 use Rattle.task_sheet.specs.declared.node.Interrupt.{Interrupt}
 use Rattle.task_sheet.specs.Sheet.{Task, AreInterrupts, IsInterrupt, interrupted, no_task, task_at}
 use Rattle.task_sheet.specs.Demand.{interrupt_within, interrupts_of, interrupts_within, releases_within}
 use Rattle.task_sheet.specs.Indexes.{sum_below}
 use Rattle.task_sheet.proofs.Below.{sum_below-both, sum_below-fits, sum_below-one, sum_below-same}
-use Rattle.owners.specs.Accounts.{AccountsKeepTime, AreOnFirst, account_by, account_of, accounted, accounted_from, first_interrupts, own_from, own_if}
+use Rattle.owners.specs.Accounts.{AccountsKeepTime, account_by, account_of, accounted_from, interrupts_on, own_from, own_if}
+use Rattle.task_sheet.specs.declared.node.TheConstants.{INTERRUPT_LIMIT}
 use Rattle.owners.specs.Owners.{has_task, interrupt_team}
 use Rattle.owners.specs.declared.owner.Owner.{Owner}
 
@@ -104,21 +105,32 @@ module _ (owners : List Owner) (U : List Task) where
             rw is (sum_by-cons f x (own_from owners U (account_of owners U place) (place + 1) xs))
 
 -- ---- all
-first-at : (U : List Task) → (task_at U 0).interrupts ≡ first_interrupts U
-first-at [] = refl
-first-at (t ∷ U) = refl
+-- the first of what is summed, and the rest
+sum-first : (n : ℕ) (g : ℕ → ℕ) → sum_below (suc n) g ≡ g 0 + sum_below n (λ k. g (suc k))
+sum-first zero g = omega arith
+sum-first (suc n) g = omega (arith, sum-first n g)
+
+-- what the interrupts of all tasks come to
+on-sum : (f : Interrupt → ℕ) (U : List Task)
+    → sum_below (length U) (λ k. sum_by f (task_at U k).interrupts) ≡ sum_by f (interrupts_on U)
+on-sum f [] = refl
+on-sum f (t ∷ U) = omega (
+  arith,
+  sum-first (length U) (λ k. sum_by f (task_at (t ∷ U) k).interrupts),
+  on-sum f U,
+  sum_by-append f t.interrupts (interrupts_on U),
+)
 
 -- what a task takes beside its interrupts, and what these take
 abbrev own-time : (time : ℕ) (t : Task) → ℕ
 own-time time t = releases_within t time * t.node.release
 
-pub keep_law : AccountsKeepTime
+moved_law : (owners : List Owner) (U : List Task) (time : ℕ) → 0 < length U
+    → interrupts_within (accounted_from owners U (interrupts_on U) 0 U) time ≡ interrupts_within U time
 unfolding interrupts_within
-keep_law owners [] time on_first = refl
-keep_law owners (t ∷ ts) time on_first =
-    let U : List Task = t ∷ ts in
-    let xs : List Interrupt = t.interrupts in
-    let V : List Task = accounted owners U in
+moved_law owners U time some =
+    let xs : List Interrupt = interrupts_on U in
+    let V : List Task = accounted_from owners U xs 0 U in
     let f : Interrupt → ℕ = interrupt_within time in
     let n : ℕ = length U in
     let own : ℕ → ℕ = λ k. own-time time (task_at U k) in
@@ -130,21 +142,25 @@ keep_law owners (t ∷ ts) time on_first =
     let now : sum_below n (λ k. interrupts_of time (task_at V k)) ≡ sum_below n (λ k. own k + moved k) =
     sum_below-same n (λ k. interrupts_of time (task_at V k)) (λ k. own k + moved k)
     (λ k lt. ap (interrupts_of time) (at k lt)) in
-    let was : sum_below n (λ k. sum_by f (task_at U k).interrupts) ≡ sum_by f xs = omega (
-      arith,
-      sum_below-one n (λ k. sum_by f (task_at U k).interrupts) (λ k. 0) 0 (omega arith)
-          (λ k lt ne. ap (sum_by f) (on_first k (omega (arith, ne)))),
-      sum_below-fits n 0 (λ k. 0) (λ k lt. omega arith),
-    ) in
     ap (λ m. sum_below m (λ k. interrupts_of time (task_at V k))) count
     ∙ omega (
       arith,
       now,
-      was,
+      on-sum f U,
       sum_below-both n own moved,
       sum_below-both n own (λ k. sum_by f (task_at U k).interrupts),
-      spread owners U f (omega arith) 0 xs,
+      spread owners U f some 0 xs,
     )
+
+pub keep_law : AccountsKeepTime
+keep_law owners [] time = refl
+keep_law owners (t ∷ ts) time = by (nat_lt INTERRUPT_LIMIT (length (interrupts_on (t ∷ ts))))
+  where
+    by : (many : Bool) → interrupts_within (if many then t ∷ ts
+        else accounted_from owners (t ∷ ts) (interrupts_on (t ∷ ts)) 0 (t ∷ ts)) time
+        ≡ interrupts_within (t ∷ ts) time
+    by true = refl
+    by false = moved_law owners (t ∷ ts) time (omega arith)
 
 pub own_limits : (owners : List Owner) (U : List Task) (task : ℕ) (xs : List Interrupt)
     → AreInterrupts xs → AreInterrupts (own_from owners U task 0 xs)

@@ -1,7 +1,8 @@
 -- Interrupts on the accounts of the teams that say them.
-use Rattle.std.specs.Prelude.{◌≡◌, ℕ, ◌+◌, ◌≤◌, ◌==◌, Bool, true, false, List, [], ◌∷◌, ◌++◌, position, Option, Some, None, unwrap_or}
+use Rattle.std.specs.Prelude.{◌≡◌, ℕ, ◌+◌, ◌==◌, nat_lt, Bool, true, false, List, [], ◌∷◌, ◌++◌, flat_map, length, position, Option, Some, None, unwrap_or, if◌then◌else◌}
+use Rattle.task_sheet.specs.declared.node.TheConstants.{INTERRUPT_LIMIT}
 use Rattle.task_sheet.specs.declared.node.Interrupt.{Interrupt}
-use Rattle.task_sheet.specs.Sheet.{Task, interrupted, task_at}
+use Rattle.task_sheet.specs.Sheet.{Task, interrupted}
 use Rattle.task_sheet.specs.Demand.{interrupts_within}
 use Rattle.owners.specs.Owners.{has_task, interrupt_team}
 use Rattle.owners.specs.declared.owner.Owner.{Owner}
@@ -32,21 +33,18 @@ accounted_from owners U xs task [] = []
 accounted_from owners U xs task (t ∷ ts) =
     interrupted t (own_from owners U task 0 xs) ∷ accounted_from owners U xs (task + 1) ts
 
--- the interrupts on the account of the first task
-abbrev pub first_interrupts : List Task → List Interrupt
-first_interrupts [] = []
-first_interrupts (t ∷ U) = t.interrupts
+-- the interrupts on the accounts of tasks: of a set that is read all are on that of one, the first before it was preferred
+abbrev pub interrupts_on : List Task → List Interrupt
+interrupts_on U = flat_map (λ t. t.interrupts) U
 
--- the tasks of a set, its interrupts, which stand on the account of the first task, on those of their teams
+-- the tasks of a set, its interrupts on the accounts of their teams; as they are where these are more than one task may have
 abbrev pub accounted : List Owner → List Task → List Task
-accounted owners U = accounted_from owners U (first_interrupts U) 0 U
-
--- only the first task of a set has interrupts on its account
-abbrev pub AreOnFirst : List Task → Type 0
-AreOnFirst U = (k : ℕ) → 1 ≤ k → (task_at U k).interrupts ≡ []
+accounted owners U =
+    if nat_lt INTERRUPT_LIMIT (length (interrupts_on U)) then U
+    else accounted_from owners U (interrupts_on U) 0 U
 
 -- whose account they are on changes nothing of what they take
 abbrev pub AccountsKeepTime : Type 0
 AccountsKeepTime =
-    (owners : List Owner) (U : List Task) (time : ℕ) → AreOnFirst U
+    (owners : List Owner) (U : List Task) (time : ℕ)
     → interrupts_within (accounted owners U) time ≡ interrupts_within U time

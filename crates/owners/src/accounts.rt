@@ -1,13 +1,14 @@
 //! Interrupts on the accounts of the teams that say them.
 ghost use Rattle.std.specs.Prelude.{◌≡◌, ◌++◌, IfOk, OnOk, position};
-ghost use Rattle.task_sheet.specs.Sheet.{AreInterrupts};
-ghost use Rattle.owners.specs.Accounts.{account_by, account_of, accounted, first_interrupts, own_from, own_if};
+ghost use Rattle.std.specs.List.{All};
+ghost use Rattle.task_sheet.specs.Sheet.{IsInterrupt};
+ghost use Rattle.owners.specs.Accounts.{account_by, account_of, accounted, interrupts_on, own_from, own_if};
 ghost use Rattle.owners.specs.Owners.{has_task};
 
 use crate::owner::{Owner, interrupt_team};
-use crate::parts::has_task;
+use crate::parts::{copies_of, has_task};
 use std::alloc::{AllocError, Global};
-use task_sheet::{Interrupt, Name, Sheet};
+use task_sheet::{INTERRUPT_LIMIT, Interrupt, Name, Sheet};
 
 // The first of a team's tasks.
 fn first_of(owners: &[Owner], team: Name, sheets: &[Sheet]) -> Option<usize>
@@ -63,20 +64,21 @@ fn own_interrupts(
     Ok(own)
 }
 
-// The interrupts on the account of the first of some tasks.
-fn first_interrupts(sheets: &[Sheet]) -> &[Interrupt]
-    ensures same { result.now ≡ first_interrupts sheets.now }
-    ensures limits { AreInterrupts result.now }
+// The interrupts on the accounts of tasks.
+fn interrupts_on(alloc: Global, sheets: &[Sheet]) -> Result<Vec<Interrupt>, AllocError>
+    ensures all { IfOk result (λ all. all.items ≡ interrupts_on sheets.now) }
+    ensures valid { IfOk result (λ all. All IsInterrupt all.items) }
 {
-    match sheets.first() {
-        Some(first) => first.interrupts(),
-        None => &[],
+    let mut all = Vec::new(alloc);
+    for sheet in sheets {
+        all.extend_from_slice(sheet.interrupts())?;
     }
+    Ok(all)
 }
 
-/// The tasks of a set, each of its interrupts, which stand on the account of its first task, on that of the first task of the
-/// team that says it; where that has none, on the same. The error is out of memory.
-#[tactic(auto, using(crate::proofs::AccountLaws::own_limits))]
+/// The tasks of a set, each of its interrupts on the account of the first task of the team that says it; where that has none,
+/// of the first of all. They are as they were where these are more interrupts than a task may have, as none are that a set's
+/// documents say. The error is out of memory.
 pub(crate) fn accounted(
     alloc: Global,
     owners: &[Owner],
@@ -84,10 +86,13 @@ pub(crate) fn accounted(
 ) -> Result<Vec<Sheet>, AllocError>
     ensures { IfOk result (λ all. all.items ≡ accounted owners.now sheets.now) }
 {
-    let said = first_interrupts(sheets);
+    let said = interrupts_on(alloc, sheets)?;
+    if said.len() > INTERRUPT_LIMIT {
+        return copies_of(alloc, sheets);
+    }
     let mut all = Vec::new(alloc);
     for (task, sheet) in sheets.iter().enumerate() {
-        let own = own_interrupts(alloc, owners, sheets, task, said)?;
+        let own = own_interrupts(alloc, owners, sheets, task, &said)?;
         all.push(sheet.copy(alloc)?.interrupted(own))?;
     }
     Ok(all)

@@ -86,8 +86,8 @@ fn others_of(
     Ok(others)
 }
 
-// The tasks again.
-fn copies_of(alloc: Global, sheets: &[Sheet]) -> Result<Vec<Sheet>, AllocError>
+/// The tasks again. The error is out of memory.
+pub(crate) fn copies_of(alloc: Global, sheets: &[Sheet]) -> Result<Vec<Sheet>, AllocError>
     ensures { IfOk result (λ copies. copies.items ≡ sheets.now) }
 {
     let mut copies = Vec::new(alloc);
