@@ -11,7 +11,7 @@ pub fn of_trace(alloc: Global, bytes: &[u8], fault: TraceFault) -> Option<String
     match fault {
         TraceFault::BadLine { line } => {
             let wanted =
-                " has to be START STOP NAME, which stops after it starts, or job NAME ARRIVAL FINISH, with - for no finish";
+                " has to be START STOP NAME [@P], rising, or job NAME ARRIVAL FINISH [READY], READY in between, - for no finish";
             tell_bad_line(&mut told, bytes, line, wanted);
         }
         TraceFault::SliceOverlap { line } => {
