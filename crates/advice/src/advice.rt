@@ -40,7 +40,7 @@ pub struct Advice<'a, W: Write + Drop> {
     // Whether there was a run, and whether the new set has timers or interrupts, which its run lacks.
     has_run: bool,
     lacks_in_new: bool,
-    // The set of a call that runs a list or checks a certificate, for what these break.
+    // The set of a call that runs a list or checks a certificate, for what these break, or that asks for the densest list.
     set: Option<TaskSet>,
     // The chains of a set whose certificate a call checks.
     chains: Vec<Chain>,
@@ -429,10 +429,7 @@ impl<'a, W: Write + Drop> Audience for Advice<'a, W> {
 
     fn preferred(&mut self, set: &TaskSet, choice: Choice) {
         self.no_task = no_task_of(self.alloc, set, self.call);
-        if asks_densest(self.call) {
-            self.greatest_until = Some(greatest_until(set));
-        }
-        if is_run(self.call) || is_check(self.call) {
+        if is_run(self.call) || is_check(self.call) || asks_densest(self.call) {
             self.set = set.copy(self.alloc).ok();
         }
         match (choice.call, choice.own) {
@@ -446,6 +443,12 @@ impl<'a, W: Write + Drop> Audience for Advice<'a, W> {
 
     fn chained(&mut self, chains: &[Chain]) {
         self.has_chains = !chains.is_empty();
+        if asks_densest(self.call) {
+            self.greatest_until = match &self.set {
+                Some(set) => Some(greatest_until(set, chains)),
+                None => None,
+            };
+        }
         if is_check(self.call) {
             if let Ok(copies) = copy_chains(self.alloc, chains) {
                 self.chains = copies;
