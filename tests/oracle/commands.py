@@ -697,6 +697,10 @@ def notes_of(call, tasks, others, text, status):
     command = next((name for name in COMMANDS if COMMANDS[name] is call.command), "keep" if call.command is KEEP else "")
     if command == "keep":
         return strange_threads(tasks, others[0]) + parted(text) + chain_missed(text, status)
+    if call.command is LIMITS_AT:
+        return uncounted(tasks)
+    if command == "limits":
+        return uncounted(tasks) + (names_decide(call, tasks) if text.startswith("admitted ") else [])
     if command in OF_THE_ORDER:
         if status != INFEASIBLE or text.startswith(("admitted ", "thread ")):
             return names_decide(call, tasks) + chain_missed(text, status)
@@ -793,6 +797,12 @@ def parted(text):
         return []
     _, low, high = text.split()
     return [f"with {high} above {low}, and those below as they are, no order passes: without the line of one it may move"]
+
+
+def uncounted(tasks):
+    """Beside how far numbers may go."""
+    has_offsets = any(it.offsets for it in tasks.chains)
+    return ["offsets don't count here: with another period a chain's may be refused"] * has_offsets
 
 
 def chain_beside(text):

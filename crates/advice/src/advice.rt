@@ -13,8 +13,9 @@ use preferences::Choice;
 use sentences::{
     greatest_until, leaves_out, of_chain, of_neither, of_task, of_tasks, push_clean,
     put_chain_missed, put_chains_left_out, put_conflict, put_empty, put_left_out, put_names_decide,
-    put_notes, put_one_overran, put_overload, put_overran, put_override, put_parted,
-    put_past_priorities, put_strange_threads, put_strangers, put_unrun, put_unrun_of, put_unseen,
+    put_notes, put_offsets_uncounted, put_one_overran, put_overload, put_overran, put_override,
+    put_parted, put_past_priorities, put_strange_threads, put_strangers, put_unrun, put_unrun_of,
+    put_unseen,
 };
 use std::alloc::{AllocError, Global};
 use std::io::Write;
@@ -34,8 +35,9 @@ pub struct Advice<'a, W: Write + Drop> {
     no_task: Option<String>,
     // Whether nobody says by what the set is preferred.
     is_unpreferred: bool,
-    // Whether the set has chains, and whether the answer is of an order that passes.
+    // Whether the set has chains, some of them with offsets, and whether the answer is of an order that passes.
     has_chains: bool,
+    has_offsets: bool,
     has_order: bool,
     // Whether there was a run, and whether the new set has timers or interrupts, which its run lacks.
     has_run: bool,
@@ -113,6 +115,15 @@ fn is_script(call: Call<'_>) -> bool {
             OfOne::Limits | OfOne::Explain | OfOne::Worst | OfOne::Certify => false,
         },
         _ => false,
+    }
+}
+
+// Whether a call asks how far numbers may go.
+fn asks_limits(call: Call<'_>) -> bool {
+    match call {
+        Call::One { command, .. } => matches!(command, OfOne::Limits),
+        Call::Two { command, .. } => matches!(command, OfTwo::LimitsAt),
+        Call::Number { .. } => false,
     }
 }
 
@@ -289,6 +300,7 @@ impl<'a, W: Write + Drop> Advice<'a, W> {
             no_task: None,
             is_unpreferred: false,
             has_chains: false,
+            has_offsets: false,
             has_order: false,
             has_run: false,
             lacks_in_new: false,
@@ -316,6 +328,9 @@ impl<'a, W: Write + Drop> Advice<'a, W> {
         self.put_oddities(set)?;
         if self.has_chains && is_script(self.call) {
             put_chains_left_out(&mut self.errors)?;
+        }
+        if self.has_offsets && asks_limits(self.call) {
+            put_offsets_uncounted(&mut self.errors)?;
         }
         match options_of(self.call).base {
             Some(_) => put_past_priorities(base_of(options_of(self.call)), set, &mut self.errors),
@@ -443,6 +458,7 @@ impl<'a, W: Write + Drop> Audience for Advice<'a, W> {
 
     fn chained(&mut self, chains: &[Chain]) {
         self.has_chains = !chains.is_empty();
+        self.has_offsets = chains.iter().any(|chain| !chain.offsets.is_empty());
         if asks_densest(self.call) {
             self.greatest_until = match &self.set {
                 Some(set) => Some(greatest_until(set, chains)),
