@@ -95,6 +95,7 @@ How far numbers may go with the chain met, and what a change of offsets does:
   $ sed 's/45000/31500/' clock.toml | desk limits --task plan - | grep chain
   chain steer plan cost 6000 6800
   chain steer plan jitter 0 1900
+  (on standard error) note: offsets don't count here: with another period a chain's may be refused
   $ desk diff examples/steer.toml clock.toml
   admitted 4
   was admitted 4
