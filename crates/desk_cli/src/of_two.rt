@@ -1,5 +1,5 @@
 //! The commands of a task set and a second input.
-ghost use Rattle.std.specs.Prelude.{◌≡◌, IfOk};
+ghost use Rattle.std.specs.Prelude.{◌≡◌, ◌≤◌, IfOk};
 ghost use Rattle.desk_cli.specs.Commands.{TwoSay, first_asking, most_of};
 ghost use Rattle.streams.specs.declared.input.TheConstants.{TRACE_LIMIT};
 ghost use Rattle.desk_cli.specs.Found.{FindsIn, IsFoundOf, PrintsFound};
