@@ -1,3 +1,1 @@
 pub mod AtLaws
-pub mod LatestAt
-pub mod SlowLaws

@@ -3,15 +3,15 @@
 #![tactic(auto)]
 
 ghost use Rattle.std.specs.Prelude.{◌<◌, length};
+ghost use Rattle.task_sheet.specs.Orders.{IsOrder};
+ghost use Rattle.factor.specs.Factors.{AnswersFactorOf};
 ghost use Rattle.factor.specs.Failing.{AnswersFactor};
 
-mod in_order;
 pub mod laws;
 mod most;
 
-pub use crate::in_order::factor_in_order;
 use crate::most::{FACTOR_END, most_below};
-use assignment::latest;
+use assignment::{latest, least_over, members_of};
 use ceilings::Tabled;
 use task_sheet::Members;
 
@@ -49,4 +49,27 @@ pub fn factor(set: &Tabled<'_>) -> Option<Slowdown>
         return None;
     }
     Some(found)
+}
+
+/// The greatest factor, in thousandths and at least 1, with which an order of the set passes as it stands, whether it does
+/// without or not; none where no factor helps. The set has a task.
+pub fn factor_in_order(set: &Tabled<'_>, order: &[usize]) -> Option<u64>
+    requires some { 0 < length set.now }
+    requires each { IsOrder set.now order.now }
+    ensures { AnswersFactorOf set.now order.now result }
+{
+    // The set is valid: the proof has it from its sheets.
+    let _ = set.sheets();
+    let mut most = FACTOR_END;
+    for (place, low) in order.iter().enumerate() {
+        let above = members_of(&order[place + 1..]);
+        match least_over(set, *low, above) {
+            Some(_) => return None,
+            None => most = most_below(set, *low, above, most),
+        }
+    }
+    if most == 0 {
+        return None;
+    }
+    Some(most)
 }

@@ -1,5 +1,5 @@
 //! How far execution may slow down before a task fails.
-ghost use Rattle.std.specs.Prelude.{◌+◌, ◌*◌, ◌≤◌, ◌<◌, length};
+ghost use Rattle.std.specs.Prelude.{◌+◌, ◌*◌, ◌≤◌, ◌<◌, ◌↔◌, ℕ, length};
 ghost use Rattle.task_sheet.specs.TaskSet.{IsTaskSet};
 ghost use Rattle.task_sheet.specs.declared.sheet.TheConstants.{PERIOD_TO};
 ghost use Rattle.task_sheet.specs.Indexes.{indexes_of};
@@ -27,10 +27,7 @@ fn covered(time: u64, need: u64) -> u64
 /// The greatest factor up to `cap` at which a task passes with these above it.
 pub(crate) fn most_below(set: &Tabled<'_>, task: usize, above: Members, cap: u64) -> u64
     requires { task < length set.now }
-    ensures within { result ≤ cap }
-    ensures passes { PassesAt result set.now task (indexes_of above) }
-    ensures greatest { result < cap → ¬ PassesAt (result + 1) set.now task (indexes_of above) }
-    ensures short { result < FACTOR_END }
+    ensures decides { (f : ℕ) → (f ≤ result) ↔ (f ≤ cap) × PassesAt f set.now task (indexes_of above) }
     ensures kept { IsTaskSet set.now }
 {
     let limit = set.sheets()[task].limit();

@@ -3,19 +3,19 @@ ghost use Rattle.std.specs.Prelude.{◌↔◌, IfSome, IsTrue, option_map};
 ghost use Rattle.task_sheet.specs.Orders.{IsOrder, IsPassingOrder};
 ghost use Rattle.limits.specs.InOrder.{PassesIn};
 
-use assignment::{is_feasible, least_over};
+use assignment::{is_feasible, least_over, members_of};
 use ceilings::Tabled;
 use response_time::passes;
-use task_sheet::Members;
 
 /// Whether an order of the set passes as it stands.
 pub fn order_passes(set: &Tabled<'_>, order: &[usize]) -> bool
     requires { IsOrder set.now order.now }
     ensures { IsTrue result ↔ IsPassingOrder set.now order.now }
 {
-    let mut above = Members::all(set.len());
-    for low in order {
-        above = above.without(*low);
+    // The set is valid: the proof has it from its sheets.
+    let _ = set.sheets();
+    for (place, low) in order.iter().enumerate() {
+        let above = members_of(&order[place + 1..]);
         if least_over(set, *low, above).is_some() || !passes(set, *low, above) {
             return false;
         }

@@ -1,23 +1,44 @@
 -- A walk along a given order of a set.
-use Rattle.std.proofs.Common.{◌≡◌, ℕ, zero, suc, ◌+◌, ◌<◌, true, List, [], ◌∷◌, length, get_or}
-use Rattle.std.proofs.Common.{drop, sym, ◌∙◌, ap, subst}
+use Rattle.std.proofs.Common.{◌≡◌, ◌↔◌, ℕ, ◌+◌, ◌-◌, ◌<◌, true, List, ◌∷◌, length, get_or, All}
+use Rattle.std.proofs.Common.{drop, take, sym, ◌∙◌, ap, subst, arith}
 use Rattle.std.specs.Ordering.{nat_cmp}
 use Rattle.std.specs.FinSet as members
 use Rattle.std.proofs.lemmas.Bool.{ltb-true}
-use Rattle.std.proofs.lemmas.List.{drop_more}
-use Rattle.task_sheet.proofs.Common.{Task, Indexes, indexes_of, among, without_index, IsPart, all_of, Stands}
-use Rattle.task_sheet.proofs.Common.{IsOrderOf, AllStand}
-use Rattle.task_sheet.proofs.IndexLaws.{without-part_of}
+use Rattle.std.proofs.lemmas.Grind.{common_steps}
+use Rattle.std.proofs.lemmas.List.{drop_more, get_or_default}
+use Rattle.std.proofs.lemmas.List.Elements.{All-drop}
+use Rattle.task_sheet.proofs.Common.{Task, Indexes, indexes_of, among, without_index, IsPart, all_of}
+use Rattle.task_sheet.proofs.Common.{IsOrderOf, IsOrder}
+use Rattle.task_sheet.proofs.IndexLaws.{without-part_of, place-among}
 use Rattle.task_sheet.proofs.IndexLaws.{IsOrderOf-among, IsOrderOf-head, IsOrderOf-rest}
 use Rattle.task_sheet.proofs.MembersIndexes.{indexes_of-remove}
+use Rattle.latest_first.specs.Tested.{StandsBy, AllStandBy}
 
--- ---- the end of an order
-AllStand-drop : (U : List Task) (order : List ℕ) (n : ℕ) → AllStand U order
-    → AllStand U (drop n order)
-AllStand-drop U [] zero all = all
-AllStand-drop U [] (suc n) all = all
-AllStand-drop U (i ∷ above) zero all = all
-AllStand-drop U (i ∷ above) (suc n) all = AllStand-drop U above n all.1
+-- ---- an order place by place
+slice-rest : (order : List ℕ) (n : ℕ) → n < length order
+    → take (length order - (n + 1)) (drop (n + 1) order) ≡ drop (n + 1) order
+slice-rest order n lt = grind (arith, common_steps)
+
+module _ (U : List Task) (order : List ℕ) (each : IsOrder U order) where
+  pub place-inside : (n : ℕ) → n < length order → get_or order n 0 < length U
+  place-inside n lt = ltb-true _ (length U) (sym (ap (λ (X : Indexes). X (get_or order n 0))
+      (IsOrderOf-among (all_of U) order each)) ∙ place-among order n lt)
+
+  -- those after a place are of the set
+  pub rest-inside : (n : ℕ) → n < length order
+      → All (λ i. i < length U) (take (length order - (n + 1)) (drop (n + 1) order))
+  rest-inside n lt = rw (slice-rest order n lt) (All-drop (λ i. i < length U) (n + 1) order
+      (λ k d inside. omega (arith, place-inside k inside, get_or_default order k 0 d inside)))
+
+-- from a place on each may stand where the task there may, and each after it
+pub stand-from : (Test : ℕ → Indexes → Type 0) (U : List Task) (order : List ℕ) (n : ℕ) (H : Indexes)
+    → n < length order → H ≡ among (take (length order - (n + 1)) (drop (n + 1) order))
+    → AllStandBy Test U (drop n order)
+    ↔ (StandsBy Test U (get_or order n 0) H × AllStandBy Test U (drop (n + 1) order))
+stand-from Test U order n H lt same = rw (same, slice-rest order n lt) (
+  λ all. subst (λ o. AllStandBy Test U o) (drop_more order n 0 lt) all,
+  λ all. subst (λ o. AllStandBy Test U o) (sym (drop_more order n 0 lt)) all,
+)
 
 -- ---- a walk along an order, from the lowest up: these of it are left, and the next one is taken
 module _ (U : List Task) (order : List ℕ) (n : ℕ) (left : members.FinSet nat_cmp)
@@ -49,29 +70,3 @@ module _ (U : List Task) (order : List ℕ) (n : ℕ) (left : members.FinSet nat
     pub rest-next : IsOrderOf (indexes_of left') (drop (n + 1) order)
     rest-next = subst (λ X. IsOrderOf X (drop (n + 1) order)) (sym less)
         (IsOrderOf-rest (indexes_of left) low (drop (n + 1) order) low-first)
-
-    among-next : among (drop (n + 1) order) ≡ indexes_of left'
-    among-next = IsOrderOf-among (indexes_of left') (drop (n + 1) order) rest-next
-
-    -- what holds of the end of an order holds of its lowest task below the others and of the rest
-    pub parts-here : (Stands : ℕ → Indexes → Type 0) (All : List ℕ → Type 0)
-        → ((i : ℕ) (above : List ℕ) → All (i ∷ above) → Stands i (among above) × All above)
-        → All (drop n order) → Stands low (indexes_of left') × All (drop (n + 1) order)
-    parts-here Stands All parts all =
-        let (here, rest) = parts low (drop (n + 1) order) (subst All ahead all) in
-        (subst (λ X. Stands low X) among-next here, rest)
-
-    pub from-parts : (Stands : ℕ → Indexes → Type 0) (All : List ℕ → Type 0)
-        → ((i : ℕ) (above : List ℕ) → Stands i (among above) → All above → All (i ∷ above))
-        → Stands low (indexes_of left') → All (drop (n + 1) order) → All (drop n order)
-    from-parts Stands All join stands all = subst All (sym ahead)
-        (join low (drop (n + 1) order) (subst (λ X. Stands low X) (sym among-next) stands) all)
-
-    -- where the order passes with some costs, the task stands below those that are left
-    pub stands-here : (V : List Task) → AllStand V order → Stands V low (indexes_of left')
-    stands-here V all =
-        (parts-here (Stands V) (AllStand V) (λ i above all. all) (AllStand-drop V order n all)).0
-
-    pub all-here : (V : List Task) → Stands V low (indexes_of left')
-        → AllStand V (drop (n + 1) order) → AllStand V (drop n order)
-    all-here V = from-parts (Stands V) (AllStand V) (λ i above stands all. (stands, all))

@@ -1,16 +1,16 @@
-use Rattle.std.proofs.Common.{◌≡◌, ℕ, ◌+◌, ◌<◌, ◌≤◌, false}
+use Rattle.std.proofs.Common.{ℕ, ◌+◌, ◌<◌, ◌≤◌}
 use Rattle.std.specs.FinSet as members
 use Rattle.task_sheet.proofs.Common.{indexes_of, IsPart, all_of}
+use Rattle.assignment.proofs.FeasibilityLaws.{IsLeading}
+use Rattle.factor.specs.Factors.{PassesAt}
 use Rattle.factor.specs.Failing.{FailsFirst}
-use Rattle.factor.proofs.LatestAt.{LeadsAt}
 use Rattle.factor.proofs.factor.Given as goal
 
 abbrev pub invariant-loop-left : goal.invariant-loop-left
 invariant-loop-left l = record {
   part : IsPart (indexes_of l.left) (all_of l.set);
-  leads : (f : ℕ) → f ≤ l.found.most → LeadsAt f l.set (indexes_of l.left);
+  leading : (f : ℕ) → f ≤ l.found.most → IsLeading (PassesAt f l.set) l.set (indexes_of l.left);
   fails : l.found.most < 10000000001 → FailsFirst l.set (l.found.most + 1) l.found.task;
-  first : indexes_of l.left 0 ≡ false → l.found.most < 10000000001;
 }
 
 abbrev pub decreases-loop-left : goal.decreases-loop-left

@@ -6,8 +6,8 @@ use Rattle.factor.proofs.most.most_below.Given as goal
 abbrev pub invariant-loop-most : goal.invariant-loop-most
 invariant-loop-most l = record {
   passes : PassesAt l.most l.set l.task (indexes_of l.above);
-  fails : (t : ℕ) → 1 ≤ t → t < l.time
-      → 1000 * t < (l.most + 1) * demand_of l.set l.task (indexes_of l.above) t;
+  fails : (f t : ℕ) → l.most < f → 1 ≤ t → t < l.time
+      → 1000 * t < f * demand_of l.set l.task (indexes_of l.above) t;
   positive : 1 ≤ l.time;
   limit : l.limit ≡ limit_of (task_at l.set l.task);
   few : l.limit ≤ 10000000;

@@ -1,10 +1,10 @@
-use Rattle.std.proofs.Common.{drop}
-use Rattle.task_sheet.proofs.Common.{indexes_of, IsPart, all_of, IsOrderOf, AllStand}
+use Rattle.std.proofs.Common.{◌↔◌, drop}
+use Rattle.task_sheet.proofs.Common.{IsPassingOrder}
+use Rattle.latest_first.specs.Tested.{AllStandBy}
+use Rattle.latest_first.proofs.LaterLimits.{PassesWhere}
+use Rattle.latest_first.proofs.OneOrder.{Covering}
 use Rattle.limits.proofs.in_order.order_passes.Given as goal
 
-abbrev pub invariant-loop-low : goal.invariant-loop-low
-invariant-loop-low l = record {
-  part : IsPart (indexes_of l.above) (all_of l.set);
-  rest : IsOrderOf (indexes_of l.above) (drop l.low-index l.order);
-  stood : AllStand l.set (drop l.low-index l.order) → AllStand l.set l.order;
-}
+abbrev pub invariant-loop-place : goal.invariant-loop-place
+invariant-loop-place l = IsPassingOrder l.set l.order
+    ↔ AllStandBy (PassesWhere Covering l.set) l.set (drop l.place l.order)
