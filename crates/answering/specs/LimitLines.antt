@@ -3,7 +3,7 @@ use Rattle.std.specs.Prelude.{◌≡◌, ℕ, zero, suc, List, [], ◌++◌, Opt
 use Rattle.task_sheet.specs.Sheet.{Task}
 use Rattle.assignment.specs.Places.{PlaceData}
 use Rattle.limit_lines.specs.LimitLines.{AreTaskLines}
-use Rattle.owners.specs.declared.owner.Owner.{Owner}
+use Rattle.task_lines.specs.declared.owner.Owner.{Owner}
 
 -- the text is the lines of the first tasks of a set, by rank
 abbrev pub AreLines : List Owner → List Task → Option (List ℕ) → Option (List PlaceData) → ℕ → List ℕ → Type 0

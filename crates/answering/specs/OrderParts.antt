@@ -8,19 +8,18 @@ use Rattle.assignment.specs.Placings.{tasks_of_places}
 use Rattle.assignment.specs.declared.placing.Placing.{Placing}
 use Rattle.assignment.specs.declared.placing.Placing.TheVariants.{Best, Stuck}
 use Rattle.settings.specs.Settings.{settings_anew, settings_from}
-use Rattle.answering.specs.OutcomeLines.{admitted_lines, infeasible_line}
+use Rattle.answering.specs.OutcomeLines.{infeasible_line}
 use Rattle.answering.specs.declared.answer.OrderPart.{OrderPart}
-use Rattle.answering.specs.declared.answer.OrderPart.TheVariants.{Count, Levels, Settings}
+use Rattle.answering.specs.declared.answer.OrderPart.TheVariants.{Count, Settings}
 
 -- what a node is set to for an order, where level 1 has a priority, with so much room beside each
 abbrev pub settings_said : List Task → (base room : ℕ) → List ℕ → List ℕ
 settings_said U base room order =
     if room == 0 then settings_from U base order else settings_anew U base room order
 
--- so much of an order: how many levels it has; that, and each level; or what a node is set to
+-- so much of an order: how many levels it has; or what a node is set to
 abbrev pub order_said : OrderPart → List Task → List PlaceData → List ℕ
 order_said Count U places = codes "admitted " ++ decimal (length places) ++ codes "\n"
-order_said Levels U places = admitted_lines U places
 order_said (Settings base room) U places = settings_said U base room (tasks_of_places places)
 
 -- so much of the order of a placing, or the line of its obstruction

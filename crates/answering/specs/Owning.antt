@@ -1,5 +1,5 @@
--- What readers have: a set, and whose its tasks are.
-use Rattle.std.specs.Prelude.{◌≡◌, ℕ, List, Option, Ok}
+-- What readers have: a set, whose its tasks are, and which of them arrive on a clock.
+use Rattle.std.specs.Prelude.{◌≡◌, ℕ, List, [], ◌∷◌, ◌++◌, flat_map, map, Option, Ok}
 use Rattle.task_sheet.specs.Sheet.{Task}
 use Rattle.task_sheet.specs.declared.prefer.Preference.{Preference}
 use Rattle.preferences.specs.declared.asking.Asking.{Asking}
@@ -8,14 +8,30 @@ use Rattle.teams.specs.ReadsText.{ReadsText}
 use Rattle.preferences.specs.ReadsAsked.{SaysAsked}
 use Rattle.preferences.specs.ReadsPreferred.{chosen}
 use Rattle.owners.specs.Owners.{AreOwners}
-use Rattle.owners.specs.declared.owner.Owner.{Owner}
+use Rattle.task_lines.specs.declared.owner.Owner.{Owner}
+use Rattle.task_lines.specs.declared.owner.Owner.TheVariants.{Clocked}
 use Rattle.streams.specs.Inputs.{IsReadFrom, IsReadUpTo}
 use Rattle.chain_tables.specs.Chains.{ChainData, HasChains}
 
--- bytes say a set as the call asks for it, and whose its tasks are
+-- the tasks of a chain with offsets
+abbrev pub clocked_if : (offsets tasks : List ℕ) → List Owner
+clocked_if [] tasks = []
+clocked_if (o ∷ os) tasks = map (λ i. Clocked i) tasks
+
+-- those of all chains
+abbrev pub clocked_by : List ChainData → List Owner
+clocked_by chains = flat_map (λ c. clocked_if c.offsets c.tasks) chains
+
+-- these say whose the tasks of a set are that bytes say, and which of them arrive on a clock
+unfoldable pub AreOwnersOf : (bytes : List ℕ) → List Task → List Owner → Type 0
+AreOwnersOf bytes U owners =
+    (whose : List Owner) × (chains : List ChainData) × AreOwners bytes whose × HasChains bytes U chains
+    × (owners ≡ whose ++ clocked_by chains)
+
+-- bytes say a set as the call asks for it, and these of it
 pub record SaysOwned (asking : Asking) (bytes : List ℕ) (U : List Task) (owners : List Owner) : Type 0 where
   pub set : SaysAsked asking bytes U
-  pub whose : AreOwners bytes owners
+  pub whose : AreOwnersOf bytes U owners
 
 -- the bytes that a reader has say both
 abbrev pub HasOwned : Asking → Option (List ℕ) → List Task → List Owner → Type 0

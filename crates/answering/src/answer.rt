@@ -1,10 +1,10 @@
 //! The lines of a verdict.
-ghost use Rattle.std.specs.Prelude.{◌≡◌, ◌++◌, ◌<◌, length, OnOk, IfOk, string_bytes};
+ghost use Rattle.std.specs.Prelude.{◌≡◌, ◌++◌, ◌<◌, length, IfOk, string_bytes};
 ghost use Rattle.task_sheet.specs.Indexes.{indexes_of, listed_below};
 ghost use Rattle.answering.specs.Outcomes.{IsSaidOn};
 ghost use Rattle.answering.specs.Printed.{IsPrinted};
 ghost use Rattle.assignment.specs.Placings.{IsPlacingOf};
-ghost use Rattle.answering.specs.OutcomeLines.{admitted_lines, infeasible_line, level_line};
+ghost use Rattle.answering.specs.OutcomeLines.{infeasible_line};
 ghost use Rattle.answering.specs.OrderParts.{placing_said, settings_said};
 ghost use Rattle.assignment.specs.Placings.{tasks_of_places};
 ghost use Rattle.task_sheet.specs.Orders.{IsOrder};
@@ -12,7 +12,7 @@ ghost use Rattle.task_sheet.specs.Orders.{IsOrder};
 use crate::output::print_made;
 use crate::status::Status;
 use assignment::{Place, Placing};
-use lines::{push_name, push_names};
+use lines::push_names;
 use settings::{anew_text, settings_text};
 use std::alloc::{AllocError, Global};
 use std::io::Write;
@@ -24,38 +24,8 @@ use task_sheet::{Members, TaskSet};
 pub enum OrderPart {
     /// How many levels it has.
     Count,
-    /// That, and each level, the lowest first.
-    Levels,
     /// What a node is set to, where level 1 has this priority, with so much room beside each.
     Settings { base: u32, room: u32 },
-}
-
-// The line of a level, which has a number.
-fn push_level(
-    text: &mut String,
-    set: &TaskSet,
-    number: usize,
-    place: &Place,
-) -> Result<(), AllocError>
-    ensures { OnOk result (string_bytes text.new ≡ string_bytes text.old
-        ++ level_line set.now number place.now) }
-{
-    let response = place.response;
-    write!(text, "{number} ")?;
-    push_name(text, set, place.task)?;
-    writeln!(text, " {response}")
-}
-
-// The lines of an order, the lowest level first.
-fn admitted_text(alloc: Global, set: &TaskSet, places: &[Place]) -> Result<String, AllocError>
-    ensures { IfOk result (λ text. string_bytes text ≡ admitted_lines set.now places.now) }
-{
-    let count = places.len();
-    let mut text = format!(in alloc; "admitted {count}\n")?;
-    for (i, place) in places.iter().enumerate() {
-        push_level(&mut text, set, i + 1, place)?;
-    }
-    Ok(text)
 }
 
 /// The line of an obstruction.
@@ -105,7 +75,6 @@ pub fn placing_text(
     let count = places.len();
     match part {
         OrderPart::Count => format!(in alloc; "admitted {count}\n"),
-        OrderPart::Levels => admitted_text(alloc, set, places),
         OrderPart::Settings { base, room } => set_text(alloc, set, base, room, places),
     }
 }

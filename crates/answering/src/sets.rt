@@ -1,8 +1,9 @@
 //! Reading the inputs of a command: a set, or a set and a text.
-ghost use Rattle.std.specs.Prelude.{◌≡◌, ◌≤◌, Err, IfOk, MatchResult};
+ghost use Rattle.std.specs.Prelude.{◌≡◌, ◌≤◌, ◌++◌, List, Err, IfOk, MatchResult, OnOk};
+ghost use Rattle.owners.specs.Owners.{AreOwners};
 ghost use Rattle.preferences.specs.ReadsAsked.{SaysAsked};
 ghost use Rattle.answering.specs.Chosen.{asking_of, base_of, is_sorted, room_of, team_chosen};
-ghost use Rattle.answering.specs.Owning.{HasChained, HasOwned, HaveOwned, IsTakenBy, SaysOwned};
+ghost use Rattle.answering.specs.Owning.{HasChained, HasOwned, HaveOwned, IsTakenBy, SaysOwned, clocked_by, clocked_if};
 ghost use Rattle.chain_tables.specs.Chains.{HasChains};
 ghost use Rattle.answering.specs.Sets.{HasNoSet, HasSet, HaveNotBoth, IsNoSet, asked_refusal};
 ghost use Rattle.answering.specs.Outcomes.{AreRead, IsRead, failed_read};
@@ -15,7 +16,7 @@ use chain_tables::Chain;
 use command_line::{MOST_PRIORITY, MOST_ROOM, MOST_TEAM, Options, Preferred};
 use owners::{Owner, read_owners};
 use preferences::{AskedFault, Asking, Preference, Strictness, read_asked};
-use std::alloc::Global;
+use std::alloc::{AllocError, Global};
 use std::io::Read;
 use streams::{INPUT_LIMIT, InputFault, Watched, read_input};
 use task_sheet::TaskSet;
@@ -153,6 +154,32 @@ fn set_told<P: Audience>(
     }
 }
 
+// Adds the tasks of a chain, where it has offsets.
+fn push_clocked(owners: &mut Vec<Owner>, chain: &Chain) -> Result<(), AllocError>
+    ensures { OnOk result (owners.new.items
+        ≡ owners.old.items ++ clocked_if chain.now.offsets chain.now.tasks) }
+{
+    if chain.offsets.is_empty() {
+        return Ok(());
+    }
+    for task in &chain.tasks {
+        owners.push(Owner::Clocked { task: *task })?;
+    }
+    Ok(())
+}
+
+// What a set's text says beside the set, and which tasks arrive on a clock by the offsets of these chains.
+fn owners_of(alloc: Global, bytes: &[u8], chains: &[Chain]) -> Result<Vec<Owner>, AllocError>
+    ensures { IfOk result (λ owners. (whose : List Owner) × AreOwners bytes.now whose
+        × (owners.items ≡ whose ++ clocked_by chains.now)) }
+{
+    let mut owners = read_owners(alloc, bytes)?;
+    for chain in chains {
+        push_clocked(&mut owners, chain)?;
+    }
+    Ok(owners)
+}
+
 // The same, with whose its tasks are.
 fn taken_told<P: Audience>(
     alloc: Global,
@@ -165,19 +192,14 @@ fn taken_told<P: Audience>(
         × IsTakenBy asking bytes.now taken.by × HasChains bytes.now taken.tasks taken.chains.items)
         (λ r. IsNoSet asking bytes.now r) }
 {
-    let (tasks, by, chains) = match set_told(alloc, asking, bytes, people) {
-        Ok(taken) => taken,
-        Err(refusal) => return Err(refusal),
-    };
-    match read_owners(alloc, bytes) {
-        Ok(owners) => Ok(Taken {
-            by,
-            tasks,
-            owners,
-            chains,
-        }),
-        Err(_) => Err(CommandRefusal::OutOfMemory),
-    }
+    let (tasks, by, chains) = set_told(alloc, asking, bytes, people)?;
+    let owners = owners_of(alloc, bytes, &chains)?;
+    Ok(Taken {
+        by,
+        tasks,
+        owners,
+        chains,
+    })
 }
 
 /// The set that the reader has, as the call asks for it; or why there is none, which the audience is told.

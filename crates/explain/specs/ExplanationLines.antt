@@ -1,12 +1,13 @@
 -- The lines of an explanation.
-use Rattle.std.specs.Prelude.{◌==◌, ℕ, ◌+◌, ◌-◌, min, List, [], ◌∷◌, ◌++◌, length, codes, Option, Some, None, if◌then◌else◌}
+use Rattle.std.specs.Prelude.{◌==◌, ℕ, ◌+◌, ◌-◌, min, List, [], ◌∷◌, ◌++◌, codes, Option, Some, None, if◌then◌else◌}
 use Rattle.std.specs.Fmt.{decimal}
 use Rattle.std.specs.List.{find}
 use Rattle.task_sheet.specs.Sheet.{Task, task_at}
 use Rattle.task_sheet.specs.Overheads.{overhead_of}
 use Rattle.task_sheet.specs.Locks.{uses}
-use Rattle.task_sheet.specs.Indexes.{indexes_of, listed_below}
 use Rattle.lines.specs.Naming.{name_at, named}
+use Rattle.task_lines.specs.Teams.{team_words}
+use Rattle.task_lines.specs.declared.owner.Owner.{Owner}
 use Rattle.explain.specs.Parts.{AboveData, PartsData}
 use Rattle.explain.specs.Blocking.{BlockerData}
 use Rattle.explain.specs.Load.{load_of}
@@ -14,8 +15,6 @@ use Rattle.explain.specs.declared.parts.Interruption.{Interruption}
 use Rattle.explain.specs.declared.accounts.Account.{Account}
 use Rattle.explain.specs.declared.needs.Need.{Need}
 use Rattle.explain.specs.declared.needs.Need.TheVariants.{Needs, MustBeAbove}
-use Rattle.explain.specs.declared.explanation.Explanation.{Explanation}
-use Rattle.explain.specs.declared.explanation.Explanation.TheVariants.{Responses, Conflict}
 
 -- ---- parts
 -- the task's own cost
@@ -46,28 +45,29 @@ abbrev pub ceiling_words : List Task → ℕ → List AboveData → List ℕ →
 ceiling_words U task above lock =
     if uses (task_at U task) lock then [] else user_words U (first_user U lock above)
 
--- a section that blocks a task below these, whose place is counted from 1
-abbrev pub blocker_line : List Task → ℕ → List AboveData → BlockerData → List ℕ
-blocker_line U task above b =
+-- a section that blocks a task below these, whose place is counted from 1, with the team of the task that has it
+abbrev pub blocker_line : List Owner → List Task → ℕ → List AboveData → BlockerData → List ℕ
+blocker_line owners U task above b =
     codes "  blocked " ++ decimal b.len ++ codes " by " ++ name_at U b.task ++ codes " section "
     ++ decimal (b.place + 1)
-    ++ codes " lock " ++ b.lock ++ ceiling_words U task above b.lock ++ codes "\n"
+    ++ codes " lock " ++ b.lock ++ ceiling_words U task above b.lock ++ team_words owners U b.task
+    ++ codes "\n"
 
 -- the section that blocks it; nothing where none does
-abbrev pub blocked_line : List Task → ℕ → List AboveData → Option BlockerData → List ℕ
-blocked_line U task above None = []
-blocked_line U task above (Some b) = blocker_line U task above b
+abbrev pub blocked_line : List Owner → List Task → ℕ → List AboveData → Option BlockerData → List ℕ
+blocked_line owners U task above None = []
+blocked_line owners U task above (Some b) = blocker_line owners U task above b
 
--- the jobs of a task above
-abbrev pub above_line : List Task → AboveData → List ℕ
-above_line U a =
+-- the jobs of a task above, with its team
+abbrev pub above_line : List Owner → List Task → AboveData → List ℕ
+above_line owners U a =
     codes "  above " ++ name_at U a.task ++ codes " " ++ decimal a.jobs ++ codes " jobs "
-    ++ decimal a.time ++ codes "\n"
+    ++ decimal a.time ++ team_words owners U a.task ++ codes "\n"
 
 -- those of each task above, in their order
-abbrev pub above_lines : List Task → List AboveData → List ℕ
-above_lines U [] = []
-above_lines U (a ∷ above) = above_line U a ++ above_lines U above
+abbrev pub above_lines : List Owner → List Task → List AboveData → List ℕ
+above_lines owners U [] = []
+above_lines owners U (a ∷ above) = above_line owners U a ++ above_lines owners U above
 
 -- the jobs of an interrupt, which has a number; nothing where they take nothing
 abbrev pub interrupt_line : ℕ → Interruption → List ℕ
@@ -88,42 +88,39 @@ interrupted_lines parts =
     time_line (codes "timers") parts.timers ++ interrupt_lines 1 parts.interrupts
 
 -- the parts of a time of a task, each once and where it is above 0
-abbrev pub parts_lines : List Task → ℕ → PartsData → List ℕ
-parts_lines U task parts =
+abbrev pub parts_lines : List Owner → List Task → ℕ → PartsData → List ℕ
+parts_lines owners U task parts =
     cost_lines (task_at U task) parts.cost ++ time_line (codes "jitter") parts.jitter
-    ++ blocked_line U task parts.above parts.blocker
-    ++ above_lines U parts.above ++ interrupted_lines parts
+    ++ blocked_line owners U task parts.above parts.blocker
+    ++ above_lines owners U parts.above ++ interrupted_lines parts
 
 -- ---- times
--- a task, its time and its deadline, and then the parts of the time
-abbrev pub account_lines : List Task → Account → List ℕ
-account_lines U a =
+-- a task, its time, its deadline and its team
+abbrev pub account_line : List Owner → List Task → Account → List ℕ
+account_line owners U a =
     name_at U a.task ++ codes " " ++ decimal a.time ++ codes " of " ++ decimal a.deadline
-    ++ codes "\n"
-    ++ parts_lines U a.task a.parts
+    ++ team_words owners U a.task ++ codes "\n"
+
+-- the same, and then the parts of the time
+abbrev pub account_lines : List Owner → List Task → Account → List ℕ
+account_lines owners U a = account_line owners U a ++ parts_lines owners U a.task a.parts
 
 -- those of a level, which has a number
-abbrev pub level_account_lines : List Task → ℕ → Account → List ℕ
-level_account_lines U number a = decimal number ++ codes " " ++ account_lines U a
-
--- those of each level, of which the first has a number
-abbrev pub response_lines : List Task → ℕ → List Account → List ℕ
-response_lines U number [] = []
-response_lines U number (a ∷ accounts) =
-    level_account_lines U number a ++ response_lines U (number + 1) accounts
+abbrev pub level_account_lines : List Owner → List Task → ℕ → Account → List ℕ
+level_account_lines owners U number a = decimal number ++ codes " " ++ account_lines owners U a
 
 -- why a task of a conflict may not stand below the others
-abbrev pub need_lines : List Task → Need → List ℕ
-need_lines U (Needs a) = account_lines U a
-need_lines U (MustBeAbove task other) =
+abbrev pub need_lines : List Owner → List Task → Need → List ℕ
+need_lines owners U (Needs a) = account_lines owners U a
+need_lines owners U (MustBeAbove task other) =
     name_at U task ++ codes " must be above " ++ name_at U other ++ codes "\n"
 
 -- those of each task
-abbrev pub needs_lines : List Task → List Need → List ℕ
-needs_lines U [] = []
-needs_lines U (n ∷ needs) = need_lines U n ++ needs_lines U needs
+abbrev pub needs_lines : List Owner → List Task → List Need → List ℕ
+needs_lines owners U [] = []
+needs_lines owners U (n ∷ needs) = need_lines owners U n ++ needs_lines owners U needs
 
--- ---- the whole
+-- ---- a set
 -- the tasks of a conflict, by rank
 abbrev pub conflict_line : List Task → List ℕ → List ℕ
 conflict_line U tasks = codes "conflict" ++ named U tasks ++ codes "\n"
@@ -131,13 +128,3 @@ conflict_line U tasks = codes "conflict" ++ named U tasks ++ codes "\n"
 -- the load of a set, in millionths
 abbrev pub load_line : List Task → List ℕ
 load_line U = codes "load " ++ decimal (load_of U) ++ codes "\n"
-
--- the lines of an explanation: each level, or the conflict and each of its tasks
-abbrev pub explained_lines : List Task → Explanation → List ℕ
-explained_lines U (Responses accounts) = response_lines U 1 accounts.items
-explained_lines U (Conflict left needs) =
-    conflict_line U (listed_below (length U) (indexes_of left)) ++ needs_lines U needs.items
-
--- these, and then the load
-abbrev pub explanation_lines : List Task → Explanation → List ℕ
-explanation_lines U explanation = explained_lines U explanation ++ load_line U

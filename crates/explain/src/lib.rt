@@ -20,6 +20,4 @@ pub use crate::needs::{Need, needs_account};
 pub use crate::one_task::task_text;
 pub use crate::parts::{Above, Interruption, Parts, parts_of};
 pub use crate::shares::load;
-pub use crate::text::{
-    explanation_text, parts_text, push_account, push_conflict, push_load, sheet_uses,
-};
+pub use crate::text::{push_account, push_conflict, push_load, push_needs, push_parts, sheet_uses};

@@ -1,19 +1,19 @@
 //! The lines of an explanation.
-ghost use Rattle.std.specs.Prelude.{◌≡◌, ◌++◌, length, IfOk, OnOk, string_bytes};
+ghost use Rattle.std.specs.Prelude.{◌≡◌, ◌++◌, length, OnOk, string_bytes};
 ghost use Rattle.task_sheet.specs.Sheet.{task_at};
 ghost use Rattle.task_sheet.specs.Overheads.{overhead_of};
 ghost use Rattle.task_sheet.specs.Locks.{names_lock, uses};
 ghost use Rattle.task_sheet.specs.Indexes.{indexes_of, listed_below};
-ghost use Rattle.explain.specs.ExplanationLines.{above_line, above_lines, account_lines, blocked_line, blocker_line, ceiling_words, conflict_line, cost_lines, explanation_lines, first_user, interrupt_line, interrupt_lines, interrupted_lines, load_line, need_lines, needs_lines, parts_lines, response_lines, time_line, user_words};
+ghost use Rattle.explain.specs.ExplanationLines.{above_line, above_lines, account_line, account_lines, blocked_line, blocker_line, ceiling_words, conflict_line, cost_lines, first_user, interrupt_line, interrupt_lines, interrupted_lines, load_line, need_lines, needs_lines, parts_lines, time_line, user_words};
 
 use crate::accounts::Account;
 use crate::blocker::Blocker;
-use crate::explanation::Explanation;
 use crate::needs::Need;
 use crate::parts::{Above, Interruption, Parts};
 use crate::shares::load;
 use lines::{push_name, push_names};
 use std::alloc::{AllocError, Global};
+use task_lines::{Owner, push_team};
 use task_sheet::{Members, Name, Section, Sheet, TaskSet};
 
 // The line of a time of one kind, unless it is 0.
@@ -113,16 +113,17 @@ fn push_ceiling(
     push_user(text, set, first_user(set, lock, above))
 }
 
-// The line of a section that blocks a task below these.
+// The line of a section that blocks a task below these, with the team of the task that has it.
 fn push_blocker(
     text: &mut String,
+    owners: &[Owner],
     set: &TaskSet,
     task: usize,
     above: &[Above],
     blocker: &Blocker,
 ) -> Result<(), AllocError>
     ensures { OnOk result (string_bytes text.new ≡ string_bytes text.old
-        ++ blocker_line set.now task above.now blocker.now) }
+        ++ blocker_line owners.now set.now task above.now blocker.now) }
 {
     let len = blocker.len;
     let number = blocker.place as u64 + 1;
@@ -131,45 +132,59 @@ fn push_blocker(
     push_name(text, set, blocker.task)?;
     write!(text, " section {number} lock {lock}")?;
     push_ceiling(text, set, task, above, lock)?;
+    push_team(text, owners, set, blocker.task)?;
     text.push_str("\n")
 }
 
 // The line of the section that blocks, if there is one.
 fn push_blocked(
     text: &mut String,
+    owners: &[Owner],
     set: &TaskSet,
     task: usize,
     above: &[Above],
     blocker: &Option<Blocker>,
 ) -> Result<(), AllocError>
     ensures { OnOk result (string_bytes text.new ≡ string_bytes text.old
-        ++ blocked_line set.now task above.now blocker.now) }
+        ++ blocked_line owners.now set.now task above.now blocker.now) }
 {
     match blocker {
-        Some(blocker) => push_blocker(text, set, task, above, blocker),
+        Some(blocker) => push_blocker(text, owners, set, task, above, blocker),
         None => Ok(()),
     }
 }
 
-// The line of the jobs of a task above.
-fn push_above(text: &mut String, set: &TaskSet, above: &Above) -> Result<(), AllocError>
+// The line of the jobs of a task above, with its team.
+fn push_above(
+    text: &mut String,
+    owners: &[Owner],
+    set: &TaskSet,
+    above: &Above,
+) -> Result<(), AllocError>
     ensures { OnOk result (string_bytes text.new ≡ string_bytes text.old
-        ++ above_line set.now above.now) }
+        ++ above_line owners.now set.now above.now) }
 {
     let jobs = above.jobs;
     let time = above.time;
     text.push_str("  above ")?;
     push_name(text, set, above.task)?;
-    writeln!(text, " {jobs} jobs {time}")
+    write!(text, " {jobs} jobs {time}")?;
+    push_team(text, owners, set, above.task)?;
+    text.push_str("\n")
 }
 
 // The lines of the jobs of each task above.
-fn push_all_above(text: &mut String, set: &TaskSet, above: &[Above]) -> Result<(), AllocError>
+fn push_all_above(
+    text: &mut String,
+    owners: &[Owner],
+    set: &TaskSet,
+    above: &[Above],
+) -> Result<(), AllocError>
     ensures { OnOk result (string_bytes text.new ≡ string_bytes text.old
-        ++ above_lines set.now above.now) }
+        ++ above_lines owners.now set.now above.now) }
 {
     for task in above {
-        push_above(text, set, task)?;
+        push_above(text, owners, set, task)?;
     }
     Ok(())
 }
@@ -211,65 +226,68 @@ fn push_interrupted(text: &mut String, parts: &Parts) -> Result<(), AllocError>
     push_interrupts(text, &parts.interrupts)
 }
 
-// The lines of the parts of a task's time.
-fn push_parts(
+/// Adds the lines of the parts of a task's time, each once and where it is above 0. The error is out of memory.
+pub fn push_parts(
     text: &mut String,
+    owners: &[Owner],
     set: &TaskSet,
     task: usize,
     parts: &Parts,
 ) -> Result<(), AllocError>
     ensures { OnOk result (string_bytes text.new ≡ string_bytes text.old
-        ++ parts_lines set.now task parts.now) }
+        ++ parts_lines owners.now set.now task parts.now) }
 {
     push_cost(text, set, task, parts.cost)?;
     push_time(text, "jitter", parts.jitter)?;
-    push_blocked(text, set, task, &parts.above, &parts.blocker)?;
-    push_all_above(text, set, &parts.above)?;
+    push_blocked(text, owners, set, task, &parts.above, &parts.blocker)?;
+    push_all_above(text, owners, set, &parts.above)?;
     push_interrupted(text, parts)
 }
 
-/// The lines of the parts of a time, each once and where it is above 0. The error is out of memory.
-pub fn parts_text(alloc: Global, set: &TaskSet, account: &Account) -> Result<String, AllocError>
-    ensures { IfOk result (λ text. string_bytes text
-        ≡ parts_lines set.now account.now.task account.now.parts) }
-{
-    let mut text = String::new(alloc);
-    push_parts(&mut text, set, account.task, &account.parts)?;
-    Ok(text)
-}
-
-/// Adds the lines of a time of a task, with its parts. The error is out of memory.
-pub fn push_account(text: &mut String, set: &TaskSet, account: &Account) -> Result<(), AllocError>
+// The line of a time of a task, with its team.
+fn push_account_line(
+    text: &mut String,
+    owners: &[Owner],
+    set: &TaskSet,
+    account: &Account,
+) -> Result<(), AllocError>
     ensures { OnOk result (string_bytes text.new ≡ string_bytes text.old
-        ++ account_lines set.now account.now) }
+        ++ account_line owners.now set.now account.now) }
 {
     let time = account.time;
     let deadline = account.deadline;
     push_name(text, set, account.task)?;
-    writeln!(text, " {time} of {deadline}")?;
-    push_parts(text, set, account.task, &account.parts)
+    write!(text, " {time} of {deadline}")?;
+    push_team(text, owners, set, account.task)?;
+    text.push_str("\n")
 }
 
-// The lines of each level, the lowest first.
-fn push_responses(text: &mut String, set: &TaskSet, accounts: &[Account]) -> Result<(), AllocError>
+/// Adds the lines of a time of a task, with its parts. The error is out of memory.
+pub fn push_account(
+    text: &mut String,
+    owners: &[Owner],
+    set: &TaskSet,
+    account: &Account,
+) -> Result<(), AllocError>
     ensures { OnOk result (string_bytes text.new ≡ string_bytes text.old
-        ++ response_lines set.now 1 accounts.now) }
+        ++ account_lines owners.now set.now account.now) }
 {
-    for (below, account) in accounts.iter().enumerate() {
-        let number = below + 1;
-        write!(text, "{number} ")?;
-        push_account(text, set, account)?;
-    }
-    Ok(())
+    push_account_line(text, owners, set, account)?;
+    push_parts(text, owners, set, account.task, &account.parts)
 }
 
 // The lines of a task of a conflict.
-pub(crate) fn push_need(text: &mut String, set: &TaskSet, need: &Need) -> Result<(), AllocError>
+pub(crate) fn push_need(
+    text: &mut String,
+    owners: &[Owner],
+    set: &TaskSet,
+    need: &Need,
+) -> Result<(), AllocError>
     ensures { OnOk result (string_bytes text.new ≡ string_bytes text.old
-        ++ need_lines set.now need.now) }
+        ++ need_lines owners.now set.now need.now) }
 {
     match need {
-        Need::Needs(account) => push_account(text, set, account),
+        Need::Needs(account) => push_account(text, owners, set, account),
         Need::MustBeAbove { task, other } => {
             push_name(text, set, *task)?;
             text.push_str(" must be above ")?;
@@ -279,13 +297,18 @@ pub(crate) fn push_need(text: &mut String, set: &TaskSet, need: &Need) -> Result
     }
 }
 
-// The lines of each task of a conflict.
-fn push_needs(text: &mut String, set: &TaskSet, needs: &[Need]) -> Result<(), AllocError>
+/// Adds the lines of each task of a conflict. The error is out of memory.
+pub fn push_needs(
+    text: &mut String,
+    owners: &[Owner],
+    set: &TaskSet,
+    needs: &[Need],
+) -> Result<(), AllocError>
     ensures { OnOk result (string_bytes text.new ≡ string_bytes text.old
-        ++ needs_lines set.now needs.now) }
+        ++ needs_lines owners.now set.now needs.now) }
 {
     for need in needs {
-        push_need(text, set, need)?;
+        push_need(text, owners, set, need)?;
     }
     Ok(())
 }
@@ -307,25 +330,4 @@ pub fn push_load(alloc: Global, text: &mut String, set: &TaskSet) -> Result<(), 
 {
     let load = load(alloc, set)?;
     writeln!(text, "load {load}")
-}
-
-/// The lines that explain a placing of a set, after the first line of the verdict: the levels with the parts of their
-/// responses, or a least conflict with what its tasks need; and the load. The error is out of memory.
-pub fn explanation_text(
-    alloc: Global,
-    set: &TaskSet,
-    explanation: &Explanation,
-) -> Result<String, AllocError>
-    ensures { IfOk result (λ text. string_bytes text ≡ explanation_lines set.now explanation.now) }
-{
-    let mut text = String::new(alloc);
-    match explanation {
-        Explanation::Responses(accounts) => push_responses(&mut text, set, accounts)?,
-        Explanation::Conflict { left, needs } => {
-            push_conflict(&mut text, set, *left)?;
-            push_needs(&mut text, set, needs)?;
-        }
-    }
-    push_load(alloc, &mut text, set)?;
-    Ok(text)
 }

@@ -10,3 +10,4 @@ pub mod SettingsLaws
 pub mod NumberedLaws
 pub mod RaisedLaws
 pub mod LeastLaws
+pub mod StableRows

@@ -1,56 +1,46 @@
--- The lines that explain what becomes of the tasks of an order that is given.
-use Rattle.std.specs.Prelude.{◌≡◌, ℕ, ◌+◌, ◌==◌, Bool, true, false, List, [], ◌∷◌, ◌++◌, codes, Option, Some, None}
-use Rattle.std.specs.Fmt.{decimal}
+-- What explains an order that is given: a row for each level.
+use Rattle.std.specs.Prelude.{◌≡◌, ℕ, ◌+◌, ◌==◌, Bool, true, false, List, [], ◌∷◌, ◌++◌, Option, Some, None}
 use Rattle.task_sheet.specs.Sheet.{Task}
+use Rattle.task_lines.specs.declared.owner.Owner.{Owner}
 use Rattle.explain.specs.Accounts.{IsResponseAccount}
-use Rattle.explain.specs.ExplanationLines.{level_account_lines, load_line}
+use Rattle.explain.specs.ExplanationLines.{load_line}
 use Rattle.explain.specs.declared.accounts.Account.{Account}
 use Rattle.judge.specs.Judgements.{order_judged}
-use Rattle.judge.specs.JudgementLines.{judged_words}
-use Rattle.judge.specs.Missed.{IsMissedBelow, missed_lines}
+use Rattle.judge.specs.Levels.{rows_lines}
+use Rattle.judge.specs.Missed.{IsMissedBelow}
 use Rattle.judge.specs.declared.explained.Parted.{Parted}
 use Rattle.judge.specs.declared.explained.Parted.TheVariants.{Each, Bare}
+use Rattle.judge.specs.declared.levels.Told.{Told}
+use Rattle.judge.specs.declared.levels.Told.TheVariants.{Judged, Response, Needs}
+use Rattle.judge.specs.declared.levels.LevelRow.{LevelRow}
 use Rattle.judge.specs.declared.judging.JudgedTask.{JudgedTask}
 use Rattle.judge.specs.declared.judging.Judgement.{Judgement}
 use Rattle.judge.specs.declared.judging.Judgement.TheVariants.{Meets, Misses, Below}
 
 -- ---- a level
--- the line of a level, which has a number, as `judge` prints it, without the number of its thread
-abbrev pub judged_line : List Task → ℕ → JudgedTask → List ℕ
-judged_line U number j = decimal number ++ codes " " ++ judged_words U j None
-
--- the text is the lines of a task below these that meets its deadline: its response with the parts, those above from the
--- highest level down; or its response alone
-abbrev pub AreMetLines :
-    Parted → List Task → (above : List ℕ) → (number task response : ℕ) → List ℕ → Type 0
-AreMetLines Each U above number task response text =
+-- this is told of a task below these that meets its deadline: its response with the parts, those above from the highest level
+-- down; or its response alone
+abbrev pub IsMet : Parted → List Task → (above : List ℕ) → (task response : ℕ) → Told → Type 0
+IsMet Each U above task response told =
     (a : Account) × IsResponseAccount U above (record { task = task; response = response }) a
-    × (text ≡ level_account_lines U number a)
-AreMetLines _ U above number task response text =
-    text ≡ judged_line U number (record { task = task; judgement = Meets response })
+    × (told ≡ Response a)
+IsMet _ U above task response told =
+    told ≡ Judged (record { task = task; judgement = Meets response }) None
 
--- the text is what a task needs at least below these, with the parts
-abbrev pub IsAccounted : List Task → (above : List ℕ) → (number task : ℕ) → List ℕ → Type 0
-IsAccounted U above number task text =
-    (a : Account) × IsMissedBelow U above task a × (text ≡ missed_lines U number a)
+-- this is told of a task below these that misses it: what it needs at least, with the parts; or the need alone
+abbrev pub IsMissing : Parted → List Task → (above : List ℕ) → (task needs : ℕ) → Told → Type 0
+IsMissing Bare U above task needs told =
+    told ≡ Judged (record { task = task; judgement = Misses needs }) None
+IsMissing _ U above task needs told =
+    (a : Account) × IsMissedBelow U above task a × (told ≡ Needs a)
 
--- the text is the lines of a task below these that misses it: that, or the need alone
-abbrev pub AreMissingLines :
-    Parted → List Task → (above : List ℕ) → (number task needs : ℕ) → List ℕ → Type 0
-AreMissingLines Bare U above number task needs text =
-    text ≡ judged_line U number (record { task = task; judgement = Misses needs })
-AreMissingLines _ U above number task needs text = IsAccounted U above number task text
-
--- the text is the lines of a task below these: where it meets its deadline or misses it, those; or that it stands below one
--- that it must outrank
-abbrev pub AreLevelLines :
-    Parted → List Task → (above : List ℕ) → (number task : ℕ) → Judgement → List ℕ → Type 0
-AreLevelLines parted U above number task (Meets response) text =
-    AreMetLines parted U above number task response text
-AreLevelLines parted U above number task (Misses needs) text =
-    AreMissingLines parted U above number task needs text
-AreLevelLines parted U above number task (Below other) text =
-    text ≡ judged_line U number (record { task = task; judgement = Below other })
+-- this is told of a task below these: where it meets its deadline or misses it, that; or that it stands below one that it
+-- must outrank
+abbrev pub IsTold : Parted → List Task → (above : List ℕ) → (task : ℕ) → Judgement → Told → Type 0
+IsTold parted U above task (Meets response) told = IsMet parted U above task response told
+IsTold parted U above task (Misses needs) told = IsMissing parted U above task needs told
+IsTold parted U above task (Below other) told =
+    told ≡ Judged (record { task = task; judgement = Below other }) None
 
 -- ---- those that are asked about
 -- it is asked about this task: the one that is named, or any
@@ -58,29 +48,30 @@ abbrev pub is_asked : Option ℕ → ℕ → Bool
 is_asked None task = true
 is_asked (Some asked) task = asked == task
 
--- the text is those lines, where it is asked about the task
-abbrev pub AreAskedLines :
-    Bool → Parted → List Task → (above : List ℕ) → ℕ → JudgedTask → List ℕ → Type 0
-AreAskedLines true parted U above number j text =
-    AreLevelLines parted U above number j.task j.judgement text
-AreAskedLines false parted U above number j text = text ≡ []
+-- the rows are that of a level, which has a number, where it is asked about its task
+abbrev pub AreAsked :
+    Bool → Parted → List Task → (above : List ℕ) → ℕ → JudgedTask → List LevelRow → Type 0
+AreAsked true parted U above number j rows =
+    (told : Told) × IsTold parted U above j.task j.judgement told
+    × (rows ≡ record { number = number; told = told } ∷ [])
+AreAsked false parted U above number j rows = rows ≡ []
 
--- the text is those of each level, of which the first has a number, with those after it above it
+-- the rows are those of each level, of which the first has a number, with those after it above it
 abbrev pub AreLevels :
-    Parted → List Task → Option ℕ → (number : ℕ) → List JudgedTask → List ℕ → Type 0
-AreLevels parted U asked number [] text = text ≡ []
-AreLevels parted U asked number (j ∷ judged) text =
-    (front : List ℕ) × (rest : List ℕ)
-    × AreAskedLines (is_asked asked j.task) parted U (order_judged judged) number j front
+    Parted → List Task → Option ℕ → (number : ℕ) → List JudgedTask → List LevelRow → Type 0
+AreLevels parted U asked number [] rows = rows ≡ []
+AreLevels parted U asked number (j ∷ judged) rows =
+    (front : List LevelRow) × (rest : List LevelRow)
+    × AreAsked (is_asked asked j.task) parted U (order_judged judged) number j front
     × AreLevels parted U asked (number + 1) judged rest
-    × (text ≡ front ++ rest)
+    × (rows ≡ front ++ rest)
 
+-- ---- lines
 -- the load of the set, where no task is named
 abbrev pub load_asked : List Task → Option ℕ → List ℕ
 load_asked U None = load_line U
 load_asked U (Some asked) = []
 
--- the text explains an order: those of each level, the lowest first, each time with its parts, and then the load
-abbrev pub AreExplained : List Task → Option ℕ → List JudgedTask → List ℕ → Type 0
-AreExplained U asked judged text =
-    (levels : List ℕ) × AreLevels Each U asked 1 judged levels × (text ≡ levels ++ load_asked U asked)
+-- the lines that explain an order: those of each level, the lowest first, and then the load
+abbrev pub explained_lines : List Owner → List Task → Option ℕ → List LevelRow → List ℕ
+explained_lines owners U asked rows = rows_lines owners U rows ++ load_asked U asked

@@ -1,5 +1,5 @@
 -- The lines that say what becomes of the tasks of an order.
-use Rattle.std.specs.Prelude.{ℕ, ◌+◌, ◌==◌, ◌&&◌, not, List, [], ◌∷◌, ◌++◌, length, slice_get, codes, Option, Some, None, if◌then◌else◌}
+use Rattle.std.specs.Prelude.{ℕ, ◌==◌, ◌&&◌, not, List, [], ◌++◌, length, codes, Option, Some, None, if◌then◌else◌}
 use Rattle.std.specs.List.{list_any}
 use Rattle.std.specs.Fmt.{decimal}
 use Rattle.task_sheet.specs.Sheet.{Task, task_at}
@@ -38,21 +38,7 @@ abbrev pub at_words : Option ℕ → List ℕ
 at_words (Some number) = codes " at " ++ decimal number
 at_words None = []
 
--- the line of a level after its number: the task, what becomes of it, and the number of its thread
-abbrev pub judged_words : List Task → JudgedTask → Option ℕ → List ℕ
-judged_words U j number =
-    name_at U j.task ++ codes " "
-    ++ judgement_words U (task_at U j.task).deadline j.judgement ++ at_words number ++ codes "\n"
-
--- a line for each level, the first above some places; the numbers of the threads stand by place
-abbrev pub judged_level_lines : List Task → (numbers : List ℕ) → (place : ℕ) → List JudgedTask
-    → List ℕ
-judged_level_lines U numbers place [] = []
-judged_level_lines U numbers place (j ∷ judged) =
-    decimal (place + 1) ++ codes " " ++ judged_words U j (slice_get numbers place)
-    ++ judged_level_lines U numbers (place + 1) judged
-
--- whether all tasks meet their deadlines, and then each, the lowest first, with the numbers of their threads; none, where
--- none are given
-abbrev pub judged_lines : List Task → List JudgedTask → (numbers : List ℕ) → List ℕ
-judged_lines U judged numbers = meets_line U judged ++ judged_level_lines U numbers 0 judged
+-- the line of a level after its number: the task, and what becomes of it
+abbrev pub judged_words : List Task → JudgedTask → List ℕ
+judged_words U j =
+    name_at U j.task ++ codes " " ++ judgement_words U (task_at U j.task).deadline j.judgement

@@ -6,5 +6,8 @@ pub mod Node
 pub mod KeptOrder
 pub mod Front
 pub mod Missed
+pub mod Levels
+pub mod Slack
+pub mod JudgedLines
 pub mod Explained
 pub mod Ceilings

@@ -12,7 +12,9 @@ ghost use Rattle.judge.specs.Judgements.{AllJudged, all_meet, judged_of, order_j
 ghost use Rattle.judge.specs.Ceilings.{AllJudgedBy, blocking_at, ceiling_in};
 ghost use Rattle.judge.specs.SettingFaults.{setting_number, thread_number, top_number};
 ghost use Rattle.judge.specs.Node.{IsNodeOrder, IsNodeOrderBy, IsOrderBy};
+ghost use Rattle.judge.specs.Slack.{IsStableSort, by_slack, row_key};
 ghost use Rattle.judge.specs.declared.judging.JudgedTask.{JudgedTask};
+ghost use Rattle.judge.specs.declared.levels.LevelRow.{LevelRow};
 ghost use Rattle.judge.specs.declared.rows.Setting.{Setting};
 ghost use Rattle.judge.specs.declared.rows.TheConstants.{NUMBER_LIMIT};
 
@@ -89,4 +91,9 @@ pub fn given_ceilings_block_no_less()
         → IsOrderBy U threads (order_judged judged)
         → ((lock : List ℕ) → setting_number mutexes lock ≤ top_number U threads lock)
         → AllJudgedBy U threads mutexes judged ↔ AllJudged U judged }
+{}
+
+/// Sorting by slack gives the stable sort of the rows by their keys: it loses none and doubles none.
+pub fn sorting_keeps_rows()
+    ensures { (U : List Task) (rows : List LevelRow) → IsStableSort (row_key U) rows (by_slack U rows) }
 {}

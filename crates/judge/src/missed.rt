@@ -1,19 +1,18 @@
 //! What a task needs that misses its deadline in an order.
-ghost use Rattle.std.specs.Prelude.{◌≡◌, ◌++◌, ◌<◌, length, All, IfOk, codes, string_bytes};
-ghost use Rattle.std.specs.Fmt.{decimal};
+ghost use Rattle.std.specs.Prelude.{◌≡◌, ◌++◌, ◌<◌, length, All, IfOk, OnOk, string_bytes};
 ghost use Rattle.task_sheet.specs.Indexes.{among};
 ghost use Rattle.task_sheet.specs.Demand.{Passes};
-ghost use Rattle.lines.specs.Naming.{name_at};
 ghost use Rattle.judge.specs.Judgements.{order_judged};
-ghost use Rattle.judge.specs.Missed.{IsMissedBelow, missed_lines};
+ghost use Rattle.judge.specs.Missed.{IsMissedBelow, missed_line, missed_lines};
 
 use crate::explained::order_of;
 use crate::judging::JudgedTask;
 use assignment::members_of;
 use ceilings::Tabled;
-use explain::{Account, needs_account, parts_text};
+use explain::{Account, needs_account, push_parts};
 use lines::push_name;
 use std::alloc::{AllocError, Global};
+use task_lines::{Owner, push_team};
 use task_sheet::TaskSet;
 
 /// What a task needs at least below these, the lowest first, where it doesn't pass there. The error is out of memory.
@@ -38,35 +37,36 @@ pub(crate) fn missed_account(
 }
 
 // The first of the lines of a level, which has a number, where its task misses its deadline.
-fn missed_line(
-    alloc: Global,
+fn push_missed_line(
+    text: &mut String,
+    owners: &[Owner],
     set: &TaskSet,
     number: usize,
     account: &Account,
-) -> Result<String, AllocError>
-    ensures { IfOk result (λ text. string_bytes text ≡ decimal number ++ codes " "
-        ++ name_at set.now account.now.task ++ codes " misses " ++ decimal account.now.deadline
-        ++ codes " needs " ++ decimal account.now.time ++ codes "\n") }
+) -> Result<(), AllocError>
+    ensures { OnOk result (string_bytes text.new ≡ string_bytes text.old
+        ++ missed_line owners.now set.now number account.now) }
 {
     let time = account.time;
     let deadline = account.deadline;
-    let mut text = format!(in alloc; "{number} ")?;
-    push_name(&mut text, set, account.task)?;
-    writeln!(text, " misses {deadline} needs {time}")?;
-    Ok(text)
+    write!(text, "{number} ")?;
+    push_name(text, set, account.task)?;
+    write!(text, " misses {deadline} needs {time}")?;
+    push_team(text, owners, set, account.task)?;
+    text.push_str("\n")
 }
 
-/// The lines of a level, which has a number, where its task misses its deadline. The error is out of memory.
-pub(crate) fn missed_text(
-    alloc: Global,
+/// All of them, with the parts of what it needs. The error is out of memory.
+pub(crate) fn push_missed(
+    text: &mut String,
+    owners: &[Owner],
     set: &TaskSet,
     number: usize,
     account: &Account,
-) -> Result<String, AllocError>
-    ensures { IfOk result (λ text. string_bytes text ≡ missed_lines set.now number account.now) }
+) -> Result<(), AllocError>
+    ensures { OnOk result (string_bytes text.new ≡ string_bytes text.old
+        ++ missed_lines owners.now set.now number account.now) }
 {
-    let parts = parts_text(alloc, set, account)?;
-    let mut text = missed_line(alloc, set, number, account)?;
-    text.push_str(parts.as_str())?;
-    Ok(text)
+    push_missed_line(text, owners, set, number, account)?;
+    push_parts(text, owners, set, account.task, &account.parts)
 }

@@ -1,17 +1,20 @@
 //! The lines that say what becomes of the tasks of an order.
-ghost use Rattle.std.specs.Prelude.{◌≡◌, ◌++◌, ◌<◌, codes, slice_get, All, OnOk, IfOk, string_bytes};
+ghost use Rattle.std.specs.Prelude.{◌≡◌, ◌++◌, ◌<◌, codes, All, OnOk, IfOk, string_bytes};
 ghost use Rattle.task_sheet.specs.declared.set.TheConstants.{TASK_LIMIT};
 ghost use Rattle.task_sheet.specs.Sheet.{task_at};
 ghost use Rattle.task_sheet.specs.Indexes.{indexes_of};
-ghost use Rattle.judge.specs.JudgementLines.{at_words, judged_words, judgement_words, meets_line, judged_lines, judged_level_lines, missed_line, missed_of};
+ghost use Rattle.judge.specs.JudgementLines.{at_words, judged_words, judgement_words, meets_line, missed_line, missed_of};
+ghost use Rattle.judge.specs.JudgedLines.{judged_lines};
 
 use crate::judging::{JudgedTask, Judgement, all_meet, does_meet};
+use crate::levels::{judged_rows, push_rows};
+use crate::slack::sorted_if;
 use lines::{push_name, push_names};
 use std::alloc::{AllocError, Global};
 use task_sheet::{Members, TaskSet};
 
-// The deadline of the task at an index, in microseconds; 0 past the end of the set.
-fn deadline_of(set: &TaskSet, task: usize) -> u64
+/// The deadline of the task at an index, in microseconds; 0 past the end of the set.
+pub(crate) fn deadline_of(set: &TaskSet, task: usize) -> u64
     ensures { result ≡ (task_at set.now task).deadline }
 {
     match set.get(task) {
@@ -77,73 +80,48 @@ fn push_judgement(
     }
 }
 
-// The number at a place, where one is given.
-fn number_at(numbers: &[u64], place: usize) -> Option<u64>
-    ensures { result ≡ slice_get numbers.now place }
-{
-    numbers.get(place).copied()
-}
-
-// The end of a line, with the number of a thread where one is given.
-fn push_number(text: &mut String, number: Option<u64>) -> Result<(), AllocError>
-    ensures { OnOk result (string_bytes text.new
-        ≡ string_bytes text.old ++ at_words number ++ codes "\n") }
+/// The number of a thread, where one is given.
+pub(crate) fn push_at(text: &mut String, number: Option<u64>) -> Result<(), AllocError>
+    ensures { OnOk result (string_bytes text.new ≡ string_bytes text.old ++ at_words number) }
 {
     match number {
-        Some(number) => writeln!(text, " at {number}"),
-        None => text.push_str("\n"),
+        Some(number) => write!(text, " at {number}"),
+        None => Ok(()),
     }
 }
 
-// The line of a level after its number: the task, what becomes of it, and the number of its thread.
+/// The line of a level after its number: the task, and what becomes of it.
 pub(crate) fn push_judged(
     text: &mut String,
     set: &TaskSet,
     judged: &JudgedTask,
-    number: Option<u64>,
 ) -> Result<(), AllocError>
     ensures { OnOk result (string_bytes text.new
-        ≡ string_bytes text.old ++ judged_words set.now judged.now number) }
+        ≡ string_bytes text.old ++ judged_words set.now judged.now) }
 {
     let deadline = deadline_of(set, judged.task);
     push_name(text, set, judged.task)?;
-    push_judgement(text, set, deadline, judged.judgement)?;
-    push_number(text, number)
+    push_judgement(text, set, deadline, judged.judgement)
 }
 
-// A line for each level.
-fn push_levels(
-    text: &mut String,
-    set: &TaskSet,
-    judged: &[JudgedTask],
-    numbers: &[u64],
-) -> Result<(), AllocError>
-    ensures { OnOk result (string_bytes text.new
-        ≡ string_bytes text.old ++ judged_level_lines set.now numbers.now 0 judged.now) }
-{
-    for (place, entry) in judged.iter().enumerate() {
-        let level = place + 1;
-        write!(text, "{level} ")?;
-        push_judged(text, set, entry, number_at(numbers, place))?;
-    }
-    Ok(())
-}
-
-/// The lines that say what becomes of the tasks of an order, the lowest first: whether all meet their deadlines, and then
-/// each, with the numbers of their threads, where they are given. The error is out of memory.
+/// The lines that say what becomes of the tasks of an order, the lowest first, or by slack where it is asked for: whether all
+/// meet their deadlines, and then each, with the numbers of their threads, where they are given. The error is out of memory.
 pub fn judged_text(
     alloc: Global,
+    sorted: bool,
     set: &TaskSet,
     judged: &[JudgedTask],
     numbers: &[u64],
 ) -> Result<String, AllocError>
     requires { All (λ j. j.task < TASK_LIMIT) judged.now }
     ensures { IfOk result (λ text. string_bytes text
-        ≡ judged_lines set.now judged.now numbers.now) }
+        ≡ judged_lines sorted set.now judged.now numbers.now) }
 {
+    let rows = judged_rows(alloc, judged, numbers)?;
+    let rows = sorted_if(alloc, sorted, set, rows)?;
     let mut text = String::new(alloc);
     push_first(&mut text, set, judged)?;
-    push_levels(&mut text, set, judged, numbers)?;
+    push_rows(&mut text, &[], set, &rows)?;
     Ok(text)
 }
 

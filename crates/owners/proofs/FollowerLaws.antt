@@ -6,7 +6,7 @@ use Rattle.toml.specs.Data.{item}
 use Rattle.toml.specs.View.{view, items_view}
 use Rattle.toml.specs.declared.value.Value.{Value}
 use Rattle.owners.specs.Followers.{along, follower_if, follows, followers_by, followers_from, followers_of, says_no_begin}
-use Rattle.owners.specs.declared.owner.Owner.{Owner}
+use Rattle.task_lines.specs.declared.owner.Owner.{Owner}
 
 items-step : (vs : List Value) (i : ℕ) (d : Value) → i < length vs → d ≡ get_or vs i d
     → items_view (drop i vs) ≡ item (view d) (items_view (drop (i + 1) vs))

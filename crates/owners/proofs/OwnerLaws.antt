@@ -7,7 +7,7 @@ use Rattle.teams.specs.Owned.{TeamSetData}
 use Rattle.teams.specs.declared.reading.Part.{Part}
 use Rattle.teams.proofs.TeamLaws.{gathered_more}
 use Rattle.owners.specs.Owners.{IsDocumentOf, interrupts_by, owned_by, owners_of}
-use Rattle.owners.specs.declared.owner.Owner.{Owner}
+use Rattle.task_lines.specs.declared.owner.Owner.{Owner}
 
 -- these have the tasks of the documents that a text begins with, up to what stands behind them
 pub record Gathers (text rest : List ℕ) (owners : List Owner) : Type 0 where

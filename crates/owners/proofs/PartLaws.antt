@@ -8,7 +8,7 @@ use Rattle.std.proofs.lemmas.List.Sorted.{IsPermutation-refl, IsPermutation-tran
 use Rattle.task_sheet.specs.Sheet.{Task}
 use Rattle.owners.specs.Owners.{has_task}
 use Rattle.owners.specs.Parts.{all_of, parts_by}
-use Rattle.owners.specs.declared.owner.Owner.{Owner}
+use Rattle.task_lines.specs.declared.owner.Owner.{Owner}
 
 pub whole : (owners : List Owner) (teams : List (List ℕ)) (U : List Task)
     → IsPermutation U (all_of (parts_by owners teams U))

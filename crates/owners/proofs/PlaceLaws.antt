@@ -5,7 +5,7 @@ use Rattle.std.proofs.lemmas.Option.{none-some, same_Some}
 use Rattle.std.proofs.lemmas.Slice.Eq.{bytes_eq-Decides}
 use Rattle.std.specs.Option.{option_map}
 use Rattle.owners.specs.Owners.{interrupt_of, interrupt_team, is_interrupt_of, is_team, number_below, with_place}
-use Rattle.owners.specs.declared.owner.Owner.{Owner}
+use Rattle.task_lines.specs.declared.owner.Owner.{Owner}
 
 -- past one that passes there is one more
 counts_on : (test : ℕ → Bool) (n m : ℕ) → n < m → test n ≡ true

@@ -5,7 +5,7 @@ use Rattle.task_sheet.specs.declared.node.Interrupt.{Interrupt}
 use Rattle.task_sheet.specs.Sheet.{Task, interrupted}
 use Rattle.task_sheet.specs.Demand.{interrupts_within}
 use Rattle.owners.specs.Owners.{has_task, interrupt_team}
-use Rattle.owners.specs.declared.owner.Owner.{Owner}
+use Rattle.task_lines.specs.declared.owner.Owner.{Owner}
 
 -- the task on whose account a team's interrupts are: the first of its tasks; the first of all, where it has none
 abbrev pub account_by : List Owner → List Task → Option (List ℕ) → ℕ

@@ -8,8 +8,8 @@ use Rattle.task_sheet.specs.ReadsSet.{IsDocument}
 use Rattle.lines.specs.Words.{name_in}
 use Rattle.teams.specs.Gathering.{HasNoHead, HasNoNode, IsFirstPart, IsNodePart}
 use Rattle.teams.specs.declared.reading.Part.{Part}
-use Rattle.owners.specs.declared.owner.Owner.{Owner}
-use Rattle.owners.specs.declared.owner.Owner.TheVariants.{Task as OwnedTask, Interrupt as OwnedInterrupt, Follower}
+use Rattle.task_lines.specs.declared.owner.Owner.{Owner}
+use Rattle.task_lines.specs.declared.owner.Owner.TheVariants.{Task as OwnedTask, Interrupt as OwnedInterrupt, Follower, Clocked}
 
 -- ---- in a document's tree
 -- the items of an array; none of another value
@@ -101,6 +101,7 @@ abbrev pub is_follower : Owner → List ℕ → ℕ → Bool
 is_follower (OwnedTask task team) name place = false
 is_follower (OwnedInterrupt team) name place = false
 is_follower (Follower task own) name place = same_bytes task name && own == place
+is_follower (Clocked task) name place = false
 
 -- that section begins where the one before it ends
 abbrev pub follows : List Owner → List ℕ → ℕ → Bool

@@ -1,7 +1,5 @@
 pub mod Followers
+pub mod Clocks
 pub mod Owners
 pub mod Accounts
-pub mod NamedLines
-pub mod Slack
-pub mod Sorting
 pub mod Parts

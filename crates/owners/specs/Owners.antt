@@ -1,7 +1,6 @@
 -- Whose the tasks and interrupts of a set are: the node's, and those of the teams whose documents are gathered in its text.
 use Rattle.std.specs.Prelude.{◌≡◌, ◌⊎◌, ℕ, zero, suc, ◌+◌, ◌-◌, ◌==◌, Bool, true, false, List, [], ◌∷◌, ◌++◌, map, codes, Option, None, Some, is_some, option_map, Err, if◌then◌else◌}
 use Rattle.std.specs.Fmt.{decimal}
-use Rattle.std.specs.Option.{option_or}
 use Rattle.toml.specs.Data.{Members}
 use Rattle.task_sheet.specs.Tree.{tables_at}
 use Rattle.task_sheet.specs.TreeFault.{interrupts_fault}
@@ -19,25 +18,16 @@ use Rattle.teams.specs.ReadsText.{is_gathered}
 use Rattle.teams.specs.declared.fault.TeamsFault.TheVariants.{Of}
 use Rattle.teams.specs.declared.reading.Part.{Part}
 use Rattle.owners.specs.Followers.{AreFollowersIf}
-use Rattle.owners.specs.declared.owner.Owner.{Owner}
-use Rattle.owners.specs.declared.owner.Owner.TheVariants.{Task as OwnedTask, Interrupt as OwnedInterrupt, Follower}
-
--- the team, where this says whose the task of a name is
-abbrev pub team_by : Owner → List ℕ → Option (List ℕ)
-team_by (OwnedTask task team) name = if same_bytes task name then Some team else None
-team_by (OwnedInterrupt team) name = None
-team_by (Follower task place) name = None
-
--- the team of the first task with a name, where there is one
-abbrev pub team_of : List Owner → List ℕ → Option (List ℕ)
-team_of [] name = None
-team_of (o ∷ owners) name = option_or (team_by o name) (team_of owners name)
+use Rattle.task_lines.specs.Teams.{team_of}
+use Rattle.task_lines.specs.declared.owner.Owner.{Owner}
+use Rattle.task_lines.specs.declared.owner.Owner.TheVariants.{Task as OwnedTask, Interrupt as OwnedInterrupt, Follower, Clocked}
 
 -- the first is this one, or else what the others have of it: where the first is no interrupt, and where it is one before it
 abbrev pub unless_before : Owner → (place : ℕ) → (same less : Option (List ℕ)) → Option (List ℕ)
 unless_before (OwnedTask task team) place same less = same
 unless_before (OwnedInterrupt team) place same less = if place == 0 then Some team else less
 unless_before (Follower task own) place same less = same
+unless_before (Clocked task) place same less = same
 
 -- whose the interrupt at a place among all is, from 0
 abbrev pub interrupt_team : List Owner → ℕ → Option (List ℕ)

@@ -4,8 +4,8 @@ use Rattle.std.specs.List.{filter, list_any}
 use Rattle.task_sheet.specs.Sheet.{Task, same_bytes}
 use Rattle.owners.specs.Accounts.{accounted}
 use Rattle.owners.specs.Owners.{has_task}
-use Rattle.owners.specs.declared.owner.Owner.{Owner}
-use Rattle.owners.specs.declared.owner.Owner.TheVariants.{Task as OwnedTask, Interrupt as OwnedInterrupt, Follower}
+use Rattle.task_lines.specs.declared.owner.Owner.{Owner}
+use Rattle.task_lines.specs.declared.owner.Owner.TheVariants.{Task as OwnedTask, Interrupt as OwnedInterrupt, Follower, Clocked}
 
 -- a team is among some
 abbrev pub is_among : List (List ℕ) → List ℕ → Bool
@@ -16,6 +16,7 @@ abbrev pub with_owner : (teams : List (List ℕ)) → Owner → List (List ℕ)
 with_owner teams (OwnedTask task team) = if is_among teams team then teams else teams ++ team ∷ []
 with_owner teams (OwnedInterrupt team) = teams
 with_owner teams (Follower task place) = teams
+with_owner teams (Clocked task) = teams
 
 -- some teams, and those that have tasks, each once, by their first tasks
 abbrev pub teams_from : (teams : List (List ℕ)) → List Owner → List (List ℕ)

@@ -5,9 +5,10 @@ ghost use Rattle.task_sheet.specs.Sheet.{IsInterrupt};
 ghost use Rattle.owners.specs.Accounts.{account_by, account_of, accounted, interrupts_on, own_from, own_if};
 ghost use Rattle.owners.specs.Owners.{has_task};
 
-use crate::owner::{Owner, interrupt_team};
+use crate::owner::interrupt_team;
 use crate::parts::{copies_of, has_task};
 use std::alloc::{AllocError, Global};
+use task_lines::Owner;
 use task_sheet::{INTERRUPT_LIMIT, Interrupt, Name, Sheet};
 
 // The first of a team's tasks.

@@ -7,9 +7,9 @@ ghost use Rattle.task_sheet.specs.declared.sheet.TheConstants.{SECTION_LIMIT};
 ghost use Rattle.teams.specs.ReadsText.{is_gathered};
 ghost use Rattle.owners.specs.Followers.{AreFollowersBehind, AreFollowersIf, AreFollowersIn, AreFollowersOfText, along, follower_if, follows, followers_by, followers_from, followers_in, is_follower, items_at, items_in, says_no_begin, task_word, text_at, tree_followers};
 
-use crate::owner::Owner;
 use lines::name_of;
 use std::alloc::{AllocError, Global};
+use task_lines::Owner;
 use task_sheet::Name;
 use teams::{first_part, is_gathered, node_part};
 use toml::{Table, Value};
@@ -187,7 +187,7 @@ fn is_follower(owner: Owner, name: &[u8], place: usize) -> bool
 {
     match owner {
         Owner::Follower { task, place: own } => task.bytes() == name && own == place,
-        Owner::Task { .. } | Owner::Interrupt { .. } => false,
+        Owner::Task { .. } | Owner::Interrupt { .. } | Owner::Clocked { .. } => false,
     }
 }
 

@@ -1,13 +1,11 @@
-//! Laws of interrupts' names, of the parts of a set and of sorted lines: the contracts of functions that do nothing.
+//! Laws of interrupts' names and of the parts of a set: the contracts of functions that do nothing.
 ghost use Rattle.std.specs.Prelude.{◌≡◌, ℕ, List, Some};
 ghost use Rattle.std.specs.List.Sorted.{IsPermutation};
 ghost use Rattle.task_sheet.specs.Sheet.{Task};
 ghost use Rattle.owners.specs.Owners.{interrupt_of};
 ghost use Rattle.owners.specs.Accounts.{AccountsKeepTime, accounted};
 ghost use Rattle.owners.specs.Parts.{all_of, parts_of};
-ghost use Rattle.owners.specs.Slack.{by_slack};
-ghost use Rattle.owners.specs.Sorting.{IsSortedBySlack};
-ghost use Rattle.owners.specs.declared.owner.Owner.{Owner};
+ghost use Rattle.task_lines.specs.declared.owner.Owner.{Owner};
 
 /// No two interrupts are the same team's at the same place among that team's.
 pub fn interrupts_are_told_apart()
@@ -24,9 +22,4 @@ pub fn parts_are_the_set()
 /// Whose account interrupts are on changes nothing of what they take in any window.
 pub fn accounts_keep_time()
     ensures { AccountsKeepTime }
-{}
-
-/// Sorting by slack gives the stable sort of the lines by where they stand: it loses none and doubles none.
-pub fn sorting_keeps_lines()
-    ensures { (U : List Task) (text : List ℕ) → IsSortedBySlack U text (by_slack U text) }
 {}

@@ -3,53 +3,14 @@ ghost use Rattle.std.specs.Prelude.{◌≡◌, ◌<◌, ◌≤◌, ◌++◌, IfO
 ghost use Rattle.toml.specs.View.{table_view};
 ghost use Rattle.task_sheet.specs.declared.node.TheConstants.{INTERRUPT_LIMIT};
 ghost use Rattle.teams.specs.NodeDocument.{node_word};
-ghost use Rattle.owners.specs.Owners.{AreBoth, AreNodeOwners, AreOwners, AreOwnersIn, AreWhose, IsDocumentOf, IsNoDocument, interrupt_of, interrupt_team, interrupt_words, interrupts_by, is_interrupt_of, node_owners, number_below, owned_by, team_by, team_of};
+ghost use Rattle.owners.specs.Owners.{AreBoth, AreNodeOwners, AreOwners, AreOwnersIn, AreWhose, IsDocumentOf, IsNoDocument, interrupt_of, interrupt_team, interrupt_words, interrupts_by, is_interrupt_of, node_owners, number_below, owned_by};
 
 use crate::followers::read_followers;
 use std::alloc::{AllocError, Global};
+use task_lines::Owner;
 use task_sheet::{Document, Interrupt, Name, SetFault, TaskSet, read_document, read_interrupts};
 use teams::{Part, first_part, is_gathered, node_part};
 use toml::Table;
-
-/// What a set's text says beside the set. A team is the one whose document has it: `node` for the node's.
-#[derive(Clone, Copy, Debug)]
-pub enum Owner {
-    /// Whose a task is.
-    Task { name: Name, team: Name },
-    /// Whose an interrupt is.
-    Interrupt { team: Name },
-    /// The section of a task at a place, from 0, doesn't say where it begins: where the one before it ends.
-    Follower { task: Name, place: usize },
-}
-
-// The team, where it is the one of the task of this name.
-fn team_by(owner: Owner, name: &[u8]) -> Option<Name>
-    ensures { result ≡ team_by owner name.now }
-{
-    match owner {
-        Owner::Task { name: task, team } => {
-            if task.bytes() == name {
-                Some(team)
-            } else {
-                None
-            }
-        }
-        Owner::Interrupt { .. } | Owner::Follower { .. } => None,
-    }
-}
-
-// The team of the first task with this name.
-pub(crate) fn team_of(owners: &[Owner], name: &[u8]) -> Option<Name>
-    ensures { result ≡ team_of owners.now name.now }
-{
-    for owner in owners {
-        let team = team_by(*owner, name);
-        if team.is_some() {
-            return team;
-        }
-    }
-    None
-}
 
 /// Whose the interrupt at a place among all is, from 0.
 pub(crate) fn interrupt_team(owners: &[Owner], place: usize) -> Option<Name>

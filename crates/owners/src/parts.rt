@@ -5,8 +5,8 @@ ghost use Rattle.owners.specs.Owners.{has_task};
 ghost use Rattle.owners.specs.Parts.{is_among, parts_by, parts_of, teams_from, with_owner};
 
 use crate::accounts::accounted;
-use crate::owner::{Owner, team_of};
 use std::alloc::{AllocError, Global};
+use task_lines::{Owner, team_of};
 use task_sheet::{Name, Sheet};
 
 // Whether a team is among some.

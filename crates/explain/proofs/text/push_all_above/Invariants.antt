@@ -3,5 +3,5 @@ use Rattle.explain.specs.ExplanationLines.{above_lines}
 use Rattle.explain.proofs.text.push_all_above.Given as goal
 
 abbrev pub invariant-loop-task : goal.invariant-loop-task
-invariant-loop-task l = string_bytes l.text ++ above_lines l.set (drop l.task-index l.above)
-    ≡ string_bytes l.fn.text ++ above_lines l.set l.above
+invariant-loop-task l = string_bytes l.text ++ above_lines l.owners l.set (drop l.task-index l.above)
+    ≡ string_bytes l.fn.text ++ above_lines l.owners l.set l.above

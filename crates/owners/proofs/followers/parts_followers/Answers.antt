@@ -1,6 +1,6 @@
 use Rattle.std.proofs.Common.{rules, ◌≡◌, ◌++◌, List, [], ◌∷◌, sym, refl, subst, append_assoc, append-nil, ◌∙◌, ap}
 use Rattle.owners.specs.Followers.{AreFollowersOfText}
-use Rattle.owners.specs.declared.owner.Owner.{Owner}
+use Rattle.task_lines.specs.declared.owner.Owner.{Owner}
 use Rattle.owners.proofs.followers.parts_followers.Goals as goal
 
 pub loop-part-preserved : goal.loop-part-preserved

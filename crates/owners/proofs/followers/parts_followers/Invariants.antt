@@ -1,6 +1,6 @@
 use Rattle.std.proofs.Common.{◌++◌, List, length}
 use Rattle.owners.specs.Followers.{AreFollowersOfText}
-use Rattle.owners.specs.declared.owner.Owner.{Owner}
+use Rattle.task_lines.specs.declared.owner.Owner.{Owner}
 use Rattle.owners.proofs.followers.parts_followers.Given as goal
 
 abbrev pub invariant-loop-part : goal.invariant-loop-part

@@ -2,8 +2,8 @@ use Rattle.std.proofs.Common.{rules, ◌≡◌, ◌∙◌, ◌+◌, ◌++◌, �
 use Rattle.std.proofs.lemmas.List.{drop_more}
 use Rattle.task_sheet.specs.declared.node.Interrupt.{Interrupt}
 use Rattle.owners.specs.Owners.{interrupts_by}
-use Rattle.owners.specs.declared.owner.Owner.{Owner}
-use Rattle.owners.specs.declared.owner.Owner.TheVariants as owner
+use Rattle.task_lines.specs.declared.owner.Owner.{Owner}
+use Rattle.task_lines.specs.declared.owner.Owner.TheVariants as owner
 use Rattle.owners.proofs.owner.push_interrupts.Goals as goal
 
 pub loop-preserved : goal.loop-preserved
