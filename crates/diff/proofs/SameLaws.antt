@@ -21,7 +21,7 @@ use Rattle.assignment.specs.declared.placing.Placing.{Placing}
 use Rattle.diff.specs.Own.{own_at, own_len, own_jitter}
 use Rattle.diff.specs.Keys.{is_changed, other_at, other_section, words_below}
 use Rattle.owners.specs.Owners.{interrupt_words}
-use Rattle.owners.specs.declared.owner.Owner.{Owner}
+use Rattle.task_lines.specs.declared.owner.Owner.{Owner}
 use Rattle.diff.specs.Whole.{came_at, came_line, gone_at, gone_line as gone_interrupt, interrupts_of}
 use Rattle.diff.specs.Whole.{node_line, node_of, other_of, preference_line, same_some, whole_lines}
 use Rattle.diff.specs.Seats.{seat_of}
@@ -76,36 +76,37 @@ no_effect OnBound s = let less : nat_lt s.bound s.bound ≡ false =
 no_effect OnLevel s = let level = nat_eq_equiv.refl s.level in let bound =
     nat_eq_equiv.refl s.bound in rw (level, bound) refl
 
-no_seats : (effect : Effect) (U : List Task) (task : ℕ) (o : Option Seat)
-    → seats_line effect U task o o ≡ []
-no_seats effect U task None = refl
-no_seats effect U task (Some s) = ap (effect_words U task s s) (no_effect effect s)
+no_seats : (effect : Effect) (owners : List Owner) (U : List Task) (task : ℕ) (o : Option Seat)
+    → seats_line effect owners U task o o ≡ []
+no_seats effect owners U task None = refl
+no_seats effect owners U task (Some s) = ap (effect_words owners U task s s) (no_effect effect s)
 
 no_lines : (n : ℕ) (line : ℕ → List ℕ) → ((k : ℕ) → k < n → line k ≡ []) → words_below n line ≡ []
 no_lines zero line each = refl
 no_lines (suc n) line each =
     rw (no_lines n line (λ k lt. each k (omega arith)), each n (omega arith)) refl
 
-module _ (weighs : Bool) (U : List Task) (P : Placing) (apart : AreDistinct same_name U) where
-  removed : (k : ℕ) → k < length U → removed_line U P U k ≡ []
-  removed k lt = ap (gone_line U P k) (own_index U apart k lt)
+module _ (weighs : Bool) (owners : List Owner) (U : List Task) (P : Placing)
+    (apart : AreDistinct same_name U) where
+  removed : (k : ℕ) → k < length U → removed_line owners U P U k ≡ []
+  removed k lt = ap (gone_line owners U P k) (own_index U apart k lt)
 
-  edits : (k : ℕ) → k < length U → edit_line weighs U P U P k ≡ []
-  edits k lt = ap (λ o. edit_from weighs U P o U P k) (own_index U apart k lt)
+  edits : (k : ℕ) → k < length U → edit_line weighs owners U P U P k ≡ []
+  edits k lt = ap (λ o. edit_from weighs owners U P o U P k) (own_index U apart k lt)
       ∙ rw (unchanged weighs (task_at U k)) refl
 
-  rests : (effect : Effect) (k : ℕ) → k < length U → rest_line effect weighs U P U P k ≡ []
-  rests effect k lt = ap (λ o. rest_from effect weighs U P o U P k) (own_index U apart k lt)
-      ∙ rw (unchanged weighs (task_at U k)) (no_seats effect U k (seat_of U P k))
+  rests : (effect : Effect) (k : ℕ) → k < length U → rest_line effect weighs owners U P U P k ≡ []
+  rests effect k lt = ap (λ o. rest_from effect weighs owners U P o U P k) (own_index U apart k lt)
+      ∙ rw (unchanged weighs (task_at U k)) (no_seats effect owners U k (seat_of U P k))
 
-  pub unchanged_is_silent : change_lines weighs U P U P ≡ []
+  pub unchanged_is_silent : change_lines weighs owners U P U P ≡ []
   unchanged_is_silent = rw (
-    no_lines (length U) (removed_line U P U) removed,
+    no_lines (length U) (removed_line owners U P U) removed,
     no_lines (length U)
-        (edit_line weighs U P U P) edits,
-    no_lines (length U) (rest_line OnBound weighs U P U P)
+        (edit_line weighs owners U P U P) edits,
+    no_lines (length U) (rest_line OnBound weighs owners U P U P)
         (rests OnBound),
-    no_lines (length U) (rest_line OnLevel weighs U P U P) (rests OnLevel),
+    no_lines (length U) (rest_line OnLevel weighs owners U P U P) (rests OnLevel),
   ) refl
 
 -- ---- nor does anything else of a set

@@ -16,7 +16,8 @@ use Rattle.diff.specs.ChangeLines.{removed_line, rest_from, rest_line, seats_lin
 use Rattle.diff.specs.Unchanged.{AreKept, IsKept, IsSameSeat, IsUnchanged}
 use Rattle.task_sheet.specs.declared.node.Interrupt.{Interrupt}
 use Rattle.owners.specs.Owners.{interrupt_words}
-use Rattle.owners.specs.declared.owner.Owner.{Owner}
+use Rattle.task_lines.specs.Teams.{team_words}
+use Rattle.task_lines.specs.declared.owner.Owner.{Owner}
 use Rattle.diff.specs.Whole.{both_weigh, came_at, came_line, gone_at, gone_line as gone_interrupt}
 use Rattle.diff.specs.Whole.{interrupt_line, node_line, node_of, node_words, other_of}
 use Rattle.diff.specs.Whole.{preference_line, same_preference, same_some, some_number_words}
@@ -59,17 +60,17 @@ no_line (suc n) line none k lt =
     ]
 
 -- ---- no task is gone
-still_there : (U : List Task) (P : Placing) (k : ℕ) (o : Option ℕ) → gone_line U P k o ≡ []
+still_there : (owners : List Owner) (U : List Task) (P : Placing) (k : ℕ) (o : Option ℕ) → gone_line owners U P k o ≡ []
     → (after : ℕ) × (o ≡ Some after)
-still_there U P k (Some after) none = (after, refl)
-still_there U P k None none = absurd (some_line (start_words Removed U k (seat_of U P k) None) none)
+still_there owners U P k (Some after) none = (after, refl)
+still_there owners U P k None none = absurd (some_line (start_words Removed U k (seat_of U P k) None ++ team_words owners U k) none)
 
 -- ---- each new task was there before
-was_there : (weighs : Bool) (U : List Task) (P : Placing) (V : List Task) (Q : Placing) (k : ℕ)
-    (o : Option ℕ) → edit_from weighs U P o V Q k ≡ [] → (before : ℕ) × (o ≡ Some before)
-was_there weighs U P V Q k (Some before) none = (before, refl)
-was_there weighs U P V Q k None none =
-    absurd (some_line (start_words Added V k None (seat_of V Q k)) none)
+was_there : (weighs : Bool) (owners : List Owner) (U : List Task) (P : Placing) (V : List Task) (Q : Placing) (k : ℕ)
+    (o : Option ℕ) → edit_from weighs owners U P o V Q k ≡ [] → (before : ℕ) × (o ≡ Some before)
+was_there weighs owners U P V Q k (Some before) none = (before, refl)
+was_there weighs owners U P V Q k None none =
+    absurd (some_line (start_words Added V k None (seat_of V Q k) ++ team_words owners V k) none)
 
 says_same : (weighs : Bool) (U : List Task) (P : Placing) (V : List Task) (Q : Placing)
     (before k : ℕ) → changed_line weighs U P before V Q k ≡ []
@@ -84,11 +85,11 @@ says_same weighs U P V Q before k none =
     ]
 
 -- ---- nothing becomes of it
-no_words : (V : List Task) (k : ℕ) (old new : Seat) (o : Option Kind)
-    → effect_words V k old new o ≡ [] → o ≡ None
-no_words V k old new None none = refl
-no_words V k old new (Some kind) none =
-    absurd (some_line (start_words kind V k (Some old) (Some new)) none)
+no_words : (owners : List Owner) (V : List Task) (k : ℕ) (old new : Seat) (o : Option Kind)
+    → effect_words owners V k old new o ≡ [] → o ≡ None
+no_words owners V k old new None none = refl
+no_words owners V k old new (Some kind) none =
+    absurd (some_line (start_words kind V k (Some old) (Some new) ++ team_words owners V k) none)
 
 same_bound : (old new : Seat) → effect_of OnBound old new ≡ None → old.bound ≡ new.bound
 same_bound old new none =
@@ -116,62 +117,62 @@ same_level old new bound none =
           let never : Some Moved ≡ None = (rw (is, other) at none) in absurd (cc)
     ]
 
-same_seat : (V : List Task) (k : ℕ) (old new : Option Seat) → seats_line OnBound V k old new ≡ []
-    → seats_line OnLevel V k old new ≡ [] → IsSameSeat old new
-same_seat V k None None bound level = tt
-same_seat V k None (Some new) bound level = tt
-same_seat V k (Some old) None bound level = tt
-same_seat V k (Some old) (Some new) bound level =
-    let at_bound = same_bound old new (no_words V k old new (effect_of OnBound old new) bound) in
-    (same_level old new at_bound (no_words V k old new (effect_of OnLevel old new) level), at_bound)
+same_seat : (owners : List Owner) (V : List Task) (k : ℕ) (old new : Option Seat) → seats_line OnBound owners V k old new ≡ []
+    → seats_line OnLevel owners V k old new ≡ [] → IsSameSeat old new
+same_seat owners V k None None bound level = tt
+same_seat owners V k None (Some new) bound level = tt
+same_seat owners V k (Some old) None bound level = tt
+same_seat owners V k (Some old) (Some new) bound level =
+    let at_bound = same_bound old new (no_words owners V k old new (effect_of OnBound old new) bound) in
+    (same_level old new at_bound (no_words owners V k old new (effect_of OnLevel old new) level), at_bound)
 
 -- ---- all
-module _ (weighs : Bool) (U : List Task) (P : Placing) (V : List Task) (Q : Placing)
-    (silent : change_lines weighs U P V Q ≡ []) where
+module _ (weighs : Bool) (owners : List Owner) (U : List Task) (P : Placing) (V : List Task) (Q : Placing)
+    (silent : change_lines weighs owners U P V Q ≡ []) where
   abbrev removals : List ℕ
-  removals = words_below (length U) (removed_line U P V)
+  removals = words_below (length U) (removed_line owners U P V)
 
   abbrev edits : List ℕ
-  edits = words_below (length V) (edit_line weighs U P V Q)
+  edits = words_below (length V) (edit_line weighs owners U P V Q)
 
   abbrev bounds : List ℕ
-  bounds = words_below (length V) (rest_line OnBound weighs U P V Q)
+  bounds = words_below (length V) (rest_line OnBound weighs owners U P V Q)
 
   abbrev levels : List ℕ
-  levels = words_below (length V) (rest_line OnLevel weighs U P V Q)
+  levels = words_below (length V) (rest_line OnLevel weighs owners U P V Q)
 
   none : (removals ≡ []) × (edits ≡ []) × (bounds ≡ []) × (levels ≡ [])
   none = four removals edits bounds levels silent
 
   kept_at : (k before : ℕ) → index_in U V k ≡ Some before → k < length V → IsKept weighs U P V Q k
   kept_at k before at lt =
-      let edit : edit_from weighs U P (Some before) V Q k ≡ [] =
-      ap (λ o. edit_from weighs U P o V Q k) (sym at)
-      ∙ no_line (length V) (edit_line weighs U P V Q) none.1 k lt in
+      let edit : edit_from weighs owners U P (Some before) V Q k ≡ [] =
+      ap (λ o. edit_from weighs owners U P o V Q k) (sym at)
+      ∙ no_line (length V) (edit_line weighs owners U P V Q) none.1 k lt in
       let sheet : is_changed weighs (task_at U before) (task_at V k) ≡ false =
       says_same weighs U P V Q before k edit in
-      let bound : kept_line OnBound weighs U P before V Q k ≡ [] =
-      ap (λ o. rest_from OnBound weighs U P o V Q k) (sym at)
-      ∙ no_line (length V) (rest_line OnBound weighs U P V Q) none.2 k lt in
-      let level : kept_line OnLevel weighs U P before V Q k ≡ [] =
-      ap (λ o. rest_from OnLevel weighs U P o V Q k) (sym at)
-      ∙ no_line (length V) (rest_line OnLevel weighs U P V Q) none.3 k lt in
+      let bound : kept_line OnBound weighs owners U P before V Q k ≡ [] =
+      ap (λ o. rest_from OnBound weighs owners U P o V Q k) (sym at)
+      ∙ no_line (length V) (rest_line OnBound weighs owners U P V Q) none.2 k lt in
+      let level : kept_line OnLevel weighs owners U P before V Q k ≡ [] =
+      ap (λ o. rest_from OnLevel weighs owners U P o V Q k) (sym at)
+      ∙ no_line (length V) (rest_line OnLevel weighs owners U P V Q) none.3 k lt in
       record {
         before = before;
         index = at;
         sheet = sheet;
-        seat = same_seat V k (seat_of U P before) (seat_of V Q k) (rw sheet at bound)
+        seat = same_seat owners V k (seat_of U P before) (seat_of V Q k) (rw sheet at bound)
             (rw sheet at level);
       }
 
   pub none_is_gone : (k : ℕ) → k < length U → (after : ℕ) × (index_in V U k ≡ Some after)
-  none_is_gone k lt = still_there U P k (index_in V U k)
-      (no_line (length U) (removed_line U P V) none.0 k lt)
+  none_is_gone k lt = still_there owners U P k (index_in V U k)
+      (no_line (length U) (removed_line owners U P V) none.0 k lt)
 
   pub each_is_kept : (k : ℕ) → k < length V → IsKept weighs U P V Q k
   each_is_kept k lt =
-      let before = was_there weighs U P V Q k (index_in U V k)
-      (no_line (length V) (edit_line weighs U P V Q) none.1 k lt) in
+      let before = was_there weighs owners U P V Q k (index_in U V k)
+      (no_line (length V) (edit_line weighs owners U P V Q) none.1 k lt) in
       kept_at k before.0 before.1 lt
 
 -- ---- and of what no task has
@@ -234,10 +235,10 @@ module _ (was : List Owner) (U : List Task) (is : List Owner) (V : List Task) wh
   }
 
 pub silent_is_unchanged : (old : Preference) (was : List Owner) (U : List Task) (P : Placing)
-    (new : Preference) (is : List Owner) (V : List Task) (Q : Placing)
+    (new : Preference) (is : List Owner) (V : List Task) (Q : Placing) (owners : List Owner)
     → whole_lines old was U new is V ≡ []
-    → change_lines (both_weigh old new) U P V Q ≡ [] → IsUnchanged old was U P new is V Q
-silent_is_unchanged old was U P new is V Q whole silent =
+    → change_lines (both_weigh old new) owners U P V Q ≡ [] → IsUnchanged old was U P new is V Q
+silent_is_unchanged old was U P new is V Q owners whole silent =
     let preference = preference_line old new in
     let node = node_line U V in
     let came = words_below INTERRUPT_LIMIT (came_at was U is V) in
@@ -247,6 +248,6 @@ silent_is_unchanged old was U P new is V Q whole silent =
       preference = one_preference old new none.0;
       node = one_node U V none.1;
       interrupts = are_kept was U is V none.2 none.3;
-      none_gone = none_is_gone (both_weigh old new) U P V Q silent;
-      all_kept = each_is_kept (both_weigh old new) U P V Q silent;
+      none_gone = none_is_gone (both_weigh old new) owners U P V Q silent;
+      all_kept = each_is_kept (both_weigh old new) owners U P V Q silent;
     }

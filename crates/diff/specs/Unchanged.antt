@@ -5,7 +5,7 @@ use Rattle.task_sheet.specs.declared.node.Interrupt.{Interrupt}
 use Rattle.task_sheet.specs.declared.node.TheConstants.{INTERRUPT_LIMIT}
 use Rattle.task_sheet.specs.declared.prefer.Preference.{Preference}
 use Rattle.owners.specs.Owners.{interrupt_words}
-use Rattle.owners.specs.declared.owner.Owner.{Owner}
+use Rattle.task_lines.specs.declared.owner.Owner.{Owner}
 use Rattle.assignment.specs.declared.placing.Placing.{Placing}
 use Rattle.diff.specs.Keys.{is_changed}
 use Rattle.diff.specs.ChangeLines.{index_in}

@@ -9,7 +9,7 @@ use Rattle.task_sheet.specs.declared.prefer.Preference.TheVariants.{Weights, Dea
 use Rattle.task_sheet.specs.Prefer.{preference_word}
 use Rattle.task_sheet.specs.Sheet.{Task, task_at, same_bytes, same_node, same_interrupt}
 use Rattle.owners.specs.Owners.{interrupt_words}
-use Rattle.owners.specs.declared.owner.Owner.{Owner}
+use Rattle.task_lines.specs.declared.owner.Owner.{Owner}
 use Rattle.diff.specs.Keys.{number_words, pair_words, words_below}
 
 -- ---- the preference

@@ -6,7 +6,7 @@ ghost use Rattle.task_sheet.specs.declared.prefer.Preference.{Preference};
 ghost use Rattle.task_sheet.specs.Sheet.{Task, task_at};
 ghost use Rattle.task_sheet.specs.TaskSet.{IsTaskSet};
 ghost use Rattle.overheads.specs.Padding.{padded_task};
-ghost use Rattle.owners.specs.declared.owner.Owner.{Owner};
+ghost use Rattle.task_lines.specs.declared.owner.Owner.{Owner};
 ghost use Rattle.assignment.specs.declared.placing.Placing.{Placing};
 ghost use Rattle.assignment.specs.Placings.{IsPlacingOf};
 ghost use Rattle.chains.specs.declared.bounds.Level.{Level};
@@ -23,8 +23,8 @@ ghost use Rattle.diff.specs.declared.seats.Seat.{Seat};
 /// A set beside itself has no line.
 pub fn unchanged_says_nothing()
     ensures whole { (by : Preference) (whose : List Owner) (U : List Task) → whole_lines by whose U by whose U ≡ [] }
-    ensures tasks { (weighs : Bool) (U : List Task) (P : Placing) → IsTaskSet U
-        → change_lines weighs U P U P ≡ [] }
+    ensures tasks { (weighs : Bool) (whose : List Owner) (U : List Task) (P : Placing) → IsTaskSet U
+        → change_lines weighs whose U P U P ≡ [] }
 {}
 
 /// A task whose sheet says the same but for what a node takes has no line of a change: such a sheet, padded by any two
@@ -39,8 +39,9 @@ pub fn node_changes_no_task()
 /// has its level and its bound.
 pub fn silent_changes_nothing()
     ensures { (old : Preference) (was : List Owner) (U : List Task) (P : Placing) (new : Preference)
-        (is : List Owner) (V : List Task) (Q : Placing) → whole_lines old was U new is V ≡ []
-        → change_lines (both_weigh old new) U P V Q ≡ [] → IsUnchanged old was U P new is V Q }
+        (is : List Owner) (V : List Task) (Q : Placing) (whose : List Owner)
+        → whole_lines old was U new is V ≡ []
+        → change_lines (both_weigh old new) whose U P V Q ≡ [] → IsUnchanged old was U P new is V Q }
 {}
 
 /// Slack is never cut off at 0: bound and slack of a placing's seat are together the deadline.

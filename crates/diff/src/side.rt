@@ -1,6 +1,6 @@
 //! One side of a change.
 use assignment::Placing;
-use owners::Owner;
+use task_lines::Owner;
 use task_sheet::{Preference, TaskSet};
 
 /// A set with what becomes of it.

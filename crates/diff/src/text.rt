@@ -3,7 +3,7 @@ ghost use Rattle.std.specs.Prelude.{◌≡◌, ◌++◌, ◌<◌, length, OnOk, 
 ghost use Rattle.diff.specs.Seats.{seat_of};
 ghost use Rattle.diff.specs.Keys.{words_below};
 ghost use Rattle.diff.specs.Whole.{both_weigh};
-ghost use Rattle.diff.specs.ChangeLines.{added_line, change_lines, changed_line, edit_line, effect_line, effect_of, index_in, kept_line, removed_line, rest_line, seats_words, start_words, word_of};
+ghost use Rattle.diff.specs.ChangeLines.{added_line, change_lines, changed_line, edit_line, effect_line, effect_of, index_in, kept_line, owned_line, removed_line, rest_line, seats_words, start_words, word_of};
 
 use crate::keys::{is_changed, push_keys};
 use crate::pairs::push_pair;
@@ -12,6 +12,7 @@ use crate::side::Side;
 use crate::whole::both_weigh;
 use lines::push_name;
 use std::alloc::{AllocError, Global};
+use task_lines::{Owner, push_team};
 use task_sheet::TaskSet;
 
 /// What becomes of a task or a chain.
@@ -119,6 +120,24 @@ fn push_start(
     push_seats(text, old, new)
 }
 
+// That line of a task, with its team.
+fn push_owned(
+    text: &mut String,
+    kind: Kind,
+    owners: &[Owner],
+    set: &TaskSet,
+    task: usize,
+    old: Option<Seat>,
+    new: Option<Seat>,
+) -> Result<(), AllocError>
+    ensures { OnOk result (string_bytes text.new ≡ string_bytes text.old
+        ++ owned_line kind owners.now set.now task old new) }
+{
+    push_start(text, kind, set, task, old, new)?;
+    push_team(text, owners, set, task)?;
+    text.push_str("\n")
+}
+
 // The index of a set's task in another set, by its name.
 fn index_in(other: &TaskSet, set: &TaskSet, task: usize) -> Option<usize>
     requires { task < length set.now }
@@ -130,32 +149,36 @@ fn index_in(other: &TaskSet, set: &TaskSet, task: usize) -> Option<usize>
 // The line of an old task that is gone.
 fn push_removed(
     text: &mut String,
+    owners: &[Owner],
     old: &Side<'_>,
     new: &Side<'_>,
     task: usize,
 ) -> Result<(), AllocError>
     requires { task < length old.now.set.now }
     ensures { OnOk result (string_bytes text.new ≡ string_bytes text.old
-        ++ removed_line old.now.set.now old.now.placing.now new.now.set.now task) }
+        ++ removed_line owners.now old.now.set.now old.now.placing.now new.now.set.now task) }
 {
     match index_in(new.set, old.set, task) {
         Some(_) => Ok(()),
         None => {
             let seat = seat_of(old, task);
-            push_start(text, Kind::Removed, old.set, task, seat, None)?;
-            text.push_str("\n")
+            push_owned(text, Kind::Removed, owners, old.set, task, seat, None)
         }
     }
 }
 
 // The line of a new task that was not there before.
-fn push_added(text: &mut String, new: &Side<'_>, task: usize) -> Result<(), AllocError>
+fn push_added(
+    text: &mut String,
+    owners: &[Owner],
+    new: &Side<'_>,
+    task: usize,
+) -> Result<(), AllocError>
     ensures { OnOk result (string_bytes text.new ≡ string_bytes text.old
-        ++ added_line new.now.set.now new.now.placing.now task) }
+        ++ added_line owners.now new.now.set.now new.now.placing.now task) }
 {
     let seat = seat_of(new, task);
-    push_start(text, Kind::Added, new.set, task, None, seat)?;
-    text.push_str("\n")
+    push_owned(text, Kind::Added, owners, new.set, task, None, seat)
 }
 
 // The line of a new task that was there before, where its sheet says something else.
@@ -190,6 +213,7 @@ fn push_kept(
     text: &mut String,
     effect: Effect,
     weighs: bool,
+    owners: &[Owner],
     old: &Side<'_>,
     before: usize,
     new: &Side<'_>,
@@ -198,7 +222,7 @@ fn push_kept(
     requires before { before < length old.now.set.now }
     requires task { task < length new.now.set.now }
     ensures { OnOk result (string_bytes text.new ≡ string_bytes text.old
-        ++ kept_line effect weighs old.now.set.now old.now.placing.now before
+        ++ kept_line effect weighs owners.now old.now.set.now old.now.placing.now before
         new.now.set.now new.now.placing.now task) }
 {
     let was = &old.set.sheets()[before];
@@ -207,7 +231,7 @@ fn push_kept(
         return Ok(());
     }
     match (seat_of(old, before), seat_of(new, task)) {
-        (Some(from), Some(to)) => push_effect(text, effect, new.set, task, from, to),
+        (Some(from), Some(to)) => push_effect(text, effect, owners, new.set, task, from, to),
         _ => Ok(()),
     }
 }
@@ -216,19 +240,17 @@ fn push_kept(
 fn push_effect(
     text: &mut String,
     effect: Effect,
+    owners: &[Owner],
     set: &TaskSet,
     task: usize,
     from: Seat,
     to: Seat,
 ) -> Result<(), AllocError>
     ensures { OnOk result (string_bytes text.new ≡ string_bytes text.old
-        ++ effect_line effect set.now task from to) }
+        ++ effect_line effect owners.now set.now task from to) }
 {
     match effect_of(effect, from, to) {
-        Some(kind) => {
-            push_start(text, kind, set, task, Some(from), Some(to))?;
-            text.push_str("\n")
-        }
+        Some(kind) => push_owned(text, kind, owners, set, task, Some(from), Some(to)),
         None => Ok(()),
     }
 }
@@ -237,18 +259,19 @@ fn push_effect(
 fn push_edit(
     text: &mut String,
     weighs: bool,
+    owners: &[Owner],
     old: &Side<'_>,
     new: &Side<'_>,
     task: usize,
 ) -> Result<(), AllocError>
     requires { task < length new.now.set.now }
     ensures { OnOk result (string_bytes text.new ≡ string_bytes text.old
-        ++ edit_line weighs old.now.set.now old.now.placing.now
+        ++ edit_line weighs owners.now old.now.set.now old.now.placing.now
         new.now.set.now new.now.placing.now task) }
 {
     match index_in(old.set, new.set, task) {
         Some(before) => push_changed(text, weighs, old, before, new, task),
-        None => push_added(text, new, task),
+        None => push_added(text, owners, new, task),
     }
 }
 
@@ -257,29 +280,35 @@ fn push_rest(
     text: &mut String,
     effect: Effect,
     weighs: bool,
+    owners: &[Owner],
     old: &Side<'_>,
     new: &Side<'_>,
     task: usize,
 ) -> Result<(), AllocError>
     requires { task < length new.now.set.now }
     ensures { OnOk result (string_bytes text.new ≡ string_bytes text.old
-        ++ rest_line effect weighs old.now.set.now old.now.placing.now
+        ++ rest_line effect weighs owners.now old.now.set.now old.now.placing.now
         new.now.set.now new.now.placing.now task) }
 {
     match index_in(old.set, new.set, task) {
-        Some(before) => push_kept(text, effect, weighs, old, before, new, task),
+        Some(before) => push_kept(text, effect, weighs, owners, old, before, new, task),
         None => Ok(()),
     }
 }
 
 // The lines of the old tasks that are gone.
-fn push_all_removed(text: &mut String, old: &Side<'_>, new: &Side<'_>) -> Result<(), AllocError>
+fn push_all_removed(
+    text: &mut String,
+    owners: &[Owner],
+    old: &Side<'_>,
+    new: &Side<'_>,
+) -> Result<(), AllocError>
     ensures { OnOk result (string_bytes text.new ≡ string_bytes text.old
         ++ words_below (length old.now.set.now)
-        (removed_line old.now.set.now old.now.placing.now new.now.set.now)) }
+        (removed_line owners.now old.now.set.now old.now.placing.now new.now.set.now)) }
 {
     for task in 0..old.set.len() {
-        push_removed(text, old, new, task)?;
+        push_removed(text, owners, old, new, task)?;
     }
     Ok(())
 }
@@ -288,16 +317,17 @@ fn push_all_removed(text: &mut String, old: &Side<'_>, new: &Side<'_>) -> Result
 fn push_edits(
     text: &mut String,
     weighs: bool,
+    owners: &[Owner],
     old: &Side<'_>,
     new: &Side<'_>,
 ) -> Result<(), AllocError>
     ensures { OnOk result (string_bytes text.new ≡ string_bytes text.old
         ++ words_below (length new.now.set.now)
-        (edit_line weighs old.now.set.now old.now.placing.now
+        (edit_line weighs owners.now old.now.set.now old.now.placing.now
         new.now.set.now new.now.placing.now)) }
 {
     for task in 0..new.set.len() {
-        push_edit(text, weighs, old, new, task)?;
+        push_edit(text, weighs, owners, old, new, task)?;
     }
     Ok(())
 }
@@ -307,33 +337,40 @@ fn push_rests(
     text: &mut String,
     effect: Effect,
     weighs: bool,
+    owners: &[Owner],
     old: &Side<'_>,
     new: &Side<'_>,
 ) -> Result<(), AllocError>
     ensures { OnOk result (string_bytes text.new ≡ string_bytes text.old
         ++ words_below (length new.now.set.now)
-        (rest_line effect weighs old.now.set.now old.now.placing.now
+        (rest_line effect weighs owners.now old.now.set.now old.now.placing.now
         new.now.set.now new.now.placing.now)) }
 {
     for task in 0..new.set.len() {
-        push_rest(text, effect, weighs, old, new, task)?;
+        push_rest(text, effect, weighs, owners, old, new, task)?;
     }
     Ok(())
 }
 
 /// The lines of a change from one set to another: of the tasks that are gone, then of those that came and those whose
 /// sheets say something else, then of the others whose responses are other ones, and last of those whose levels alone are.
-/// Each by rank. A weight counts only where weights are the sheets' own on both sides. The error is out of memory.
-pub fn change_text(alloc: Global, old: &Side<'_>, new: &Side<'_>) -> Result<String, AllocError>
+/// Each by rank, with its team. A weight counts only where weights are the sheets' own on both sides. The error is out of
+/// memory.
+pub fn change_text(
+    alloc: Global,
+    owners: &[Owner],
+    old: &Side<'_>,
+    new: &Side<'_>,
+) -> Result<String, AllocError>
     ensures { IfOk result (λ text. string_bytes text
-        ≡ change_lines (both_weigh old.now.preference new.now.preference)
+        ≡ change_lines (both_weigh old.now.preference new.now.preference) owners.now
         old.now.set.now old.now.placing.now new.now.set.now new.now.placing.now) }
 {
     let weighs = both_weigh(old.preference, new.preference);
     let mut text = String::new(alloc);
-    push_all_removed(&mut text, old, new)?;
-    push_edits(&mut text, weighs, old, new)?;
-    push_rests(&mut text, Effect::OnBound, weighs, old, new)?;
-    push_rests(&mut text, Effect::OnLevel, weighs, old, new)?;
+    push_all_removed(&mut text, owners, old, new)?;
+    push_edits(&mut text, weighs, owners, old, new)?;
+    push_rests(&mut text, Effect::OnBound, weighs, owners, old, new)?;
+    push_rests(&mut text, Effect::OnLevel, weighs, owners, old, new)?;
     Ok(text)
 }

@@ -7,8 +7,9 @@ ghost use Rattle.diff.specs.Whole.{both_weigh, came_at, gone_at, interrupt_line,
 
 use crate::pairs::{push_number, push_pair};
 use crate::side::Side;
-use owners::{Owner, push_interrupt};
+use owners::push_interrupt;
 use std::alloc::{AllocError, Global};
+use task_lines::Owner;
 use task_sheet::{INTERRUPT_LIMIT, Interrupt, Node, Preference, TaskSet};
 
 // The two preferences are one.

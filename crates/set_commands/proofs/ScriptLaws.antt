@@ -2,7 +2,7 @@
 use Rattle.std.proofs.Common.{ℕ, List, Option}
 use Rattle.preferences.specs.declared.asking.Asking.{Asking}
 use Rattle.task_sheet.specs.Sheet.{Task}
-use Rattle.owners.specs.declared.owner.Owner.{Owner}
+use Rattle.task_lines.specs.declared.owner.Owner.{Owner}
 use Rattle.answering.specs.Owning.{HasOwned}
 use Rattle.answering.specs.Sets.{HasNoSet}
 use Rattle.answering.specs.declared.refusal.CommandRefusal.{CommandRefusal}

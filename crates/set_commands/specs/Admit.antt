@@ -1,21 +1,23 @@
 -- What becomes of the set that a reader has; what `desk admit` and `desk settings` answer and print.
-use Rattle.std.specs.Prelude.{ℕ, Bool, List, ◌++◌, Option, Result, Ok, Err}
+use Rattle.std.specs.Prelude.{ℕ, Bool, List, [], ◌++◌, Option, Result, Ok, Err}
 use Rattle.task_sheet.specs.Sheet.{Task}
 use Rattle.preferences.specs.declared.asking.Asking.{Asking}
 use Rattle.assignment.specs.Placings.{IsPlacingOf}
 use Rattle.assignment.specs.declared.placing.Placing.{Placing}
-use Rattle.answering.specs.OrderParts.{placing_said}
+use Rattle.assignment.specs.declared.placing.Placing.TheVariants.{Best, Stuck}
+use Rattle.answering.specs.OrderParts.{placing_first, placing_said}
 use Rattle.answering.specs.Printed.{Prints}
 use Rattle.answering.specs.Sets.{HasNoSet, HasSet}
 use Rattle.answering.specs.declared.refusal.CommandRefusal.{CommandRefusal}
 use Rattle.answering.specs.declared.status.Status.{Status}
-use Rattle.answering.specs.declared.answer.OrderPart.TheVariants.{Levels, Settings}
+use Rattle.answering.specs.declared.answer.OrderPart.TheVariants.{Settings}
 use Rattle.chain_tables.specs.Chains.{ChainData}
 use Rattle.chain_lines.specs.declared.text.Telling.TheVariants as telling
 use Rattle.set_commands.specs.Chained.{AreLeastOf, IsPlaced, chained_said, chained_status}
 use Rattle.least_chains.specs.LeastBound.{levels_of}
 use Rattle.set_commands.specs.declared.chained.Placed.{Placed}
-use Rattle.owners.specs.Slack.{sorted_if}
+use Rattle.judge.specs.Levels.{placed_rows, rows_lines}
+use Rattle.judge.specs.Slack.{sorted_if}
 use Rattle.answering.specs.Owning.{HasChained, HasOwned}
 
 -- what is said of a reader, by what the call prefers: what the writer held, what it holds then, and the status
@@ -59,12 +61,18 @@ AnswersAdmitted asking known (Ok a) =
     × AreLeastOf a.set (levels_of a.placing) a.chains a.placing a.leasts
 AnswersAdmitted asking known (Err r) = HasNoSet asking known r
 
--- what is printed of a placing: each level of its order, the lowest first, or by slack where it is asked for, and each chain in
+-- each level of the order of a placing, the lowest first, or by slack where it is asked for; none where no order passes
+abbrev pub levels_said : (sorted : Bool) → List Task → Placing → List ℕ
+levels_said sorted U (Best places) = rows_lines [] U (sorted_if sorted U (placed_rows 1 places.items))
+levels_said sorted U (Stuck left) = []
+
+-- what is printed of a placing: its first line, each level of its order, the lowest first, or by slack where it is asked for, and each chain in
 -- it, with these least bounds; or the line of its obstruction
 abbrev pub admitted_said : (sorted : Bool) → List Task → (leasts : List (Option ℕ)) → List ChainData
     → Placing → List ℕ
 admitted_said sorted U leasts chains placing =
-    sorted_if sorted U (placing_said Levels U placing) ++ chained_said telling.Bound U leasts chains placing
+    (placing_first U placing ++ levels_said sorted U placing)
+    ++ chained_said telling.Bound U leasts chains placing
 
 -- the answer on what the reader had is printed after what the writer held, and the status is the answer's
 abbrev pub SaysAdmitted : (sorted : Bool) → OfOneSays

@@ -1,5 +1,5 @@
 -- What `desk limits` answers and prints.
-use Rattle.std.specs.Prelude.{◌≡◌, ◌⊎◌, ℕ, zero, suc, ◌≤◌, ◌==◌, Bool, ◌&&◌, true, false, List, [], ◌++◌, length, codes, Option, Result, Ok, Err}
+use Rattle.std.specs.Prelude.{◌≡◌, ◌⊎◌, ℕ, zero, suc, ◌≤◌, ◌==◌, Bool, ◌&&◌, not, true, false, List, [], ◌++◌, length, codes, Option, Result, Ok, Err}
 use Rattle.std.specs.Io.KnownBytes.{Appends}
 use Rattle.preferences.specs.declared.asking.Asking.{Asking}
 use Rattle.task_sheet.specs.Sheet.{Task}
@@ -10,7 +10,8 @@ use Rattle.chain_tables.specs.Chains.{ChainData}
 use Rattle.limit_lines.specs.LimitLines.{IsLast, order_given, order_in, places_in}
 use Rattle.limit_lines.specs.ChainReaches.{AreChainLines, AreChainsTaskLines, chain_at}
 use Rattle.limit_lines.specs.Common.{AreCommonLines}
-use Rattle.owners.specs.declared.owner.Owner.{Owner}
+use Rattle.owners.specs.Clocks.{has_clock}
+use Rattle.task_lines.specs.declared.owner.Owner.{Owner}
 use Rattle.answering.specs.Owning.{HasChained, HasOwned}
 use Rattle.set_commands.specs.Admit.{OfOneSays, Places}
 use Rattle.least_chains.specs.LeastBound.{levels_at, levels_of}
@@ -32,12 +33,13 @@ alone_line true (Best places) = []
 alone_line true (Stuck left) = codes "no single change\n"
 
 -- the lines behind those of the tasks of a placed set, by whether these are none: of the interrupts and the node, that one,
--- and that of the factors
+-- unless a task is on a clock, whose period no line moves, and that of the factors
 abbrev pub AreEndLines : List Owner → List Task → Placing → (is_silent : Bool) → List ℕ → Type 0
 AreEndLines owners U placing is_silent text =
     (common : List ℕ) × (last : List ℕ) × AreCommonLines owners U (order_given placing) common
     × IsLast U (order_given placing) last
-    × (text ≡ common ++ (alone_line (is_silent && (length common == 0)) placing ++ last))
+    × (text ≡ common
+    ++ (alone_line ((is_silent && (length common == 0)) && not (has_clock owners)) placing ++ last))
 
 -- the lines of each task of a placed set, and those
 abbrev pub ListsNumbers : List Owner → List Task → Placing → List ℕ → Type 0

@@ -8,13 +8,13 @@ use Rattle.assignment.specs.declared.placing.Placing.{Placing}
 use Rattle.explain.specs.Explanations.{Explains}
 use Rattle.explain.specs.TaskLines.{task_lines}
 use Rattle.explain.specs.declared.explanation.Explanation.{Explanation}
+use Rattle.judge.specs.Levels.{rows_lines}
+use Rattle.judge.specs.declared.levels.LevelRow.{LevelRow}
 use Rattle.judge.specs.declared.explained.Parted.TheVariants.{Missed}
 use Rattle.chain_tables.specs.Chains.{ChainData}
 use Rattle.limit_lines.specs.LimitLines.{AreTaskLines, order_given, places_in}
 use Rattle.worst_lines.specs.WorstLines.{AreWorstLines}
-use Rattle.owners.specs.NamedLines.{named_lines}
-use Rattle.owners.specs.declared.owner.Owner.{Owner}
-use Rattle.owners.specs.declared.words.Naming.TheVariants as naming
+use Rattle.task_lines.specs.declared.owner.Owner.{Owner}
 use Rattle.set_commands.specs.Admit.{OfOneSays, Places}
 use Rattle.answering.specs.Statuses.{placing_status}
 use Rattle.set_commands.specs.Explain.{AreDecided, SaysExplained}
@@ -27,7 +27,6 @@ use Rattle.set_commands.specs.declared.one_task.TaskPart.{TaskPart}
 use Rattle.set_commands.specs.declared.one_task.TaskPart.TheVariants.{Limits, Reasons, Worst}
 use Rattle.answering.specs.declared.refusal.CommandRefusal.{CommandRefusal}
 use Rattle.answering.specs.declared.refusal.CommandRefusal.TheVariants as refusal
-use Rattle.answering.specs.declared.status.Status.{Status}
 use Rattle.answering.specs.Asked.{asked_task}
 
 -- a text is what is said of a task of a placed set: how far its numbers may go, also with each chain met, what explains its
@@ -38,9 +37,9 @@ AreLinesOf Limits owners chains U placing task text =
     × AreTaskLines owners U (order_given placing) (places_in placing) task numbers
     × ListsChainsOf owners chains U placing task chained × (text ≡ numbers ++ chained)
 AreLinesOf (Reasons all sorted) owners chains U placing task text =
-    (explanation : Explanation) × (decided : List ℕ) × Explains U placing explanation
+    (explanation : Explanation) × (decided : List LevelRow) × Explains U placing explanation
     × AreDecided Missed U (Some task) placing decided
-    × (text ≡ named_lines naming.Reasons owners (task_lines U task explanation ++ decided))
+    × (text ≡ task_lines owners U task explanation ++ rows_lines owners U decided)
 AreLinesOf Worst owners chains U placing task text = AreWorstLines U placing (Some task) text
 
 -- a set, whose its tasks are, its chains, its placing, and what is said of a task

@@ -4,7 +4,7 @@ use Rattle.preferences.specs.declared.asking.Asking.{Asking}
 use Rattle.drafts.specs.declared.team.TheConstants.{TEAM_LIMIT}
 use Rattle.task_sheet.specs.Sheet.{Task}
 use Rattle.owners.specs.Parts.{parts_of}
-use Rattle.owners.specs.declared.owner.Owner.{Owner}
+use Rattle.task_lines.specs.declared.owner.Owner.{Owner}
 use Rattle.scripted.specs.Scripted.{script_of, script_of_teams}
 use Rattle.answering.specs.Owning.{HasOwned}
 use Rattle.answering.specs.Printed.{Prints}

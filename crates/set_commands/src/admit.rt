@@ -1,22 +1,22 @@
 //! What becomes of the tasks of a set, `desk admit` and `desk settings`.
-ghost use Rattle.std.specs.Prelude.{◌≡◌, IfOk, string_bytes};
+ghost use Rattle.std.specs.Prelude.{◌≡◌, ◌++◌, [], IfOk, string_bytes};
 ghost use Rattle.assignment.specs.Placings.{IsPlacingOf};
-ghost use Rattle.owners.specs.Slack.{sorted_if};
-ghost use Rattle.set_commands.specs.Admit.{OfPlaced, PlacesOwned, SaysAdmitted, SaysSettings, admitted_said};
+ghost use Rattle.judge.specs.Levels.{placed_rows, rows_lines};
+ghost use Rattle.judge.specs.Slack.{sorted_if};
+ghost use Rattle.set_commands.specs.Admit.{OfPlaced, PlacesOwned, SaysAdmitted, SaysSettings, admitted_said, levels_said};
 ghost use Rattle.set_commands.specs.Chained.{IsPlaced};
-ghost use Rattle.answering.specs.OrderParts.{placing_said};
+ghost use Rattle.answering.specs.OrderParts.{placing_first, placing_said};
 ghost use Rattle.answering.specs.Outcomes.{IsRead, IsSaidOn, failed_read};
 
 use crate::chained::{Placed, chained_status, chained_text, leasts_of};
 use answering::{
-    Audience, CommandRefusal, OrderPart, Status, joined, placing_text, print_bytes, print_made,
-    read_owned,
+    Audience, CommandRefusal, OrderPart, Status, placing_text, print_made, read_owned,
 };
-use assignment::{Placing, place_all};
+use assignment::{Place, Placing, place_all};
 use ceilings::{LockTable, Tabled};
 use chain_lines::{Telling, all_met};
+use judge::{placed_rows, push_rows, sorted_if};
 use least_chains::levels_of;
-use owners::sorted_if;
 use preferences::Asking;
 use std::alloc::{AllocError, Global};
 use std::io::{Read, Write};
@@ -54,33 +54,65 @@ pub fn place<R: Read + Drop, P: Audience>(
     })
 }
 
-// The levels of the order of a placing, by slack where it is asked for; or the line of its obstruction.
+// The levels of an order, by slack where it is asked for.
+fn places_text(
+    alloc: Global,
+    sorted: bool,
+    set: &TaskSet,
+    places: &[Place],
+) -> Result<String, AllocError>
+    ensures { IfOk result (λ text. string_bytes text
+        ≡ rows_lines [] set.now (sorted_if sorted set.now (placed_rows 1 places.now))) }
+{
+    let rows = placed_rows(alloc, places)?;
+    let rows = sorted_if(alloc, sorted, set, rows)?;
+    let mut text = String::new(alloc);
+    push_rows(&mut text, &[], set, &rows)?;
+    Ok(text)
+}
+
+// Those of the order of a placing; none where no order passes.
 fn levels_text(
     alloc: Global,
     sorted: bool,
     set: &TaskSet,
     placing: &Placing,
-) -> Result<Vec<u8>, AllocError>
-    requires { IsPlacingOf set.now placing.now }
-    ensures { IfOk result (λ text. text.items
-        ≡ sorted_if sorted set.now (placing_said OrderPart.Levels set.now placing.now)) }
+) -> Result<String, AllocError>
+    ensures { IfOk result (λ text. string_bytes text ≡ levels_said sorted set.now placing.now) }
 {
-    let text = placing_text(alloc, OrderPart::Levels, set, placing)?;
-    let mut lines = Vec::new(alloc);
-    lines.extend_from_slice(text.as_bytes())?;
-    sorted_if(alloc, sorted, set, lines)
+    match placing {
+        Placing::Best(places) => places_text(alloc, sorted, set, places),
+        Placing::Stuck(_) => Ok(String::new(alloc)),
+    }
+}
+
+// The first line of a placing, and then its levels.
+fn placed_text(
+    alloc: Global,
+    sorted: bool,
+    set: &TaskSet,
+    placing: &Placing,
+) -> Result<String, AllocError>
+    requires { IsPlacingOf set.now placing.now }
+    ensures { IfOk result (λ text. string_bytes text
+        ≡ placing_first set.now placing.now ++ levels_said sorted set.now placing.now) }
+{
+    let mut text = placing_text(alloc, OrderPart::Count, set, placing)?;
+    let levels = levels_text(alloc, sorted, set, placing)?;
+    text.push_str(levels.as_str())?;
+    Ok(text)
 }
 
 // That, and then each chain in the order.
-fn admitted_text(alloc: Global, sorted: bool, placed: &Placed) -> Result<Vec<u8>, AllocError>
+fn admitted_text(alloc: Global, sorted: bool, placed: &Placed) -> Result<String, AllocError>
     requires { IsPlaced placed.now }
-    ensures { IfOk result (λ text. text.items
+    ensures { IfOk result (λ text. string_bytes text
         ≡ admitted_said sorted placed.now.tasks placed.now.leasts.items placed.now.chains.items
         placed.now.placing) }
 {
-    let lines = levels_text(alloc, sorted, &placed.tasks, &placed.placing)?;
+    let mut text = placed_text(alloc, sorted, &placed.tasks, &placed.placing)?;
     let chains = chained_text(alloc, Telling::Bound, placed)?;
-    let text = joined(alloc, &lines, chains.as_bytes())?;
+    text.push_str(chains.as_str())?;
     Ok(text)
 }
 
@@ -96,7 +128,7 @@ pub fn say_admitted<W: Write + Drop>(
     ensures { IsSaidOn (OfPlaced (SaysAdmitted sorted) placed.now) W.contents output.old output.new result }
 {
     let status = chained_status(placed);
-    print_bytes(admitted_text(alloc, sorted, placed), status, output)
+    print_made(admitted_text(alloc, sorted, placed), status, output)
 }
 
 // What a node is set to for the order of a set that was placed, or the line of its obstruction.

@@ -1,28 +1,31 @@
 //! `desk explain`.
-ghost use Rattle.std.specs.Prelude.{◌≡◌, ◌++◌, ℕ, List, Some, None, IfOk, OnOk, false, string_bytes};
+ghost use Rattle.std.specs.Prelude.{◌≡◌, ◌++◌, List, length, Some, None, IfOk, OnOk, true, string_bytes};
+ghost use Rattle.task_sheet.specs.Indexes.{indexes_of, listed_below};
 ghost use Rattle.assignment.specs.Placings.{IsPlacingOf};
 ghost use Rattle.explain.specs.Explanations.{Explains};
-ghost use Rattle.explain.specs.ExplanationLines.{load_line};
+ghost use Rattle.explain.specs.ExplanationLines.{conflict_line, load_line, needs_lines};
 ghost use Rattle.explain.specs.TaskLines.{task_lines};
+ghost use Rattle.judge.specs.Levels.{account_rows, rows_lines};
+ghost use Rattle.judge.specs.Slack.{sorted_if};
+ghost use Rattle.judge.specs.declared.levels.LevelRow.{LevelRow};
 ghost use Rattle.judge.specs.declared.explained.Parted.TheVariants.{Missed};
-ghost use Rattle.owners.specs.NamedLines.{named_lines};
-ghost use Rattle.owners.specs.Slack.{sorted_if};
-ghost use Rattle.owners.specs.declared.words.Naming.TheVariants.{Reasons};
-ghost use Rattle.set_commands.specs.Explain.{AreDecided, conflict_said, is_short, parted_of, reasons_said, whole_lines};
+ghost use Rattle.set_commands.specs.Explain.{AreDecided, conflict_said, is_short, long_lines, parted_of, reasons_said, whole_lines};
 ghost use Rattle.answering.specs.OrderParts.{placing_first};
 ghost use Rattle.chain_lines.specs.declared.text.Telling.TheVariants.{Parts};
 ghost use Rattle.set_commands.specs.Chained.{IsPlaced, chained_said};
 
 use crate::chained::{Placed, chained_text};
-use answering::{OrderPart, joined, placing_text};
+use answering::{OrderPart, placing_text};
 use assignment::Placing;
 use ceilings::{LockTable, Tabled};
 use chain_lines::Telling;
-use explain::{Explanation, explain, explanation_text, push_conflict, push_load, task_text};
-use judge::{Parted, levels_text};
-use owners::{Naming, Owner, named_text, sorted_if};
+use explain::{
+    Account, Explanation, Need, explain, push_conflict, push_load, push_needs, task_text,
+};
+use judge::{LevelRow, Parted, account_rows, levels_of, push_rows, sorted_if};
+use owners::Owner;
 use std::alloc::{AllocError, Global};
-use task_sheet::TaskSet;
+use task_sheet::{Members, TaskSet};
 use worst_lines::judge_deciding;
 
 // A conflict of more than three tasks, of which not all is asked for.
@@ -42,21 +45,21 @@ fn parted_of(short: bool) -> Parted
     if short { Parted::Bare } else { Parted::Missed }
 }
 
-// The lines of an order that decides, or those of one task in it, where no order passes; else nothing.
-fn decided_text(
+// The levels of an order that decides, or that of one task in it, where no order passes; else none.
+fn decided_rows(
     alloc: Global,
     set: &Tabled<'_>,
     placing: &Placing,
     parted: Parted,
     asked: Option<usize>,
-) -> Result<String, AllocError>
-    ensures { IfOk result (λ text. AreDecided parted set.now asked placing.now (string_bytes text)) }
+) -> Result<Vec<LevelRow>, AllocError>
+    ensures { IfOk result (λ rows. AreDecided parted set.now asked placing.now rows.items) }
 {
     match placing {
-        Placing::Best(_) => Ok(String::new(alloc)),
+        Placing::Best(_) => Ok(Vec::new(alloc)),
         Placing::Stuck(_) => {
             let judged = judge_deciding(alloc, set)?;
-            levels_text(alloc, set, parted, asked, &judged)
+            levels_of(alloc, set, parted, asked, &judged)
         }
     }
 }
@@ -72,77 +75,145 @@ fn push_said(text: &mut String, set: &TaskSet, explanation: &Explanation) -> Res
     }
 }
 
+// Adds the lines of levels, by slack where it is asked for.
+fn push_sorted(
+    alloc: Global,
+    text: &mut String,
+    sorted: bool,
+    owners: &[Owner],
+    set: &TaskSet,
+    rows: Vec<LevelRow>,
+) -> Result<(), AllocError>
+    ensures { OnOk result (string_bytes text.new ≡ string_bytes text.old
+        ++ rows_lines owners.now set.now (sorted_if sorted set.now rows.items)) }
+{
+    let rows = sorted_if(alloc, sorted, set, rows)?;
+    push_rows(text, owners, set, &rows)
+}
+
 // What explains a placing: the lines of an order that decides, then those of a conflict and of the load.
 fn short_text(
     alloc: Global,
+    sorted: bool,
+    owners: &[Owner],
     set: &TaskSet,
     explanation: &Explanation,
-    decided: &str,
+    decided: Vec<LevelRow>,
 ) -> Result<String, AllocError>
     ensures { IfOk result (λ text. string_bytes text
-        ≡ decided.now ++ conflict_said set.now explanation.now ++ load_line set.now) }
+        ≡ whole_lines true sorted owners.now set.now explanation.now decided.items) }
 {
-    let mut text = String::from_str(alloc, decided)?;
+    let mut text = String::new(alloc);
+    push_sorted(alloc, &mut text, sorted, owners, set, decided)?;
     push_said(&mut text, set, explanation)?;
     push_load(alloc, &mut text, set)?;
     Ok(text)
 }
 
-// What explains it at length: the lines of an order that decides stand last.
-fn long_text(
+// What explains an order, with its load.
+fn responses_text(
     alloc: Global,
+    sorted: bool,
+    owners: &[Owner],
     set: &TaskSet,
-    explanation: &Explanation,
-    decided: &str,
+    accounts: Vec<Account>,
 ) -> Result<String, AllocError>
     ensures { IfOk result (λ text. string_bytes text
-        ≡ whole_lines false set.now explanation.now decided.now) }
+        ≡ rows_lines owners.now set.now (sorted_if sorted set.now (account_rows 1 accounts.items))
+        ++ load_line set.now) }
 {
-    let mut text = explanation_text(alloc, set, explanation)?;
-    text.push_str(decided)?;
+    let rows = account_rows(alloc, accounts)?;
+    let mut text = String::new(alloc);
+    push_sorted(alloc, &mut text, sorted, owners, set, rows)?;
+    push_load(alloc, &mut text, set)?;
+    Ok(text)
+}
+
+// What explains a conflict, with the load and the lines of an order that decides.
+fn conflict_text(
+    alloc: Global,
+    sorted: bool,
+    owners: &[Owner],
+    set: &TaskSet,
+    left: Members,
+    needs: &[Need],
+    decided: Vec<LevelRow>,
+) -> Result<String, AllocError>
+    ensures { IfOk result (λ text. string_bytes text
+        ≡ conflict_line set.now (listed_below (length set.now) (indexes_of left))
+        ++ needs_lines owners.now set.now needs.now
+        ++ load_line set.now ++ rows_lines owners.now set.now (sorted_if sorted set.now decided.items)) }
+{
+    let mut text = String::new(alloc);
+    push_conflict(&mut text, set, left)?;
+    push_needs(&mut text, owners, set, needs)?;
+    push_load(alloc, &mut text, set)?;
+    push_sorted(alloc, &mut text, sorted, owners, set, decided)?;
     Ok(text)
 }
 
 // The one or the other.
-fn whole_text(
+fn long_text(
     alloc: Global,
+    sorted: bool,
+    owners: &[Owner],
     set: &TaskSet,
-    short: bool,
-    explanation: &Explanation,
-    decided: &str,
+    explanation: Explanation,
+    decided: Vec<LevelRow>,
 ) -> Result<String, AllocError>
     ensures { IfOk result (λ text. string_bytes text
-        ≡ whole_lines short set.now explanation.now decided.now) }
+        ≡ long_lines sorted owners.now set.now explanation decided.items) }
 {
-    if short {
-        short_text(alloc, set, explanation, decided)
-    } else {
-        long_text(alloc, set, explanation, decided)
+    match explanation {
+        Explanation::Responses(accounts) => responses_text(alloc, sorted, owners, set, accounts),
+        Explanation::Conflict { left, needs } => {
+            conflict_text(alloc, sorted, owners, set, left, &needs, decided)
+        }
     }
 }
 
-// What explains a placing and its order that decides, each task with its team.
+// What explains a placing, in short or at length.
+fn whole_text(
+    alloc: Global,
+    short: bool,
+    sorted: bool,
+    owners: &[Owner],
+    set: &TaskSet,
+    explanation: Explanation,
+    decided: Vec<LevelRow>,
+) -> Result<String, AllocError>
+    ensures { IfOk result (λ text. string_bytes text
+        ≡ whole_lines short sorted owners.now set.now explanation decided.items) }
+{
+    if short {
+        short_text(alloc, sorted, owners, set, &explanation, decided)
+    } else {
+        long_text(alloc, sorted, owners, set, explanation, decided)
+    }
+}
+
+// What explains a placing, and its order that decides, levels by slack where it is asked for.
 fn all_reasons_text(
     alloc: Global,
     all: bool,
+    sorted: bool,
     owners: &[Owner],
     set: &TaskSet,
     placing: &Placing,
-) -> Result<Vec<u8>, AllocError>
+) -> Result<String, AllocError>
     requires { IsPlacingOf set.now placing.now }
-    ensures { IfOk result (λ text. (explanation : Explanation) × (decided : List ℕ)
+    ensures { IfOk result (λ text. (explanation : Explanation) × (decided : List LevelRow)
         × Explains set.now placing.now explanation
         × AreDecided (parted_of (is_short all explanation)) set.now None placing.now decided
-        × (text.items ≡ reasons_said owners.now set.now all explanation decided)) }
+        × (string_bytes text ≡ reasons_said owners.now set.now all sorted explanation decided)) }
 {
     let table = LockTable::new(alloc, set)?;
     let tabled = Tabled::of(set, &table);
     let explanation = explain(alloc, &tabled, placing)?;
     let short = is_short(all, &explanation);
-    let decided = decided_text(alloc, &tabled, placing, parted_of(short), None)?;
-    let text = whole_text(alloc, set, short, &explanation, decided.as_str())?;
-    let named = named_text(alloc, Naming::Reasons, owners, text.as_bytes())?;
-    Ok(named)
+    let decided = decided_rows(alloc, &tabled, placing, parted_of(short), None)?;
+    let text = whole_text(alloc, short, sorted, owners, set, explanation, decided)?;
+    Ok(text)
 }
 
 // The same of the task that is asked about, with the parts of what it needs.
@@ -154,20 +225,19 @@ pub(crate) fn reasons_text(
     task: usize,
 ) -> Result<Vec<u8>, AllocError>
     requires { IsPlacingOf set.now placing.now }
-    ensures { IfOk result (λ text. (explanation : Explanation) × (decided : List ℕ)
+    ensures { IfOk result (λ text. (explanation : Explanation) × (decided : List LevelRow)
         × Explains set.now placing.now explanation
         × AreDecided Missed set.now (Some task) placing.now decided
-        × (text.items ≡ named_lines Reasons owners.now
-        (task_lines set.now task explanation ++ decided))) }
+        × (text.items ≡ task_lines owners.now set.now task explanation
+        ++ rows_lines owners.now set.now decided)) }
 {
     let table = LockTable::new(alloc, set)?;
     let tabled = Tabled::of(set, &table);
     let explanation = explain(alloc, &tabled, placing)?;
-    let decided = decided_text(alloc, &tabled, placing, Parted::Missed, Some(task))?;
-    let mut text = task_text(alloc, set, &explanation, task)?;
-    text.push_str(decided.as_str())?;
-    let named = named_text(alloc, Naming::Reasons, owners, text.as_bytes())?;
-    Ok(named)
+    let decided = decided_rows(alloc, &tabled, placing, Parted::Missed, Some(task))?;
+    let mut text = task_text(alloc, owners, set, &explanation, task)?;
+    push_rows(&mut text, owners, set, &decided)?;
+    Ok(text.into_bytes())
 }
 
 // The first line of a placing, and then the lines of what explains it, the levels by slack where it is asked for.
@@ -178,18 +248,17 @@ fn whole_reasons_text(
     owners: &[Owner],
     set: &TaskSet,
     placing: &Placing,
-) -> Result<Vec<u8>, AllocError>
+) -> Result<String, AllocError>
     requires { IsPlacingOf set.now placing.now }
-    ensures { IfOk result (λ text. (explanation : Explanation) × (decided : List ℕ)
+    ensures { IfOk result (λ text. (explanation : Explanation) × (decided : List LevelRow)
         × Explains set.now placing.now explanation
         × AreDecided (parted_of (is_short all explanation)) set.now None placing.now decided
-        × (text.items ≡ placing_first set.now placing.now
-        ++ sorted_if sorted set.now (reasons_said owners.now set.now all explanation decided))) }
+        × (string_bytes text ≡ placing_first set.now placing.now
+        ++ reasons_said owners.now set.now all sorted explanation decided)) }
 {
-    let reasons = all_reasons_text(alloc, all, owners, set, placing)?;
-    let lines = sorted_if(alloc, sorted, set, reasons)?;
-    let first = placing_text(alloc, OrderPart::Count, set, placing)?;
-    let text = joined(alloc, first.as_bytes(), &lines)?;
+    let reasons = all_reasons_text(alloc, all, sorted, owners, set, placing)?;
+    let mut text = placing_text(alloc, OrderPart::Count, set, placing)?;
+    text.push_str(reasons.as_str())?;
     Ok(text)
 }
 
@@ -199,18 +268,17 @@ pub(crate) fn explained_text(
     all: bool,
     sorted: bool,
     placed: &Placed,
-) -> Result<Vec<u8>, AllocError>
+) -> Result<String, AllocError>
     requires { IsPlaced placed.now }
-    ensures { IfOk result (λ text. (explanation : Explanation) × (decided : List ℕ)
+    ensures { IfOk result (λ text. (explanation : Explanation) × (decided : List LevelRow)
         × Explains placed.now.tasks placed.now.placing explanation
         × AreDecided (parted_of (is_short all explanation)) placed.now.tasks None placed.now.placing decided
-        × (text.items ≡ (placing_first placed.now.tasks placed.now.placing
-        ++ sorted_if sorted placed.now.tasks
-        (reasons_said placed.now.owners.items placed.now.tasks all explanation decided))
+        × (string_bytes text ≡ (placing_first placed.now.tasks placed.now.placing
+        ++ reasons_said placed.now.owners.items placed.now.tasks all sorted explanation decided)
         ++ chained_said Parts placed.now.tasks placed.now.leasts.items placed.now.chains.items
         placed.now.placing)) }
 {
-    let lines = whole_reasons_text(
+    let mut text = whole_reasons_text(
         alloc,
         all,
         sorted,
@@ -219,6 +287,6 @@ pub(crate) fn explained_text(
         &placed.placing,
     )?;
     let chains = chained_text(alloc, Telling::Parts, placed)?;
-    let text = joined(alloc, &lines, chains.as_bytes())?;
+    text.push_str(chains.as_str())?;
     Ok(text)
 }

@@ -1,10 +1,11 @@
 //! `desk limits`.
-ghost use Rattle.std.specs.Prelude.{◌≡◌, ◌≢◌, ℕ, ◌<◌, ◌==◌, ◌&&◌, List, ◌≤◌, ◌++◌, length, Err, true, IfOk, OnOk, string_bytes};
+ghost use Rattle.std.specs.Prelude.{◌≡◌, ◌≢◌, not, ℕ, ◌<◌, ◌==◌, ◌&&◌, List, ◌≤◌, ◌++◌, length, Err, true, IfOk, OnOk, string_bytes};
 ghost use Rattle.std.specs.Io.KnownBytes.{Appends};
 ghost use Rattle.assignment.specs.Placings.{IsPlacingOf};
 ghost use Rattle.limit_lines.specs.LimitLines.{AreTaskLines, IsLast, order_given, order_in, places_in};
 ghost use Rattle.limit_lines.specs.ChainReaches.{chain_at};
 ghost use Rattle.set_commands.specs.Chained.{IsPlaced};
+ghost use Rattle.owners.specs.Clocks.{has_clock};
 ghost use Rattle.least_chains.specs.LeastBound.{levels_of};
 ghost use Rattle.set_commands.specs.Limits.{AreEndLines, AreLinesOfChain, IsListing, ListsAll, ListsChains, ListsFirst, ListsNumbers, ListsSome, SaysLimitsOf, alone_line};
 ghost use Rattle.answering.specs.OrderParts.{placing_first};
@@ -18,7 +19,7 @@ use ceilings::{LockTable, Tabled};
 use chain_tables::Chain;
 use chains::Level;
 use limit_lines::{chain_text, common_text, last_text, order_given, places_given, task_text};
-use owners::Owner;
+use owners::{Owner, has_clock};
 use std::alloc::{AllocError, Global};
 use std::io::Write;
 use streams::{Held, Watched};
@@ -78,6 +79,13 @@ fn is_still_silent(is_silent: bool, text: &str) -> bool
     is_silent && text.is_empty()
 }
 
+// The same where no task is on a clock, whose period no line moves.
+fn is_told_alone(is_silent: bool, text: &str, owners: &[Owner]) -> bool
+    ensures { result ≡ ((is_silent && (length text.now == 0)) && not (has_clock owners.now)) }
+{
+    is_still_silent(is_silent, text) && !has_clock(owners)
+}
+
 // The line of the factors, behind that which says that no single change mends the set where nothing has a line.
 fn last_lines(alloc: Global, listing: &Listing<'_>, is_silent: bool) -> Result<String, AllocError>
     requires { IsListing listing.now }
@@ -109,7 +117,7 @@ fn end_text(alloc: Global, listing: &Listing<'_>, is_silent: bool) -> Result<Str
 {
     let order = order_given(listing.placing, &listing.order);
     let mut text = common_text(alloc, listing.owners, &listing.set, order)?;
-    let is_silent = is_still_silent(is_silent, text.as_str());
+    let is_silent = is_told_alone(is_silent, text.as_str(), listing.owners);
     let last = last_lines(alloc, listing, is_silent)?;
     text.push_str(last.as_str())?;
     Ok(text)

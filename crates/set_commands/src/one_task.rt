@@ -216,7 +216,7 @@ fn say_all<W: Write + Drop>(
 {
     match part {
         TaskPart::Limits => print_placing(alloc, placed, output),
-        TaskPart::Reasons { all, sorted } => print_bytes(
+        TaskPart::Reasons { all, sorted } => print_made(
             explained_text(alloc, all, sorted, placed),
             chained_status(placed),
             output,

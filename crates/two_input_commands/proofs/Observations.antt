@@ -12,9 +12,10 @@ use Rattle.trace_text.specs.declared.reading.TraceLines.{TraceLines}
 use Rattle.trace_text.specs.declared.rows.TraceRow.{TraceRow}
 use Rattle.answering.specs.declared.refusal.CommandRefusal.{CommandRefusal}
 use Rattle.answering.specs.declared.refusal.CommandRefusal.TheVariants as refusal
-use Rattle.two_input_commands.specs.Observe.{AreGiven, AreJudgedBy, ObservesText, ReadsTrace}
+use Rattle.two_input_commands.specs.Simulate.{AreJudgedBy}
+use Rattle.two_input_commands.specs.Observe.{AreGiven, ObservesText, ReadsTrace}
 use Rattle.judge.proofs.TaskLaws.{in_set}
-use Rattle.two_input_commands.proofs.Ordered.{listed}
+use Rattle.two_input_commands.proofs.Ordered.{judged_by}
 
 -- the tasks of places are those of their order
 places_within : (n : ℕ) (places : List PlaceData) → All (λ k. k < n)
@@ -30,13 +31,6 @@ pub tasks_within : (U : List Task) (judged : List JudgedTask) (places : List Pla
 tasks_within U judged places each same =
     places_within (length U) places (subst (λ (js : List JudgedTask). All (λ k. k < length U)
     (order_judged js)) same (in_set U (order_judged judged) each))
-
--- what becomes of each task in the order that some settings give
-pub judged_by : (U : List Task) (rows : List SettingRow) (judged : List JudgedTask)
-    → 0 < length rows → IsOrderOfRows false U rows (order_judged judged) × AllJudged U judged
-    → AreJudgedBy U (Ok rows) judged
-judged_by U rows judged some is =
-    record { order = listed U rows (order_judged judged) some is.0; each = is.1 }
 
 -- where all tasks meet their deadlines
 pub given : (U : List Task) (rows : List SettingRow) (found : Result (List TraceRow) ℕ)

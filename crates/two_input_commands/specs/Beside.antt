@@ -1,6 +1,6 @@
 -- What `desk draw` with `--beside` answers and prints: two runs of one release list, of a set and of the one that it becomes, as
 -- one picture.
-use Rattle.std.specs.Prelude.{◌≡◌, ℕ, max, ◌==◌, Bool, true, false, ◌&&◌, if◌then◌else◌, List, [], ◌∷◌, ◌++◌, map, Option, Some, None, Result, Ok, Err, length}
+use Rattle.std.specs.Prelude.{◌≡◌, ℕ, max, ◌==◌, Bool, true, false, if◌then◌else◌, List, [], ◌∷◌, ◌++◌, map, Option, Some, None, Result, Ok, Err, length}
 use Rattle.std.specs.List.{find}
 use Rattle.task_sheet.specs.Sheet.{Task, same_bytes}
 use Rattle.task_sheet.specs.Indexes.{indexes_of, listed_below}
@@ -8,16 +8,13 @@ use Rattle.task_sheet.specs.declared.prefer.Preference.{Preference}
 use Rattle.teams.specs.ReadsText.{ReadsText}
 use Rattle.preferences.specs.ReadsAsked.{IsDoubted, IsUnchained}
 use Rattle.preferences.specs.declared.asking.Asking.{Asking}
-use Rattle.ceiling_kernel.specs.declared.trace.Release.{Release}
 use Rattle.command_line.specs.declared.calls.Options.{Options}
 use Rattle.judge.specs.Front.{settings_in}
 use Rattle.judge.specs.declared.rows.SettingRow.{SettingRow}
-use Rattle.run_lines.specs.TaskBounds.{bounds_of}
-use Rattle.run_lines.specs.declared.bounds.TaskBound.{TaskBound}
 use Rattle.frames.specs.View.{is_empty}
 use Rattle.frames.specs.declared.rows.TaskRow.{TaskRow}
 use Rattle.frames.specs.declared.view.View.{View}
-use Rattle.picture.specs.Beside.{Run, document_beside}
+use Rattle.picture.specs.Beside.{Run as DrawnRun, document_beside}
 use Rattle.drawn_runs.specs.DrawnRows.{rows_of}
 use Rattle.answering.specs.Chosen.{chain_of}
 use Rattle.answering.specs.OutcomeLines.{infeasible_line}
@@ -28,11 +25,12 @@ use Rattle.answering.specs.declared.status.Status.TheVariants as status
 use Rattle.two_input_commands.specs.Diff.{IsNew}
 use Rattle.two_input_commands.specs.Draw.{looks_in}
 use Rattle.two_input_commands.specs.OnBoth.{OfTwoSays, SaysOnBoth}
-use Rattle.two_input_commands.specs.Simulate.{SimulatesText, bounds_judged, simulation_status}
+use Rattle.two_input_commands.specs.Simulate.{SimulatesText, simulation_status}
 use Rattle.two_input_commands.specs.View.{AsksRows, IsViewOf, rows_word}
 use Rattle.two_input_commands.specs.declared.beside.TwoRuns.{TwoRuns}
+use Rattle.two_input_commands.specs.declared.simulate.Run.{Run}
 use Rattle.two_input_commands.specs.declared.simulate.Simulated.{Simulated}
-use Rattle.two_input_commands.specs.declared.simulate.Simulated.TheVariants.{Infeasible, Ordered, Ran}
+use Rattle.two_input_commands.specs.declared.simulate.Simulated.TheVariants.{Infeasible, Ran}
 
 -- ---- the text
 -- the release list of a text: what stands in front of the first byte 0
@@ -45,60 +43,21 @@ abbrev pub new_of : List ℕ → List ℕ
 new_of [] = []
 new_of (b ∷ bytes) = if b == 0 then bytes else new_of bytes
 
--- ---- a run
--- there is one
-abbrev pub is_run : Simulated → Bool
-is_run (Ran run) = true
-is_run (Ordered run) = true
-is_run (Infeasible left) = false
-
--- up to when
-abbrev pub until_of : Simulated → ℕ
-until_of (Ran run) = run.until
-until_of (Ordered run) = run.until
-until_of (Infeasible left) = 0
-
--- its releases
-abbrev pub releases_of : Simulated → List Release
-releases_of (Ran run) = run.releases.items
-releases_of (Ordered run) = run.releases.items
-releases_of (Infeasible left) = []
-
--- the bounds of its tasks, the lowest first
-abbrev pub bounds_in : Simulated → List TaskBound
-bounds_in (Ran run) = bounds_of run.places.items
-bounds_in (Ordered run) = bounds_judged run.judged.items
-bounds_in (Infeasible left) = []
-
--- what is drawn of it, with some rows
-abbrev pub drawn_run : List TaskRow → Simulated → Run
-drawn_run rows (Ran run) = record {
-  rows = rows;
-  until = run.until;
-  releases = run.releases.items;
-  jobs = run.trace.jobs.items;
-  slices = run.trace.slices.items;
-}
-drawn_run rows (Ordered run) = record {
-  rows = rows;
-  until = run.until;
-  releases = run.releases.items;
-  jobs = run.trace.jobs.items;
-  slices = run.trace.slices.items;
-}
-drawn_run rows (Infeasible left) = record {
-  rows = rows;
-  until = 0;
-  releases = [];
-  jobs = [];
-  slices = [];
-}
-
 -- ---- the rows
 -- the rows of a set in a run, with the tones that the tasks of more sets have
-abbrev pub rows_drawn : (all U : List Task) → List SettingRow → View → Simulated → List TaskRow
-rows_drawn all U settings v answer =
-    rows_of U (looks_in all settings v (releases_of answer)) (bounds_in answer)
+abbrev pub rows_drawn : (all U : List Task) → List SettingRow → View → Run → List TaskRow
+rows_drawn all U settings v run =
+    rows_of U (looks_in all settings v run.releases.items) run.bounds.items
+
+-- what is drawn of a run, with some rows
+abbrev pub drawn_run : List TaskRow → Run → DrawnRun
+drawn_run rows run = record {
+  rows = rows;
+  until = run.until;
+  releases = run.releases.items;
+  jobs = run.trace.jobs.items;
+  slices = run.trace.slices.items;
+}
 
 -- the tone of a row that was found, else this one
 abbrev pub tone_or : Option TaskRow → (own : ℕ) → ℕ
@@ -115,7 +74,7 @@ abbrev pub toned_as : List TaskRow → TaskRow → TaskRow
 toned_as rows row = record row { tone = tone_among rows row.sheet.name row.tone }
 
 -- the picture of both, where each task has one tone: that of its row in the first run, if it has one there
-abbrev pub picture_of_both : List Task → List Task → List SettingRow → View → (was is : Simulated) → List ℕ
+abbrev pub picture_of_both : List Task → List Task → List SettingRow → View → (was is : Run) → List ℕ
 picture_of_both U V settings v was is =
     let olds = rows_drawn (U ++ V) U settings v was in
     let news = map (toned_as olds) (rows_drawn (U ++ V) V settings v is) in
@@ -124,7 +83,8 @@ picture_of_both U V settings v was is =
 -- ---- the answer
 -- nothing of two runs lies in the window of a view
 abbrev pub are_unseen : View → (was is : Simulated) → Bool
-are_unseen v was is = (is_run was && is_run is) && is_empty v (max (until_of was) (until_of is))
+are_unseen v (Ran was) (Ran is) = is_empty v (max was.until is.until)
+are_unseen v _ _ = false
 
 -- why the new set has no run, as a refusal
 abbrev pub new_run_refusal : CommandRefusal → CommandRefusal
@@ -195,7 +155,7 @@ both_said U V settings v (Infeasible left) is =
     infeasible_line U (listed_below (length U) (indexes_of left))
 both_said U V settings v was (Infeasible left) =
     infeasible_line V (listed_below (length V) (indexes_of left))
-both_said U V settings v was is = picture_of_both U V settings v was is
+both_said U V settings v (Ran was) (Ran is) = picture_of_both U V settings v was is
 
 -- the same of what was found
 abbrev pub beside_said : List Task → TwoRuns → List ℕ

@@ -1,5 +1,5 @@
 -- What `desk diff` answers and prints.
-use Rattle.std.specs.Prelude.{◌≡◌, ℕ, List, ◌++◌, codes, string_bytes, Option, None, Result, Ok, Err}
+use Rattle.std.specs.Prelude.{◌≡◌, ℕ, List, ◌++◌, codes, string_bytes, None, Result, Ok, Err}
 use Rattle.task_sheet.specs.declared.prefer.Preference.{Preference}
 use Rattle.preferences.specs.declared.asking.Asking.{Asking}
 use Rattle.task_sheet.specs.declared.read.Document.{Document}
@@ -9,10 +9,8 @@ use Rattle.preferences.specs.declared.asking.AskedFault.{AskedFault}
 use Rattle.preferences.specs.declared.asking.AskedFault.TheVariants as asked
 use Rattle.task_sheet.specs.Sheet.{Task}
 use Rattle.teams.specs.ReadsText.{ReadsText}
-use Rattle.owners.specs.NamedLines.{named_lines}
 use Rattle.owners.specs.Owners.{AreOwners}
-use Rattle.owners.specs.declared.owner.Owner.{Owner}
-use Rattle.owners.specs.declared.words.Naming.TheVariants.{Changes}
+use Rattle.task_lines.specs.declared.owner.Owner.{Owner}
 use Rattle.assignment.specs.Placings.{IsPlacingOf}
 use Rattle.assignment.specs.declared.placing.Placing.{Placing}
 use Rattle.chain_tables.specs.Chains.{ChainData, HasChains}
@@ -83,8 +81,7 @@ abbrev pub compared_lines : List Owner → List Task → Compared → List ℕ
 compared_lines owners U c =
     both_lines U c.was c.set c.is
     ++ whole_lines c.was_by owners U c.is_by c.owners.items c.set
-    ++ named_lines Changes (c.owners.items ++ owners)
-    (change_lines (both_weigh c.was_by c.is_by) U c.was c.set c.is)
+    ++ change_lines (both_weigh c.was_by c.is_by) (c.owners.items ++ owners) U c.was c.set c.is
     ++ string_bytes c.chains
 
 -- the answer on what the readers had is printed after what the writer held, and the status is that of the new set; of the

@@ -3,7 +3,6 @@ use Rattle.std.specs.Prelude.{◌≡◌, ℕ, true, false, if◌then◌else◌, 
 use Rattle.task_sheet.specs.Sheet.{Task, same_bytes}
 use Rattle.task_sheet.specs.Indexes.{indexes_of, listed_below}
 use Rattle.ceiling_kernel.specs.declared.trace.Release.{Release}
-use Rattle.ceiling_kernel.specs.declared.trace.Trace.{Trace}
 use Rattle.picture.specs.Document.{document}
 use Rattle.frames.specs.declared.view.View.{View}
 use Rattle.command_line.specs.declared.calls.Options.{Options}
@@ -11,8 +10,6 @@ use Rattle.judge.specs.SettingFaults.{IsRowsFault}
 use Rattle.judge.specs.Front.{settings_in}
 use Rattle.judge.specs.declared.rows.SettingRow.{SettingRow}
 use Rattle.judge.specs.declared.rows.SettingRow.TheVariants.{Mutex, Thread}
-use Rattle.run_lines.specs.TaskBounds.{bounds_of}
-use Rattle.run_lines.specs.declared.bounds.TaskBound.{TaskBound}
 use Rattle.drawn_runs.specs.DrawnRows.{Looks, rows_of}
 use Rattle.frames.specs.Locks.{noted_names}
 use Rattle.frames.specs.Tones.{tones_of}
@@ -21,13 +18,14 @@ use Rattle.frames.specs.declared.tones.Toned.{Toned}
 use Rattle.two_input_commands.specs.declared.draw.Looks.{Looks as LooksData}
 use Rattle.answering.specs.OutcomeLines.{infeasible_line}
 use Rattle.two_input_commands.specs.OnBoth.{OfTwoSays, SaysOnBoth}
-use Rattle.two_input_commands.specs.Simulate.{SimulatesText, bounds_judged, simulation_status}
+use Rattle.two_input_commands.specs.Simulate.{SimulatesText, simulation_status}
 use Rattle.two_input_commands.specs.View.{AsksRows, IsViewOf, is_unseen, names_of, rows_word}
 use Rattle.two_input_commands.specs.declared.draw.Drawing.{Drawing}
 use Rattle.answering.specs.declared.refusal.CommandRefusal.{CommandRefusal}
 use Rattle.answering.specs.declared.refusal.CommandRefusal.TheVariants as refusal
+use Rattle.two_input_commands.specs.declared.simulate.Run.{Run}
 use Rattle.two_input_commands.specs.declared.simulate.Simulated.{Simulated}
-use Rattle.two_input_commands.specs.declared.simulate.Simulated.TheVariants.{Infeasible, Ordered, Ran}
+use Rattle.two_input_commands.specs.declared.simulate.Simulated.TheVariants.{Infeasible, Ran}
 
 -- the number that settings give to the thread of a name, the first one, if there is one
 abbrev pub number_named : List SettingRow → List ℕ → Option ℕ
@@ -59,16 +57,14 @@ looks_in U settings v rs = record {
 }
 
 -- the picture of a run in an order of a set, with the numbers that settings give, as a view has it
-abbrev pub picture_of : List Task → List SettingRow → List TaskBound → View → ℕ → List Release → Trace → List ℕ
-picture_of U settings bounds v until rs trace =
-    document (rows_of U (looks_in U settings v rs) bounds) v until rs trace
+abbrev pub picture_of : List Task → List SettingRow → View → Run → List ℕ
+picture_of U settings v run =
+    document (rows_of U (looks_in U settings v run.releases.items) run.bounds.items) v run.until
+    run.releases.items run.trace
 
 -- what is printed of what came of a set
 abbrev pub answer_said : List Task → List SettingRow → View → Simulated → List ℕ
-answer_said U settings v (Ran run) =
-    picture_of U settings (bounds_of run.places.items) v run.until run.releases.items run.trace
-answer_said U settings v (Ordered run) =
-    picture_of U settings (bounds_judged run.judged.items) v run.until run.releases.items run.trace
+answer_said U settings v (Ran run) = picture_of U settings v run
 answer_said U settings v (Infeasible left) =
     infeasible_line U (listed_below (length U) (indexes_of left))
 

@@ -1,5 +1,5 @@
 -- What is asked of an order that settings give.
-use Rattle.std.specs.Prelude.{◌≡◌, ℕ, false, List, Option, Some, None, Result, Ok, Err}
+use Rattle.std.specs.Prelude.{◌≡◌, ℕ, List, Option, Some, None, Result, Ok, Err}
 use Rattle.task_sheet.specs.Sheet.{Task}
 use Rattle.lines.specs.Words.{name_in}
 use Rattle.judge.specs.SettingFaults.{IsSettingsFault, settings_fault}

@@ -4,8 +4,7 @@ use Rattle.task_sheet.specs.Sheet.{Task}
 use Rattle.judge.specs.Ceilings.{IsTextJudgement}
 use Rattle.judge.specs.SettingFaults.{IsSettingsFault, given_fault_by}
 use Rattle.judge.specs.Judgements.{all_meet, order_judged}
-use Rattle.judge.specs.JudgementLines.{judged_lines}
-use Rattle.owners.specs.Slack.{sorted_if}
+use Rattle.judge.specs.JudgedLines.{judged_lines}
 use Rattle.judge.specs.Node.{AreNumbersIn}
 use Rattle.judge.specs.declared.judging.JudgedTask.{JudgedTask}
 use Rattle.judge.specs.declared.node.JudgedNode.{JudgedNode}
@@ -50,7 +49,7 @@ judged_status judged = if all_meet judged then status.Done else status.Infeasibl
 -- chains
 abbrev pub judged_said : (sorted : Bool) → List Task → JudgedNode → ChainsTold → List ℕ
 judged_said sorted U node told =
-    sorted_if sorted U (judged_lines U node.judged.items node.numbers.items) ++ string_bytes told.text
+    judged_lines sorted U node.judged.items node.numbers.items ++ string_bytes told.text
 
 -- the answer on what the readers had is printed after what the writer held, and the status is the answer's
 abbrev pub SaysJudged : (lower sorted : Bool) → OfTwoSays

@@ -1,5 +1,5 @@
 -- What `desk limits SET --at SETTINGS` answers and prints.
-use Rattle.std.specs.Prelude.{◌≡◌, ◌==◌, ℕ, Bool, true, false, List, [], ◌++◌, length, codes, Option, Some, None, Result, Ok, Err, string_bytes}
+use Rattle.std.specs.Prelude.{◌≡◌, ◌==◌, ◌&&◌, not, ℕ, Bool, true, false, List, [], ◌++◌, length, codes, Option, Some, None, Result, Ok, Err, string_bytes}
 use Rattle.task_sheet.specs.Sheet.{Task}
 use Rattle.assignment.specs.Places.{PlaceData}
 use Rattle.judge.specs.Judgements.{all_meet, judged_of, order_judged}
@@ -17,7 +17,8 @@ use Rattle.answering.specs.Owning.{HasChained, HaveOwned}
 use Rattle.answering.specs.Printed.{Prints}
 use Rattle.answering.specs.Sets.{OnBoth}
 use Rattle.limit_lines.specs.Common.{AreCommonLines}
-use Rattle.owners.specs.declared.owner.Owner.{Owner}
+use Rattle.owners.specs.Clocks.{has_clock}
+use Rattle.task_lines.specs.declared.owner.Owner.{Owner}
 use Rattle.task_sheet.specs.declared.prefer.Preference.{Preference}
 use Rattle.preferences.specs.declared.asking.Asking.{Asking}
 use Rattle.two_input_commands.specs.OnBoth.{OfTwoSays}
@@ -37,7 +38,7 @@ alone_words false None = []
 alone_words true None = codes "no single change\n"
 
 -- the text is the lines of the task that is asked about, in an order with these places; else those of each task, by rank, of
--- the interrupts and the node, that line, and that of the factors
+-- the interrupts and the node, that line, unless a task is on a clock, and that of the factors
 abbrev pub AreLimitsIn : List Owner → List Task → (order : List ℕ) → Option (List PlaceData)
     → (asked : Option ℕ) → List ℕ → Type 0
 AreLimitsIn owners U order places (Some task) text =
@@ -46,7 +47,8 @@ AreLimitsIn owners U order places None text =
     (lines : List ℕ) × (common : List ℕ) × (last : List ℕ)
     × AreLines owners U (Some order) places (length U) lines
     × AreCommonLines owners U (Some order) common × IsLast U (Some order) last
-    × (text ≡ ((lines ++ common) ++ alone_words (length (lines ++ common) == 0) places) ++ last)
+    × (text ≡ ((lines ++ common)
+    ++ alone_words ((length (lines ++ common) == 0) && not (has_clock owners)) places) ++ last)
 
 -- the text is the lines of chains in an order with these places, or those of the task that is asked about; nothing without
 -- places

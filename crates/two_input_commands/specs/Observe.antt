@@ -8,10 +8,9 @@ use Rattle.command_line.specs.declared.calls.Options.{Options}
 use Rattle.assignment.specs.Places.{PlaceData}
 use Rattle.judge.specs.SettingFaults.{IsRowsFault, IsSettingsFault}
 use Rattle.judge.specs.Front.{behind_front, settings_in}
-use Rattle.judge.specs.Judgements.{AllJudged, all_meet, judged_of, order_judged}
-use Rattle.judge.specs.JudgementLines.{judged_lines}
+use Rattle.judge.specs.Judgements.{all_meet, judged_of, order_judged}
+use Rattle.judge.specs.JudgedLines.{judged_lines}
 use Rattle.judge.specs.Node.{AreNumbersOf}
-use Rattle.judge.specs.declared.judging.JudgedTask.{JudgedTask}
 use Rattle.judge.specs.declared.node.JudgedNode.{JudgedNode}
 use Rattle.judge.specs.declared.rows.SettingRow.{SettingRow}
 use Rattle.trace_text.specs.TraceFaults.{IsTraceFault, IsTraceOf, rows_fault as trace_rows_fault}
@@ -35,7 +34,7 @@ use Rattle.chain_traces.specs.TraceChainLines.{AreSeen}
 use Rattle.chain_traces.specs.declared.text.ChainsSeen.{ChainsSeen}
 use Rattle.two_input_commands.specs.OnBoth.{OfTwoSays, SaysOnBothUpTo}
 use Rattle.streams.specs.declared.input.TheConstants.{TRACE_LIMIT}
-use Rattle.two_input_commands.specs.Simulate.{IsListedOrder, order_fault}
+use Rattle.two_input_commands.specs.Simulate.{AreJudgedBy, order_fault}
 use Rattle.two_input_commands.specs.declared.observe_lines.Observation.{Observation}
 use Rattle.two_input_commands.specs.declared.observe_lines.Observation.TheVariants.{Best, Ordered, Missed}
 use Rattle.answering.specs.declared.refusal.CommandRefusal.{CommandRefusal}
@@ -54,13 +53,7 @@ abbrev pub rows_behind : List ℕ → Result (List TraceRow) ℕ
 rows_behind text = rows_from (behind_front (kept_lines text))
 
 -- ---- an order that the trace gives
--- what becomes of each task in the order that settings give, the lowest first; there are some
-pub record AreJudgedBy (U : List Task) (settings : Result (List SettingRow) ℕ)
-    (judged : List JudgedTask) : Type 0 where
-  pub order : IsListedOrder U settings (order_judged judged)
-  pub each : AllJudged U judged
-
--- the same, with the numbers that they have of the threads
+-- what becomes of each task in the order that settings give, with the numbers that they have of the threads
 pub record IsNodeOf (U : List Task) (settings : Result (List SettingRow) ℕ) (node : JudgedNode) : Type 0 where
   pub judged : AreJudgedBy U settings node.judged.items
   pub rows : List SettingRow
@@ -177,7 +170,7 @@ abbrev pub observation_said : Leeway → List Task → Observation → ChainsSee
 observation_said leeway U (Best sight) told = sight_said leeway U sight told
 observation_said leeway U (Ordered shown) told =
     observed_lines leeway shown.promises.items shown.seen.items ++ string_bytes told.text
-observation_said leeway U (Missed node) told = judged_lines U node.judged.items node.numbers.items
+observation_said leeway U (Missed node) told = judged_lines false U node.judged.items node.numbers.items
 
 -- the exit status of what is seen of jobs and chains
 abbrev pub observed_status : Leeway → Observed → ChainsSeen → Status

@@ -3,7 +3,7 @@ use Rattle.std.specs.Prelude.{ℕ, List, Option, Result, Ok, Err}
 use Rattle.task_sheet.specs.Sheet.{Task}
 use Rattle.task_sheet.specs.declared.prefer.Preference.{Preference}
 use Rattle.preferences.specs.declared.asking.Asking.{Asking}
-use Rattle.owners.specs.declared.owner.Owner.{Owner}
+use Rattle.task_lines.specs.declared.owner.Owner.{Owner}
 use Rattle.chain_tables.specs.Chains.{ChainData}
 use Rattle.answering.specs.Owning.{HasChained, HaveOwned}
 use Rattle.answering.specs.Printed.{Prints}

@@ -20,26 +20,25 @@ use Rattle.judge.specs.Front.{behind_front, settings_in}
 use Rattle.judge.specs.Node.{IsOrderOfRows}
 use Rattle.judge.specs.Judgements.{AllJudged, order_judged}
 use Rattle.judge.specs.declared.judging.JudgedTask.{JudgedTask}
-use Rattle.judge.specs.declared.judging.Judgement.{Judgement}
-use Rattle.judge.specs.declared.judging.Judgement.TheVariants.{Meets, Misses, Below}
 use Rattle.judge.specs.declared.fault.SettingsFault.{SettingsFault}
 use Rattle.judge.specs.declared.rows.SettingRow.{SettingRow}
 use Rattle.run_lines.specs.RunLines.{task_lines}
-use Rattle.run_lines.specs.Responses.{AllDoneWithin, AllKeptWithin, AllReachWithin}
-use Rattle.run_lines.specs.TaskBounds.{bounds_of}
+use Rattle.run_lines.specs.Responses.{AllKeptWithin}
+use Rattle.run_lines.specs.TaskBounds.{bounds_of, tasks_of_bounds}
 use Rattle.run_lines.specs.declared.bounds.TaskBound.{TaskBound}
 use Rattle.printed_runs.specs.TraceLines.{trace_lines}
 use Rattle.answering.specs.OutcomeLines.{infeasible_line}
 use Rattle.chains.specs.declared.bounds.Level.{Level}
 use Rattle.chain_tables.specs.Chains.{ChainData}
 use Rattle.chain_runs.specs.RunChainLines.{run_chains_said}
+use Rattle.two_input_commands.specs.Chained.{response_judged}
 use Rattle.two_input_commands.specs.OnBoth.{OfTwoSays, SaysOnBoth, SaysOnBothChained}
 use Rattle.answering.specs.declared.refusal.CommandRefusal.{CommandRefusal}
 use Rattle.answering.specs.declared.refusal.CommandRefusal.TheVariants as refusal
 use Rattle.two_input_commands.specs.declared.reached.ReachedChains.{ReachedChains}
-use Rattle.two_input_commands.specs.declared.simulate.OrderedRun.{OrderedRun}
+use Rattle.two_input_commands.specs.declared.simulate.Run.{Run}
 use Rattle.two_input_commands.specs.declared.simulate.Simulated.{Simulated}
-use Rattle.two_input_commands.specs.declared.simulate.Simulated.TheVariants.{Infeasible, Ordered, Ran}
+use Rattle.two_input_commands.specs.declared.simulate.Simulated.TheVariants.{Infeasible, Ran}
 use Rattle.answering.specs.declared.status.Status.{Status}
 use Rattle.answering.specs.declared.status.Status.TheVariants as status
 
@@ -68,16 +67,15 @@ RunsOrderCut U order rs until (Err (refusal.Run fault)) =
 RunsOrderCut U order rs until (Err refusal.OutOfMemory) = Unit {0}
 RunsOrderCut U order rs until _ = ⊥
 
--- what happens in a run of an order, and what its responses promise of it: each job whose bound lies in the run is done by
--- then, and a tick of the section that blocks it sooner; and none is done later
-pub record IsRunOf (U : List Task) (places : List PlaceData) (rs : List Release) (until : ℕ)
+-- what happens in a run of an order, and what the bounds that there are promise of it: each job whose bound lies in the run
+-- is done by then, and a tick of the section that blocks it sooner; and none is done later
+pub record IsRunOf (U : List Task) (bounds : List TaskBound) (rs : List Release) (until : ℕ)
     (trace : Trace) : Type 0 where
-  pub ran : Runs (node_in U (tasks_of_places places)) rs until (Ok trace)
-  pub bounds : AllDoneWithin U places rs until trace
-  pub reached : AllReachWithin U trace.jobs.items places
-  pub tighter : MeetsTighterBounds (node_in U (tasks_of_places places)) rs until trace
+  pub ran : Runs (node_in U (tasks_of_bounds bounds)) rs until (Ok trace)
+  pub kept : AllKeptWithin U bounds rs until trace
+  pub tighter : MeetsTighterBounds (node_in U (tasks_of_bounds bounds)) rs until trace
 
--- ---- an order that the list gives
+-- ---- the order
 -- what settings say gives this order to a set's tasks, the lowest first; there are some
 abbrev pub IsListedOrder : List Task → Result (List SettingRow) ℕ → List ℕ → Type 0
 IsListedOrder U (Ok (row ∷ rows)) order = IsOrderOfRows false U (row ∷ rows) order
@@ -88,27 +86,30 @@ abbrev pub order_fault : List Task → Result (List SettingRow) ℕ → Option S
 order_fault U (Ok (row ∷ rows)) = rows_fault false U (Ok (row ∷ rows))
 order_fault U _ = None
 
--- the bound of a task in an order: its response, where it meets its deadline
-abbrev pub bound_judged : Judgement → Option ℕ
-bound_judged (Meets response) = Some response
-bound_judged (Misses needs) = None
-bound_judged (Below other) = None
+-- what becomes of each task in the order that settings give, the lowest first; there are some
+pub record AreJudgedBy (U : List Task) (settings : Result (List SettingRow) ℕ)
+    (judged : List JudgedTask) : Type 0 where
+  pub order : IsListedOrder U settings (order_judged judged)
+  pub each : AllJudged U judged
 
--- those of the tasks, the lowest first
+-- the bounds of tasks that were judged: their responses, where they meet their deadlines
 abbrev pub bounds_judged : List JudgedTask → List TaskBound
-bounds_judged judged = map (λ j. record { task = j.task; bound = bound_judged j.judgement }) judged
+bounds_judged judged = map (λ j. record { task = j.task; bound = response_judged j.judgement }) judged
 
--- what happens in a run of any order, and what the bounds that there are promise of it
-pub record IsOrderedRun (U : List Task) (judged : List JudgedTask) (rs : List Release) (until : ℕ)
-    (trace : Trace) : Type 0 where
-  pub ran : Runs (node_in U (order_judged judged)) rs until (Ok trace)
-  pub kept : AllKeptWithin U (bounds_judged judged) rs until trace
-  pub tighter : MeetsTighterBounds (node_in U (order_judged judged)) rs until trace
+-- these are the bounds of a run's order: of the one that settings give; or, where there are none, of the set's best order, in
+-- which no overrun cuts the run
+abbrev pub AreBoundsIn : List Task → Result (List SettingRow) ℕ → (listed : Bool) → (overrun : Option (List ℕ))
+    → List TaskBound → Type 0
+AreBoundsIn U settings true overrun bounds =
+    (judged : List JudgedTask) × AreJudgedBy U settings judged × (bounds ≡ bounds_judged judged)
+AreBoundsIn U settings false overrun bounds =
+    (places : List PlaceData) × IsBestPlacing U places × (bounds ≡ bounds_of places)
+    × (settings ≡ Ok []) × (overrun ≡ None)
 
--- of a list an order's run shows all, or what comes before the first overrun
-abbrev pub IsListShown : List Task → List ℕ → ℕ → List Release → OrderedRun → Type 0
-IsListShown U order until rs run =
-    IsShownOf (node_in U order) rs until run.overrun run.releases.items run.until
+-- of a list a run shows all, or what comes before the first overrun
+abbrev pub IsListShown : List Task → ℕ → List Release → Run → Type 0
+IsListShown U until rs run =
+    IsShownOf (node_in U (tasks_of_bounds run.bounds.items)) rs until run.overrun run.releases.items run.until
 
 -- ---- the answer
 -- what comes of a set, of settings and of a list: a run in the order that they give, or else in the set's best order, or
@@ -116,24 +117,21 @@ IsListShown U order until rs run =
 abbrev pub IsSimulated : List Task → Result (List SettingRow) ℕ → Result (ℕ × List Release) ℕ
     → Simulated → Type 0
 IsSimulated U settings list (Ran run) =
-    (settings ≡ Ok []) × IsBestPlacing U run.places.items
-    × (list ≡ Ok (run.until, run.releases.items))
-    × IsRunOf U run.places.items run.releases.items run.until run.trace
+    AreBoundsIn U settings run.is_listed run.overrun run.bounds.items
+    × ((until : ℕ) × (rs : List Release) × (list ≡ Ok (until, rs)) × IsListShown U until rs run)
+    × IsRunOf U run.bounds.items run.releases.items run.until run.trace
 IsSimulated U settings list (Infeasible left) =
     (settings ≡ Ok []) × IsGreatestObstruction U (indexes_of left)
     × ((until : ℕ) × (rs : List Release) × (list ≡ Ok (until, rs)))
-IsSimulated U settings list (Ordered run) =
-    IsListedOrder U settings (order_judged run.judged.items) × AllJudged U run.judged.items
-    × ((until : ℕ) × (rs : List Release) × (list ≡ Ok (until, rs))
-    × IsListShown U (order_judged run.judged.items) until rs run)
-    × IsOrderedRun U run.judged.items run.releases.items run.until run.trace
 
 -- the answer on a set and a list in an order of the set
 abbrev pub SimulatesIn : List Task → List ℕ → ℕ → List Release → Result Simulated CommandRefusal → Type 0
-SimulatesIn U order until rs (Ok (Ordered run)) =
-    (order_judged run.judged.items ≡ order) × AllJudged U run.judged.items
-    × IsListShown U (order_judged run.judged.items) until rs run
-    × IsOrderedRun U run.judged.items run.releases.items run.until run.trace
+SimulatesIn U order until rs (Ok (Ran run)) =
+    (run.is_listed ≡ true)
+    × ((judged : List JudgedTask) × (order_judged judged ≡ order) × AllJudged U judged
+    × (run.bounds.items ≡ bounds_judged judged))
+    × IsListShown U until rs run
+    × IsRunOf U run.bounds.items run.releases.items run.until run.trace
 SimulatesIn U order until rs (Ok _) = ⊥
 SimulatesIn U order until rs (Err r) = RunsOrderCut U order rs until (Err r)
 
@@ -175,28 +173,22 @@ SimulatesText U text answer = SimulatesRead U (settings_in text) (list_in text) 
 -- what is printed of what came of a set
 abbrev pub simulation_said : List Task → Simulated → List ℕ
 simulation_said U (Ran run) = trace_lines run.trace
-simulation_said U (Ordered run) = trace_lines run.trace
 simulation_said U (Infeasible left) = infeasible_line U (listed_below (length U) (indexes_of left))
 
 -- the exit status of what came of a set
 abbrev pub simulation_status : Simulated → Status
 simulation_status (Ran run) = status.Done
-simulation_status (Ordered run) = status.Done
 simulation_status (Infeasible left) = status.Infeasible
 
 -- what is printed of what came of a set, by task: a line for each, the lowest level first, and then what is told of its chains
 abbrev pub reached_said : List Task → ReachedChains → Simulated → List ℕ
 reached_said U told (Ran run) =
-    task_lines U run.trace.jobs.items (bounds_of run.places.items) ++ string_bytes told.text
-reached_said U told (Ordered run) =
-    task_lines U run.trace.jobs.items (bounds_judged run.judged.items)
-    ++ string_bytes told.text
+    task_lines U run.trace.jobs.items run.bounds.items ++ string_bytes told.text
 reached_said U told (Infeasible left) = infeasible_line U (listed_below (length U) (indexes_of left))
 
 -- a run is one in an order of the set
 abbrev pub IsInOrder : List Task → Simulated → Type 0
-IsInOrder U (Ran run) = IsOrder U (tasks_of_places run.places.items)
-IsInOrder U (Ordered run) = IsOrder U (order_judged run.judged.items)
+IsInOrder U (Ran run) = IsOrder U (tasks_of_bounds run.bounds.items)
 IsInOrder U (Infeasible left) = Unit {0}
 
 -- ---- chains
@@ -207,9 +199,7 @@ level_of_bound b = record { task = b.task; response = b.bound }
 -- the lines of chains in a run, by the bounds that tasks have in its order; nothing where there is none
 abbrev pub chains_reached : List Task → List ChainData → Simulated → List ℕ
 chains_reached U chains (Ran run) =
-    run_chains_said U (map level_of_bound (bounds_of run.places.items)) run.until run.trace chains
-chains_reached U chains (Ordered run) =
-    run_chains_said U (map level_of_bound (bounds_judged run.judged.items)) run.until run.trace chains
+    run_chains_said U (map level_of_bound run.bounds.items) run.until run.trace chains
 chains_reached U chains (Infeasible left) = []
 
 -- the answer on a set with these chains and the text of a release list, and what is told of the chains

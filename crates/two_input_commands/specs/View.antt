@@ -12,7 +12,7 @@ use Rattle.answering.specs.declared.refusal.CommandRefusal.{CommandRefusal}
 use Rattle.answering.specs.declared.refusal.CommandRefusal.TheVariants as refusal
 use Rattle.two_input_commands.specs.declared.view.Sets.{Sets}
 use Rattle.two_input_commands.specs.declared.simulate.Simulated.{Simulated}
-use Rattle.two_input_commands.specs.declared.simulate.Simulated.TheVariants.{Infeasible, Ordered, Ran}
+use Rattle.two_input_commands.specs.declared.simulate.Simulated.TheVariants.{Infeasible, Ran}
 
 -- ---- the rows
 -- the tasks of a set and of the one that it becomes, if there is one
@@ -112,5 +112,4 @@ pub record IsViewOf (U : List Task) (options : Options) (v : View) : Type 0 wher
 -- nothing of what came of a set and a list lies in the window of a view
 abbrev pub is_unseen : View → Simulated → Bool
 is_unseen v (Ran run) = is_empty v run.until
-is_unseen v (Ordered run) = is_empty v run.until
 is_unseen v (Infeasible left) = false

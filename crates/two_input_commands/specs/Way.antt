@@ -3,8 +3,6 @@ use Rattle.std.specs.Prelude.{◌≡◌, ℕ, ◌==◌, nat_lt, if◌then◌else
 use Rattle.std.specs.Option.{option_map}
 use Rattle.task_sheet.specs.Sheet.{Task}
 use Rattle.task_sheet.specs.Indexes.{indexes_of, listed_below}
-use Rattle.ceiling_kernel.specs.declared.trace.Release.{Release}
-use Rattle.ceiling_kernel.specs.declared.trace.Trace.{Trace}
 use Rattle.command_line.specs.declared.calls.Options.{Options}
 use Rattle.chains.specs.Parts.{bound_in}
 use Rattle.chains.specs.declared.bounds.Level.{Level}
@@ -17,18 +15,17 @@ use Rattle.picture.specs.Document.{document}
 use Rattle.drawn_runs.specs.DrawnRows.{rows_of}
 use Rattle.drawn_ways.specs.WayTexts.{WayData, laid_over, way_text}
 use Rattle.judge.specs.declared.rows.SettingRow.{SettingRow}
-use Rattle.run_lines.specs.TaskBounds.{bounds_of}
-use Rattle.run_lines.specs.declared.bounds.TaskBound.{TaskBound}
 use Rattle.answering.specs.Asked.{asked_chain, no_such_chain}
 use Rattle.answering.specs.OutcomeLines.{infeasible_line}
 use Rattle.answering.specs.declared.refusal.CommandRefusal.{CommandRefusal}
 use Rattle.answering.specs.declared.refusal.CommandRefusal.TheVariants as refusal
 use Rattle.two_input_commands.specs.Draw.{DrawsText, SaysDrawn, looks_in}
 use Rattle.two_input_commands.specs.OnBoth.{OfTwoSays, SaysOnBothChained}
-use Rattle.two_input_commands.specs.Simulate.{bounds_judged, level_of_bound, simulation_status}
+use Rattle.two_input_commands.specs.Simulate.{level_of_bound, simulation_status}
 use Rattle.two_input_commands.specs.declared.draw.Drawing.{Drawing}
+use Rattle.two_input_commands.specs.declared.simulate.Run.{Run}
 use Rattle.two_input_commands.specs.declared.simulate.Simulated.{Simulated}
-use Rattle.two_input_commands.specs.declared.simulate.Simulated.TheVariants.{Infeasible, Ordered, Ran}
+use Rattle.two_input_commands.specs.declared.simulate.Simulated.TheVariants.{Infeasible, Ran}
 use Rattle.two_input_commands.specs.declared.way.DrawnWay.{DrawnWay}
 
 -- ---- the rows
@@ -77,23 +74,20 @@ abbrev pub way_in : List Task → List Level → ChainData → WayData
 way_in U levels c = way_with c (bound_in c.writes c.offsets U levels c.tasks)
 
 -- the picture of rows of a run with it
-abbrev pub rows_drawn : List Task → List TaskRow → View → ℕ → List Release → Trace → WayData → List ℕ
-rows_drawn U rows v until rs trace w =
-    laid_over (document rows v until rs trace)
-    (way_text (frame_of rows v until) U rows (shown_of v.tasks.items rs rows) trace w)
+abbrev pub rows_drawn : List Task → List TaskRow → View → Run → WayData → List ℕ
+rows_drawn U rows v run w =
+    laid_over (document rows v run.until run.releases.items run.trace)
+    (way_text (frame_of rows v run.until) U rows (shown_of v.tasks.items run.releases.items rows) run.trace w)
 
 -- the picture of a run in an order of a set, with the numbers that settings give, as a view has it
-abbrev pub picture_with : List Task → List SettingRow → List TaskBound → View → ℕ → List Release → Trace → ChainData → List ℕ
-picture_with U settings bounds v until rs trace c =
-    rows_drawn U (rows_of U (looks_in U settings v rs) bounds) v until rs trace
-    (way_in U (map level_of_bound bounds) c)
+abbrev pub picture_with : List Task → List SettingRow → View → ChainData → Run → List ℕ
+picture_with U settings v c run =
+    rows_drawn U (rows_of U (looks_in U settings v run.releases.items) run.bounds.items) v run
+    (way_in U (map level_of_bound run.bounds.items) c)
 
 -- the same of what came of a set; nothing where no order passes
 abbrev pub answer_drawn : List Task → List SettingRow → View → ChainData → Simulated → List ℕ
-answer_drawn U settings v c (Ran run) =
-    picture_with U settings (bounds_of run.places.items) v run.until run.releases.items run.trace c
-answer_drawn U settings v c (Ordered run) =
-    picture_with U settings (bounds_judged run.judged.items) v run.until run.releases.items run.trace c
+answer_drawn U settings v c (Ran run) = picture_with U settings v c run
 answer_drawn U settings v c (Infeasible left) = []
 
 -- ---- the answer

@@ -1,28 +1,27 @@
 //! `desk draw` with `--beside`.
-ghost use Rattle.std.specs.Prelude.{◌≡◌, ◌++◌, ◌≤◌, length, List, map, IfOk, MatchResult, Ok, Err, true};
+ghost use Rattle.std.specs.Prelude.{◌≡◌, ◌++◌, ◌≤◌, length, List, map, IfOk, MatchResult, Ok, Err};
 ghost use Rattle.task_sheet.specs.Sheet.{Task};
 ghost use Rattle.task_sheet.specs.declared.set.TheConstants.{TASK_LIMIT};
 ghost use Rattle.answering.specs.Chosen.{chain_of};
 ghost use Rattle.answering.specs.Outcomes.{IsSaidOn};
 ghost use Rattle.answering.specs.Printed.{IsPrinted};
-ghost use Rattle.drawn_runs.specs.DrawnRows.{rows_of};
+ghost use Rattle.run_lines.specs.TaskBounds.{tasks_of_bounds};
+ghost use Rattle.task_sheet.specs.Orders.{IsOrder};
 ghost use Rattle.picture.specs.Beside.{run_of};
-ghost use Rattle.two_input_commands.specs.Beside.{AreRuns, AsksBeside, BesidesText, IsNoRuns, are_unseen, beside_said, beside_status, bounds_in, drawn_run, is_run, list_of, new_of, new_run_refusal, picture_of_both, releases_of, rows_drawn, toned_as, tone_among, until_of};
-ghost use Rattle.two_input_commands.specs.Draw.{looks_of, task_tones};
+ghost use Rattle.two_input_commands.specs.Beside.{AreRuns, AsksBeside, BesidesText, IsNoRuns, are_unseen, beside_said, beside_status, drawn_run, list_of, new_of, new_run_refusal, picture_of_both, rows_drawn, toned_as, tone_among};
+ghost use Rattle.two_input_commands.specs.Draw.{task_tones};
 ghost use Rattle.two_input_commands.specs.Simulate.{IsInOrder};
 
 use crate::diff_lines::read_new;
 use crate::draw::{Looks, rows_in, settings_in, task_tones};
-use crate::simulate::{Simulated, bounds_judged, simulate_text};
+use crate::simulate::{Run, Simulated, simulate_text};
 use crate::view::{Sets, view_of};
 use answering::{CommandRefusal, Status, print_bytes, print_stuck};
-use ceiling_kernel::Release;
 use command_line::Options;
 use frames::{TaskRow, Toned, View};
 use judge::SettingRow;
 use picture::{DrawnRun, draw_beside};
 use preferences::Asking;
-use run_lines::bounds_of;
 use std::alloc::{AllocError, Global};
 use std::io::Write;
 use streams::Watched;
@@ -57,43 +56,14 @@ pub fn parts_of(text: &[u8]) -> (&[u8], &[u8])
     (text, &[])
 }
 
-// Whether there is a run.
-fn is_run(answer: &Simulated) -> bool
-    ensures { result ≡ is_run answer.now }
-{
-    match answer {
-        Simulated::Ran(_) | Simulated::Ordered(_) => true,
-        Simulated::Infeasible(_) => false,
-    }
-}
-
-// Up to when it goes.
-fn until_of(answer: &Simulated) -> u64
-    ensures { result ≡ until_of answer.now }
-{
-    match answer {
-        Simulated::Ran(run) => run.until,
-        Simulated::Ordered(run) => run.until,
-        Simulated::Infeasible(_) => 0,
-    }
-}
-
-// Its releases.
-fn releases_of(answer: &Simulated) -> &[Release]
-    ensures { result.now ≡ releases_of answer.now }
-{
-    match answer {
-        Simulated::Ran(run) => &run.releases,
-        Simulated::Ordered(run) => &run.releases,
-        Simulated::Infeasible(_) => &[],
-    }
-}
-
 // Whether nothing of two runs lies in the window of a view.
 fn are_unseen(view: &View, was: &Simulated, is: &Simulated) -> bool
     ensures { result ≡ are_unseen view.now was.now is.now }
 {
-    is_run(was) && is_run(is) && view.is_empty(until_of(was).max(until_of(is)))
+    match (was, is) {
+        (Simulated::Ran(was), Simulated::Ran(is)) => view.is_empty(was.until.max(is.until)),
+        _ => false,
+    }
 }
 
 // Why the new set has no run.
@@ -175,51 +145,26 @@ pub fn beside_text(
     }
 }
 
-// The rows of a set in a run.
-fn rows_drawn(
-    alloc: Global,
-    set: &TaskSet,
-    looks: &Looks<'_>,
-    answer: &Simulated,
-) -> Result<Vec<TaskRow>, AllocError>
-    requires { IsInOrder set.now answer.now }
-    ensures rows { IfOk result (λ rows. rows.items
-        ≡ rows_of set.now (looks_of looks.now) (bounds_in answer.now)) }
-    ensures few { IfOk result (λ rows. length rows.items ≤ TASK_LIMIT) }
-{
-    match answer {
-        Simulated::Ran(run) => {
-            let bounds = bounds_of(alloc, &run.places)?;
-            rows_in(alloc, set, looks, &bounds)
-        }
-        Simulated::Ordered(run) => {
-            let bounds = bounds_judged(alloc, &run.judged)?;
-            rows_in(alloc, set, looks, &bounds)
-        }
-        Simulated::Infeasible(_) => Ok(Vec::new(alloc)),
-    }
-}
-
-// The same with the tones that the tasks of both sets have, in the view of both.
+// The rows of a set in a run, with the tones that the tasks of both sets have, in the view of both.
 fn rows_beside(
     alloc: Global,
     set: &TaskSet,
     tones: &[Toned],
     beside: &TwoRuns,
-    answer: &Simulated,
+    run: &Run,
 ) -> Result<Vec<TaskRow>, AllocError>
-    requires { IsInOrder set.now answer.now }
+    requires { IsOrder set.now (tasks_of_bounds run.now.bounds.items) }
     ensures rows { (all : List Task) → tones.now ≡ task_tones all → IfOk result (λ rows. rows.items
-        ≡ rows_drawn all set.now beside.now.settings.items beside.now.view answer.now) }
+        ≡ rows_drawn all set.now beside.now.settings.items beside.now.view run.now) }
     ensures few { IfOk result (λ rows. length rows.items ≤ TASK_LIMIT) }
 {
     let looks = Looks {
         settings: &beside.settings,
         tones,
         names: &beside.view.tasks,
-        releases: releases_of(answer),
+        releases: &run.releases,
     };
-    rows_drawn(alloc, set, &looks, answer)
+    rows_in(alloc, set, &looks, &run.bounds)
 }
 
 // The tone of the first of some rows that is of a name's task, else this one.
@@ -260,45 +205,39 @@ fn all_toned_as(
 }
 
 // What is drawn of a run with some rows.
-fn drawn_run<'a>(rows: &'a [TaskRow], answer: &'a Simulated) -> DrawnRun<'a>
-    requires { is_run answer.now ≡ true }
-    ensures run { run_of result ≡ drawn_run rows.now answer.now }
+fn drawn_run<'a>(rows: &'a [TaskRow], run: &'a Run) -> DrawnRun<'a>
+    ensures run { run_of result ≡ drawn_run rows.now run.now }
     ensures rows { result.rows.now ≡ rows.now }
 {
-    match answer {
-        Simulated::Ran(run) => DrawnRun {
-            rows,
-            until: run.until,
-            releases: &run.releases,
-            trace: &run.trace,
-        },
-        Simulated::Ordered(run) => DrawnRun {
-            rows,
-            until: run.until,
-            releases: &run.releases,
-            trace: &run.trace,
-        },
-        Simulated::Infeasible(_) => unreachable!(),
+    DrawnRun {
+        rows,
+        until: run.until,
+        releases: &run.releases,
+        trace: &run.trace,
     }
 }
 
 // The picture of the runs of a set and of the one that it becomes.
-fn picture_of_both(alloc: Global, tasks: &TaskSet, beside: &TwoRuns) -> Result<Vec<u8>, AllocError>
-    requires was { IsInOrder tasks.now beside.now.was }
-    requires is { IsInOrder beside.now.set beside.now.is }
-    requires old { is_run beside.now.was ≡ true }
-    requires new { is_run beside.now.is ≡ true }
+fn picture_of_both(
+    alloc: Global,
+    tasks: &TaskSet,
+    beside: &TwoRuns,
+    was: &Run,
+    is: &Run,
+) -> Result<Vec<u8>, AllocError>
+    requires was { IsOrder tasks.now (tasks_of_bounds was.now.bounds.items) }
+    requires is { IsOrder beside.now.set (tasks_of_bounds is.now.bounds.items) }
     ensures { IfOk result (λ text. text.items ≡ picture_of_both tasks.now beside.now.set
-        beside.now.settings.items beside.now.view beside.now.was beside.now.is) }
+        beside.now.settings.items beside.now.view was.now is.now) }
 {
     let sets = Sets::both(tasks, &beside.set);
     let tones = task_tones(alloc, sets)?;
-    let olds = rows_beside(alloc, tasks, &tones, beside, &beside.was)?;
-    let rows = rows_beside(alloc, &beside.set, &tones, beside, &beside.is)?;
+    let olds = rows_beside(alloc, tasks, &tones, beside, was)?;
+    let rows = rows_beside(alloc, &beside.set, &tones, beside, is)?;
     let news = all_toned_as(alloc, &olds, rows)?;
-    let was = drawn_run(&olds, &beside.was);
-    let is = drawn_run(&news, &beside.is);
-    draw_beside(alloc, &was, &is, &beside.view)
+    let old = drawn_run(&olds, was);
+    let new = drawn_run(&news, is);
+    draw_beside(alloc, &old, &new, &beside.view)
 }
 
 /// Prints what is drawn of both runs, or why there is none of one.
@@ -313,11 +252,13 @@ pub fn print_beside<W: Write + Drop>(
     ensures { IsSaidOn (λ before after s. IsPrinted before after (beside_said tasks.now beside.now)
         (beside_status beside.now) s) W.contents output.old output.new result }
 {
-    if let Simulated::Infeasible(members) = &beside.was {
-        return print_stuck(alloc, tasks, *members, output);
+    match (&beside.was, &beside.is) {
+        (Simulated::Infeasible(members), _) => print_stuck(alloc, tasks, *members, output),
+        (_, Simulated::Infeasible(members)) => print_stuck(alloc, &beside.set, *members, output),
+        (Simulated::Ran(was), Simulated::Ran(is)) => print_bytes(
+            picture_of_both(alloc, tasks, beside, was, is),
+            Status::Done,
+            output,
+        ),
     }
-    if let Simulated::Infeasible(members) = &beside.is {
-        return print_stuck(alloc, &beside.set, *members, output);
-    }
-    print_bytes(picture_of_both(alloc, tasks, beside), Status::Done, output)
 }

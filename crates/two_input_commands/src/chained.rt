@@ -17,8 +17,8 @@ pub struct ChainsTold {
     pub are_met: bool,
 }
 
-// The response of a task that meets its deadline.
-fn response_judged(judgement: Judgement) -> Option<u64>
+/// The response of a task that meets its deadline.
+pub(crate) fn response_judged(judgement: Judgement) -> Option<u64>
     ensures { result ≡ response_judged judgement }
 {
     match judgement {

@@ -10,7 +10,7 @@ use ceilings::{LockTable, Tabled};
 use chain_tables::Chain;
 use diff::{ChainSide, Side, chain_text, change_text, whole_text};
 use least_chains::levels_of;
-use owners::{Naming, Owner, named_text, read_owners};
+use owners::{Owner, read_owners};
 use preferences::{AskedFault, Asking, Preference, read_asked};
 use std::alloc::{AllocError, Global};
 use task_sheet::TaskSet;
@@ -190,11 +190,10 @@ pub fn compared_text(
     };
     let first = both_text(alloc, &old, &new)?;
     let whole = whole_text(alloc, &old, &new)?;
-    let change = change_text(alloc, &old, &new)?;
     let all = all_owners(alloc, &compared.owners, owners)?;
-    let named = named_text(alloc, Naming::Changes, &all, change.as_bytes())?;
+    let change = change_text(alloc, &all, &old, &new)?;
     let front = joined(alloc, first.as_bytes(), whole.as_bytes())?;
-    let lines = joined(alloc, &front, &named)?;
+    let lines = joined(alloc, &front, change.as_bytes())?;
     let text = joined(alloc, &lines, compared.chains.as_bytes())?;
     Ok(text)
 }

@@ -7,16 +7,15 @@ ghost use Rattle.answering.specs.Printed.{IsPrinted};
 ghost use Rattle.run_lines.specs.TaskBounds.{tasks_of_bounds};
 ghost use Rattle.drawn_runs.specs.DrawnRows.{drawn_row, rows_of, toned_in, unrun_of};
 ghost use Rattle.frames.specs.Tones.{fitted_tone};
-ghost use Rattle.two_input_commands.specs.Draw.{DrawsText, IsUnread, answer_said, drawing_said, looks_in, looks_of, number_named, picture_of, task_tones};
-ghost use Rattle.two_input_commands.specs.declared.simulate.Simulated.TheVariants.{Ordered, Ran};
+ghost use Rattle.two_input_commands.specs.Draw.{DrawsText, IsUnread, drawing_said, looks_in, looks_of, number_named, picture_of, task_tones};
 ghost use Rattle.answering.specs.Outcomes.{IsSaidOn};
 ghost use Rattle.two_input_commands.specs.View.{tasks_in};
 ghost use Rattle.two_input_commands.specs.Simulate.{IsInOrder, simulation_status};
 
-use crate::simulate::{OrderedRun, Run, Simulated, bounds_judged, simulate_text};
+use crate::simulate::{Run, Simulated, simulate_text};
 use crate::view::{Sets, all_names, is_unseen, view_of};
 use answering::{CommandRefusal, Status, print_bytes, print_stuck};
-use ceiling_kernel::{Release, Trace};
+use ceiling_kernel::Release;
 use ceilings::{LockTable, Tabled};
 use command_line::Options;
 use frames::{TASK_TONES, TaskRow, Toned, View, fitted_tone, note_names, tone_named, tones_of};
@@ -24,7 +23,7 @@ use judge::{SettingRow, read_front};
 use lines::TextPlace;
 use observed::interrupts_within;
 use picture::draw;
-use run_lines::{TaskBound, bounds_of};
+use run_lines::TaskBound;
 use std::alloc::{AllocError, Global};
 use std::io::Write;
 use streams::Watched;
@@ -160,13 +159,12 @@ pub(crate) fn rows_in_view(
     alloc: Global,
     set: &TaskSet,
     settings: &[SettingRow],
-    bounds: &[TaskBound],
     view: &View,
-    releases: &[Release],
+    run: &Run,
 ) -> Result<Vec<TaskRow>, AllocError>
-    requires { IsOrder set.now (tasks_of_bounds bounds.now) }
+    requires { IsOrder set.now (tasks_of_bounds run.now.bounds.items) }
     ensures rows { IfOk result (λ rows. rows.items
-        ≡ rows_of set.now (looks_in set.now settings.now view.now releases.now) bounds.now) }
+        ≡ rows_of set.now (looks_in set.now settings.now view.now run.now.releases.items) run.now.bounds.items) }
     ensures few { IfOk result (λ rows. length rows.items ≤ TASK_LIMIT) }
 {
     let tones = task_tones(
@@ -180,9 +178,9 @@ pub(crate) fn rows_in_view(
         settings,
         tones: &tones,
         names: &view.tasks,
-        releases,
+        releases: &run.releases,
     };
-    rows_in(alloc, set, &looks, bounds)
+    rows_in(alloc, set, &looks, &run.bounds)
 }
 
 // The picture of a run in an order of a set.
@@ -190,66 +188,14 @@ fn picture_of(
     alloc: Global,
     set: &TaskSet,
     settings: &[SettingRow],
-    bounds: &[TaskBound],
-    view: &View,
-    until: u64,
-    releases: &[Release],
-    trace: &Trace,
-) -> Result<Vec<u8>, AllocError>
-    requires { IsOrder set.now (tasks_of_bounds bounds.now) }
-    ensures { IfOk result (λ text. text.items
-        ≡ picture_of set.now settings.now bounds.now view.now until releases.now trace.now) }
-{
-    let rows = rows_in_view(alloc, set, settings, bounds, view, releases)?;
-    draw(alloc, &rows, view, until, releases, trace)
-}
-
-// The picture of a run in the best order.
-fn picture_of_run(
-    alloc: Global,
-    set: &TaskSet,
-    settings: &[SettingRow],
     view: &View,
     run: &Run,
 ) -> Result<Vec<u8>, AllocError>
-    requires { IsInOrder set.now (Ran run.now) }
-    ensures { IfOk result (λ text. text.items ≡ answer_said set.now settings.now view.now (Ran run.now)) }
+    requires { IsOrder set.now (tasks_of_bounds run.now.bounds.items) }
+    ensures { IfOk result (λ text. text.items ≡ picture_of set.now settings.now view.now run.now) }
 {
-    let bounds = bounds_of(alloc, &run.places)?;
-    picture_of(
-        alloc,
-        set,
-        settings,
-        &bounds,
-        view,
-        run.until,
-        &run.releases,
-        &run.trace,
-    )
-}
-
-// The picture of a run in the order that its list gives.
-fn picture_of_ordered(
-    alloc: Global,
-    set: &TaskSet,
-    settings: &[SettingRow],
-    view: &View,
-    run: &OrderedRun,
-) -> Result<Vec<u8>, AllocError>
-    requires { IsInOrder set.now (Ordered run.now) }
-    ensures { IfOk result (λ text. text.items ≡ answer_said set.now settings.now view.now (Ordered run.now)) }
-{
-    let bounds = bounds_judged(alloc, &run.judged)?;
-    picture_of(
-        alloc,
-        set,
-        settings,
-        &bounds,
-        view,
-        run.until,
-        &run.releases,
-        &run.trace,
-    )
+    let rows = rows_in_view(alloc, set, settings, view, run)?;
+    draw(alloc, &rows, view, run.until, &run.releases, &run.trace)
 }
 
 // The settings in front of a list's text.
@@ -304,23 +250,12 @@ pub fn print_drawing<W: Write + Drop>(
     ensures { IsSaidOn (λ before after s. IsPrinted before after (drawing_said tasks.now drawing.now)
         (simulation_status drawing.now.answer) s) W.contents output.old output.new result }
 {
-    let view = &drawing.view;
-    let settings: &[SettingRow] = &drawing.settings;
     match &drawing.answer {
-        Simulated::Ran(run) => {
-            print_bytes(
-                picture_of_run(alloc, tasks, settings, view, run),
-                Status::Done,
-                output,
-            )
-        }
-        Simulated::Ordered(run) => {
-            print_bytes(
-                picture_of_ordered(alloc, tasks, settings, view, run),
-                Status::Done,
-                output,
-            )
-        }
+        Simulated::Ran(run) => print_bytes(
+            picture_of(alloc, tasks, &drawing.settings, &drawing.view, run),
+            Status::Done,
+            output,
+        ),
         Simulated::Infeasible(members) => print_stuck(alloc, tasks, *members, output),
     }
 }

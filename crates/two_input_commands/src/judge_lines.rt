@@ -1,7 +1,5 @@
 //! `desk judge`.
-ghost use Rattle.std.specs.Prelude.{◌≡◌, ◌<◌, All, IfOk};
-ghost use Rattle.judge.specs.JudgementLines.{judged_lines};
-ghost use Rattle.owners.specs.Slack.{sorted_if};
+ghost use Rattle.std.specs.Prelude.{◌≡◌, ◌<◌, All, IfOk, string_bytes};
 ghost use Rattle.task_sheet.specs.declared.set.TheConstants.{TASK_LIMIT};
 ghost use Rattle.two_input_commands.specs.Judge.{JudgesNode, JudgesText, judged_said, judged_status};
 
@@ -10,7 +8,6 @@ use answering::{CommandRefusal, Status};
 use chain_lines::Telling;
 use chain_tables::Chain;
 use judge::{JudgedNode, JudgedTask, all_meet, judge_given, judged_text};
-use owners::sorted_if;
 use std::alloc::{AllocError, Global};
 use task_sheet::TaskSet;
 
@@ -44,23 +41,6 @@ pub fn judge_text(
     Ok((node, told))
 }
 
-// The lines of a node's order, by slack where it is asked for.
-fn order_text(
-    alloc: Global,
-    sorted: bool,
-    tasks: &TaskSet,
-    node: &JudgedNode,
-) -> Result<Vec<u8>, AllocError>
-    requires { All (λ j. j.task < TASK_LIMIT) node.now.judged.items }
-    ensures { IfOk result (λ text. text.items
-        ≡ sorted_if sorted tasks.now (judged_lines tasks.now node.now.judged.items node.now.numbers.items)) }
-{
-    let text = judged_text(alloc, tasks, &node.judged, &node.numbers)?;
-    let mut lines = Vec::new(alloc);
-    lines.extend_from_slice(text.as_bytes())?;
-    sorted_if(alloc, sorted, tasks, lines)
-}
-
 /// What is printed of an order that was judged, by slack where it is asked for, and of the chains in it. The error is out of
 /// memory.
 pub fn judged_said(
@@ -69,12 +49,12 @@ pub fn judged_said(
     tasks: &TaskSet,
     node: &JudgedNode,
     told: &ChainsTold,
-) -> Result<Vec<u8>, AllocError>
+) -> Result<String, AllocError>
     requires { All (λ j. j.task < TASK_LIMIT) node.now.judged.items }
-    ensures { IfOk result (λ text. text.items ≡ judged_said sorted tasks.now node.now told.now) }
+    ensures { IfOk result (λ text. string_bytes text ≡ judged_said sorted tasks.now node.now told.now) }
 {
-    let mut text = order_text(alloc, sorted, tasks, node)?;
-    text.extend_from_slice(told.text.as_bytes())?;
+    let mut text = judged_text(alloc, sorted, tasks, &node.judged, &node.numbers)?;
+    text.push_str(told.text.as_str())?;
     Ok(text)
 }
 

@@ -1,9 +1,10 @@
 //! `desk limits SET --at SETTINGS`.
-ghost use Rattle.std.specs.Prelude.{◌≡◌, ◌==◌, ◌<◌, ◌++◌, length, All, IfOk, IfSome, None, OnOk, option_map, string_bytes};
+ghost use Rattle.std.specs.Prelude.{◌≡◌, ◌==◌, ◌&&◌, ◌<◌, ◌++◌, not, length, All, IfOk, IfSome, None, OnOk, option_map, string_bytes};
 ghost use Rattle.task_sheet.specs.declared.set.TheConstants.{TASK_LIMIT};
 ghost use Rattle.task_sheet.specs.Orders.{IsOrder};
 ghost use Rattle.judge.specs.Judgements.{order_judged};
 ghost use Rattle.answering.specs.LimitLines.{AreLines};
+ghost use Rattle.owners.specs.Clocks.{has_clock};
 ghost use Rattle.two_input_commands.specs.LimitsAt.{AreChainedIn, AreLimitsIn, ArePlacesOf, IsLimitsText, LimitsText, alone_words};
 
 use crate::in_order::{InOrder, judge_asked};
@@ -14,7 +15,7 @@ use chain_tables::Chain;
 use judge::{JudgedNode, first_text, order_of, places_of};
 use least_chains::levels_at;
 use limit_lines::{chains_task_text, chains_text, common_text, last_text, task_text};
-use owners::Owner;
+use owners::{Owner, has_clock};
 use std::alloc::{AllocError, Global};
 use task_sheet::TaskSet;
 
@@ -38,12 +39,12 @@ fn each_text(
     Ok(text)
 }
 
-// That no single change mends an order, where nothing has a line.
-fn push_silent(text: &mut String) -> Result<(), AllocError>
+// That no single change mends an order, where nothing has a line and no task is on a clock.
+fn push_silent(text: &mut String, owners: &[Owner]) -> Result<(), AllocError>
     ensures { OnOk result (string_bytes text.new ≡ string_bytes text.old
-        ++ alone_words (length (string_bytes text.old) == 0) None) }
+        ++ alone_words ((length (string_bytes text.old) == 0) && not (has_clock owners.now)) None) }
 {
-    if text.is_empty() {
+    if text.is_empty() && !has_clock(owners) {
         text.push_str("no single change\n")
     } else {
         Ok(())
@@ -51,13 +52,18 @@ fn push_silent(text: &mut String) -> Result<(), AllocError>
 }
 
 // The same of one that fails.
-fn push_alone(text: &mut String, places: Option<&[Place]>) -> Result<(), AllocError>
+fn push_alone(
+    text: &mut String,
+    owners: &[Owner],
+    places: Option<&[Place]>,
+) -> Result<(), AllocError>
     ensures { OnOk result (string_bytes text.new ≡ string_bytes text.old
-        ++ alone_words (length (string_bytes text.old) == 0) (option_map (λ p. p.now) places.entry)) }
+        ++ alone_words ((length (string_bytes text.old) == 0) && not (has_clock owners.now))
+        (option_map (λ p. p.now) places.entry)) }
 {
     match places {
         Some(_) => Ok(()),
-        None => push_silent(text),
+        None => push_silent(text, owners),
     }
 }
 
@@ -77,7 +83,7 @@ fn whole_text(
     let common = common_text(alloc, owners, set, Some(order))?;
     let last = last_text(alloc, set, Some(order))?;
     text.push_str(common.as_str())?;
-    push_alone(&mut text, places)?;
+    push_alone(&mut text, owners, places)?;
     text.push_str(last.as_str())?;
     Ok(text)
 }

@@ -292,7 +292,7 @@ pub fn print_observation<W: Write + Drop>(
             print_bytes(seen_text(alloc, leeway, seen, told), status, output)
         }
         Observation::Missed(node) => print_made(
-            judged_text(alloc, tasks, &node.judged, &node.numbers),
+            judged_text(alloc, false, tasks, &node.judged, &node.numbers),
             status,
             output,
         ),

@@ -3,13 +3,12 @@ ghost use Rattle.std.specs.Prelude.{◌≡◌, IfOk, map, string_bytes};
 ghost use Rattle.chain_runs.specs.RunChainLines.{run_chains_said};
 ghost use Rattle.two_input_commands.specs.Simulate.{IsInOrder, ReachesText, chains_reached, level_of_bound};
 
-use crate::simulate::{Simulated, bounds_judged, simulate_text};
+use crate::simulate::{Run, Simulated, simulate_text};
 use answering::CommandRefusal;
-use ceiling_kernel::Trace;
 use chain_runs::run_chains_text;
 use chain_tables::Chain;
 use chains::Level;
-use run_lines::{TaskBound, bounds_of};
+use run_lines::TaskBound;
 use std::alloc::{AllocError, Global};
 use task_sheet::TaskSet;
 
@@ -40,20 +39,13 @@ pub(crate) fn levels_of(alloc: Global, bounds: &[TaskBound]) -> Result<Vec<Level
     Ok(levels)
 }
 
-// The lines of chains in a run of an order whose tasks have these bounds.
-fn told_of(
-    alloc: Global,
-    set: &TaskSet,
-    chains: &[Chain],
-    bounds: &[TaskBound],
-    until: u64,
-    trace: &Trace,
-) -> Result<String, AllocError>
+// The lines of chains in a run.
+fn told_of(alloc: Global, set: &TaskSet, chains: &[Chain], run: &Run) -> Result<String, AllocError>
     ensures { IfOk result (λ text. string_bytes text
-        ≡ run_chains_said set.now (map level_of_bound bounds.now) until trace.now chains.now) }
+        ≡ run_chains_said set.now (map level_of_bound run.now.bounds.items) run.now.until run.now.trace chains.now) }
 {
-    let levels = levels_of(alloc, bounds)?;
-    run_chains_text(alloc, set, &levels, chains, until, trace)
+    let levels = levels_of(alloc, &run.bounds)?;
+    run_chains_text(alloc, set, &levels, chains, run.until, &run.trace)
 }
 
 // The lines of chains in what a simulation came to.
@@ -66,14 +58,7 @@ fn lines_reached(
     ensures { IfOk result (λ text. string_bytes text ≡ chains_reached set.now chains.now answer.now) }
 {
     match answer {
-        Simulated::Ran(run) => {
-            let bounds = bounds_of(alloc, &run.places)?;
-            told_of(alloc, set, chains, &bounds, run.until, &run.trace)
-        }
-        Simulated::Ordered(run) => {
-            let bounds = bounds_judged(alloc, &run.judged)?;
-            told_of(alloc, set, chains, &bounds, run.until, &run.trace)
-        }
+        Simulated::Ran(run) => told_of(alloc, set, chains, run),
         Simulated::Infeasible(_) => Ok(String::new(alloc)),
     }
 }

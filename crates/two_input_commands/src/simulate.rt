@@ -4,20 +4,20 @@ ghost use Rattle.task_sheet.specs.Orders.{IsBest, IsOrder};
 ghost use Rattle.assignment.specs.Placings.{tasks_of_places};
 ghost use Rattle.ceiling_kernel.specs.Tick.{node_in};
 ghost use Rattle.release_list.specs.Reading.{list_at};
-ghost use Rattle.judge.specs.Judgements.{order_judged};
 ghost use Rattle.run_lines.specs.RunLines.{task_lines};
-ghost use Rattle.run_lines.specs.TaskBounds.{bounds_of, tasks_of_bounds};
+ghost use Rattle.run_lines.specs.TaskBounds.{tasks_of_bounds};
 ghost use Rattle.answering.specs.Outcomes.{IsSaidOn};
 ghost use Rattle.answering.specs.Printed.{IsPrinted};
-ghost use Rattle.two_input_commands.specs.Simulate.{IsInOrder, RunsOrder, RunsOrderCut, SimulatesIn, SimulatesRead, SimulatesText, bound_judged, bounds_judged, reached_said, simulation_said, simulation_status};
+ghost use Rattle.two_input_commands.specs.Simulate.{IsInOrder, RunsOrder, RunsOrderCut, SimulatesIn, SimulatesRead, SimulatesText, bounds_judged, reached_said, simulation_said, simulation_status};
 
+use crate::chained::response_judged;
 use crate::reached::ReachedChains;
 use answering::{CommandRefusal, Status, print_made, print_stuck};
 use assignment::{Place, Placing, place_all, tasks_of_places};
 use ceiling_kernel::{Kernel, KernelFault, Release, Trace};
 use ceilings::{LockTable, Tabled};
 use cut_runs::{CutRun, run_cut};
-use judge::{Front, JudgedTask, Judgement, SettingRow, judge_order, order_of_rows, read_front};
+use judge::{Front, JudgedTask, SettingRow, judge_order, order_of_rows, read_front};
 use lines::TextPlace;
 use printed_runs::trace_text;
 use release_list::read_releases;
@@ -27,23 +27,13 @@ use std::io::Write;
 use streams::Watched;
 use task_sheet::{Members, Name, TaskSet};
 
-/// A run of a set's tasks at the levels of their best order.
+/// A run of a set's tasks in an order of theirs, up to its list's end or to the first overrun.
 #[derive(Drop)]
 pub struct Run {
-    /// The lowest level first.
-    pub places: Vec<Place>,
-    /// In microseconds.
-    pub until: u64,
-    pub releases: Vec<Release>,
-    /// What happened.
-    pub trace: Trace,
-}
-
-/// A run of a set's tasks in the order that a release list gives, up to its end or to the first overrun.
-#[derive(Drop)]
-pub struct OrderedRun {
-    /// The lowest level first, each with what becomes of it there.
-    pub judged: Vec<JudgedTask>,
+    /// The lowest level first, each task with its response where it meets its deadline.
+    pub bounds: Vec<TaskBound>,
+    /// Whether the release list gives the order; else it is the set's best one, in which nothing overruns.
+    pub is_listed: bool,
     /// The task whose job becomes ready at the end, while the one before it isn't finished, if there is one.
     pub overrun: Option<Name>,
     /// In microseconds.
@@ -59,8 +49,6 @@ pub enum Simulated {
     /// No order of the set passes, and nothing was run: the members of the greatest obstruction.
     Infeasible(Members),
     Ran(Run),
-    /// The list gives an order, which may pass or not.
-    Ordered(OrderedRun),
 }
 
 // The kernel of a set's tasks at the levels of an order.
@@ -142,14 +130,31 @@ fn simulate_best(
         Placing::Stuck(members) => Ok(Simulated::Infeasible(members)),
         Placing::Best(places) => {
             let trace = run_best(alloc, tasks, &places, until, &releases)?;
+            let bounds = bounds_of(alloc, &places)?;
             Ok(Simulated::Ran(Run {
-                places,
+                bounds,
+                is_listed: false,
+                overrun: None,
                 until,
                 releases,
                 trace,
             }))
         }
     }
+}
+
+// The bounds of tasks in an order.
+fn bounds_judged(alloc: Global, judged: &[JudgedTask]) -> Result<Vec<TaskBound>, AllocError>
+    ensures { IfOk result (λ bounds. bounds.items ≡ bounds_judged judged.now) }
+{
+    let mut bounds = Vec::with_capacity(alloc, judged.len())?;
+    for entry in judged {
+        bounds.push(TaskBound {
+            task: entry.task,
+            bound: response_judged(entry.judgement),
+        })?;
+    }
+    Ok(bounds)
 }
 
 // What a set and a release list come to in an order of the set, up to the first overrun.
@@ -166,9 +171,11 @@ fn simulate_in(
     // The set is valid: the proof has it from its sheets.
     let _ = set.sheets();
     let judged = judge_order(alloc, set, order)?;
+    let bounds = bounds_judged(alloc, &judged)?;
     let cut = run_order_cut(alloc, set.tasks(), order, until, releases)?;
-    Ok(Simulated::Ordered(OrderedRun {
-        judged,
+    Ok(Simulated::Ran(Run {
+        bounds,
+        is_listed: true,
         overrun: cut.overrun,
         until: cut.until,
         releases: cut.releases,
@@ -243,64 +250,18 @@ pub fn simulate_text(
     }
 }
 
-// The bound of a task in an order.
-fn bound_judged(judgement: Judgement) -> Option<u64>
-    ensures { result ≡ bound_judged judgement }
-{
-    match judgement {
-        Judgement::Meets { response } => Some(response),
-        Judgement::Misses { .. } | Judgement::Below { .. } => None,
-    }
-}
-
-// The bounds of tasks in an order.
-pub(crate) fn bounds_judged(
-    alloc: Global,
-    judged: &[JudgedTask],
-) -> Result<Vec<TaskBound>, AllocError>
-    ensures bounds { IfOk result (λ bounds. bounds.items ≡ bounds_judged judged.now) }
-    ensures tasks { IfOk result (λ bounds. tasks_of_bounds bounds.items ≡ order_judged judged.now) }
-{
-    let mut bounds = Vec::with_capacity(alloc, judged.len())?;
-    for entry in judged {
-        bounds.push(TaskBound {
-            task: entry.task,
-            bound: bound_judged(entry.judgement),
-        })?;
-    }
-    Ok(bounds)
-}
-
-// The lines of what the tasks of a set came to in a run of its best order, and then what is told of its chains.
+// The lines of what the tasks of a set came to in a run, and then what is told of its chains.
 fn reached_text(
     alloc: Global,
     set: &TaskSet,
     run: &Run,
     told: &ReachedChains,
 ) -> Result<String, AllocError>
-    requires { IsOrder set.now (tasks_of_places run.now.places.items) }
+    requires { IsOrder set.now (tasks_of_bounds run.now.bounds.items) }
     ensures { IfOk result (λ text. string_bytes text
-        ≡ task_lines set.now run.now.trace.jobs.items (bounds_of run.now.places.items) ++ string_bytes told.now.text) }
+        ≡ task_lines set.now run.now.trace.jobs.items run.now.bounds.items ++ string_bytes told.now.text) }
 {
-    let bounds = bounds_of(alloc, &run.places)?;
-    let mut text = tasks_text(alloc, set, &bounds, &run.trace.jobs)?;
-    text.push_str(told.text.as_str())?;
-    Ok(text)
-}
-
-// The same of a run in a given order.
-fn ordered_text(
-    alloc: Global,
-    set: &TaskSet,
-    run: &OrderedRun,
-    told: &ReachedChains,
-) -> Result<String, AllocError>
-    requires { IsOrder set.now (order_judged run.now.judged.items) }
-    ensures { IfOk result (λ text. string_bytes text
-        ≡ task_lines set.now run.now.trace.jobs.items (bounds_judged run.now.judged.items) ++ string_bytes told.now.text) }
-{
-    let bounds = bounds_judged(alloc, &run.judged)?;
-    let mut text = tasks_text(alloc, set, &bounds, &run.trace.jobs)?;
+    let mut text = tasks_text(alloc, set, &run.bounds, &run.trace.jobs)?;
     text.push_str(told.text.as_str())?;
     Ok(text)
 }
@@ -317,7 +278,6 @@ pub fn print_simulated<W: Write + Drop>(
 {
     match answer {
         Simulated::Ran(run) => print_made(trace_text(alloc, &run.trace), Status::Done, output),
-        Simulated::Ordered(run) => print_made(trace_text(alloc, &run.trace), Status::Done, output),
         Simulated::Infeasible(members) => print_stuck(alloc, tasks, *members, output),
     }
 }
@@ -337,11 +297,6 @@ pub fn print_reached<W: Write + Drop>(
     match answer {
         Simulated::Ran(run) => print_made(
             reached_text(alloc, tasks, run, told),
-            Status::Done,
-            output,
-        ),
-        Simulated::Ordered(run) => print_made(
-            ordered_text(alloc, tasks, run, told),
             Status::Done,
             output,
         ),

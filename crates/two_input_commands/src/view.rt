@@ -207,7 +207,6 @@ pub(crate) fn is_unseen(view: &View, answer: &Simulated) -> bool
 {
     match answer {
         Simulated::Ran(run) => view.is_empty(run.until),
-        Simulated::Ordered(run) => view.is_empty(run.until),
         Simulated::Infeasible(_) => false,
     }
 }

@@ -7,15 +7,13 @@ ghost use Rattle.answering.specs.Printed.{IsPrinted};
 ghost use Rattle.drawn_ways.specs.WayTexts.{way_of};
 ghost use Rattle.run_lines.specs.TaskBounds.{tasks_of_bounds};
 ghost use Rattle.two_input_commands.specs.Simulate.{IsInOrder, simulation_status};
-ghost use Rattle.two_input_commands.specs.declared.simulate.Simulated.TheVariants.{Ordered, Ran};
 ghost use Rattle.chains.specs.Parts.{bound_in};
 ghost use Rattle.two_input_commands.specs.Way.{DrawsWay, IsViewWith, IsWayOf, answer_drawn, name_at, names_at, picture_with, rows_drawn, rows_with, told_bound, way_said, way_with};
 
 use crate::draw::{Drawing, draw_text, rows_in_view};
 use crate::reached::levels_of;
-use crate::simulate::{OrderedRun, Run, Simulated, bounds_judged};
+use crate::simulate::{Run, Simulated};
 use answering::{CommandRefusal, Status, find_chain, no_such_chain, print, print_stuck};
-use ceiling_kernel::{Release, Trace};
 use chain_tables::Chain;
 use chains::{Level, bound_of};
 use command_line::Options;
@@ -23,7 +21,6 @@ use drawn_ways::{Way, laid_over, way_text};
 use frames::{TaskRow, View, frame_of, shown_of};
 use judge::SettingRow;
 use picture::draw;
-use run_lines::{TaskBound, bounds_of};
 use std::alloc::{AllocError, Global};
 use std::io::Write;
 use streams::Watched;
@@ -138,19 +135,16 @@ fn rows_drawn(
     set: &TaskSet,
     rows: &[TaskRow],
     view: &View,
-    until: u64,
-    releases: &[Release],
-    trace: &Trace,
+    run: &Run,
     way: &Way<'_>,
 ) -> Result<Vec<u8>, AllocError>
     requires { length rows.now ≤ TASK_LIMIT }
-    ensures { IfOk result (λ text. text.items
-        ≡ rows_drawn set.now rows.now view.now until releases.now trace.now (way_of way.now)) }
+    ensures { IfOk result (λ text. text.items ≡ rows_drawn set.now rows.now view.now run.now (way_of way.now)) }
 {
-    let document = draw(alloc, rows, view, until, releases, trace)?;
-    let shown = shown_of(alloc, &view.tasks, releases, rows)?;
-    let frame = frame_of(rows, view, until);
-    let over = way_text(alloc, frame, set, rows, &shown, trace, way)?;
+    let document = draw(alloc, rows, view, run.until, &run.releases, &run.trace)?;
+    let shown = shown_of(alloc, &view.tasks, &run.releases, rows)?;
+    let frame = frame_of(rows, view, run.until);
+    let over = way_text(alloc, frame, set, rows, &shown, &run.trace, way)?;
     laid_over(alloc, &document, &over)
 }
 
@@ -159,76 +153,18 @@ fn picture_with(
     alloc: Global,
     set: &TaskSet,
     settings: &[SettingRow],
-    bounds: &[TaskBound],
-    view: &View,
-    until: u64,
-    releases: &[Release],
-    trace: &Trace,
-    chain: &Chain,
-) -> Result<Vec<u8>, AllocError>
-    requires { IsOrder set.now (tasks_of_bounds bounds.now) }
-    ensures { IfOk result (λ text. text.items ≡ picture_with set.now settings.now bounds.now view.now until
-        releases.now trace.now chain.now) }
-{
-    let rows = rows_in_view(alloc, set, settings, bounds, view, releases)?;
-    let levels = levels_of(alloc, bounds)?;
-    let bound = bound_at(alloc, set, &levels, chain)?;
-    let way = way_with(chain, bound);
-    rows_drawn(alloc, set, &rows, view, until, releases, trace, &way)
-}
-
-// The same of a run in the best order.
-fn way_of_run(
-    alloc: Global,
-    set: &TaskSet,
-    settings: &[SettingRow],
     view: &View,
     chain: &Chain,
     run: &Run,
 ) -> Result<Vec<u8>, AllocError>
-    requires { IsInOrder set.now (Ran run.now) }
-    ensures { IfOk result (λ text. text.items
-        ≡ answer_drawn set.now settings.now view.now chain.now (Ran run.now)) }
+    requires { IsOrder set.now (tasks_of_bounds run.now.bounds.items) }
+    ensures { IfOk result (λ text. text.items ≡ picture_with set.now settings.now view.now chain.now run.now) }
 {
-    let bounds = bounds_of(alloc, &run.places)?;
-    picture_with(
-        alloc,
-        set,
-        settings,
-        &bounds,
-        view,
-        run.until,
-        &run.releases,
-        &run.trace,
-        chain,
-    )
-}
-
-// The same in the order that its list gives.
-fn way_of_ordered(
-    alloc: Global,
-    set: &TaskSet,
-    settings: &[SettingRow],
-    view: &View,
-    chain: &Chain,
-    run: &OrderedRun,
-) -> Result<Vec<u8>, AllocError>
-    requires { IsInOrder set.now (Ordered run.now) }
-    ensures { IfOk result (λ text. text.items
-        ≡ answer_drawn set.now settings.now view.now chain.now (Ordered run.now)) }
-{
-    let bounds = bounds_judged(alloc, &run.judged)?;
-    picture_with(
-        alloc,
-        set,
-        settings,
-        &bounds,
-        view,
-        run.until,
-        &run.releases,
-        &run.trace,
-        chain,
-    )
+    let rows = rows_in_view(alloc, set, settings, view, run)?;
+    let levels = levels_of(alloc, &run.bounds)?;
+    let bound = bound_at(alloc, set, &levels, chain)?;
+    let way = way_with(chain, bound);
+    rows_drawn(alloc, set, &rows, view, run, &way)
 }
 
 // The same of what came of a set; nothing where no order passes.
@@ -245,8 +181,7 @@ fn answer_drawn(
         ≡ answer_drawn set.now settings.now view.now chain.now answer.now) }
 {
     match answer {
-        Simulated::Ran(run) => way_of_run(alloc, set, settings, view, chain, run),
-        Simulated::Ordered(run) => way_of_ordered(alloc, set, settings, view, chain, run),
+        Simulated::Ran(run) => picture_with(alloc, set, settings, view, chain, run),
         Simulated::Infeasible(_) => Ok(Vec::new(alloc)),
     }
 }
@@ -304,7 +239,7 @@ pub fn print_way<W: Write + Drop>(
         (simulation_status found.now.answer) s) W.contents output.old output.new result }
 {
     match &found.answer {
-        Simulated::Ran(_) | Simulated::Ordered(_) => print(&found.text, Status::Done, output),
+        Simulated::Ran(_) => print(&found.text, Status::Done, output),
         Simulated::Infeasible(members) => print_stuck(alloc, tasks, *members, output),
     }
 }

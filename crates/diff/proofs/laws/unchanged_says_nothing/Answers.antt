@@ -5,4 +5,4 @@ pub returns-clause-whole : goal.returns-clause-whole
 returns-clause-whole c = λ by whose U. whole_is_silent by whose U
 
 pub returns-clause-tasks : goal.returns-clause-tasks
-returns-clause-tasks c = λ weighs U P set. unchanged_is_silent weighs U P set.distinct
+returns-clause-tasks c = λ weighs owners U P set. unchanged_is_silent weighs owners U P set.distinct

@@ -7,4 +7,4 @@ abbrev pub invariant-loop-task : goal.invariant-loop-task
 invariant-loop-task l =
     string_bytes l.text ≡ string_bytes l.fn.text
     ++ words_below l.task
-    (edit_line l.weighs l.old.set.now l.old.placing.now l.new.set.now l.new.placing.now)
+    (edit_line l.weighs l.owners l.old.set.now l.old.placing.now l.new.set.now l.new.placing.now)

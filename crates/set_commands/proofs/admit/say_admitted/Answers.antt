@@ -1,4 +1,4 @@
-use Rattle.std.proofs.Common.{◌∙◌, Ok, Err}
+use Rattle.std.proofs.Common.{◌∙◌, Ok, Err, string_bytes}
 use Rattle.answering.specs.declared.refusal.CommandRefusal.TheVariants as refusal
 use Rattle.answering.proofs.CarriedOut.{made_said}
 use Rattle.set_commands.proofs.admit.say_admitted.Goals as goal
@@ -6,7 +6,7 @@ use Rattle.set_commands.proofs.admit.say_admitted.Goals as goal
 -- out of memory for the lines is an answer of its own
 pub returns : goal.returns
 returns g c =
-    made_said c.admitted_text.result (λ t. t.items) _ c.admitted_text.ensures c.print_bytes.ensures
+    made_said c.admitted_text.result (λ t. string_bytes t) _ c.admitted_text.ensures c.print_made.ensures
     (λ text lines wrote is. λ asking known has said. (
       Ok (record {
         set = c.args.placed.now.tasks;

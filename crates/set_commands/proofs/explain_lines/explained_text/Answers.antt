@@ -2,11 +2,10 @@ use Rattle.set_commands.proofs.explain_lines.explained_text.Goals as goal
 
 pub returns : goal.returns
 returns c =
-    let found = rw c.deref.ensures.value at c.in_ok-lines.ensures in (
+    let found = rw c.deref.ensures.value at c.in_ok-text.ensures in (
       found.0,
       found.1,
       found.2,
       found.3,
-      rw (c.as_bytes.ensures.value, c.in_ok-chains.ensures, c.deref-2.ensures.value, found.4) at
-          c.in_ok-text.ensures,
+      rw (c.as_str.ensures.value, c.in_ok-chains.ensures, found.4) at c.in_ok-push_str.ensures.bytes,
     )

@@ -1,16 +1,12 @@
-use Rattle.std.proofs.Common.{string_bytes}
+use Rattle.std.proofs.Common.{◌∙◌, ap}
 use Rattle.set_commands.proofs.explain_lines.reasons_text.Goals as goal
 
 pub returns : goal.returns
 returns c = (
   c.in_ok-explanation.explanation,
-  string_bytes c.in_ok-decided.decided,
+  c.in_ok-decided.decided.items,
   rw c.of-tabled.ensures at c.in_ok-explanation.ensures,
   rw c.of-tabled.ensures at c.in_ok-decided.ensures,
-  rw (
-    c.as_bytes.ensures.value,
-    c.in_ok-push_str.ensures.bytes,
-    c.in_ok-text.ensures,
-    c.as_str.ensures.value,
-  ) at c.in_ok-named.ensures,
+  ap (λ v. v.items) c.into_bytes.ensures.value
+      ∙ rw (c.deref.ensures.value, c.in_ok-text.ensures) at c.in_ok-push_rows.ensures,
 )

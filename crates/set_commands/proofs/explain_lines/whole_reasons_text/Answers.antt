@@ -7,12 +7,5 @@ returns c =
       found.1,
       found.2,
       found.3,
-      rw (
-        c.as_bytes.ensures.value,
-        c.in_ok-first.ensures,
-        c.deref.ensures.value,
-        c.in_ok-lines.ensures,
-        found.4,
-      ) at
-          c.in_ok-text.ensures,
+      rw (c.in_ok-text.ensures, c.as_str.ensures.value, found.4) at c.in_ok-push_str.ensures.bytes,
     )

@@ -25,8 +25,8 @@ returns-in-Limits g c =
 -- out of memory for the lines is an answer of its own
 pub returns-in-Reasons : goal.returns-in-Reasons
 returns-in-Reasons g c =
-    rw c.in-Reasons.is (made_said c.explained_text.result (λ t. t.items) _ c.explained_text.ensures
-    c.print_bytes.ensures
+    rw c.in-Reasons.is (made_said c.explained_text.result (λ t. string_bytes t) _ c.explained_text.ensures
+    c.print_made.ensures
     (λ text found wrote is. λ asking known has said. (
       Ok (record {
         set = c.args.placed.now.tasks;
@@ -46,7 +46,7 @@ returns-in-Reasons g c =
 pub returns-in-Worst : goal.returns-in-Worst
 returns-in-Worst g c =
     rw c.in-Worst.is (made_said c.worst_text.result (λ t. string_bytes t) _ c.worst_text.ensures
-    c.print_made.ensures
+    c.print_made-in-Worst.ensures
     (λ text lines wrote is. λ asking known has said. (
       Ok (record { set = c.args.placed.now.tasks; placing = c.args.placed.now.placing; lines = string_bytes text }),
       (((has.0, has.1, has.2.set), c.requires.placing), lines),

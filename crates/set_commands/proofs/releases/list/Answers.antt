@@ -4,7 +4,7 @@ use Rattle.preferences.specs.declared.asking.Asking.{Asking}
 use Rattle.task_sheet.specs.Sheet.{Task}
 use Rattle.ceiling_kernel.specs.declared.trace.Release.{Release}
 use Rattle.chain_tables.specs.Chains.{ChainData}
-use Rattle.owners.specs.declared.owner.Owner.{Owner}
+use Rattle.task_lines.specs.declared.owner.Owner.{Owner}
 use Rattle.answering.specs.Owning.{HasChained, HasOwned}
 use Rattle.answering.specs.declared.refusal.CommandRefusal.{CommandRefusal}
 use Rattle.set_commands.specs.Releases.{Lists, ListsOf}

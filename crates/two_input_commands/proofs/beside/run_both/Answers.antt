@@ -1,7 +1,6 @@
 use Rattle.std.proofs.Common.{ℕ, List, subst}
 use Rattle.std.specs.Prelude.{Ok, Err}
 use Rattle.std.proofs.lemmas.Result.{err_from_is_err_and}
-use Rattle.two_input_commands.specs.Beside.{list_of, new_of}
 use Rattle.two_input_commands.specs.Diff.{IsNew, IsNoNew}
 use Rattle.two_input_commands.specs.Simulate.{SimulatesText}
 use Rattle.two_input_commands.proofs.BesideRefusals.{no_new_run, no_new_set}

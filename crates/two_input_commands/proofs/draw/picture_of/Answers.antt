@@ -1,10 +1,15 @@
 use Rattle.std.proofs.Common.{◌≡◌, ◌∙◌, List, IfOk, subst}
+use Rattle.ceiling_kernel.specs.declared.trace.Release.{Release}
 use Rattle.picture.specs.Document.{document}
 use Rattle.frames.specs.declared.rows.TaskRow.{TaskRow}
 use Rattle.two_input_commands.proofs.draw.picture_of.Goals as goal
 
 pub returns : goal.returns
 returns c =
-    subst (λ (rows : List TaskRow). IfOk c.draw.result (λ text. text.items ≡ document rows
-    c.args.view.now c.args.until c.args.releases.now c.args.trace.now))
-    (c.deref.ensures.value ∙ c.in_ok-rows.ensures.rows) c.draw.ensures
+    let v = c.args.view.now in
+    let run = c.args.run.now in
+    let listed = subst (λ (rs : List Release). IfOk c.draw.result (λ text. text.items
+    ≡ document c.deref.result.now v run.until rs run.trace)) c.deref-2.ensures.value c.draw.ensures in
+    subst (λ (rows : List TaskRow). IfOk c.draw.result (λ text. text.items
+    ≡ document rows v run.until run.releases.items run.trace))
+    (c.deref.ensures.value ∙ c.in_ok-rows.ensures.rows) listed

@@ -1,13 +1,11 @@
-use Rattle.std.proofs.Common.{◌≡◌, ◌∙◌, ℕ, List, length, ap}
+use Rattle.std.proofs.Common.{◌∙◌, ℕ, List, length, ap}
 use Rattle.std.proofs.lemmas.List.{length-map}
 use Rattle.task_sheet.specs.Sheet.{Task}
 use Rattle.assignment.specs.Placings.{tasks_of_places}
-use Rattle.judge.specs.Node.{AreNumbersIn}
 use Rattle.kept_order.specs.Keeping.{IsKeepingOf}
 use Rattle.kept_order.specs.declared.Keeping.{Keeping}
 use Rattle.kept_order.specs.declared.Keeping.TheVariants.{Kept}
 use Rattle.two_input_commands.specs.Keep.{HasOld, HaveOld, IsKeptIn}
-use Rattle.two_input_commands.proofs.keep_lines.keep_text.Goals as goal
 
 -- what is kept is an order of the set
 kept_in : (U : List Task) (kept : List ℕ) (keeping : Keeping) → IsKeepingOf U kept keeping

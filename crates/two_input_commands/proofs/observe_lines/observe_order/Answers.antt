@@ -1,6 +1,7 @@
 use Rattle.std.proofs.Common.{inr, refl, rules}
 use Rattle.trace_text.specs.TraceLines.{rows_at}
-use Rattle.two_input_commands.proofs.Observations.{given, judged_by, tasks_within}
+use Rattle.two_input_commands.proofs.Observations.{given, tasks_within}
+use Rattle.two_input_commands.proofs.Ordered.{judged_by}
 use Rattle.two_input_commands.proofs.observe_lines.observe_order.Goals as goal
 
 pub returns-in_default-clause-answer : goal.returns-in_default-clause-answer
