@@ -1,5 +1,5 @@
 -- Of which level and of which job the slices of a trace are.
-use Rattle.std.specs.Prelude.{ℕ, Bool, ◌&&◌, nat_le, List, Option, is_none, map, position, unwrap_or}
+use Rattle.std.specs.Prelude.{ℕ, Bool, ◌&&◌, nat_le, List, [], ◌∷◌, Option, is_none, map, position, unwrap_or}
 use Rattle.std.specs.Option.{is_some, option_map}
 use Rattle.std.specs.List.{find}
 use Rattle.task_sheet.specs.Sheet.{same_bytes}
@@ -42,6 +42,13 @@ piece_of promises jobs slice = piece_with promises slice (job_of jobs slice)
 -- each slice of a trace
 abbrev pub pieces_of : List Promise → List TraceJob → List TraceSlice → List Piece
 pieces_of promises jobs slices = map (piece_of promises jobs) slices
+
+-- slices, each with the level of its task and the place of its job, which stand apart
+abbrev pub pieces_at : List Promise → List (Option ℕ) → List TraceSlice → List Piece
+pieces_at promises [] slices = []
+pieces_at promises (home ∷ homes) [] = []
+pieces_at promises (home ∷ homes) (slice ∷ slices) =
+    piece_with promises slice home ∷ pieces_at promises homes slices
 
 -- it is of a task of the set, and lies in no job of it
 abbrev pub is_homeless : Piece → Bool

@@ -20,7 +20,7 @@ pub use crate::culprits::Culprit;
 pub use crate::end::end_of;
 pub use crate::interrupts::interrupts_within;
 pub use crate::observing::observe;
-pub use crate::pieces::{Piece, pieces_of};
+pub use crate::pieces::{Housed, Piece, homes_of, piece_of, split_first};
 pub use crate::promises::{Promise, levels_of, promises_of};
 pub use crate::seen::Seen;
 pub use crate::sight::{Observed, Sight, observe_at, observe_places, observe_text};

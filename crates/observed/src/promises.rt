@@ -1,11 +1,12 @@
 //! What a set promises of its tasks in an order.
-ghost use Rattle.std.specs.Prelude.{◌≡◌, ◌<◌, length, All, IfOk};
-ghost use Rattle.observed.specs.Promises.{levels_from, number_at, promise_of, promised, promises_of};
+ghost use Rattle.std.specs.Prelude.{◌≡◌, ◌<◌, length, map, slice_index_or, All, IfOk};
+ghost use Rattle.observed.specs.Promises.{levels_from, no_promise, number_at, promise_of, promised, promises_of};
 
 use assignment::{Place, members_at};
 use blocking::blocking;
 use ceilings::Tabled;
 use std::alloc::{AllocError, Global};
+use std::rc::Rc;
 use task_sheet::{Name, Sheet};
 
 /// What a set promises of a task at a level of an order: the numbers of its sheet, its blocking there, and the bound of its
@@ -93,4 +94,29 @@ pub fn promises_of(
         level += 1;
     }
     Ok(promises)
+}
+
+// Each promise, for the jobs of its task to share.
+pub(crate) fn shared(alloc: Global, promises: &[Promise]) -> Result<Vec<Rc<Promise>>, AllocError>
+    ensures { IfOk result (λ shared. map (λ s. s.value) shared.items ≡ promises.now) }
+{
+    let mut shared = Vec::with_capacity(alloc, promises.len())?;
+    for promise in promises {
+        shared.push(Rc::new(alloc, *promise)?)?;
+    }
+    Ok(shared)
+}
+
+// That of a level.
+#[tactic(auto, using(crate::proofs::SharedLaws::shared_at, crate::proofs::SharedLaws::as_many))]
+pub(crate) fn shared_at<'a>(
+    shared: &'a [Rc<Promise>],
+    _promises: &[Promise],
+    level: usize,
+) -> &'a Rc<Promise>
+    requires same { map (λ s. s.value) shared.now ≡ _promises.now }
+    requires level { level < length _promises.now }
+    ensures { result.now.value ≡ slice_index_or _promises.now level no_promise }
+{
+    &shared[level]
 }

@@ -35,14 +35,14 @@ fn is_over(tolerance: u64, time: Option<u64>, limit: u64) -> bool
 pub(crate) fn may_idle(seen: &Seen) -> u128
     ensures { result ≡ may_idle seen.now }
 {
-    seen.may_be_taken.saturating_sub(seen.foreign)
+    seen.may_be_taken().saturating_sub(seen.foreign())
 }
 
 // It ran at a priority that is neither its thread's nor a ceiling of its locks.
 pub(crate) fn breaks_priority(seen: &Seen) -> bool
     ensures { result ≡ breaks_priority seen.now }
 {
-    seen.stray.is_some()
+    seen.stray().is_some()
 }
 
 // It executed longer than it may.
@@ -56,7 +56,7 @@ pub(crate) fn breaks_cost(tolerance: u64, seen: &Seen) -> bool
 pub(crate) fn breaks_period(tolerance: u64, seen: &Seen) -> bool
     ensures { result ≡ breaks_period tolerance seen.now }
 {
-    is_short(tolerance, seen.gap, seen.closest)
+    is_short(tolerance, seen.gap, seen.closest())
 }
 
 // It was ready later after its arrival than its jitter.
@@ -81,21 +81,21 @@ pub(crate) fn breaks_bound(tolerance: u64, seen: &Seen) -> bool
 pub(crate) fn breaks_blocking(tolerance: u64, seen: &Seen) -> bool
     ensures { result ≡ breaks_blocking tolerance seen.now }
 {
-    is_past(tolerance, seen.blocked, seen.may_be_blocked)
+    is_past(tolerance, seen.blocked(), seen.may_be_blocked)
 }
 
 // While it waited, threads executed that the set doesn't have, for longer than what may be taken.
 pub(crate) fn breaks_foreign(tolerance: u64, seen: &Seen) -> bool
     ensures { result ≡ breaks_foreign tolerance seen.now }
 {
-    is_past(tolerance, seen.foreign, seen.may_be_taken)
+    is_past(tolerance, seen.foreign(), seen.may_be_taken())
 }
 
 // While it waited, nobody executed for longer than what is left of that.
 pub(crate) fn breaks_idle(tolerance: u64, seen: &Seen) -> bool
     ensures { result ≡ breaks_idle tolerance seen.now }
 {
-    is_past(tolerance, seen.idle, may_idle(seen))
+    is_past(tolerance, u128::from(seen.idle), may_idle(seen))
 }
 
 /// Whether a job breaks a promise.

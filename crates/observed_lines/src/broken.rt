@@ -89,7 +89,7 @@ fn push_priority(text: &mut String, seen: &Seen) -> Result<(), AllocError>
         return Ok(());
     }
     push_at(text, "priority", seen)?;
-    push_stray(text, seen.stray, seen.promise.number)
+    push_stray(text, seen.stray(), seen.promise.number)
 }
 
 // It executed longer than it may.
@@ -114,7 +114,7 @@ fn push_period(text: &mut String, tolerance: u64, seen: &Seen) -> Result<(), All
     if !breaks_period(tolerance, seen) {
         return Ok(());
     }
-    let least = seen.closest;
+    let least = seen.closest();
     push_at(text, "period", seen)?;
     match seen.gap {
         Some(gap) => writeln!(text, " {gap} of {least}"),
@@ -203,11 +203,11 @@ fn push_blocked(
     if !(breaks_blocking(tolerance, seen) && is_among(follows, cause)) {
         return Ok(());
     }
-    let time = seen.blocked;
+    let time = seen.blocked();
     let most = seen.may_be_blocked;
     push_at(text, "blocked", seen)?;
     write!(text, " {time} of {most}")?;
-    push_culprits(text, &seen.culprits)?;
+    push_culprits(text, seen.culprits())?;
     push_after(text, cause)
 }
 
@@ -220,8 +220,8 @@ fn push_foreign(text: &mut String, tolerance: u64, seen: &Seen) -> Result<(), Al
         return Ok(());
     }
     push_at(text, "foreign", seen)?;
-    push_limit(text, seen.foreign, seen.may_be_taken)?;
-    push_by(text, seen.stranger)
+    push_limit(text, seen.foreign(), seen.may_be_taken())?;
+    push_by(text, seen.stranger())
 }
 
 // While it waited, nobody executed for longer than what is left of that.
@@ -239,7 +239,7 @@ fn push_idle(
         return Ok(());
     }
     push_at(text, "idle", seen)?;
-    push_limit(text, seen.idle, may_idle(seen))?;
+    push_limit(text, u128::from(seen.idle), may_idle(seen))?;
     push_after(text, cause)
 }
 

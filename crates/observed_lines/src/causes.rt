@@ -129,7 +129,7 @@ fn has_level(culprits: &[Culprit], level: usize) -> bool
 fn may_delay(source: &Source, seen: &Seen) -> bool
     ensures { result ≡ may_delay source.now seen.now }
 {
-    seen.level <= source.level || has_level(&seen.culprits, source.level)
+    seen.level <= source.level || has_level(seen.culprits(), source.level)
 }
 
 // A job delays another, or itself.

@@ -1,7 +1,7 @@
 -- The lines of a trace: `START STOP NAME` for a slice, perhaps with `@P` behind it, the priority at which the thread ran;
 -- `job NAME ARRIVAL FINISH` for a job, with `-` where it has no finish, perhaps with the time behind it at which it was ready.
 -- A simulated run prints the shorter ones. Times are whole microseconds.
-use Rattle.std.specs.Prelude.{ℕ, ◌==◌, ◌&&◌, unwrap_or, nat_le, nat_lt, List, [], ◌∷◌, Option, Some, None, Result, bytes_eq, codes, if◌then◌else◌}
+use Rattle.std.specs.Prelude.{ℕ, ◌==◌, ◌&&◌, unwrap_or, nat_le, nat_lt, List, [], ◌∷◌, Option, Some, None, Result, Ok, Err, bytes_eq, codes, if◌then◌else◌}
 use Rattle.std.specs.Option.{option_map}
 use Rattle.lines.specs.TextLines.{kept_from, kept_lines, lines_of, rows_by}
 use Rattle.lines.specs.Words.{name_in, number_in}
@@ -130,3 +130,8 @@ slices_of (row ∷ rows) = with_slice row (slices_of rows)
 abbrev pub jobs_of : List TraceRow → List TraceJob
 jobs_of [] = []
 jobs_of (row ∷ rows) = with_job row (jobs_of rows)
+
+-- the slices and the jobs of a reading, or the number of the first faulty line
+abbrev pub parts_of : Result (List TraceRow) ℕ → Result (List TraceSlice × List TraceJob) ℕ
+parts_of (Ok rows) = Ok (slices_of rows, jobs_of rows)
+parts_of (Err line) = Err line

@@ -1,12 +1,12 @@
 //! Reading a trace.
-ghost use Rattle.std.specs.Prelude.{◌≡◌, MatchResult};
-ghost use Rattle.trace_text.specs.TraceFaults.{IsTraceFault, IsTraceIn, IsTraceOf, are_too_many, overlap_in, rows_fault, sequence_fault, trace_fault, unsorted_in};
-ghost use Rattle.trace_text.specs.TraceLines.{rows_at};
+ghost use Rattle.std.specs.Prelude.{◌≡◌, ◌++◌, ◌∷◌, [], Ok, MatchResult, OnOk};
+ghost use Rattle.trace_text.specs.TraceFaults.{IsRowsFault, IsTraceFault, IsTraceIn, IsTraceOf, are_too_many, overlap_in, rows_fault, sequence_fault, trace_fault, unsorted_in};
+ghost use Rattle.trace_text.specs.TraceLines.{jobs_of, parts_of, rows_at, slices_of};
 
 use crate::fault::TraceFault;
-use crate::rows::{TraceJob, TraceSlice, jobs_of, read_rows, slices_of};
-use lines::TextPlace;
-use std::alloc::Global;
+use crate::rows::{TraceJob, TraceRow, TraceSlice, row_in};
+use lines::{TextPlace, next_kept};
+use std::alloc::{AllocError, Global};
 
 /// The most slices of a trace.
 pub const SLICE_LIMIT: usize = 4_294_967_296;
@@ -72,6 +72,40 @@ fn sequence_fault(slices: &[TraceSlice], jobs: &[TraceJob]) -> Option<TraceFault
     None
 }
 
+// Puts the slice or the job of a row behind the others.
+fn add(trace: &mut TraceLines, row: TraceRow) -> Result<(), AllocError>
+    ensures slices { OnOk result (trace.new.slices.items ≡ trace.old.slices.items ++ slices_of (row ∷ [])) }
+    ensures jobs { OnOk result (trace.new.jobs.items ≡ trace.old.jobs.items ++ jobs_of (row ∷ [])) }
+{
+    match row {
+        TraceRow::Slice(slice) => trace.slices.push(slice)?,
+        TraceRow::Job(job) => trace.jobs.push(job)?,
+    }
+    Ok(())
+}
+
+// The slices and the jobs of a text from a place on, each in the order of their lines. Empty lines and lines that begin with
+// `#` are skipped and counted; the last line may lack its LF.
+fn read_parts(alloc: Global, at: TextPlace<'_>) -> Result<TraceLines, TraceFault>
+    ensures { MatchResult result
+        (λ trace. parts_of (rows_at at.entry.line at.entry.rest.now) ≡ Ok (trace.slices.items, trace.jobs.items))
+        (λ fault. IsRowsFault fault (rows_at at.entry.line at.entry.rest.now)) }
+{
+    let mut at = at;
+    let mut trace = TraceLines {
+        slices: Vec::new(alloc),
+        jobs: Vec::new(alloc),
+    };
+    while let Ok((line, after)) = next_kept(at) {
+        let Some(row) = row_in(line.number, line.text) else {
+            return Err(TraceFault::BadLine { line: line.number });
+        };
+        add(&mut trace, row)?;
+        at = after;
+    }
+    Ok(trace)
+}
+
 /// Reads a trace: the lines that a simulated run prints. Refused in the order of `TraceFault`, never as `NoJob`: that is
 /// for a set to say.
 pub fn read_trace(alloc: Global, text: &[u8]) -> Result<TraceLines, TraceFault>
@@ -83,16 +117,15 @@ pub fn read_trace(alloc: Global, text: &[u8]) -> Result<TraceLines, TraceFault>
 }
 
 /// The same of a text from a place on, whose lines count from the start of the text.
+#[tactic(auto, using(crate::proofs::PartLaws::trace_of, crate::proofs::PartLaws::fault_of))]
 pub fn read_trace_at(alloc: Global, at: TextPlace<'_>) -> Result<TraceLines, TraceFault>
     ensures { MatchResult result
         (λ trace. IsTraceOf (rows_at at.entry.line at.entry.rest.now) trace)
         (λ fault. IsTraceFault fault (rows_fault (rows_at at.entry.line at.entry.rest.now))) }
 {
-    let rows = read_rows(alloc, at)?;
-    let slices = slices_of(alloc, &rows)?;
-    let jobs = jobs_of(alloc, &rows)?;
-    match sequence_fault(&slices, &jobs) {
+    let trace = read_parts(alloc, at)?;
+    match sequence_fault(&trace.slices, &trace.jobs) {
         Some(fault) => Err(fault),
-        None => Ok(TraceLines { slices, jobs }),
+        None => Ok(trace),
     }
 }

@@ -1,12 +1,9 @@
 //! The lines of a trace: `START STOP NAME`, perhaps with `@P`, and `job NAME ARRIVAL FINISH`, perhaps with READY.
-ghost use Rattle.std.specs.Prelude.{◌≡◌, Some, Ok, MatchResult, IfOk};
-ghost use Rattle.lines.specs.Words.{number_in};
-ghost use Rattle.trace_text.specs.TraceFaults.{IsRowsFault};
-ghost use Rattle.trace_text.specs.TraceLines.{finish_in, five_words, four_words, job_at, jobs_of, priority_in, ranked, readied, rows_at, slice_at, slices_of, three_words};
+ghost use Rattle.std.specs.Prelude.{◌≡◌, Some};
+ghost use Rattle.lines.specs.Words.{number_in, words};
+ghost use Rattle.trace_text.specs.TraceLines.{finish_in, five_words, four_words, job_at, priority_in, ranked, readied, slice_at, three_words, trace_row_in};
 
-use crate::fault::TraceFault;
-use lines::{LineRow, TextPlace, Words, name_of, number_of, read_lines};
-use std::alloc::{AllocError, Global};
+use lines::{Words, name_of, number_of};
 use task_sheet::Name;
 
 /// A thread executed from one time up to another, in microseconds.
@@ -176,65 +173,22 @@ fn five_words(
     Some(TraceRow::Job(job))
 }
 
-impl LineRow for TraceRow {
-    type Row = TraceRow;
-
-    ghost use Rattle.trace_text.specs.TraceLines.{trace_row_in};
-
-    ghost row_in = { trace_row_in };
-
-    fn read(line: u64, text: &[u8]) -> Option<TraceRow> {
-        let mut words = Words::of(text);
-        let first = words.next()?;
-        let second = words.next()?;
-        let third = words.next()?;
-        let Some(fourth) = words.next() else {
-            return three_words(line, first, second, third);
-        };
-        let Some(fifth) = words.next() else {
-            return four_words(line, first, second, third, fourth);
-        };
-        match words.next() {
-            Some(_more) => None,
-            None => five_words(line, first, second, third, fourth, fifth),
-        }
-    }
-}
-
-// The rows of a text from a place on. Empty lines and lines that begin with `#` are skipped and counted; the last line may
-// lack its LF.
-pub(crate) fn read_rows<'a>(alloc: Global, at: TextPlace<'a>) -> Result<Vec<TraceRow>, TraceFault>
-    ensures { MatchResult result
-        (λ rows. rows_at at.entry.line at.entry.rest.now ≡ Ok rows.items)
-        (λ fault. IsRowsFault fault (rows_at at.entry.line at.entry.rest.now)) }
+// What a line with this number says; `None` of a faulty line.
+pub(crate) fn row_in(line: u64, text: &[u8]) -> Option<TraceRow>
+    ensures { result ≡ trace_row_in line (words text.now) }
 {
-    read_lines::<TraceRow>(alloc, at)?.map_err(|line| TraceFault::BadLine { line })
-}
-
-// The slices of rows, in their order.
-pub(crate) fn slices_of(alloc: Global, rows: &[TraceRow]) -> Result<Vec<TraceSlice>, AllocError>
-    ensures { IfOk result (λ slices. slices.items ≡ slices_of rows.now) }
-{
-    let mut slices = Vec::new(alloc);
-    for row in rows {
-        match row {
-            TraceRow::Slice(slice) => slices.push(*slice)?,
-            TraceRow::Job(_job) => {}
-        }
+    let mut words = Words::of(text);
+    let first = words.next()?;
+    let second = words.next()?;
+    let third = words.next()?;
+    let Some(fourth) = words.next() else {
+        return three_words(line, first, second, third);
+    };
+    let Some(fifth) = words.next() else {
+        return four_words(line, first, second, third, fourth);
+    };
+    match words.next() {
+        Some(_more) => None,
+        None => five_words(line, first, second, third, fourth, fifth),
     }
-    Ok(slices)
-}
-
-// The jobs of rows, in their order.
-pub(crate) fn jobs_of(alloc: Global, rows: &[TraceRow]) -> Result<Vec<TraceJob>, AllocError>
-    ensures { IfOk result (λ jobs. jobs.items ≡ jobs_of rows.now) }
-{
-    let mut jobs = Vec::new(alloc);
-    for row in rows {
-        match row {
-            TraceRow::Slice(_slice) => {}
-            TraceRow::Job(job) => jobs.push(*job)?,
-        }
-    }
-    Ok(jobs)
 }

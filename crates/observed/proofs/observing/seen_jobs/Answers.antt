@@ -6,7 +6,7 @@ use Rattle.task_sheet.specs.Sheet.{Task}
 use Rattle.trace_text.specs.declared.rows.TraceJob.{TraceJob}
 use Rattle.observed.specs.Near.{behind, near, rise_from}
 use Rattle.observed.specs.Observed.{seen_from, with_seen}
-use Rattle.observed.specs.Pieces.{level_of}
+use Rattle.observed.specs.Pieces.{level_of, pieces_at}
 use Rattle.observed.specs.Promises.{no_promise}
 use Rattle.observed.specs.Seen.{seen_job, until_of}
 use Rattle.observed.specs.declared.pieces.Piece.{Piece}
@@ -14,14 +14,17 @@ use Rattle.observed.specs.declared.promises.Promise.{Promise}
 use Rattle.observed.specs.SeenJob.{SeenData}
 use Rattle.observed.proofs.NearLaws.{seen-near}
 use Rattle.observed.proofs.observing.seen_jobs.Goals as goal
-use Rattle.observed.proofs.observing.seen_jobs.Goals.{in-Some+in_ok-seen_job+in_ok-push, in_default}
+use Rattle.observed.proofs.observing.seen_jobs.Goals.{in-Some+in_ok-fill_near+in_ok-seen_job+in_ok-push, in_default}
 
 pub loop-place-preserved : goal.loop-place-preserved
 loop-place-preserved c =
     let U : List Task = c.args.set.now in
     let promises : List Promise = c.args.promises.now in
     let end : ℕ = c.args.end in
-    let pieces : List Piece = c.args.pieces.now in
+    let pieces : List Piece =
+    pieces_at promises c.args.housed.homes.now c.args.housed.slices.now in
+    let rest : List Piece = pieces_at promises c.behind_next-rest.result.homes.now
+    c.behind_next-rest.result.slices.now in
     let jobs : List TraceJob = c.args.jobs.now in
     let k : ℕ = c.loop-place.place in
     let job : TraceJob = c.index-jobs-place.result in
@@ -36,14 +39,14 @@ loop-place-preserved c =
     record {
       near = c.behind_next-rest.ensures;
       whole = elim c.match-level_of.branch [
-        | in-Some+in_ok-seen_job+in_ok-push w ↦
+        | in-Some+in_ok-fill_near+in_ok-seen_job+in_ok-push w ↦
             let level : ℕ = w.in-Some.level in
             let p : Promise = slice_index_or promises level no_promise in
             let r : SeenData = w.in_ok-seen_job.field-0 in
-            let close : w.near-near.result.now
+            let close : w.deref.result.now
             ≡ near (rise_from 0 pieces) (until_of end job) (behind job.arrival pieces) =
-            w.near-near.ensures ∙ (ap (λ (b : Bool). near b w.until_of.result
-            c.behind_next-rest.result.now) c.rises-sorted.ensures
+            w.deref.ensures.value ∙ w.in_ok-fill_near.ensures
+            ∙ (ap (λ (b : Bool). near b w.until_of.result rest) c.rises-sorted.ensures
             ∙ ap₂ (λ (u : ℕ) (ps : List Piece). near (rise_from 0 pieces) u ps) w.until_of.ensures
             c.behind_next-rest.ensures) in
             let same : r ≡ seen_job U promises p level end pieces (take k jobs) job =

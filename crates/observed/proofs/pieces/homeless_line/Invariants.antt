@@ -1,0 +1,11 @@
+use Rattle.std.proofs.Common.{◌≡◌, length}
+use Rattle.observed.specs.Pieces.{homeless_line, pieces_at}
+use Rattle.observed.proofs.pieces.homeless_line.Given as goal
+
+abbrev pub invariant-loop-slice : goal.invariant-loop-slice
+invariant-loop-slice l =
+    homeless_line (pieces_at l.promises l.rest.homes.now l.rest.slices.now)
+    ≡ homeless_line (pieces_at l.promises l.housed.homes.now l.housed.slices.now)
+
+abbrev pub decreases-loop-slice : goal.decreases-loop-slice
+decreases-loop-slice l = length l.rest.homes.now
