@@ -19,7 +19,7 @@ use Rattle.chain_runs.specs.declared.outcome.ChainOutcome.{ChainOutcome}
 use Rattle.chain_runs.specs.declared.outputs.ChainOutput.{ChainOutput}
 use Rattle.chain_traces.specs.DeadlineOutputs.{deadline_outputs}
 use Rattle.chain_traces.specs.Executions.{executions_in}
-use Rattle.chain_traces.specs.Lates.{most_of}
+use Rattle.chain_traces.specs.Lates.{most_of, offsets_held}
 use Rattle.chain_traces.specs.Outputs.{outputs_in}
 use Rattle.chain_traces.specs.Steady.{farthest, is_past, is_unsteady}
 use Rattle.chain_traces.specs.declared.executions.Execution.{Execution}
@@ -59,12 +59,19 @@ outputs_of AtDeadline s tasks = deadline_outputs s.set s.end tasks s.seen
 abbrev pub outcome_in : SceneData → ChainData → ChainOutcome
 outcome_in s chain = outcome_of s.end (outputs_of chain.writes s chain.tasks)
 
--- its bound, and what its age is held against
+-- its bound, with these offsets
+abbrev pub bound_with : (offsets : List ℕ) → SceneData → ChainData → Option ℕ
+bound_with offsets s chain = bound_in chain.writes offsets s.set s.levels chain.tasks
+
 abbrev pub bound_of : SceneData → ChainData → Option ℕ
-bound_of s chain = bound_in chain.writes chain.offsets s.set s.levels chain.tasks
+bound_of s chain = bound_with chain.offsets s chain
+
+-- the same with the offsets to which its age is held, and what that is held against
+abbrev pub held_of : SceneData → ChainData → Option ℕ
+held_of s chain = bound_with (offsets_held chain.writes s.seen chain.tasks chain.offsets) s chain
 
 abbrev pub most_in : SceneData → ChainData → Option ℕ
-most_in s chain = most_of chain.writes s.seen chain.tasks (bound_of s chain)
+most_in s chain = most_of chain.writes s.seen chain.tasks (held_of s chain)
 
 -- an age is past that, where there are both, by more than is let pass
 abbrev pub is_old : (tolerance : ℕ) → (age most : Option ℕ) → Bool

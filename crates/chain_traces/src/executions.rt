@@ -1,8 +1,9 @@
 //! The slices of a set's tasks in a trace, each with its job.
-ghost use Rattle.std.specs.Prelude.{◌≡◌, IfOk};
+ghost use Rattle.std.specs.Prelude.{◌≡◌, [], IfOk};
+ghost use Rattle.observed.specs.Pieces.{pieces_at};
 ghost use Rattle.chain_traces.specs.Executions.{execution_of, executions_in, executions_of};
 
-use observed::{Piece, pieces_of};
+use observed::{Housed, Piece, homes_of, piece_of, split_first};
 use std::alloc::{AllocError, Global};
 use task_sheet::TaskSet;
 use trace_text::{TraceJob, TraceLines};
@@ -37,15 +38,19 @@ fn executions_of(
     alloc: Global,
     set: &TaskSet,
     jobs: &[TraceJob],
-    pieces: &[Piece],
+    housed: Housed<'_>,
 ) -> Result<Vec<Execution>, AllocError>
-    ensures { IfOk result (λ es. es.items ≡ executions_of set.now jobs.now pieces.now) }
+    ensures { IfOk result (λ es. es.items
+        ≡ executions_of set.now jobs.now (pieces_at [] housed.entry.homes.now housed.entry.slices.now)) }
 {
-    let mut executions = Vec::with_capacity(alloc, pieces.len())?;
-    for piece in pieces {
-        if let Some(execution) = execution_of(set, jobs, piece) {
+    let mut executions = Vec::with_capacity(alloc, housed.slices.len())?;
+    let mut rest = housed;
+    while let Some((slice, home, more)) = split_first(&[], rest) {
+        let piece = piece_of(&[], slice, home);
+        if let Some(execution) = execution_of(set, jobs, &piece) {
             executions.push(execution)?;
         }
+        rest = more;
     }
     Ok(executions)
 }
@@ -58,6 +63,10 @@ pub fn executions_in(
 ) -> Result<Vec<Execution>, AllocError>
     ensures { IfOk result (λ es. es.items ≡ executions_in set.now trace.now) }
 {
-    let pieces = pieces_of(alloc, &[], &trace.jobs, &trace.slices)?;
-    executions_of(alloc, set, &trace.jobs, &pieces)
+    let homes = homes_of(alloc, &trace.jobs, &trace.slices)?;
+    let housed = Housed {
+        slices: &trace.slices,
+        homes: &homes,
+    };
+    executions_of(alloc, set, &trace.jobs, housed)
 }

@@ -1,11 +1,11 @@
 //! What is printed of the chains of a trace.
 ghost use Rattle.std.specs.Prelude.{◌≡◌, ◌++◌, IfOk, OnOk, ◌&&◌, true, map, string_bytes};
 ghost use Rattle.std.specs.List.{list_all};
-ghost use Rattle.chain_traces.specs.TraceChainLines.{AreSeen, bound_of, chain_line, chain_lines, is_fresh, is_old, level_of, lines_of, most_in, old_line, outcome_in, outputs_of, scene_in, scene_of, steady_line, steady_lines};
+ghost use Rattle.chain_traces.specs.TraceChainLines.{AreSeen, bound_of, bound_with, chain_line, held_of, chain_lines, is_fresh, is_old, level_of, lines_of, most_in, old_line, outcome_in, outputs_of, scene_in, scene_of, steady_line, steady_lines};
 
 use crate::deadlines::deadline_outputs;
 use crate::executions::executions_in;
-use crate::lates::most_of;
+use crate::lates::{most_of, offsets_held};
 use crate::outputs::outputs_in;
 use crate::scene::Scene;
 use crate::steady::{any_unsteady, farthest, is_past, is_unsteady};
@@ -109,6 +109,19 @@ fn outputs_of(
     }
 }
 
+// The bound of a chain, with these offsets.
+fn bound_with(
+    alloc: Global,
+    scene: &Scene<'_>,
+    chain: &Chain,
+    offsets: &[u64],
+) -> Result<Option<u128>, AllocError>
+    ensures { IfOk result (λ bound. bound ≡ bound_with offsets.now (scene_of scene.now) chain.now) }
+{
+    let (set, levels) = (scene.set, scene.levels);
+    bound_of(alloc, set, levels, chain.writes, offsets, &chain.tasks)
+}
+
 // The lines of a chain of a trace, and whether it is never too old.
 fn see_chain(
     alloc: Global,
@@ -122,9 +135,10 @@ fn see_chain(
 {
     let outputs = outputs_of(alloc, scene, chain)?;
     let outcome = outcome_of(scene.end, &outputs);
-    let (offsets, tasks) = (chain.offsets.as_slice(), chain.tasks.as_slice());
-    let bound = bound_of(alloc, scene.set, scene.levels, chain.writes, offsets, tasks)?;
-    let most = most_of(scene, chain, bound);
+    let bound = bound_with(alloc, scene, chain, &chain.offsets)?;
+    let offsets = offsets_held(chain.writes, scene.seen, &chain.tasks, &chain.offsets);
+    let held = bound_with(alloc, scene, chain, offsets)?;
+    let most = most_of(scene, chain, held);
     push_chain(text, scene.tolerance, chain, outcome, bound, most)?;
     Ok(!is_old(scene.tolerance, outcome.age, most))
 }

@@ -66,7 +66,7 @@ const COMMANDS: [Listed; 16] = [
         about: "Prints what each response is made of, or a minimal set of tasks that collide and how one order fails",
         example: example!(
             "explain examples/shared-lock.toml",
-            "0 admitted, or with --at all meet, 3 infeasible, or some miss, or a chain misses its limit, 4 an input or NAME is refused"
+            "0 admitted, or with --at all meet, 3 infeasible, or some miss, or without --task a chain misses its limit, 4 an input or NAME is refused"
         ),
     },
     Listed {

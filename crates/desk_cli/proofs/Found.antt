@@ -4,7 +4,7 @@ use Rattle.std.specs.Io.KnownBytes.{Appends}
 use Rattle.task_sheet.specs.Sheet.{Task}
 use Rattle.task_sheet.specs.declared.prefer.Preference.{Preference}
 use Rattle.preferences.specs.declared.asking.Asking.{Asking}
-use Rattle.owners.specs.declared.owner.Owner.{Owner}
+use Rattle.task_lines.specs.declared.owner.Owner.{Owner}
 use Rattle.command_line.specs.declared.calls.Options.{Options}
 use Rattle.command_line.specs.declared.calls.OfTwo.{OfTwo}
 use Rattle.command_line.specs.declared.calls.OfTwo.TheVariants as command
@@ -121,8 +121,8 @@ module _ (options : Options) (by : Preference) (owners : List Owner) (chains : L
       λ set other has said. (Ok (U, owners, chains, worst), (by, text, has, said, finds), wrote, is)
   said_in command.LimitsAt (LimitedAt found) finds wrote is =
       λ set other has said. (Ok (U, owners, found), (by, text, chains, has, said, finds), wrote, is)
-  said_in command.ExplainAt (ExplainedAt sorted found told) finds wrote is = λ set other has said. rw (← finds.0)
-      (Ok (U, owners, chains, (found, told)), (by, text, has, said, finds.1), wrote, is)
+  said_in command.ExplainAt (ExplainedAt found told) finds wrote is =
+      λ set other has said. (Ok (U, owners, chains, (found, told)), (by, text, has, said, finds), wrote, is)
   said_in command.DrawBeside (DrawnBeside runs) finds wrote is =
       λ set other has said. (Ok (U, runs), (text, both _ _ set other has, finds), wrote, is)
   said_in _ _ finds wrote is = absurd finds

@@ -5,7 +5,7 @@ use Rattle.task_sheet.specs.declared.prefer.Preference.{Preference}
 use Rattle.task_sheet.specs.declared.set.TheConstants.{TASK_LIMIT}
 use Rattle.command_line.specs.declared.calls.Options.{Options}
 use Rattle.assignment.specs.Placings.{IsPlacingOf}
-use Rattle.owners.specs.declared.owner.Owner.{Owner}
+use Rattle.task_lines.specs.declared.owner.Owner.{Owner}
 use Rattle.command_line.specs.declared.calls.OfTwo.{OfTwo}
 use Rattle.command_line.specs.declared.calls.OfTwo.TheVariants as command
 use Rattle.chain_tables.specs.Chains.{ChainData}
@@ -66,10 +66,10 @@ FindsIn command.WorstAt options by owners chains U text (Err r) =
     WorstsText (chain_of options) (task_of options) chains U text (Err r)
 FindsIn command.LimitsAt options by owners chains U text (Ok (LimitedAt found)) = LimitsText (task_of options) owners chains U text (Ok found)
 FindsIn command.LimitsAt options by owners chains U text (Err r) = LimitsText (task_of options) owners chains U text (Err r)
-FindsIn command.ExplainAt options by owners chains U text (Ok (ExplainedAt sorted found told)) =
-    (sorted ≡ is_sorted options) × ExplainsText (task_of options) chains U text (Ok (found, told))
+FindsIn command.ExplainAt options by owners chains U text (Ok (ExplainedAt found told)) =
+    ExplainsText (task_of options) (is_sorted options) chains U text (Ok (found, told))
 FindsIn command.ExplainAt options by owners chains U text (Err r) =
-    ExplainsText (task_of options) chains U text (Err r)
+    ExplainsText (task_of options) (is_sorted options) chains U text (Err r)
 FindsIn command.DrawBeside options by owners chains U text (Ok (DrawnBeside runs)) =
     AsksBeside (chain_of options) (asking_of options) options U text (Ok runs)
 FindsIn command.DrawBeside options by owners chains U text (Err r) =
@@ -85,7 +85,7 @@ IsFoundOf U (Drawn drawing) = IsInOrder U drawing.answer
 IsFoundOf U (DrawnWay drawn) = IsInOrder U drawn.answer
 IsFoundOf U (Observed leeway shown told) = IsObservationOf shown
 IsFoundOf U (Keeping node base room) = IsKeptIn U node.keeping × IsOldOf node
-IsFoundOf U (ExplainedAt sorted found told) = All (λ j. j.task < TASK_LIMIT) found.node.judged.items
+IsFoundOf U (ExplainedAt found told) = All (λ j. j.task < TASK_LIMIT) found.node.judged.items
 IsFoundOf U (DrawnBeside runs) = IsInOrder U runs.was × IsInOrder runs.set runs.is
 IsFoundOf U _ = Unit {0}
 
@@ -102,7 +102,7 @@ found_said owners U (Observed leeway shown told) = observation_said leeway U sho
 found_said owners U (Keeping node base room) = keeping_lines U base room node
 found_said owners U (WorstAt found) = string_bytes found.text
 found_said owners U (LimitedAt found) = string_bytes found.text
-found_said owners U (ExplainedAt sorted found told) = explained_at_lines sorted owners U found told
+found_said owners U (ExplainedAt found told) = explained_at_lines owners U found told
 found_said owners U (DrawnBeside runs) = beside_said U runs
 
 -- the exit status of what was found
@@ -118,7 +118,7 @@ found_status (Observed leeway shown told) = observation_status leeway shown told
 found_status (Keeping node base room) = keeping_status node
 found_status (WorstAt found) = judged_status found.node.judged.items
 found_status (LimitedAt found) = judged_status found.node.judged.items
-found_status (ExplainedAt sorted found told) = chained_status found.node.judged.items told.are_met
+found_status (ExplainedAt found told) = chained_status found.node.judged.items told.are_met
 found_status (DrawnBeside runs) = beside_status runs
 
 -- that is printed after what the writer held, with its status; or that there was no memory for it

@@ -23,12 +23,12 @@ use std::io::{Read, Write};
 use streams::{INPUT_LIMIT, TRACE_LIMIT, Watched};
 use task_sheet::{Members, Name, TaskSet};
 use two_input_commands::{
-    ChainsTold, Compared, Drawing, DrawnWay, InOrder, KeptNode, Observation, ReachedChains, Shown,
-    Simulated, TwoRuns, beside_text, chained_status, check_text, compare_text, compared_text,
-    draw_text, draw_way, explain_at, explained_at_text, judge_text, judged_said, judged_status,
-    keep_text, keeping_status, keeping_text, leeway_of, limits_at, parts_of, print_beside,
-    print_drawing, print_observation, print_reached, print_simulated, print_way, reach_text,
-    simulate_text, watch_text, worst_at,
+    ChainsTold, Compared, Drawing, DrawnWay, ExplainedOrder, InOrder, KeptNode, Observation,
+    ReachedChains, Shown, Simulated, TwoRuns, beside_text, chained_status, check_text,
+    compare_text, compared_text, draw_text, draw_way, explain_at, explained_at_text, judge_text,
+    judged_said, judged_status, keep_text, keeping_status, keeping_text, leeway_of, limits_at,
+    parts_of, print_beside, print_drawing, print_observation, print_reached, print_simulated,
+    print_way, reach_text, simulate_text, watch_text, worst_at,
 };
 
 /// What a command finds of a set and a text.
@@ -59,9 +59,8 @@ pub enum Found {
     },
     /// The worst case of a task in the order that settings give.
     WorstAt(InOrder),
-    /// What explains the order that settings give, without the teams of its tasks, and what is told of the chains; whether its
-    /// lines are to stand by slack.
-    ExplainedAt(bool, InOrder, ChainsTold),
+    /// What explains the order that settings give, and what is told of the chains.
+    ExplainedAt(ExplainedOrder, ChainsTold),
     /// How far the numbers of a set may go in the order that settings give.
     LimitedAt(InOrder),
     /// What comes of a release list on a set and on the one that it becomes, to be shown as an SVG 1.1 document.
@@ -142,8 +141,9 @@ fn find(
             text,
         )?)),
         OfTwo::ExplainAt => {
-            let (found, told) = explain_at(alloc, options.task, &both.chains, tasks, text)?;
-            Ok(Found::ExplainedAt(is_sorted(options), found, told))
+            let sorted = is_sorted(options);
+            let (found, told) = explain_at(alloc, options.task, sorted, &both.chains, tasks, text)?;
+            Ok(Found::ExplainedAt(found, told))
         }
         OfTwo::DrawBeside => {
             let asking = asking_of(options);
@@ -170,7 +170,7 @@ fn print_found<W: Write + Drop>(
             placing_status(&compared.is),
             output,
         ),
-        Found::Judged(sorted, node, told) => print_bytes(
+        Found::Judged(sorted, node, told) => print_made(
             judged_said(alloc, *sorted, tasks, node, told),
             chained_status(&node.judged, told.are_met),
             output,
@@ -197,8 +197,8 @@ fn print_found<W: Write + Drop>(
             judged_status(&found.node.judged),
             output,
         ),
-        Found::ExplainedAt(sorted, found, told) => print_bytes(
-            explained_at_text(alloc, *sorted, owners, tasks, found, told),
+        Found::ExplainedAt(found, told) => print_made(
+            explained_at_text(alloc, owners, tasks, found, told),
             chained_status(&found.node.judged, told.are_met),
             output,
         ),
@@ -208,12 +208,7 @@ fn print_found<W: Write + Drop>(
 
 // Whether a task of a name has one of the jobs.
 fn has_job(jobs: &[Seen], name: Name) -> bool {
-    for job in jobs {
-        if job.promise.name == name {
-            return true;
-        }
-    }
-    false
+    jobs.iter().any(|job| job.promise.name == name)
 }
 
 // The tasks of a set of which a trace shows jobs.
@@ -228,31 +223,22 @@ fn tasks_seen(tasks: &TaskSet, jobs: &[Seen]) -> Members {
 }
 
 // Tells the audience that a run ends at an overrun, if it does.
-fn tell_overrun<P: Audience>(overrun: Option<Name>, people: &mut P) {
-    if let Some(name) = overrun {
-        people.overran(name);
-    }
-}
-
-// Tells the audience where a run ends that another stands beside.
 fn tell_end<P: Audience>(answer: &Simulated, people: &mut P) {
-    if let Simulated::Ordered(run) = answer {
-        tell_overrun(run.overrun, people);
+    if let Simulated::Ran(run) = answer {
+        if let Some(name) = run.overrun {
+            people.overran(name);
+        }
     }
 }
 
 // Tells the audience of a run, if there is one.
 fn tell_run<P: Audience>(answer: &Simulated, tasks: &TaskSet, people: &mut P) {
-    match answer {
-        Simulated::Infeasible(_) => {}
-        Simulated::Ran(_) => {
+    if let Simulated::Ran(run) = answer {
+        if !run.is_listed {
             people.in_best_order(tasks);
-            people.ran(tasks);
         }
-        Simulated::Ordered(run) => {
-            people.ran(tasks);
-            tell_overrun(run.overrun, people);
-        }
+        people.ran(tasks);
+        tell_end(answer, people);
     }
 }
 

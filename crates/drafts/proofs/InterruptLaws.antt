@@ -1,6 +1,6 @@
 -- The node's interrupts under changes: which stay, and that a demand counts them all.
 use Rattle.std.proofs.Common.{◌≡◌, ◌∙◌, ℕ, zero, suc, ◌+◌, ◌*◌, ◌<◌, ◌==◌, inl, inr}
-use Rattle.std.proofs.Common.{not, List, [], ◌∷◌, ◌++◌, length, drop, slice_get, sum_by, Some, Result}
+use Rattle.std.proofs.Common.{not, nat_lt, List, [], ◌∷◌, ◌++◌, length, drop, slice_get, sum_by, Some, Result}
 use Rattle.std.proofs.Common.{Ok, Err, refl, sym, ap, subst, add-one, append-nil, arith}
 use Rattle.std.specs.Prelude.{OnOk}
 use Rattle.std.specs.List.{AllByRecursion}
@@ -49,7 +49,10 @@ within-others team (x ∷ xs) all = elim (cases_Bool (x.team == team)) [
 within-said : (team : ℕ) (said : List Interrupt) → AllByRecursion IsInterrupt said
     → AreWithin (said_by team said)
 within-said team [] all = tt
-within-said team (x ∷ said) all = (all.0, within-said team said all.1)
+within-said team (x ∷ said) all = elim (cases_Bool (nat_lt 0 x.cost)) [
+  | inl takes ↦ rw takes (all.0, within-said team said all.1)
+  | inr none ↦ rw none (within-said team said all.1)
+]
 
 pub within_saying : (team : ℕ) (xs : List TeamInterrupt) (said : List Interrupt) → AreWithin xs
     → AllByRecursion IsInterrupt said → AreWithin (after_saying team xs said)
@@ -81,7 +84,10 @@ others-again team (x ∷ xs) = elim (cases_Bool (x.team == team)) [
 
 others-said : (team : ℕ) (said : List Interrupt) → of_others team (said_by team said) ≡ []
 others-said team [] = refl
-others-said team (x ∷ said) = rw (eq-eqb team team refl) (others-said team said)
+others-said team (x ∷ said) = elim (cases_Bool (nat_lt 0 x.cost)) [
+  | inl takes ↦ rw (takes, eq-eqb team team refl) (others-said team said)
+  | inr none ↦ rw none (others-said team said)
+]
 
 others-saying : (team : ℕ) (xs : List TeamInterrupt) (said : List Interrupt)
     → of_others team (after_saying team xs said) ≡ of_others team xs

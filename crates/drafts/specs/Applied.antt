@@ -1,6 +1,6 @@
 -- The tasks on the node, by rank, each with its team, and the node's interrupts, each with the team that said it; and
 -- what a team's changes make of them.
-use Rattle.std.specs.Prelude.{ℕ, Bool, true, false, ◌==◌, not, nat_le, List, [], ◌∷◌, ◌++◌, length, filter, find, map, Option, None, Some, Result, Ok, Err, if◌then◌else◌, slice_get}
+use Rattle.std.specs.Prelude.{ℕ, Bool, true, false, ◌==◌, not, nat_le, List, [], ◌∷◌, ◌++◌, length, filter, find, map, Option, None, Some, Result, Ok, Err, if◌then◌else◌, slice_get, nat_lt}
 use Rattle.std.specs.Option.{option_map_or}
 use Rattle.std.specs.Ordering.{is_lt}
 use Rattle.task_sheet.specs.Sheet.{Task, interrupted, same_bytes}
@@ -90,9 +90,9 @@ teams_of tasks = map (λ o. o.team) tasks
 abbrev pub of_others : ℕ → List TeamInterrupt → List TeamInterrupt
 of_others team interrupts = filter (λ x. not (x.team == team)) interrupts
 
--- the team says these
+-- the team says these, but for those that take nothing
 abbrev pub said_by : ℕ → List Interrupt → List TeamInterrupt
-said_by team xs = map (λ x. record { interrupt = x; team = team }) xs
+said_by team xs = map (λ x. record { interrupt = x; team = team }) (filter (λ x. nat_lt 0 x.cost) xs)
 
 -- a team that says interrupts has these from then on, and no others; those of other teams stay
 abbrev pub after_saying : ℕ → List TeamInterrupt → List Interrupt → List TeamInterrupt

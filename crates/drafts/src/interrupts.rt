@@ -1,9 +1,9 @@
 //! The node's interrupts, each with the team that said it; and what changes make of them.
 
-ghost use Rattle.std.specs.Prelude.{◌≡◌, ◌↔◌, IsTrue, IfOk, OnOk};
+ghost use Rattle.std.specs.Prelude.{◌≡◌, ◌↔◌, ◌∷◌, [], ◌++◌, IsTrue, IfOk, OnOk};
 ghost use Rattle.task_sheet.specs.Sheet.{AreInterrupts};
 ghost use Rattle.overheads.specs.Padding.{charged};
-ghost use Rattle.drafts.specs.Applied.{after_saying, interrupts_with, interrupts_after, of_others, said_of};
+ghost use Rattle.drafts.specs.Applied.{after_saying, interrupts_with, interrupts_after, of_others, said_by, said_of};
 ghost use Rattle.drafts.specs.Rosters.{AreWithin};
 
 use crate::change::Change;
@@ -52,6 +52,21 @@ fn take_said(interrupts: &mut Vec<TeamInterrupt>, team: Team)
     interrupts.retain(|x| x.team.number() != team.number());
 }
 
+// A team says this interrupt, too, unless it takes nothing.
+fn say_one(
+    team: Team,
+    interrupts: &mut Vec<TeamInterrupt>,
+    interrupt: Interrupt,
+) -> Result<(), AllocError>
+    ensures { OnOk result (interrupts.new.items
+        ≡ interrupts.old.items ++ said_by team (interrupt ∷ [])) }
+{
+    if interrupt.cost > 0 {
+        interrupts.push(TeamInterrupt { interrupt, team })?;
+    }
+    Ok(())
+}
+
 // A team says these interrupts. Where it says none, all stay as they are.
 fn say(
     team: Team,
@@ -66,10 +81,7 @@ fn say(
     }
     take_said(interrupts, team);
     for interrupt in said {
-        interrupts.push(TeamInterrupt {
-            interrupt: *interrupt,
-            team,
-        })?;
+        say_one(team, interrupts, *interrupt)?;
     }
     Ok(())
 }

@@ -5,6 +5,7 @@ use Rattle.chains.specs.declared.bounds.Level.{Level}
 use Rattle.chains.specs.declared.bounds.Writes.{Writes}
 use Rattle.chains.specs.declared.bounds.Writes.TheVariants.{AtDeadline}
 use Rattle.chain_tables.specs.Chains.{ChainData}
+use Rattle.chain_traces.specs.Lates.{offsets_held}
 use Rattle.chain_traces.proofs.LateLaws.{bound_short}
 use Rattle.chain_traces.proofs.lates.most_of.Goals as goal
 
@@ -16,9 +17,10 @@ late_after-requires c =
     let own : ℕ = c.in-Some.own in
     let writes : chain.writes ≡ AtDeadline =
     sym (ap (λ (d : ChainData). d.writes) c.chain.view_is) ∙ c.in-AtDeadline.is in
-    let is : bound_in AtDeadline chain.offsets U levels chain.tasks ≡ Some own =
-    ap (λ (w : Writes). bound_in w chain.offsets U levels chain.tasks) (sym writes)
+    let offsets : List ℕ = offsets_held chain.writes c.args.scene.now.seen.now chain.tasks chain.offsets in
+    let is : bound_in AtDeadline offsets U levels chain.tasks ≡ Some own =
+    ap (λ (w : Writes). bound_in w offsets U levels chain.tasks) (sym writes)
     ∙ sym c.requires ∙ c.in-Some.is in
     let tasks : c.deref.result.now ≡ chain.tasks =
     c.deref.ensures.value ∙ ap (λ (d : ChainData). d.tasks) c.chain.view_is in
-    rw tasks (bound_short chain.offsets U levels chain.tasks own c.sheets.ensures.kept is)
+    rw tasks (bound_short offsets U levels chain.tasks own c.sheets.ensures.kept is)
