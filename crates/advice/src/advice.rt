@@ -1,21 +1,24 @@
 //! An audience that writes what a person is to know.
+ghost use Rattle.std.specs.Prelude.{IfOk};
 ghost use Rattle.assignment.specs.Placings.{IsPlacingOf};
 
 use crate::causes::LastError;
 use crate::sentence::{Known, sentence_of};
-use assignment::Placing;
+use assignment::{Placing, place_all};
 use ceilings::{LockTable, Tabled};
+use chain_lines::all_met;
 use chain_tables::Chain;
 use command_line::{Call, Input, Named, OfNumber, OfOne, OfTwo, Options};
 use desk_cli::{Audience, CommandRefusal, Status, Which, base_of};
 use explain::least_conflict;
+use least_chains::levels_of;
 use preferences::Choice;
 use sentences::{
     greatest_until, leaves_out, of_chain, of_neither, of_task, of_tasks, push_clean,
-    put_chain_missed, put_chains_left_out, put_conflict, put_empty, put_left_out, put_names_decide,
-    put_notes, put_offsets_uncounted, put_one_overran, put_overload, put_overran, put_override,
-    put_parted, put_past_priorities, put_strange_threads, put_strangers, put_unrun, put_unrun_of,
-    put_unseen,
+    put_chain_missed, put_chain_missed_here, put_chains_left_out, put_conflict, put_empty,
+    put_left_out, put_names_decide, put_notes, put_one_overran, put_overload, put_overran,
+    put_override, put_parted, put_past_priorities, put_periods_stay, put_strange_threads,
+    put_strangers, put_unrun, put_unrun_of, put_unseen,
 };
 use std::alloc::{AllocError, Global};
 use std::io::Write;
@@ -35,17 +38,19 @@ pub struct Advice<'a, W: Write + Drop> {
     no_task: Option<String>,
     // Whether nobody says by what the set is preferred.
     is_unpreferred: bool,
-    // Whether the set has chains, some of them with offsets, and whether the answer is of an order that passes.
+    // Whether the set has chains, some of them with offsets, and whether the answer is of an order that keeps another.
     has_chains: bool,
     has_offsets: bool,
-    has_order: bool,
+    has_kept: bool,
     // Whether there was a run, and whether the new set has timers or interrupts, which its run lacks.
     has_run: bool,
     lacks_in_new: bool,
     // The set of a call that runs a list or checks a certificate, for what these break, or that asks for the densest list.
     set: Option<TaskSet>,
-    // The chains of a set whose certificate a call checks.
+    // The chains of a set whose certificate a call checks, or whose answer doesn't say that one misses its limit.
     chains: Vec<Chain>,
+    // Whether one of these does in the best order.
+    has_missed: bool,
     errors: Watched<W>,
 }
 
@@ -88,24 +93,6 @@ fn is_run(call: Call<'_>) -> bool {
     }
 }
 
-// Whether a call prints the settings of an order.
-fn is_settings(call: Call<'_>) -> bool {
-    match call {
-        Call::One { command, .. } => match command {
-            OfOne::Settings => true,
-            OfOne::Admit | OfOne::Limits | OfOne::Explain | OfOne::Worst => false,
-            OfOne::Certify | OfOne::Script | OfOne::Play => false,
-        },
-        Call::Two { command, .. } => match command {
-            OfTwo::Keep => true,
-            OfTwo::Check | OfTwo::Diff | OfTwo::Judge | OfTwo::Observe => false,
-            OfTwo::Simulate | OfTwo::Draw | OfTwo::DrawBeside => false,
-            OfTwo::WorstAt | OfTwo::ExplainAt | OfTwo::LimitsAt => false,
-        },
-        Call::Number { .. } => false,
-    }
-}
-
 // Whether a call prints a set as a script.
 fn is_script(call: Call<'_>) -> bool {
     match call {
@@ -127,6 +114,23 @@ fn asks_limits(call: Call<'_>) -> bool {
     }
 }
 
+// Whether a call asks for a worst case.
+fn asks_worst(call: Call<'_>) -> bool {
+    match call {
+        Call::One { command, .. } => matches!(command, OfOne::Worst),
+        Call::Two { command, .. } => matches!(command, OfTwo::WorstAt),
+        Call::Number { .. } => false,
+    }
+}
+
+// Whether a call asks for a certificate.
+fn asks_certificate(call: Call<'_>) -> bool {
+    match call {
+        Call::One { command, .. } => matches!(command, OfOne::Certify),
+        _ => false,
+    }
+}
+
 // Whether a call checks a certificate.
 fn is_check(call: Call<'_>) -> bool {
     match call {
@@ -138,6 +142,46 @@ fn is_check(call: Call<'_>) -> bool {
         },
         _ => false,
     }
+}
+
+// Whether a call's answer speaks of the best order of a set, and has no line of each chain beside its limit.
+fn hides_chains(call: Call<'_>) -> bool {
+    match call {
+        Call::One {
+            command,
+            options,
+            ..
+        } => match command {
+            OfOne::Limits | OfOne::Settings | OfOne::Worst | OfOne::Certify => true,
+            OfOne::Explain => options.task.is_some(),
+            OfOne::Admit | OfOne::Script | OfOne::Play => false,
+        },
+        Call::Two { command, .. } => match command {
+            OfTwo::Simulate | OfTwo::Draw | OfTwo::Observe => true,
+            OfTwo::Check | OfTwo::Diff | OfTwo::Judge | OfTwo::DrawBeside => false,
+            OfTwo::Keep | OfTwo::WorstAt | OfTwo::ExplainAt | OfTwo::LimitsAt => false,
+        },
+        Call::Number { .. } => false,
+    }
+}
+
+// What becomes of the tasks of a set.
+fn placing_of(alloc: Global, set: &TaskSet) -> Result<Placing, AllocError>
+    ensures { IfOk result (λ placing. IsPlacingOf set.now placing) }
+{
+    let table = LockTable::new(alloc, set)?;
+    place_all(alloc, &Tabled::of(set, &table))
+}
+
+// Whether a chain misses its limit in the order of a placing.
+fn misses_chain(
+    alloc: Global,
+    set: &TaskSet,
+    placing: &Placing,
+    chains: &[Chain],
+) -> Result<bool, AllocError> {
+    let levels = levels_of(alloc, placing)?;
+    Ok(!all_met(alloc, set, &levels, chains)?)
 }
 
 // Whether a call compares two sets: what is odd in the old one needs no note.
@@ -301,11 +345,12 @@ impl<'a, W: Write + Drop> Advice<'a, W> {
             is_unpreferred: false,
             has_chains: false,
             has_offsets: false,
-            has_order: false,
+            has_kept: false,
             has_run: false,
             lacks_in_new: false,
             set: None,
             chains: Vec::new(alloc),
+            has_missed: false,
             errors,
         }
     }
@@ -329,8 +374,11 @@ impl<'a, W: Write + Drop> Advice<'a, W> {
         if self.has_chains && is_script(self.call) {
             put_chains_left_out(&mut self.errors)?;
         }
+        if asks_worst(self.call) && leaves_out(set) {
+            put_left_out(&mut self.errors)?;
+        }
         if self.has_offsets && asks_limits(self.call) {
-            put_offsets_uncounted(&mut self.errors)?;
+            put_periods_stay(&mut self.errors)?;
         }
         match options_of(self.call).base {
             Some(_) => put_past_priorities(base_of(options_of(self.call)), set, &mut self.errors),
@@ -356,13 +404,47 @@ impl<'a, W: Write + Drop> Advice<'a, W> {
         }
     }
 
+    // Whether nobody but the names says what stands higher.
+    fn put_names(&mut self, set: &TaskSet) {
+        if self.is_unpreferred && !is_diff(self.call) {
+            let _ = put_names_decide(set, &mut self.errors);
+        }
+    }
+
+    // Keeps whether a chain misses its limit in the order of a placing, where the answer doesn't say so.
+    fn look_at_chains(&mut self, set: &TaskSet, placing: &Placing) {
+        if let (true, Placing::Best(_)) = (hides_chains(self.call), placing) {
+            self.has_missed = matches!(
+                misses_chain(self.alloc, set, placing, &self.chains),
+                Ok(true)
+            );
+        }
+    }
+
+    // The same of a set whose placing isn't told.
+    fn look_at_best(&mut self, set: &TaskSet) {
+        if hides_chains(self.call) && !self.chains.is_empty() {
+            if let Ok(placing) = placing_of(self.alloc, set) {
+                self.look_at_chains(set, &placing);
+            }
+        }
+    }
+
+    // That a chain misses its limit in the order that an answer speaks of, and has no line on it.
+    fn put_missed(&mut self, status: Status) {
+        if self.has_missed && (status == Status::Done || status == Status::Infeasible) {
+            let _ = put_chain_missed(&mut self.errors);
+        }
+        if self.has_kept && status == Status::Infeasible {
+            let _ = put_chain_missed_here(&mut self.errors);
+        }
+    }
+
     /// The call has ended.
     pub fn ended(&mut self, status: Status) {
+        self.put_missed(status);
         if status != Status::Infeasible {
             return;
-        }
-        if is_settings(self.call) && self.has_order {
-            let _ = put_chain_missed(&mut self.errors);
         }
         if !is_run(self.call) {
             return;
@@ -380,6 +462,9 @@ impl<'a, W: Write + Drop> Audience for Advice<'a, W> {
         // (of one input: what follows is that refusal)
         if !self.put_no_task() && !is_diff(self.call) {
             let _ = self.put_all(set);
+            if asks_certificate(self.call) {
+                self.look_at_best(set);
+            }
         }
     }
 
@@ -387,8 +472,8 @@ impl<'a, W: Write + Drop> Audience for Advice<'a, W> {
         requires { IsPlacingOf set.now placing.now }
     {
         let Placing::Stuck(greatest) = placing else {
-            self.has_order = true;
-            self.in_best_order(set);
+            self.put_names(set);
+            self.look_at_chains(set, placing);
             return;
         };
         if !says_no_alone(self.call) {
@@ -401,9 +486,8 @@ impl<'a, W: Write + Drop> Audience for Advice<'a, W> {
     }
 
     fn in_best_order(&mut self, set: &TaskSet) {
-        if self.is_unpreferred && !is_diff(self.call) {
-            let _ = put_names_decide(set, &mut self.errors);
-        }
+        self.put_names(set);
+        self.look_at_best(set);
     }
 
     fn ran(&mut self, set: &TaskSet) {
@@ -430,7 +514,7 @@ impl<'a, W: Write + Drop> Audience for Advice<'a, W> {
     }
 
     fn kept(&mut self) {
-        self.has_order = true;
+        self.has_kept = true;
     }
 
     fn compared(&mut self, new: &TaskSet) {
@@ -465,7 +549,7 @@ impl<'a, W: Write + Drop> Audience for Advice<'a, W> {
                 None => None,
             };
         }
-        if is_check(self.call) {
+        if is_check(self.call) || hides_chains(self.call) {
             if let Ok(copies) = copy_chains(self.alloc, chains) {
                 self.chains = copies;
             }

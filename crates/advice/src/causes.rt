@@ -1,5 +1,6 @@
 //! What the system says of a call that failed.
 
+use sentences::push_clean;
 use std::alloc::{AllocError, Global};
 use std::cell::Cell;
 use std::io::{Error, ErrorKind, Write};
@@ -12,7 +13,7 @@ pub type LastError = Cell<Option<Error>>;
 fn push_error(text: &mut String, alloc: Global, error: Error) -> Result<(), AllocError> {
     let said = format!(in alloc; "{error}")?;
     match said.split(" (os error ").next() {
-        Some(words) => text.push_str(words),
+        Some(words) => push_clean(text, words),
         None => Ok(()),
     }
 }

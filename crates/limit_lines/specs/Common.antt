@@ -8,7 +8,7 @@ use Rattle.overheads.specs.Padding.{padding_fault}
 use Rattle.overheads.specs.declared.padding.PadFault.{PadFault}
 use Rattle.overheads.specs.declared.padding.PadFault.TheVariants.{CostPastPeriod, JitterPastDeadline, OutOfMemory}
 use Rattle.owners.specs.Owners.{interrupt_words}
-use Rattle.owners.specs.declared.owner.Owner.{Owner}
+use Rattle.task_lines.specs.declared.owner.Owner.{Owner}
 use Rattle.limits.specs.declared.number.Number.TheVariants.{InterruptCost, InterruptPeriod}
 use Rattle.limits.specs.declared.shared.Shared.{Shared}
 use Rattle.limits.specs.declared.shared.Shared.TheVariants.{Job, Lock, Release, Late}
@@ -23,8 +23,8 @@ abbrev pub AreInterruptLines : List Owner → List Task → Option (List ℕ) �
     → List ℕ → Type 0
 AreInterruptLines owners U order i place text =
     (cost : List ℕ) × (period : List ℕ)
-    × IsNumberLine (interrupt_words owners place) U order i (InterruptCost place) cost
-    × IsNumberLine (interrupt_words owners place) U order i (InterruptPeriod place) period
+    × IsNumberLine (interrupt_words owners place) false U order i (InterruptCost place) cost
+    × IsNumberLine (interrupt_words owners place) false U order i (InterruptPeriod place) period
     × (text ≡ cost ++ period)
 
 -- those of the first on its account

@@ -1,5 +1,5 @@
 -- The lines that say how far the numbers of a set may go.
-use Rattle.std.specs.Prelude.{◌≡◌, ◌⊎◌, ℕ, zero, suc, ◌+◌, ◌-◌, ◌<◌, ◌==◌, Bool, true, false, ◌&&◌, nat_lt, nat_le, List, [], ◌∷◌, ◌++◌, length, codes, Option, Some, None, option_map, if◌then◌else◌}
+use Rattle.std.specs.Prelude.{◌≡◌, ◌⊎◌, ℕ, zero, suc, ◌+◌, ◌-◌, ◌<◌, ◌==◌, Bool, true, false, ◌&&◌, ◌||◌, not, nat_lt, nat_le, List, [], ◌∷◌, ◌++◌, length, codes, Option, Some, None, option_map, if◌then◌else◌}
 use Rattle.std.specs.Fmt.{decimal}
 use Rattle.task_sheet.specs.declared.sheet.TheConstants.{PERIOD_FROM}
 use Rattle.task_sheet.specs.declared.node.TheConstants.{INTERRUPT_FROM}
@@ -14,8 +14,9 @@ use Rattle.assignment.specs.declared.placing.Placing.TheVariants.{Best, Stuck}
 use Rattle.limits.specs.Numbers.{interrupt_at, section_at, value_of, with_number, AnswersFurthest}
 use Rattle.limits.specs.InOrder.{AnswersFurthestIn}
 use Rattle.limits.specs.Rooms.{most_len}
+use Rattle.owners.specs.Clocks.{is_clocked}
 use Rattle.owners.specs.Followers.{along}
-use Rattle.owners.specs.declared.owner.Owner.{Owner}
+use Rattle.task_lines.specs.declared.owner.Owner.{Owner}
 use Rattle.limits.specs.declared.number.Number.{Number}
 use Rattle.limits.specs.declared.number.Number.TheVariants.{Cost, Period, Deadline, Jitter, Len, InterruptCost, InterruptPeriod}
 use Rattle.factor.specs.Factors.{AnswersFactorOf}
@@ -133,13 +134,13 @@ end_words t k =
     if nat_lt (k + 1) (length t.sections) then codes " by section " ++ decimal (k + 2)
     else codes " by cost"
 
--- what holds a number at this value: the period a cost; the cost, the jitter or the least period of all a period; the jitter
+-- what holds a number at this value: the period a cost, with its timer; the cost, with it, the jitter or the least period of all a period; the jitter
 -- a deadline, the deadline a jitter; the next section that doesn't move along or the cost a length; of an interrupt alike. Nothing where its sheet
 -- may have one further
 abbrev pub held_words : Number → Task → ℕ → List ℕ
-held_words Cost t most = word_if (most == t.period) (codes " by period")
+held_words Cost t most = word_if (most == t.period - t.node.release) (codes " by period")
 held_words Period t most =
-    if most == t.cost then codes " by cost" else if most == t.jitter + 1 then codes " by jitter"
+    if most == t.cost + t.node.release then codes " by cost" else if most == t.jitter + 1 then codes " by jitter"
     else word_if (most == PERIOD_FROM) (codes " by 1000")
 held_words Deadline t most = word_if (most == t.jitter + 1) (codes " by jitter")
 held_words Jitter t most = word_if (most == t.deadline - 1) (codes " by deadline")
@@ -177,24 +178,44 @@ abbrev pub is_told : Number → Task → Option (List ℕ) → (own : Option ℕ
 is_told number t None own = true
 is_told number t (Some order) own = helps_own number t own
 
--- the line of a number of task i, which is said to be of this; nothing where it has none
-abbrev pub IsLineIf : Bool → (whose : List ℕ) → List Task → ℕ → Number → (own : Option ℕ) → List ℕ → Type 0
-IsLineIf false whose U i number own text = text ≡ []
-IsLineIf true whose U i number own text =
-    (most : Option ℕ) × AnswersFurthest U i number most
-    × (text ≡ number_line whose (task_at U i) number own most)
+-- ---- tasks on a clock
+-- with this value of a number the task's period stays
+abbrev pub keeps_period : Number → Task → ℕ → Bool
+keeps_period Cost t value = true
+keeps_period Period t value = value == t.period
+keeps_period Deadline t value = nat_le value t.period
+keeps_period Jitter t value = true
+keeps_period (Len k along) t value = true
+keeps_period (InterruptCost k) t value = true
+keeps_period (InterruptPeriod k) t value = true
 
-abbrev pub IsNumberLine : (whose : List ℕ) → List Task → Option (List ℕ) → ℕ → Number → List ℕ → Type 0
-IsNumberLine whose U order i number text =
+-- a value that may be written: of a task on a clock one with which its period stays, for another may be refused
+abbrev pub written_if : (clocked : Bool) → Number → Task → Option ℕ → Option ℕ
+written_if clocked number t None = None
+written_if clocked number t (Some value) =
+    if not clocked || keeps_period number t value then Some value else None
+
+-- the line of a number of task i, which is said to be of this; nothing where it has none
+abbrev pub IsLineIf : Bool → (whose : List ℕ) → (clocked : Bool) → List Task → ℕ → Number → (own : Option ℕ)
+    → List ℕ → Type 0
+IsLineIf false whose clocked U i number own text = text ≡ []
+IsLineIf true whose clocked U i number own text =
+    (most : Option ℕ) × AnswersFurthest U i number most
+    × (text ≡ number_line whose (task_at U i) number own (written_if clocked number (task_at U i) most))
+
+abbrev pub IsNumberLine : (whose : List ℕ) → (clocked : Bool) → List Task → Option (List ℕ) → ℕ → Number
+    → List ℕ → Type 0
+IsNumberLine whose clocked U order i number text =
     (own : Option ℕ) × AnswersIn U order i number own
-    × IsLineIf (is_told number (task_at U i) order own) whose U i number own text
+    × (let said = written_if clocked number (task_at U i) own in
+    IsLineIf (is_told number (task_at U i) order said) whose clocked U i number said text)
 
 -- the text is a line for each of the first numbers of task i
 abbrev pub AreNumberLines : List Owner → List Task → Option (List ℕ) → ℕ → ℕ → List ℕ → Type 0
 AreNumberLines owners U order i zero text = text ≡ []
 AreNumberLines owners U order i (suc k) text =
     (front : List ℕ) × (line : List ℕ) × AreNumberLines owners U order i k front
-    × IsNumberLine (name_at U i) U order i (number_at owners (task_at U i) k) line
+    × IsNumberLine (name_at U i) (is_clocked owners i) U order i (number_at owners (task_at U i) k) line
     × (text ≡ front ++ line)
 
 -- ---- a task

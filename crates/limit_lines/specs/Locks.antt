@@ -3,7 +3,7 @@ use Rattle.std.specs.Prelude.{◌≡◌, ℕ, zero, suc, Bool, true, false, nat_
 use Rattle.task_sheet.specs.Sheet.{Task}
 use Rattle.ceilings.specs.IsTableOf.{locks_of}
 use Rattle.owners.specs.Followers.{follows}
-use Rattle.owners.specs.declared.owner.Owner.{Owner}
+use Rattle.task_lines.specs.declared.owner.Owner.{Owner}
 use Rattle.limits.specs.Cuts.{AnswersMostOn, longest_on}
 use Rattle.limit_lines.specs.LimitLines.{values_words}
 

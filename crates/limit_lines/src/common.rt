@@ -42,9 +42,9 @@ fn interrupt_text(
     push_interrupt(&mut whose, owners, place)?;
     let whose = whose.as_str();
     let cost = Number::InterruptCost(place);
-    let mut text = number_text(alloc, whose, set, order, task, cost)?;
+    let mut text = number_text(alloc, whose, false, set, order, task, cost)?;
     let period = Number::InterruptPeriod(place);
-    let line = number_text(alloc, whose, set, order, task, period)?;
+    let line = number_text(alloc, whose, false, set, order, task, period)?;
     text.push_str(line.as_str())?;
     Ok(text)
 }

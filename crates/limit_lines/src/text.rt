@@ -6,14 +6,14 @@ ghost use Rattle.task_sheet.specs.Orders.{IsFeasible, IsOrder};
 ghost use Rattle.task_sheet.specs.declared.sheet.TheConstants.{SECTION_LIMIT};
 ghost use Rattle.lines.specs.Naming.{name_at};
 ghost use Rattle.limits.specs.Numbers.{AnswersFurthest, HasNumber, MayHave, numbered, with_number};
-ghost use Rattle.limit_lines.specs.LimitLines.{AnswersFactorIn, AnswersIn, AreTaskLines, IsLast, IsNumberLine, along_words, before_words, end_words, factor_line, held_words, helps_own, is_told, label_of, leaves_own, len_at, less_of, moved_words, node_part, number_at, number_line, slack_in, slack_line, slack_of, stays, word_if};
+ghost use Rattle.limit_lines.specs.LimitLines.{AnswersFactorIn, AnswersIn, AreTaskLines, IsLast, IsNumberLine, along_words, before_words, end_words, factor_line, held_words, helps_own, is_told, keeps_period, label_of, leaves_own, len_at, less_of, moved_words, node_part, number_at, number_line, slack_in, slack_line, slack_of, stays, word_if, written_if};
 
 use assignment::Place;
 use ceilings::Tabled;
 use factor::{Slowdown, factor, factor_in_order};
 use limits::{Number, furthest, furthest_from, furthest_in_order, most_len, value_of};
 use lines::{push_name, push_some};
-use owners::{Owner, along};
+use owners::{Owner, along, is_clocked};
 use std::alloc::{AllocError, Global};
 use task_sheet::{INTERRUPT_FROM, PERIOD_FROM, Sheet, TaskSet};
 
@@ -211,13 +211,27 @@ fn push_if(text: &mut String, holds: bool, word: &str) -> Result<(), AllocError>
     if holds { text.push_str(word) } else { Ok(()) }
 }
 
+// What holds a cost at this value, in microseconds: the period, with its timer.
+fn push_cost_held(text: &mut String, sheet: &Sheet, most: u64) -> Result<(), AllocError>
+    requires { IsValidSheet sheet.now }
+    ensures { OnOk result (string_bytes text.new ≡ string_bytes text.old
+        ++ held_words Number.Cost sheet.now most) }
+{
+    let timer = sheet.node().release;
+    push_if(
+        text,
+        most == sheet.period().saturating_sub(timer),
+        " by period",
+    )
+}
+
 // What holds a period at this value, in microseconds.
 fn push_period_held(text: &mut String, sheet: &Sheet, most: u64) -> Result<(), AllocError>
     requires { IsValidSheet sheet.now }
     ensures { OnOk result (string_bytes text.new ≡ string_bytes text.old
         ++ held_words Number.Period sheet.now most) }
 {
-    if most == sheet.cost() {
+    if most == sheet.cost() + sheet.node().release {
         return text.push_str(" by cost");
     }
     if most == sheet.jitter() + 1 {
@@ -281,7 +295,7 @@ fn push_held(text: &mut String, sheet: &Sheet, number: Number, most: u64) -> Res
         ++ held_words number sheet.now most) }
 {
     match number {
-        Number::Cost => push_if(text, most == sheet.period(), " by period"),
+        Number::Cost => push_cost_held(text, sheet, most),
         Number::Period => push_period_held(text, sheet, most),
         Number::Deadline => push_if(text, most == sheet.jitter() + 1, " by jitter"),
         Number::Jitter => push_if(text, most == sheet.deadline() - 1, " by deadline"),
@@ -408,10 +422,41 @@ fn in_any(
     }
 }
 
-// The line of a number, said to be of this; nothing where it has none.
+// With this value of a number the task's period stays.
+fn keeps_period(sheet: &Sheet, number: Number, value: u64) -> bool
+    ensures { result ≡ keeps_period number sheet.now value }
+{
+    match number {
+        Number::Period => value == sheet.period(),
+        Number::Deadline => value <= sheet.period(),
+        Number::Cost | Number::Jitter | Number::Len { .. } => true,
+        Number::InterruptCost(_) | Number::InterruptPeriod(_) => true,
+    }
+}
+
+// A value that may be written: of a task on a clock one with which its period stays, for another may be refused.
+fn written_if(
+    clocked: bool,
+    set: &TaskSet,
+    task: usize,
+    number: Number,
+    value: Option<u64>,
+) -> Option<u64>
+    requires { task < length set.now }
+    ensures { result ≡ written_if clocked number (task_at set.now task) value }
+{
+    let sheet = &set.sheets()[task];
+    match value {
+        Some(value) if !clocked || keeps_period(sheet, number, value) => Some(value),
+        _ => None,
+    }
+}
+
+// The line of a number, said to be of this; nothing where it has none. The task may be on a clock.
 pub(crate) fn number_text(
     alloc: Global,
     whose: &str,
+    clocked: bool,
     set: &Tabled<'_>,
     order: Option<&[usize]>,
     task: usize,
@@ -420,16 +465,19 @@ pub(crate) fn number_text(
     requires order { IfSome (option_map (λ o. o.now) order) (IsOrder set.now) }
     requires task { task < length set.now }
     requires has { HasNumber (task_at set.now task) number }
-    ensures { IfOk result (λ text. IsNumberLine whose.now set.now (option_map (λ o. o.now) order.entry) task
-        number (string_bytes text)) }
+    ensures { IfOk result (λ text. IsNumberLine whose.now clocked set.now (option_map (λ o. o.now) order.entry)
+        task number (string_bytes text)) }
 {
+    let tasks = set.tasks();
     let own = in_order(alloc, set, order, task, number)?;
+    let said = written_if(clocked, tasks, task, number, own);
     let mut text = String::new(alloc);
-    if !is_told(set.tasks(), task, number, order, own) {
+    if !is_told(tasks, task, number, order, said) {
         return Ok(text);
     }
-    let most = in_any(alloc, set, task, number, own)?;
-    push_number(&mut text, whose, set.tasks(), task, number, own, most)?;
+    let furthest = in_any(alloc, set, task, number, own)?;
+    let most = written_if(clocked, tasks, task, number, furthest);
+    push_number(&mut text, whose, tasks, task, number, said, most)?;
     Ok(text)
 }
 
@@ -487,8 +535,8 @@ fn name_text(alloc: Global, set: &TaskSet, task: usize) -> Result<String, AllocE
 /// The lines of a task: for each of its numbers that may help its value, the furthest with which an order passes that is
 /// given, the lowest first, and the furthest with which some order does, each less what of it is the node's, what goes
 /// along, and what holds the last; and its slack in places, where it has them. In an order only what helps that has a line:
-/// each number where it passes. With a section those behind it move along that don't say where they begin. The error is out
-/// of memory.
+/// each number where it passes. With a section those behind it move along that don't say where they begin. No line moves
+/// the period of a task on a clock, for another may be refused. The error is out of memory.
 pub fn task_text(
     alloc: Global,
     owners: &[Owner],
@@ -506,10 +554,11 @@ pub fn task_text(
     let count = 4 + sheet.sections().len();
     let name = name_text(alloc, set.tasks(), task)?;
     let whose = name.as_str();
+    let clocked = is_clocked(owners, task);
     let mut text = String::new(alloc);
     for place in 0..count {
         let number = number_at(owners, sheet, place);
-        let line = number_text(alloc, whose, set, order, task, number)?;
+        let line = number_text(alloc, whose, clocked, set, order, task, number)?;
         text.push_str(line.as_str())?;
     }
     let slack = slack_of(set.tasks(), places, task);

@@ -6,6 +6,7 @@ use crate::node::{
 };
 use crate::padding::{task_of, tell_padding};
 use crate::sets::tell_set;
+use crate::strangers::unbound;
 use crate::texts::tell_unseen;
 use crate::told::Told;
 use crate::tree::{place_of_name, tell_place};
@@ -110,7 +111,7 @@ pub fn of_doubt(alloc: Global, bytes: &[u8], doubt: Doubt) -> Option<String> {
             tell_task(&mut told, alloc, bytes, task);
             told.name("", task);
             told.name(" outranks ", name);
-            told.words(", which is no task of the set: that binds nothing");
+            told.words(unbound(name));
         }
         Doubt::NamesDecide { .. } => told.words(NAMES_DECIDE),
     }

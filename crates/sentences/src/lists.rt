@@ -303,7 +303,7 @@ fn tell_ceiling(told: &mut Told, bytes: &[u8], lock: Name, number: u64) {
         None => told.name("mutex ", lock),
     }
     told.numbers(
-        " isn't at {}, the number of the highest thread that uses it",
+        " isn't at {}, the number of the highest thread that uses it; desk judge alone takes a higher one",
         &[number],
     );
 }

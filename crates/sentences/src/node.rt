@@ -257,6 +257,9 @@ pub(crate) fn node_of(alloc: Global, bytes: &[u8]) -> Option<Node> {
 /// A budget whose team has no document.
 pub(crate) fn tell_stranger(told: &mut Told, bytes: &[u8], team: Name) {
     tell_place(told, bytes, team);
+    if team.as_str() == "node" {
+        return told.words("node is no team: what it takes has no budget");
+    }
     told.name("there is no ", team);
     told.words(".toml");
 }

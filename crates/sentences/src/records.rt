@@ -22,7 +22,7 @@ pub fn of_certificate(alloc: Global, bytes: &[u8], fault: CertFault) -> Option<S
         }
         CertFault::BadLine { line } => tell_bad_line(&mut told, bytes, line, WANTED),
         CertFault::Truncated => told.words(
-            "the complete lines stop before the line end; each line ends with LF, the last, too",
+            "the complete lines stop before one that says end; each line ends with LF, the last, too",
         ),
         CertFault::Trailing => {
             told.words("something follows the line end, which has to be the last");
@@ -216,6 +216,6 @@ fn tell_chain(told: &mut Told, level: usize, name: Name) {
         told.name("member ", name);
     }
     told.words(
-        ": its numbers have to begin with 1, to rise by no more than the task's demand, and to end with the first past the deadline less the jitter; after over stands a task above it that it has to outrank",
+        ": its numbers have to begin with 1, each above the one before and at most the task's demand there, and to end with the first past the deadline less the jitter; after over stands a task above it that it has to outrank",
     );
 }

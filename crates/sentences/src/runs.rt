@@ -44,13 +44,18 @@ pub fn put_chains_left_out<W: Write + Drop>(out: &mut Watched<W>) -> Result<(), 
     out.write(b"note: a script has no chains: those of the set are left out\n")
 }
 
-/// Writes a note that the furthest numbers may move tasks off their chains' clock. It takes no memory.
-pub fn put_offsets_uncounted<W: Write + Drop>(out: &mut Watched<W>) -> Result<(), WriteFailed> {
-    out.write(b"note: offsets don't count here: with another period a chain's may be refused\n")
+/// Writes a note that no line moves the period of a task with an offset. It takes no memory.
+pub fn put_periods_stay<W: Write + Drop>(out: &mut Watched<W>) -> Result<(), WriteFailed> {
+    out.write(b"note: no line moves the period of a task with an offset: another may be refused\n")
 }
 
-/// Writes a note that a chain misses its limit in an order that is printed. It takes no memory.
+/// Writes a note that a chain misses its limit in the best order of a set, of which no line says so. It takes no memory.
 pub fn put_chain_missed<W: Write + Drop>(out: &mut Watched<W>) -> Result<(), WriteFailed> {
+    out.write(b"note: in the best order a chain misses its limit: desk admit says which\n")
+}
+
+/// The same of another order, whose settings are printed.
+pub fn put_chain_missed_here<W: Write + Drop>(out: &mut Watched<W>) -> Result<(), WriteFailed> {
     out.write(b"note: in this order a chain misses its limit: desk judge says which\n")
 }
 

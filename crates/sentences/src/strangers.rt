@@ -8,6 +8,15 @@ use std::io::Write;
 use streams::{Held, Watched, WriteFailed};
 use task_sheet::{Name, Outranks, TaskSet};
 
+/// What is said of a name that a task outranks and that no task of the set has.
+pub(crate) fn unbound(name: Name) -> &'static str {
+    if name.bytes() == b"all".as_slice() {
+        ", which is no task of the set: that binds nothing; to outrank all others, write outranks = \"all\""
+    } else {
+        ", which is no task of the set: that binds nothing"
+    }
+}
+
 // The notes on those of the names that a task outranks that no task of the set has.
 fn put_strangers_of<W: Write + Drop>(
     set: &TaskSet,
@@ -18,14 +27,9 @@ fn put_strangers_of<W: Write + Drop>(
 ) -> Result<(), WriteFailed> {
     for name in names {
         if set.find(*name).is_none() {
-            let pieces = [
-                "note: ",
-                task.as_str(),
-                " outranks ",
-                name.as_str(),
-                ", which is no task of the set: that binds nothing\n",
-            ];
+            let pieces = ["note: ", task.as_str(), " outranks ", name.as_str()];
             put_pieces(&pieces, held, out)?;
+            put_pieces(&[unbound(*name), "\n"], held, out)?;
         }
     }
     Ok(())

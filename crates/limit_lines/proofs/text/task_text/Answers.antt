@@ -15,7 +15,7 @@ loop-place-preserved c =
       front,
       string_bytes c.in_ok-line.line,
       c.loop-place.invariant,
-      rw (number, c.as_str-whose.ensures.value, c.in_ok-name.ensures, c.tasks.ensures) at
+      rw (number, c.as_str-whose.ensures.value, c.in_ok-name.ensures, c.tasks.ensures, c.is_clocked-clocked.ensures) at
           c.in_ok-line.ensures,
       c.in_ok-push_str.ensures.bytes ∙ ap (λ (t : List ℕ). front ++ t) c.as_str.ensures.value,
     )
