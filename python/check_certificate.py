@@ -26,7 +26,6 @@ import math
 import re
 import sys
 import tomllib
-from pathlib import Path
 from types import SimpleNamespace
 
 NAME = "[A-Za-z][A-Za-z0-9_-]{0,23}"
@@ -35,6 +34,7 @@ SET = {"task": list, "prefer": str, "node": dict, "interrupt": list, "chain": li
 NODE = {"job": int, "lock": int, "release": int, "late": int}
 INTERRUPT = {"period": int, "cost": int}
 CHAIN = {"name": str, "tasks": list, "age": int, "reaction": int, "offsets": list, "writes": str}
+MOST_BYTES = 16_777_216
 LONGEST = 1_000_000_000
 MOST_ARRIVALS = 10_000
 TASK = {"name": str, "weight": int, "period": int, "deadline": int, "cost": int, "jitter": int,
@@ -345,6 +345,8 @@ def check(tasks, interrupts, chains, version, claim, rows, said):
 
 def said(set_text, certificate_text):
     """The lines that are printed, and the status."""
+    if max(len(set_text), len(certificate_text)) > MOST_BYTES:
+        return "refused: InputTooLong", 4
     try:
         them = read_set(set_text)
     except (TypeError, ValueError, RecursionError):
@@ -356,9 +358,11 @@ def said(set_text, certificate_text):
 
 
 def bytes_of(path):
-    """What a file has; where it can't be read, one line on standard error and status 7."""
+    """What a file has, of a longer one than an input may be a byte more than that; where it can't be
+    read, one line on standard error and status 7."""
     try:
-        return Path(path).read_bytes()
+        with open(path, "rb") as file:
+            return file.read(MOST_BYTES + 1)
     except (OSError, ValueError) as error:
         said_of = getattr(error, "strerror", None) or error
         print(f"{path}: can't be opened or read: {said_of}", file=sys.stderr)

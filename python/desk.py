@@ -187,9 +187,12 @@ class Infeasible(_No):
 
 @dataclass(frozen=True)
 class Certificate(_Answer):
-    """The numbers that show the best order, or that none passes."""
+    """The numbers that show the best order, or (`best` is false) that none passes."""
 
     best: bool
+
+    def __bool__(self) -> bool:
+        return self.best
 
 
 @dataclass(frozen=True)
@@ -331,10 +334,14 @@ class Limits(_Answer):
 
 @dataclass(frozen=True)
 class Settings(_Answer):
-    """The level of each thread and the ceiling of each mutex."""
+    """The level of each thread and the ceiling of each mutex; false where a chain misses its limit with them (`met`)."""
 
     threads: Mapping[str, int]
     mutexes: Mapping[str, int]
+    met: bool = True
+
+    def __bool__(self) -> bool:
+        return self.met
 
 
 @dataclass(frozen=True)
@@ -928,12 +935,12 @@ def settings(tasks: Sheets) -> Settings | Infeasible:
     """The level of each thread and the ceiling of each mutex, which `judge` takes.
 
     >>> settings([Task("a", 10_000, 10_000, 6000, sections=[Section(["m"], 0, 100)])])
-    Settings(threads={'a': 1}, mutexes={'m': 1})
+    Settings(threads={'a': 1}, mutexes={'m': 1}, met=True)
     """
-    said = _ask("settings", tasks)[1]
+    status, said = _ask("settings", tasks)
     if said.startswith("infeasible"):
         return _no(said)
-    return _set_to(said.splitlines())
+    return replace(_set_to(said.splitlines()), met=status == 0)
 
 
 def _judged(said: str) -> Judged:

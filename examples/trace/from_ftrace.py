@@ -10,7 +10,7 @@ thread, a note names those that it has. All other threads are of the node's own,
 name of the desk. How to record is in examples/posix/README.md.
 
     --cpu N           the processor; without it that on which the first of the threads executes
-    --ready           a fourth word in job lines: when the job became ready
+    --ready           a fourth word in job lines, where the arrival is exact: when the job became ready
     --priorities      a last word @P in a slice's line: the SCHED_FIFO priority of the thread
     --signalled TASK  another thread's waking, too, is an arrival of this task
     --jobless         it is meant that some task has no job
@@ -23,41 +23,51 @@ What it takes for what:
 - A waking from an interrupt is an arrival: while a timer expires, in an interrupt by the line's own flags or by the
   events of interrupts, by a thread of interrupts, or while nobody executes. Where the record shows the start of the
   timer, the job arrives when the timer was due, and is ready when it fired, or at its arrival where that was past when
-  the timer was set.
+  the timer was set. Else it arrives as it is woken; where it was due before the last job of its task, or one that is
+  written, with that. No such arrival is exact.
+- A cancelled timer that expires before it is set again expires as it was set, for older kernels trace each expiry as a
+  cancel, too. Where the expiry before wasn't, where it was cancelled twice or isn't due yet, it was set unseen.
 - A waking by a thread that executes is the end of a wait inside a job, as for a lock; so is each waking of a thread
-  that waited without letting signals in (state D). Where the record has neither flags nor events of timers, a waking
-  while another thread executes is taken as an arrival, with a note.
+  that waited without letting signals in (state D). Where the record has neither flags nor events of timers, or doesn't
+  show who executes, a waking while another thread executes is taken as an arrival, with a note.
 - A waking of the thread that executes is its next arrival: its last job overran.
 - A job has finished when its thread last fell asleep before its next arrival, or before the end of the record.
 - What a thread executes before its first arrival is of no job that is known: its name has `-before` behind it.
 - The time of interrupts whose entry and exit are recorded is of `irq-NAME` or `softirq-NAME`; that of others stands
   for the thread that they interrupt, and what a switch takes for the thread before.
+- What the record has, who executes on a processor before its first switch and in which interrupt is known from the
+  next 100,000 lines, too.
 - Where the priority at the begin of a slice isn't that at its end, the last microsecond has that of the end.
 
-Refused, with the line: lost events, a switch from a thread that didn't execute, a timer or an interrupt that ends
-without a begin or goes on over a switch, a timer of a task that fires again without being set, a task on two
-processors or with two threads, a thread that executes though nothing woke it or is woken twice, a time before that of
-the line above, a line of these events that can't be read. Lines that aren't understood, and what is odd without being
-wrong, are noted with their first line.
+Refused, with the line: lost events, a switch from a thread that didn't execute or in an interrupt or timer, a timer
+that ends without a begin, an interrupt that ends inside another, a timer of a task that fires again without being set,
+a task on two processors or with two threads, a thread that executes though nothing woke it or is woken twice, a time
+before that of the line above, a line of these events that can't be read. Lines that aren't understood, and what is odd
+without being wrong, are noted with their first line.
 
 Times are whole microseconds from the first event of the processor, rounded down; what lasts less than one is left out.
-Statuses: 0 done, 2 wrong words, 3 a task has no job, 4 refused. Unless it is 0 the trace ends with a line that desk
-refuses.
+Statuses: 0 done, 1 a fault of this program itself, 2 wrong words, 3 a task has no job, 4 refused, 5 standard input or
+output fails. What standard error does changes none. But for 0 and 2, and as far as it can be written, the trace ends
+with a line that desk refuses.
 """
 import argparse
 import bisect
+import itertools
 import os
 import re
+import signal
 import sys
+import traceback
 
 SECOND = 1_000_000_000
 NAME_MOST = 24
-# So many threads of the node's own are remembered at once.
-KNOWN_MOST = 100_000
+# So many threads of the node's own are remembered at once, and so many lines are looked at ahead.
+KNOWN_MOST = AHEAD_MOST = 100_000
 
 # The begin of a line of ftrace and trace-cmd (COMM-PID (TGID) [CPU] FLAGS TIME:) and of perf (COMM PID [CPU] TIME:).
+# (All blanks in front of COMM but one are taken at once: no pattern here takes more than linear time on a long line.)
 HEAD = re.compile(
-    r"(?:[\w.-]+: +)? *(.{0,15})[ -] *(-?\d{1,10})(?:/-?\d+)? +(?:\([ \d-]+\) +)?\[(\d{1,5})\] +"
+    r"(?:[\w.-]+: )? *(?!  )(.{0,15})[ -] *(-?\d{1,10})(?:/-?\d+)? +(?:\([ \d-]+\) +)?\[(\d{1,5})\] +"
     r"(?:([^\s:]{4,8}) +)?(\d{1,12})(?:\.(\d{1,9}))?: +(?:\d+ +)?(?:[\w-]+:)?([\w-]+):(?: +(.*)|$)",
     re.ASCII,
 )
@@ -66,8 +76,8 @@ LTTNG = re.compile(
     r"(?:timer_(?=h)|irq_(?=s))?(\w+): (\{.*\})",
     re.ASCII,
 )
-FIELD = re.compile(r'(\w+) = (?:\( "[^"]*" : container = (-?\d+) \)|"((?:[^"\\]|\\.)*)"|([^\s,{}()"]+))', re.ASCII)
-WORD = re.compile(r"(\w+)=(\S+)", re.ASCII)
+FIELD = re.compile(r'(?<!\w)(\w+) = (?:\( "[^"]*" : container = (-?\d+) \)|"((?:[^"\\]|\\.)*)"|([^\s,{}()"]+))', re.ASCII)
+WORD = re.compile(r"(?<!\w)(\w+)=(\S+)", re.ASCII)
 # Behind the event's name; in front as the kernel writes them, behind as trace-cmd does.
 SWITCH = re.compile(
     r"prev_comm=(.{0,15}) prev_pid=(\d{1,10}) prev_prio=(-?\d{1,10}) prev_state=(\S+) ==> "
@@ -84,11 +94,8 @@ MOVED = re.compile(
     r"comm=(.{0,15}) pid=(\d{1,10}) prio=(-?\d{1,10}) orig_cpu=(\d{1,5}) dest_cpu=(\d{1,5})(?: .*)?", re.ASCII
 )
 STATE = re.compile(r"[RSDTtXZxKWPNI](?:\|[A-Za-z]+)*\+?")
-LOST = re.compile(
-    r"CPU:? *(\d{1,5}) \[(?:LOST \d+ EVENTS|(?:\d+ )?EVENTS DROPPED)\]|.*?(?:\[(\d{1,5})\].*)?PERF_RECORD_LOST|"
-    r".*Tracer (?:may have )?discarded",
-    re.ASCII,
-)
+LOST = re.compile(r"CPU:? *(\d{1,5}) \[(?:LOST \d+ EVENTS|(?:\d+ )?EVENTS DROPPED)\]", re.ASCII)
+DISCARDED = re.compile(r"Tracer (?:may have )?discarded")
 OVERWRITTEN = re.compile(r"# entries-in-buffer/entries-written: (\d+)/(\d+)", re.ASCII)
 PROSE = re.compile(r"\s*$|#|cpus=\d+$|version = |CPU \d+ is empty|trace-cmd|\s*kernel: ", re.ASCII)
 # Threads of the kernel that do the work of interrupts.
@@ -98,12 +105,17 @@ HARD = {"irq_handler", "ipi", "local_timer", "reschedule", "call_function", "cal
         "thermal_apic", "threshold_apic", "deferred_error_apic", "error_apic", "spurious_apic", "x86_platform_ipi"}
 TIMERS = ["hrtimer_start", "hrtimer_cancel", "hrtimer_expire_entry", "hrtimer_expire_exit"]
 MARKS = {f"{name}_{end}" for name in HARD | {"softirq"} for end in ("entry", "exit")}
+EXPIRE = "hrtimer_expire"
 # LTTng has the state of a thread as a number.
 STATES = {0: "R", 1: "S", 2: "D", 4: "T", 8: "t", 16: "X", 32: "Z", 64: "P", 128: "I", 256: "R+"}
 
 
 class Refused(Exception):
     """What is wrong with the record."""
+
+
+class Failed(Exception):
+    """What is wrong with standard input or output."""
 
 
 def refuse(line, sentence):
@@ -160,6 +172,8 @@ def lttng_event(line, found):
             rest = "comm={comm} pid={tid} prio={prio} orig_cpu={orig_cpu} dest_cpu={dest_cpu}".format(**fields)
         elif name == "softirq_entry":
             rest = f"vec={fields['vec']} [action={fields['vec']}]"
+        elif name == "irq_handler_entry":
+            rest = "irq={irq} name={name}".format(**fields)
         else:
             rest = " ".join(f"{key}={value}" for key, value in fields.items())
         return Event(line, time, int(fields["cpu_id"]), None, None, name, rest)
@@ -189,7 +203,7 @@ def state_of(event, word):
 def short_switches(text):
     """Each way to read the switch of trace-cmd, whose names may have anything in them."""
     for found in re.finditer(" ==> ", text):
-        before, after = SHORT_BEFORE.fullmatch(text[: found.start()]), SHORT_AFTER.fullmatch(text[found.end() :])
+        before, after = SHORT_BEFORE.fullmatch(text, 0, found.start()), SHORT_AFTER.fullmatch(text, found.end())
         if before and after:
             yield before.groups() + after.groups()
 
@@ -215,13 +229,28 @@ def waking_of(event):
     return (comm, int(pid), int(prio)), int(cpu)
 
 
+def lost_of(text):
+    """Whether a line says that events are lost, and the number of the processor, or None."""
+    found = LOST.match(text)
+    if found:
+        return True, int(found.group(1))
+    head, lost, _ = text.partition("PERF_RECORD_LOST")
+    found = re.search(r"\[(\d{1,5})\]", head, re.ASCII) if lost else None
+    return bool(lost or DISCARDED.search(text)), int(found.group(1)) if found else None
+
+
 def lines_of(stream):
     """Each line with its number. One that isn't ended is cut, and none."""
-    for line, text in enumerate(stream, 1):
-        if text.endswith("\n"):
-            yield line, text[:-1]
-        else:
-            note("cut", line, "isn't ended, and is left out")
+    if stream is None:
+        raise Failed("standard input is closed")
+    try:
+        for line, text in enumerate(stream, 1):
+            if text.endswith("\n"):
+                yield line, text[:-1]
+            else:
+                note("cut", line, "isn't ended, and is left out")
+    except OSError as fault:
+        raise Failed(f"standard input fails: {fault.strerror}") from None
 
 
 # ---- Names. ----
@@ -260,11 +289,11 @@ class Names:
             name = f"x_{name}"[:NAME_MOST]
         return name
 
-    def note_missing(self):
+    def missing(self):
+        """What there is to say of threads that the record doesn't have."""
         missing = [word for word in self.words if word not in self.found]
-        if missing:
-            names = ", ".join(sorted(self.seen)) or "none"
-            print(f"note: the record has no thread {', '.join(missing)}; it has {names}", file=sys.stderr)
+        names = ", ".join(sorted(self.seen)) or "none"
+        return [f"note: the record has no thread {', '.join(missing)}; it has {names}"] if missing else []
 
 
 # ---- What the threads of the tasks do. ----
@@ -295,8 +324,9 @@ class Cpu:
 
     def __init__(self):
         self.running = self.line = self.since = self.first = self.last = None
-        self.hard, self.soft, self.expiring, self.slices, self.exited = [], [], [], [], False
+        self.hard, self.soft, self.expiring, self.slices, self.timed = [], [], [], [], False
         self.clock = None  # a time of the record, and that of the timers' clock
+        self.within = None  # in how many interrupts and timers it is that began before the record, once that was asked
 
     def concerns(self, time):
         if self.first is None:
@@ -321,7 +351,13 @@ class Output:
             self.flush()
 
     def flush(self):
-        self.stream.write("".join(f"{line}\n" for line in self.lines))
+        if self.stream is None:
+            raise Failed("standard output is closed")
+        try:
+            self.stream.write("".join(f"{line}\n" for line in self.lines))
+            self.stream.flush()
+        except OSError as fault:
+            raise Failed(f"standard output fails: {fault.strerror}") from None
         self.lines = []
 
     def at(self, time):
@@ -346,7 +382,7 @@ class Output:
             if job.arrival < self.first:
                 refuse(job.line, f"{job.task} arrives before the first event of its processor")
             finish = "-" if job.finish is None else self.at(job.finish)
-            ready = f" {self.at(job.ready)}" if self.words.ready else ""
+            ready = f" {self.at(job.ready)}" if self.words.ready and job.ready is not None else ""
             self.put(f"job {job.task} {self.at(job.arrival)} {finish}{ready}")
             self.written, count = job.arrival, count + 1
         del self.jobs[:count]
@@ -355,20 +391,60 @@ class Output:
 class Trace:
     """The trace of one processor, as the events come."""
 
-    def __init__(self, names, words, output):
-        self.names, self.words, self.output = names, words, output
+    def __init__(self, lines, names, words, output):
+        self.lines, self.names, self.words, self.output = lines, names, words, output
         self.cpus, self.threads, self.of_task = {}, {}, {}
         self.node = words.cpu
-        self.timers, self.timer_events, self.starts_known = {}, False, False
+        self.timers, self.starts_known = {}, False
+        self.plain = False  # whether the last one to expire wasn't cancelled in front of that
         self.wakings, self.time = 0, None
-        self.fired = set()  # the timers that woke a task, and weren't set since
+        self.fired = {}  # of the timers that woke a task, and weren't set since: where they expired
         self.inside = {}  # of a thread that was switched out: the softirqs and timers that it is in
-        self.exits = set()  # the kinds of which an exit was recorded: until then entries aren't trusted
+        self.exits = {}  # of each kind whether its exits are recorded: otherwise entries aren't trusted
 
     def cpu(self, number):
         if number not in self.cpus:
             self.cpus[number] = Cpu()
         return self.cpus[number]
+
+    # -- What comes.
+
+    def ahead(self):
+        """The events of the next lines, up to one that is refused."""
+        lines, self.lines = itertools.tee(self.lines)
+        for line, text in itertools.islice(lines, AHEAD_MOST):
+            try:
+                event = event_of(line, text)
+            except Refused:
+                return
+            if event is not None:
+                yield event
+
+    def recorded(self, kind):
+        """Whether the exits of the kind are recorded: one was, or will be."""
+        if kind not in self.exits:
+            self.exits[kind] = any(event.name == f"{kind}_exit" for event in self.ahead())
+        return self.exits[kind]
+
+    def look(self, number, cpu):
+        """Who executes on a processor that hasn't switched yet, and in how many interrupts that began before."""
+        begun, cpu.within = [EXPIRE for _ in cpu.expiring] + [kind for _, _, kind in cpu.hard + cpu.soft], 0
+        for event in self.ahead():
+            if event.cpu != number:
+                continue
+            if event.name == "sched_switch":
+                who = switch_of(event)[0]
+                self.thread(event, who)
+                self.begins(cpu, who)
+                return
+            kind, _, end = event.name.rpartition("_")
+            if event.name in MARKS or kind == EXPIRE:
+                if end == "entry":
+                    begun.append(kind)
+                elif kind in begun:
+                    begun.remove(kind)
+                else:
+                    cpu.within += 1
 
     # -- Threads.
 
@@ -470,7 +546,7 @@ class Trace:
         if cpu.soft or cpu.expiring:
             self.inside[before[1]] = cpu.soft, cpu.expiring
         cpu.soft, cpu.expiring = self.inside.pop(after[1], ([], []))
-        cpu.running, cpu.line = after, event.line
+        cpu.running, cpu.line, cpu.within = after, event.line, 0
         if come is not None:
             self.executes_on(event, come)
             self.note_priority(event, come, after[2])
@@ -543,9 +619,12 @@ class Trace:
         if thread is None:
             return
         cpu = self.cpu(event.cpu)
+        if cpu.within is None:
+            self.look(event.cpu, cpu)
         here = who[1] == self.executing(event, cpu)
         if here and cpu.running is None:
             self.begins(cpu, who)
+        if here and thread.doing is None:
             thread.doing = "executing"
         cause = self.cause(event, cpu) if not here else True
         if cause is None:
@@ -578,15 +657,18 @@ class Trace:
             if event.flags[2] in "hHsZz":
                 return True
             known = event.flags[2] == "."
+        elif cpu.within:
+            return True
         else:
-            known = self.timer_events
+            known = self.recorded(EXPIRE) and self.executing(event, cpu) is not None
         if self.executing(event, cpu) == 0 or cpu.running and OF_INTERRUPTS.match(cpu.running[0]):
             return True
         return False if known else None
 
     def arrives(self, event, cpu, thread, first):
         """The next job of a thread. The one before, if it didn't sleep, ends now, or where it executed last."""
-        arrival, ready = self.due(event, cpu)
+        due, ready = self.due(event, cpu)
+        arrival = due
         if thread.doing == "executing":
             self.cut(cpu if thread.cpu is None else self.cpu(thread.cpu), event.time)
             finish = event.time
@@ -607,22 +689,22 @@ class Trace:
         if arrival < first:
             thread.job = None  # (it arrived before the record)
         else:
-            thread.job = Job(event.line, thread.task, arrival, max(arrival, ready))
+            thread.job = Job(event.line, thread.task, arrival, ready if arrival == due else None)
             self.output.open(thread.job)
         if self.output.first is not None:
             self.output.close_jobs()
 
     def due(self, event, cpu):
-        """When a job arrives, and when it becomes ready."""
-        if not cpu.expiring:
-            return event.time, event.time
-        timer, started, (time, now), _ = cpu.expiring[-1]
-        if timer in self.fired:
+        """When a job arrives, and when it becomes ready: None where the record doesn't show when its timer was due."""
+        if not cpu.expiring or cpu.hard and cpu.hard[-1][0] > cpu.expiring[-1][3]:
+            return event.time, None
+        timer, started, (time, now), line = cpu.expiring[-1]
+        if self.fired.get(timer, line) != line:
             refuse(event.line, "a timer expires a second time, and wasn't set between: events are lost")
         if self.starts_known:
-            self.fired.add(timer)
+            self.fired[timer] = line
         if started is None:
-            return event.time, event.time
+            return event.time, None
         arrival = min(time - (now - started[0]), event.time)
         return arrival, arrival if arrival <= started[1] else event.time
 
@@ -645,8 +727,7 @@ class Trace:
             if event.name == "hrtimer_start":
                 self.starts(event, timer, int(words["softexpires"]), words.get("was_armed") == "1")
             elif event.name == "hrtimer_cancel":
-                self.timers.pop(timer, None)
-                self.fired.discard(timer)
+                self.cancelled(timer)
             elif event.name == "hrtimer_expire_entry":
                 self.expires(event, cpu, timer, int(words["now"]))
             else:
@@ -661,25 +742,42 @@ class Trace:
         old = self.timers.get(timer)
         if own and not again and old is not None and old[2]:
             refuse(event.line, f"a timer is set that was set at line {old[3]} and hasn't expired: events are lost")
-        self.timers[timer] = due, event.time, own and self.timer_events, event.line
-        self.fired.discard(timer)
+        self.timers[timer] = due, event.time, own and self.recorded(EXPIRE), event.line
+        self.fired.pop(timer, None)
+
+    def cancelled(self, timer):
+        """It isn't set any more, or it expires: older kernels trace this in front of each expiry, too."""
+        old = self.timers.pop(timer, None)
+        if old is not None and old[2] is not None:
+            self.timers[timer] = old[0], old[1], None, old[3]
 
     def expires(self, event, cpu, timer, now):
         """A timer expires. Of those that expire in one interrupt the clock was read for the first."""
         if cpu.clock is None or cpu.clock[1] != now:
             cpu.clock = event.time, now
         due = self.timers.pop(timer, None)
-        if due is not None and now < due[0]:
-            refuse(event.line, f"a timer expires before it is due, as set at line {due[3]}")
-        if cpu.exited:
+        if due is not None:
+            plain, self.plain = self.plain, due[2] is not None
+            if self.plain and now < due[0]:
+                refuse(event.line, f"a timer expires before it is due, as set at line {due[3]}")
+            if not self.plain and (plain or now < due[0]):
+                due = None  # (it was set unseen)
+        if self.recorded(EXPIRE):
+            cpu.timed = True
             cpu.expiring.append((timer, due, cpu.clock, event.line))
 
     def expired(self, event, cpu, timer):
         """It has expired. The first one of a processor may be without its begin."""
-        if cpu.exited and not (cpu.expiring and cpu.expiring.pop()[0] == timer):
+        if not cpu.timed:
+            self.ends_within(cpu)
+        elif not (cpu.expiring and cpu.expiring.pop()[0] == timer):
             self.gap(event, "the end of a timer that isn't expiring")
             cpu = self.cpu(event.cpu)
-        cpu.exited = self.timer_events = True
+        cpu.timed = self.exits[EXPIRE] = True
+
+    def ends_within(self, cpu):
+        """What began before the record ends."""
+        cpu.within = cpu.within and cpu.within - 1
 
     def interrupt(self, event):
         """The entry or the exit of an interrupt."""
@@ -687,14 +785,15 @@ class Trace:
         stack = cpu.soft if kind == "softirq" else cpu.hard
         if end == "entry":
             name = self.interrupt_name(event, kind)
-            if kind in self.exits:
+            if self.recorded(kind):
                 self.cut(cpu, event.time)
                 stack.append((event.line, name, kind))
             return
         if not stack:
-            if kind in self.exits and self.node == event.cpu:
+            if self.exits.get(kind) and self.node == event.cpu:
                 note(("exit", kind), event.line, f"the exit of {kind}, whose entry isn't in the record")
-            self.exits.add(kind)
+            self.exits[kind] = True
+            self.ends_within(cpu)
             return
         if stack[-1][2] != kind:
             text = f"the exit of {kind} in the interrupt {stack[-1][1]} of line {stack[-1][0]}: events are lost"
@@ -733,9 +832,9 @@ class Trace:
             handler(self, event)
 
     def other_line(self, line, text):
-        lost, overwritten = LOST.match(text), OVERWRITTEN.match(text)
+        (lost, number), overwritten = lost_of(text), OVERWRITTEN.match(text)
         if lost:
-            self.lost(line, text, lost.group(1) or lost.group(2))
+            self.lost(line, text, number)
         elif overwritten and overwritten.group(1) != overwritten.group(2):
             note("overwritten", line, "the first events of the record were overwritten")
         elif any(f" {name}: " in text or f":{name}: " in text for name in self.HANDLERS):
@@ -743,10 +842,9 @@ class Trace:
         elif not PROSE.match(text):
             note("unknown", line, f"isn't understood: {text.strip()[:60]}")
 
-    def lost(self, line, text, number):
+    def lost(self, line, text, cpu):
         """Events are lost; before the first one of a processor, or without a task there, nothing is."""
         text = f"events are lost: {text.strip()[:60]}"
-        cpu = None if number is None else int(number)
         if self.cpus and cpu is None or self.node is not None and cpu == self.node and self.cpus[cpu].first is not None:
             refuse(line, f"{text}; record again with more memory, or take the lines above it")
         if cpu in self.cpus:
@@ -785,10 +883,20 @@ def read_words():
     return words
 
 
-def print_notes():
-    for line, sentence, count in notes.values():
+def noted():
+    """All notes, by their lines."""
+    for line, sentence, count in sorted(notes.values()):
         more = f" (and {count - 1} more)" if count > 1 else ""
-        print(f"note: line {line}: {sentence}{more}", file=sys.stderr)
+        yield f"note: line {line}: {sentence}{more}"
+
+
+def say(lines):
+    """Says lines on standard error. Where that fails, the trace and the status are all that there is."""
+    try:
+        sys.stderr.write("".join(f"{line}\n" for line in lines))
+        sys.stderr.flush()
+    except (AttributeError, OSError):
+        pass
 
 
 def jobless(trace, names):
@@ -802,38 +910,60 @@ def jobless(trace, names):
 
 
 def run(words):
-    """Writes the trace; what is wrong with it, and its status."""
+    """Writes the trace, and says then what is odd or wrong; the status."""
     names, output = Names(words.threads), Output(sys.stdout, words)
-    trace = Trace(names, words, output)
+    trace = Trace(lines_of(sys.stdin), names, words, output)
     try:
-        for line, text in lines_of(sys.stdin):
+        for line, text in iter(lambda: next(trace.lines, None), None):
             trace.take(line, text)
         trace.end()
         wrong, status = jobless(trace, names), 3
     except Refused as refused:
         wrong, status = str(refused), 4
-    print_notes()
-    names.note_missing()
+    except Failed as failed:
+        wrong, status = str(failed), 5
+    except Exception:
+        wrong, status = f"a fault of this program itself\n{traceback.format_exc()}", 1
+    said = [*noted(), *names.missing()] if status != 5 else []
     if wrong and status == 3 and words.jobless:
-        print(f"note: {wrong}", file=sys.stderr)
+        said.append(f"note: {wrong}")
         wrong = None
     if wrong:
-        print(f"from_ftrace.py: {wrong}", file=sys.stderr)
+        said.append(f"from_ftrace.py: {wrong}")
         output.put("refused by from_ftrace.py")
-    output.flush()
-    sys.stdout.flush()
+    try:
+        output.flush()
+    except Failed as failed:
+        said, wrong, status = [f"from_ftrace.py: {failed}"], True, 5
+    say(said)
     return status if wrong else 0
 
 
 def main():
-    words = read_words()
-    sys.stdin.reconfigure(encoding="utf-8", errors="surrogateescape", newline="\n")
+    """Ends the process itself, for at its end Python would write again what couldn't be written."""
+    signal.signal(signal.SIGINT, signal.SIG_DFL)
+    if sys.stderr is None:
+        sys.stderr = open(os.devnull, "w", encoding="utf-8")
     sys.stderr.reconfigure(errors="backslashreplace")
+    if sys.stdin is not None:
+        sys.stdin.reconfigure(encoding="utf-8", errors="surrogateescape", newline="\n")
     try:
-        sys.exit(run(words))
-    except BrokenPipeError:
-        os.dup2(os.open(os.devnull, os.O_WRONLY), sys.stdout.fileno())
-        sys.exit(1)
+        status = run(read_words())
+    except SystemExit as ended:
+        status = help_status() if ended.code == 0 else ended.code
+    except OSError:  # (of standard error, on which wrong words are said)
+        status = 2
+    os._exit(status)
+
+
+def help_status():
+    """The status of --help, once that is written."""
+    try:
+        Output(sys.stdout, None).flush()
+        return 0
+    except Failed as failed:
+        say([f"from_ftrace.py: {failed}"])
+        return 5
 
 
 if __name__ == "__main__":
