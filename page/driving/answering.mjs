@@ -99,6 +99,16 @@ export async function mending() {
   expect(/deadline = 1050/.test(seen.set) && /period = 1050/.test(seen.set),
     'a later deadline takes the period along');
   equal(seen.strip, 'verdict is-yes', 'which mends it, too');
+  // (no line moves the period of a task with an offset, which would mend it here)
+  const task = (name, period, cost) =>
+    `[[task]]\nname = "${name}"\nperiod = ${period}\ndeadline = ${period}\ncost = ${cost}\n`;
+  const heavy = ['a', 'b', 'c'].map(name => task(name, 10000, 9500)).join('');
+  const held = task('b', 10000, 9991) + 'section = [{ locks = ["m"], at = 0, len = 9991 }]\n';
+  const clock = '[[chain]]\nname = "c"\ntasks = ["a", "b"]\noffsets = [0, 0]\n';
+  const none = 'No single change of a number mends it';
+  equal((await put({ set: heavy })).shown.mends, `${none}.`, 'three tasks, each too much');
+  equal((await put({ set: task('a', 1000, 1) + held + clock })).shown.mends,
+    `${none} that \`limits\` tries: it moves no period of a task with an offset.`, 'offsets');
 }
 export async function judging() {
   await put({ set: example('robot-mended') });

@@ -111,12 +111,12 @@ function read_reach(chains, [, chain, name, ...words]) {
 }
 // `limits`: for each task its numbers and how far each may go, for what is no task's in the words
 // of its line; for each chain with a limit the same with it met; and the factor on all execution.
-// Of a refused set these are changes that mend it.
+// Of a refused set these are changes that mend it; `has_none` where no single one does.
 export function read_limits({ text, status }) {
   if (status !== 0 && status !== 3) return null;
   const found =
     { tasks: new Map(), common: [], chains: new Map(), all: undefined, first: null,
-    is_whole: status === 0 };
+    is_whole: status === 0, has_none: lines_of(text).includes('no single change') };
   for (const words of lines_of(text).slice(1).map(it => it.split(' '))) {
     const [name, word] = words;
     if (name === 'chain' && /^[A-Za-z]/.test(words[2] ?? '')) read_reach(found.chains, words);

@@ -41,7 +41,10 @@ export function mends_told(limits, mend) {
   const all = [...limits.tasks].flatMap(([name, rows]) => rows.map(it => [name, it]));
   const common = limits.common.map(({ what, value, most }) =>
     element('li', `${what} ${grouped(value)} → ${grouped(most)}`));
-  if (!all.length && !common.length) return ['No single change of a number mends it.'];
+  if (!all.length && !common.length)
+    return [limits.has_none ? 'No single change of a number mends it.'
+      : 'No single change of a number mends it that `limits` tries: ' +
+        'it moves no period of a task with an offset.'];
   return ['Each of these changes alone mends it:',
     element('ul', ...all.map(it => mend_told(it, mend)), ...common)];
 }
