@@ -32,6 +32,10 @@ Inputs
   $ said admit teams
   teams: can't be opened or read: no name of a team: cam.team.toml
   [7]
+  $ mkdir odd && : > odd/"$(printf 'a\033[31m\nb')".toml
+  $ said admit odd
+  odd: can't be opened or read: no name of a team: a?[31m?b.toml
+  [7]
   $ mkdir none && : > none/node.toml && : > none/.cam.toml
   $ said admit none
   none: can't be opened or read: no file TEAM.toml in this folder
@@ -279,7 +283,7 @@ Certificates
   standard input: line 3, "level 2 c 20000": no such line may stand here; after the head come best N, for each level from 1 level K NAME NUMBER and lines fails NAME REASON, then, in version 5, lines chain NAME NUMBER, or none N and lines member NAME REASON, then end
   [5]
   $ certificate 'desk-certificate 1\nnone 0\n'
-  standard input: the complete lines stop before the line end; each line ends with LF, the last, too
+  standard input: the complete lines stop before one that says end; each line ends with LF, the last, too
   [5]
   $ certificate 'desk-certificate 1\nnone 0\nend\n\n'
   standard input: something follows the line end, which has to be the last
@@ -306,10 +310,10 @@ Certificates
   standard input: level 1: its number, 5, is below what the task may need, or its task has to outrank one above it
   [5]
   $ sed 's/^fails b 1/fails b 2/' examples/three-tasks.cert | said check examples/three-tasks.toml -
-  standard input: level 1, fails b: its numbers have to begin with 1, to rise by no more than the task's demand, and to end with the first past the deadline less the jitter; after over stands a task above it that it has to outrank
+  standard input: level 1, fails b: its numbers have to begin with 1, each above the one before and at most the task's demand there, and to end with the first past the deadline less the jitter; after over stands a task above it that it has to outrank
   [5]
   $ certificate 'desk-certificate 1\nnone 1\nmember a 1\nend\n'
-  standard input: member a: its numbers have to begin with 1, to rise by no more than the task's demand, and to end with the first past the deadline less the jitter; after over stands a task above it that it has to outrank
+  standard input: member a: its numbers have to begin with 1, each above the one before and at most the task's demand there, and to end with the first past the deadline less the jitter; after over stands a task above it that it has to outrank
   [5]
   $ sed '/^fails b/d' examples/three-tasks.cert | said check examples/three-tasks.toml -
   standard input: level 1: b is left and of smaller rank than the level's task, but no line fails says why it can't have the level (a certificate made with --prefer is checked with it)
@@ -323,6 +327,7 @@ Certificates
   $ { cat examples/steer.toml; echo 'writes = "deadline"'; } > timed.toml
   $ desk certify timed.toml | sed 's/^chain steer .*/chain steer 69999/' | said check timed.toml -
   standard input: chain steer: its number, 69999, is below 70000, the sum of its periods and of its tasks' deadlines
+  (on standard error) note: in the best order a chain misses its limit: desk admit says which
   [5]
   $ { cat examples/steer.toml; echo 'offsets = [0, 0, 0]'; } > clocked.toml
   $ desk certify clocked.toml | sed 's/^chain steer .*/chain steer 30599/' | said check clocked.toml -
@@ -331,6 +336,7 @@ Certificates
   $ { cat timed.toml; echo 'offsets = [0, 0, 0]'; } > clocked.toml
   $ desk certify clocked.toml | sed 's/^chain steer .*/chain steer 54999/' | said check clocked.toml -
   standard input: chain steer: its number, 54999, is below 55000, its longest span from an arrival of its first task, by its tasks' deadlines
+  (on standard error) note: in the best order a chain misses its limit: desk admit says which
   [5]
 
 Release lists
@@ -472,10 +478,10 @@ Settings
   standard input: no line thread hi NUMBER
   [4]
   $ settings 'thread lo 1\nthread mid 2\nthread hi 3\nmutex m 2\n'
-  standard input: line 4, "mutex m 2" isn't at 3, the number of the highest thread that uses it
+  standard input: line 4, "mutex m 2" isn't at 3, the number of the highest thread that uses it; desk judge alone takes a higher one
   [4]
   $ printf 'thread lo 9\nthread mid 5\nthread hi 2\nmutex m 9\n' | said judge --lower-is-higher examples/shared-lock.toml -
-  standard input: line 4, "mutex m 9" isn't at 2, the number of the highest thread that uses it
+  standard input: line 4, "mutex m 9" isn't at 2, the number of the highest thread that uses it; desk judge alone takes a higher one
   [4]
   $ sed 's/"m"/"m", "n"/' examples/shared-lock.toml > two-locks.toml
   $ printf 'thread lo 1\nthread mid 2\nthread hi 3\nmutex m 3\n' | said judge two-locks.toml -

@@ -69,11 +69,11 @@ order meets the chain; else it is open, and `prefer.t` has an order that meets o
 `settings` prints what it prints without chains, with the status of `admit`:
 
   $ desk settings tight.toml > missing
-  (on standard error) note: in this order a chain misses its limit: desk judge says which
+  (on standard error) note: in the best order a chain misses its limit: desk admit says which
   [3]
   $ cmp missing now
   $ desk settings tight.toml --base 10 --room 1 > said
-  (on standard error) note: in this order a chain misses its limit: desk judge says which
+  (on standard error) note: in the best order a chain misses its limit: desk admit says which
   [3]
   $ wc -l < said
   4
@@ -91,12 +91,49 @@ So does `--keep`, with the order of settings:
   chain steer 46200 misses 44199
   $ desk settings examples/steer.toml --keep missing | cmp - missing
 
-Of one task no chain is said, and none makes a no:
+Of one task no chain is said, and none makes a no; a note says that one is missed, as beside each answer of the best order that has
+no line of it:
 
   $ desk explain tight.toml --task wheel
   admitted 4
   4 wheel 600 of 5000
     cost 600
+  (on standard error) note: in the best order a chain misses its limit: desk admit says which
+  $ desk limits tight.toml --task wheel | head -n 1
+  admitted 4
+  (on standard error) note: in the best order a chain misses its limit: desk admit says which
+  $ desk limits tight.toml | head -n 1
+  admitted 4
+  (on standard error) note: in the best order a chain misses its limit: desk admit says which
+  $ desk certify tight.toml | grep chain
+  chain steer 44200
+  (on standard error) note: in the best order a chain misses its limit: desk admit says which
+  $ desk worst tight.toml | head -n 1
+  # wheel 600 of 600
+  (on standard error) note: in the best order a chain misses its limit: desk admit says which
+  $ desk worst tight.toml --chain steer | head -n 1
+  # steer 44198 of 44200
+  (on standard error) note: in the best order a chain misses its limit: desk admit says which
+  $ desk releases tight.toml 1000 | desk simulate tight.toml - --tasks | tail -n 1
+  chain steer 0 age - reaction - bound 44200
+  (on standard error) note: in the best order a chain misses its limit: desk admit says which
+  $ desk releases tight.toml 1000 | desk simulate tight.toml - > trace
+  (on standard error) note: in the best order a chain misses its limit: desk admit says which
+  $ desk observe tight.toml trace | head -n 1
+  task log 1 0 5000 - 100000 - 17400
+  (on standard error) note: in the best order a chain misses its limit: desk admit says which
+  $ desk releases tight.toml 1000 | desk draw tight.toml - > /dev/null
+  (on standard error) note: in the best order a chain misses its limit: desk admit says which
+
+In an order that is given `judge` says which, and where both sets of a picture or a change are compared their own commands do:
+
+  $ cat now trace | desk observe tight.toml - | head -n 1
+  task log 1 0 5000 - 100000 - 17400
+  $ { cat now; desk releases tight.toml 1000; } | desk simulate tight.toml - > /dev/null
+  $ desk diff tight.toml tight.toml
+  admitted 4
+  was admitted 4
+  $ desk releases tight.toml 1000 | desk draw tight.toml - --beside tight.toml > /dev/null
   $ desk explain tight.toml --task wheel --at now
   meets 4
   4 wheel 600 of 5000
@@ -273,6 +310,7 @@ them go further. Where the chain is missed, they have to come back that far, if 
   chain steer plan cost 6000 5999
   chain steer camera cost 2000 1999
   chain steer wheel cost 600 599
+  (on standard error) note: in the best order a chain misses its limit: desk admit says which
   $ desk limits tight.toml --at now | sed '1,/^all/d'
   chain steer plan cost 6000 5999
   chain steer camera cost 2000 1999
@@ -294,6 +332,7 @@ missed by more; today's order meets it. By deadlines more jitter of p takes it a
   chain alone 13000 misses 12900 least 11000
   $ three 2000 | desk limits - | grep 'alone z'
   chain alone z cost 2000 1900
+  (on standard error) note: in the best order a chain misses its limit: desk admit says which
   $ three 1900 | desk admit - | tail -n 1
   chain alone 13400 misses 12900 least 11000
   $ three 2000 | desk settings - > today 2> said
@@ -325,6 +364,8 @@ No other command's status counts limits:
   admitted 4
   was admitted 4
   changed chain steer bound 44200 44200 slack 800 -1 keys limit 45000 44199
+  (on standard error) note: in the best order a chain misses its limit: desk admit says which
+  (on standard error) note: in the best order a chain misses its limit: desk admit says which
 
 In a random list the tasks of chains come exactly a period apart, as what is promised of a chain asks; others may come later:
 

@@ -41,6 +41,7 @@ It is no longer than without them, whichever they are; at deadlines each run has
   $ desk releases --seed 7 timed.toml 400000 > list
   $ desk simulate --tasks timed.toml list | tail -n 1
   chain steer 71 age 55500 reaction 55500 bound 55500
+  (on standard error) note: in the best order a chain misses its limit: desk admit says which
 
 A limit is met up to the microsecond, and `least` is by the clock, too:
 
@@ -90,12 +91,50 @@ A certificate has the bound, and `check` adds up a round by its own arithmetic:
   refused: BadAge steer
   [5]
 
-How far numbers may go with the chain met, and what a change of offsets does:
+How far numbers may go with the chain met; no line moves the period of a task on the clock:
 
   $ sed 's/45000/31500/' clock.toml | desk limits --task plan - | grep chain
   chain steer plan cost 6000 6800
   chain steer plan jitter 0 1900
-  (on standard error) note: offsets don't count here: with another period a chain's may be refused
+  (on standard error) note: no line moves the period of a task with an offset: another may be refused
+  $ desk limits --task plan clock.toml
+  admitted 4
+  plan cost 6000 12600 12600
+  plan deadline 20000 9200 7200
+  plan jitter 0 10800 10800
+  plan slack 10800
+  (on standard error) note: no line moves the period of a task with an offset: another may be refused
+
+A no without a line then doesn't say that no single change helps: here a longer deadline does, and a period with it:
+
+  $ cat > late.toml << END
+  > [[task]]
+  > name = "a"
+  > period = 1000
+  > deadline = 1000
+  > cost = 300
+  > section = [{ locks = ["m"], at = 0, len = 1 }, { locks = ["n"], at = 1, len = 1 }]
+  > [[task]]
+  > name = "b"
+  > period = 100000
+  > deadline = 100000
+  > cost = 3000
+  > section = [{ locks = ["m"], at = 0, len = 1200 }, { locks = ["n"], at = 1500, len = 1200 }]
+  > [[chain]]
+  > name = "c"
+  > tasks = ["a", "b"]
+  > END
+  $ desk limits late.toml | head -n 2
+  infeasible a
+  a deadline 1000 - 1500 with period 1500
+  $ echo 'offsets = [0, 0]' | cat late.toml - | desk limits -
+  infeasible a
+  all - 666 a
+  (on standard error) note: no line moves the period of a task with an offset: another may be refused
+  [3]
+
+What a change of offsets does:
+
   $ desk diff examples/steer.toml clock.toml
   admitted 4
   was admitted 4
@@ -104,3 +143,30 @@ How far numbers may go with the chain met, and what a change of offsets does:
   admitted 4
   was admitted 4
   changed chain steer bound 31100 32600 slack 13900 12400 keys offsets 0+0+500 0+0+2000
+
+A job that doesn't say when it was ready may be seen to arrive as late as its jitter, and then to miss what another one hands over
+on their clock. So the chain's age is held to the bound without offsets, and the jitter:
+
+  $ cat > timed.toml << END
+  > [[task]]
+  > name = "a"
+  > period = 10000
+  > deadline = 5000
+  > cost = 1000
+  > jitter = 100
+  > [[task]]
+  > name = "b"
+  > period = 10000
+  > deadline = 10000
+  > cost = 1000
+  > [[chain]]
+  > name = "c"
+  > tasks = ["a", "b"]
+  > offsets = [0, 5000]
+  > writes = "deadline"
+  > END
+  $ seen() { for at in 0 10000 20000 30000 40000; do printf '%s %s a\n%s %s b\n' $((at + 100)) $((at + 1100)) $((at + 5000)) $((at + 6000)); printf "job a $1\njob b %s %s\n" $((at + $2)) $((at + 1100)) $((at + 100)) $((at + 5000)) $((at + 6000)); done; }
+  $ seen '%s %s%.0s' 100 | desk observe timed.toml - | grep -e chain -e age
+  chain c 3 age 34900 reaction 34900 bound 25000
+  $ seen '%s %s %s' 0 | desk observe timed.toml - | grep -e chain -e age
+  chain c 4 age 25000 reaction 25000 bound 25000

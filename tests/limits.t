@@ -507,3 +507,11 @@ Settings are refused as by `judge`, before the name of a task:
   $ desk limits --at=down examples/three-tasks.toml --task d
   refused: NoSuchTask d
   [4]
+
+A task's timer, which takes of whoever executes, has to have room in the period, too:
+
+  $ timed() { printf '[node]\njob = 50\nrelease = 50\n[[task]]\nname = "h"\nperiod = %s\ndeadline = %s\ncost = %s\n' "$@"; }
+  $ timed 1500 1500 450 | desk limits - | grep '^h cost'
+  h cost 450 1450 1450 by period
+  $ timed 1600 1600 1450 | desk limits - | grep '^h period'
+  h period 1600 1500 1500 with deadline 1500 1500 by cost

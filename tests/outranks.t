@@ -146,7 +146,7 @@ All others are outranked by a word, but for those that say it, too. It is no nam
   $ three "outranks = 'all'" "outranks = 'all'" "outranks = 'all'" | desk certify - | cmp - examples/three-tasks.cert
   $ three "outranks = ['all']" | desk certify - 2> notes | cmp - examples/three-tasks.cert
   $ cat notes
-  note: a outranks all, which is no task of the set: that binds nothing
+  note: a outranks all, which is no task of the set: that binds nothing; to outrank all others, write outranks = "all"
   $ three "outranks = 'b'" | desk admit -
   refused: WrongKind 1 0 outranks
   [4]

@@ -375,11 +375,16 @@ Each team says its own, all of them at a time, with one that takes nothing for n
   > END
   level 1 a 1 8600
   level 2 b 2 8000
-  $ for n in 7 8; do { printf 'open 1\nput 1 a 0 10000 10000 100 irq=100:0'; printf '+100:0%.0s' $(seq 2 $n); printf '\ncommit 1\nopen 2\nput 2 b 0 10000 10000 100 irq=100:0\ntest 2\ncommit 2\n'; } | desk play - | sed -n 6,7p; done
+  $ eight() { { printf 'open 1\nput 1 a 0 10000 10000 100 irq=100:1'; printf '+100:1%.0s' $(seq 2 $1); printf '\ncommit 1\nopen 2\nput 2 b 0 10000 10000 100 irq=%s\ntest 2\ncommit 2\n' "$2"; } | desk play - | sed -n 6,7p; }
+  $ eight 7 100:1
   tested admitted
   admitted 2
+  $ eight 8 100:1
   refused Untestable
   refused TooManyInterrupts
+  $ eight 8 100:0+200:0
+  tested admitted
+  admitted 2
 
 16,777,216 bytes are read, one more is too many:
 

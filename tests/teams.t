@@ -278,6 +278,9 @@ A budget needs a team that has a document:
   $ desk admit kept 2>&1 > /dev/null
   kept: node.toml: line 2: there is no base.toml
   [4]
+  $ echo '[team.node]' > kept/node.toml; desk admit kept 2>&1 > /dev/null
+  kept: node.toml: line 1: node is no team: what it takes has no budget
+  [4]
 
 What is no such document, in the order of its refusals:
 

@@ -18,7 +18,10 @@ def lines_of(tasks, order, responses, owned, jobs, seen, end, tolerance):
         bound = chain_bounds.bound_in(tasks, order, responses, chain)
         words = ["chain", chain.name, len(samples), "age", age, "reaction", chain_runs.reaction(samples), "bound", bound]
         lines.append(" ".join("-" if word is None else str(word) for word in words))
-        most = bound if bound is None or chain.writes == "finish" else bound + sum(late_of(name, seen) for name in chain.tasks)
+        late = 0 if chain.writes == "finish" else sum(late_of(name, seen) for name in chain.tasks)
+        # Who is seen late may seem to miss, on their clock, what another hands over.
+        held = chain_bounds.bound_in(tasks, order, responses, chain._replace(offsets=())) if late else bound
+        most = None if held is None else held + late
         if age is not None and most is not None and age - most > tolerance:
             broken.append(f"age {chain.name} {age} of {most}")
             lines.append(broken[-1])

@@ -280,10 +280,11 @@ def limits_in(tasks, order, task):
         if task not in (None, i):
             continue
         for number in limits.numbers_of(sheet):
-            found = limits.furthest(tasks, i, number)
+            written = lambda value: limits.written(tasks, sheet, number, value)
+            found = written(limits.furthest(tasks, i, number))
             most = own_of(sheet, number, found)
             if most is not None:
-                found_in = limits.furthest(tasks, i, number, in_order)
+                found_in = written(limits.furthest(tasks, i, number, in_order))
                 in_this = own_of(sheet, number, found_in)
                 if order is not None and in_this is None:
                     continue
@@ -309,7 +310,7 @@ def limits_in(tasks, order, task):
             own = limits.most_on(tasks, lock, in_order)
             if (most if order is None else own) is not None:
                 text.append(f"lock {lock} len {longest} {or_dash(own)} {most}\n")
-    if not is_passing and task is None and not text:
+    if not is_passing and task is None and not text and not any(chain.offsets for chain in tasks.chains):
         text.append("no single change\n")
     if tasks and task is None:
         greatest = limits.factor(tasks)
@@ -613,7 +614,7 @@ COMMANDS = {
     "rush": calls.Command(rush, (scripts.read_script,), (1, scripts.TEAMS)),
 }
 KEYWORDS = {"all": "tell_all", "tasks": "of_tasks", "lower-is-higher": "lower_is_higher", "from": "start", "to": "stop", "print": "paper", "jobless": "is_jobless"}  # options by another name
-OF_THE_ORDER = ("admit", "explain", "limits", "settings", "worst")  # commands whose answer speaks of the order alone
+OF_THE_ORDER = ("admit", "explain", "limits", "settings")  # commands whose answer speaks of the order alone
 OF_A_PREFERENCE = (teams.read_set, read_change)  # readers that are told it
 HELP = {(word,) for word in ("help", "-h", "--help", "-V", "--version")}
 HELP |= {words for name in COMMANDS for words in ((name, "-h"), (name, "--help"), ("help", name))}
@@ -696,31 +697,48 @@ def notes_of(call, tasks, others, text, status):
     """What is noted of the answer itself."""
     command = next((name for name in COMMANDS if COMMANDS[name] is call.command), "keep" if call.command is KEEP else "")
     if command == "keep":
-        return strange_threads(tasks, others[0]) + parted(text) + chain_missed(text, status)
+        return strange_threads(tasks, others[0]) + parted(text) + kept_missed(text, status)
     if call.command is LIMITS_AT:
         return uncounted(tasks)
+    if call.command is WORST_AT:
+        return left_out(tasks)
     if command == "limits":
-        return uncounted(tasks) + (names_decide(call, tasks) if text.startswith("admitted ") else [])
+        return uncounted(tasks) + (names_decide(call, tasks) if text.startswith("admitted ") else []) + chain_missed(tasks)
+    if command == "worst":
+        return left_out(tasks) + names_decide(call, tasks) * (status != INFEASIBLE) + chain_missed(tasks)
+    if command == "certify":
+        return chain_missed(tasks)
     if command in OF_THE_ORDER:
         if status != INFEASIBLE or text.startswith(("admitted ", "thread ")):
-            return names_decide(call, tasks) + chain_missed(text, status)
+            is_silent = command == "settings" or "task" in call.options
+            return names_decide(call, tasks) + (chain_missed(tasks) if is_silent else [])
         return conflict(tasks) if command in ("admit", "settings") else []
     if command in ("simulate", "draw"):
         if status == INFEASIBLE:
             return ["no order passes, so there is no run: desk explain says why"]
-        return ([] if others[0][0] else names_decide(call, tasks)) + left_out(tasks) + overran(picture.cut(tasks, *others[0])[2])
+        in_best = [] if others[0][0] else names_decide(call, tasks)
+        missed = [] if others[0][0] else chain_missed(tasks)
+        return in_best + left_out(tasks) + overran(picture.cut(tasks, *others[0])[2]) + missed
     if command == "script":
         return ["a script has no chains: those of the set are left out"] * bool(tasks.chains)
     if command == "observe":
         seen = {line.split()[1]: int(line.split()[2]) for line in text.splitlines() if line.startswith("task ")}
         unseen = [task.name for task in tasks if seen.get(task.name) == 0]
         has_own = bool(others[0][0]) or not seen
-        return ([] if has_own else names_decide(call, tasks)) + ["the trace has no job of " + ", ".join(unseen)] * bool(unseen)
+        in_best, missed = ([], []) if has_own else (names_decide(call, tasks), chain_missed(tasks))
+        return in_best + ["the trace has no job of " + ", ".join(unseen)] * bool(unseen) + missed
     return []
 
 
-def chain_missed(text, status):
-    """Beside settings of an order in which a chain misses its limit."""
+def chain_missed(tasks):
+    """Where a chain misses its limit in the best order, and the answer doesn't say so."""
+    order = analysis.best_order(tasks)
+    is_met = order is None or chain_bounds.lines_of(tasks, order, bounds_of(tasks, order), False, True)[1]
+    return ["in the best order a chain misses its limit: desk admit says which"] * (not is_met)
+
+
+def kept_missed(text, status):
+    """The same of settings that keep others."""
     is_missed = status == INFEASIBLE and text.startswith("thread ")
     return ["in this order a chain misses its limit: desk judge says which"] * is_missed
 
@@ -756,7 +774,8 @@ def notes(tasks):
     for task in tasks:
         for name in task.named:
             if name not in names:
-                lines.append(f"{task.name} outranks {name}, which is no task of the set: that binds nothing")
+                more = '; to outrank all others, write outranks = "all"' if name == "all" else ""
+                lines.append(f"{task.name} outranks {name}, which is no task of the set: that binds nothing{more}")
     asked = [(task.period, task.cost + task.node.release) for task in tasks] + analysis.interrupts_of(tasks)
     if sum(Fraction(cost, period) for period, cost in asked) > 1:
         more = "come to more than 1: no order can pass"
@@ -802,7 +821,7 @@ def parted(text):
 def uncounted(tasks):
     """Beside how far numbers may go."""
     has_offsets = any(it.offsets for it in tasks.chains)
-    return ["offsets don't count here: with another period a chain's may be refused"] * has_offsets
+    return ["no line moves the period of a task with an offset: another may be refused"] * has_offsets
 
 
 def chain_beside(text):

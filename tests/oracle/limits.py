@@ -42,7 +42,7 @@ class Number(NamedTuple):
         if value != self.easiest_first(task)[-1]:
             return None
         if self.kind == "period":
-            return "cost" if value == task.cost else "jitter" if value == task.jitter + 1 else PERIOD_LEAST
+            return "cost" if value == task.cost + task.node.release else "jitter" if value == task.jitter + 1 else PERIOD_LEAST
         if self.kind == "len":
             behind = self.last_along(task) + 1
             return f"section {behind + 1}" if task.sections[behind:] else "cost"
@@ -51,9 +51,9 @@ class Number(NamedTuple):
     def easiest_first(self, task):
         """The values that the task's sheet may have, from the one with which most passes on."""
         if self.kind == "cost":
-            return range(max(1, task.last_end), task.period + 1)
+            return range(max(1, task.last_end), task.period - task.node.release + 1)
         if self.kind == "period":
-            return range(PERIOD_MOST, max(PERIOD_LEAST, task.cost, task.jitter + 1) - 1, -1)
+            return range(PERIOD_MOST, max(PERIOD_LEAST, task.cost + task.node.release, task.jitter + 1) - 1, -1)
         if self.kind == "deadline":
             return range(PERIOD_MOST, task.jitter, -1)
         if self.kind == "jitter":
@@ -116,6 +116,13 @@ def last_that(values, holds):
 def furthest(tasks, i, number, does_pass=is_feasible):
     """The furthest value of a number with which the set does pass; or None."""
     return last_that(number.easiest_first(tasks[i]), lambda value: does_pass(numbered(tasks, i, number, value)))
+
+
+def written(tasks, task, number, value):
+    """A value that may be written: of a task on a clock, by some chain's offsets, one with which its period stays."""
+    is_clocked = any(chain.offsets and task.name in chain.tasks for chain in tasks.chains)
+    stays = value is None or number.with_value(task, value).period == task.period
+    return None if is_clocked and not stays else value
 
 
 # Numbers that are no task's own
