@@ -411,9 +411,14 @@ impl<'a, W: Write + Drop> Advice<'a, W> {
         }
     }
 
-    // Keeps whether a chain misses its limit in the order of a placing, where the answer doesn't say so.
+    // Whether the set has chains, and the answer has no line of each.
+    fn hides_some(&self) -> bool {
+        hides_chains(self.call) && !self.chains.is_empty()
+    }
+
+    // Keeps whether one of them misses its limit in the order of a placing.
     fn look_at_chains(&mut self, set: &TaskSet, placing: &Placing) {
-        if let (true, Placing::Best(_)) = (hides_chains(self.call), placing) {
+        if let (true, Placing::Best(_)) = (self.hides_some(), placing) {
             self.has_missed = matches!(
                 misses_chain(self.alloc, set, placing, &self.chains),
                 Ok(true)
@@ -423,7 +428,7 @@ impl<'a, W: Write + Drop> Advice<'a, W> {
 
     // The same of a set whose placing isn't told.
     fn look_at_best(&mut self, set: &TaskSet) {
-        if hides_chains(self.call) && !self.chains.is_empty() {
+        if self.hides_some() {
             if let Ok(placing) = placing_of(self.alloc, set) {
                 self.look_at_chains(set, &placing);
             }
