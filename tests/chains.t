@@ -125,19 +125,32 @@ no line of it:
   $ desk releases tight.toml 1000 | desk draw tight.toml - > /dev/null
   (on standard error) note: in the best order a chain misses its limit: desk admit says which
 
-In an order that is given `judge` says which, and where both sets of a picture or a change are compared their own commands do:
+So it is of an order that is given, where it passes, and of a new set:
 
-  $ cat now trace | desk observe tight.toml - | head -n 1
-  task log 1 0 5000 - 100000 - 17400
-  $ { cat now; desk releases tight.toml 1000; } | desk simulate tight.toml - > /dev/null
-  $ desk diff tight.toml tight.toml
-  admitted 4
-  was admitted 4
-  $ desk releases tight.toml 1000 | desk draw tight.toml - --beside tight.toml > /dev/null
   $ desk explain tight.toml --task wheel --at now
   meets 4
   4 wheel 600 of 5000
     cost 600
+  (on standard error) note: in this order a chain misses its limit: desk judge says which
+  $ desk limits tight.toml --at now --task wheel | head -n 1
+  meets 4
+  (on standard error) note: in this order a chain misses its limit: desk judge says which
+  $ printf 'thread wheel 1\nthread log 2\nthread plan 3\nthread camera 4\n' | desk worst tight.toml --at - | head -n 1
+  # wheel misses 5000
+  $ desk diff tight.toml tight.toml
+  admitted 4
+  was admitted 4
+  (on standard error) note: in the new set's best order a chain misses its limit: desk admit says which
+  $ desk diff tight.toml examples/steer.toml > said
+  $ desk explain tight.toml --at now > said
+  [3]
+
+Where an order stands in front of a list or a trace `judge` says which, and of two sets in one picture their own commands do:
+
+  $ cat now trace | desk observe tight.toml - | head -n 1
+  task log 1 0 5000 - 100000 - 17400
+  $ { cat now; desk releases tight.toml 1000; } | desk simulate tight.toml - > /dev/null
+  $ desk releases tight.toml 1000 | desk draw tight.toml - --beside tight.toml > /dev/null
 
 In an order in which a task of it misses its deadline a chain has no bound. Where no order passes, none has a line:
 
@@ -315,6 +328,7 @@ them go further. Where the chain is missed, they have to come back that far, if 
   chain steer plan cost 6000 5999
   chain steer camera cost 2000 1999
   chain steer wheel cost 600 599
+  (on standard error) note: in this order a chain misses its limit: desk judge says which
   $ desk limits examples/steer.toml --task plan | grep chain
   chain steer plan cost 6000 6800
   chain steer plan jitter 0 800
@@ -366,6 +380,8 @@ No other command's status counts limits:
   changed chain steer bound 44200 44200 slack 800 -1 keys limit 45000 44199
   (on standard error) note: in the best order a chain misses its limit: desk admit says which
   (on standard error) note: in the best order a chain misses its limit: desk admit says which
+  (on standard error) note: in this order a chain misses its limit: desk judge says which
+  (on standard error) note: in the new set's best order a chain misses its limit: desk admit says which
 
 In a random list the tasks of chains come exactly a period apart, as what is promised of a chain asks; others may come later:
 

@@ -650,7 +650,7 @@ def told(call, said, text, status):
     if prefer is not None and tasks.own not in (None, prefer):
         lines.append(f'--prefer {prefer} overrides the set\'s prefer = "{tasks.own}"')
     if call.command is COMMANDS["diff"]:
-        lines += notes(others[0])
+        lines += notes(others[0]) + chain_missed(others[0], "the new set's")
     elif call.command is BESIDE:
         lines += notes(others[1].tasks) + notes_of_both(tasks, *others, status)
     else:
@@ -699,9 +699,11 @@ def notes_of(call, tasks, others, text, status):
     if command == "keep":
         return strange_threads(tasks, others[0]) + parted(text) + kept_missed(text, status)
     if call.command is LIMITS_AT:
-        return uncounted(tasks)
+        return uncounted(tasks) + given_missed(tasks, others[0])
     if call.command is WORST_AT:
-        return left_out(tasks)
+        return left_out(tasks) + given_missed(tasks, others[0])
+    if call.command is EXPLAIN_AT:
+        return given_missed(tasks, others[0]) if "task" in call.options else []
     if command == "limits":
         return uncounted(tasks) + (names_decide(call, tasks) if text.startswith("admitted ") else []) + chain_missed(tasks)
     if command == "worst":
@@ -730,17 +732,30 @@ def notes_of(call, tasks, others, text, status):
     return []
 
 
-def chain_missed(tasks):
+def chain_missed(tasks, whose="the"):
     """Where a chain misses its limit in the best order, and the answer doesn't say so."""
-    order = analysis.best_order(tasks)
-    is_met = order is None or chain_bounds.lines_of(tasks, order, bounds_of(tasks, order), False, True)[1]
-    return ["in the best order a chain misses its limit: desk admit says which"] * (not is_met)
+    is_missed = misses_chain(tasks, analysis.best_order(tasks))
+    return [f"in {whose} best order a chain misses its limit: desk admit says which"] * is_missed
 
 
 def kept_missed(text, status):
     """The same of settings that keep others."""
-    is_missed = status == INFEASIBLE and text.startswith("thread ")
+    return missed_here(status == INFEASIBLE and text.startswith("thread "))
+
+
+def given_missed(tasks, rows):
+    """The same of an order that settings give, where it passes."""
+    order = settings.node_order(tasks, rows)
+    return missed_here(analysis.is_passing_order(tasks, order) and misses_chain(tasks, order))
+
+
+def missed_here(is_missed):
     return ["in this order a chain misses its limit: desk judge says which"] * is_missed
+
+
+def misses_chain(tasks, order):
+    """Whether a chain misses its limit in an order that passes, if there is one."""
+    return order is not None and not chain_bounds.lines_of(tasks, order, bounds_of(tasks, order), False, True)[1]
 
 
 def notes_of_both(tasks, said, new, status):

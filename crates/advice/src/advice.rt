@@ -15,10 +15,10 @@ use least_chains::levels_of;
 use preferences::Choice;
 use sentences::{
     greatest_until, leaves_out, of_chain, of_neither, of_task, of_tasks, push_clean,
-    put_chain_missed, put_chain_missed_here, put_chains_left_out, put_conflict, put_empty,
-    put_left_out, put_names_decide, put_notes, put_one_overran, put_overload, put_overran,
-    put_override, put_parted, put_past_priorities, put_periods_stay, put_strange_threads,
-    put_strangers, put_unrun, put_unrun_of, put_unseen,
+    put_chain_missed, put_chain_missed_here, put_chain_missed_in_new, put_chains_left_out,
+    put_conflict, put_empty, put_left_out, put_names_decide, put_notes, put_one_overran,
+    put_overload, put_overran, put_override, put_parted, put_past_priorities, put_periods_stay,
+    put_strange_threads, put_strangers, put_unrun, put_unrun_of, put_unseen,
 };
 use std::alloc::{AllocError, Global};
 use std::io::Write;
@@ -38,10 +38,9 @@ pub struct Advice<'a, W: Write + Drop> {
     no_task: Option<String>,
     // Whether nobody says by what the set is preferred.
     is_unpreferred: bool,
-    // Whether the set has chains, some of them with offsets, and whether the answer is of an order that keeps another.
+    // Whether the set has chains, some of them with offsets.
     has_chains: bool,
     has_offsets: bool,
-    has_kept: bool,
     // Whether there was a run, and whether the new set has timers or interrupts, which its run lacks.
     has_run: bool,
     lacks_in_new: bool,
@@ -49,8 +48,10 @@ pub struct Advice<'a, W: Write + Drop> {
     set: Option<TaskSet>,
     // The chains of a set whose certificate a call checks, or whose answer doesn't say that one misses its limit.
     chains: Vec<Chain>,
-    // Whether one of these does in the best order.
+    // Whether one of these does in the best order; whether one does in the order that the answer is of, or in the new set's.
     has_missed: bool,
+    misses_here: bool,
+    misses_in_new: bool,
     errors: Watched<W>,
 }
 
@@ -345,12 +346,13 @@ impl<'a, W: Write + Drop> Advice<'a, W> {
             is_unpreferred: false,
             has_chains: false,
             has_offsets: false,
-            has_kept: false,
             has_run: false,
             lacks_in_new: false,
             set: None,
             chains: Vec::new(alloc),
             has_missed: false,
+            misses_here: false,
+            misses_in_new: false,
             errors,
         }
     }
@@ -437,11 +439,17 @@ impl<'a, W: Write + Drop> Advice<'a, W> {
 
     // That a chain misses its limit in the order that an answer speaks of, and has no line on it.
     fn put_missed(&mut self, status: Status) {
-        if self.has_missed && (status == Status::Done || status == Status::Infeasible) {
+        if status != Status::Done && status != Status::Infeasible {
+            return;
+        }
+        if self.has_missed {
             let _ = put_chain_missed(&mut self.errors);
         }
-        if self.has_kept && status == Status::Infeasible {
+        if self.misses_here {
             let _ = put_chain_missed_here(&mut self.errors);
+        }
+        if self.misses_in_new {
+            let _ = put_chain_missed_in_new(&mut self.errors);
         }
     }
 
@@ -518,8 +526,12 @@ impl<'a, W: Write + Drop> Audience for Advice<'a, W> {
         let _ = put_strange_threads(self.alloc, set, settings, &mut self.errors);
     }
 
-    fn kept(&mut self) {
-        self.has_kept = true;
+    fn missed_here(&mut self) {
+        self.misses_here = true;
+    }
+
+    fn missed_in_new(&mut self) {
+        self.misses_in_new = true;
     }
 
     fn compared(&mut self, new: &TaskSet) {

@@ -41,8 +41,11 @@ pub trait Audience {
     /// A set is to keep the order that settings give.
     fn keeping(&mut self, set: &TaskSet, settings: &[u8]);
 
-    /// It keeps it: the answer that follows is of the best order that does.
-    fn kept(&mut self);
+    /// The answer that follows is of an order that isn't the best one, and a chain misses its limit in it.
+    fn missed_here(&mut self);
+
+    /// The answer that follows compares with a new set, and a chain misses its limit in the best order of that.
+    fn missed_in_new(&mut self);
 
     /// A new set was read beside the first.
     fn compared(&mut self, new: &TaskSet);
@@ -79,7 +82,9 @@ impl Audience for Nobody {
 
     fn keeping(&mut self, _set: &TaskSet, _settings: &[u8]) {}
 
-    fn kept(&mut self) {}
+    fn missed_here(&mut self) {}
+
+    fn missed_in_new(&mut self) {}
 
     fn compared(&mut self, _new: &TaskSet) {}
 

@@ -10,9 +10,10 @@ use answering::{
     Audience, Both, CommandRefusal, Status, Which, asking_of, base_of, is_sorted, placing_status,
     print, print_bytes, print_made, read_two, refuse, room_of, tell,
 };
+use assignment::Placing;
 use chain_traces::ChainsSeen;
 use command_line::{OfTwo, Options};
-use judge::JudgedNode;
+use judge::{JudgedNode, all_meet};
 use kept_order::Keeping;
 use observed::{Seen, Sight};
 use observed_lines::Leeway;
@@ -27,8 +28,8 @@ use two_input_commands::{
     ReachedChains, Shown, Simulated, TwoRuns, beside_text, chained_status, check_text,
     compare_text, compared_text, draw_text, draw_way, explain_at, explained_at_text, judge_text,
     judged_said, judged_status, keep_text, keeping_status, keeping_text, leeway_of, limits_at,
-    parts_of, print_beside, print_drawing, print_observation, print_reached, print_simulated,
-    print_way, reach_text, simulate_text, watch_text, worst_at,
+    met_judged, parts_of, print_beside, print_drawing, print_observation, print_reached,
+    print_simulated, print_way, reach_text, simulate_text, watch_text, worst_at,
 };
 
 /// What a command finds of a set and a text.
@@ -255,27 +256,48 @@ fn tell_seen<P: Audience>(shown: &Observation, tasks: &TaskSet, people: &mut P) 
 }
 
 // Tells the audience what became of a set that is to keep the order of settings.
-fn tell_kept<P: Audience>(keeping: &Keeping, tasks: &TaskSet, settings: &[u8], people: &mut P) {
+fn tell_kept<P: Audience>(node: &KeptNode, tasks: &TaskSet, settings: &[u8], people: &mut P) {
     people.keeping(tasks, settings);
-    match keeping {
-        Keeping::Kept(_) => people.kept(),
-        Keeping::Parted { low, high } => people.parted(tasks, *low, *high),
-        Keeping::Stuck(_) => {}
+    if let Keeping::Parted { low, high } = &node.keeping {
+        people.parted(tasks, *low, *high);
+    }
+    if !node.are_met {
+        people.missed_here();
+    }
+}
+
+// Tells the audience what becomes of a new set.
+fn tell_compared<P: Audience>(compared: &Compared, people: &mut P) {
+    people.compared(&compared.set);
+    if let (Placing::Best(_), false) = (&compared.is, compared.chains.are_met) {
+        people.missed_in_new();
+    }
+}
+
+// Tells the audience whether a chain misses its limit in the order that settings give, where all tasks meet their deadlines.
+fn tell_given<P: Audience>(alloc: Global, node: &JudgedNode, both: &Both, people: &mut P) {
+    let judged = &node.judged;
+    if both.chains.is_empty() || !all_meet(judged) {
+        return;
+    }
+    if let Ok(false) = met_judged(alloc, &both.tasks, &both.chains, judged) {
+        people.missed_here();
     }
 }
 
 // Tells the audience what a command found of a set and a text.
 fn tell_found<P: Audience>(
+    alloc: Global,
     answer: &Result<Found, CommandRefusal>,
-    tasks: &TaskSet,
-    text: &[u8],
+    both: &Both,
     people: &mut P,
 ) {
     let Ok(found) = answer else {
         return;
     };
+    let tasks = &both.tasks;
     match found {
-        Found::Compared(compared) => people.compared(&compared.set),
+        Found::Compared(compared) => tell_compared(compared, people),
         Found::Simulated(answer) | Found::Reached(answer, _) => tell_run(answer, tasks, people),
         Found::Drawn(drawing) => tell_run(&drawing.answer, tasks, people),
         Found::DrawnWay(drawn) => tell_run(&drawn.answer, tasks, people),
@@ -285,7 +307,13 @@ fn tell_found<P: Audience>(
             tell_end(&runs.is, people);
         }
         Found::Observed(_, shown, _) => tell_seen(shown, tasks, people),
-        Found::Keeping { node, .. } => tell_kept(&node.keeping, tasks, text, people),
+        Found::Keeping { node, .. } => tell_kept(node, tasks, &both.text, people),
+        Found::WorstAt(found) | Found::LimitedAt(found) => {
+            tell_given(alloc, &found.node, both, people);
+        }
+        Found::ExplainedAt(found, _) if found.asked.is_some() => {
+            tell_given(alloc, &found.node, both, people);
+        }
         _ => {}
     }
 }
@@ -322,7 +350,7 @@ fn say_both<W: Write + Drop, P: Audience>(
     let answer = find(alloc, command, options, both, &both.text);
     let (which, text) = refused_part(command, &answer, &both.text);
     tell(&answer, tasks, which, text, people);
-    tell_found(&answer, tasks, &both.text, people);
+    tell_found(alloc, &answer, both, people);
     match answer {
         Ok(found) => print_found(alloc, &both.owners, tasks, &found, output),
         Err(refusal) => refuse(refusal, output),

@@ -40,8 +40,9 @@ pub use overload::put_overload;
 pub use puts::of_script;
 pub use records::{of_certificate, of_check};
 pub use runs::{
-    leaves_out, put_chain_missed, put_chain_missed_here, put_chains_left_out, put_left_out,
-    put_one_overran, put_overran, put_periods_stay, put_unrun, put_unrun_of, put_unseen,
+    leaves_out, put_chain_missed, put_chain_missed_here, put_chain_missed_in_new,
+    put_chains_left_out, put_left_out, put_one_overran, put_overran, put_periods_stay, put_unrun,
+    put_unrun_of, put_unseen,
 };
 pub use shown::push_clean;
 pub use strangers::{put_empty, put_strange_threads, put_strangers};

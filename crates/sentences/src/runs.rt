@@ -54,9 +54,16 @@ pub fn put_chain_missed<W: Write + Drop>(out: &mut Watched<W>) -> Result<(), Wri
     out.write(b"note: in the best order a chain misses its limit: desk admit says which\n")
 }
 
-/// The same of another order, whose settings are printed.
+/// The same of the order that an answer is of, where that isn't the best one.
 pub fn put_chain_missed_here<W: Write + Drop>(out: &mut Watched<W>) -> Result<(), WriteFailed> {
     out.write(b"note: in this order a chain misses its limit: desk judge says which\n")
+}
+
+/// The same of the best order of a new set.
+pub fn put_chain_missed_in_new<W: Write + Drop>(out: &mut Watched<W>) -> Result<(), WriteFailed> {
+    out.write(
+        b"note: in the new set's best order a chain misses its limit: desk admit says which\n",
+    )
 }
 
 /// Writes a note that a run ends where a job of a task is ready and the one before it isn't finished. It takes no memory.

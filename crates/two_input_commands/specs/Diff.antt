@@ -14,6 +14,7 @@ use Rattle.task_lines.specs.declared.owner.Owner.{Owner}
 use Rattle.assignment.specs.Placings.{IsPlacingOf}
 use Rattle.assignment.specs.declared.placing.Placing.{Placing}
 use Rattle.chain_tables.specs.Chains.{ChainData, HasChains}
+use Rattle.chain_lines.specs.ChainLines.{all_met}
 use Rattle.diff.specs.Chains.{chain_changes}
 use Rattle.diff.specs.ChangeLines.{change_lines}
 use Rattle.diff.specs.Whole.{both_weigh, whole_lines}
@@ -21,6 +22,7 @@ use Rattle.answering.specs.Statuses.{placing_status}
 use Rattle.answering.specs.OrderParts.{placing_first}
 use Rattle.least_chains.specs.LeastBound.{levels_of}
 use Rattle.two_input_commands.specs.OnBoth.{OfTwoSays, SaysOnBothWhole}
+use Rattle.two_input_commands.specs.declared.chained.ChainsTold.{ChainsTold}
 use Rattle.two_input_commands.specs.declared.diff_lines.Compared.{Compared}
 use Rattle.answering.specs.declared.refusal.CommandRefusal.{CommandRefusal}
 use Rattle.answering.specs.declared.refusal.CommandRefusal.TheVariants as refusal
@@ -46,9 +48,12 @@ IsNoNew asking text (refusal.NewDoubtful doubt) = IsDoubted asking text doubt
 IsNoNew asking text (refusal.NewChain fault) = IsUnchained asking text fault
 IsNoNew asking text _ = ⊥
 
--- what a change does to a set's chains, where this becomes of both sets
-abbrev pub chains_compared : List ChainData → List Task → Placing → List ChainData → List Task → Placing → List ℕ
-chains_compared olds U P news V Q = chain_changes U (levels_of P) olds V (levels_of Q) news
+-- these lines are what a change does to a set's chains, where this becomes of both sets, and this is whether the bound of
+-- each of the new set's is within its limit
+pub record AreCompared (olds : List ChainData) (U : List Task) (P : Placing) (news : List ChainData)
+    (V : List Task) (Q : Placing) (told : ChainsTold) : Type 0 where
+  pub text : string_bytes told.text ≡ chain_changes U (levels_of P) olds V (levels_of Q) news
+  pub met : told.are_met ≡ all_met V (levels_of Q) news
 
 -- the text says the new set, and this becomes of both, of which the old one has these chains and was taken by a preference
 pub record IsComparison (asking : Asking) (by : Preference) (olds : List ChainData) (U : List Task)
@@ -59,7 +64,7 @@ pub record IsComparison (asking : Asking) (by : Preference) (olds : List ChainDa
   pub was : IsPlacingOf U c.was
   pub is : IsPlacingOf c.set c.is
   pub chains : (news : List ChainData) × HasChains text c.set news
-      × (string_bytes c.chains ≡ chains_compared olds U c.was news c.set c.is)
+      × AreCompared olds U c.was news c.set c.is c.chains
 
 -- the answer on a set and the text of the new one
 abbrev pub ComparesText :
@@ -82,7 +87,7 @@ compared_lines owners U c =
     both_lines U c.was c.set c.is
     ++ whole_lines c.was_by owners U c.is_by c.owners.items c.set
     ++ change_lines (both_weigh c.was_by c.is_by) (c.owners.items ++ owners) U c.was c.set c.is
-    ++ string_bytes c.chains
+    ++ string_bytes c.chains.text
 
 -- the answer on what the readers had is printed after what the writer held, and the status is that of the new set; of the
 -- old one no doubt is told

@@ -49,6 +49,19 @@ pub(crate) fn levels_judged(alloc: Global, judged: &[JudgedTask]) -> Result<Vec<
     Ok(levels)
 }
 
+/// Whether the bound of each chain is within its limit in an order that was judged. The error is out of memory.
+pub fn met_judged(
+    alloc: Global,
+    set: &TaskSet,
+    chains: &[Chain],
+    judged: &[JudgedTask],
+) -> Result<bool, AllocError>
+    ensures { IfOk result (λ met. met ≡ all_met set.now (levels_judged judged.now) chains.now) }
+{
+    let levels = levels_judged(alloc, judged)?;
+    all_met(alloc, set, &levels, chains)
+}
+
 /// The lines of a set's chains in an order that was judged, and whether each is met. The error is out of memory.
 pub(crate) fn tell_chains(
     alloc: Global,

@@ -2,11 +2,13 @@
 ghost use Rattle.std.specs.Prelude.{◌≡◌, ◌++◌, IfOk, MatchResult, string_bytes};
 ghost use Rattle.assignment.specs.Placings.{IsPlacingOf};
 ghost use Rattle.chain_tables.specs.Chains.{HasChains};
-ghost use Rattle.two_input_commands.specs.Diff.{ComparesText, IsNew, IsNoNew, both_lines, chains_compared, compared_lines, new_refusal};
+ghost use Rattle.two_input_commands.specs.Diff.{AreCompared, ComparesText, IsNew, IsNoNew, both_lines, compared_lines, new_refusal};
 
+use crate::chained::ChainsTold;
 use answering::{CommandRefusal, OrderPart, joined, placing_text};
 use assignment::{Placing, place_all};
 use ceilings::{LockTable, Tabled};
+use chain_lines::all_met;
 use chain_tables::Chain;
 use diff::{ChainSide, Side, chain_text, change_text, whole_text};
 use least_chains::levels_of;
@@ -30,8 +32,8 @@ pub struct Compared {
     pub was_by: Preference,
     /// By what the new one is.
     pub is_by: Preference,
-    /// What is printed of their chains.
-    pub chains: String,
+    /// What is printed of their chains, and whether the bound of each of the new set's is within its limit.
+    pub chains: ChainsTold,
 }
 
 // A set's chains, with what becomes of the set.
@@ -62,9 +64,12 @@ fn new_refusal(fault: AskedFault) -> CommandRefusal
 }
 
 // What a change does to a set's chains.
-fn chains_compared(alloc: Global, old: &Linked<'_>, new: &Linked<'_>) -> Result<String, AllocError>
-    ensures { IfOk result (λ text. string_bytes text
-        ≡ chains_compared old.now.chains.now old.now.set.now old.now.placing.now
+fn chains_compared(
+    alloc: Global,
+    old: &Linked<'_>,
+    new: &Linked<'_>,
+) -> Result<ChainsTold, AllocError>
+    ensures { IfOk result (AreCompared old.now.chains.now old.now.set.now old.now.placing.now
         new.now.chains.now new.now.set.now new.now.placing.now) }
 {
     let was = levels_of(alloc, old.placing)?;
@@ -79,7 +84,9 @@ fn chains_compared(alloc: Global, old: &Linked<'_>, new: &Linked<'_>) -> Result<
         levels: &is,
         chains: new.chains,
     };
-    chain_text(alloc, &before, &after)
+    let text = chain_text(alloc, &before, &after)?;
+    let are_met = all_met(alloc, new.set, &is, new.chains)?;
+    Ok(ChainsTold { text, are_met })
 }
 
 // The set that a text says, as the call asks for it, by what it is taken, and its chains.
@@ -194,6 +201,6 @@ pub fn compared_text(
     let change = change_text(alloc, &all, &old, &new)?;
     let front = joined(alloc, first.as_bytes(), whole.as_bytes())?;
     let lines = joined(alloc, &front, change.as_bytes())?;
-    let text = joined(alloc, &lines, compared.chains.as_bytes())?;
+    let text = joined(alloc, &lines, compared.chains.text.as_bytes())?;
     Ok(text)
 }

@@ -20,7 +20,7 @@ mod way;
 mod worst_at_lines;
 
 pub use beside::{TwoRuns, beside_text, parts_of, print_beside};
-pub use chained::{ChainsTold, chained_status};
+pub use chained::{ChainsTold, chained_status, met_judged};
 pub use check::{Shown, check_text};
 pub use diff_lines::{Compared, compare_text, compared_text};
 pub use draw::{Drawing, draw_text, print_drawing};
