@@ -15,7 +15,7 @@ use chain_traces::ChainsSeen;
 use command_line::{OfTwo, Options};
 use judge::{JudgedNode, all_meet};
 use kept_order::Keeping;
-use observed::{Seen, Sight};
+use observed::Seen;
 use observed_lines::Leeway;
 use owners::Owner;
 use preferences::Asking;
@@ -246,12 +246,13 @@ fn tell_run<P: Audience>(answer: &Simulated, tasks: &TaskSet, people: &mut P) {
 // Tells the audience what a trace shows.
 fn tell_seen<P: Audience>(shown: &Observation, tasks: &TaskSet, people: &mut P) {
     match shown {
-        Observation::Best(Sight::Seen(observed)) => {
-            people.in_best_order(tasks);
+        Observation::Seen { is_given, observed } => {
+            if !*is_given {
+                people.in_best_order(tasks);
+            }
             people.seen(tasks, tasks_seen(tasks, &observed.seen));
         }
-        Observation::Ordered(observed) => people.seen(tasks, tasks_seen(tasks, &observed.seen)),
-        Observation::Best(Sight::Infeasible(_)) | Observation::Missed(_) => {}
+        Observation::Infeasible(_) | Observation::Missed(_) => {}
     }
 }
 

@@ -106,9 +106,9 @@ module _ (U : List Task) (places : List PlaceData) (text : List ℕ) (lines : Tr
       (indexes_of members) is.0.obstruction (tasks_of_places places, best.best.passing)
   clean tolerance (Seen shown) is =
       let kept = keeps_beside (of_text is.places is.lines is.inputs.best is.inputs.read) in (
-        subst (λ (seen : List SeenData). is_kept tolerance seen ≡ true) (sym is.seen)
+        subst (λ (seen : List SeenData). is_kept tolerance seen ≡ true) (sym is.shown.seen)
             (all_are_kept tolerance (observed_in U (promises_by_level U is.places) is.lines) kept),
-        subst (λ (seen : List SeenData). broken_lines tolerance seen ≡ []) (sym is.seen)
+        subst (λ (seen : List SeenData). broken_lines tolerance seen ≡ []) (sym is.shown.seen)
             (none_written tolerance (observed_in U (promises_by_level U is.places) is.lines) kept),
       )
 

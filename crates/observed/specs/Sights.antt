@@ -12,7 +12,7 @@ use Rattle.trace_text.specs.declared.fault.TraceFault.TheVariants as fault
 use Rattle.trace_text.specs.declared.reading.TraceLines.{TraceLines}
 use Rattle.trace_text.specs.declared.rows.TraceRow.{TraceRow}
 use Rattle.observed.specs.Observed.{observed_fault, observed_in}
-use Rattle.observed.specs.Promises.{promises_by_level, promises_of}
+use Rattle.observed.specs.Promises.{levels_from, promises_by_level, promises_of}
 use Rattle.observed.specs.declared.sight.Observed.{Observed}
 use Rattle.observed.specs.declared.sight.Sight.{Sight}
 use Rattle.observed.specs.declared.sight.Sight.TheVariants.{Infeasible, Seen}
@@ -37,9 +37,7 @@ pub record IsObserved (U : List Task) (found : Result (List TraceRow) ℕ) (obse
   pub places : List PlaceData
   pub lines : TraceLines
   pub inputs : AreInputs U found places lines
-  pub promises : observed.promises.items ≡ promises_by_level U places
-  pub housed : observed_fault (promises_by_level U places) lines ≡ None
-  pub seen : observed.seen.items ≡ observed_in U (promises_by_level U places) lines
+  pub shown : IsShownAt U (levels_from 1 places) places lines observed
 
 -- what a reading shows of a set, or that no order of the set passes
 abbrev pub IsSightOf : List Task → Result (List TraceRow) ℕ → Sight → Type 0

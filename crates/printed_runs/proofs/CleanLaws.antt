@@ -61,9 +61,9 @@ module _ (U : List Task) (places : List PlaceData) (rs : List Release) (until : 
       of_run is.places is.lines is.inputs.best is.inputs.read in
       let numbers : List ℕ = levels_from 1 is.places in
       let kept = all_seen run numbers KeepsToDemand (keeps_to_demand run numbers) in (
-        subst (λ (seen : List SeenData). is_kept tolerance seen ≡ true) (sym is.seen)
+        subst (λ (seen : List SeenData). is_kept tolerance seen ≡ true) (sym is.shown.seen)
             (all_are_kept tolerance (observed_in U (promises_by_level U is.places) is.lines) kept),
-        subst (λ (seen : List SeenData). broken_lines tolerance seen ≡ []) (sym is.seen)
+        subst (λ (seen : List SeenData). broken_lines tolerance seen ≡ []) (sym is.shown.seen)
             (none_written tolerance (observed_in U (promises_by_level U is.places) is.lines) kept),
       )
 

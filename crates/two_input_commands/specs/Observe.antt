@@ -1,11 +1,13 @@
 -- What `desk observe` answers and prints.
-use Rattle.std.specs.Prelude.{◌≡◌, ◌⊎◌, ℕ, ◌<◌, ◌&&◌, true, false, List, [], ◌∷◌, ◌++◌, length, string_bytes, All, None, Result, Ok, Err, unwrap_or, if◌then◌else◌}
+use Rattle.std.specs.Prelude.{◌≡◌, ◌⊎◌, ℕ, Bool, ◌<◌, ◌&&◌, true, false, List, [], ◌∷◌, ◌++◌, length, string_bytes, All, None, Result, Ok, Err, unwrap_or, if◌then◌else◌}
 use Rattle.task_sheet.specs.declared.set.TheConstants.{TASK_LIMIT}
 use Rattle.task_sheet.specs.Sheet.{Task}
 use Rattle.task_sheet.specs.Indexes.{indexes_of, listed_below}
+use Rattle.task_sheet.specs.Levels.{IsGreatestObstruction}
 use Rattle.lines.specs.TextLines.{kept_lines}
 use Rattle.command_line.specs.declared.calls.Options.{Options}
 use Rattle.assignment.specs.Places.{PlaceData}
+use Rattle.assignment.specs.Placings.{IsBestPlacing}
 use Rattle.judge.specs.SettingFaults.{IsRowsFault, IsSettingsFault}
 use Rattle.judge.specs.Front.{behind_front, settings_in}
 use Rattle.judge.specs.Judgements.{all_meet, judged_of, order_judged}
@@ -19,11 +21,9 @@ use Rattle.trace_text.specs.declared.fault.TraceFault.{TraceFault}
 use Rattle.trace_text.specs.declared.reading.TraceLines.{TraceLines}
 use Rattle.trace_text.specs.declared.rows.TraceRow.{TraceRow}
 use Rattle.observed.specs.Observed.{observed_fault}
-use Rattle.observed.specs.Promises.{promises_of}
-use Rattle.observed.specs.Sights.{IsShownAt, IsSightFaultOf, IsSightOf}
+use Rattle.observed.specs.Promises.{levels_from, promises_of}
+use Rattle.observed.specs.Sights.{IsShownAt}
 use Rattle.observed.specs.declared.sight.Observed.{Observed}
-use Rattle.observed.specs.declared.sight.Sight.{Sight}
-use Rattle.observed.specs.declared.sight.Sight.TheVariants.{Infeasible, Seen}
 use Rattle.observed_lines.specs.Jobless.{is_clean}
 use Rattle.observed_lines.specs.ObservedLines.{observed_lines}
 use Rattle.observed_lines.specs.declared.leeway.Leeway.{Leeway}
@@ -36,7 +36,7 @@ use Rattle.two_input_commands.specs.OnBoth.{OfTwoSays, SaysOnBothUpTo}
 use Rattle.streams.specs.declared.input.TheConstants.{TRACE_LIMIT}
 use Rattle.two_input_commands.specs.Simulate.{AreJudgedBy, order_fault}
 use Rattle.two_input_commands.specs.declared.observe_lines.Observation.{Observation}
-use Rattle.two_input_commands.specs.declared.observe_lines.Observation.TheVariants.{Best, Ordered, Missed}
+use Rattle.two_input_commands.specs.declared.observe_lines.Observation.TheVariants.{Seen, Infeasible, Missed}
 use Rattle.answering.specs.declared.refusal.CommandRefusal.{CommandRefusal}
 use Rattle.answering.specs.declared.refusal.CommandRefusal.TheVariants as refusal
 use Rattle.answering.specs.declared.status.Status.{Status}
@@ -60,37 +60,42 @@ pub record IsNodeOf (U : List Task) (settings : Result (List SettingRow) ℕ) (n
   pub read : settings ≡ Ok rows
   pub numbers : AreNumbersOf U rows (order_judged node.judged.items) node.numbers.items
 
--- what was read is a trace, and these are the places of the order that settings give, in which all tasks meet their deadlines,
--- and the numbers that they have of its threads
-pub record AreGiven (U : List Task) (settings : Result (List SettingRow) ℕ) (found : Result (List TraceRow) ℕ)
-    (numbers : List ℕ) (places : List PlaceData) (trace : TraceLines) : Type 0 where
-  pub judged : AreJudgedBy U settings (judged_of places)
-  pub rows : List SettingRow
-  pub said : settings ≡ Ok rows
-  pub by : AreNumbersOf U rows (order_judged (judged_of places)) numbers
+-- these are the places of the order in which a trace is looked at, and the numbers of its threads: of the one that settings
+-- give, in which all tasks meet their deadlines; or, where there are none, of the set's best order, by its levels
+abbrev pub AreLevelsIn : List Task → Result (List SettingRow) ℕ → (given : Bool) → List ℕ → List PlaceData
+    → Type 0
+AreLevelsIn U settings true numbers places =
+    AreJudgedBy U settings (judged_of places)
+    × ((rows : List SettingRow) × (settings ≡ Ok rows) × AreNumbersOf U rows (order_judged (judged_of places)) numbers)
+AreLevelsIn U settings false numbers places =
+    IsBestPlacing U places × (numbers ≡ levels_from 1 places) × (settings ≡ Ok [])
+
+-- what was read is a trace, which is looked at in that order
+pub record IsLookedAt (U : List Task) (settings : Result (List SettingRow) ℕ) (found : Result (List TraceRow) ℕ)
+    (given : Bool) (numbers : List ℕ) (places : List PlaceData) (trace : TraceLines) : Type 0 where
+  pub levels : AreLevelsIn U settings given numbers places
   pub read : IsTraceOf found trace
 
 -- ---- the answer
--- what a trace shows of a set: in its best order where no settings stand in front, else in the order that they give, which
--- promises nothing where some task doesn't meet its deadline
+-- what a trace shows of a set: the promises of an order, and what is seen of each job; or, where nothing is promised, that no
+-- order passes, or what becomes of each task in the order that settings give
 abbrev pub IsObservation : List Task → Result (List SettingRow) ℕ → Result (List TraceRow) ℕ
     → Observation → Type 0
-IsObservation U settings found (Best sight) = (settings ≡ Ok []) × IsSightOf U found sight
-IsObservation U settings found (Ordered observed) =
+IsObservation U settings found (Seen given observed) =
     (numbers : List ℕ) × (places : List PlaceData) × (trace : TraceLines)
-    × AreGiven U settings found numbers places trace × IsShownAt U numbers places trace observed
+    × IsLookedAt U settings found given numbers places trace × IsShownAt U numbers places trace observed
+IsObservation U settings found (Infeasible members) =
+    (settings ≡ Ok []) × IsGreatestObstruction U (indexes_of members) × (trace_rows_fault found ≡ None)
 IsObservation U settings found (Missed node) =
     IsNodeOf U settings node × (all_meet node.judged.items ≡ false) × (trace_rows_fault found ≡ None)
 
--- why it shows nothing, in the best order and in one that settings give: out of memory; it is no trace; or a slice of a task
--- lies in no job of it
+-- why it shows nothing: out of memory; it is no trace; or a slice of a task lies in no job of it
 abbrev pub IsUnseen : List Task → Result (List SettingRow) ℕ → Result (List TraceRow) ℕ → TraceFault
     → Type 0
 IsUnseen U settings found fault =
-    ((settings ≡ Ok []) × IsSightFaultOf U found fault)
-    ⊎ ((rows : List SettingRow) × (settings ≡ Ok rows) × IsTraceFault fault (trace_rows_fault found))
-    ⊎ ((numbers : List ℕ) × (places : List PlaceData) × (trace : TraceLines)
-    × AreGiven U settings found numbers places trace
+    ((rows : List SettingRow) × (settings ≡ Ok rows) × IsTraceFault fault (trace_rows_fault found))
+    ⊎ ((given : Bool) × (numbers : List ℕ) × (places : List PlaceData) × (trace : TraceLines)
+    × IsLookedAt U settings found given numbers places trace
     × IsTraceFault fault (observed_fault (promises_of U numbers places) trace))
 
 -- the answer on a set, on settings and on what stands behind them: the lines of both come first, and then the order
@@ -134,10 +139,8 @@ AreWatchedIn leeway chains U text shown told =
 
 -- where something is promised
 abbrev pub AreWatchedBy : Leeway → List ChainData → List Task → List ℕ → Observation → ChainsSeen → Type 0
-AreWatchedBy leeway chains U text (Best (Infeasible members)) told = AreSilent told
-AreWatchedBy leeway chains U text (Best (Seen shown)) told = AreWatchedIn leeway chains U text shown told
-AreWatchedBy leeway chains U text (Ordered shown) told = AreWatchedIn leeway chains U text shown told
-AreWatchedBy leeway chains U text (Missed node) told = AreSilent told
+AreWatchedBy leeway chains U text (Seen given shown) told = AreWatchedIn leeway chains U text shown told
+AreWatchedBy leeway chains U text _ told = AreSilent told
 
 -- and where there are chains
 abbrev pub AreWatched : Leeway → List ChainData → List Task → List ℕ → Observation → ChainsSeen → Type 0
@@ -154,22 +157,15 @@ WatchesText leeway chains U text (Err r) = ObservesText U text (Err r)
 
 -- what was found speaks of tasks that a set may have
 abbrev pub IsObservationOf : Observation → Type 0
-IsObservationOf (Best sight) = Unit {0}
-IsObservationOf (Ordered observed) = Unit {0}
 IsObservationOf (Missed node) = All (λ j. j.task < TASK_LIMIT) node.judged.items
-
--- what is printed of what a trace shows of a set in its best order
-abbrev pub sight_said : Leeway → List Task → Sight → ChainsSeen → List ℕ
-sight_said leeway U (Infeasible members) told =
-    infeasible_line U (listed_below (length U) (indexes_of members))
-sight_said leeway U (Seen shown) told =
-    observed_lines leeway shown.promises.items shown.seen.items ++ string_bytes told.text
+IsObservationOf _ = Unit {0}
 
 -- what is printed of what a trace shows of a set and of its chains; of an order that promises nothing, what `desk judge` prints
 abbrev pub observation_said : Leeway → List Task → Observation → ChainsSeen → List ℕ
-observation_said leeway U (Best sight) told = sight_said leeway U sight told
-observation_said leeway U (Ordered shown) told =
+observation_said leeway U (Seen given shown) told =
     observed_lines leeway shown.promises.items shown.seen.items ++ string_bytes told.text
+observation_said leeway U (Infeasible members) told =
+    infeasible_line U (listed_below (length U) (indexes_of members))
 observation_said leeway U (Missed node) told = judged_lines false U node.judged.items node.numbers.items
 
 -- the exit status of what is seen of jobs and chains
@@ -179,15 +175,10 @@ observed_status leeway shown told =
     then status.Done
     else status.Infeasible
 
--- the exit status of what a trace shows in the best order
-abbrev pub sight_status : Leeway → Sight → ChainsSeen → Status
-sight_status leeway (Infeasible members) told = status.Infeasible
-sight_status leeway (Seen shown) told = observed_status leeway shown told
-
 -- the exit status of what a trace shows
 abbrev pub observation_status : Leeway → Observation → ChainsSeen → Status
-observation_status leeway (Best sight) told = sight_status leeway sight told
-observation_status leeway (Ordered shown) told = observed_status leeway shown told
+observation_status leeway (Seen given shown) told = observed_status leeway shown told
+observation_status leeway (Infeasible members) told = status.Infeasible
 observation_status leeway (Missed node) told = judged_status node.judged.items
 
 -- the answer on what the readers had is printed after what the writer held, and the status is the answer's

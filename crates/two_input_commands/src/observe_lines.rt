@@ -19,17 +19,18 @@ use observed_lines::{Leeway, is_clean, observed_text};
 use std::alloc::{AllocError, Global};
 use std::io::Write;
 use streams::Watched;
-use task_sheet::TaskSet;
+use task_sheet::{Members, TaskSet};
 use trace_text::{TraceLines, read_trace_at};
 
 /// What a trace shows of a set's tasks.
 #[derive(Drop)]
 pub enum Observation {
-    /// In the set's best order: the trace gives none.
-    Best(Sight),
-    /// In the order that the trace gives, in which all tasks meet their deadlines.
-    Ordered(Observed),
-    /// In the order that it gives some task doesn't, so that it promises nothing: what becomes of each.
+    /// The promises of an order in which all tasks meet their deadlines, and what is seen of each job: of the one that is given
+    /// in front of the trace, or else of the set's best one.
+    Seen { is_given: bool, observed: Observed },
+    /// No order passes, and none is given, so that nothing is promised: the members of the greatest obstruction.
+    Infeasible(Members),
+    /// In the order that is given some task misses its deadline, so that nothing is promised: what becomes of each.
     Missed(JudgedNode),
 }
 
@@ -68,7 +69,10 @@ fn observe_order(
         return Ok(Observation::Missed(node));
     };
     match observe_places(alloc, &tabled, &node.numbers, &places, &trace) {
-        Ok(observed) => Ok(Observation::Ordered(observed)),
+        Ok(observed) => Ok(Observation::Seen {
+            is_given: true,
+            observed,
+        }),
         Err(fault) => Err(CommandRefusal::Trace(fault)),
     }
 }
@@ -83,7 +87,11 @@ fn observe_best(
     ensures within { IfOk result IsObservationOf }
 {
     match observe_at(alloc, tasks, at) {
-        Ok(sight) => Ok(Observation::Best(sight)),
+        Ok(Sight::Seen(observed)) => Ok(Observation::Seen {
+            is_given: false,
+            observed,
+        }),
+        Ok(Sight::Infeasible(members)) => Ok(Observation::Infeasible(members)),
         Err(fault) => Err(CommandRefusal::Trace(fault)),
     }
 }
@@ -185,11 +193,10 @@ fn watched_by(
         (λ r. ObservesText tasks.now text.now (Err r)) }
 {
     match shown {
-        Observation::Best(Sight::Seen(seen)) => {
-            watched_in(alloc, leeway, chains, tasks, text, seen)
+        Observation::Seen { observed, .. } => {
+            watched_in(alloc, leeway, chains, tasks, text, observed)
         }
-        Observation::Ordered(seen) => watched_in(alloc, leeway, chains, tasks, text, seen),
-        Observation::Best(Sight::Infeasible(_)) | Observation::Missed(_) => Ok(silent(alloc)),
+        Observation::Infeasible(_) | Observation::Missed(_) => Ok(silent(alloc)),
     }
 }
 
@@ -247,10 +254,8 @@ pub(crate) fn observation_status(
     ensures { result ≡ observation_status leeway observation.now told.now }
 {
     match observation {
-        Observation::Best(Sight::Seen(shown)) | Observation::Ordered(shown) => {
-            observed_status(leeway, shown, told)
-        }
-        Observation::Best(Sight::Infeasible(_members)) => Status::Infeasible,
+        Observation::Seen { observed, .. } => observed_status(leeway, observed, told),
+        Observation::Infeasible(_members) => Status::Infeasible,
         Observation::Missed(node) => judged_status(&node.judged),
     }
 }
@@ -285,12 +290,10 @@ pub fn print_observation<W: Write + Drop>(
 {
     let status = observation_status(leeway, shown, told);
     match shown {
-        Observation::Best(Sight::Infeasible(members)) => print_stuck(
-            alloc, tasks, *members, output,
-        ),
-        Observation::Best(Sight::Seen(seen)) | Observation::Ordered(seen) => {
-            print_bytes(seen_text(alloc, leeway, seen, told), status, output)
+        Observation::Seen { observed, .. } => {
+            print_bytes(seen_text(alloc, leeway, observed, told), status, output)
         }
+        Observation::Infeasible(members) => print_stuck(alloc, tasks, *members, output),
         Observation::Missed(node) => print_made(
             judged_text(alloc, false, tasks, &node.judged, &node.numbers),
             status,

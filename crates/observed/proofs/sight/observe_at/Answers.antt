@@ -61,7 +61,5 @@ returns c =
       places = places;
       lines = lines;
       inputs = record { best = placing; read = c.in_ok-trace.ensures };
-      promises = shown.promises;
-      housed = shown.housed;
-      seen = shown.seen;
+      shown = shown;
     }

@@ -1,4 +1,4 @@
-use Rattle.std.proofs.Common.{inr, refl, rules}
+use Rattle.std.proofs.Common.{true, inr, refl, rules}
 use Rattle.trace_text.specs.TraceLines.{rows_at}
 use Rattle.two_input_commands.proofs.Observations.{given, tasks_within}
 use Rattle.two_input_commands.proofs.Ordered.{judged_by}
@@ -39,7 +39,8 @@ returns-in-Ok-observe_places-clause-answer c = (
 )
 
 pub returns-clause-answer : goal.returns-clause-answer
-returns-clause-answer c = inr (inr (
+returns-clause-answer c = inr (
+  true,
   c.in-Ok-judge_rows.node.numbers.items,
   c.in-Some.places.items,
   c.in-Ok.trace,
@@ -50,4 +51,4 @@ returns-clause-answer c = inr (inr (
       (rw c.of-tabled.ensures at c.in-Ok-judge_rows.ensures.numbers)
       (rw (c.in-Some.is, c.deref.ensures.value) at c.in_ok-places.ensures.meet),
   rw (c.of-tabled.ensures, c.deref-2.ensures.value, c.deref-3.ensures.value) at c.in-Err-observe_places.ensures,
-))
+)
