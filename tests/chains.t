@@ -435,6 +435,7 @@ In another order, which stands in front of the list; where a task of the chain m
   thread wheel 3
   thread camera 4
   until 66198
+  (on standard error) note: in this order a chain misses its limit: desk judge says which
   $ desk simulate examples/steer.toml built --tasks | tail -n 1
   chain steer 9 age 44198 reaction 44198 bound 46200
   $ printf 'thread plan 1\nthread camera 2\nthread wheel 3\nthread log 4\n' > order

@@ -102,6 +102,7 @@ something else. What is past a limit is less than nothing:
   slower plan level 2 2 bound 9200 14800 slack 10800 5200
   slower camera level 3 3 bound 2600 3600 slack 7400 6400
   slower chain steer bound 44200 49800 slack 800 -4800
+  (on standard error) note: in the new set's best order a chain misses its limit: desk admit says which
   $ desk diff slow.toml examples/steer.toml | tail -n 1
   faster chain steer bound 49800 44200 slack -4800 800
   $ printf '[[chain]]\nname = "level"\ntasks = ["plan", "wheel"]\nreaction = 35000\n' > level
@@ -120,6 +121,7 @@ something else. What is past a limit is less than nothing:
   was admitted 4
   changed chain steer bound 44200 17600 slack 800 27400 keys tasks camera+plan+wheel camera+wheel
   changed chain level bound 34200 34200 slack 800 -200 keys limit 35000 34000
+  (on standard error) note: in the new set's best order a chain misses its limit: desk admit says which
   $ grep -v reaction both.toml > free.toml
   $ desk diff both.toml free.toml | tail -n 2
   changed chain steer bound 44200 44200 slack 800 - keys limit 45000 -

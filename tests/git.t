@@ -305,6 +305,7 @@ And what is wrong with a chain:
   admitted 4
   was admitted 4
   changed chain see bound 47610 47610 slack - -47510 keys limit - 100
+  note: in the new set's best order a chain misses its limit: desk admit says which
   chain see 47610 misses 100 least 45100
   what a bound is the sum of: desk explain, on these documents
   refused: COMMIT "too short" is not admitted
