@@ -1,5 +1,4 @@
-pub mod Adds
-pub mod Wholes
+pub mod Eachs
 pub mod Anys
 pub mod Lanes
 pub mod Executed

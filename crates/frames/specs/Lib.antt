@@ -4,7 +4,6 @@ pub mod PictureRows
 pub mod Slices
 pub mod Numbers
 pub mod Boxes
-pub mod Page
 pub mod Signs
 pub mod Locks
 pub mod Places

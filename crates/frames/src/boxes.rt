@@ -1,16 +1,15 @@
 //! Boxes.
-ghost use Rattle.frames.specs.Page.{Adds};
-ghost use Rattle.std.specs.Prelude.{◌*◌, ◌+◌, ◌++◌, ◌≡◌, ◌≤◌, length, max, nat_le};
+ghost use Rattle.std.specs.Prelude.{◌*◌, ◌+◌, ◌≡◌, ◌≤◌, Some, length, max, nat_le};
 ghost use Rattle.frames.specs.declared.places.TheConstants.{PLACES_LIMIT};
 ghost use Rattle.frames.specs.Boxes.{box_path};
 ghost use Rattle.frames.specs.Frame.{top_of};
 ghost use Rattle.frames.specs.declared.frame.TheConstants.{RIGHTMOST};
 
 use crate::frame::top_of;
-use crate::page::Page;
+use std::fmt;
 use task_sheet::Name;
 
-/// From where to where a box goes, its upper edge, and how high it is.
+/// From where to where a box goes, its upper edge, and how high it is. It is shown as its path.
 #[derive(Clone, Copy)]
 pub struct Bar {
     pub x: u64,
@@ -19,17 +18,13 @@ pub struct Bar {
     pub high: u64,
 }
 
-/// Puts bytes, and the path of a bar behind them.
-pub fn put_bar(before: &[u8], bar: Bar, page: &mut Page)
-    ensures { Adds page.old page.new (before.now ++ box_path bar.x bar.right bar.y bar.high) }
-{
-    page.put(before);
-    page.number(b"M", bar.x);
-    page.number(b" ", bar.y);
-    page.number(b"H", bar.right);
-    page.number(b"v", bar.high);
-    page.number(b"H", bar.x);
-    page.put(b"z")
+impl fmt::Display for Bar {
+    ghost output = { λ bar. Some (box_path bar.x bar.right bar.y bar.high) };
+
+    fn fmt<W: fmt::Write>(&self, f: &mut fmt::Formatter<W>) -> fmt::Result {
+        let Bar { x, right, y, high } = *self;
+        write!(f, "M{x} {y}H{right}v{high}H{x}z")
+    }
 }
 
 /// The bar from a place up to another, in row k; at least half a pixel wide.

@@ -17,7 +17,7 @@ use task_sheet::Name;
 #[derive(Drop)]
 pub struct Chart<'a> {
     pub frame: Frame,
-    pub title: &'a [u8],
+    pub title: &'a str,
     pub rows: &'a [TaskRow],
     pub shown: &'a [usize],
     pub until: u64,

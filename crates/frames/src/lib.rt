@@ -6,7 +6,6 @@ mod chart;
 mod frame;
 mod locks;
 mod numbers;
-mod page;
 mod places;
 mod rows;
 mod signs;
@@ -14,7 +13,7 @@ mod slices;
 mod tones;
 mod view;
 
-pub use boxes::{Bar, bar_of, has_room, put_bar};
+pub use boxes::{Bar, bar_of, has_room};
 pub use chart::{Chart, Lane};
 pub use frame::{
     Frame, LOWEST_TOP, RIGHTMOST, WIDEST_STEP, end_of, ended, frame_beside, frame_of, in_millis,
@@ -22,8 +21,7 @@ pub use frame::{
     start_of, step_of, steps_before, time_letters, top_of, x_after, x_of,
 };
 pub use locks::{LOCKS_LIMIT, locks_beside, locks_of, note_names};
-pub use numbers::{put_known, put_time, put_times, put_unit};
-pub use page::Page;
+pub use numbers::{Known, ShownTime, unit_of};
 pub use places::{FREE, PLACES_LIMIT, below_of, lower_places, upper_places};
 pub use rows::{Spot, TaskRow, find_row, job_at, name_in, name_of, place_in, spot_named, tone_in};
 pub use signs::{put_sign, put_sign_of};

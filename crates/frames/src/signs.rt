@@ -1,34 +1,42 @@
 //! What the signs of a picture mean: each stands where the picture has what it stands for.
-ghost use Rattle.std.specs.Prelude.{◌≡◌};
-ghost use Rattle.frames.specs.Page.{Adds};
+ghost use Rattle.std.specs.Prelude.{◌≡◌, ◌++◌, OnOk, string_bytes};
 ghost use Rattle.frames.specs.Signs.{has_words, sign_of, sign_text};
 
-use crate::page::Page;
 use memchr::memmem;
+use std::alloc::AllocError;
 
-// Whether words stand somewhere in a text.
-fn has_words(text: &[u8], words: &[u8]) -> bool
-    ensures { result ≡ has_words text.now words.now }
+// Whether words stand somewhere in what is drawn.
+fn has_words(drawn: &str, words: &str) -> bool
+    ensures { result ≡ has_words drawn.now words.now }
 {
-    memmem::find(text, words).is_some()
+    memmem::find(drawn.as_bytes(), words.as_bytes()).is_some()
 }
 
-/// Puts a sign, where a text has an element that begins so.
-pub fn put_sign(text: &[u8], mark: &[u8], sign: &str, page: &mut Page)
-    ensures { Adds page.old page.new (sign_text text.now mark.now sign.now) }
+/// Puts a sign, where what is drawn has an element that begins so.
+pub fn put_sign(drawn: &str, mark: &str, sign: &str, text: &mut String) -> Result<(), AllocError>
+    ensures { OnOk result (string_bytes text.new ≡ string_bytes text.old
+        ++ sign_text drawn.now mark.now sign.now) }
 {
-    if has_words(text, mark) {
-        page.put(sign.as_bytes())
+    if has_words(drawn, mark) {
+        text.push_str(sign)?;
     }
+    Ok(())
 }
 
 /// Puts a sign, where it has one that begins in either of two ways.
-pub fn put_sign_of(text: &[u8], mark: &[u8], other: &[u8], sign: &str, page: &mut Page)
-    ensures { Adds page.old page.new (sign_of text.now mark.now other.now sign.now) }
+pub fn put_sign_of(
+    drawn: &str,
+    mark: &str,
+    other: &str,
+    sign: &str,
+    text: &mut String,
+) -> Result<(), AllocError>
+    ensures { OnOk result (string_bytes text.new ≡ string_bytes text.old
+        ++ sign_of drawn.now mark.now other.now sign.now) }
 {
-    if has_words(text, mark) {
-        page.put(sign.as_bytes())
+    if has_words(drawn, mark) {
+        text.push_str(sign)
     } else {
-        put_sign(text, other, sign, page)
+        put_sign(drawn, other, sign, text)
     }
 }

@@ -1,5 +1,5 @@
 //! What part of a run is drawn, and how.
-ghost use Rattle.std.specs.Prelude.{◌<◌, ◌≡◌, ◌≤◌, All, IfOk, None, OnOk, [], length};
+ghost use Rattle.std.specs.Prelude.{◌<◌, ◌≡◌, ◌≤◌, All, IfOk, None, OnOk, [], length, string_bytes};
 ghost use Rattle.ceiling_kernel.specs.declared.accept.TheConstants.{HORIZON};
 ghost use Rattle.frames.specs.View.{end_of_run, is_chosen, is_empty, is_released, noted_rank, paper_width, shown_of, window_end};
 
@@ -19,8 +19,8 @@ pub struct View {
     pub width: Option<u64>,
     /// The number of the A size of the paper that it is printed on, across, 3 or 4; none for a screen.
     pub paper: Option<u64>,
-    /// What stands before the verdict, in UTF-8; nothing where it is empty.
-    pub title: Vec<u8>,
+    /// What stands before the verdict; nothing where it is empty.
+    pub title: String,
     /// The tasks that have rows; where none is named, those of which the list has a release.
     pub tasks: Vec<Name>,
 }
@@ -32,7 +32,7 @@ impl View {
         ensures to { result.to ≡ None }
         ensures width { result.width ≡ None }
         ensures paper { result.paper ≡ None }
-        ensures title { result.title.items ≡ [] }
+        ensures title { string_bytes result.title ≡ [] }
         ensures tasks { result.tasks.items ≡ [] }
     {
         View {
@@ -40,7 +40,7 @@ impl View {
             to: None,
             width: None,
             paper: None,
-            title: Vec::new(alloc),
+            title: String::new(alloc),
             tasks: Vec::new(alloc),
         }
     }
