@@ -5,4 +5,5 @@ use Rattle.frames.proofs.signs.has_words.Goals as goal
 
 pub returns : goal.returns
 returns c = c.is_some.ensures
-    ∙ ap is_some (FindsNeedle-value c.args.text.now c.args.words.now c.find.result c.find.ensures)
+    ∙ ap is_some (FindsNeedle-value c.args.drawn.now c.args.words.now c.find.result
+    (rw (c.as_bytes.ensures.value, c.as_bytes-2.ensures.value) at c.find.ensures))
