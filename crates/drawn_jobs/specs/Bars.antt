@@ -12,7 +12,7 @@ use Rattle.frames.specs.Frame.{Frame, x_of, sees, right_of, top_of}
 use Rattle.frames.specs.PictureRows.{each, on_spot, of_job}
 use Rattle.frames.specs.Boxes.{box_path, span_text}
 use Rattle.drawn_jobs.specs.Stripes.{stripes_text}
-use Rattle.drawn_jobs.specs.Sections.{dark_from, dark_to, nth_section, fits}
+use Rattle.drawn_jobs.specs.Sections.{dark_from, dark_to, fits}
 use Rattle.frames.specs.Slices.{slice_at, executed_in}
 
 -- a slice
@@ -85,8 +85,7 @@ dark_text f all e s k row x =
 abbrev pub slice_text : Frame → List Toned → (e : ℕ) → Slice → Spot → TaskRow → List ℕ
 slice_text f all e s spot row =
     if sees f s.start s.stop
-    then bar_text f s spot.k row ++ each (length row.sheet.sections)
-    (λ i. dark_text f all e s spot.k row (nth_section row.sheet.sections i))
+    then bar_text f s spot.k row ++ flat_map (dark_text f all e s spot.k row) row.sheet.sections
     else []
 
 -- a slice in the row of its job's task, of a job that has executed e ticks before it

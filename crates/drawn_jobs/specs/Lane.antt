@@ -1,15 +1,15 @@
 -- The lane of the processor: who executes, whole.
-use Rattle.std.specs.Prelude.{ℕ, ◌+◌, ◌-◌, ◌*◌, ◌/◌, ◌%◌, min, max, nat_le, nat_lt, if◌then◌else◌, List, [], ◌∷◌, ◌++◌, length, codes, slice_get}
+use Rattle.std.specs.Prelude.{ℕ, ◌+◌, ◌-◌, ◌*◌, ◌/◌, ◌%◌, min, max, nat_le, nat_lt, if◌then◌else◌, List, [], ◌∷◌, ◌++◌, flat_map, length, codes, slice_get}
 use Rattle.std.specs.Fmt.{decimal}
 use Rattle.std.specs.List.{concat}
 use Rattle.ceiling_kernel.specs.declared.trace.Slice.{Slice}
 use Rattle.frames.specs.declared.rows.TaskRow.{TaskRow}
 use Rattle.frames.specs.Frame.{Frame, x_of, sees, frame_end, level_of}
 use Rattle.pieces.specs.Pieces.{clipped}
-use Rattle.frames.specs.Slices.{ticks_of, slice_at}
+use Rattle.frames.specs.Slices.{ticks_of}
 use Rattle.frames.specs.Boxes.{box_path}
 use Rattle.ceiling_kernel.specs.declared.trace.JobRecord.{JobRecord}
-use Rattle.frames.specs.PictureRows.{each, on_row, of_job}
+use Rattle.frames.specs.PictureRows.{on_row, of_job}
 
 -- for how long a slice executes in the window, and what was before: no more than passed until then
 abbrev pub busy_with : Frame → ℕ → Slice → ℕ
@@ -89,4 +89,4 @@ lane_by f rows jobs s =
 -- each slice there, by time
 abbrev pub lanes_text : Frame → List TaskRow → List JobRecord → List Slice → List ℕ
 lanes_text f rows jobs slices =
-    each (length slices) (λ n. lane_by f rows jobs (slice_at slices n))
+    flat_map (lane_by f rows jobs) slices

@@ -1,5 +1,5 @@
 -- Which ticks of a slice are darker: those that its job executes inside a section.
-use Rattle.std.specs.Prelude.{◌≡◌, ℕ, ◌+◌, ◌-◌, min, Bool, true, false, nat_lt, if◌then◌else◌, List, [], ◌∷◌, length, set, slice_index, slice_index_or}
+use Rattle.std.specs.Prelude.{◌≡◌, ℕ, ◌+◌, ◌-◌, min, Bool, true, false, nat_lt, if◌then◌else◌, List, [], ◌∷◌, length, set, slice_index}
 use Rattle.task_sheet.specs.Sheet.{CriticalSection}
 use Rattle.ceiling_kernel.specs.declared.trace.Slice.{Slice}
 use Rattle.frames.specs.Slices.{ticks_of}
@@ -19,14 +19,6 @@ dark_from x e = x.at - e
 -- where it ends
 abbrev pub dark_to : CriticalSection → ℕ → Slice → ℕ
 dark_to x e s = min (x.at + x.len - e) (ticks_of s)
-
--- stands past the end of some sections
-abbrev pub no_section : CriticalSection
-no_section = record { locks = []; at = 0; len = 0 }
-
--- the section at a place, from 0
-abbrev pub nth_section : List CriticalSection → ℕ → CriticalSection
-nth_section xs i = slice_index_or xs i no_section
 
 -- names with a space before each have at most so many letters
 abbrev pub fits : ℕ → List (List ℕ) → Bool

@@ -1,9 +1,8 @@
 -- Stripes of locks over bars, and the legend of the locks.
-use Rattle.std.specs.Prelude.{ℕ, ◌+◌, ◌-◌, ◌*◌, ◌/◌, ◌%◌, min, max, ◌==◌, if◌then◌else◌, List, [], ◌∷◌, ◌++◌, length, slice_index_or, codes}
+use Rattle.std.specs.Prelude.{ℕ, ◌+◌, ◌-◌, ◌*◌, ◌/◌, ◌%◌, min, max, ◌==◌, if◌then◌else◌, List, [], ◌∷◌, ◌++◌, length, codes}
 use Rattle.std.specs.Fmt.{decimal}
 use Rattle.std.specs.List.{concat}
 use Rattle.frames.specs.Frame.{Frame, frame_end, top_of}
-use Rattle.frames.specs.PictureRows.{each}
 use Rattle.frames.specs.Boxes.{box_path}
 use Rattle.frames.specs.Tones.{tone_named}
 use Rattle.frames.specs.declared.tones.Toned.{Toned}
@@ -24,10 +23,15 @@ stripe_text locks x right k n i name =
     ∷ stripe_path x right k n i
     ∷ codes "\"/>\n" ∷ [])
 
+-- the stripes of the last of n locks, from number i on
+abbrev pub stripes_from : List Toned → (x right k n i : ℕ) → List (List ℕ) → List ℕ
+stripes_from locks x right k n i [] = []
+stripes_from locks x right k n i (name ∷ names) =
+    stripe_text locks x right k n i name ++ stripes_from locks x right k n (i + 1) names
+
 -- the stripes of some locks
 abbrev pub stripes_text : List Toned → (x right k : ℕ) → List (List ℕ) → List ℕ
-stripes_text locks x right k names =
-    each (length names) (λ i. stripe_text locks x right k (length names) i (slice_index_or names i []))
+stripes_text locks x right k names = stripes_from locks x right k (length names) 0 names
 
 -- how many locks it has in a line
 abbrev pub per_line : Frame → ℕ
@@ -54,14 +58,10 @@ lock_text f bottom i lock =
     ∷ decimal (lock_upper f bottom i + 128)
     ∷ codes "\">" ∷ lock.name ∷ codes "</text>\n" ∷ [])
 
--- stands past the end of some locks
-abbrev pub no_lock : Toned
-no_lock = record { name = []; tone = 0 }
-
--- some locks
-abbrev pub lock_texts : Frame → (bottom : ℕ) → List Toned → List ℕ
-lock_texts f bottom locks =
-    each (length locks) (λ i. lock_text f bottom i (slice_index_or locks i no_lock))
+-- some locks, from number i on
+abbrev pub lock_texts : Frame → (bottom i : ℕ) → List Toned → List ℕ
+lock_texts f bottom i [] = []
+lock_texts f bottom i (lock ∷ locks) = lock_text f bottom i lock ++ lock_texts f bottom (i + 1) locks
 
 -- what stands before them, where there are some
 abbrev pub locks_head : (bottom n : ℕ) → List ℕ
@@ -73,4 +73,4 @@ locks_head bottom n =
 abbrev pub locks_group : Frame → (rows : ℕ) → List Toned → List ℕ
 locks_group f rows locks =
     codes "<g id=\"k\">\n" ++ locks_head (top_of rows + 120) (length locks)
-    ++ lock_texts f (top_of rows + 120) locks ++ codes "</g>\n"
+    ++ lock_texts f (top_of rows + 120) 0 locks ++ codes "</g>\n"

@@ -1,7 +1,6 @@
 //! Jobs of a task that are too close to be drawn apart.
-ghost use Rattle.std.specs.Prelude.{◌<◌, ◌≡◌, ◌≤◌, length};
+ghost use Rattle.std.specs.Prelude.{◌<◌, ◌≡◌, ◌≤◌, ◌++◌, OnOk, length, string_bytes};
 ghost use Rattle.run_lines.specs.RunLines.{greatest_words};
-ghost use Rattle.frames.specs.Page.{Adds};
 ghost use Rattle.frames.specs.Boxes.{box_path};
 ghost use Rattle.frames.specs.declared.places.TheConstants.{PLACES_LIMIT};
 ghost use Rattle.frames.specs.declared.frame.TheConstants.{RIGHTMOST};
@@ -11,11 +10,12 @@ use crate::jobs::{goes_on, limit_box, limit_of, put_job_in, put_sign, put_signs,
 use crate::marks::is_shown;
 use ceiling_kernel::JobRecord;
 use frames::{
-    Bar, Frame, Lane, Page, in_millis, is_before, job_at, put_bar, put_known, put_time, put_unit,
-    sees_up_to, top_of, x_after,
+    Bar, Frame, Known, Lane, ShownTime, in_millis, is_before, job_at, sees_up_to, top_of, unit_of,
+    x_after,
 };
 use pieces::{Band, band_in, joins, stretch_of};
 use run_lines::{Outcome, outcome_of};
+use std::alloc::AllocError;
 use task_sheet::Name;
 
 // How many microseconds 20 pixels are.
@@ -34,41 +34,59 @@ fn any_on(frame: Frame, name: Name, jobs: &[JobRecord]) -> bool
 }
 
 // The box of a band, how many jobs are in it, and when they arrive.
-fn put_band_box(bar: Bar, first: &JobRecord, band: Band, page: &mut Page)
-    ensures { Adds page.old page.new (band_box (box_path bar.x bar.right bar.y bar.high) first.now
-        band.count band.latest) }
+fn put_band_box(
+    bar: Bar,
+    first: &JobRecord,
+    band: Band,
+    text: &mut String,
+) -> Result<(), AllocError>
+    ensures { OnOk result (string_bytes text.new ≡ string_bytes text.old
+        ++ band_box (box_path bar.x bar.right bar.y bar.high) first.now band.count band.latest) }
 {
-    put_bar(b"<path class=\"l w\" d=\"", bar, page);
-    page.name(b"\"><title>", first.name);
-    page.number(b": ", band.count as u64);
-    page.number(b" jobs, arrivals ", first.release);
-    page.number(b" to ", band.latest)
+    let (name, arrival) = (first.name, first.release);
+    let (count, latest) = (band.count, band.latest);
+    write!(
+        text,
+        "<path class=\"l w\" d=\"{bar}\"><title>{name}: {count} jobs, arrivals {arrival} to {latest}"
+    )
 }
 
 // How many of them are done, the greatest response among those, their bound and their deadline.
-fn put_band_words(outcome: Outcome, bound: Option<u64>, deadline: u64, page: &mut Page)
-    ensures { Adds page.old page.new (band_words outcome.done outcome.greatest bound deadline) }
+fn put_band_words(
+    outcome: Outcome,
+    bound: Option<u64>,
+    deadline: u64,
+    text: &mut String,
+) -> Result<(), AllocError>
+    ensures { OnOk result (string_bytes text.new ≡ string_bytes text.old
+        ++ band_words outcome.done outcome.greatest bound deadline) }
 {
-    page.number(b", done ", outcome.done as u64);
-    page.put(b", longest response ");
-    put_greatest(outcome, page);
-    put_known(b", bound ", bound, page);
-    page.number(b", deadline ", deadline);
-    page.put(b" us</title></path>\n")
+    let (done, bound) = (outcome.done, Known(bound));
+    write!(text, ", done {done}, longest response ")?;
+    put_greatest(outcome, text)?;
+    writeln!(
+        text,
+        ", bound {bound}, deadline {deadline} us</title></path>"
+    )
 }
 
 // What stands behind the number of jobs of a band so wide.
-fn put_wide(millis: bool, wide: u64, outcome: Outcome, page: &mut Page)
-    ensures { Adds page.old page.new (wide_words millis wide outcome.done outcome.greatest) }
+fn put_wide(millis: bool, wide: u64, outcome: Outcome, text: &mut String) -> Result<(), AllocError>
+    ensures { OnOk result (string_bytes text.new ≡ string_bytes text.old
+        ++ wide_words millis wide outcome.done outcome.greatest) }
 {
     if wide < 1_860 {
-        return;
+        return Ok(());
     }
     if outcome.done == 0 {
-        return page.put(b" jobs");
+        return text.push_str(" jobs");
     }
-    put_time(b" jobs, longest ", millis, outcome.greatest, page);
-    put_unit(millis, page)
+    let longest = ShownTime {
+        millis,
+        micros: outcome.greatest,
+    };
+    let unit = unit_of(millis);
+    write!(text, " jobs, longest {longest}{unit}")
 }
 
 // What stands below a band that reaches from a place up to another.
@@ -79,33 +97,31 @@ fn put_label(
     k: usize,
     count: usize,
     outcome: Outcome,
-    page: &mut Page,
-)
+    text: &mut String,
+) -> Result<(), AllocError>
     requires place { x ≤ RIGHTMOST }
     requires row { k ≤ PLACES_LIMIT }
-    ensures { Adds page.old page.new (band_label millis x right k count outcome.done
-        outcome.greatest) }
+    ensures { OnOk result (string_bytes text.new ≡ string_bytes text.old
+        ++ band_label millis x right k count outcome.done outcome.greatest) }
 {
-    page.number(b"<text x=\"", x + 20);
-    page.number(b"\" y=\"", top_of(k) + 455);
-    page.number(b"\">", count as u64);
-    put_wide(millis, right.saturating_sub(x), outcome, page);
-    page.put(b"</text>\n")
+    let (left, y) = (x + 20, top_of(k) + 455);
+    write!(text, "<text x=\"{left}\" y=\"{y}\">{count}")?;
+    put_wide(millis, right.saturating_sub(x), outcome, text)?;
+    text.push_str("</text>\n")
 }
 
 // A bracket at a bound behind the latest arrival, if there is one, where that is in the picture.
-fn put_last_bound(lane: &Lane<'_>, latest: u64, page: &mut Page)
-    ensures { Adds page.old page.new (last_bound lane.now.frame lane.now.spot.k latest
-        lane.now.row.now.bound) }
+fn put_last_bound(lane: &Lane<'_>, latest: u64, text: &mut String) -> Result<(), AllocError>
+    ensures { OnOk result (string_bytes text.new ≡ string_bytes text.old
+        ++ last_bound lane.now.frame lane.now.spot.k latest lane.now.row.now.bound) }
 {
     let Some(bound) = lane.row.bound else {
-        return;
+        return Ok(());
     };
     let shown = is_shown(lane.frame, latest, bound);
     let x = x_after(lane.frame, latest, bound);
     let y = top_of(lane.spot.k) + 155;
-    let shape = b"h-35m35 0v40m0 120v40h-35\"/>\n";
-    put_sign(shown, b"<path class=\"b\" d=\"M", x, y, shape, page)
+    put_sign(shown, "b", x, y, "h-35m35 0v40m0 120v40h-35", text)
 }
 
 // A band, where its box is in the window.
@@ -115,19 +131,19 @@ fn put_band(
     jobs: &[JobRecord],
     band: Band,
     outcome: Outcome,
-    page: &mut Page,
-)
-    ensures { Adds page.old page.new (band_with lane.now.frame lane.now.spot.k lane.now.row.now
-        first.now jobs.now
-        band.count band.latest outcome.done outcome.greatest) }
+    text: &mut String,
+) -> Result<(), AllocError>
+    ensures { OnOk result (string_bytes text.new ≡ string_bytes text.old
+        ++ band_with lane.now.frame lane.now.spot.k lane.now.row.now first.now jobs.now band.count
+        band.latest outcome.done outcome.greatest) }
 {
     if !sees_up_to(lane.frame, first.release, band.latest, limit_of(lane.row)) {
-        return;
+        return Ok(());
     }
     let bar = limit_box(lane, first.release, band.latest);
     let row = lane.row;
-    put_band_box(bar, first, band, page);
-    put_band_words(outcome, row.bound, row.sheet.deadline(), page);
+    put_band_box(bar, first, band, text)?;
+    put_band_words(outcome, row.bound, row.sheet.deadline(), text)?;
     let millis = in_millis(lane.frame);
     put_label(
         millis,
@@ -136,42 +152,48 @@ fn put_band(
         lane.spot.k,
         band.count,
         outcome,
-        page,
-    );
-    put_unrun(lane, band.latest, page);
-    put_last_bound(lane, band.latest, page);
+        text,
+    )?;
+    put_unrun(lane, band.latest, text)?;
+    put_last_bound(lane, band.latest, text)?;
     let back = is_before(lane.frame, first.release);
-    put_signs(lane, back, any_on(lane.frame, first.name, jobs), page)
+    put_signs(lane, back, any_on(lane.frame, first.name, jobs), text)
 }
 
 // Job i in a row, alone or with those that join it in a band; what joins one before it has been drawn with that.
-pub(crate) fn put_place(lane: &Lane<'_>, jobs: &[JobRecord], i: usize, page: &mut Page)
+pub(crate) fn put_place(
+    lane: &Lane<'_>,
+    jobs: &[JobRecord],
+    i: usize,
+    text: &mut String,
+) -> Result<(), AllocError>
     requires { i < length jobs.now }
-    ensures { Adds page.old page.new (place_text lane.now.frame jobs.now i lane.now.spot.k
-        lane.now.row.now) }
+    ensures { OnOk result (string_bytes text.new ≡ string_bytes text.old
+        ++ place_text lane.now.frame jobs.now i lane.now.spot.k lane.now.row.now) }
 {
     let gap = gap_of(lane.frame);
     if joins(gap, jobs, i) {
-        return;
+        return Ok(());
     }
     let first = job_at(jobs, i);
     let stretch = stretch_of(gap, jobs, i);
     let band = band_in(stretch, first.name);
     if band.count > 1 {
         let outcome = outcome_of(stretch, first.name);
-        put_band(lane, &first, stretch, band, outcome, page)
+        put_band(lane, &first, stretch, band, outcome, text)
     } else {
-        put_job_in(lane, &first, page)
+        put_job_in(lane, &first, text)
     }
 }
 
 /// Puts the greatest response of jobs that are done, or `-` for none.
-pub fn put_greatest(outcome: Outcome, page: &mut Page)
-    ensures { Adds page.old page.new (greatest_words outcome.done outcome.greatest) }
+pub fn put_greatest(outcome: Outcome, text: &mut String) -> Result<(), AllocError>
+    ensures { OnOk result (string_bytes text.new ≡ string_bytes text.old
+        ++ greatest_words outcome.done outcome.greatest) }
 {
     if outcome.done == 0 {
-        page.put(b"-")
-    } else {
-        page.number(b"", outcome.greatest)
+        return text.push_str("-");
     }
+    let greatest = outcome.greatest;
+    write!(text, "{greatest}")
 }

@@ -1,13 +1,13 @@
 //! Responses that changed.
-ghost use Rattle.std.specs.Prelude.{◌+◌, ◌<◌, ◌≡◌, ◌≤◌, ◌^◌, length, slice_get};
-ghost use Rattle.frames.specs.Page.{Adds};
+ghost use Rattle.std.specs.Prelude.{◌+◌, ◌<◌, ◌≡◌, ◌≤◌, ◌^◌, ◌++◌, OnOk, length, slice_get, string_bytes};
 ghost use Rattle.frames.specs.declared.places.TheConstants.{PLACES_LIMIT};
 ghost use Rattle.frames.specs.PictureRows.{record_at};
 ghost use Rattle.drawn_jobs.specs.Changes.{all_changed, change_at, change_of, change_sign, changes_text, counted_with, done_by, has_changed, is_changed, response_text, response_word, same_finish, same_release};
 
 use crate::marks::is_shown;
 use ceiling_kernel::JobRecord;
-use frames::{Chart, Frame, Page, ended, job_at, name_of, top_of, x_of};
+use frames::{Chart, Frame, ended, job_at, name_of, top_of, x_of};
+use std::alloc::AllocError;
 
 // Whether two jobs are of one release.
 fn same_release(old: &JobRecord, job: &JobRecord) -> bool
@@ -75,74 +75,109 @@ pub fn all_changed(end: u64, old: &[JobRecord], jobs: &[JobRecord]) -> usize
 }
 
 // How long after its arrival a job is done.
-fn put_response(job: &JobRecord, page: &mut Page)
-    ensures { Adds page.old page.new (response_text job.now.release job.now.finish) }
+fn put_response(job: &JobRecord, text: &mut String) -> Result<(), AllocError>
+    ensures { OnOk result (string_bytes text.new ≡ string_bytes text.old
+        ++ response_text job.now.release job.now.finish) }
 {
     match job.finish {
-        None => page.put(b"not done"),
+        None => text.push_str("not done"),
         Some(finish) => {
-            page.number(b"", finish.saturating_sub(job.release));
-            page.put(b" us")
+            let response = finish.saturating_sub(job.release);
+            write!(text, "{response} us")
         }
     }
 }
 
 // What stands before that.
-fn response_word(finish: Option<u64>) -> &'static [u8]
+fn response_word(finish: Option<u64>) -> &'static str
     ensures { result.now ≡ response_word finish }
 {
     match finish {
-        None => b": ",
-        Some(_) => b": response ",
+        None => ": ",
+        Some(_) => ": response ",
     }
 }
 
 // A sign below the end of a response, and what that was before.
-fn put_change_sign(frame: Frame, k: usize, old: &JobRecord, job: &JobRecord, page: &mut Page)
+fn put_change_sign(
+    frame: Frame,
+    k: usize,
+    old: &JobRecord,
+    job: &JobRecord,
+    text: &mut String,
+) -> Result<(), AllocError>
     requires { k ≤ PLACES_LIMIT }
-    ensures { Adds page.old page.new (change_sign frame k old.now job.now) }
+    ensures { OnOk result (string_bytes text.new ≡ string_bytes text.old
+        ++ change_sign frame k old.now job.now) }
 {
-    page.number(b"<path class=\"ch\" d=\"M", x_of(frame, ended(frame, job)));
-    page.number(b" ", top_of(k) + 360);
-    page.name(b"l-45 80h90z\"><title>", job.name);
-    page.put(response_word(job.finish));
-    put_response(job, page);
-    page.put(b", before ");
-    put_response(old, page);
-    page.put(b"</title></path>\n")
+    let (x, y) = (x_of(frame, ended(frame, job)), top_of(k) + 360);
+    let (name, word) = (job.name, response_word(job.finish));
+    write!(
+        text,
+        "<path class=\"ch\" d=\"M{x} {y}l-45 80h90z\"><title>{name}{word}"
+    )?;
+    put_response(job, text)?;
+    text.push_str(", before ")?;
+    put_response(old, text)?;
+    text.push_str("</title></path>\n")
 }
 
 // The same where the response is another, and its end is in the window.
-fn put_change(frame: Frame, end: u64, k: usize, old: &JobRecord, job: &JobRecord, page: &mut Page)
+fn put_change(
+    frame: Frame,
+    end: u64,
+    k: usize,
+    old: &JobRecord,
+    job: &JobRecord,
+    text: &mut String,
+) -> Result<(), AllocError>
     requires { k ≤ PLACES_LIMIT }
-    ensures { Adds page.old page.new (change_of frame end k job.now old.now) }
+    ensures { OnOk result (string_bytes text.new ≡ string_bytes text.old
+        ++ change_of frame end k job.now old.now) }
 {
     if is_changed(end, old, job) && is_shown(frame, ended(frame, job), 0) {
-        put_change_sign(frame, k, old, job, page)
+        put_change_sign(frame, k, old, job, text)?;
     }
+    Ok(())
 }
 
 // Job i, beside the one of the same number before.
-fn put_change_at(chart: &Chart<'_>, end: u64, old: &[JobRecord], i: usize, page: &mut Page)
+fn put_change_at(
+    chart: &Chart<'_>,
+    end: u64,
+    old: &[JobRecord],
+    i: usize,
+    text: &mut String,
+) -> Result<(), AllocError>
     requires { i < length chart.now.jobs.now }
-    ensures { Adds page.old page.new (change_at chart.now.frame end chart.now.rows.now
-        chart.now.shown.now old.now chart.now.jobs.now i) }
+    ensures { OnOk result (string_bytes text.new ≡ string_bytes text.old
+        ++ change_at chart.now.frame end chart.now.rows.now chart.now.shown.now old.now
+        chart.now.jobs.now i) }
 {
     let Some(spot) = chart.spot_of(name_of(chart.jobs, i)) else {
-        return;
+        return Ok(());
     };
     if i < old.len() {
         let job = job_at(chart.jobs, i);
-        put_change(chart.frame, end, spot.k, &job_at(old, i), &job, page)
+        put_change(chart.frame, end, spot.k, &job_at(old, i), &job, text)?;
     }
+    Ok(())
 }
 
 /// Puts a sign at each job whose response is another than in a run before, as far as it is known by the end of both.
-pub fn put_changes(chart: &Chart<'_>, end: u64, old: &[JobRecord], page: &mut Page)
-    ensures { Adds page.old page.new (changes_text chart.now.frame end chart.now.rows.now
-        chart.now.shown.now old.now chart.now.jobs.now) }
+#[tactic(auto, using(frames::proofs::Eachs::each_init, frames::proofs::Eachs::each_next))]
+pub fn put_changes(
+    chart: &Chart<'_>,
+    end: u64,
+    old: &[JobRecord],
+    text: &mut String,
+) -> Result<(), AllocError>
+    ensures { OnOk result (string_bytes text.new ≡ string_bytes text.old
+        ++ changes_text chart.now.frame end chart.now.rows.now chart.now.shown.now old.now
+        chart.now.jobs.now) }
 {
     for i in 0..chart.jobs.len() {
-        put_change_at(chart, end, old, i, page);
+        put_change_at(chart, end, old, i, text)?;
     }
+    Ok(())
 }

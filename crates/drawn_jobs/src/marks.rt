@@ -1,16 +1,14 @@
 //! The marks of releases.
-ghost use Rattle.std.specs.Prelude.{◌+◌, ◌++◌, ◌<◌, ◌≡◌, codes, length};
+ghost use Rattle.std.specs.Prelude.{◌+◌, ◌++◌, ◌<◌, ◌≡◌, OnOk, length, string_bytes};
 ghost use Rattle.ceiling_kernel.specs.Releases.{release_at};
-ghost use Rattle.frames.specs.Page.{Adds};
 ghost use Rattle.frames.specs.Frame.{is_in};
-ghost use Rattle.drawn_jobs.specs.Marks.{all_marks, each_mark, later_text, mark_alone, mark_text, ready_text};
+ghost use Rattle.drawn_jobs.specs.Marks.{all_marks, later_text, mark_alone, mark_text, marks_text, ready_text};
 
 use crate::band::gap_of;
 use ceiling_kernel::Release;
-use frames::{
-    Chart, Frame, Lane, Page, is_by_end, is_from_start, sees_from, top_of, x_after, x_of,
-};
+use frames::{Chart, Frame, Lane, is_by_end, is_from_start, sees_from, top_of, x_after, x_of};
 use pieces::is_banded;
+use std::alloc::AllocError;
 
 // The kinds of marks.
 #[derive(Clone, Copy)]
@@ -41,98 +39,119 @@ fn release_at(releases: &[Release], i: usize) -> Release
 }
 
 // A line to when the job becomes ready, where that is later.
-fn put_ready(frame: Frame, release: Release, y: u64, page: &mut Page)
-    ensures { Adds page.old page.new (ready_text frame release y) }
+fn put_ready(frame: Frame, release: Release, y: u64, text: &mut String) -> Result<(), AllocError>
+    ensures { OnOk result (string_bytes text.new ≡ string_bytes text.old ++ ready_text frame release y) }
 {
     if release.late == 0 || !sees_from(frame, release.time, release.late) {
-        return;
+        return Ok(());
     }
     let x = x_of(frame, release.time);
     let ready = x_after(frame, release.time, release.late);
-    page.number(b"M", x);
-    page.number(b" ", y);
-    page.number(b"H", ready);
-    page.put(b"\n")
+    writeln!(text, "M{x} {y}H{ready}")
 }
 
 // A mark so long after the arrival, where that is in the picture.
-fn put_later(frame: Frame, release: Release, len: u64, y: u64, shape: &[u8], page: &mut Page)
-    ensures { Adds page.old page.new (later_text frame release len y shape.now) }
+fn put_later(
+    frame: Frame,
+    release: Release,
+    len: u64,
+    y: u64,
+    shape: &str,
+    text: &mut String,
+) -> Result<(), AllocError>
+    ensures { OnOk result (string_bytes text.new ≡ string_bytes text.old
+        ++ later_text frame release len y shape.now) }
 {
     if !is_shown(frame, release.time, len) {
-        return;
+        return Ok(());
     }
-    page.number(b"M", x_after(frame, release.time, len));
-    page.number(b" ", y);
-    page.put(shape)
+    let x = x_after(frame, release.time, len);
+    write!(text, "M{x} {y}{shape}")
 }
 
 // The mark of a release in a row.
-fn put_mark_in(mark: Mark, release: Release, lane: &Lane<'_>, page: &mut Page)
-    ensures { Adds page.old page.new (mark_text lane.now.frame mark release lane.now.spot.k
-        lane.now.row.now) }
+fn put_mark_in(
+    mark: Mark,
+    release: Release,
+    lane: &Lane<'_>,
+    text: &mut String,
+) -> Result<(), AllocError>
+    ensures { OnOk result (string_bytes text.new ≡ string_bytes text.old
+        ++ mark_text lane.now.frame mark release lane.now.spot.k lane.now.row.now) }
 {
     let frame = lane.frame;
     let row = lane.row;
     let top = top_of(lane.spot.k);
     match mark {
         Mark::Arrival => {
-            let shape = b"v-100m-35 50l35-50 35 50\n";
-            put_later(frame, release, 0, top + 450, shape, page)
+            let shape = "v-100m-35 50l35-50 35 50\n";
+            put_later(frame, release, 0, top + 450, shape, text)
         }
-        Mark::Ready => put_ready(frame, release, top + 255, page),
+        Mark::Ready => put_ready(frame, release, top + 255, text),
         Mark::Bound => match row.bound {
-            None => {}
+            None => Ok(()),
             Some(len) => {
-                let shape = b"h-35m35 0v40m0 120v40h-35\n";
-                put_later(frame, release, len, top + 155, shape, page)
+                let shape = "h-35m35 0v40m0 120v40h-35\n";
+                put_later(frame, release, len, top + 155, shape, text)
             }
         },
         Mark::Deadline => {
-            let shape = b"v100m0 0l-35-50h70z\n";
+            let shape = "v100m0 0l-35-50h70z\n";
             let len = row.sheet.deadline();
-            put_later(frame, release, len, top + 60, shape, page)
+            put_later(frame, release, len, top + 60, shape, text)
         }
     }
 }
 
 // The mark of release i, whose job stands alone.
-fn put_mark_alone(chart: &Chart<'_>, mark: Mark, i: usize, page: &mut Page)
+fn put_mark_alone(
+    chart: &Chart<'_>,
+    mark: Mark,
+    i: usize,
+    text: &mut String,
+) -> Result<(), AllocError>
     requires { i < length chart.now.releases.now }
-    ensures { Adds page.old page.new (mark_alone chart.now.frame chart.now.rows.now
-        chart.now.shown.now chart.now.jobs.now mark i
-        (release_at chart.now.releases.now i)) }
+    ensures { OnOk result (string_bytes text.new ≡ string_bytes text.old
+        ++ mark_alone chart.now.frame chart.now.rows.now chart.now.shown.now chart.now.jobs.now mark
+        i (release_at chart.now.releases.now i)) }
 {
     if is_banded(gap_of(chart.frame), chart.jobs, i) {
-        return;
+        return Ok(());
     }
     let release = release_at(chart.releases, i);
     let Some(spot) = chart.spot_of(release.name) else {
-        return;
+        return Ok(());
     };
-    put_mark_in(mark, release, &chart.lane(spot), page)
+    put_mark_in(mark, release, &chart.lane(spot), text)
 }
 
-// The marks of a kind, as one path with a head.
-fn put_marks(chart: &Chart<'_>, mark: Mark, head: &[u8], page: &mut Page)
-    ensures { Adds page.old page.new (head.now ++ each_mark chart.now.frame chart.now.rows.now
-        chart.now.shown.now chart.now.jobs.now mark chart.now.releases.now ++ codes "\"/>\n") }
+// The marks of a kind, as one path of a class.
+#[tactic(auto, using(frames::proofs::Eachs::each_init, frames::proofs::Eachs::each_next))]
+fn put_marks(
+    chart: &Chart<'_>,
+    mark: Mark,
+    class: &str,
+    text: &mut String,
+) -> Result<(), AllocError>
+    ensures { OnOk result (string_bytes text.new ≡ string_bytes text.old
+        ++ marks_text chart.now.frame chart.now.rows.now chart.now.shown.now chart.now.jobs.now mark
+        class.now chart.now.releases.now) }
 {
-    page.put(head);
+    write!(text, "<path class=\"{class}\" d=\"\n")?;
     for i in 0..chart.releases.len() {
-        put_mark_alone(chart, mark, i, page);
+        put_mark_alone(chart, mark, i, text)?;
     }
-    page.put(b"\"/>\n")
+    text.push_str("\"/>\n")
 }
 
 /// Puts the marks of all kinds.
-pub fn put_all_marks(chart: &Chart<'_>, page: &mut Page)
-    ensures { Adds page.old page.new (all_marks chart.now.frame chart.now.rows.now
-        chart.now.shown.now chart.now.jobs.now
+pub fn put_all_marks(chart: &Chart<'_>, text: &mut String) -> Result<(), AllocError>
+    ensures { OnOk result (string_bytes text.new ≡ string_bytes text.old
+        ++ all_marks chart.now.frame chart.now.rows.now chart.now.shown.now chart.now.jobs.now
         chart.now.releases.now) }
 {
-    put_marks(chart, Mark::Ready, b"<path class=\"r\" d=\"\n", page);
-    put_marks(chart, Mark::Arrival, b"<path class=\"a\" d=\"\n", page);
-    put_marks(chart, Mark::Bound, b"<path class=\"b\" d=\"\n", page);
-    put_marks(chart, Mark::Deadline, b"<path class=\"d\" d=\"\n", page)
+    put_marks(chart, Mark::Ready, "r", text)?;
+    put_marks(chart, Mark::Arrival, "a", text)?;
+    put_marks(chart, Mark::Bound, "b", text)?;
+    put_marks(chart, Mark::Deadline, "d", text)
 }

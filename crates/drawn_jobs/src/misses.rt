@@ -1,15 +1,15 @@
 //! Jobs that miss their deadlines.
-ghost use Rattle.std.specs.Prelude.{◌+◌, ◌<◌, ◌≡◌, length};
-ghost use Rattle.frames.specs.Page.{Adds};
+ghost use Rattle.std.specs.Prelude.{◌+◌, ◌++◌, ◌<◌, ◌≡◌, OnOk, length, string_bytes};
 ghost use Rattle.frames.specs.PictureRows.{at_spot, spot_in};
 ghost use Rattle.drawn_jobs.specs.Misses.{all_missed, badge_after, badge_text, due_badge, has_badge, hatch_path, hatch_text, is_late, is_seen_miss, late_by, latest_in, miss_text, missed_in, misses, misses_in, misses_text, row_misses};
 
 use crate::jobs::{limit_of, put_job_signs, put_told};
 use ceiling_kernel::JobRecord;
 use frames::{
-    Bar, Chart, Frame, Lane, Page, TaskRow, ended, find_row, is_by_end, is_from_start, job_at,
-    put_bar, sees_from, top_of, x_after, x_of,
+    Bar, Chart, Frame, Lane, TaskRow, ended, find_row, is_by_end, is_from_start, job_at, sees_from,
+    top_of, x_after, x_of,
 };
+use std::alloc::AllocError;
 
 // Whether a job of a row's task misses its deadline.
 fn is_late(frame: Frame, row: &TaskRow, job: &JobRecord) -> bool
@@ -126,20 +126,20 @@ fn badge_after(frame: Frame, row: &TaskRow, last: Option<u64>, job: &JobRecord) 
 }
 
 /// Puts a disc with a cross.
-pub fn put_badge(x: u64, y: u64, page: &mut Page)
-    ensures { Adds page.old page.new (badge_text x y) }
+pub fn put_badge(x: u64, y: u64, text: &mut String) -> Result<(), AllocError>
+    ensures { OnOk result (string_bytes text.new ≡ string_bytes text.old ++ badge_text x y) }
 {
-    page.number(b"<path class=\"x\" d=\"M", x);
-    page.number(b" ", y);
-    page.number(b"h1\"/><path class=\"y\" d=\"M", x);
-    page.number(b" ", y);
-    page.put(b"m-38-38l76 76m0-76l-76 76\"/>\n")
+    writeln!(
+        text,
+        "<path class=\"x\" d=\"M{x} {y}h1\"/><path class=\"y\" d=\"M{x} {y}m-38-38l76 76m0-76l-76 76\"/>"
+    )
 }
 
 // From the deadline up to the finish, or to the end, and what is told of it.
-fn put_hatch(lane: &Lane<'_>, job: &JobRecord, page: &mut Page)
-    ensures { Adds page.old page.new (hatch_text (hatch_path lane.now.frame lane.now.spot.k
-        lane.now.row.now job.now) lane.now.row.now job.now) }
+fn put_hatch(lane: &Lane<'_>, job: &JobRecord, text: &mut String) -> Result<(), AllocError>
+    ensures { OnOk result (string_bytes text.new ≡ string_bytes text.old
+        ++ hatch_text (hatch_path lane.now.frame lane.now.spot.k lane.now.row.now job.now)
+        lane.now.row.now job.now) }
 {
     let deadline = lane.row.sheet.deadline();
     let x = x_after(lane.frame, job.release, deadline);
@@ -149,72 +149,88 @@ fn put_hatch(lane: &Lane<'_>, job: &JobRecord, page: &mut Page)
         y: top_of(lane.spot.k) + 145,
         high: 220,
     };
-    put_bar(b"<path class=\"z\" d=\"", hatch, page);
-    put_told(job, page);
-    page.number(b", deadline ", deadline);
-    page.put(b" us missed</title></path>\n")
+    write!(text, "<path class=\"z\" d=\"{hatch}\"><title>")?;
+    put_told(job, text)?;
+    writeln!(text, ", deadline {deadline} us missed</title></path>")
 }
 
 // A badge at the deadline, where that has one.
-fn put_due_badge(lane: &Lane<'_>, last: Option<u64>, job: &JobRecord, page: &mut Page)
-    ensures { Adds page.old page.new (due_badge lane.now.frame lane.now.spot.k last
-        (job.now.release + lane.now.row.now.sheet.deadline)) }
+fn put_due_badge(
+    lane: &Lane<'_>,
+    last: Option<u64>,
+    job: &JobRecord,
+    text: &mut String,
+) -> Result<(), AllocError>
+    ensures { OnOk result (string_bytes text.new ≡ string_bytes text.old
+        ++ due_badge lane.now.frame lane.now.spot.k last (job.now.release +
+        lane.now.row.now.sheet.deadline)) }
 {
     if !has_badge(lane.frame, lane.row, last, job) {
-        return;
+        return Ok(());
     }
     let x = x_after(lane.frame, job.release, lane.row.sheet.deadline());
-    put_badge(x, top_of(lane.spot.k) + 85, page)
+    put_badge(x, top_of(lane.spot.k) + 85, text)
 }
 
 // A job in a row, if it misses its deadline in the window.
-fn put_miss(lane: &Lane<'_>, last: Option<u64>, job: &JobRecord, page: &mut Page)
-    ensures { Adds page.old page.new (miss_text lane.now.frame lane.now.spot.k lane.now.row.now
-        last job.now) }
+fn put_miss(
+    lane: &Lane<'_>,
+    last: Option<u64>,
+    job: &JobRecord,
+    text: &mut String,
+) -> Result<(), AllocError>
+    ensures { OnOk result (string_bytes text.new ≡ string_bytes text.old
+        ++ miss_text lane.now.frame lane.now.spot.k lane.now.row.now last job.now) }
 {
     if !is_seen_miss(lane.frame, lane.row, job) {
-        return;
+        return Ok(());
     }
-    put_hatch(lane, job, page);
-    put_due_badge(lane, last, job, page);
+    put_hatch(lane, job, text)?;
+    put_due_badge(lane, last, job, text)?;
     // (a job whose box is in the window has signs there)
     if !sees_from(lane.frame, job.release, limit_of(lane.row)) {
-        put_job_signs(lane, job, page)
+        put_job_signs(lane, job, text)?;
     }
+    Ok(())
 }
 
 // Those of a row.
-fn put_row_misses(lane: &Lane<'_>, jobs: &[JobRecord], page: &mut Page)
-    ensures { Adds page.old page.new (row_misses lane.now.frame jobs.now lane.now.spot.k
-        lane.now.row.now) }
+#[tactic(auto, using(frames::proofs::Eachs::each_init, frames::proofs::Eachs::each_next))]
+fn put_row_misses(lane: &Lane<'_>, jobs: &[JobRecord], text: &mut String) -> Result<(), AllocError>
+    ensures { OnOk result (string_bytes text.new ≡ string_bytes text.old
+        ++ row_misses lane.now.frame jobs.now lane.now.spot.k lane.now.row.now) }
 {
     let mut last = None;
     for i in 0..jobs.len() {
         let job = job_at(jobs, i);
-        put_miss(lane, last, &job, page);
+        put_miss(lane, last, &job, text)?;
         last = badge_after(lane.frame, lane.row, last, &job);
     }
+    Ok(())
 }
 
 // What is missed in the row at a place, where one stands there.
-fn put_misses_at(chart: &Chart<'_>, k: usize, page: &mut Page)
+fn put_misses_at(chart: &Chart<'_>, k: usize, text: &mut String) -> Result<(), AllocError>
     requires { k < length chart.now.shown.now }
-    ensures { Adds page.old page.new (at_spot chart.now.rows.now (spot_in chart.now.shown.now k)
-        (λ s. row_misses chart.now.frame chart.now.jobs.now s.k)) }
+    ensures { OnOk result (string_bytes text.new ≡ string_bytes text.old
+        ++ at_spot chart.now.rows.now (spot_in chart.now.shown.now k) (λ s. row_misses
+        chart.now.frame chart.now.jobs.now s.k)) }
 {
     let spot = chart.spot(k);
     if spot.rank < chart.rows.len() {
-        put_row_misses(&chart.lane(spot), chart.jobs, page)
+        put_row_misses(&chart.lane(spot), chart.jobs, text)?;
     }
+    Ok(())
 }
 
 /// Puts what is missed in each row.
-pub fn put_misses(chart: &Chart<'_>, page: &mut Page)
-    ensures { Adds page.old page.new (misses_text chart.now.frame chart.now.rows.now
-        chart.now.shown.now
-        chart.now.jobs.now) }
+#[tactic(auto, using(frames::proofs::Eachs::each_init, frames::proofs::Eachs::each_next))]
+pub fn put_misses(chart: &Chart<'_>, text: &mut String) -> Result<(), AllocError>
+    ensures { OnOk result (string_bytes text.new ≡ string_bytes text.old
+        ++ misses_text chart.now.frame chart.now.rows.now chart.now.shown.now chart.now.jobs.now) }
 {
     for k in 0..chart.shown.len() {
-        put_misses_at(chart, k, page);
+        put_misses_at(chart, k, text)?;
     }
+    Ok(())
 }

@@ -1,6 +1,5 @@
 //! The parts of a slice in which its job holds locks.
-ghost use Rattle.std.specs.Prelude.{◌*◌, ◌+◌, ◌≡◌, ◌≤◌, length, nat_lt};
-ghost use Rattle.frames.specs.Page.{Adds};
+ghost use Rattle.std.specs.Prelude.{◌*◌, ◌+◌, ◌≡◌, ◌≤◌, ◌++◌, OnOk, length, nat_lt, string_bytes};
 ghost use Rattle.frames.specs.declared.places.TheConstants.{PLACES_LIMIT};
 ghost use Rattle.drawn_jobs.specs.Bars.{dark_text, label_class, label_depth, label_text, names_text, part_box, part_left, part_right, part_text};
 ghost use Rattle.frames.specs.declared.frame.TheConstants.{RIGHTMOST};
@@ -8,16 +7,18 @@ ghost use Rattle.frames.specs.declared.frame.TheConstants.{RIGHTMOST};
 use crate::stripes::put_stripes;
 use crate::ticks::{dark_from, dark_to, fits};
 use ceiling_kernel::Slice;
-use frames::{Bar, Frame, Lane, Page, put_bar, put_times, sees, top_of, x_of};
+use frames::{Bar, Frame, Lane, sees, top_of, x_of};
+use std::alloc::AllocError;
 use task_sheet::{Name, Section};
 
 // Names, each after one space.
-fn put_names(names: &[Name], page: &mut Page)
-    ensures { Adds page.old page.new (names_text names.now) }
+fn put_names(names: &[Name], text: &mut String) -> Result<(), AllocError>
+    ensures { OnOk result (string_bytes text.new ≡ string_bytes text.old ++ names_text names.now) }
 {
     for name in names {
-        page.name(b" ", *name);
+        write!(text, " {name}")?;
     }
+    Ok(())
 }
 
 // From where to where a part of a slice's bar goes.
@@ -33,10 +34,10 @@ fn part_in(frame: Frame, slice: Slice, start: u64, stop: u64) -> (u64, u64)
 }
 
 // One name stands in the middle of its stripe; several, which would stand across stripes, below the bar.
-fn label_class(several: bool) -> &'static [u8]
+fn label_class(several: bool) -> &'static str
     ensures { result.now ≡ label_class several }
 {
-    if several { b"m" } else { b"k" }
+    if several { "m" } else { "k" }
 }
 
 // How far below a row's edge.
@@ -55,22 +56,27 @@ fn are_several(names: &[Name]) -> bool
 }
 
 // The names of locks in the middle of a part, where there is room.
-fn put_label(x: u64, right: u64, k: usize, names: &[Name], page: &mut Page)
+fn put_label(
+    x: u64,
+    right: u64,
+    k: usize,
+    names: &[Name],
+    text: &mut String,
+) -> Result<(), AllocError>
     requires places { x + right ≤ 2 * RIGHTMOST + 1 }
     requires row { k ≤ PLACES_LIMIT }
-    ensures { Adds page.old page.new (label_text x right k names.now) }
+    ensures { OnOk result (string_bytes text.new ≡ string_bytes text.old
+        ++ label_text x right k names.now) }
 {
     if !fits(right.saturating_sub(x) / 68, names) {
-        return;
+        return Ok(());
     }
     let several = are_several(names);
-    page.put(b"<text class=\"");
-    page.put(label_class(several));
-    page.number(b"\" x=\"", (x + right) / 2);
-    page.number(b"\" y=\"", top_of(k) + label_depth(several));
-    page.put(b"\">");
-    put_names(names, page);
-    page.put(b"</text>\n")
+    let (class, middle) = (label_class(several), (x + right) / 2);
+    let y = top_of(k) + label_depth(several);
+    write!(text, "<text class=\"{class}\" x=\"{middle}\" y=\"{y}\">")?;
+    put_names(names, text)?;
+    text.push_str("</text>\n")
 }
 
 // The box of a part in which a job holds locks.
@@ -81,10 +87,10 @@ fn put_part_box(
     stop: u64,
     x: u64,
     right: u64,
-    page: &mut Page,
-)
-    ensures { Adds page.old page.new (part_box lane.now.spot.k lane.now.row.now names.now start stop
-        x right) }
+    text: &mut String,
+) -> Result<(), AllocError>
+    ensures { OnOk result (string_bytes text.new ≡ string_bytes text.old
+        ++ part_box lane.now.spot.k lane.now.row.now names.now start stop x right) }
 {
     let bar = Bar {
         x,
@@ -92,26 +98,32 @@ fn put_part_box(
         y: top_of(lane.spot.k) + 165,
         high: 180,
     };
-    put_bar(b"<path class=\"h\" d=\"", bar, page);
-    page.name(b"\"><title>", lane.row.sheet.name());
-    page.put(b" holds");
-    put_names(names, page);
-    put_times(b" ", start, stop, page)
+    let name = lane.row.sheet.name();
+    write!(text, "<path class=\"h\" d=\"{bar}\"><title>{name} holds")?;
+    put_names(names, text)?;
+    writeln!(text, " {start} to {stop} us</title></path>")
 }
 
 // The same with stripes and names, where it is in the window.
-fn put_part(lane: &Lane<'_>, slice: Slice, names: &[Name], start: u64, stop: u64, page: &mut Page)
-    ensures { Adds page.old page.new (part_text lane.now.frame lane.now.locks.now slice
-        lane.now.spot.k lane.now.row.now
+fn put_part(
+    lane: &Lane<'_>,
+    slice: Slice,
+    names: &[Name],
+    start: u64,
+    stop: u64,
+    text: &mut String,
+) -> Result<(), AllocError>
+    ensures { OnOk result (string_bytes text.new ≡ string_bytes text.old
+        ++ part_text lane.now.frame lane.now.locks.now slice lane.now.spot.k lane.now.row.now
         names.now start stop) }
 {
     if !sees(lane.frame, start, stop) {
-        return;
+        return Ok(());
     }
     let (x, right) = part_in(lane.frame, slice, start, stop);
-    put_part_box(lane, names, start, stop, x, right, page);
-    put_stripes(lane.locks, x, right, lane.spot.k, names, page);
-    put_label(x, right, lane.spot.k, names, page)
+    put_part_box(lane, names, start, stop, x, right, text)?;
+    put_stripes(lane.locks, x, right, lane.spot.k, names, text)?;
+    put_label(x, right, lane.spot.k, names, text)
 }
 
 // The darker part of a slice for a section, if there is one.
@@ -120,17 +132,18 @@ pub(crate) fn put_dark(
     slice: Slice,
     lane: &Lane<'_>,
     section: &Section,
-    page: &mut Page,
-)
-    ensures { Adds page.old page.new (dark_text lane.now.frame lane.now.locks.now executed slice
-        lane.now.spot.k lane.now.row.now
-        section.now) }
+    text: &mut String,
+) -> Result<(), AllocError>
+    ensures { OnOk result (string_bytes text.new ≡ string_bytes text.old
+        ++ dark_text lane.now.frame lane.now.locks.now executed slice lane.now.spot.k
+        lane.now.row.now section.now) }
 {
     let from = dark_from(section, executed);
     let to = dark_to(section, executed, slice);
     if from < to {
         let start = slice.start + from;
         let stop = slice.start + to;
-        put_part(lane, slice, &section.locks, start, stop, page)
+        put_part(lane, slice, &section.locks, start, stop, text)?;
     }
+    Ok(())
 }

@@ -1,12 +1,12 @@
 //! Stripes of locks over bars, and what tells of them.
-ghost use Rattle.std.specs.Prelude.{◌*◌, ◌<◌, ◌≡◌, ◌≤◌, length};
-ghost use Rattle.frames.specs.Page.{Adds};
+ghost use Rattle.std.specs.Prelude.{◌*◌, ◌<◌, ◌≡◌, ◌≤◌, ◌++◌, OnOk, length, string_bytes};
 ghost use Rattle.frames.specs.declared.places.TheConstants.{PLACES_LIMIT};
 ghost use Rattle.drawn_jobs.specs.Stripes.{lock_text, lock_texts, locks_group, locks_head, locks_high, per_line, stripe_text, stripe_top, stripes_text};
 ghost use Rattle.frames.specs.declared.frame.TheConstants.{RIGHTMOST};
 ghost use Rattle.frames.specs.declared.locks.TheConstants.{LOCKS_LIMIT};
 
-use frames::{Bar, Frame, Page, Toned, end_of, put_bar, tone_named, top_of};
+use frames::{Bar, Frame, Toned, end_of, tone_named, top_of};
+use std::alloc::AllocError;
 use task_sheet::Name;
 
 // Where stripe i of n begins, in a bar.
@@ -47,11 +47,12 @@ fn put_stripe(
     n: usize,
     i: usize,
     name: Name,
-    page: &mut Page,
-)
+    text: &mut String,
+) -> Result<(), AllocError>
     requires row { k ≤ PLACES_LIMIT }
     requires place { i < n }
-    ensures { Adds page.old page.new (stripe_text locks.now x right k n i name) }
+    ensures { OnOk result (string_bytes text.new ≡ string_bytes text.old
+        ++ stripe_text locks.now x right k n i name) }
 {
     let start = stripe_top(n, i);
     let stripe = Bar {
@@ -60,9 +61,8 @@ fn put_stripe(
         y: top_of(k) + 165 + start,
         high: stripe_top(n, i + 1).saturating_sub(start),
     };
-    page.number(b"<path class=\"k", tone_named(locks, name));
-    put_bar(b"\" d=\"", stripe, page);
-    page.put(b"\"/>\n")
+    let tone = tone_named(locks, name);
+    writeln!(text, "<path class=\"k{tone}\" d=\"{stripe}\"/>")
 }
 
 // The stripes of some locks.
@@ -72,21 +72,30 @@ pub(crate) fn put_stripes(
     right: u64,
     k: usize,
     names: &[Name],
-    page: &mut Page,
-)
+    text: &mut String,
+) -> Result<(), AllocError>
     requires { k ≤ PLACES_LIMIT }
-    ensures { Adds page.old page.new (stripes_text locks.now x right k names.now) }
+    ensures { OnOk result (string_bytes text.new ≡ string_bytes text.old
+        ++ stripes_text locks.now x right k names.now) }
 {
-    for i in 0..names.len() {
-        put_stripe(locks, x, right, k, names.len(), i, names[i], page);
+    for (i, name) in names.iter().enumerate() {
+        put_stripe(locks, x, right, k, names.len(), i, *name, text)?;
     }
+    Ok(())
 }
 
 // Lock i in the legend.
-fn put_lock(frame: Frame, bottom: u64, i: usize, lock: Toned, page: &mut Page)
+fn put_lock(
+    frame: Frame,
+    bottom: u64,
+    i: usize,
+    lock: Toned,
+    text: &mut String,
+) -> Result<(), AllocError>
     requires place { i ≤ LOCKS_LIMIT }
     requires row { bottom ≤ 2 * RIGHTMOST }
-    ensures { Adds page.old page.new (lock_text frame bottom i lock) }
+    ensures { OnOk result (string_bytes text.new ≡ string_bytes text.old
+        ++ lock_text frame bottom i lock) }
 {
     let each = per_line(frame);
     let x = 900 + 2_000 * (i as u64 % each);
@@ -97,46 +106,59 @@ fn put_lock(frame: Frame, bottom: u64, i: usize, lock: Toned, page: &mut Page)
         y,
         high: 180,
     };
-    page.number(b"<path class=\"k", lock.tone);
-    put_bar(b"\" d=\"", bar, page);
-    page.number(b"\"/><text class=\"c\" x=\"", x + 250);
-    page.number(b"\" y=\"", y + 128);
-    page.name(b"\">", lock.name);
-    page.put(b"</text>\n")
+    let (name, tone) = (lock.name, lock.tone);
+    let (right, low) = (x + 250, y + 128);
+    writeln!(
+        text,
+        "<path class=\"k{tone}\" d=\"{bar}\"/><text class=\"c\" x=\"{right}\" y=\"{low}\">{name}</text>"
+    )
 }
 
 // The locks, each once.
-fn put_lock_texts(frame: Frame, bottom: u64, locks: &[Toned], page: &mut Page)
+fn put_lock_texts(
+    frame: Frame,
+    bottom: u64,
+    locks: &[Toned],
+    text: &mut String,
+) -> Result<(), AllocError>
     requires few { length locks.now ≤ LOCKS_LIMIT }
     requires row { bottom ≤ 2 * RIGHTMOST }
-    ensures { Adds page.old page.new (lock_texts frame bottom locks.now) }
+    ensures { OnOk result (string_bytes text.new ≡ string_bytes text.old
+        ++ lock_texts frame bottom 0 locks.now) }
 {
-    for i in 0..locks.len() {
-        put_lock(frame, bottom, i, locks[i], page);
+    for (i, lock) in locks.iter().enumerate() {
+        put_lock(frame, bottom, i, *lock, text)?;
     }
+    Ok(())
 }
 
 // What stands before them, where there are some.
-fn put_locks_head(bottom: u64, n: usize, page: &mut Page)
+fn put_locks_head(bottom: u64, n: usize, text: &mut String) -> Result<(), AllocError>
     requires { bottom ≤ 2 * RIGHTMOST }
-    ensures { Adds page.old page.new (locks_head bottom n) }
+    ensures { OnOk result (string_bytes text.new ≡ string_bytes text.old ++ locks_head bottom n) }
 {
     if n == 0 {
-        return;
+        return Ok(());
     }
-    page.number(b"<text x=\"100\" y=\"", bottom + 128);
-    page.put(b"\">holds a lock:</text>\n")
+    let y = bottom + 128;
+    writeln!(text, "<text x=\"100\" y=\"{y}\">holds a lock:</text>")
 }
 
 /// Puts the legend of some locks below so many rows, as a group.
-pub fn put_locks_group(frame: Frame, rows: usize, locks: &[Toned], page: &mut Page)
+pub fn put_locks_group(
+    frame: Frame,
+    rows: usize,
+    locks: &[Toned],
+    text: &mut String,
+) -> Result<(), AllocError>
     requires rows { rows ≤ PLACES_LIMIT }
     requires few { length locks.now ≤ LOCKS_LIMIT }
-    ensures { Adds page.old page.new (locks_group frame rows locks.now) }
+    ensures { OnOk result (string_bytes text.new ≡ string_bytes text.old
+        ++ locks_group frame rows locks.now) }
 {
     let bottom = top_of(rows) + 120;
-    page.put(b"<g id=\"k\">\n");
-    put_locks_head(bottom, locks.len(), page);
-    put_lock_texts(frame, bottom, locks, page);
-    page.put(b"</g>\n")
+    text.push_str("<g id=\"k\">\n")?;
+    put_locks_head(bottom, locks.len(), text)?;
+    put_lock_texts(frame, bottom, locks, text)?;
+    text.push_str("</g>\n")
 }

@@ -1,7 +1,7 @@
-use Rattle.std.proofs.Common.{take}
-use Rattle.frames.specs.Page.{Adds}
+use Rattle.std.proofs.Common.{◌≡◌, ◌++◌, string_bytes, take}
 use Rattle.drawn_jobs.specs.Bars.{names_text}
 use Rattle.drawn_jobs.proofs.parts.put_names.Given as goal
 
 abbrev pub invariant-loop-name : goal.invariant-loop-name
-invariant-loop-name l = Adds l.fn.page l.page (names_text (take l.name-index l.names))
+invariant-loop-name l =
+    string_bytes l.text ≡ string_bytes l.fn.text ++ names_text (take l.name-index l.names)

@@ -1,9 +1,7 @@
-use Rattle.std.specs.Prelude.{slice_index_or}
-use Rattle.frames.specs.PictureRows.{each}
-use Rattle.frames.specs.Page.{Adds}
-use Rattle.drawn_jobs.specs.Stripes.{lock_text, no_lock}
+use Rattle.std.proofs.Common.{◌≡◌, ◌++◌, drop, string_bytes}
+use Rattle.drawn_jobs.specs.Stripes.{lock_texts}
 use Rattle.drawn_jobs.proofs.stripes.put_lock_texts.Given as goal
 
 abbrev pub invariant-loop-i : goal.invariant-loop-i
-invariant-loop-i l = Adds l.fn.page l.page
-    (each l.i (λ i. lock_text l.fn.frame l.fn.bottom i (slice_index_or l.fn.locks i no_lock)))
+invariant-loop-i l = string_bytes l.text ++ lock_texts l.frame l.bottom l.i (drop l.i l.locks)
+    ≡ string_bytes l.fn.text ++ lock_texts l.frame l.bottom 0 l.locks
